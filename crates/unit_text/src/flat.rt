@@ -1,0 +1,42 @@
+//! A text that is read without a copy.
+
+ghost use Rattle.std.specs.Prelude.{◌≡◌, ◌<◌, ◌++◌, List, ℕ, length, drop, take};
+ghost use Rattle.unit_text.specs.Units.{is_place};
+
+use crate::units::{Units, cuts_pair};
+
+/// A text that contracts see as its list of units, and that is read run by run.
+pub trait Flat {
+    ghost units: { Self → List ℕ };
+
+    /// How many units the text has.
+    fn len(&self) -> u64
+        ensures { result ≡ length (units self.now) };
+
+    /// Whether the offset is at most the length, and does not stand inside a pair of surrogates.
+    fn is_place(&self, offset: u64) -> bool
+        ensures { result ≡ is_place (units self.now) offset };
+
+    /// Some of the units that stand from `at` on: at least one of them.
+    fn run(&self, at: u64) -> &[u16]
+        requires { at < length (units self.now) }
+        ensures some { 0 < length result.now }
+        ensures front { result.now ≡ take (length result.now) (drop at (units self.now)) };
+}
+
+impl Flat for Units {
+    ghost units = { λ text. text };
+
+    fn len(&self) -> u64 {
+        self.as_slice().len() as u64
+    }
+
+    fn is_place(&self, offset: u64) -> bool {
+        let units = self.as_slice();
+        offset <= units.len() as u64 && !cuts_pair(units, offset)
+    }
+
+    fn run(&self, at: u64) -> &[u16] {
+        &self.as_slice()[at as usize..]
+    }
+}

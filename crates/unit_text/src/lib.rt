@@ -1,0 +1,15 @@
+//! Texts as UTF-16 code units: owned lists of them, their UTF-8, and their JSON strings.
+#![tactic(auto)]
+
+mod flat;
+mod quote;
+mod units;
+mod utf8;
+
+pub use flat::Flat;
+pub use quote::quoted;
+pub use units::{Units, cuts_pair};
+pub use utf8::{units_of, utf8_of};
+
+#[cfg(test)]
+mod tests;

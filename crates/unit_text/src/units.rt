@@ -1,0 +1,70 @@
+//! An owned list of units, and where a pair of surrogates would be cut.
+
+ghost use Rattle.std.specs.Prelude.{◌≡◌, ◌&&◌, IfOk, vec_len};
+ghost use Rattle.std.specs.Char.Utf16.{is_high_surrogate, is_low_surrogate};
+ghost use Rattle.unit_text.specs.Units.{cuts_pair};
+
+use std::alloc::{AllocError, Global};
+use std::marker::Model;
+
+/// A text of UTF-16 code units, which contracts see as their list.
+#[derive(Drop, Debug)]
+pub struct Units {
+    items: Vec<u16>,
+}
+
+impl Model for Units {
+    ghost use Rattle.std.specs.Prelude.{List, ℕ};
+
+    ghost Value = { List ℕ };
+
+    ghost view = { λ units. units.items.items };
+}
+
+impl Units {
+    /// A copy of the units.
+    pub fn copy_of(alloc: Global, units: &[u16]) -> Result<Units, AllocError>
+        ensures { IfOk result (λ copy. copy ≡ units.now) }
+    {
+        let items = Vec::from_slice(alloc, units)?;
+        Ok(Units { items })
+    }
+
+    /// The units of the vector, with no copy.
+    pub fn from_vec(items: Vec<u16>) -> Units
+        ensures { result ≡ items.items }
+    {
+        Units { items }
+    }
+
+    /// The vector of the units, with no copy.
+    pub fn into_vec(self) -> Vec<u16>
+        ensures { result.items ≡ self }
+    {
+        self.items
+    }
+
+    pub fn as_slice(&self) -> &[u16]
+        ensures { result.now ≡ self.now }
+    {
+        self.items.as_slice()
+    }
+}
+
+/// Whether the offset stands between a high surrogate and the low surrogate after it.
+pub fn cuts_pair(units: &[u16], offset: u64) -> bool
+    ensures { result ≡ cuts_pair units.now offset }
+{
+    if offset == 0 || offset >= units.len() as u64 {
+        return false;
+    }
+    let at = offset as usize;
+    is_surrogate_pair(units[at - 1], units[at])
+}
+
+/// Whether the two units are a high surrogate and a low one.
+pub(crate) fn is_surrogate_pair(high: u16, low: u16) -> bool
+    ensures { result ≡ (is_high_surrogate high && is_low_surrogate low) }
+{
+    0xD800 <= high && high < 0xDC00 && 0xDC00 <= low && low < 0xE000
+}
