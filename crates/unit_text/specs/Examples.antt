@@ -19,7 +19,7 @@ a_lone_surrogate_is_replaced : utf8_of (0xD83D ∷ []) ≡ 0xEF ∷ 0xBF ∷ 0xB
 unfolding utf16_chars encode
 a_lone_surrogate_is_replaced = refl
 
-control_characters_are_escaped : quoted (0x61 ∷ 0x22 ∷ 0x01 ∷ 0x0A ∷ []) ≡ codes "\"a\\\"\\u0001\\nx\""
+control_characters_are_escaped : quoted (0x61 ∷ 0x22 ∷ 0x01 ∷ 0x0A ∷ []) ≡ codes "\"a\\\"\\u0001\\n\""
 unfolding utf16_chars encode
 control_characters_are_escaped = refl
 
