@@ -1,0 +1,15 @@
+-- What the answer of a call says, by the rule that the call follows. Want of memory may take the place of any answer,
+-- and then nothing changed.
+use Rattle.std.specs.Prelude.{◌≡◌, ℕ, ◌⊎◌, List, ◌++◌, Result, Ok, Err, ⊤}
+use Rattle.document_rules.specs.declared.ModelError.{ModelError}
+use Rattle.document_rules.specs.declared.ModelError.TheVariants.{Memory}
+
+-- an accepted call makes the old value the rule's new one, and a refused one leaves it, for the rule's reason
+abbrev pub Changes : {S : Type 0} → Result ⊤ ModelError → S → S → Result S ModelError → Type 0
+Changes (Ok x) old new rule = rule ≡ Ok new
+Changes (Err e) old new rule = (new ≡ old) × ((e ≡ Memory) ⊎ (rule ≡ Err e))
+
+-- an accepted call appends the rule's answer, and a refused one leaves what was there, for the rule's reason
+abbrev pub Appends : Result ⊤ ModelError → List ℕ → List ℕ → Result (List ℕ) ModelError → Type 0
+Appends (Ok x) old new rule = (added : List ℕ) × (rule ≡ Ok added) × (new ≡ old ++ added)
+Appends (Err e) old new rule = (new ≡ old) × ((e ≡ Memory) ⊎ (rule ≡ Err e))

@@ -1,0 +1,13 @@
+-- Edits of a text.
+use Rattle.std.specs.Prelude.{ℕ, List, ◌++◌, take, drop, Bool, not, ◌&&◌, ◌||◌, nat_lt}
+use Rattle.text_lengths.specs.declared.Span.{Span}
+use Rattle.unit_text.specs.Units.{is_place}
+use Rattle.text_rules.specs.declared.Op.{Op}
+
+-- the span's start is above its end, or one of the two is no place of the text
+abbrev pub is_bad_span : List ℕ → Span → Bool
+is_bad_span x span = nat_lt span.end span.start || not (is_place x span.start && is_place x span.end)
+
+-- the text in which the op's text has taken the place of its span
+abbrev pub edited : List ℕ → Op → List ℕ
+edited x op = take op.span.start x ++ op.text ++ drop op.span.end x

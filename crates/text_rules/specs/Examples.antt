@@ -1,0 +1,47 @@
+-- Worked examples of the definitions.
+use Rattle.std.specs.Prelude.{◌≡◌, [], ◌∷◌, Some, None, map, codes, false, true, refl}
+use Rattle.text_rules.specs.Lines.{lines_of, line_at, line_start}
+use Rattle.text_rules.specs.Positions.{position_of, offset_of, is_position}
+use Rattle.text_rules.specs.Edits.{edited, is_bad_span}
+
+-- CR LF, CR and LF each end one line
+contents_of_four_lines : map (λ l. l.content) (lines_of (codes "a\r\nb\rc\nd")) ≡ codes "a" ∷ codes "b" ∷ codes "c" ∷ codes "d" ∷ []
+contents_of_four_lines = refl
+
+breaks_of_four_lines : map (λ l. l.break) (lines_of (codes "a\r\nb\rc\nd")) ≡ codes "\r\n" ∷ codes "\r" ∷ codes "\n" ∷ [] ∷ []
+breaks_of_four_lines = refl
+
+starts_of_four_lines : map (line_start (codes "a\r\nb\rc\nd")) (1 ∷ 2 ∷ 3 ∷ 4 ∷ []) ≡ 0 ∷ 3 ∷ 5 ∷ 7 ∷ []
+starts_of_four_lines = refl
+
+-- an LF before a CR makes two breaks
+line_feed_first : map (λ l. l.break) (lines_of (codes "\n\r")) ≡ codes "\n" ∷ codes "\r" ∷ [] ∷ []
+line_feed_first = refl
+
+no_fifth_line : line_at (codes "a\r\nb\rc\nd") 5 ≡ None
+no_fifth_line = refl
+
+no_line_0 : line_at (codes "a") 0 ≡ None
+no_line_0 = refl
+
+over_a_break : edited (codes "ab\ncd") (record { span = record { start = 1; end = 4 }; text = codes "X"; force = false }) ≡ codes "aXd"
+over_a_break = refl
+
+inside_an_emoji : is_bad_span (0xD83D ∷ 0xDE00 ∷ []) (record { start = 1; end = 1 }) ≡ true
+inside_an_emoji = refl
+
+-- a place inside CR LF has a position, which no position names back
+inside_a_break : position_of (codes "a\r\nb") 2 ≡ record { line = 1; column = 3 }
+inside_a_break = refl
+
+no_position_inside_a_break : is_position (codes "a\r\nb") (record { line = 1; column = 3 }) ≡ false
+no_position_inside_a_break = refl
+
+the_end_of_the_last_line : offset_of (codes "a\r\nb\rc\nd") (record { line = 4; column = 2 }) ≡ 8
+the_end_of_the_last_line = refl
+
+position_of_the_end : position_of (codes "a\r\nb\rc\nd") 8 ≡ record { line = 4; column = 2 }
+position_of_the_end = refl
+
+position_at_a_start : position_of (codes "a\r\nb") 3 ≡ record { line = 2; column = 1 }
+position_at_a_start = refl

@@ -1,0 +1,4 @@
+pub mod Lines
+pub mod Positions
+pub mod Edits
+mod Examples

@@ -1,0 +1,52 @@
+-- Cutting a text into lines, as the text buffer of VS Code does: CR LF ends a line, and so does a lone CR or a lone LF.
+use Rattle.std.specs.Prelude.{ℕ, ◌+◌, ◌-◌, ◌==◌, Bool, false, ◌&&◌, ◌||◌, if◌then◌else◌, List, [], ◌∷◌, length, take, sum_by, Option, None, slice_get}
+
+pub record Line : Type 0 where
+  pub content : List ℕ
+  -- CR LF, CR or LF, and nothing in the last line
+  pub break : List ℕ
+
+abbrev pub line_feed : ℕ
+line_feed = 10
+
+abbrev pub carriage_return : ℕ
+carriage_return = 13
+
+abbrev pub begins_with : ℕ → List ℕ → Bool
+begins_with unit [] = false
+begins_with unit (u ∷ x) = u == unit
+
+-- the unit joins the content of the first line
+abbrev pub in_first_line : ℕ → List Line → List Line
+in_first_line u [] = []
+in_first_line u (line ∷ lines) = record { content = u ∷ line.content; break = line.break } ∷ lines
+
+-- the unit joins the break of the first line
+abbrev pub in_first_break : ℕ → List Line → List Line
+in_first_break u [] = []
+in_first_break u (line ∷ lines) = record { content = line.content; break = u ∷ line.break } ∷ lines
+
+-- The lines of a unit and the units after it, which have these lines. A CR before an LF is a part of the break that
+-- the LF makes, any other CR or LF ends a line, and all else is content.
+abbrev pub line_step : ℕ → List ℕ → List Line → List Line
+line_step u after lines =
+    if u == carriage_return && begins_with line_feed after then in_first_break u lines else
+    (if u == carriage_return || u == line_feed then record { content = []; break = u ∷ [] } ∷ lines
+    else in_first_line u lines)
+
+-- a text with k breaks has k + 1 lines
+abbrev pub lines_of : List ℕ → List Line
+lines_of [] = record { content = []; break = [] } ∷ []
+lines_of (u ∷ after) = line_step u after (lines_of after)
+
+-- how many units a line has, its break included
+abbrev pub line_length : Line → ℕ
+line_length line = length line.content + length line.break
+
+-- the line of this number, counted from 1
+abbrev pub line_at : List ℕ → ℕ → Option Line
+line_at x n = if n == 0 then None else slice_get (lines_of x) (n - 1)
+
+-- how many units stand before the line of this number
+abbrev pub line_start : List ℕ → ℕ → ℕ
+line_start x n = sum_by line_length (take (n - 1) (lines_of x))
