@@ -1,0 +1,24 @@
+//! Each call that can want memory on its happy path.
+
+use super::*;
+use std::test::Fail;
+use text_lengths::Span;
+use unit_text::Units;
+
+#[test]
+fn open_edit_and_line(rt: HostRuntime) -> Result<(), Fail> {
+    let mut model = Model::new(rt.alloc());
+    model.open_doc(&[97, 98, 10, 99, 100])?;
+    assert_eq!(rt; (model.len(), model.line_count()), (5, 2));
+    let op = Op {
+        span: Span { start: 1, end: 4 },
+        text: Units::copy_of(rt.alloc(), &[88])?,
+        force: false,
+    };
+    model.edit(&op)?;
+    assert_eq!(rt; model.versions(), (2, 2));
+    let mut line = Vec::new(rt.alloc());
+    model.line(1, &mut line)?;
+    assert_eq!(rt; line.as_slice(), [97, 88, 100].as_slice());
+    Ok(())
+}
