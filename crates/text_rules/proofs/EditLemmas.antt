@@ -1,5 +1,5 @@
 -- What an edit of a span of the text gives.
-use Rattle.std.proofs.Common.{◌≡◌, ℕ, ◌+◌, ◌-◌, ◌≤◌, Bool, true, false, List, ◌++◌, length, take, drop, length-append, length-drop, arith}
+use Rattle.std.proofs.Common.{◌≡◌, ℕ, ◌+◌, ◌-◌, ◌≤◌, true, false, List, ◌++◌, length, take, drop, length-append, length-drop, arith}
 use Rattle.std.proofs.lemmas.Bool.{ltb-false, leb-true, and_parts, or_parts, not-false}
 use Rattle.std.proofs.lemmas.List.{length-take-le}
 use Rattle.text_lengths.specs.declared.Span.{Span}
@@ -27,8 +27,13 @@ pub length-edited : (x : List ℕ) (op : Op) → IsSpan x op.span
 length-edited x op span =
     let ordered = span.ordered in
     let within = span.within in
-    omega (arith, length-append (take op.span.start x ++ op.text) (drop op.span.end x), length-append (take op.span.start x) op.text,
-        length-take-le op.span.start x (omega arith), length-drop op.span.end x)
+    omega (
+      arith,
+      length-append (take op.span.start x ++ op.text) (drop op.span.end x),
+      length-append (take op.span.start x) op.text,
+      length-take-le op.span.start x (omega arith),
+      length-drop op.span.end x,
+    )
 
 pub IsPaired-edited : (x : List ℕ) (op : Op) → IsSpan x op.span → IsPaired x → IsPaired op.text → IsPaired (edited x op)
 IsPaired-edited x op span old text =

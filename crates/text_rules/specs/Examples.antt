@@ -1,5 +1,5 @@
 -- Worked examples of the definitions.
-use Rattle.std.specs.Prelude.{◌≡◌, [], ◌∷◌, Some, None, map, codes, false, true, refl}
+use Rattle.std.specs.Prelude.{◌≡◌, [], ◌∷◌, None, map, codes, false, true, refl}
 use Rattle.text_rules.specs.Lines.{lines_of, line_at, line_start}
 use Rattle.text_rules.specs.Positions.{position_of, offset_of, is_position}
 use Rattle.text_rules.specs.Edits.{edited, is_bad_span}

@@ -1,5 +1,5 @@
 -- Places by line and column, both counted from 1, and by offset.
-use Rattle.std.specs.Prelude.{◌≡◌, ℕ, ◌+◌, ◌-◌, Bool, false, ◌&&◌, nat_lt, nat_le, if◌then◌else◌, List, [], ◌∷◌, length, Option, Some, None}
+use Rattle.std.specs.Prelude.{ℕ, ◌+◌, ◌-◌, Bool, false, ◌&&◌, nat_lt, nat_le, if◌then◌else◌, List, [], ◌∷◌, length, Option, Some, None}
 use Rattle.text_lengths.specs.declared.Position.{Position}
 use Rattle.unit_text.specs.Units.{is_place}
 use Rattle.text_rules.specs.Lines.{Line, lines_of, line_length, line_at, line_start}

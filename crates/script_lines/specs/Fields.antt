@@ -1,0 +1,59 @@
+-- The fields of a JSON object, as serde_json reads it.
+use Rattle.std.specs.Prelude.{ℕ, Bool, true, false, ◌&&◌, List, [], ◌∷◌, Option, Some, None, option_map, option_and_then}
+use Rattle.std.specs.List.{list_any}
+use Rattle.std.specs.Str.{bytes_eq}
+use Rattle.serde_json.specs.Data.{Data, null, boolean, number, string, array, object, Items, no_items, item, Members, no_members, member}
+use Rattle.serde_json.specs.Find.{get, as_bool, as_number, as_str, as_array, as_u64}
+use Rattle.text_lengths.specs.declared.Span.{Span}
+use Rattle.unit_text.specs.Text.{units_of}
+
+-- every key is one of the names
+abbrev pub keys_among : List (List ℕ) → Members → Bool
+keys_among names no_members = true
+keys_among names (member key d ms) = list_any (bytes_eq key) names && keys_among names ms
+
+-- the value is an object, and has no field beside those of the names
+abbrev pub has_only : List (List ℕ) → Data → Bool
+has_only names null = false
+has_only names (boolean b) = false
+has_only names (number n) = false
+has_only names (string s) = false
+has_only names (array ds) = false
+has_only names (object ms) = keys_among names ms
+
+-- the whole number below 2 ^ 64 that the value is
+abbrev pub whole_number : Data → Option ℕ
+whole_number d = option_and_then as_u64 (as_number d)
+
+abbrev pub number_at : List ℕ → Data → Option ℕ
+number_at key d = option_and_then whole_number (get key d)
+
+abbrev pub string_at : List ℕ → Data → Option (List ℕ)
+string_at key d = option_and_then as_str (get key d)
+
+-- the units of a text
+abbrev pub text_at : List ℕ → Data → Option (List ℕ)
+text_at key d = option_map units_of (string_at key d)
+
+abbrev pub span_of : Option ℕ → Option ℕ → Option Span
+span_of None end = None
+span_of (Some start) None = None
+span_of (Some start) (Some end) = Some (record { start = start; end = end })
+
+-- an array of two whole numbers
+abbrev pub span_in : Items → Option Span
+span_in no_items = None
+span_in (item a no_items) = None
+span_in (item a (item b no_items)) = span_of (whole_number a) (whole_number b)
+span_in (item a (item b (item c ds))) = None
+
+abbrev pub span_at : List ℕ → Data → Option Span
+span_at key d = option_and_then span_in (option_and_then as_array (get key d))
+
+abbrev pub flag_of : Option Data → Option Bool
+flag_of None = Some false
+flag_of (Some d) = as_bool d
+
+-- a flag that is off where the field is absent
+abbrev pub flag_at : List ℕ → Data → Option Bool
+flag_at key d = flag_of (get key d)

@@ -1,0 +1,5 @@
+pub mod Reading
+pub mod Fields
+pub mod Commands
+pub mod Replies
+mod Examples

@@ -1,0 +1,105 @@
+//! The fields of a JSON object.
+
+ghost use Rattle.std.specs.Prelude.{◌≡◌, map, string_bytes};
+ghost use Rattle.std.specs.BTreeMap.{keys};
+ghost use Rattle.std.specs.List.{list_any, list_all};
+ghost use Rattle.std.specs.Str.{bytes_eq};
+ghost use Rattle.serde_json.specs.View.{view, items_view};
+ghost use Rattle.script_lines.specs.Reading.{Reads};
+ghost use Rattle.script_lines.specs.Fields.{has_only, whole_number, number_at, text_at, span_in, span_at, flag_at};
+
+use serde_json::{Map, Value};
+use std::alloc::{AllocError, Global};
+use text_lengths::Span;
+use thiserror::Error;
+use unit_text::{Units, units_of};
+
+/// Why a line was not read as a command.
+#[derive(Clone, Copy, PartialEq, Eq, Debug, Error)]
+pub enum LineFault {
+    /// The line is no command.
+    #[error("the line is no command")]
+    Syntax,
+    /// There was no memory to read it.
+    #[error("out of memory")]
+    Memory,
+}
+
+/// Whether the value is an object with no field beside those of the names.
+pub(crate) fn has_only(value: &Value, names: &[&str]) -> bool
+    ensures { result ≡ has_only (map (λ name. name.now) names.now) (view value.now) }
+{
+    match value.as_object() {
+        Some(members) => are_names(members, names),
+        None => false,
+    }
+}
+
+fn are_names(members: &Map<String, Value>, names: &[&str]) -> bool
+    ensures { result ≡ list_all (λ key. list_any (bytes_eq (string_bytes key)) (map (λ name. name.now) names.now))
+        (keys members.now) }
+{
+    members.keys().all(|key| is_one_of(key.as_str(), names))
+}
+
+fn is_one_of(key: &str, names: &[&str]) -> bool
+    ensures { result ≡ list_any (bytes_eq key.now) (map (λ name. name.now) names.now) }
+{
+    for name in names {
+        if key == *name {
+            return true;
+        }
+    }
+    false
+}
+
+fn whole_number(value: &Value) -> Option<u64>
+    ensures { result ≡ whole_number (view value.now) }
+{
+    value.as_u64()
+}
+
+pub(crate) fn number_at(value: &Value, key: &str) -> Result<u64, LineFault>
+    ensures { Reads result (number_at key.now (view value.now)) }
+{
+    let field = value.get(key).ok_or(LineFault::Syntax)?;
+    whole_number(field).ok_or(LineFault::Syntax)
+}
+
+pub(crate) fn text_at(alloc: Global, value: &Value, key: &str) -> Result<Units, LineFault>
+    ensures { Reads result (text_at key.now (view value.now)) }
+{
+    let field = value.get(key).ok_or(LineFault::Syntax)?;
+    let text = field.as_str().ok_or(LineFault::Syntax)?;
+    let mut units = Vec::new(alloc);
+    units_of(text, &mut units).map_err(|_| LineFault::Memory)?;
+    Ok(Units::from_vec(units))
+}
+
+pub(crate) fn span_at(value: &Value, key: &str) -> Result<Span, LineFault>
+    ensures { Reads result (span_at key.now (view value.now)) }
+{
+    let field = value.get(key).ok_or(LineFault::Syntax)?;
+    let items = field.as_array().ok_or(LineFault::Syntax)?;
+    span_in(items.as_slice())
+}
+
+fn span_in(items: &[Value]) -> Result<Span, LineFault>
+    ensures { Reads result (span_in (items_view items.now)) }
+{
+    let [start, end] = items else {
+        return Err(LineFault::Syntax);
+    };
+    let start = whole_number(start).ok_or(LineFault::Syntax)?;
+    let end = whole_number(end).ok_or(LineFault::Syntax)?;
+    Ok(Span { start, end })
+}
+
+pub(crate) fn flag_at(value: &Value, key: &str) -> Result<bool, LineFault>
+    ensures { Reads result (flag_at key.now (view value.now)) }
+{
+    match value.get(key) {
+        None => Ok(false),
+        Some(field) => field.as_bool().ok_or(LineFault::Syntax),
+    }
+}

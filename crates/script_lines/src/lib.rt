@@ -1,0 +1,14 @@
+//! The script language: the command that a line spells, and the bytes of a reply.
+#![tactic(auto)]
+
+mod command;
+mod fields;
+mod long;
+mod reason;
+mod short;
+
+pub use command::{Command, command_of};
+pub use fields::LineFault;
+pub use long::{long_begin, long_end, long_mark, long_number, long_text};
+pub use reason::Refusal;
+pub use short::{Short, refusal};

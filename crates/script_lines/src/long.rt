@@ -1,0 +1,55 @@
+//! Replies of any length, built part by part in a vector. Each part is appended whole, or it leaves `out` as it was.
+
+ghost use Rattle.std.specs.Prelude.{◌≡◌, ◌++◌, ◌∷◌, [], OnOk, OnErr, codes};
+ghost use Rattle.script_lines.specs.Replies.{number_part, text_part};
+
+use crate::short::number_part;
+use std::alloc::AllocError;
+use unit_text::quoted;
+
+/// `ok`
+pub fn long_begin(out: &mut Vec<u8>) -> Result<(), AllocError>
+    ensures ok { OnOk result (out.new.items ≡ out.old.items ++ codes "ok") }
+    ensures err { OnErr result (out.new.items ≡ out.old.items) }
+{
+    out.extend_from_slice(b"ok")
+}
+
+/// A blank and the number.
+pub fn long_number(n: u64, out: &mut Vec<u8>) -> Result<(), AllocError>
+    ensures ok { OnOk result (out.new.items ≡ out.old.items ++ number_part n) }
+    ensures err { OnErr result (out.new.items ≡ out.old.items) }
+{
+    let part = number_part(n);
+    out.extend_from_slice(part.as_slice())
+}
+
+/// A blank and the letter.
+pub fn long_mark(letter: u8, out: &mut Vec<u8>) -> Result<(), AllocError>
+    ensures ok { OnOk result (out.new.items ≡ out.old.items ++ 32 ∷ letter ∷ []) }
+    ensures err { OnErr result (out.new.items ≡ out.old.items) }
+{
+    out.extend_from_slice(&[b' ', letter])
+}
+
+/// A blank and the units as a JSON string.
+pub fn long_text(units: &[u16], out: &mut Vec<u8>) -> Result<(), AllocError>
+    ensures ok { OnOk result (out.new.items ≡ out.old.items ++ text_part units.now) }
+    ensures err { OnErr result (out.new.items ≡ out.old.items) }
+{
+    let before = out.len();
+    out.push(b' ')?;
+    let appended = quoted(units, out);
+    if appended.is_err() {
+        out.truncate(before);
+    }
+    appended
+}
+
+/// The end of the line.
+pub fn long_end(out: &mut Vec<u8>) -> Result<(), AllocError>
+    ensures ok { OnOk result (out.new.items ≡ out.old.items ++ codes "\n") }
+    ensures err { OnErr result (out.new.items ≡ out.old.items) }
+{
+    out.extend_from_slice(b"\n")
+}
