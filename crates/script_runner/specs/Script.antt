@@ -25,6 +25,10 @@ abbrev pub cut : List ℕ → Lines
 cut [] = record { ended = []; rest = [] }
 cut (byte ∷ bytes) = after_byte byte (cut bytes)
 
+-- bytes with no LF among them
+abbrev pub IsInOneLine : List ℕ → Type 0
+IsInOneLine bytes = cut bytes ≡ record { ended = []; rest = bytes }
+
 abbrev pub whole_lines : List ℕ → List (List ℕ)
 whole_lines script = (cut script).ended
 

@@ -1,8 +1,8 @@
 //! A script served line by line.
 
-ghost use Rattle.std.specs.Prelude.{◌≡◌, ◌+◌, min, [], ◌∷◌};
+ghost use Rattle.std.specs.Prelude.{◌≡◌, ◌+◌, min, [], ◌∷◌, ◌++◌, IfNone, IfSome};
 ghost use Rattle.script_streams.specs.Streams.{greatest_count};
-ghost use Rattle.script_runner.specs.Script.{is_refused};
+ghost use Rattle.script_runner.specs.Script.{is_refused, IsInOneLine};
 ghost use Rattle.script_runner.specs.Progress.{refusals, memory_refusals, AnswersLine, AnswersPiece};
 ghost use Rattle.script_runner.specs.Serving.{Serves};
 
@@ -74,4 +74,35 @@ fn answer_line<K: Sink>(
     progress.count(reply.as_slice());
     progress.line.clear();
     Ok(())
+}
+
+/// Answers each line that the piece of the script completes, and keeps what comes after the last of them.
+fn answer_piece<K: Sink>(
+    alloc: Global,
+    model: &mut Model,
+    progress: &mut Progress,
+    piece: &[u8],
+    out: &mut K,
+) -> Result<(), Failed>
+    ensures { AnswersPiece result piece.now model.old.document progress.old model.new.document progress.new
+        (K.state out.old) (K.state out.new) }
+{
+    let mut rest = piece;
+    while let Some((line, after)) = split_line(rest) {
+        progress.line.extend(line);
+        answer_line(alloc, model, progress, out)?;
+        rest = after;
+    }
+    progress.line.extend(rest);
+    Ok(())
+}
+
+/// The bytes before the first LF, and those after it.
+fn split_line(bytes: &[u8]) -> Option<(&[u8], &[u8])>
+    ensures none { IfNone result (IsInOneLine bytes.now) }
+    ensures split { IfSome result (λ parts. bytes.now ≡ parts.0.now ++ 10 ∷ parts.1.now) }
+    ensures line { IfSome result (λ parts. IsInOneLine parts.0.now) }
+{
+    let at = memchr(b'\n', bytes)?;
+    Some((&bytes[..at], &bytes[at + 1..]))
 }
