@@ -9,9 +9,10 @@ use Rattle.document_rules.specs.Document.{FlatState}
 use Rattle.script_streams.specs.Streams.{SinkState, TakenWhole, Cut, Took, Rose, StartsWith, greatest_count}
 use Rattle.script_streams.proofs.StreamLaws.{Took-append, Took-nothing}
 use Rattle.script_runner.specs.declared.line.PartialLine.{PartialLine}
-use Rattle.script_runner.specs.declared.serve.Progress.{Progress}
+use Rattle.script_runner.specs.declared.serving.Progress.{Progress}
 use Rattle.script_runner.specs.Script.{Lines, cut, is_refused, whole_lines, last_line, all_lines, written, IsInOneLine, Turn, Transcript}
 use Rattle.script_runner.specs.Progress.{IsLineSoFar, refusals, memory_refusals, Led, Went, Broken, Broke, LineAnswered, LineBroken, PieceAnswered, PieceBroken}
+use Rattle.script_runner.specs.Step.{memory_reply}
 use Rattle.script_runner.proofs.CutLemmas.{cut-append_line, cut-append_break, length-all_lines}
 
 -- ---- transcripts
@@ -35,6 +36,11 @@ length-Transcript start (l ∷ lines) (r ∷ replies) end t = ap suc (length-Tra
 pub few_refusals : (start : FlatState) (script : List ℕ) (replies : List (List ℕ)) (end : FlatState) → Transcript start (all_lines script) replies end
     → refusals replies ≤ length script
 few_refusals start script replies end t = omega (arith, length-all_lines script, length-Transcript _ _ _ _ t, count_by-le-length is_refused replies)
+
+pub few_memory_refusals : (start : FlatState) (script : List ℕ) (replies : List (List ℕ)) (end : FlatState) → Transcript start (all_lines script) replies end
+    → memory_refusals replies ≤ length script
+few_memory_refusals start script replies end t =
+    omega (arith, length-all_lines script, length-Transcript _ _ _ _ t, count_by-le-length (bytes_eq memory_reply) replies)
 
 -- ---- what led here
 
@@ -84,7 +90,7 @@ ended-break read after = ap (λ c. c.ended) (cut-append_break read after)
 rest-break : (read : List ℕ) → (cut (read ++ 10 ∷ [])).rest ≡ []
 rest-break read = ap (λ c. c.rest) (cut-append_break read [])
 
-counted_more : (n m a : ℕ) → n ≡ min a greatest_count → min (n + m) greatest_count ≡ min (a + m) greatest_count
+pub counted_more : (n m a : ℕ) → n ≡ min a greatest_count → min (n + m) greatest_count ≡ min (a + m) greatest_count
 counted_more n m a is = omega arith
 
 module _ (doc doc' : FlatState) (progress progress' : Progress) (out out' : SinkState) where

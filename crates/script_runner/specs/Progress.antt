@@ -5,7 +5,7 @@ use Rattle.document_rules.specs.Document.{FlatState}
 use Rattle.script_streams.specs.declared.Failed.{Failed}
 use Rattle.script_streams.specs.Streams.{SinkState, greatest_count, Rose, Took, StartsWith, TakenWhole, Cut}
 use Rattle.script_runner.specs.declared.line.PartialLine.{PartialLine}
-use Rattle.script_runner.specs.declared.serve.Progress.{Progress}
+use Rattle.script_runner.specs.declared.serving.Progress.{Progress}
 use Rattle.script_runner.specs.Step.{memory_reply}
 use Rattle.script_runner.specs.Script.{cut, whole_lines, most_line_bytes, is_blank, is_refused, written, Turn, Transcript}
 

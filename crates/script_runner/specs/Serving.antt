@@ -1,11 +1,16 @@
 -- What serving a script did, by how it ended.
-use Rattle.std.specs.Prelude.{◌≡◌, ℕ, ◌+◌, ◌<◌, min, Bool, true, false, List, length}
+use Rattle.std.specs.Prelude.{◌≡◌, ℕ, ◌+◌, ◌<◌, ◌⊎◌, min, Bool, true, false, List, ◌++◌, length}
 use Rattle.document_rules.specs.Document.{FlatState}
 use Rattle.script_streams.specs.Streams.{SourceState, SinkState, greatest_count, Gave, NothingLeft, Took, Rose}
-use Rattle.script_runner.specs.declared.serve.Served.{Served}
-use Rattle.script_runner.specs.declared.serve.Served.TheVariants.{Ended, ReadFault, WriteFault, TooLong}
+use Rattle.script_runner.specs.declared.serving.Served.{Served}
+use Rattle.script_runner.specs.declared.serving.Served.TheVariants.{Ended, ReadFault, WriteFault, TooLong}
 use Rattle.script_runner.specs.Script.{whole_lines, all_lines, written, Transcript}
-use Rattle.script_runner.specs.Progress.{refusals, memory_refusals, Broken}
+use Rattle.script_runner.specs.Progress.{refusals, memory_refusals, Led, Broken}
+use Rattle.script_runner.specs.declared.serving.Progress.{Progress}
+
+-- a count that went up by so much, or stands at its greatest value
+abbrev pub RoseBy : ℕ → ℕ → ℕ → Type 0
+RoseBy old by new = (new ≡ old + by) ⊎ (new ≡ greatest_count)
 
 -- The script was read to its end, and every line of it answered: the replies written are those of the flat document.
 pub record ServedAll (start end : FlatState) (src src' : SourceState) (out out' : SinkState) (refused memory : ℕ) : Type 0 where
@@ -46,7 +51,7 @@ pub record ServedToLimit (most : ℕ) (start end : FlatState) (src src' : Source
   pub script : List ℕ
   pub gave : Gave src.left src'.left script
   pub most_is : length script ≡ most
-  pub given : src'.given ≡ min (src.given + most) greatest_count
+  pub given : RoseBy src.given most src'.given
   pub not_ended : 0 < most → src'.ended ≡ false
   pub replies : List (List ℕ)
   pub transcript : Transcript start (whole_lines script) replies end
@@ -59,3 +64,35 @@ Serves (Ended refused memory) most start end src src' out out' = ServedAll start
 Serves ReadFault most start end src src' out out' = ServedToReadFault start end src src' out out'
 Serves WriteFault most start end src src' out out' = ServedToWriteFault start end src src' out out'
 Serves TooLong most start end src src' out out' = ServedToLimit most start end src src' out out'
+
+-- ---- the end of the script
+
+-- Every line of the script was answered, and the numbers are those of the replies, as far as they can be counted.
+pub record AllAnswered (start : FlatState) (script out : List ℕ) (end : FlatState) (refused memory : ℕ) : Type 0 where
+  pub replies : List (List ℕ)
+  pub transcript : Transcript start (all_lines script) replies end
+  pub out_is : out ≡ written replies
+  pub refused_is : refused ≡ min (refusals replies) greatest_count
+  pub memory_is : memory ≡ min (memory_refusals replies) greatest_count
+
+-- Whatever was read and written before, all of its lines are answered now.
+pub record Finished (doc : FlatState) (progress : Progress) (doc' : FlatState) (out out' : SinkState) (refused memory : ℕ) : Type 0 where
+  pub added : List ℕ
+  pub answered : (start : FlatState) (read before : List ℕ) → Led start read before doc progress
+      → AllAnswered start read (before ++ added) doc' refused memory
+  pub took : Took out.taken out'.taken added
+  pub faults : out'.faults ≡ out.faults
+
+-- Whatever was read and written before, the reply to the last line was not written whole.
+pub record FinishBroken (doc : FlatState) (progress : Progress) (doc' : FlatState) (out out' : SinkState) : Type 0 where
+  pub added : List ℕ
+  pub broke : (start : FlatState) (read before : List ℕ) → Led start read before doc progress
+      → Broken start (all_lines read) (before ++ added) doc'
+  pub took : Took out.taken out'.taken added
+  pub faults : Rose out.faults out'.faults
+
+abbrev pub Finishes : Served → FlatState → Progress → FlatState → SinkState → SinkState → Type 0
+Finishes (Ended refused memory) doc progress doc' out out' = Finished doc progress doc' out out' refused memory
+Finishes WriteFault doc progress doc' out out' = FinishBroken doc progress doc' out out'
+Finishes ReadFault doc progress doc' out out' = ⊥
+Finishes TooLong doc progress doc' out out' = ⊥

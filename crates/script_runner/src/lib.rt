@@ -3,6 +3,6 @@
 
 mod line;
 mod reply;
-mod serve;
+mod serving;
 
-pub use serve::Served;
+pub use serving::{Served, serve};

@@ -1,10 +1,10 @@
 //! A script served line by line.
 
-ghost use Rattle.std.specs.Prelude.{◌≡◌, ◌+◌, min, [], ◌∷◌, ◌++◌, IfNone, IfSome};
+ghost use Rattle.std.specs.Prelude.{◌≡◌, ◌<◌, ◌+◌, length, min, [], ◌∷◌, ◌++◌, IfNone, IfSome};
 ghost use Rattle.script_streams.specs.Streams.{greatest_count};
 ghost use Rattle.script_runner.specs.Script.{is_refused, IsInOneLine};
-ghost use Rattle.script_runner.specs.Progress.{refusals, memory_refusals, AnswersLine, AnswersPiece};
-ghost use Rattle.script_runner.specs.Serving.{Serves};
+ghost use Rattle.script_runner.specs.Progress.{IsLineSoFar, refusals, memory_refusals, AnswersLine, AnswersPiece};
+ghost use Rattle.script_runner.specs.Serving.{Serves, Finishes};
 
 use crate::line::PartialLine;
 use crate::reply::reply_to;
@@ -36,6 +36,27 @@ pub(crate) struct Progress {
 }
 
 impl Progress {
+    fn new(alloc: Global) -> Progress
+        ensures line { IsLineSoFar result.line [] }
+        ensures refused { result.refused ≡ 0 }
+        ensures memory { result.memory ≡ 0 }
+    {
+        Progress {
+            line: PartialLine::new(alloc),
+            refused: 0,
+            memory: 0,
+        }
+    }
+
+    fn ended(&self) -> Served
+        ensures { result ≡ Served.Ended self.now.refused self.now.memory }
+    {
+        Served::Ended {
+            refused: self.refused,
+            memory: self.memory,
+        }
+    }
+
     /// Counts a reply that begins with `!`, and one that is `! memory`.
     fn count(&mut self, reply: &[u8])
         ensures line { self.new.line ≡ self.old.line }
@@ -56,6 +77,51 @@ fn is_refused(reply: &[u8]) -> bool
     match reply.first() {
         Some(byte) => *byte == b'!',
         None => false,
+    }
+}
+
+/// Reads the script line by line, carries out each command, and writes its whole reply before the next command. Takes
+/// at most `most` bytes, and makes no read after them. A last line without LF is a whole line when the end was seen.
+pub fn serve<S: Source, K: Sink>(
+    alloc: Global,
+    model: &mut Model,
+    src: &mut S,
+    out: &mut K,
+    buf: &mut [u8],
+    most: u64,
+) -> Served
+    requires { 0 < length buf.old }
+    ensures { Serves result most model.old.document model.new.document
+        (S.state src.old) (S.state src.new) (K.state out.old) (K.state out.new) }
+{
+    let mut progress = Progress::new(alloc);
+    let mut left = most;
+    while left > 0 {
+        let room = buf.len().min(left as usize);
+        let Ok(given) = src.read(&mut buf[..room]) else {
+            return Served::ReadFault;
+        };
+        if given == 0 {
+            return finish(alloc, model, progress, out);
+        }
+        left -= given as u64;
+        if answer_piece(alloc, model, &mut progress, &buf[..given], out).is_err() {
+            return Served::WriteFault;
+        }
+    }
+    Served::TooLong
+}
+
+/// Answers the last line, if the script does not end with LF.
+fn finish<K: Sink>(alloc: Global, model: &mut Model, mut progress: Progress, out: &mut K) -> Served
+    ensures { Finishes result model.old.document progress model.new.document (K.state out.old) (K.state out.new) }
+{
+    if progress.line.len == 0 {
+        return progress.ended();
+    }
+    match answer_line(alloc, model, &mut progress, out) {
+        Ok(()) => progress.ended(),
+        Err(Failed) => Served::WriteFault,
     }
 }
 

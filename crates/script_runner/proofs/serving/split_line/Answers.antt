@@ -2,7 +2,7 @@ use Rattle.std.proofs.Common.{◌≡◌, ℕ, ◌<◌, Bool, true, false, eqb, l
 use Rattle.std.proofs.lemmas.Bool.{false_from_ne_true}
 use Rattle.std.proofs.lemmas.List.{length-take-le, get_or-take}
 use Rattle.script_runner.proofs.CutLemmas.{in_one_line}
-use Rattle.script_runner.proofs.serve.split_line.Goals as goal
+use Rattle.script_runner.proofs.serving.split_line.Goals as goal
 
 pub returns-in_err-at-clause-none : goal.returns-in_err-at-clause-none
 returns-in_err-at-clause-none c =

@@ -1,6 +1,6 @@
 use Rattle.std.proofs.Common.{length}
 use Rattle.script_runner.proofs.LedLemmas.{IsAnsweredTo}
-use Rattle.script_runner.proofs.serve.answer_piece.Given as goal
+use Rattle.script_runner.proofs.serving.answer_piece.Given as goal
 
 abbrev pub invariant-loop-line : goal.invariant-loop-line
 invariant-loop-line g l =

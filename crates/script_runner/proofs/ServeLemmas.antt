@@ -1,0 +1,271 @@
+-- How a whole script is served.
+use Rattle.std.proofs.Common.{◌≡◌, ℕ, zero, suc, ◌+◌, ◌-◌, ◌≤◌, ◌<◌, ◌^◌, min, Bool, true, false, List, [], ◌∷◌, ◌++◌, length, take, append_assoc, length-append, refl, ap, sym, ◌∙◌, subst, arith, inl, inr, ◌⊎◌, Result, Ok, Err, is_err}
+use Rattle.std.specs.Bool.{⊤}
+use Rattle.std.proofs.lemmas.Bool.{cases_lt, and_left, and_from, ne_eqb, eq-eqb, lt-ltb}
+use Rattle.std.proofs.lemmas.List.{append-nil, nil_from_length, length-take-le}
+use Rattle.std.proofs.lemmas.List.Concat.{flat_map-append}
+use Rattle.std.proofs.lemmas.List.Sums.{sum_by-append}
+use Rattle.document_rules.specs.Document.{FlatState}
+use Rattle.script_streams.specs.declared.Failed.{Failed}
+use Rattle.script_streams.specs.Streams.{SourceState, SinkState, TakenWhole, Cut, Took, Gave, NothingLeft, Given, NotGiven, Rose, StartsWith, greatest_count}
+use Rattle.script_streams.proofs.StreamLaws.{Took-append, Took-nothing, Gave-append, Gave-nothing}
+use Rattle.script_runner.specs.declared.serving.Progress.{Progress}
+use Rattle.script_runner.specs.Script.{cut, most_line_bytes, whole_lines, last_line, all_lines, written, Turn, Transcript}
+use Rattle.script_runner.specs.Progress.{IsLineSoFar, refusals, memory_refusals, Led, Went, Broken, Broke, LineAnswered, LineBroken, PieceAnswered, PieceBroken, AnswersPiece}
+use Rattle.script_runner.specs.declared.serving.Served.{Served}
+use Rattle.script_runner.specs.declared.serving.Served.TheVariants.{Ended, ReadFault, WriteFault, TooLong}
+use Rattle.script_runner.specs.Serving.{Serves, Finishes, RoseBy, AllAnswered, Finished, FinishBroken, ServedAll, ServedToReadFault, ServedToWriteFault, ServedToLimit}
+use Rattle.script_runner.proofs.CutLemmas.{length-all_lines}
+use Rattle.script_runner.proofs.LedLemmas.{Transcript-push, few_refusals, few_memory_refusals, counted_more, Led-start}
+
+-- ---- the last line
+
+last_line_some : (x : List ℕ) → (length x ≡ 0 → ⊥) → last_line x ≡ x ∷ []
+last_line_some [] some = absurd (some refl)
+last_line_some (byte ∷ x) some = refl
+
+no_bytes : (line : ℕ) (x : List ℕ) (most : ℕ) → line ≡ min (length x) (most + 1) → line ≡ 0 → length x ≡ 0
+no_bytes line x most is none = omega arith
+
+some_bytes : (line : ℕ) (x : List ℕ) (most : ℕ) → line ≡ min (length x) (most + 1) → (line ≡ 0 → ⊥) → length x ≡ 0 → ⊥
+some_bytes line x most is some none = some (omega arith)
+
+pub finish_empty : (doc : FlatState) (progress : Progress) (out : SinkState) → progress.line.len ≡ 0
+    → Finished doc progress doc out out progress.refused progress.memory
+finish_empty doc progress out empty = record {
+  added = [];
+  answered = λ start read before led. record {
+    replies = led.replies;
+    transcript = rw (nil_from_length (cut read).rest (no_bytes progress.line.len (cut read).rest most_line_bytes led.line.len empty), append-nil (whole_lines read)) led.transcript;
+    out_is = append-nil before ∙ led.out_is;
+    refused_is = led.refused;
+    memory_is = led.memory;
+  };
+  took = Took-nothing out.taken;
+  faults = refl;
+}
+
+module _ (doc : FlatState) (progress : Progress) (doc' : FlatState) (progress' : Progress) (out out' : SinkState) (some : progress.line.len ≡ 0 → ⊥) where
+  pub finish_line : LineAnswered doc progress doc' progress' out out' → Finished doc progress doc' out out' progress'.refused progress'.memory
+  finish_line answered = record {
+    added = answered.reply;
+    answered = λ start read before led. record {
+      replies = led.replies ++ answered.reply ∷ [];
+      transcript = rw (last_line_some (cut read).rest (some_bytes progress.line.len (cut read).rest most_line_bytes led.line.len some))
+          (Transcript-push _ _ _ _ _ _ _ led.transcript (answered.turn _ led.line));
+      out_is = rw (led.out_is, flat_map-append) (ap (λ x. written led.replies ++ x) (sym (append-nil answered.reply)));
+      refused_is = answered.refused ∙ counted_more progress.refused _ (refusals led.replies) led.refused
+          ∙ ap (λ n. min n greatest_count) (sym (sum_by-append _ led.replies (answered.reply ∷ [])));
+      memory_is = answered.memory ∙ counted_more progress.memory _ (memory_refusals led.replies) led.memory
+          ∙ ap (λ n. min n greatest_count) (sym (sum_by-append _ led.replies (answered.reply ∷ [])));
+    };
+    took = answered.sink.bytes;
+    faults = answered.sink.faults;
+  }
+
+  pub finish_broken : LineBroken doc progress doc' out out' → FinishBroken doc progress doc' out out'
+  finish_broken broken = record {
+    added = broken.sink.front;
+    broke = λ start read before led. record {
+      done = whole_lines read;
+      line = (cut read).rest;
+      others = [];
+      lines_are = rw (last_line_some (cut read).rest (some_bytes progress.line.len (cut read).rest most_line_bytes led.line.len some)) refl;
+      replies = led.replies;
+      mid = doc;
+      transcript = led.transcript;
+      reply = broken.reply;
+      turn = broken.turn _ led.line;
+      front = broken.sink.front;
+      starts = broken.sink.starts;
+      out_is = ap (λ x. x ++ broken.sink.front) led.out_is;
+    };
+    took = broken.sink.bytes;
+    faults = broken.sink.faults;
+  }
+
+-- ---- the loop over the source
+
+-- the lines that were answered are the first of all lines, too
+broken_in_all : (start : FlatState) (script out : List ℕ) (now : FlatState) → Broken start (whole_lines script) out now → Broken start (all_lines script) out now
+broken_in_all start script out now broken = record {
+  done = broken.done;
+  line = broken.line;
+  others = broken.others ++ last_line (cut script).rest;
+  lines_are = ap (λ x. x ++ last_line (cut script).rest) broken.lines_are ∙ append_assoc broken.done (broken.line ∷ broken.others) (last_line (cut script).rest);
+  replies = broken.replies;
+  mid = broken.mid;
+  transcript = broken.transcript;
+  reply = broken.reply;
+  turn = broken.turn;
+  front = broken.front;
+  starts = broken.starts;
+  out_is = broken.out_is;
+}
+
+counted_exactly : (n : ℕ) → n ≤ greatest_count → min n greatest_count ≡ n
+counted_exactly n within = omega arith
+
+-- so far these bytes were read and those written, and no fault came
+pub record IsServedTo (most left : ℕ) (start now : FlatState) (progress : Progress) (src src' : SourceState) (out out' : SinkState) : Type 0 where
+  pub script : List ℕ
+  pub added : List ℕ
+  pub gave : Gave src.left src'.left script
+  pub took : Took out.taken out'.taken added
+  pub led : Led start script added now progress
+  pub read : length script + left ≡ most
+  pub given : RoseBy src.given (length script) src'.given
+  pub not_ended : left < most → src'.ended ≡ false
+  pub source_faults : src'.faults ≡ src.faults
+  pub sink_faults : out'.faults ≡ out.faults
+
+pub served_to_start : (most : ℕ) (start : FlatState) (progress : Progress) (src : SourceState) (out : SinkState)
+    → IsLineSoFar progress.line [] → progress.refused ≡ 0 → progress.memory ≡ 0
+    → IsServedTo most most start start progress src src out out
+served_to_start most start progress src out line refused memory = record {
+  script = [];
+  added = [];
+  gave = Gave-nothing src.left;
+  took = Took-nothing out.taken;
+  led = Led-start start progress line refused memory;
+  read = omega arith;
+  given = inl (omega arith);
+  not_ended = λ less. absurd (omega arith);
+  source_faults = refl;
+  sink_faults = refl;
+}
+
+rose_to : (a n m c : ℕ) → c ≡ min (a + n + m) greatest_count → RoseBy a (n + m) c
+rose_to a n m c is = elim (cases_lt greatest_count (a + n + m)) [ inl above ↦ inr (omega arith) | inr within ↦ inl (omega arith) ]
+
+rose_more : (a n b m c : ℕ) → RoseBy a n b → c ≡ min (b + m) greatest_count → RoseBy a (n + m) c
+rose_more a n b m c (inl rose) is = rose_to a n m c (rw (← rose) is)
+rose_more a n b m c (inr top) is = inr (omega arith)
+
+module _ (most left : ℕ) (start now : FlatState) (progress : Progress) (src src' : SourceState) (out out' : SinkState)
+    (before : IsServedTo most left start now progress src src' out out') (src'' : SourceState) where
+  -- a read failed
+  pub served_to_read_fault : NotGiven src' src'' → ServedToReadFault start now src src'' out out'
+  served_to_read_fault failed = record {
+    script = before.script;
+    gave = rw failed.left before.gave;
+    replies = before.led.replies;
+    transcript = before.led.transcript;
+    took = rw (← before.led.out_is) before.took;
+    source_faults = subst (λ n. Rose n src''.faults) before.source_faults failed.faults;
+    sink_faults = before.sink_faults;
+  }
+
+  module _ (n : ℕ) (buf : List ℕ) (given : Given n src' src'' buf) where
+    gave_more : Gave src.left src''.left (before.script ++ take n buf)
+    gave_more = Gave-append _ _ _ _ _ before.gave given.bytes
+
+    length_given : length (take n buf) ≡ n
+    length_given = length-take-le n buf given.within
+
+    -- some bytes came, and the lines that they complete are answered
+    pub served_to_more : 0 < n → n ≤ left → (now' : FlatState) (progress' : Progress) (out'' : SinkState)
+        → PieceAnswered (take n buf) now progress now' progress' out' out''
+        → IsServedTo most (left - n) start now' progress' src src'' out out''
+    served_to_more some within now' progress' out'' answered = record {
+      script = before.script ++ take n buf;
+      added = before.added ++ answered.added;
+      gave = gave_more;
+      took = Took-append _ _ _ _ _ before.took answered.sink.bytes;
+      led = answered.went start before.script before.added before.led;
+      read = omega (arith, before.read, length_given, length-append before.script (take n buf));
+      given = subst (λ k. RoseBy src.given k src''.given) (sym (length-append before.script (take n buf) ∙ ap (λ k. length before.script + k) length_given))
+          (rose_more src.given (length before.script) src'.given n src''.given before.given given.given);
+      not_ended = λ less. given.ended ∙ and_left _ _ (ne_eqb n 0 (λ none. omega arith));
+      source_faults = given.faults ∙ before.source_faults;
+      sink_faults = answered.sink.faults ∙ before.sink_faults;
+    }
+
+    -- some bytes came, and a reply was not written whole
+    pub served_to_write_fault : (now' : FlatState) (out'' : SinkState) → PieceBroken (take n buf) now progress now' out' out''
+        → ServedToWriteFault start now' src src'' out out''
+    served_to_write_fault now' out'' broken = record {
+      script = before.script ++ take n buf;
+      gave = gave_more;
+      added = before.added ++ broken.added;
+      broken = broken_in_all _ (before.script ++ take n buf) _ _ (broken.broke start before.script before.added before.led);
+      took = Took-append _ _ _ _ _ before.took broken.bytes;
+      source_faults = given.faults ∙ before.source_faults;
+      sink_faults = subst (λ k. Rose k out''.faults) before.sink_faults broken.faults;
+    }
+
+    module _ (none : n ≡ 0) (room : 0 < length buf) where
+      gave_all : Gave src.left src''.left before.script
+      gave_all = subst (λ x. Gave src.left src''.left x) (rw (none, append-nil before.script) refl) gave_more
+
+      -- the end came, and the last line is answered
+      pub served_to_end : most < 2 ^ 64 → (now' : FlatState) (out'' : SinkState) (refused memory : ℕ)
+          → Finished now progress now' out' out'' refused memory → ServedAll start now' src src'' out out'' refused memory
+      served_to_end small now' out'' refused memory finished =
+          let answered = finished.answered start before.script before.added before.led in
+          let few = few_refusals start before.script answered.replies now' answered.transcript in
+          let few_memory = few_memory_refusals start before.script answered.replies now' answered.transcript in
+          let within : length before.script ≤ most = omega (arith, before.read) in
+          record {
+            script = before.script;
+            gave = gave_all;
+            nothing_left = given.nothing_left none room;
+            ended = given.ended ∙ and_from _ _ (eq-eqb n 0 none) (lt-ltb 0 (length buf) room);
+            replies = answered.replies;
+            transcript = answered.transcript;
+            took = rw (← answered.out_is) (Took-append _ _ _ _ _ before.took finished.took);
+            refused_is = answered.refused_is ∙ counted_exactly _ (omega arith);
+            memory_is = answered.memory_is ∙ counted_exactly _ (omega arith);
+            source_faults = given.faults ∙ before.source_faults;
+            sink_faults = finished.faults ∙ before.sink_faults;
+          }
+
+      -- the end came, and the reply to the last line was not written whole
+      pub served_to_broken_end : (now' : FlatState) (out'' : SinkState) → FinishBroken now progress now' out' out''
+          → ServedToWriteFault start now' src src'' out out''
+      served_to_broken_end now' out'' broken = record {
+        script = before.script;
+        gave = gave_all;
+        added = before.added ++ broken.added;
+        broken = broken.broke start before.script before.added before.led;
+        took = Took-append _ _ _ _ _ before.took broken.took;
+        source_faults = given.faults ∙ before.source_faults;
+        sink_faults = subst (λ k. Rose k out''.faults) before.sink_faults broken.faults;
+      }
+
+-- as many bytes were read as may be
+pub served_to_limit : (most left : ℕ) (start now : FlatState) (progress : Progress) (src src' : SourceState) (out out' : SinkState)
+    → left ≡ 0 → IsServedTo most left start now progress src src' out out' → ServedToLimit most start now src src' out out'
+served_to_limit most left start now progress src src' out out' none before = record {
+  script = before.script;
+  gave = before.gave;
+  most_is = omega (arith, before.read);
+  given = subst (λ k. RoseBy src.given k src'.given) (omega (arith, before.read)) before.given;
+  not_ended = λ some. before.not_ended (omega arith);
+  replies = before.led.replies;
+  transcript = before.led.transcript;
+  took = rw (← before.led.out_is) before.took;
+  source_faults = before.source_faults;
+  sink_faults = before.sink_faults;
+}
+
+-- how the script ended, where nothing more was given
+pub serves_end : (served : Served) (most left : ℕ) (start now now' : FlatState) (progress : Progress) (src src' src'' : SourceState) (out out' out'' : SinkState)
+    → IsServedTo most left start now progress src src' out out' → (n : ℕ) (buf : List ℕ) → Given n src' src'' buf → n ≡ 0 → 0 < length buf → most < 2 ^ 64
+    → Finishes served now progress now' out' out'' → Serves served most start now' src src'' out out''
+serves_end (Ended refused memory) most left start now now' progress src src' src'' out out' out'' before n buf given none room small finished =
+    served_to_end _ _ _ _ _ _ _ _ _ before src'' n buf given none room small now' out'' refused memory finished
+serves_end WriteFault most left start now now' progress src src' src'' out out' out'' before n buf given none room small broken =
+    served_to_broken_end _ _ _ _ _ _ _ _ _ before src'' n buf given none room now' out'' broken
+serves_end ReadFault most left start now now' progress src src' src'' out out' out'' before n buf given none room small never = absurd never
+serves_end TooLong most left start now now' progress src src' src'' out out' out'' before n buf given none room small never = absurd never
+
+-- how a piece was answered, by the test of its result
+module _ (r : Result ⊤ Failed) (piece : List ℕ) (doc : FlatState) (progress : Progress) (doc' : FlatState) (progress' : Progress) (out out' : SinkState) where
+  pub piece_broken_at_err : is_err r ≡ true → AnswersPiece r piece doc progress doc' progress' out out' → PieceBroken piece doc progress doc' out out'
+  piece_broken_at_err e h = elim r as (λ r. is_err r ≡ true → AnswersPiece r piece doc progress doc' progress' out out' → PieceBroken piece doc progress doc' out out')
+      [ Ok x ↦ λ e h. cc | Err failed ↦ λ e h. h ] e h
+
+  pub piece_answered_at_ok : is_err r ≡ false → AnswersPiece r piece doc progress doc' progress' out out' → PieceAnswered piece doc progress doc' progress' out out'
+  piece_answered_at_ok e h = elim r as (λ r. is_err r ≡ false → AnswersPiece r piece doc progress doc' progress' out out' → PieceAnswered piece doc progress doc' progress' out out')
+      [ Ok x ↦ λ e h. h | Err failed ↦ λ e h. cc ] e h
