@@ -1,3 +1,4 @@
 pub mod CutLemmas
 pub mod LedLemmas
 pub mod ServeLemmas
+pub mod RunLemmas

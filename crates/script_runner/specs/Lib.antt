@@ -3,4 +3,5 @@ pub mod Script
 pub mod Bytes
 pub mod Progress
 pub mod Serving
+pub mod Runs
 mod Examples

@@ -3,6 +3,8 @@
 
 mod line;
 mod reply;
+mod running;
 mod serving;
 
+pub use running::run_words;
 pub use serving::{Served, serve};

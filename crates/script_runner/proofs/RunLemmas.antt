@@ -1,0 +1,75 @@
+-- What a run of the program comes to.
+use Rattle.std.proofs.Common.{◌≡◌, ℕ, zero, suc, ◌+◌, ◌≤◌, ◌<◌, Bool, true, false, ◌||◌, cond, List, [], ◌∷◌, ◌++◌, length, count_by, Option, Some, None, refl, ap, sym, ◌∙◌, subst, arith}
+use Rattle.std.specs.List.{list_any}
+use Rattle.std.proofs.lemmas.Bool.{lt-ltb}
+use Rattle.std.proofs.lemmas.List.{append-nil}
+use Rattle.std.proofs.lemmas.List.Sums.{sum_by-cons}
+use Rattle.document_rules.specs.Document.{FlatState, new_document}
+use Rattle.script_streams.specs.Streams.{SourceState, SinkState, Gave, NothingLeft, Took}
+use Rattle.script_runner.specs.declared.running.Status.{Status}
+use Rattle.script_runner.specs.declared.running.Status.TheVariants as status
+use Rattle.script_runner.specs.declared.serving.Served.{Served}
+use Rattle.script_runner.specs.declared.serving.Served.TheVariants.{Ended, ReadFault, WriteFault, TooLong}
+use Rattle.script_runner.specs.Script.{all_lines, written, is_refused, Transcript}
+use Rattle.script_runner.specs.Progress.{refusals}
+use Rattle.script_runner.specs.Serving.{Serves, ServedAll}
+use Rattle.script_runner.specs.Runs.{most_script_bytes, number_of, status_after, EndsWith, Runs, AnswersAll, IsAnswered}
+
+module _ (src src' : SourceState) (out out' : SinkState) where
+  runs_after_end : (refused memory : ℕ) (end : FlatState) → ServedAll (new_document []) end src src' out out' refused memory
+      → Runs (status_after (Ended refused memory)) src src' out out'
+  runs_after_end zero memory end served = record { memory = memory; end = end; served = served }
+  runs_after_end (suc more) memory end served =
+      rw (lt-ltb 0 (suc more) (omega arith)) (more, record { memory = memory; end = end; served = served })
+
+  -- the status after serving tells what stands
+  pub runs_after : (served : Served) (end : FlatState) → Serves served most_script_bytes (new_document []) end src src' out out'
+      → Runs (status_after served) src src' out out'
+  runs_after (Ended refused memory) end served = runs_after_end refused memory end served
+  runs_after ReadFault end served = (end, served)
+  runs_after WriteFault end served = (end, served)
+  runs_after TooLong end served = (end, served)
+
+-- a reply begins with `!` where some are counted
+counted : (here : Bool) (n : ℕ) (more : Bool) → (n ≡ 0 → more ≡ false) → (0 < n → more ≡ true)
+    → let m = cond here 1 0 + n in (m ≡ 0 → (here || more) ≡ false) × (0 < m → (here || more) ≡ true)
+counted true n more none some = (λ e. absurd (omega arith), λ e. refl)
+counted false n more none some = (λ e. none (omega arith), λ e. some (omega arith))
+
+any_refused : (replies : List (List ℕ)) → (refusals replies ≡ 0 → list_any is_refused replies ≡ false) × (0 < refusals replies → list_any is_refused replies ≡ true)
+any_refused [] = (λ e. refl, λ e. absurd (omega arith))
+any_refused (reply ∷ replies) =
+    let rest = any_refused replies in
+    rw sum_by-cons (counted (is_refused reply) (refusals replies) (list_any is_refused replies) rest.0 rest.1)
+
+whole_script : (left : Option (List ℕ)) (script read : List ℕ) → Gave (Some script) left read → NothingLeft left → read ≡ script
+whole_script None script read gave none = absurd gave
+whole_script (Some rest) script read gave none = sym (gave ∙ ap (λ x. read ++ x) none ∙ append-nil read)
+
+module _ (src src' : SourceState) (out out' : SinkState) (script before after : List ℕ) (told : src.left ≡ Some script) (took : out.taken ≡ Some before)
+    (takes : out'.taken ≡ Some after) where
+  answered_is : (number refused memory : ℕ) (end : FlatState) → ServedAll (new_document []) end src src' out out' refused memory
+      → ((replies : List (List ℕ)) → refused ≡ refusals replies → number ≡ cond (list_any is_refused replies) 1 0) → IsAnswered script before after number
+  answered_is number refused memory end served status =
+      let whole = whole_script src'.left script served.script (subst (λ left. Gave left src'.left served.script) told served.gave) served.nothing_left in
+      record {
+        replies = served.replies;
+        end = end;
+        transcript = subst (λ x. Transcript (new_document []) (all_lines x) served.replies end) whole served.transcript;
+        grown = subst (λ t. Took (Some before) t (written served.replies)) takes (subst (λ t. Took t out'.taken (written served.replies)) took served.took);
+        status = status served.replies served.refused_is;
+      }
+
+  -- a run that ends with 0 or 1 answered the whole script
+  pub answered_from_run : (number : ℕ) → number ≤ 1 → EndsWith number (λ s. Runs s src src' out out') → IsAnswered script before after number
+  answered_from_run number few (status.Answered, is, answers) =
+      answered_is number 0 answers.memory answers.end answers.served
+      (λ replies none. is ∙ sym (rw ((any_refused replies).0 (sym none)) refl))
+  answered_from_run number few (status.Refused, is, (more, answers)) =
+      answered_is number (suc more) answers.memory answers.end answers.served
+      (λ replies some. is ∙ sym (rw ((any_refused replies).1 (omega arith)) refl))
+  answered_from_run number few (status.Usage, is, never) = absurd never
+  answered_from_run number few (status.Memory, is, same) = absurd (omega arith)
+  answered_from_run number few (status.ReadFault, is, fault) = absurd (omega arith)
+  answered_from_run number few (status.WriteFault, is, fault) = absurd (omega arith)
+  answered_from_run number few (status.TooLong, is, long) = absurd (omega arith)

@@ -1,0 +1,6 @@
+use Rattle.script_runner.proofs.RunLemmas.{runs_after}
+use Rattle.script_runner.proofs.running.run.Goals as goal
+
+pub returns : goal.returns
+returns g c =
+    rw c.status_after.ensures (runs_after _ _ _ _ _ _ (rw c.new-model.ensures at c.serve-served.ensures))

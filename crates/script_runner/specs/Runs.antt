@@ -1,0 +1,84 @@
+-- What a run of the program does, by the status that it ends with.
+use Rattle.std.specs.Prelude.{◌≡◌, ◌≢◌, ℕ, zero, suc, ◌+◌, ◌^◌, ◌<◌, ◌⊎◌, ◌&&◌, Bool, true, false, nat_lt, if◌then◌else◌, List, [], ◌∷◌, ◌++◌, length, codes, Result, Ok, Err, ⊤}
+use Rattle.std.specs.Str.{bytes_eq}
+use Rattle.std.specs.List.{list_any}
+use Rattle.document_rules.specs.Document.{FlatState, new_document}
+use Rattle.script_streams.specs.Streams.{SourceState, SinkState, Gave, NothingLeft, Took, Rose, StartsWith}
+use Rattle.script_runner.specs.declared.running.Status.{Status}
+use Rattle.script_runner.specs.declared.running.Status.TheVariants as status
+use Rattle.script_runner.specs.declared.serving.Served.{Served}
+use Rattle.script_runner.specs.declared.serving.Served.TheVariants.{Ended, ReadFault, WriteFault, TooLong}
+use Rattle.script_runner.specs.Script.{all_lines, written, is_refused, Transcript}
+use Rattle.script_runner.specs.Serving.{ServedAll, ServedToReadFault, ServedToWriteFault, ServedToLimit}
+
+-- the one word `run`
+abbrev pub is_run : List (List ℕ) → Bool
+is_run [] = false
+is_run (word ∷ []) = bytes_eq word (codes "run")
+is_run (word ∷ other ∷ words) = false
+
+abbrev pub usage_line : List ℕ
+usage_line = codes "usage: textmodel run | textmodel play COUNT SEED\n"
+
+-- a script has fewer bytes than these
+abbrev pub most_script_bytes : ℕ
+most_script_bytes = 2 ^ 40
+
+-- the number of a status
+abbrev pub number_of : Status → ℕ
+number_of status.Answered = 0
+number_of status.Refused = 1
+number_of status.Usage = 2
+number_of status.Memory = 3
+number_of status.ReadFault = 4
+number_of status.WriteFault = 5
+number_of status.TooLong = 6
+
+-- the status after serving a script: whether some reply begins with `!`, or which fault came
+abbrev pub status_after : Served → Status
+status_after (Ended refused memory) = if nat_lt 0 refused then status.Refused else status.Answered
+status_after ReadFault = status.ReadFault
+status_after WriteFault = status.WriteFault
+status_after TooLong = status.TooLong
+
+-- the number is that of a status of which this holds
+abbrev pub EndsWith : ℕ → (Status → Type 0) → Type 0
+EndsWith number Holds = (s : Status) × (number ≡ number_of s) × Holds s
+
+-- The words are no command: the usage line was written, or a front of it where the write failed.
+abbrev pub ShowsUsage : Status → SinkState → SinkState → Type 0
+ShowsUsage status.Usage err err' = Took err.taken err'.taken usage_line × (err'.faults ≡ err.faults)
+ShowsUsage status.WriteFault err err' =
+    (front : List ℕ) × StartsWith usage_line front × Took err.taken err'.taken front × Rose err.faults err'.faults
+ShowsUsage status.Answered err err' = ⊥
+ShowsUsage status.Refused err err' = ⊥
+ShowsUsage status.Memory err err' = ⊥
+ShowsUsage status.ReadFault err err' = ⊥
+ShowsUsage status.TooLong err err' = ⊥
+
+-- what was taken grew by the replies to all lines of the script, and the status tells whether one begins with `!`
+pub record IsAnswered (script before after : List ℕ) (number : ℕ) : Type 0 where
+  pub replies : List (List ℕ)
+  pub end : FlatState
+  pub transcript : Transcript (new_document []) (all_lines script) replies end
+  pub grown : after ≡ before ++ written replies
+  pub status : number ≡ (if list_any is_refused replies then 1 else 0)
+
+-- the script was answered to its end, and this many replies begin with `!`
+pub record AnswersAll (src src' : SourceState) (out out' : SinkState) (refused : ℕ) : Type 0 where
+  pub memory : ℕ
+  pub end : FlatState
+  pub served : ServedAll (new_document []) end src src' out out' refused memory
+
+abbrev pub Runs : Status → SourceState → SourceState → SinkState → SinkState → Type 0
+-- every line of the script was answered, and no reply begins with `!`
+Runs status.Answered src src' out out' = AnswersAll src src' out out' 0
+-- every line of the script was answered, and some reply begins with `!`
+Runs status.Refused src src' out out' = (more : ℕ) × AnswersAll src src' out out' (suc more)
+-- there was no memory to begin with, and nothing was read or written
+Runs status.Memory src src' out out' = (src' ≡ src) × (out' ≡ out)
+Runs status.ReadFault src src' out out' = (end : FlatState) × ServedToReadFault (new_document []) end src src' out out'
+Runs status.WriteFault src src' out out' = (end : FlatState) × ServedToWriteFault (new_document []) end src src' out out'
+Runs status.TooLong src src' out out' = (end : FlatState) × ServedToLimit most_script_bytes (new_document []) end src src' out out'
+-- the words `run` are a command
+Runs status.Usage src src' out out' = ⊥

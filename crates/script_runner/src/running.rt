@@ -1,0 +1,139 @@
+//! The program's words, and what each run of it does.
+
+ghost use Rattle.std.specs.Prelude.{◌≡◌, ◌≤◌, ◌<◌, ◌⊎◌, ℕ, List, true, false, Some, map, string_bytes, vec_len, IfOk, length};
+ghost use Rattle.script_runner.specs.Runs.{is_run, most_script_bytes, number_of, status_after, EndsWith, ShowsUsage, Runs, IsAnswered};
+
+use crate::serving::{Served, serve};
+use model_core::Model;
+use script_streams::{Sink, Source, write_whole};
+use std::alloc::{AllocError, Global};
+
+/// The most bytes of a script.
+const MOST_SCRIPT_BYTES: u64 = 0x100_0000_0000;
+
+/// How many bytes are read at once.
+const READ_BYTES: usize = 0x1_0000;
+
+const USAGE: &str = "usage: textmodel run | textmodel play COUNT SEED\n";
+
+/// The status that the program ends with.
+#[derive(Clone, Copy)]
+enum Status {
+    /// The script was read to its end, and every reply was written; none begins with `!`.
+    Answered = 0,
+    /// The same, and some reply begins with `!`.
+    Refused = 1,
+    /// The words are no command.
+    Usage = 2,
+    /// There was no memory to begin with.
+    Memory = 3,
+    ReadFault = 4,
+    WriteFault = 5,
+    /// The script is longer than the limit.
+    TooLong = 6,
+}
+
+/// Does what the words say, and gives the status to end with: 0 or 1 where the script was answered, 1 where some line
+/// was refused; 2 where the words are no command, with the usage line on `err`; 3 where there was no memory to begin
+/// with, and nothing was read or written; 4 where a read and 5 where a write failed; 6 where the script is longer than
+/// the limit of 2^40 - 1 bytes. The words come without the program's name.
+pub fn run_words<S: Source, K: Sink, E: Sink>(
+    alloc: Global,
+    words: &[String],
+    src: &mut S,
+    out: &mut K,
+    err: &mut E,
+) -> u8
+    // The program answers as the flat document does: where the source tells what it holds and `out` what it took, the
+    // bytes written for a script that was answered are the replies to all of its lines, one by one, by a new document.
+    ensures headline { is_run (map string_bytes words.now) ≡ true → result ≤ 1 → (script before after : List ℕ)
+        → (S.state src.old).left ≡ Some script → (K.state out.old).taken ≡ Some before
+        → (K.state out.new).taken ≡ Some after → IsAnswered script before after result }
+
+    // What stands at each status, for streams that tell and for others.
+    ensures run { is_run (map string_bytes words.now) ≡ true → EndsWith result (λ status.
+        Runs status (S.state src.old) (S.state src.new) (K.state out.old) (K.state out.new)) }
+    ensures usage { is_run (map string_bytes words.now) ≡ false → EndsWith result (λ status.
+        ShowsUsage status (E.state err.old) (E.state err.new)) }
+
+    // Each command leaves alone what is not its own.
+    ensures run_leaves_err { is_run (map string_bytes words.now) ≡ true → err.new ≡ err.old }
+    ensures usage_leaves_source { is_run (map string_bytes words.now) ≡ false → src.new ≡ src.old }
+    ensures usage_leaves_out { is_run (map string_bytes words.now) ≡ false → out.new ≡ out.old }
+
+    // Where no fault can come, a script within the limit is answered, unless there is no memory to begin with.
+    ensures complete { is_run (map string_bytes words.now) ≡ true → ((s : S) → (S.state s).faults ≡ 0)
+        → ((k : K) → (K.state k).faults ≡ 0) → (script : List ℕ) → (S.state src.old).left ≡ Some script
+        → length script < most_script_bytes → (result ≤ 1) ⊎ (result ≡ 3) }
+{
+    if !is_run(words) {
+        return number_of(usage(err));
+    }
+    number_of(run(alloc, src, out))
+}
+
+fn number_of(status: Status) -> u8
+    ensures { result ≡ number_of status }
+{
+    status as u8
+}
+
+fn is_run(words: &[String]) -> bool
+    ensures { result ≡ is_run (map string_bytes words.now) }
+{
+    match words {
+        [word] => word.as_str() == "run",
+        _ => false,
+    }
+}
+
+fn usage<E: Sink>(err: &mut E) -> Status
+    ensures { ShowsUsage result (E.state err.old) (E.state err.new) }
+{
+    match write_whole(err, USAGE.as_bytes()) {
+        Ok(()) => Status::Usage,
+        Err(_) => Status::WriteFault,
+    }
+}
+
+fn run<S: Source, K: Sink>(alloc: Global, src: &mut S, out: &mut K) -> Status
+    ensures { Runs result (S.state src.old) (S.state src.new) (K.state out.old) (K.state out.new) }
+{
+    let Ok(mut buf) = read_buffer(alloc) else {
+        return Status::Memory;
+    };
+    let mut model = Model::new(alloc);
+    let served = serve(
+        alloc,
+        &mut model,
+        src,
+        out,
+        buf.as_mut_slice(),
+        MOST_SCRIPT_BYTES,
+    );
+    status_after(served)
+}
+
+fn status_after(served: Served) -> Status
+    ensures { result ≡ status_after served }
+{
+    match served {
+        Served::Ended { refused, .. } => {
+            if refused == 0 {
+                Status::Answered
+            } else {
+                Status::Refused
+            }
+        }
+        Served::ReadFault => Status::ReadFault,
+        Served::WriteFault => Status::WriteFault,
+        Served::TooLong => Status::TooLong,
+    }
+}
+
+/// Room on the heap for what is read at once.
+fn read_buffer(alloc: Global) -> Result<Vec<u8>, AllocError>
+    ensures { IfOk result (λ buf. vec_len buf ≡ READ_BYTES) }
+{
+    vec![in alloc; 0; READ_BYTES]
+}
