@@ -1,2 +1,5 @@
 pub mod Streams
+pub mod Fresh
+pub mod Plan
+pub mod Tray
 mod Examples

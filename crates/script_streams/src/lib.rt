@@ -1,11 +1,14 @@
 //! Where a script comes from and where its replies go: the traits, and what stands for them in tests.
 #![tactic(auto)]
 
+mod tray;
+mod turn;
 mod whole;
 
 ghost use Rattle.script_streams.specs.Streams.{SourceState, SinkState, Reads, Writes};
 
 use thiserror::Error;
+pub use turn::Turn;
 pub use whole::write_whole;
 
 /// A read or a write failed.
