@@ -1,6 +1,9 @@
 //! Where a script comes from and where its replies go: the traits, and what stands for them in tests.
 #![tactic(auto)]
 
+mod memory;
+mod supply;
+mod sure;
 mod tray;
 mod turn;
 mod whole;
@@ -8,6 +11,8 @@ mod whole;
 ghost use Rattle.script_streams.specs.Streams.{SourceState, SinkState, Reads, Writes};
 
 use thiserror::Error;
+pub use memory::{MemSink, MemSource};
+pub use sure::{SureSink, SureSource};
 pub use turn::Turn;
 pub use whole::write_whole;
 
