@@ -2,4 +2,5 @@ pub mod Streams
 pub mod Fresh
 pub mod Plan
 pub mod Tray
+pub mod Writer
 mod Examples

@@ -2,6 +2,7 @@
 #![tactic(auto)]
 
 mod memory;
+mod standard;
 mod supply;
 mod sure;
 mod tray;
@@ -12,6 +13,7 @@ ghost use Rattle.script_streams.specs.Streams.{SourceState, SinkState, Reads, Wr
 
 use thiserror::Error;
 pub use memory::{MemSink, MemSource};
+pub use standard::{StdSink, StdSource};
 pub use sure::{SureSink, SureSource};
 pub use turn::Turn;
 pub use whole::write_whole;
