@@ -1,2 +1,3 @@
 pub mod PlanLemmas
 pub mod SupplyLemmas
+pub mod WriterLemmas

@@ -28,6 +28,6 @@ Given-front bytes buf given most count was ended fits asked is_least front is_en
   given = omega arith;
   ended = is_end;
   nothing_left = λ none room.
-    nil_from_length (drop (given + count) bytes) (omega (arith, length-drop (given + count) bytes, length-drop given bytes));
+      nil_from_length (drop (given + count) bytes) (omega (arith, length-drop (given + count) bytes, length-drop given bytes));
   faults = refl;
 }

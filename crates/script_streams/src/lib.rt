@@ -11,10 +11,10 @@ mod whole;
 
 ghost use Rattle.script_streams.specs.Streams.{SourceState, SinkState, Reads, Writes};
 
-use thiserror::Error;
 pub use memory::{MemSink, MemSource};
 pub use standard::{StdSink, StdSource};
 pub use sure::{SureSink, SureSource};
+use thiserror::Error;
 pub use turn::Turn;
 pub use whole::write_whole;
 

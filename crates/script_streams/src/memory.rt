@@ -1,17 +1,16 @@
 //! Sources and sinks in memory that fail or come short by a plan.
 ghost use Rattle.std.specs.Prelude.{◌≡◌, ◌<◌, length, All, IfOk, OnErr, Some, []};
 ghost use Rattle.std.specs.Option.{option_copied};
-ghost use Rattle.script_streams.specs.Streams.{Reads, Writes, Rose};
+ghost use Rattle.script_streams.specs.Streams.{Reads, Writes};
 ghost use Rattle.script_streams.specs.Fresh.{fresh_source, fresh_sink};
 ghost use Rattle.script_streams.specs.Plan.{GivesSomething};
-
-use std::alloc::{AllocError, Global};
-use std::marker::Model;
 
 use crate::supply::Supply;
 use crate::tray::Tray;
 use crate::turn::Plan;
 use crate::{Failed, Sink, Source, Turn};
+use std::alloc::{AllocError, Global};
+use std::marker::Model;
 
 /// Gives bytes from memory by a plan, and tells which are left.
 #[derive(Drop)]
@@ -37,7 +36,12 @@ impl Model for MemSource {
 impl MemSource {
     /// A source of these bytes, of which a read gives at most `each`, and less or nothing where the plan says so. Of
     /// two turns that name the same read the first holds.
-    pub fn new(alloc: Global, bytes: &[u8], each: usize, plan: &[Turn]) -> Result<MemSource, AllocError>
+    pub fn new(
+        alloc: Global,
+        bytes: &[u8],
+        each: usize,
+        plan: &[Turn],
+    ) -> Result<MemSource, AllocError>
         requires each { 0 < each }
         requires plan { All GivesSomething plan.now }
         ensures { IfOk result (λ source. source ≡ fresh_source (Some bytes.now)) }
@@ -101,7 +105,12 @@ impl Model for MemSink {
 impl MemSink {
     /// A sink with room for that many bytes, of which a write takes at most `each`, and less or nothing where the
     /// plan says so. Of two turns that name the same write the first holds.
-    pub fn new(alloc: Global, room: usize, each: usize, plan: &[Turn]) -> Result<MemSink, AllocError>
+    pub fn new(
+        alloc: Global,
+        room: usize,
+        each: usize,
+        plan: &[Turn],
+    ) -> Result<MemSink, AllocError>
         requires { 0 < each }
         ensures { IfOk result (λ sink. sink ≡ fresh_sink (Some [])) }
     {
@@ -126,13 +135,6 @@ impl MemSink {
     {
         self.faults
     }
-
-    fn count_fault(&mut self)
-        ensures faults { Rose self.old.faults self.new.faults }
-        ensures taken { self.new.taken ≡ self.old.taken }
-    {
-        self.faults = self.faults.saturating_add(1);
-    }
 }
 
 impl Sink for MemSink {
@@ -143,12 +145,12 @@ impl Sink for MemSink {
         ensures failed { OnErr result (self.new.taken ≡ self.old.taken) }
     {
         let Some(most) = self.plan.next_allowance(self.each) else {
-            self.count_fault();
+            self.faults = self.faults.saturating_add(1);
             return Err(Failed);
         };
         let taken = most.min(piece.len());
         if taken == 0 && !piece.is_empty() {
-            self.count_fault();
+            self.faults = self.faults.saturating_add(1);
         }
         self.tray.put(&piece[..taken]);
         Ok(taken)

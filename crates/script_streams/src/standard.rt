@@ -2,15 +2,13 @@
 ghost use Rattle.std.specs.Prelude.{◌≡◌, ◌<◌, None, length};
 ghost use Rattle.std.specs.Io.{ReadsAtMost, WritesAtMost};
 ghost use Rattle.std.specs.Io.KnownBytes.{WriteAppends};
-ghost use Rattle.script_streams.specs.Streams.{Rose};
 ghost use Rattle.script_streams.specs.Fresh.{fresh_source, fresh_sink};
-ghost use Rattle.script_streams.specs.Writer.{TellsAlwaysOrNever};
+ghost use Rattle.script_streams.specs.Writer.{TellsAlwaysOrNever, TakesFront};
 
+use crate::{Failed, Sink, Source};
 use std::io;
 use std::io::{ErrorKind, Read, Write};
 use std::marker::Model;
-
-use crate::{Failed, Sink, Source};
 
 /// Gives what a reader gives, and tells nothing of what is left.
 #[derive(Drop)]
@@ -106,34 +104,36 @@ impl<W: Write> StdSink<W> {
     {
         self.writer
     }
-
-    fn count_fault(&mut self)
-        ensures faults { Rose self.old.faults self.new.faults }
-        ensures taken { self.new.taken ≡ self.old.taken }
-    {
-        self.faults = self.faults.saturating_add(1);
-    }
 }
 
 impl<W: Write> Sink for StdSink<W> {
     ghost state = { λ s. s };
 
     fn write(&mut self, piece: &[u8]) -> Result<usize, Failed> {
-        let written = write_past_signals(&mut self.writer, piece);
-        let flushed = self.writer.flush();
-        match (written, flushed) {
-            (Ok(taken), Ok(())) => {
+        match write_flushed(&mut self.writer, piece) {
+            Ok(taken) => {
                 if taken == 0 && !piece.is_empty() {
-                    self.count_fault();
+                    self.faults = self.faults.saturating_add(1);
                 }
                 Ok(taken)
             }
-            _ => {
-                self.count_fault();
+            Err(_) => {
+                self.faults = self.faults.saturating_add(1);
                 Err(Failed)
             }
         }
     }
+}
+
+/// Writes a front of the piece, and flushes.
+fn write_flushed<W: Write>(writer: &mut W, piece: &[u8]) -> io::Result<usize>
+    requires { TellsAlwaysOrNever W.contents }
+    ensures bound { WritesAtMost result piece.now }
+    ensures bytes { TakesFront result (W.contents writer.old) (W.contents writer.new) piece.now }
+{
+    let taken = write_past_signals(writer, piece)?;
+    writer.flush()?;
+    Ok(taken)
 }
 
 /// Writes again where a signal interrupts a write.

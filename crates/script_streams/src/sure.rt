@@ -4,12 +4,11 @@ ghost use Rattle.std.specs.Option.{option_copied};
 ghost use Rattle.script_streams.specs.Streams.{Reads, Writes};
 ghost use Rattle.script_streams.specs.Fresh.{fresh_source, fresh_sink};
 
-use std::alloc::{AllocError, Global};
-use std::marker::Model;
-
 use crate::supply::Supply;
 use crate::tray::Tray;
 use crate::{Failed, Sink, Source};
+use std::alloc::{AllocError, Global};
+use std::marker::Model;
 
 /// Gives bytes from memory, and tells which are left. No read of it fails.
 #[derive(Drop)]
