@@ -1,0 +1,174 @@
+-- How a script is answered, line by line and piece by piece.
+use Rattle.std.proofs.Common.{◌≡◌, ℕ, zero, suc, ◌+◌, ◌≤◌, ◌<◌, min, Bool, true, false, List, [], ◌∷◌, ◌++◌, length, append_assoc, length-append, refl, ap, sym, ◌∙◌, subst, arith, count_by}
+use Rattle.std.specs.Str.{bytes_eq}
+use Rattle.std.specs.List.{flat_map}
+use Rattle.std.proofs.lemmas.List.{append-nil}
+use Rattle.std.proofs.lemmas.List.Concat.{flat_map-append}
+use Rattle.std.proofs.lemmas.List.Sums.{sum_by-append, count_by-le-length}
+use Rattle.document_rules.specs.Document.{FlatState}
+use Rattle.script_streams.specs.Streams.{SinkState, TakenWhole, Cut, Took, Rose, StartsWith, greatest_count}
+use Rattle.script_streams.proofs.StreamLaws.{Took-append, Took-nothing}
+use Rattle.script_runner.specs.declared.line.PartialLine.{PartialLine}
+use Rattle.script_runner.specs.declared.serve.Progress.{Progress}
+use Rattle.script_runner.specs.Script.{Lines, cut, is_refused, whole_lines, last_line, all_lines, written, IsInOneLine, Turn, Transcript}
+use Rattle.script_runner.specs.Progress.{IsLineSoFar, refusals, memory_refusals, Led, Went, Broken, Broke, LineAnswered, LineBroken, PieceAnswered, PieceBroken}
+use Rattle.script_runner.proofs.CutLemmas.{cut-append_line, cut-append_break, length-all_lines}
+
+-- ---- transcripts
+
+pub Transcript-push : (start : FlatState) (lines : List (List ℕ)) (replies : List (List ℕ)) (mid : FlatState) (line reply : List ℕ) (end : FlatState)
+    → Transcript start lines replies mid → Turn mid line reply end → Transcript start (lines ++ line ∷ []) (replies ++ reply ∷ []) end
+Transcript-push start [] [] mid line reply end before turn =
+    (end, subst (λ s. Turn s line reply end) before turn, refl)
+Transcript-push start [] (r ∷ replies) mid line reply end before turn = absurd before
+Transcript-push start (l ∷ lines) [] mid line reply end before turn = absurd before
+Transcript-push start (l ∷ lines) (r ∷ replies) mid line reply end before turn =
+    (before.0, before.1, Transcript-push before.0 lines replies mid line reply end before.2 turn)
+
+length-Transcript : (start : FlatState) (lines replies : List (List ℕ)) (end : FlatState) → Transcript start lines replies end → length replies ≡ length lines
+length-Transcript start [] [] end t = refl
+length-Transcript start [] (r ∷ replies) end t = absurd t
+length-Transcript start (l ∷ lines) [] end t = absurd t
+length-Transcript start (l ∷ lines) (r ∷ replies) end t = ap suc (length-Transcript t.0 lines replies end t.2)
+
+-- there are at most as many refusals as lines, and as lines as bytes
+pub few_refusals : (start : FlatState) (script : List ℕ) (replies : List (List ℕ)) (end : FlatState) → Transcript start (all_lines script) replies end
+    → refusals replies ≤ length script
+few_refusals start script replies end t = omega (arith, length-all_lines script, length-Transcript _ _ _ _ t, count_by-le-length is_refused replies)
+
+-- ---- what led here
+
+pub Led-start : (start : FlatState) (progress : Progress) → IsLineSoFar progress.line [] → progress.refused ≡ 0 → progress.memory ≡ 0
+    → Led start [] [] start progress
+Led-start start progress line refused memory = record {
+  replies = [];
+  transcript = refl;
+  out_is = refl;
+  line = line;
+  refused = refused;
+  memory = memory;
+}
+
+pub Went-nothing : (doc : FlatState) (progress : Progress) → Went doc progress [] [] doc progress
+Went-nothing doc progress start read out led = rw (append-nil read, append-nil out) led
+
+module _ (doc doc' doc'' : FlatState) (progress progress' progress'' : Progress) (x y a b : List ℕ) where
+  pub Went-append : Went doc progress x a doc' progress' → Went doc' progress' y b doc'' progress''
+      → Went doc progress (x ++ y) (a ++ b) doc'' progress''
+  Went-append first second start read out led =
+      rw (← append_assoc read x y, ← append_assoc out a b) (second start (read ++ x) (out ++ a) (first start read out led))
+
+  pub Broke-append : Went doc progress x a doc' progress' → Broke doc' progress' y b doc'' → Broke doc progress (x ++ y) (a ++ b) doc''
+  Broke-append first second start read out led =
+      rw (← append_assoc read x y, ← append_assoc out a b) (second start (read ++ x) (out ++ a) (first start read out led))
+
+-- the line goes on
+pub Went-line : (doc : FlatState) (progress progress' : Progress) (bytes : List ℕ) → IsInOneLine bytes
+    → ((line : List ℕ) → IsLineSoFar progress.line line → IsLineSoFar progress'.line (line ++ bytes))
+    → progress'.refused ≡ progress.refused → progress'.memory ≡ progress.memory
+    → Went doc progress bytes [] doc progress'
+Went-line doc progress progress' bytes one line refused memory start read out led = record {
+  replies = led.replies;
+  transcript = rw (ap (λ c. c.ended) (cut-append_line read bytes one)) led.transcript;
+  out_is = append-nil out ∙ led.out_is;
+  line = rw (ap (λ c. c.rest) (cut-append_line read bytes one)) (line _ led.line);
+  refused = refused ∙ led.refused;
+  memory = memory ∙ led.memory;
+}
+
+-- ---- the end of a line
+
+ended-break : (read after : List ℕ) → whole_lines (read ++ 10 ∷ after) ≡ whole_lines read ++ (cut read).rest ∷ whole_lines after
+ended-break read after = ap (λ c. c.ended) (cut-append_break read after)
+
+rest-break : (read : List ℕ) → (cut (read ++ 10 ∷ [])).rest ≡ []
+rest-break read = ap (λ c. c.rest) (cut-append_break read [])
+
+counted_more : (n m a : ℕ) → n ≡ min a greatest_count → min (n + m) greatest_count ≡ min (a + m) greatest_count
+counted_more n m a is = omega arith
+
+module _ (doc doc' : FlatState) (progress progress' : Progress) (out out' : SinkState) where
+  pub Went-break : (answered : LineAnswered doc progress doc' progress' out out') → Went doc progress (10 ∷ []) answered.reply doc' progress'
+  Went-break answered start read written_so_far led = record {
+    replies = led.replies ++ answered.reply ∷ [];
+    transcript = rw (ended-break read []) (Transcript-push _ _ _ _ _ _ _ led.transcript (answered.turn _ led.line));
+    out_is = rw (led.out_is, flat_map-append) (ap (λ x. written led.replies ++ x) (sym (append-nil answered.reply)));
+    line = rw (rest-break read) answered.line;
+    refused = answered.refused ∙ counted_more progress.refused _ (refusals led.replies) led.refused
+        ∙ ap (λ n. min n greatest_count) (sym (sum_by-append _ led.replies (answered.reply ∷ [])));
+    memory = answered.memory ∙ counted_more progress.memory _ (memory_refusals led.replies) led.memory
+        ∙ ap (λ n. min n greatest_count) (sym (sum_by-append _ led.replies (answered.reply ∷ [])));
+  }
+
+  pub Broke-break : (after : List ℕ) (broken : LineBroken doc progress doc' out out') → Broke doc progress (10 ∷ after) broken.sink.front doc'
+  Broke-break after broken start read written_so_far led = record {
+    done = whole_lines read;
+    line = (cut read).rest;
+    others = whole_lines after;
+    lines_are = ended-break read after;
+    replies = led.replies;
+    mid = doc;
+    transcript = led.transcript;
+    reply = broken.reply;
+    turn = broken.turn _ led.line;
+    front = broken.sink.front;
+    starts = broken.sink.starts;
+    out_is = ap (λ x. x ++ broken.sink.front) led.out_is;
+  }
+
+-- ---- a piece of the script
+
+-- of the piece, what stands before rest is answered
+pub record IsAnsweredTo (piece rest : List ℕ) (doc : FlatState) (progress : Progress) (doc' : FlatState) (progress' : Progress) (out out' : SinkState) : Type 0 where
+  pub consumed : List ℕ
+  pub added : List ℕ
+  pub whole : piece ≡ consumed ++ rest
+  pub went : Went doc progress consumed added doc' progress'
+  pub sink : TakenWhole out out' added
+
+pub answered_to_start : (piece : List ℕ) (doc : FlatState) (progress : Progress) (out : SinkState) → IsAnsweredTo piece piece doc progress doc progress out out
+answered_to_start piece doc progress out = record {
+  consumed = [];
+  added = [];
+  whole = refl;
+  went = Went-nothing doc progress;
+  sink = record { bytes = Took-nothing out.taken; faults = refl };
+}
+
+module _ (piece rest : List ℕ) (doc : FlatState) (progress : Progress) (mid : FlatState) (progress' progress'' : Progress) (out out' : SinkState)
+    (before : IsAnsweredTo piece rest doc progress mid progress' out out') (line : List ℕ) (one : IsInOneLine line)
+    (extended : (bytes : List ℕ) → IsLineSoFar progress'.line bytes → IsLineSoFar progress''.line (bytes ++ line))
+    (refused : progress''.refused ≡ progress'.refused) (memory : progress''.memory ≡ progress'.memory) where
+  with_line : Went doc progress (before.consumed ++ line) (before.added ++ []) mid progress''
+  with_line = Went-append _ _ _ _ _ _ _ _ _ _ before.went (Went-line mid progress' progress'' line one extended refused memory)
+
+  pub answered_to_line : (after : List ℕ) (doc' : FlatState) (progress''' : Progress) (out'' : SinkState) → rest ≡ line ++ 10 ∷ after
+      → LineAnswered mid progress'' doc' progress''' out' out'' → IsAnsweredTo piece after doc progress doc' progress''' out out''
+  answered_to_line after doc' progress''' out'' parts answered = record {
+    consumed = (before.consumed ++ line) ++ 10 ∷ [];
+    added = (before.added ++ []) ++ answered.reply;
+    whole = before.whole ∙ ap (λ x. before.consumed ++ x) parts ∙ sym (append_assoc before.consumed line (10 ∷ after))
+        ∙ sym (append_assoc (before.consumed ++ line) (10 ∷ []) after);
+    went = Went-append _ _ _ _ _ _ _ _ _ _ with_line (Went-break _ _ _ _ _ _ answered);
+    sink = record {
+      bytes = rw (append-nil before.added) (Took-append _ _ _ _ _ before.sink.bytes answered.sink.bytes);
+      faults = answered.sink.faults ∙ before.sink.faults;
+    };
+  }
+
+  pub piece_broken : (after : List ℕ) (doc' : FlatState) (out'' : SinkState) → rest ≡ line ++ 10 ∷ after
+      → LineBroken mid progress'' doc' out' out'' → PieceBroken piece doc progress doc' out out''
+  piece_broken after doc' out'' parts broken = record {
+    added = (before.added ++ []) ++ broken.sink.front;
+    broke = rw (before.whole, parts, ← append_assoc before.consumed line (10 ∷ after))
+        (Broke-append _ _ _ _ _ progress'' _ _ _ _ with_line (Broke-break _ _ _ progress'' _ _ after broken));
+    bytes = rw (append-nil before.added) (Took-append _ _ _ _ _ before.sink.bytes broken.sink.bytes);
+    faults = subst (λ n. Rose n out''.faults) before.sink.faults broken.sink.faults;
+  }
+
+  pub piece_answered : rest ≡ line → PieceAnswered piece doc progress mid progress'' out out'
+  piece_answered last = record {
+    added = before.added ++ [];
+    went = rw (before.whole, last) with_line;
+    sink = rw (append-nil before.added) before.sink;
+  }

@@ -1,0 +1,38 @@
+-- Worked examples of the definitions.
+use Rattle.std.specs.Prelude.{◌≡◌, ◌∷◌, [], codes, refl, true, false}
+use Rattle.document_rules.specs.Document.{new_document}
+use Rattle.script_lines.specs.declared.command.Command.TheVariants.{Open, Edit, Size, Line}
+use Rattle.std.specs.Fmt.{digits}
+use Rattle.std.specs.Char.Utf16.{utf16_chars}
+use lib.Utf8.{encode}
+use Rattle.script_runner.specs.Step.{step}
+use Rattle.script_runner.specs.Script.{all_lines, whole_lines, has_reply}
+
+two_lines_and_a_rest : all_lines (codes "ab\n\nc") ≡ codes "ab" ∷ [] ∷ codes "c" ∷ []
+two_lines_and_a_rest = refl
+
+no_line_after_the_last_break : all_lines (codes "ab\n") ≡ codes "ab" ∷ []
+no_line_after_the_last_break = refl
+
+the_rest_is_no_whole_line : whole_lines (codes "ab\nc") ≡ codes "ab" ∷ []
+the_rest_is_no_whole_line = refl
+
+a_blank_line_has_no_reply : has_reply (codes " \t\r") ≡ false
+a_blank_line_has_no_reply = refl
+
+opened : step (new_document []) (Open (codes "ab\ncd")) ≡ (codes "ok 1 5 2\n", new_document (codes "ab\ncd"))
+unfolding digits
+opened = refl
+
+edited_over_a_break : step (new_document (codes "ab\ncd")) (Edit (record { span = record { start = 1; end = 4 }; text = codes "X"; force = false }))
+    ≡ (codes "ok 2 3 1\n", record { units = codes "aXd"; version = 2; alternative = 2 })
+unfolding digits
+edited_over_a_break = refl
+
+the_first_line : step (new_document (codes "aXd")) (Line 1) ≡ (codes "ok \"aXd\"\n", new_document (codes "aXd"))
+unfolding utf16_chars encode
+the_first_line = refl
+
+size_of_a_new_document : step (new_document []) Size ≡ (codes "ok 0 1\n", new_document [])
+unfolding digits
+size_of_a_new_document = refl

@@ -1,0 +1,61 @@
+-- What serving a script did, by how it ended.
+use Rattle.std.specs.Prelude.{◌≡◌, ℕ, ◌+◌, ◌<◌, min, Bool, true, false, List, length}
+use Rattle.document_rules.specs.Document.{FlatState}
+use Rattle.script_streams.specs.Streams.{SourceState, SinkState, greatest_count, Gave, NothingLeft, Took, Rose}
+use Rattle.script_runner.specs.declared.serve.Served.{Served}
+use Rattle.script_runner.specs.declared.serve.Served.TheVariants.{Ended, ReadFault, WriteFault, TooLong}
+use Rattle.script_runner.specs.Script.{whole_lines, all_lines, written, Transcript}
+use Rattle.script_runner.specs.Progress.{refusals, memory_refusals, Broken}
+
+-- The script was read to its end, and every line of it answered: the replies written are those of the flat document.
+pub record ServedAll (start end : FlatState) (src src' : SourceState) (out out' : SinkState) (refused memory : ℕ) : Type 0 where
+  pub script : List ℕ
+  pub gave : Gave src.left src'.left script
+  pub nothing_left : NothingLeft src'.left
+  pub ended : src'.ended ≡ true
+  pub replies : List (List ℕ)
+  pub transcript : Transcript start (all_lines script) replies end
+  pub took : Took out.taken out'.taken (written replies)
+  pub refused_is : refused ≡ refusals replies
+  pub memory_is : memory ≡ memory_refusals replies
+  pub source_faults : src'.faults ≡ src.faults
+  pub sink_faults : out'.faults ≡ out.faults
+
+-- A read failed; the whole lines read before were answered.
+pub record ServedToReadFault (start end : FlatState) (src src' : SourceState) (out out' : SinkState) : Type 0 where
+  pub script : List ℕ
+  pub gave : Gave src.left src'.left script
+  pub replies : List (List ℕ)
+  pub transcript : Transcript start (whole_lines script) replies end
+  pub took : Took out.taken out'.taken (written replies)
+  pub source_faults : Rose src.faults src'.faults
+  pub sink_faults : out'.faults ≡ out.faults
+
+-- A write failed; whole replies were written, and then a front of the next one.
+pub record ServedToWriteFault (start end : FlatState) (src src' : SourceState) (out out' : SinkState) : Type 0 where
+  pub script : List ℕ
+  pub gave : Gave src.left src'.left script
+  pub added : List ℕ
+  pub broken : Broken start (all_lines script) added end
+  pub took : Took out.taken out'.taken added
+  pub source_faults : src'.faults ≡ src.faults
+  pub sink_faults : Rose out.faults out'.faults
+
+-- As many bytes were read as may be, and the end was not seen; the whole lines among them were answered.
+pub record ServedToLimit (most : ℕ) (start end : FlatState) (src src' : SourceState) (out out' : SinkState) : Type 0 where
+  pub script : List ℕ
+  pub gave : Gave src.left src'.left script
+  pub most_is : length script ≡ most
+  pub given : src'.given ≡ min (src.given + most) greatest_count
+  pub not_ended : 0 < most → src'.ended ≡ false
+  pub replies : List (List ℕ)
+  pub transcript : Transcript start (whole_lines script) replies end
+  pub took : Took out.taken out'.taken (written replies)
+  pub source_faults : src'.faults ≡ src.faults
+  pub sink_faults : out'.faults ≡ out.faults
+
+abbrev pub Serves : Served → ℕ → FlatState → FlatState → SourceState → SourceState → SinkState → SinkState → Type 0
+Serves (Ended refused memory) most start end src src' out out' = ServedAll start end src src' out out' refused memory
+Serves ReadFault most start end src src' out out' = ServedToReadFault start end src src' out out'
+Serves WriteFault most start end src src' out out' = ServedToWriteFault start end src src' out out'
+Serves TooLong most start end src src' out out' = ServedToLimit most start end src src' out out'

@@ -1,0 +1,77 @@
+//! The line that is being read.
+
+ghost use Rattle.std.specs.Prelude.{◌≡◌, ℕ, List, [], ◌++◌, nat_lt};
+ghost use Rattle.script_runner.specs.Script.{is_blank_byte, is_blank, most_line_bytes};
+ghost use Rattle.script_runner.specs.Progress.{IsLineSoFar};
+
+use std::alloc::Global;
+
+/// The most bytes that a line may have, its LF not counted.
+pub const MOST_LINE_BYTES: usize = 0x100_0000;
+
+/// What has come of a line. Its bytes are kept up to the limit, where there is memory for them.
+#[derive(Drop)]
+pub(crate) struct PartialLine {
+    pub bytes: Vec<u8>,
+    /// How many bytes have come, but at most one above the limit.
+    pub len: usize,
+    pub is_blank: bool,
+    pub is_lost: bool,
+}
+
+impl PartialLine {
+    pub fn new(alloc: Global) -> PartialLine
+        ensures { IsLineSoFar result [] }
+    {
+        PartialLine {
+            bytes: Vec::new(alloc),
+            len: 0,
+            is_blank: true,
+            is_lost: false,
+        }
+    }
+
+    /// More bytes of the line, with no LF among them.
+    pub fn extend(&mut self, bytes: &[u8])
+        ensures { (line : List ℕ) → IsLineSoFar self.old line → IsLineSoFar self.new (line ++ bytes.now) }
+    {
+        self.is_blank = self.is_blank && is_blank(bytes);
+        self.len = self
+            .len
+            .saturating_add(bytes.len())
+            .min(MOST_LINE_BYTES + 1);
+        if self.is_lost || self.len > MOST_LINE_BYTES {
+            self.bytes.clear();
+        } else if self.bytes.extend_from_slice(bytes).is_err() {
+            self.is_lost = true;
+        }
+    }
+
+    pub fn is_too_long(&self) -> bool
+        ensures { result ≡ nat_lt most_line_bytes self.now.len }
+    {
+        self.len > MOST_LINE_BYTES
+    }
+
+    /// The next line begins. What room there is for bytes stays.
+    pub fn clear(&mut self)
+        ensures { IsLineSoFar self.new [] }
+    {
+        self.bytes.clear();
+        self.len = 0;
+        self.is_blank = true;
+        self.is_lost = false;
+    }
+}
+
+fn is_blank(bytes: &[u8]) -> bool
+    ensures { result ≡ is_blank bytes.now }
+{
+    bytes.iter().all(|byte| is_blank_byte(*byte))
+}
+
+fn is_blank_byte(byte: u8) -> bool
+    ensures { result ≡ is_blank_byte byte }
+{
+    byte == b' ' || byte == b'\t' || byte == b'\r'
+}

@@ -1,0 +1,141 @@
+//! Commands carried out, and the replies to lines.
+
+ghost use Rattle.std.specs.Prelude.{◌≡◌, ℕ, List, [], IfOk, ◌⊎◌};
+ghost use Rattle.document_rules.specs.Document.{FlatState};
+ghost use Rattle.script_lines.specs.Commands.{command_of};
+ghost use Rattle.script_lines.specs.Replies.{text_reply, refusal_reply};
+ghost use Rattle.script_runner.specs.Step.{refusal_of, memory_reply, step, Answers};
+ghost use Rattle.script_runner.specs.Script.{Turn, commanded};
+ghost use Rattle.script_runner.specs.Progress.{IsLineSoFar};
+ghost use Rattle.script_runner.specs.Bytes.{bytes_of, change_answer, TextOrMemory};
+
+use crate::line::PartialLine;
+use model_core::{Model, ModelError};
+use script_lines::{
+    Command, LineFault, Refusal, Short, command_of, long_begin, long_end, long_text, refusal,
+};
+use std::alloc::{AllocError, Global};
+
+/// The reply to a line.
+#[derive(Drop)]
+pub(crate) enum Reply {
+    /// A blank line has none.
+    Nothing,
+    Short(Short),
+    Long(Vec<u8>),
+}
+
+impl Reply {
+    pub fn as_slice(&self) -> &[u8]
+        ensures { result.now ≡ bytes_of self.now }
+    {
+        match self {
+            Reply::Nothing => &[],
+            Reply::Short(short) => short.as_slice(),
+            Reply::Long(long) => long.as_slice(),
+        }
+    }
+}
+
+fn refused(reason: Refusal) -> Reply
+    ensures { bytes_of result ≡ refusal_reply reason }
+{
+    Reply::Short(refusal(reason))
+}
+
+/// Answers the line as far as its bytes are known.
+pub(crate) fn reply_to(alloc: Global, model: &mut Model, line: &PartialLine) -> Reply
+    ensures { (bytes : List ℕ) → IsLineSoFar line.now bytes
+        → Turn model.old.document bytes (bytes_of result) model.new.document }
+{
+    if line.is_too_long() {
+        return refused(Refusal::Limit);
+    }
+    if line.is_blank {
+        return Reply::Nothing;
+    }
+    if line.is_lost {
+        return refused(Refusal::Memory);
+    }
+    reply_to_bytes(alloc, model, line.bytes.as_slice())
+}
+
+fn reply_to_bytes(alloc: Global, model: &mut Model, line: &[u8]) -> Reply
+    ensures { Answers (commanded model.old.document (command_of line.now)) model.old.document
+        (bytes_of result) model.new.document }
+{
+    match command_of(alloc, line) {
+        Ok(command) => carry_out(alloc, model, command),
+        Err(LineFault::Syntax) => refused(Refusal::Syntax),
+        Err(LineFault::Memory) => refused(Refusal::Memory),
+    }
+}
+
+fn carry_out(alloc: Global, model: &mut Model, command: Command) -> Reply
+    ensures { Answers (step model.old.document command) model.old.document (bytes_of result) model.new.document }
+{
+    match command {
+        Command::Open { text } => {
+            let outcome = model.open_doc(text.as_slice());
+            after_change(outcome, model)
+        }
+        Command::Edit { op } => {
+            let outcome = model.edit(&op);
+            after_change(outcome, model)
+        }
+        Command::Size => Reply::Short(Short::ok(&[model.len(), model.line_count()])),
+        Command::Line { n } => line_reply(alloc, model, n),
+    }
+}
+
+fn after_change(outcome: Result<(), ModelError>, model: &Model) -> Reply
+    ensures { bytes_of result ≡ change_answer outcome model.now.document }
+{
+    match outcome {
+        Ok(()) => Reply::Short(Short::ok(&[model.versions().0, model.len(), model.line_count()])),
+        Err(error) => refused(refusal_of(error)),
+    }
+}
+
+fn refusal_of(error: ModelError) -> Refusal
+    ensures { result ≡ refusal_of error }
+{
+    match error {
+        ModelError::Unknown => Refusal::Unknown,
+        ModelError::Range => Refusal::Range,
+        ModelError::Overlap => Refusal::Overlap,
+        ModelError::Limit => Refusal::Limit,
+        ModelError::Memory => Refusal::Memory,
+    }
+}
+
+fn line_reply(alloc: Global, model: &Model, n: u64) -> Reply
+    ensures { Answers (step model.now.document (Command.Line n)) model.now.document
+        (bytes_of result) model.now.document }
+{
+    let mut units = Vec::new(alloc);
+    match model.line(n, &mut units) {
+        Ok(()) => text_or_memory(alloc, units.as_slice()),
+        Err(error) => refused(refusal_of(error)),
+    }
+}
+
+/// `ok` and the text, or `! memory`.
+fn text_or_memory(alloc: Global, units: &[u16]) -> Reply
+    ensures { TextOrMemory units.now (bytes_of result) }
+{
+    match text_reply(alloc, units) {
+        Ok(reply) => Reply::Long(reply),
+        Err(AllocError) => refused(Refusal::Memory),
+    }
+}
+
+fn text_reply(alloc: Global, units: &[u16]) -> Result<Vec<u8>, AllocError>
+    ensures { IfOk result (λ reply. reply.items ≡ text_reply units.now) }
+{
+    let mut reply = Vec::with_capacity(alloc, units.len() + 6)?;
+    long_begin(&mut reply)?;
+    long_text(units, &mut reply)?;
+    long_end(&mut reply)?;
+    Ok(reply)
+}

@@ -1,0 +1,66 @@
+-- What came off a source and went to a sink, one call after another.
+use Rattle.std.proofs.Common.{◌≡◌, ℕ, ◌<◌, List, [], ◌++◌, take, drop, length, Option, Some, None, append_assoc, refl, ap, sym, ◌∙◌, subst}
+use Rattle.std.proofs.lemmas.List.{append-nil, take-append-drop, nil_from_length}
+use Rattle.script_streams.specs.Streams.{SinkState, Gave, Took, Rose, Taken, TakenWhole, Cut, StartsWith}
+
+pub Gave-nothing : (left : Option (List ℕ)) → Gave left left []
+Gave-nothing None = tt
+Gave-nothing (Some bytes) = refl
+
+pub Gave-append : (a b c : Option (List ℕ)) (xs ys : List ℕ) → Gave a b xs → Gave b c ys → Gave a c (xs ++ ys)
+Gave-append None b c xs ys first second = tt
+Gave-append (Some a) None c xs ys first second = absurd first
+Gave-append (Some a) (Some b) None xs ys first second = absurd second
+Gave-append (Some a) (Some b) (Some c) xs ys first second = first ∙ ap (λ z. xs ++ z) second ∙ sym (append_assoc xs ys c)
+
+pub Took-nothing : (taken : Option (List ℕ)) → Took taken taken []
+Took-nothing None = tt
+Took-nothing (Some bytes) = sym (append-nil bytes)
+
+pub Took-append : (a b c : Option (List ℕ)) (xs ys : List ℕ) → Took a b xs → Took b c ys → Took a c (xs ++ ys)
+Took-append a b None xs ys first second = tt
+Took-append a None (Some c) xs ys first second = absurd second
+Took-append None (Some b) (Some c) xs ys first second = absurd first
+Took-append (Some a) (Some b) (Some c) xs ys first second = second ∙ ap (λ z. z ++ ys) first ∙ append_assoc a xs ys
+
+-- of the text, what stands before rest was written
+pub record IsWrittenTo (old new : SinkState) (text rest : List ℕ) : Type 0 where
+  pub written : List ℕ
+  pub whole : text ≡ written ++ rest
+  pub bytes : Took old.taken new.taken written
+  pub faults : new.faults ≡ old.faults
+
+pub written_to_start : (s : SinkState) (text : List ℕ) → IsWrittenTo s s text text
+written_to_start s text = record { written = []; whole = refl; bytes = Took-nothing s.taken; faults = refl }
+
+module _ (old mid new : SinkState) (text rest : List ℕ) (before : IsWrittenTo old mid text rest) where
+  pub written_to_more : (n : ℕ) → Taken n mid new rest → 0 < n → IsWrittenTo old new text (drop n rest)
+  written_to_more n taken some = record {
+    written = before.written ++ take n rest;
+    whole = before.whole ∙ ap (λ z. before.written ++ z) (sym (take-append-drop n rest)) ∙ sym (append_assoc before.written (take n rest) (drop n rest));
+    bytes = Took-append _ _ _ _ _ before.bytes taken.bytes;
+    faults = taken.something some ∙ before.faults
+  }
+
+  pub written_to_cut : Cut mid new rest → Cut old new text
+  written_to_cut cut = record {
+    front = before.written ++ cut.front;
+    starts = (cut.starts.0, before.whole ∙ ap (λ z. before.written ++ z) cut.starts.1 ∙ sym (append_assoc before.written cut.front cut.starts.0));
+    bytes = Took-append _ _ _ _ _ before.bytes cut.bytes;
+    faults = subst (λ n. Rose n new.faults) before.faults cut.faults
+  }
+
+  pub written_to_stop : (n : ℕ) → Taken n mid new rest → n ≡ 0 → 0 < length rest → Cut old new text
+  written_to_stop n taken none more = written_to_cut (record {
+    front = take n rest;
+    starts = (drop n rest, sym (take-append-drop n rest));
+    bytes = taken.bytes;
+    faults = taken.nothing none more
+  })
+
+pub written_to_end : (old new : SinkState) (text rest : List ℕ) → IsWrittenTo old new text rest → length rest ≡ 0 → TakenWhole old new text
+written_to_end old new text rest before none = record {
+  bytes = subst (λ z. Took old.taken new.taken z)
+      (sym (before.whole ∙ ap (λ z. before.written ++ z) (nil_from_length rest none) ∙ append-nil before.written)) before.bytes;
+  faults = before.faults
+}
