@@ -1,6 +1,6 @@
 -- What a plan of a source allows.
-use Rattle.std.proofs.Common.{◌≡◌, ℕ, suc, ◌<◌, List, [], ◌∷◌, Option, Some, None, true, false, arith, rules}
-use Rattle.std.specs.Prelude.{All, IfSome, find, ◌==◌, if◌then◌else◌}
+use Rattle.std.proofs.Common.{ℕ, suc, ◌<◌, List, [], ◌∷◌, Option, Some, None, true, false, arith}
+use Rattle.std.specs.Prelude.{All, IfSome, ◌==◌, if◌then◌else◌}
 use Rattle.script_streams.specs.declared.turn.Turn.{Turn}
 use Rattle.script_streams.specs.declared.turn.Turn.TheVariants.{Fails, Short}
 use Rattle.script_streams.specs.Plan.{call_of, turn_of, allowance, GivesSomething}

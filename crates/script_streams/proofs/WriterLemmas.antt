@@ -1,6 +1,6 @@
 -- A writer around a write.
-use Rattle.std.proofs.Common.{◌≡◌, ℕ, List, [], ◌++◌, Option, Some, None, Result, Ok, Err, take, ◌∙◌, ap, sym, append-nil, refl}
-use Rattle.std.proofs.KnownBytes.{Keeps-trans, Appends-kept}
+use Rattle.std.proofs.Common.{◌≡◌, ℕ, List, [], ◌++◌, Option, Some, None, Result, Ok, Err, take, ◌∙◌, ap, sym, append-nil}
+use Rattle.std.proofs.KnownBytes.{Keeps-trans}
 use Rattle.std.specs.Prelude.{is_some}
 use Rattle.std.specs.Io.KnownBytes.{Keeps, Appends, WriteAppends}
 use Rattle.script_streams.specs.Streams.{Took}

@@ -1,12 +1,13 @@
 //! What no clause says: that the makers and the calls succeed, what a plan does, signals and flushes.
-ghost use Rattle.std.specs.Prelude.{◌≡◌};
+ghost use Rattle.std.specs.Prelude.{◌≡◌, ◌≤◌, IfOk};
 
+use crate::{
+    Failed, MemSink, MemSource, Sink, Source, StdSink, StdSource, SureSink, SureSource, Turn,
+};
 use std::io;
 use std::io::{Error, ErrorKind, Read, Write};
 use std::process::Abort;
 use std::test::Fail;
-
-use crate::{Failed, MemSink, MemSource, Sink, Source, StdSink, StdSource, SureSink, SureSource, Turn};
 
 /// Reads once for each of the pieces, with a buffer of four bytes. `!` stands for a read that fails.
 fn expect_reads<S: Source>(rt: &impl Abort, source: &mut S, pieces: &[&str]) {
@@ -56,19 +57,24 @@ fn sources_in_memory(rt: HostRuntime) -> Result<(), Fail> {
 fn sinks_in_memory(rt: HostRuntime) -> Result<(), Fail> {
     let mut sink = SureSink::new(rt.alloc(), 4, 3)?;
     expect_writes(&rt, &mut sink, "abcd", &[Some(3), Some(1)]);
-    assert_eq!(rt; sink.bytes(), Some(b"abcd".as_slice()));
+    assert_eq!(rt; sink.bytes().ok_or("told")?, b"abcd".as_slice());
     expect_writes(&rt, &mut sink, "e", &[Some(1)]);
-    assert_eq!(rt; sink.bytes(), None);
+    assert!(rt; sink.bytes().is_none());
 
     let mut sink = MemSink::new(rt.alloc(), 9, 1, &[])?;
     expect_writes(&rt, &mut sink, "abc", &[Some(1), Some(1), Some(1), Some(0)]);
-    assert_eq!(rt; sink.bytes(), Some(b"abc".as_slice()));
+    assert_eq!(rt; sink.bytes().ok_or("told")?, b"abc".as_slice());
     assert_eq!(rt; sink.faults(), 0);
 
     let plan = [Turn::Fails { call: 1 }, Turn::Short { call: 2, most: 2 }];
     let mut sink = MemSink::new(rt.alloc(), 9, 4, &plan)?;
-    expect_writes(&rt, &mut sink, "abcdefg", &[None, Some(2), Some(4), Some(1)]);
-    assert_eq!(rt; sink.bytes(), Some(b"abcdefg".as_slice()));
+    expect_writes(
+        &rt,
+        &mut sink,
+        "abcdefg",
+        &[None, Some(2), Some(4), Some(1)],
+    );
+    assert_eq!(rt; sink.bytes().ok_or("told")?, b"abcdefg".as_slice());
     assert_eq!(rt; sink.faults(), 1);
 
     let mut sink = MemSink::new(rt.alloc(), 9, 4, &[Turn::Short { call: 2, most: 0 }])?;
@@ -81,8 +87,7 @@ fn sinks_in_memory(rt: HostRuntime) -> Result<(), Fail> {
 fn expect_sure<S: Source, K: Sink>(_source: &S, _sink: &K)
     requires source { (s : S) → (S.state s).faults ≡ 0 }
     requires sink { (s : K) → (K.state s).faults ≡ 0 }
-{
-}
+{}
 
 #[test]
 fn sure_ones_meet_what_a_generic_caller_asks(rt: HostRuntime) -> Result<(), Fail> {
@@ -100,7 +105,9 @@ struct Faulty {
 }
 
 impl Faulty {
-    fn turn(&mut self, len: usize) -> io::Result<usize> {
+    fn turn(&mut self, len: usize) -> io::Result<usize>
+        ensures { IfOk result (λ n. n ≤ len) }
+    {
         self.calls = self.calls.saturating_add(1);
         match self.calls {
             1 => Err(Error::from(ErrorKind::Interrupted)),
@@ -132,7 +139,10 @@ fn sources_over_readers(rt: HostRuntime) {
     let mut source = StdSource::new(b"abcdef".as_slice());
     expect_reads(&rt, &mut source, &["abcd", "ef", "", ""]);
 
-    let mut source = StdSource::new(Faulty { calls: 0, flushes: 0 });
+    let mut source = StdSource::new(Faulty {
+        calls: 0,
+        flushes: 0,
+    });
     expect_reads(&rt, &mut source, &["\0\0", "!", "!"]);
 }
 
@@ -142,7 +152,10 @@ fn sinks_over_writers(rt: HostRuntime) {
     expect_writes(&rt, &mut sink, "abc", &[Some(3), Some(0)]);
     assert_eq!(rt; sink.into_inner().as_slice(), b"abc".as_slice());
 
-    let mut sink = StdSink::new(Faulty { calls: 0, flushes: 0 });
+    let mut sink = StdSink::new(Faulty {
+        calls: 0,
+        flushes: 0,
+    });
     expect_writes(&rt, &mut sink, "abcdef", &[Some(2), None, None]);
     assert_eq!(rt; sink.into_inner().flushes, 1);
 
