@@ -1,1 +1,4 @@
+pub mod PlanLemmas
 pub mod StreamLaws
+pub mod SupplyLemmas
+pub mod WriterLemmas

@@ -1,7 +1,7 @@
 -- What came off a source and went to a sink, one call after another.
 use Rattle.std.proofs.Common.{◌≡◌, ℕ, ◌<◌, List, [], ◌++◌, take, drop, length, Option, Some, None, append_assoc, refl, ap, sym, ◌∙◌, subst}
 use Rattle.std.proofs.lemmas.List.{append-nil, take-append-drop, nil_from_length}
-use Rattle.script_streams.specs.Streams.{SinkState, Gave, Took, Rose, Taken, TakenWhole, Cut, StartsWith}
+use Rattle.script_streams.specs.Streams.{SinkState, Gave, Took, Rose, Taken, TakenWhole, Cut}
 
 pub Gave-nothing : (left : Option (List ℕ)) → Gave left left []
 Gave-nothing None = tt
@@ -39,7 +39,7 @@ module _ (old mid new : SinkState) (text rest : List ℕ) (before : IsWrittenTo 
     written = before.written ++ take n rest;
     whole = before.whole ∙ ap (λ z. before.written ++ z) (sym (take-append-drop n rest)) ∙ sym (append_assoc before.written (take n rest) (drop n rest));
     bytes = Took-append _ _ _ _ _ before.bytes taken.bytes;
-    faults = taken.something some ∙ before.faults
+    faults = taken.something some ∙ before.faults;
   }
 
   pub written_to_cut : Cut mid new rest → Cut old new text
@@ -47,7 +47,7 @@ module _ (old mid new : SinkState) (text rest : List ℕ) (before : IsWrittenTo 
     front = before.written ++ cut.front;
     starts = (cut.starts.0, before.whole ∙ ap (λ z. before.written ++ z) cut.starts.1 ∙ sym (append_assoc before.written cut.front cut.starts.0));
     bytes = Took-append _ _ _ _ _ before.bytes cut.bytes;
-    faults = subst (λ n. Rose n new.faults) before.faults cut.faults
+    faults = subst (λ n. Rose n new.faults) before.faults cut.faults;
   }
 
   pub written_to_stop : (n : ℕ) → Taken n mid new rest → n ≡ 0 → 0 < length rest → Cut old new text
@@ -55,12 +55,12 @@ module _ (old mid new : SinkState) (text rest : List ℕ) (before : IsWrittenTo 
     front = take n rest;
     starts = (drop n rest, sym (take-append-drop n rest));
     bytes = taken.bytes;
-    faults = taken.nothing none more
+    faults = taken.nothing none more;
   })
 
 pub written_to_end : (old new : SinkState) (text rest : List ℕ) → IsWrittenTo old new text rest → length rest ≡ 0 → TakenWhole old new text
 written_to_end old new text rest before none = record {
   bytes = subst (λ z. Took old.taken new.taken z)
       (sym (before.whole ∙ ap (λ z. before.written ++ z) (nil_from_length rest none) ∙ append-nil before.written)) before.bytes;
-  faults = before.faults
+  faults = before.faults;
 }

@@ -1,5 +1,5 @@
 -- Worked examples of the definitions.
-use Rattle.std.specs.Prelude.{◌≡◌, ◌∷◌, [], Some, refl, codes}
+use Rattle.std.specs.Prelude.{Some, refl, codes}
 use Rattle.script_streams.specs.Streams.{Gave, Took}
 
 two_of_three : Gave (Some (codes "abc")) (Some (codes "c")) (codes "ab")

@@ -1,11 +1,21 @@
 //! Where a script comes from and where its replies go: the traits, and what stands for them in tests.
 #![tactic(auto)]
 
+mod memory;
+mod standard;
+mod supply;
+mod sure;
+mod tray;
+mod turn;
 mod whole;
 
 ghost use Rattle.script_streams.specs.Streams.{SourceState, SinkState, Reads, Writes};
 
+pub use memory::{MemSink, MemSource};
+pub use standard::{StdSink, StdSource};
+pub use sure::{SureSink, SureSource};
 use thiserror::Error;
+pub use turn::Turn;
 pub use whole::write_whole;
 
 /// A read or a write failed.
@@ -32,3 +42,6 @@ pub trait Sink {
     fn write(&mut self, piece: &[u8]) -> Result<usize, Failed>
         ensures { Writes result (state self.old) (state self.new) piece.now };
 }
+
+#[cfg(test)]
+mod tests;

@@ -1,4 +1,4 @@
-use Rattle.std.proofs.Common.{◌-◌, ◌<◌, length, drop, length-drop, arith}
+use Rattle.std.proofs.Common.{◌-◌, length, drop, length-drop, arith}
 use Rattle.std.proofs.lemmas.List.{take_all}
 use Rattle.std.proofs.lemmas.Result.{err_from_is_err_and}
 use Rattle.script_streams.proofs.StreamLaws.{written_to_more, written_to_cut}

@@ -1,0 +1,30 @@
+-- A writer around a write.
+use Rattle.std.proofs.Common.{◌≡◌, ℕ, List, [], ◌++◌, Option, Some, None, Result, Ok, Err, take, ◌∙◌, ap, sym, append-nil}
+use Rattle.std.proofs.KnownBytes.{Keeps-trans}
+use Rattle.std.specs.Prelude.{is_some}
+use Rattle.std.specs.Io.KnownBytes.{Keeps, Appends, WriteAppends}
+use Rattle.script_streams.specs.Streams.{Took}
+
+Appends-after_Keeps : (a b c : Option (List ℕ)) (bytes : List ℕ) → Keeps a b → Appends b c bytes → Appends a c bytes
+Appends-after_Keeps None b c bytes kept appended = tt
+Appends-after_Keeps (Some x) None c bytes kept appended = absurd kept
+Appends-after_Keeps (Some x) (Some y) None bytes kept appended = absurd appended
+Appends-after_Keeps (Some x) (Some y) (Some z) bytes kept appended = appended ∙ ap (λ l. l ++ bytes) kept
+
+-- a write that comes after some that did nothing
+pub WriteAppends-after_Keeps : {E : Type 0} (a b c : Option (List ℕ)) (answer : Result ℕ E) (piece : List ℕ) →
+    Keeps a b → WriteAppends b c answer piece → WriteAppends a c answer piece
+WriteAppends-after_Keeps a b c (Ok n) piece kept appended = Appends-after_Keeps a b c (take n piece) kept appended
+WriteAppends-after_Keeps a b c (Err e) piece kept kept_then = Keeps-trans a b c kept kept_then
+
+pub Appends-from_Keeps : (a b : Option (List ℕ)) → Keeps a b → Appends a b []
+Appends-from_Keeps None b kept = tt
+Appends-from_Keeps (Some x) None kept = absurd kept
+Appends-from_Keeps (Some x) (Some y) kept = kept ∙ sym (append-nil x)
+
+-- a writer that tells at all times or at none tells what a sink does
+pub Took-from_Appends : (a b : Option (List ℕ)) (bytes : List ℕ) → is_some a ≡ is_some b → Appends a b bytes → Took a b bytes
+Took-from_Appends None None bytes same appended = tt
+Took-from_Appends None (Some y) bytes same appended = cc
+Took-from_Appends (Some x) None bytes same appended = absurd appended
+Took-from_Appends (Some x) (Some y) bytes same appended = appended

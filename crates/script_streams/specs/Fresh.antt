@@ -1,0 +1,11 @@
+-- Sources and sinks that no call was made of yet, and sources that never fail.
+use Rattle.std.specs.Prelude.{ℕ, List, Option, false}
+use Rattle.script_streams.specs.Streams.{SourceState, SinkState}
+
+-- a source before its first read, with what is left where it tells that
+abbrev pub fresh_source : Option (List ℕ) → SourceState
+fresh_source left = record { left = left; given = 0; ended = false; faults = 0 }
+
+-- a sink before its first write, with what it holds where it tells that
+abbrev pub fresh_sink : Option (List ℕ) → SinkState
+fresh_sink taken = record { taken = taken; faults = 0 }
