@@ -1,5 +1,9 @@
 -- The flat document: one list of units, changed by the rule of each call.
-use Rattle.std.specs.Prelude.{ℕ, ◌+◌, ◌-◌, ◌^◌, nat_lt, nat_le, ◌||◌, if◌then◌else◌, List, length, Option, Some, None, Result, Ok, Err}
+use Rattle.std.specs.Prelude.{ℕ, ◌+◌, ◌-◌, ◌^◌, nat_lt, nat_le, ◌||◌, if◌then◌else◌, List, length, take, drop, Option, Some, None, Result, Ok, Err}
+use Rattle.text_lengths.specs.declared.Position.{Position}
+use Rattle.text_lengths.specs.declared.Span.{Span}
+use Rattle.unit_text.specs.Units.{is_place}
+use Rattle.text_rules.specs.Positions.{position_of, offset_of, is_position}
 use Rattle.text_rules.specs.declared.Op.{Op}
 use Rattle.text_rules.specs.Lines.{Line, line_at, lines_of}
 use Rattle.text_rules.specs.Edits.{is_bad_span, edited}
@@ -44,6 +48,18 @@ content_of (Some line) = Ok line.content
 -- the content of the line of this number
 abbrev pub flat_line : FlatState → ℕ → Result (List ℕ) ModelError
 flat_line f n = content_of (line_at f.units n)
+
+-- the units of a span
+abbrev pub flat_value : FlatState → Span → Result (List ℕ) ModelError
+flat_value f span = if is_bad_span f.units span then Err Range else Ok (take (span.end - span.start) (drop span.start f.units))
+
+-- where the offset is, by line and column; none where it is no place
+abbrev pub flat_position : FlatState → ℕ → Option Position
+flat_position f offset = if is_place f.units offset then Some (position_of f.units offset) else None
+
+-- the offset of a position; none where it is not one of the text
+abbrev pub flat_offset : FlatState → Position → Option ℕ
+flat_offset f p = if is_position f.units p then Some (offset_of f.units p) else None
 
 -- how many lines the text has
 abbrev pub flat_line_count : FlatState → ℕ

@@ -7,7 +7,7 @@ use Rattle.serde_json.specs.declared.value.Value.{Value}
 use Rattle.serde_json.specs.View.{view, items_view, members_view}
 use Rattle.serde_json.specs.Data.{Data, null, boolean, number, string, array, object, Members}
 use Rattle.serde_json.specs.Find.{as_object}
-use Rattle.script_lines.specs.Fields.{keys_among, has_only, span_in}
+use Rattle.script_lines.specs.Fields.{keys_among, has_only, span_in, positions_in}
 use Rattle.script_lines.specs.Commands.{one_op_in}
 
 pub keys_among-members_view : (names : List (List ℕ)) (es : List (String Global × Value))
@@ -42,3 +42,18 @@ pub one_op_in_other : (vs : List Value) → length vs ≢ 1 → one_op_in (items
 one_op_in_other [] other = refl
 one_op_in_other (v ∷ []) other = absurd (other refl)
 one_op_in_other (v ∷ w ∷ vs) other = refl
+
+pub positions_in_fewer : (vs : List Value) → length vs < 4 → positions_in (items_view vs) ≡ None
+positions_in_fewer [] few = refl
+positions_in_fewer (a ∷ []) few = refl
+positions_in_fewer (a ∷ b ∷ []) few = refl
+positions_in_fewer (a ∷ b ∷ c ∷ []) few = refl
+positions_in_fewer (a ∷ b ∷ c ∷ d ∷ vs) few = absurd (omega arith)
+
+pub positions_in_more : (vs : List Value) → 5 ≤ length vs → positions_in (items_view vs) ≡ None
+positions_in_more [] many = absurd (omega arith)
+positions_in_more (a ∷ []) many = absurd (omega arith)
+positions_in_more (a ∷ b ∷ []) many = absurd (omega arith)
+positions_in_more (a ∷ b ∷ c ∷ []) many = absurd (omega arith)
+positions_in_more (a ∷ b ∷ c ∷ d ∷ []) many = absurd (omega arith)
+positions_in_more (a ∷ b ∷ c ∷ d ∷ e ∷ vs) many = refl

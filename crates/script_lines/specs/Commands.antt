@@ -1,28 +1,40 @@
 -- The command that a line spells.
-use Rattle.std.specs.Prelude.{ℕ, List, [], ◌∷◌, Option, Some, None, option_map, option_and_then, codes, if◌then◌else◌}
+use Rattle.std.specs.Prelude.{ℕ, ◌||◌, List, [], ◌∷◌, is_some, Option, Some, None, option_map, option_and_then, codes, if◌then◌else◌}
 use Rattle.std.specs.Str.{is_utf8, bytes_eq}
 use Rattle.serde_json.specs.Data.{Data, Items, no_items, item}
 use Rattle.serde_json.specs.Find.{get, as_array}
 use Rattle.serde_json.specs.Read.{read}
-use Rattle.text_rules.specs.declared.Op.{Op}
+use Rattle.script_lines.specs.declared.op.LineOp.{LineOp}
+use Rattle.script_lines.specs.declared.op.Place.{Place}
+use Rattle.script_lines.specs.declared.op.Place.TheVariants.{At, InRange}
 use Rattle.script_lines.specs.Reading.{◌>>=◌}
-use Rattle.script_lines.specs.Fields.{has_only, number_at, string_at, text_at, span_at, flag_at}
+use Rattle.script_lines.specs.Fields.{has_only, number_at, string_at, text_at, span_at, positions_at, position_in, flag_at}
 use Rattle.script_lines.specs.declared.command.Command.{Command}
-use Rattle.script_lines.specs.declared.command.Command.TheVariants.{Open, Edit, Size, Line}
+use Rattle.script_lines.specs.declared.command.Command.TheVariants.{Open, Edit, Size, Line, Value, Offset, Position}
 
 -- `{"cmd":"open","text":TEXT}`
 abbrev pub open_in : Data → Option Command
 open_in d = if has_only (codes "cmd" ∷ codes "text" ∷ []) d then option_map Open (text_at (codes "text") d) else None
 
--- `{"at":[START,END],"text":TEXT}`, with `"force":BOOL` if it is on
-abbrev pub op_in : Data → Option Op
-op_in d = if has_only (codes "at" ∷ codes "text" ∷ codes "force" ∷ []) d then (do
-  span ← span_at (codes "at") d
+-- where an op stands: at a span of offsets, or in a range of positions
+abbrev pub place_in : Data → Option Place
+place_in d = if is_some (get (codes "at") d) then option_map At (span_at (codes "at") d)
+    else option_map (λ p. InRange p.0 p.1) (positions_at (codes "range") d)
+
+abbrev pub op_of : Data → Option LineOp
+op_of d = do
+  place ← place_in d
   text ← text_at (codes "text") d
   force ← flag_at (codes "force") d
-  Some (record { span = span; text = text; force = force })) else None
+  Some (record { place = place; text = text; force = force })
 
-abbrev pub one_op_in : Items → Option Op
+-- `{"at":[START,END],"text":TEXT}` or `{"range":[LINE,COL,LINE,COL],"text":TEXT}`, with `"force":true` if it is on
+abbrev pub op_in : Data → Option LineOp
+op_in d =
+    if has_only (codes "at" ∷ codes "text" ∷ codes "force" ∷ []) d || has_only (codes "range" ∷ codes "text" ∷ codes "force" ∷ []) d
+    then op_of d else None
+
+abbrev pub one_op_in : Items → Option LineOp
 one_op_in no_items = None
 one_op_in (item d no_items) = op_in d
 one_op_in (item d (item e ds)) = None
@@ -40,10 +52,26 @@ size_in d = if has_only (codes "cmd" ∷ []) d then Some Size else None
 abbrev pub line_in : Data → Option Command
 line_in d = if has_only (codes "cmd" ∷ codes "n" ∷ []) d then option_map Line (number_at (codes "n") d) else None
 
+-- `{"cmd":"value","at":[START,END]}`
+abbrev pub value_in : Data → Option Command
+value_in d = if has_only (codes "cmd" ∷ codes "at" ∷ []) d then option_map Value (span_at (codes "at") d) else None
+
+-- `{"cmd":"offset","line":NUMBER,"col":NUMBER}`
+abbrev pub offset_in : Data → Option Command
+offset_in d = if has_only (codes "cmd" ∷ codes "line" ∷ codes "col" ∷ []) d then option_map Offset (position_in d) else None
+
+-- `{"cmd":"position","offset":NUMBER}`
+abbrev pub position_command_in : Data → Option Command
+position_command_in d =
+    if has_only (codes "cmd" ∷ codes "offset" ∷ []) d then option_map Position (number_at (codes "offset") d) else None
+
 abbrev pub query_named : List ℕ → Data → Option Command
 query_named name d =
     if bytes_eq name (codes "size") then size_in d else
-    (if bytes_eq name (codes "line") then line_in d else None)
+    (if bytes_eq name (codes "line") then line_in d else
+    (if bytes_eq name (codes "value") then value_in d else
+    (if bytes_eq name (codes "offset") then offset_in d else
+    (if bytes_eq name (codes "position") then position_command_in d else None))))
 
 abbrev pub command_named : List ℕ → Data → Option Command
 command_named name d =

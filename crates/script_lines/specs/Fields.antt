@@ -1,11 +1,13 @@
 -- The fields of a JSON object, as serde_json reads it.
-use Rattle.std.specs.Prelude.{ℕ, Bool, true, false, ◌&&◌, List, [], ◌∷◌, Option, Some, None, option_map, option_and_then}
+use Rattle.std.specs.Prelude.{ℕ, Bool, true, false, ◌&&◌, List, [], ◌∷◌, Option, Some, None, option_map, option_and_then, codes}
 use Rattle.std.specs.List.{list_any}
 use Rattle.std.specs.Str.{bytes_eq}
 use Rattle.serde_json.specs.Data.{Data, null, boolean, number, string, array, object, Items, no_items, item, Members, no_members, member}
 use Rattle.serde_json.specs.Find.{get, as_bool, as_number, as_str, as_array, as_u64}
+use Rattle.text_lengths.specs.declared.Position.{Position}
 use Rattle.text_lengths.specs.declared.Span.{Span}
 use Rattle.unit_text.specs.Text.{units_of}
+use Rattle.script_lines.specs.Reading.{◌>>=◌}
 
 -- every key is one of the names
 abbrev pub keys_among : List (List ℕ) → Members → Bool
@@ -57,3 +59,30 @@ flag_of (Some d) = as_bool d
 -- a flag that is off where the field is absent
 abbrev pub flag_at : List ℕ → Data → Option Bool
 flag_at key d = flag_of (get key d)
+
+-- a line and a column
+abbrev pub position_of : Data → Data → Option Position
+position_of a b = do
+  line ← whole_number a
+  column ← whole_number b
+  Some (record { line = line; column = column })
+
+-- an array of four whole numbers: the line and the column of a start, and those of an end
+abbrev pub positions_in : Items → Option (Position × Position)
+positions_in no_items = None
+positions_in (item a no_items) = None
+positions_in (item a (item b no_items)) = None
+positions_in (item a (item b (item c no_items))) = None
+positions_in (item a (item b (item c (item d no_items)))) =
+    position_of a b >>= (λ start. position_of c d >>= (λ end. Some (start, end)))
+positions_in (item a (item b (item c (item d (item e ds))))) = None
+
+abbrev pub positions_at : List ℕ → Data → Option (Position × Position)
+positions_at key d = option_and_then positions_in (option_and_then as_array (get key d))
+
+-- the fields that name a position
+abbrev pub position_in : Data → Option Position
+position_in d = do
+  line ← number_at (codes "line") d
+  column ← number_at (codes "col") d
+  Some (record { line = line; column = column })

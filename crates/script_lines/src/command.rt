@@ -5,13 +5,16 @@ ghost use Rattle.std.specs.Str.{is_utf8};
 ghost use Rattle.serde_json.specs.Read.{read};
 ghost use Rattle.serde_json.specs.View.{view, items_view};
 ghost use Rattle.script_lines.specs.Reading.{Reads};
-ghost use Rattle.script_lines.specs.Commands.{open_in, op_in, one_op_in, edit_in, size_in, line_in, query_named, command_named, command_in, command_of};
+ghost use Rattle.script_lines.specs.Commands.{open_in, place_in, op_of, op_in, one_op_in, edit_in, size_in, line_in, value_in, offset_in, position_command_in, query_named, command_named, command_in, command_of};
 
-use crate::fields::{LineFault, flag_at, has_only, number_at, span_at, text_at};
+use crate::fields::{
+    LineFault, flag_at, has_only, number_at, position_in, positions_at, span_at, text_at,
+};
+use crate::op::{LineOp, Place};
 use serde_json::Value;
 use serde_json::error::Category;
 use std::alloc::Global;
-use text_rules::Op;
+use text_lengths::{Position, Span};
 use unit_text::Units;
 
 /// One line of a script.
@@ -20,11 +23,17 @@ pub enum Command {
     /// Puts a new document in place of the old one.
     Open { text: Units },
     /// Changes the text.
-    Edit { op: Op },
+    Edit { op: LineOp },
     /// Asks how many units and lines the text has.
     Size,
     /// Asks for the content of the line of this number, counted from 1.
     Line { n: u64 },
+    /// Asks for the units of the span.
+    Value { at: Span },
+    /// Asks for the offset of the position.
+    Offset { p: Position },
+    /// Asks for the position of the offset.
+    Position { offset: u64 },
 }
 
 /// The command that the line spells. `Syntax` exactly where it spells none.
@@ -79,6 +88,15 @@ fn query_named(name: &str, value: &Value) -> Result<Command, LineFault>
     if name == "line" {
         return line_in(value);
     }
+    if name == "value" {
+        return value_in(value);
+    }
+    if name == "offset" {
+        return offset_in(value);
+    }
+    if name == "position" {
+        return position_command_in(value);
+    }
     Err(LineFault::Syntax)
 }
 
@@ -104,7 +122,7 @@ fn edit_in(alloc: Global, value: &Value) -> Result<Command, LineFault>
     Ok(Command::Edit { op })
 }
 
-fn one_op_in(alloc: Global, ops: &[Value]) -> Result<Op, LineFault>
+fn one_op_in(alloc: Global, ops: &[Value]) -> Result<LineOp, LineFault>
     ensures { Reads result (one_op_in (items_view ops.now)) }
 {
     let Some((only, others)) = ops.split_first() else {
@@ -116,16 +134,33 @@ fn one_op_in(alloc: Global, ops: &[Value]) -> Result<Op, LineFault>
     op_in(alloc, only)
 }
 
-fn op_in(alloc: Global, value: &Value) -> Result<Op, LineFault>
+fn op_in(alloc: Global, value: &Value) -> Result<LineOp, LineFault>
     ensures { Reads result (op_in (view value.now)) }
 {
-    if !has_only(value, &["at", "text", "force"]) {
-        return Err(LineFault::Syntax);
+    if has_only(value, &["at", "text", "force"]) || has_only(value, &["range", "text", "force"]) {
+        return op_of(alloc, value);
     }
-    let span = span_at(value, "at")?;
+    Err(LineFault::Syntax)
+}
+
+fn op_of(alloc: Global, value: &Value) -> Result<LineOp, LineFault>
+    ensures { Reads result (op_of (view value.now)) }
+{
+    let place = place_in(value)?;
     let text = text_at(alloc, value, "text")?;
     let force = flag_at(value, "force")?;
-    Ok(Op { span, text, force })
+    Ok(LineOp { place, text, force })
+}
+
+fn place_in(value: &Value) -> Result<Place, LineFault>
+    ensures { Reads result (place_in (view value.now)) }
+{
+    if value.get("at").is_some() {
+        let span = span_at(value, "at")?;
+        return Ok(Place::At(span));
+    }
+    let (start, end) = positions_at(value, "range")?;
+    Ok(Place::InRange(start, end))
 }
 
 fn size_in(value: &Value) -> Result<Command, LineFault>
@@ -145,4 +180,34 @@ fn line_in(value: &Value) -> Result<Command, LineFault>
     }
     let n = number_at(value, "n")?;
     Ok(Command::Line { n })
+}
+
+fn value_in(value: &Value) -> Result<Command, LineFault>
+    ensures { Reads result (value_in (view value.now)) }
+{
+    if !has_only(value, &["cmd", "at"]) {
+        return Err(LineFault::Syntax);
+    }
+    let at = span_at(value, "at")?;
+    Ok(Command::Value { at })
+}
+
+fn offset_in(value: &Value) -> Result<Command, LineFault>
+    ensures { Reads result (offset_in (view value.now)) }
+{
+    if !has_only(value, &["cmd", "line", "col"]) {
+        return Err(LineFault::Syntax);
+    }
+    let p = position_in(value)?;
+    Ok(Command::Offset { p })
+}
+
+fn position_command_in(value: &Value) -> Result<Command, LineFault>
+    ensures { Reads result (position_command_in (view value.now)) }
+{
+    if !has_only(value, &["cmd", "offset"]) {
+        return Err(LineFault::Syntax);
+    }
+    let offset = number_at(value, "offset")?;
+    Ok(Command::Position { offset })
 }

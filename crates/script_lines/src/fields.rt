@@ -6,11 +6,11 @@ ghost use Rattle.std.specs.List.{list_any, list_all};
 ghost use Rattle.std.specs.Str.{bytes_eq};
 ghost use Rattle.serde_json.specs.View.{view, items_view};
 ghost use Rattle.script_lines.specs.Reading.{Reads};
-ghost use Rattle.script_lines.specs.Fields.{has_only, whole_number, number_at, text_at, span_in, span_at, flag_at};
+ghost use Rattle.script_lines.specs.Fields.{has_only, whole_number, number_at, text_at, span_in, span_at, position_of, positions_in, positions_at, position_in, flag_at};
 
 use serde_json::{Map, Value};
 use std::alloc::{AllocError, Global};
-use text_lengths::Span;
+use text_lengths::{Position, Span};
 use thiserror::Error;
 use unit_text::{Units, units_of};
 
@@ -93,6 +93,41 @@ fn span_in(items: &[Value]) -> Result<Span, LineFault>
     let start = whole_number(start).ok_or(LineFault::Syntax)?;
     let end = whole_number(end).ok_or(LineFault::Syntax)?;
     Ok(Span { start, end })
+}
+
+pub(crate) fn positions_at(value: &Value, key: &str) -> Result<(Position, Position), LineFault>
+    ensures { Reads result (positions_at key.now (view value.now)) }
+{
+    let field = value.get(key).ok_or(LineFault::Syntax)?;
+    let items = field.as_array().ok_or(LineFault::Syntax)?;
+    positions_in(items.as_slice())
+}
+
+fn positions_in(items: &[Value]) -> Result<(Position, Position), LineFault>
+    ensures { Reads result (positions_in (items_view items.now)) }
+{
+    let [start_line, start_column, end_line, end_column] = items else {
+        return Err(LineFault::Syntax);
+    };
+    let start = position_of(start_line, start_column)?;
+    let end = position_of(end_line, end_column)?;
+    Ok((start, end))
+}
+
+fn position_of(line: &Value, column: &Value) -> Result<Position, LineFault>
+    ensures { Reads result (position_of (view line.now) (view column.now)) }
+{
+    let line = whole_number(line).ok_or(LineFault::Syntax)?;
+    let column = whole_number(column).ok_or(LineFault::Syntax)?;
+    Ok(Position { line, column })
+}
+
+pub(crate) fn position_in(value: &Value) -> Result<Position, LineFault>
+    ensures { Reads result (position_in (view value.now)) }
+{
+    let line = number_at(value, "line")?;
+    let column = number_at(value, "col")?;
+    Ok(Position { line, column })
 }
 
 pub(crate) fn flag_at(value: &Value, key: &str) -> Result<bool, LineFault>

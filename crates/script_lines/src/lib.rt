@@ -4,11 +4,13 @@
 mod command;
 mod fields;
 mod long;
+mod op;
 mod reason;
 mod short;
 
 pub use command::{Command, command_of};
 pub use fields::LineFault;
 pub use long::{long_begin, long_end, long_mark, long_number, long_text};
+pub use op::{LineOp, Place};
 pub use reason::Refusal;
 pub use short::{Short, refusal};
