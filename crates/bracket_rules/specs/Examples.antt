@@ -1,11 +1,11 @@
 -- Worked examples of the parse, as computed theorems. Places are (lines, columns) from (0, 0).
-use Rattle.std.specs.Prelude.{◌≡◌, ℕ, zero, suc, ◌+◌, Bool, true, false, ◌&&◌, ◌==◌, List, [], ◌∷◌, ◌++◌, length, Option, Some, None, replicate, refl}
+use Rattle.std.specs.Prelude.{◌≡◌, ℕ, zero, suc, Bool, true, false, ◌&&◌, List, [], ◌∷◌, Some, None, replicate, refl}
 use Rattle.text_lengths.specs.Length.{length_of, no_length}
 use Rattle.bracket_rules.specs.declared.Entry.{Entry}
 use Rattle.bracket_rules.specs.declared.Status.{Status}
 use Rattle.bracket_rules.specs.declared.Status.TheVariants.{PairedOpening, PairedClosing, Unclosed, Unexpected}
-use Rattle.bracket_rules.specs.Table.{Table, standard_table, token, tokens_of}
-use Rattle.bracket_rules.specs.Parse.{Spot, spot, entries_of, bracket_entries, bracket_partner, bracket_level}
+use Rattle.bracket_rules.specs.Table.{Table, standard_table}
+use Rattle.bracket_rules.specs.Parse.{spot, entries_of, bracket_entries, bracket_partner, bracket_level}
 use Rattle.bracket_rules.specs.Rows.{text_brackets}
 use Rattle.bracket_rules.specs.Tree.{pair, stray, capped, tree_story}
 

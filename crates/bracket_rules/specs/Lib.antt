@@ -3,4 +3,6 @@ pub mod Parse
 pub mod Rows
 pub mod Tree
 pub mod TreeCode
+pub mod Items
+pub mod Told
 pub mod Examples

@@ -1,10 +1,10 @@
 -- The brackets of a whole text: its tokens are folded with a stack of the brackets that are open, as in
 -- "Bracket pair colorization 10,000x faster" (2021). What closes a bracket is told by the tokens after it, so the
 -- parse gives, beside the entries of the tokens, what closes each bracket that is open before them.
-use Rattle.std.specs.Prelude.{◌≡◌, ℕ, zero, suc, ◌+◌, Bool, true, false, ◌&&◌, ◌==◌, nat_lt, if◌then◌else◌, List, [], ◌∷◌, ◌++◌, length, drop, replicate, Option, Some, None, refl}
+use Rattle.std.specs.Prelude.{ℕ, zero, suc, Bool, ◌&&◌, ◌==◌, nat_lt, if◌then◌else◌, List, [], ◌∷◌, ◌++◌, length, drop, replicate, Option, Some, None}
 use Rattle.std.specs.Option.{option_map}
 use Rattle.text_lengths.specs.declared.Length.{Length}
-use Rattle.text_lengths.specs.Length.{length_of, is_before}
+use Rattle.text_lengths.specs.Length.{is_before}
 use Rattle.bracket_rules.specs.declared.Entry.{Entry}
 use Rattle.bracket_rules.specs.declared.Status.{Status}
 use Rattle.bracket_rules.specs.declared.Status.TheVariants.{PairedOpening, PairedClosing, Unclosed, Unexpected}

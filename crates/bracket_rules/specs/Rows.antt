@@ -1,6 +1,6 @@
 -- A text as rows, one for each line: the brackets of the line, and its columns. A line that a break ends counts no
 -- columns, as in lengths.
-use Rattle.std.specs.Prelude.{◌≡◌, ℕ, zero, suc, ◌+◌, Bool, if◌then◌else◌, List, [], ◌∷◌, ◌++◌, length, refl, true, false}
+use Rattle.std.specs.Prelude.{◌≡◌, ℕ, suc, ◌+◌, List, [], ◌∷◌, ◌++◌, length, refl, true, false}
 use Rattle.text_lengths.specs.declared.Length.{Length}
 use Rattle.text_lengths.specs.Length.{length_of, no_length}
 use Rattle.bracket_rules.specs.declared.Token.{Token}

@@ -1,5 +1,5 @@
 -- What a bracket tree is, and what it shows, by shape.
-use Rattle.std.specs.Prelude.{◌≡◌, ℕ, zero, suc, ◌+◌, ◌<◌, ◌⊎◌, max, Bool, true, false, ◌&&◌, ◌||◌, ◌==◌, if◌then◌else◌, List, [], ◌∷◌, ◌++◌, Option, Some, None, ⊤, refl}
+use Rattle.std.specs.Prelude.{◌≡◌, ℕ, zero, suc, ◌+◌, ◌<◌, ◌⊎◌, max, Bool, true, false, ◌&&◌, ◌||◌, ◌==◌, if◌then◌else◌, List, [], ◌∷◌, ◌++◌, Option, Some, None, ⊤}
 use Rattle.text_lengths.specs.declared.Length.{Length}
 use Rattle.text_lengths.specs.Length.{length_of, no_length, length_plus, is_before}
 use Rattle.bracket_rules.specs.declared.Entry.{Entry}
@@ -7,7 +7,7 @@ use Rattle.bracket_rules.specs.declared.Status.{Status}
 use Rattle.bracket_rules.specs.declared.Status.TheVariants.{PairedOpening, PairedClosing, Unclosed, Unexpected}
 use Rattle.bracket_rules.specs.declared.TheConstants.{MOST_PAIRS}
 use Rattle.bracket_rules.specs.Table.{token}
-use Rattle.bracket_rules.specs.Parse.{Bracket, bracket, Spot, spot, spot_of, Judged, judged_opening, judged_closing, judged_unexpected, entries_of, partner_at}
+use Rattle.bracket_rules.specs.Parse.{Bracket, bracket, Spot, spot, Judged, judged_opening, judged_closing, judged_unexpected, partner_at}
 use Rattle.bracket_rules.specs.Rows.{Row, row, empty_row, glue}
 
 pub data Tree : Type 0 where
