@@ -1,5 +1,6 @@
 -- Bracket tables, and the tokens of a line: at each place the longest text of the table that stands there.
 use Rattle.std.specs.Prelude.{◌≡◌, ℕ, zero, suc, ◌-◌, Bool, true, false, not, ◌&&◌, ◌==◌, nat_eq, nat_lt, nat_le, if◌then◌else◌, List, [], ◌∷◌, ◌++◌, length, Option, Some, None, refl}
+use Rattle.std.specs.Cmp.Lexicographic.{pointwise}
 use Rattle.std.specs.List.{starts_with, list_all, list_any}
 use Rattle.std.specs.Option.{option_to_list}
 use Rattle.bracket_rules.specs.declared.Token.{Token}
@@ -16,9 +17,7 @@ texts_of [] = []
 texts_of (p ∷ ps) = p.0 ∷ p.1 ∷ texts_of ps
 
 abbrev pub same_units : List ℕ → List ℕ → Bool
-same_units [] [] = true
-same_units (u ∷ x) (v ∷ y) = u == v && same_units x y
-same_units _ _ = false
+same_units = pointwise nat_eq
 
 -- neither CR nor LF
 abbrev pub is_in_line : ℕ → Bool
