@@ -1,9 +1,9 @@
 -- Sets of kinds, and the stacks whose brackets are of these kinds.
-use Rattle.std.proofs.Common.{◌≡◌, ℕ, suc, ◌^◌, ◌≢◌, true, false, eqb, Option, Some, None, List, [], ◌∷◌, refl, ap, sym, ◌∙◌, arith, inl, inr}
+use Rattle.std.proofs.Common.{◌≡◌, ◌<◌, max, ◌||◌, ℕ, suc, ◌^◌, ◌≢◌, true, false, eqb, Option, Some, None, List, [], ◌∷◌, refl, ap, sym, ◌∙◌, arith, inl, inr}
 use Rattle.std.specs.Prelude.{is_some, bit_or}
 use Rattle.std.specs.Option.{option_map}
 use Rattle.std.specs.Int.{bit_at}
-use Rattle.std.proofs.lemmas.Bool.Decides.{eqb_tells}
+use Rattle.std.proofs.lemmas.Bool.Decides.{eqb_tells, nat_tests}
 use Rattle.std.proofs.lemmas.Nat.Bits.{bit_at-zero, bit_at_or, bit_at-pow_same, bit_at-pow_other, bit_at-lt}
 use Rattle.bracket_rules.specs.Parse.{Bracket, depth_of}
 use Rattle.bracket_rules.specs.Told.{has_kind, with_kind, IsStack}
@@ -61,3 +61,21 @@ IsStack-push kinds level b stack h = record {
 
 pub IsStack-none : IsStack 0 0 []
 IsStack-none = record { size = refl; of_kinds = λ k. sym (has_kind-none k) }
+
+-- ---- the set of one kind, and two sets together
+
+pub has_kind-one : (kind k : ℕ) → has_kind (2 ^ kind) k ≡ eqb kind k
+has_kind-one kind k = elim (eqb_tells kind k) [
+    | inl same ↦
+        let here : bit_at (2 ^ kind) k ≡ 1 = rw same.1 (bit_at-pow_same k) in
+        ap (λ (n : ℕ). eqb n 1) here ∙ sym same.0
+    | inr differ ↦
+        let there : bit_at (2 ^ kind) k ≡ 0 = bit_at-pow_other kind k (λ e. differ.1 (sym e)) in
+        ap (λ (n : ℕ). eqb n 1) there ∙ sym differ.0 ]
+
+max_bit : (m n : ℕ) → m < 2 → n < 2 → eqb (max m n) 1 ≡ (eqb m 1 || eqb n 1)
+max_bit m n h k = grind (arith, nat_tests)
+
+pub has_kind-union : (a b k : ℕ) → has_kind (bit_or a b) k ≡ (has_kind a k || has_kind b k)
+has_kind-union a b k =
+    ap (λ (n : ℕ). eqb n 1) (bit_at_or a b k) ∙ max_bit (bit_at a k) (bit_at b k) (bit_at-lt a k) (bit_at-lt b k)

@@ -1,0 +1,5 @@
+pub mod Shapes
+pub mod Kept
+pub mod Falls
+pub mod Bounds
+pub mod Bracket

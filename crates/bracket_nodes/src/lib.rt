@@ -1,0 +1,13 @@
+//! Bracket trees: immutable nodes that share their parts, lists as (2,3)-trees, what a tree shows,
+//! and the parser that makes them from a source of brackets.
+#![tactic(auto)]
+
+mod kept;
+mod kinds;
+mod makers;
+mod node;
+
+pub use bracket_rules::{Entry, Status};
+pub use kinds::Kinds;
+pub use makers::{capped_node, pair_node, stray_node, text_node};
+pub use node::Node;
