@@ -1,11 +1,14 @@
 -- Bounds of what is kept.
-use Rattle.std.proofs.Common.{◌≡◌, ℕ, zero, suc, ◌+◌, ◌≤◌, ◌<◌, max, Option, Some, None, refl, ap, sym, ◌∙◌, arith}
-use Rattle.std.specs.Prelude.{unwrap_or}
+use Rattle.std.proofs.Common.{◌≡◌, ℕ, zero, suc, ◌+◌, ◌≤◌, ◌<◌, ◌^◌, max, Bool, true, false, ◌&&◌, ◌||◌, Option, Some, None, refl, ap, sym, ◌∙◌, arith, add-one}
+use Rattle.std.specs.Prelude.{unwrap_or, bit_or}
 use Rattle.text_lengths.specs.declared.Length.{Length}
-use Rattle.bracket_rules.specs.Tree.{Tree, text, pair, stray, capped, nothing, two, three, tree_length, nesting, height, weight}
+use Rattle.bracket_rules.specs.Tree.{Tree, text, pair, stray, capped, nothing, two, three, tree_length, is_missing, nesting, height, weight, IsEven}
+use Rattle.text_lengths.proofs.Lengths.{length_plus_assoc}
+use Rattle.bracket_rules.specs.Told.{has_kind}
+use Rattle.bracket_rules.proofs.KindSets.{has_kind-union}
 use Rattle.bracket_rules.proofs.Weights.{units_of, length_within, nesting_within, height_within}
 use Rattle.bracket_nodes.specs.declared.kept.Kept.{Kept}
-use Rattle.bracket_nodes.specs.Kept.{later, inside_level, last_level, Keeps}
+use Rattle.bracket_nodes.specs.Kept.{later, inside_level, last_level, Keeps, both_of}
 use Rattle.bracket_nodes.specs.Bounds.{IsBounded}
 
 later_within : (a b : Option ℕ) → unwrap_or (later a b) 0 ≤ max (unwrap_or a 0) (unwrap_or b 0)
@@ -45,3 +48,37 @@ IsBounded-from_Keeps t kept h = record {
         let same : kept.nesting ≡ nesting t = h.nesting in
         let level : unwrap_or kept.last_level 0 ≡ unwrap_or (last_level t) 0 = ap (λ (o : Option ℕ). unwrap_or o 0) h.last in
         omega arith }
+
+-- ---- lists
+
+missing-both : (a b : ℕ) (m n : Bool) (k : ℕ) → has_kind a k ≡ m → has_kind b k ≡ n → has_kind (bit_or a b) k ≡ (m || n)
+missing-both a b m n k h i =
+    has_kind-union a b k ∙ ap (λ (x : Bool). x || has_kind b k) h ∙ ap (λ (x : Bool). m || x) i
+
+pub Keeps-two : (a b : Tree) (ka kb : Kept) → Keeps a ka → Keeps b kb → IsEven a b → weight a + weight b < 2 ^ 64
+    → Keeps (two a b) (both_of ka kb (ka.height + 1))
+Keeps-two a b ka kb h k even fits = record {
+    tree = (even, (h.tree, k.tree));
+    light = fits;
+    length = rw (h.length, k.length) refl;
+    missing = λ j. missing-both ka.missing kb.missing (is_missing j a) (is_missing j b) j (h.missing j) (k.missing j);
+    closed = rw (h.closed, k.closed) refl;
+    capped = rw (h.capped, k.capped) refl;
+    nesting = rw (h.nesting, k.nesting) refl;
+    height = rw h.height (add-one (height a));
+    last = rw (h.last, k.last) refl }
+
+pub Keeps-three : (a b c : Tree) (ka kb kc : Kept) (n : ℕ) → Keeps a ka → Keeps b kb → Keeps c kc → IsEven a b → IsEven b c
+    → weight a + (weight b + weight c) < 2 ^ 64
+    → Keeps (three a b c) (both_of ka (both_of kb kc n) (ka.height + 1))
+Keeps-three a b c ka kb kc n h k l first second fits = record {
+    tree = ((first, second), (h.tree, (k.tree, l.tree)));
+    light = fits;
+    length = rw (h.length, k.length, l.length) (sym (length_plus_assoc (tree_length a) (tree_length b) (tree_length c)));
+    missing = λ j. missing-both ka.missing (bit_or kb.missing kc.missing) (is_missing j a) (is_missing j b || is_missing j c) j (h.missing j)
+        (missing-both kb.missing kc.missing (is_missing j b) (is_missing j c) j (k.missing j) (l.missing j));
+    closed = rw (h.closed, k.closed, l.closed) refl;
+    capped = rw (h.capped, k.capped, l.capped) refl;
+    nesting = rw (h.nesting, k.nesting, l.nesting) refl;
+    height = rw h.height (add-one (height a));
+    last = rw (h.last, k.last, l.last) refl }

@@ -1,5 +1,6 @@
 -- What a node keeps of its tree.
-use Rattle.std.specs.Prelude.{◌≡◌, ℕ, suc, ◌+◌, ◌<◌, ◌^◌, Option, Some, None, unwrap_or}
+use Rattle.std.specs.Prelude.{◌≡◌, ℕ, suc, ◌+◌, ◌<◌, ◌^◌, ◌&&◌, ◌||◌, max, bit_or, Option, Some, None, unwrap_or}
+use Rattle.text_lengths.specs.Length.{length_plus}
 use Rattle.bracket_rules.specs.Tree.{Tree, text, pair, stray, capped, nothing, two, three, tree_length, is_missing, is_closed, is_capped, nesting, height, weight, IsTree}
 use Rattle.bracket_rules.specs.Told.{has_kind}
 use Rattle.bracket_nodes.specs.declared.kept.Kept.{Kept}
@@ -33,3 +34,14 @@ pub record Keeps (t : Tree) (kept : Kept) : Type 0 where
   pub nesting : kept.nesting ≡ nesting t
   pub height : kept.height ≡ height t
   pub last : kept.last_level ≡ last_level t
+
+-- what is kept of a list of this height, from what is kept of its parts
+abbrev pub both_of : Kept → Kept → ℕ → Kept
+both_of a b height = record {
+    length = length_plus a.length b.length;
+    missing = bit_or a.missing b.missing;
+    closed = a.closed && b.closed;
+    capped = a.capped || b.capped;
+    nesting = max a.nesting b.nesting;
+    height = height;
+    last_level = later a.last_level b.last_level }

@@ -3,3 +3,4 @@ pub mod Kept
 pub mod Falls
 pub mod Bounds
 pub mod Bracket
+pub mod Lists

@@ -4,6 +4,7 @@
 
 mod kept;
 mod kinds;
+mod lists;
 mod makers;
 mod node;
 
