@@ -37,17 +37,18 @@ last_level-within (three a b c) =
 
 pub IsBounded-from_Keeps : (t : Tree) (kept : Kept) → Keeps t kept → IsBounded (weight t) kept
 IsBounded-from_Keeps t kept h = record {
-    length =
-        let within = length_within t in
-        let same : units_of kept.length ≡ units_of (tree_length t) = ap units_of h.length in
-        omega arith;
-    nesting = let within = nesting_within t h.tree in let same : kept.nesting ≡ nesting t = h.nesting in omega arith;
-    height = let within = height_within t h.tree in let same : kept.height ≡ height t = h.height in omega arith;
-    last =
-        let within = last_level-within t in
-        let same : kept.nesting ≡ nesting t = h.nesting in
-        let level : unwrap_or kept.last_level 0 ≡ unwrap_or (last_level t) 0 = ap (λ (o : Option ℕ). unwrap_or o 0) h.last in
-        omega arith }
+  length =
+      let within = length_within t in
+      let same : units_of kept.length ≡ units_of (tree_length t) = ap units_of h.length in
+      omega arith;
+  nesting = let within = nesting_within t h.tree in let same : kept.nesting ≡ nesting t = h.nesting in omega arith;
+  height = let within = height_within t h.tree in let same : kept.height ≡ height t = h.height in omega arith;
+  last =
+      let within = last_level-within t in
+      let same : kept.nesting ≡ nesting t = h.nesting in
+      let level : unwrap_or kept.last_level 0 ≡ unwrap_or (last_level t) 0 = ap (λ (o : Option ℕ). unwrap_or o 0) h.last in
+      omega arith;
+}
 
 -- ---- lists
 
@@ -58,27 +59,29 @@ missing-both a b m n k h i =
 pub Keeps-two : (a b : Tree) (ka kb : Kept) → Keeps a ka → Keeps b kb → IsEven a b → weight a + weight b < 2 ^ 64
     → Keeps (two a b) (both_of ka kb (ka.height + 1))
 Keeps-two a b ka kb h k even fits = record {
-    tree = (even, (h.tree, k.tree));
-    light = fits;
-    length = rw (h.length, k.length) refl;
-    missing = λ j. missing-both ka.missing kb.missing (is_missing j a) (is_missing j b) j (h.missing j) (k.missing j);
-    closed = rw (h.closed, k.closed) refl;
-    capped = rw (h.capped, k.capped) refl;
-    nesting = rw (h.nesting, k.nesting) refl;
-    height = rw h.height (add-one (height a));
-    last = rw (h.last, k.last) refl }
+  tree = (even, (h.tree, k.tree));
+  light = fits;
+  length = rw (h.length, k.length) refl;
+  missing = λ j. missing-both ka.missing kb.missing (is_missing j a) (is_missing j b) j (h.missing j) (k.missing j);
+  closed = rw (h.closed, k.closed) refl;
+  capped = rw (h.capped, k.capped) refl;
+  nesting = rw (h.nesting, k.nesting) refl;
+  height = rw h.height (add-one (height a));
+  last = rw (h.last, k.last) refl;
+}
 
 pub Keeps-three : (a b c : Tree) (ka kb kc : Kept) (n : ℕ) → Keeps a ka → Keeps b kb → Keeps c kc → IsEven a b → IsEven b c
     → weight a + (weight b + weight c) < 2 ^ 64
     → Keeps (three a b c) (both_of ka (both_of kb kc n) (ka.height + 1))
 Keeps-three a b c ka kb kc n h k l first second fits = record {
-    tree = ((first, second), (h.tree, (k.tree, l.tree)));
-    light = fits;
-    length = rw (h.length, k.length, l.length) (sym (length_plus_assoc (tree_length a) (tree_length b) (tree_length c)));
-    missing = λ j. missing-both ka.missing (bit_or kb.missing kc.missing) (is_missing j a) (is_missing j b || is_missing j c) j (h.missing j)
-        (missing-both kb.missing kc.missing (is_missing j b) (is_missing j c) j (k.missing j) (l.missing j));
-    closed = rw (h.closed, k.closed, l.closed) refl;
-    capped = rw (h.capped, k.capped, l.capped) refl;
-    nesting = rw (h.nesting, k.nesting, l.nesting) refl;
-    height = rw h.height (add-one (height a));
-    last = rw (h.last, k.last, l.last) refl }
+  tree = ((first, second), (h.tree, (k.tree, l.tree)));
+  light = fits;
+  length = rw (h.length, k.length, l.length) (sym (length_plus_assoc (tree_length a) (tree_length b) (tree_length c)));
+  missing = λ j. missing-both ka.missing (bit_or kb.missing kc.missing) (is_missing j a) (is_missing j b || is_missing j c) j (h.missing j)
+      (missing-both kb.missing kc.missing (is_missing j b) (is_missing j c) j (k.missing j) (l.missing j));
+  closed = rw (h.closed, k.closed, l.closed) refl;
+  capped = rw (h.capped, k.capped, l.capped) refl;
+  nesting = rw (h.nesting, k.nesting, l.nesting) refl;
+  height = rw h.height (add-one (height a));
+  last = rw (h.last, k.last, l.last) refl;
+}

@@ -38,10 +38,11 @@ pub record Keeps (t : Tree) (kept : Kept) : Type 0 where
 -- what is kept of a list of this height, from what is kept of its parts
 abbrev pub both_of : Kept → Kept → ℕ → Kept
 both_of a b height = record {
-    length = length_plus a.length b.length;
-    missing = bit_or a.missing b.missing;
-    closed = a.closed && b.closed;
-    capped = a.capped || b.capped;
-    nesting = max a.nesting b.nesting;
-    height = height;
-    last_level = later a.last_level b.last_level }
+  length = length_plus a.length b.length;
+  missing = bit_or a.missing b.missing;
+  closed = a.closed && b.closed;
+  capped = a.capped || b.capped;
+  nesting = max a.nesting b.nesting;
+  height = height;
+  last_level = later a.last_level b.last_level;
+}

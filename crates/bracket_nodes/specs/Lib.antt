@@ -4,3 +4,4 @@ pub mod Falls
 pub mod Bounds
 pub mod Bracket
 pub mod Lists
+pub mod SharedLists

@@ -2,6 +2,7 @@
 //! and the parser that makes them from a source of brackets.
 #![tactic(auto)]
 
+mod joiner;
 mod kept;
 mod kinds;
 mod lists;
@@ -9,6 +10,7 @@ mod makers;
 mod node;
 
 pub use bracket_rules::{Entry, Status};
+pub use joiner::concat;
 pub use kinds::Kinds;
 pub use makers::{capped_node, pair_node, stray_node, text_node};
 pub use node::Node;

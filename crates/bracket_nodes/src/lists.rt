@@ -9,7 +9,7 @@ use crate::node::{Inner, Shape};
 use std::alloc::{AllocError, Global};
 use std::rc::Rc;
 
-type Shared = Rc<Inner>;
+pub(crate) type Shared = Rc<Inner>;
 
 // A list that took in another: one list of its height, or two.
 #[derive(Drop)]

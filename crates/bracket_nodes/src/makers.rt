@@ -86,7 +86,14 @@ pub fn capped_node(alloc: Global, kind: u64, bracket: Length) -> Result<Node, Al
 pub(crate) fn nothing() -> Inner
     ensures { result ≡ nothing }
 {
-    let kept = leaf(Length { lines: 0, columns: 0 }, Kinds::none(), None);
+    let kept = leaf(
+        Length {
+            lines: 0,
+            columns: 0,
+        },
+        Kinds::none(),
+        None,
+    );
     let shape = Shape::Nothing;
     Inner { shape, kept }
 }

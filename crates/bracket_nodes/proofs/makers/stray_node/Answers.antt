@@ -7,12 +7,13 @@ use Rattle.bracket_nodes.proofs.makers.stray_node.Goals as goal
 
 pub invariant_of-shared : goal.invariant_of-shared
 invariant_of-shared c = rw (c.leaf-kept.ensures, c.one.ensures) (record {
-    tree = record { has_kind = c.requires.has_kind; wide = c.requires.bracket.wide };
-    light = omega arith;
-    length = same_length c.args.bracket (wide c.args.bracket.columns) c.requires.bracket.in_line refl;
-    missing = λ k. has_kind-one c.args.kind k;
-    closed = refl;
-    capped = refl;
-    nesting = refl;
-    height = refl;
-    last = refl })
+  tree = record { has_kind = c.requires.has_kind; wide = c.requires.bracket.wide };
+  light = omega arith;
+  length = same_length c.args.bracket (wide c.args.bracket.columns) c.requires.bracket.in_line refl;
+  missing = λ k. has_kind-one c.args.kind k;
+  closed = refl;
+  capped = refl;
+  nesting = refl;
+  height = refl;
+  last = refl;
+})

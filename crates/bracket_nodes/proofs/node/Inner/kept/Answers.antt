@@ -11,5 +11,6 @@ returns c =
     let same : tree_of c.self.inside.shape ≡ c.args.self.now = c.self.view_is in
     let bounded = IsBounded-from_Keeps (tree_of c.self.inside.shape) c.self.inside.kept c.self.invariant in
     record {
-        keeps = subst (λ (t : Tree). Keeps t c.self.inside.kept) same c.self.invariant;
-        bounded = subst (λ (t : Tree). IsBounded (weight t) c.self.inside.kept) same bounded }
+      keeps = subst (λ (t : Tree). Keeps t c.self.inside.kept) same c.self.invariant;
+      bounded = subst (λ (t : Tree). IsBounded (weight t) c.self.inside.kept) same bounded;
+    }
