@@ -5,3 +5,4 @@ pub mod Bounds
 pub mod Bracket
 pub mod Lists
 pub mod SharedLists
+pub mod Walks

@@ -6,6 +6,7 @@ mod joiner;
 mod kept;
 mod kinds;
 mod lists;
+mod lookups;
 mod makers;
 mod node;
 

@@ -131,7 +131,7 @@ fn pair_length(opening: u64, inside: Length, closing: u64) -> Length
     wide(opening).plus(&inside).plus(&wide(closing))
 }
 
-fn wide(columns: u64) -> Length
+pub(crate) fn wide(columns: u64) -> Length
     ensures { result ≡ wide columns }
 {
     Length { lines: 0, columns }

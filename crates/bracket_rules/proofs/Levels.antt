@@ -8,7 +8,7 @@ use Rattle.text_lengths.proofs.Lengths.{length_plus_assoc}
 use Rattle.bracket_rules.specs.Parse.{Bracket, bracket, Spot, Judged, Event, opens, too_deep, closes, unexpected, event, stack_after, judged_opening, Story, first_closer, told, parse, bracket_story, stack_before, bracket_level}
 use Rattle.bracket_rules.specs.Tree.{Tree, text, pair, stray, capped, nothing, two, three, wide, width_of, tree_length, inside_start, inside_end, closing_brackets, tree_tokens, level_before, tree_story, tree_level}
 
-level_before-opening : (p : Length) (level : ℕ) (b : Bracket) (n : ℕ) (closer : Option Spot) (rest : List Judged)
+pub level_before-opening : (p : Length) (level : ℕ) (b : Bracket) (n : ℕ) (closer : Option Spot) (rest : List Judged)
     → level_before p level (judged_opening b n closer ∷ rest) ≡ level_before p (cond (is_before b.place p) (suc n) level) rest
 level_before-opening p level b n None rest = refl
 level_before-opening p level b n (Some c) rest = refl
@@ -36,7 +36,7 @@ level_before-told p stack b unexpected s =
 
 -- ---- brackets in order
 
-not_before_later : (p q r : Length) → is_before q p ≡ false → is_before r q ≡ false → is_before r p ≡ false
+pub not_before_later : (p q r : Length) → is_before q p ≡ false → is_before r q ≡ false → is_before r p ≡ false
 not_before_later p q r h k = grind (arith, nat_tests)
 
 -- the brackets stand in order, from p on and up to q
@@ -54,10 +54,10 @@ unfolding IsWithin
 IsWithin-append p q r [] ys h k = IsWithin-from p q r ys h k
 IsWithin-append p q r (b ∷ rest) ys h k = (h.0, IsWithin-append b.place q r rest ys h.1 k)
 
-not_before_sum : (p l : Length) → is_before (length_plus p l) p ≡ false
+pub not_before_sum : (p l : Length) → is_before (length_plus p l) p ≡ false
 not_before_sum p l = grind (arith, nat_tests, common_steps)
 
-not_before_itself : (p : Length) → is_before p p ≡ false
+pub not_before_itself : (p : Length) → is_before p p ≡ false
 not_before_itself p = grind (arith, nat_tests)
 
 IsWithin-one : (p : Length) (w k : ℕ) (opening : Bool) → IsWithin p (length_plus p (wide w)) (bracket p w k opening ∷ [])

@@ -1,7 +1,8 @@
 -- The brackets of a whole text: its tokens are folded with a stack of the brackets that are open, as in
 -- "Bracket pair colorization 10,000x faster" (2021). What closes a bracket is told by the tokens after it, so the
 -- parse gives, beside the entries of the tokens, what closes each bracket that is open before them.
-use Rattle.std.specs.Prelude.{ℕ, zero, suc, Bool, ◌&&◌, ◌==◌, nat_lt, if◌then◌else◌, List, [], ◌∷◌, ◌++◌, length, drop, replicate, Option, Some, None}
+use Rattle.std.specs.Prelude.{ℕ, zero, suc, Bool, ◌&&◌, ◌==◌, nat_lt, nat_le, if◌then◌else◌, List, [], ◌∷◌, ◌++◌, length, drop, replicate, Option, Some, None}
+use Rattle.std.specs.List.{filter}
 use Rattle.std.specs.Option.{option_map}
 use Rattle.text_lengths.specs.declared.Length.{Length}
 use Rattle.text_lengths.specs.Length.{is_before}
@@ -135,6 +136,13 @@ entries_of (j ∷ js) = j.entry ∷ entries_of js
 -- all entries, in the order of the text
 abbrev pub bracket_entries : List Bracket → List Entry
 bracket_entries brackets = entries_of (bracket_story brackets)
+
+-- the entries that start in these lines, both counted from 0 and both included
+abbrev pub is_between : ℕ → ℕ → Entry → Bool
+is_between from to e = nat_le from e.place.lines && nat_le e.place.lines to
+
+abbrev pub entries_between : ℕ → ℕ → List Entry → List Entry
+entries_between from to entries = filter (is_between from to) entries
 
 abbrev pub same_place : Length → Length → Bool
 same_place p q = p.lines == q.lines && p.columns == q.columns
