@@ -101,7 +101,7 @@ level_before-early p q level before (pair k o i None) h =
     let start : Length = inside_start q o in
     let ends : Length = inside_end q o i in
     let ends_early : is_before ends p ≡ true =
-        before_start p ends (wide 0) (ap (λ (l : Length). is_before l p) (pair_end q o i 0) ∙ h) in
+    before_start p ends (wide 0) (ap (λ (l : Length). is_before l p) (pair_end q o i 0) ∙ h) in
     early_opening p q o k level before None (tree_entries start (suc level) i ++ []) (before_start p q (tree_length (pair k o i None)) h)
     ∙ level_before-append p (suc level) (tree_entries start (suc level) i) []
     ∙ level_before-early p start (suc level) (suc level) i ends_early
@@ -111,7 +111,7 @@ level_before-early p q level before (pair k o i (Some w)) h =
     let ends : Length = inside_end q o i in
     let inside : List Judged = tree_entries start (suc level) i in
     let ends_early : is_before ends p ≡ true =
-        before_start p ends (wide w) (ap (λ (l : Length). is_before l p) (pair_end q o i w) ∙ h) in
+    before_start p ends (wide w) (ap (λ (l : Length). is_before l p) (pair_end q o i w) ∙ h) in
     early_opening p q o k level before (Some (spot ends w)) (inside ++ closing_entries ends k level (Some w) (spot q o)) (before_start p q (tree_length (pair k o i (Some w))) h)
     ∙ level_before-append p (suc level) inside (closing_entries ends k level (Some w) (spot q o))
     ∙ ap (λ (c : Bool). cond c level (level_before p (suc level) inside)) ends_early
@@ -123,7 +123,7 @@ level_before-early p q level before nothing h = refl
 level_before-early p q level before (two a b) h =
     let r : Length = length_plus q (tree_length a) in
     let b_early : is_before (length_plus r (tree_length b)) p ≡ true =
-        ap (λ (l : Length). is_before l p) (length_plus_assoc q (tree_length a) (tree_length b)) ∙ h in
+    ap (λ (l : Length). is_before l p) (length_plus_assoc q (tree_length a) (tree_length b)) ∙ h in
     let a_early = before_start p r (tree_length b) b_early in
     level_before-append p before (tree_entries q level a) (tree_entries r level b)
     ∙ ap (λ (n : ℕ). level_before p n (tree_entries r level b)) (level_before-early p q level before a a_early)
@@ -133,8 +133,8 @@ level_before-early p q level before (three a b c) h =
     let r : Length = length_plus q (tree_length a) in
     let s : Length = length_plus r (tree_length b) in
     let c_early : is_before (length_plus s (tree_length c)) p ≡ true =
-        ap (λ (l : Length). is_before l p) (ap (λ (l : Length). length_plus l (tree_length c)) (length_plus_assoc q (tree_length a) (tree_length b))
-            ∙ length_plus_assoc q (length_plus (tree_length a) (tree_length b)) (tree_length c)) ∙ h in
+    ap (λ (l : Length). is_before l p) (ap (λ (l : Length). length_plus l (tree_length c)) (length_plus_assoc q (tree_length a) (tree_length b))
+    ∙ length_plus_assoc q (length_plus (tree_length a) (tree_length b)) (tree_length c)) ∙ h in
     let b_early = before_start p s (tree_length c) c_early in
     let a_early = before_start p r (tree_length b) b_early in
     level_before-append p before (tree_entries q level a) (tree_entries r level b ++ tree_entries s level c)
@@ -187,7 +187,7 @@ level_in_first p q level before a b h =
 
 pub level_in_second : (p q : Length) (level before : ℕ) (a b : Tree) → is_before (length_plus q (tree_length a)) p ≡ true
     → level_before p before (tree_entries q level (two a b))
-        ≡ level_before p (level_from level before (last_level a)) (tree_entries (length_plus q (tree_length a)) level b)
+    ≡ level_before p (level_from level before (last_level a)) (tree_entries (length_plus q (tree_length a)) level b)
 level_in_second p q level before a b h =
     let r : Length = length_plus q (tree_length a) in
     level_before-append p before (tree_entries q level a) (tree_entries r level b)
@@ -201,7 +201,7 @@ level_in_first_of_three p q level before a b c h = level_in_first p q level befo
 pub level_in_second_of_three : (p q : Length) (level before : ℕ) (a b c : Tree) → is_before (length_plus q (tree_length a)) p ≡ true
     → is_before (length_plus (length_plus q (tree_length a)) (tree_length b)) p ≡ false
     → level_before p before (tree_entries q level (three a b c))
-        ≡ level_before p (level_from level before (last_level a)) (tree_entries (length_plus q (tree_length a)) level b)
+    ≡ level_before p (level_from level before (last_level a)) (tree_entries (length_plus q (tree_length a)) level b)
 level_in_second_of_three p q level before a b c h e =
     level_in_second p q level before a (two b c) h
     ∙ level_in_first p (length_plus q (tree_length a)) level (level_from level before (last_level a)) b c e
@@ -209,8 +209,8 @@ level_in_second_of_three p q level before a b c h e =
 pub level_in_third_of_three : (p q : Length) (level before : ℕ) (a b c : Tree) → is_before (length_plus q (tree_length a)) p ≡ true
     → is_before (length_plus (length_plus q (tree_length a)) (tree_length b)) p ≡ true
     → level_before p before (tree_entries q level (three a b c))
-        ≡ level_before p (level_from level (level_from level before (last_level a)) (last_level b))
-            (tree_entries (length_plus (length_plus q (tree_length a)) (tree_length b)) level c)
+    ≡ level_before p (level_from level (level_from level before (last_level a)) (last_level b))
+    (tree_entries (length_plus (length_plus q (tree_length a)) (tree_length b)) level c)
 level_in_third_of_three p q level before a b c h e =
     level_in_second p q level before a (two b c) h
     ∙ level_in_second p (length_plus q (tree_length a)) level (level_from level before (last_level a)) b c e

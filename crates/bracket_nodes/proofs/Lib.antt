@@ -1,3 +1,4 @@
 pub mod KeptLemmas
 pub mod Shares
 pub mod LevelWalk
+pub mod Parsing

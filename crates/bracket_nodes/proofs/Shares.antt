@@ -39,12 +39,13 @@ pub Holds-joined : (old new : List (Rc Inner Global)) (top : Rc Inner Global) (l
     → old ≡ new ++ top ∷ [] → Joins top.value list both
     → shared_items old ++ items list ≡ all → shared_weight old + weight list ≡ w → Holds new both all w
 Holds-joined old new top list both all w h j k l = record {
-    in_order =
-        ap (λ (x : List Tree). shared_items new ++ x) j.in_order
-        ∙ sym (append_assoc (shared_items new) (items top.value) (items list))
-        ∙ ap (λ (x : List Tree). x ++ items list) (sym (popped_items old new top h))
-        ∙ k;
-    weighs =
-        let popped = popped_weight old new top h in
-        let joined : weight both ≡ weight top.value + weight list = j.weighs in
-        omega arith }
+  in_order =
+      ap (λ (x : List Tree). shared_items new ++ x) j.in_order
+      ∙ sym (append_assoc (shared_items new) (items top.value) (items list))
+      ∙ ap (λ (x : List Tree). x ++ items list) (sym (popped_items old new top h))
+      ∙ k;
+  weighs =
+      let popped = popped_weight old new top h in
+      let joined : weight both ≡ weight top.value + weight list = j.weighs in
+      omega arith;
+}

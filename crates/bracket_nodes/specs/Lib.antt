@@ -6,3 +6,4 @@ pub mod Bracket
 pub mod Lists
 pub mod SharedLists
 pub mod Walks
+pub mod Source

@@ -9,9 +9,11 @@ mod lists;
 mod lookups;
 mod makers;
 mod node;
+mod parser;
 
 pub use bracket_rules::{Entry, Status};
 pub use joiner::concat;
 pub use kinds::Kinds;
 pub use makers::{capped_node, pair_node, stray_node, text_node};
 pub use node::Node;
+pub use parser::{Next, Source, parse};

@@ -32,13 +32,7 @@ fn level_at(inner: &Inner, start: Length, level: u64, before: u64, place: &Lengt
 {
     match &inner.shape {
         Shape::Text(_) | Shape::Capped(_, _) | Shape::Nothing => before,
-        Shape::Stray(_, _) => {
-            if start.before(place) {
-                level
-            } else {
-                before
-            }
-        }
+        Shape::Stray(_, _) => { if start.before(place) { level } else { before } }
         Shape::Pair(_, opening, inside, closing) => {
             if !start.before(place) {
                 return before;

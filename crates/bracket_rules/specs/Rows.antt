@@ -1,6 +1,6 @@
 -- A text as rows, one for each line: the brackets of the line, and its columns. A line that a break ends counts no
 -- columns, as in lengths.
-use Rattle.std.specs.Prelude.{◌≡◌, ℕ, suc, ◌+◌, List, [], ◌∷◌, ◌++◌, length, refl, true, false}
+use Rattle.std.specs.Prelude.{◌≡◌, ℕ, suc, ◌+◌, List, [], ◌∷◌, ◌++◌, length, ⊤, refl, true, false}
 use Rattle.text_lengths.specs.declared.Length.{Length}
 use Rattle.text_lengths.specs.Length.{length_of, no_length}
 use Rattle.bracket_rules.specs.declared.Token.{Token}
@@ -13,6 +13,11 @@ pub record Row : Type 0 where
 
 abbrev pub row : List Token → ℕ → Row
 row brackets columns = record { brackets = brackets; columns = columns }
+
+-- at least one row: every text has a line
+abbrev pub HasRow : List Row → Type 0
+HasRow [] = ⊥
+HasRow (r ∷ rows) = ⊤
 
 -- no text has one line without brackets or columns
 abbrev pub empty_row : Row
