@@ -114,8 +114,10 @@ fn take<S: Source>(
     match source.next(alloc, opened, level)? {
         Next::End => Ok(Taken::Nothing(Stop::AtEnd)),
         Next::Ready(node) => Ok(Taken::One(node)),
-        Next::Bracket(kind, width, false) => closing(alloc, opened, kind, width),
-        Next::Bracket(kind, width, true) => {
+        Next::Bracket(kind, width, opening) => {
+            if !opening {
+                return closing(alloc, opened, kind, width);
+            }
             if level == MOST_OPEN {
                 return Ok(Taken::One(capped_node(alloc, kind, wide(width))?));
             }
