@@ -1,4 +1,5 @@
 pub mod KeptLemmas
 pub mod Shares
 pub mod LevelWalk
+pub mod PartnerWalk
 pub mod Parsing

@@ -1,8 +1,10 @@
 // What stands at a place: walks down one path of the tree.
-ghost use Rattle.std.specs.Prelude.{◌≡◌, ◌+◌, ◌<◌, ◌^◌, ◌&&◌, unwrap_or};
+ghost use Rattle.std.specs.Prelude.{◌≡◌, ◌+◌, ◌<◌, ◌^◌, ◌&&◌, ℕ, unwrap_or};
+ghost use Rattle.std.specs.Option.{option_map};
 ghost use Rattle.text_lengths.specs.Length.{is_before};
-ghost use Rattle.bracket_rules.specs.Tree.{is_some_width, tree_entries, level_before, tree_level};
-ghost use Rattle.bracket_nodes.specs.Walks.{HasRoom, level_from};
+ghost use Rattle.bracket_rules.specs.Parse.{same_place, partner_at};
+ghost use Rattle.bracket_rules.specs.Tree.{weight, is_some_width, closing_spot, tree_entries, level_before, tree_level, tree_partner};
+ghost use Rattle.bracket_nodes.specs.Walks.{HasRoom, level_from, place_and_len};
 
 use crate::makers::wide;
 use crate::node::{Inner, Node, Shape};
@@ -20,6 +22,19 @@ impl Node {
         };
         let _kept = self.inner.kept();
         level_at(&self.inner, start, 0, 0, &place)
+    }
+
+    /// Where the other bracket of a pair starts, and its width, where one of the pair's brackets
+    /// starts at this place of the tree; None where no paired bracket does.
+    pub fn partner_of(&self, place: Length) -> Option<(Length, u64)>
+        ensures { result ≡ option_map place_and_len (tree_partner self.now place) }
+    {
+        let start = Length {
+            lines: 0,
+            columns: 0,
+        };
+        let _kept = self.inner.kept();
+        partner_of(&self.inner, start, &place)
     }
 }
 
@@ -84,4 +99,58 @@ fn level_from(level: u64, before: u64, last: Option<u64>) -> u64
         None => before,
         Some(last) => level + last,
     }
+}
+
+#[tactic(auto, using(crate::proofs::PartnerWalk::partner_steps))]
+// The partner of the bracket at the place in a node that starts here.
+fn partner_of(inner: &Inner, start: Length, place: &Length) -> Option<(Length, u64)>
+    requires { start.lines + start.columns + weight inner.now < 2 ^ 64 }
+    ensures { (level : ℕ) → result ≡ option_map place_and_len (partner_at place.now (tree_entries start level inner.now)) }
+{
+    match &inner.shape {
+        Shape::Pair(_, opening, inside, closing) => {
+            let inside_start = start.plus(&wide(*opening));
+            let ends = inside_start.plus(&inside.kept().length);
+            if start == *place {
+                return closing_place(ends, *closing);
+            }
+            if closes_at(*closing, &ends, place) {
+                return Some((start, *opening));
+            }
+            partner_of(inside, inside_start, place)
+        }
+        Shape::Two(a, b) => {
+            let middle = start.plus(&a.kept().length);
+            if place.before(&middle) {
+                partner_of(a, start, place)
+            } else {
+                partner_of(b, middle, place)
+            }
+        }
+        Shape::Three(a, b, c) => {
+            let second = start.plus(&a.kept().length);
+            if place.before(&second) {
+                return partner_of(a, start, place);
+            }
+            let third = second.plus(&b.kept().length);
+            if place.before(&third) {
+                return partner_of(b, second, place);
+            }
+            partner_of(c, third, place)
+        }
+        _ => None,
+    }
+}
+
+// Whether there is a closing bracket, and it starts at the place.
+fn closes_at(closing: Option<u64>, ends: &Length, place: &Length) -> bool
+    ensures { result ≡ (is_some_width closing && same_place ends.now place.now) }
+{
+    closing.is_some() && *ends == *place
+}
+
+fn closing_place(ends: Length, closing: Option<u64>) -> Option<(Length, u64)>
+    ensures { result ≡ option_map place_and_len (closing_spot ends closing) }
+{
+    closing.map(|width| (ends, width))
 }
