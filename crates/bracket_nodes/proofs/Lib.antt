@@ -2,4 +2,5 @@ pub mod KeptLemmas
 pub mod Shares
 pub mod LevelWalk
 pub mod PartnerWalk
+pub mod EntryWalk
 pub mod Parsing

@@ -1,7 +1,8 @@
 -- Walks down a tree to one place.
-use Rattle.std.specs.Prelude.{ℕ, ◌+◌, ◌<◌, ◌^◌, Option, Some, None}
+use Rattle.std.specs.Prelude.{ℕ, ◌+◌, ◌<◌, ◌^◌, Bool, if◌then◌else◌, List, [], ◌∷◌, Option, Some, None}
 use Rattle.text_lengths.specs.declared.Length.{Length}
-use Rattle.bracket_rules.specs.Parse.{Spot}
+use Rattle.bracket_rules.specs.declared.Entry.{Entry}
+use Rattle.bracket_rules.specs.Parse.{Spot, Judged, entries_of, entries_between}
 use Rattle.bracket_rules.specs.Tree.{Tree, weight, nesting}
 
 -- the level after entries that end at this one, counted from the level of their tree, or the level before them
@@ -16,3 +17,10 @@ place_and_len s = (s.place, s.len)
 pub record HasRoom (start : Length) (level : ℕ) (t : Tree) : Type 0 where
   pub places : start.lines + start.columns + weight t < 2 ^ 64
   pub levels : level + nesting t < 2 ^ 64
+
+-- the entries of these that start in these lines
+abbrev pub chosen : ℕ → ℕ → List Judged → List Entry
+chosen from to js = entries_between from to (entries_of js)
+
+abbrev pub entry_if : Bool → Entry → List Entry
+entry_if chosen e = if chosen then e ∷ [] else []

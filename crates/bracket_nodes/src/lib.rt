@@ -5,6 +5,7 @@
 mod joiner;
 mod kept;
 mod kinds;
+mod listing;
 mod lists;
 mod lookups;
 mod makers;
