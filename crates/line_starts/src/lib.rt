@@ -16,6 +16,7 @@ pub fn find_starts(units: &[u16], out: &mut Vec<u64>) -> Result<(), AllocError>
     ensures ok { OnOk result (out.new.items ≡ out.old.items ++ starts_of units.now) }
     ensures err { OnErr result (out.new.items ≡ out.old.items) }
     ensures with_room { vec_len out.old + (length units.now + 1) ≤ vec_capacity out.old → IsOk result }
+    ensures capacity { vec_capacity out.old ≤ vec_capacity out.new }
 {
     let before = out.len();
     out.push(0)?;
@@ -32,6 +33,7 @@ pub fn find_break_ends(units: &[u16], start: u64, out: &mut Vec<u64>) -> Result<
     ensures ok { OnOk result (out.new.items ≡ out.old.items ++ break_ends_at start units.now) }
     ensures err { OnErr result (out.new.items ≡ out.old.items) }
     ensures with_room { vec_len out.old + length units.now ≤ vec_capacity out.old → IsOk result }
+    ensures capacity { vec_capacity out.old ≤ vec_capacity out.new }
 {
     let before = out.len();
     let appended = push_break_ends(units, start, out);

@@ -1,8 +1,9 @@
 -- The places at which the breaks of a text end, and its lines by them.
-use Rattle.std.proofs.Common.{◌≡◌, ℕ, zero, suc, ◌+◌, ◌-◌, ◌<◌, ◌≤◌, ◌==◌, leb, Bool, cond, true, false, ◌&&◌, ◌||◌, if◌then◌else◌, List, [], ◌∷◌, ◌++◌, length, take, drop, get_or, map, sum_by, refl, ap, sym, ◌∙◌, add_assoc, zero-add, add-zero, arith}
+use Rattle.std.proofs.Common.{◌≡◌, ℕ, zero, suc, ◌+◌, ◌-◌, ◌<◌, ◌≤◌, ◌==◌, leb, Bool, cond, true, false, ◌&&◌, ◌||◌, if◌then◌else◌, List, [], ◌∷◌, ◌++◌, length, take, drop, get_or, map, sum_by, refl, ap, sym, ◌∙◌, add_assoc, zero-add, add-zero, inl, inr, arith}
 use Rattle.std.specs.List.{range_with_len, prefix_len}
-use Rattle.std.proofs.lemmas.Bool.{lt-leb, le-leb}
-use Rattle.std.proofs.lemmas.List.{same_lists, get_or_default}
+use Rattle.std.specs.List.Sorted.{IsNonDecreasingBy}
+use Rattle.std.proofs.lemmas.Bool.{lt-leb, le-leb, cases_lt}
+use Rattle.std.proofs.lemmas.List.{same_lists, get_or_default, length-take-le, get_or-take, get_or-drop}
 use Rattle.std.proofs.lemmas.List.Sums.{sum_by-cons}
 use Rattle.std.proofs.lemmas.List.FromFn.{length-map-range_with_len, get_or-map-range_with_len}
 use Rattle.text_rules.specs.Lines.{Line, lines_of, line_length, line_start, line_feed, carriage_return, begins_with, in_first_line, in_first_break}
@@ -98,7 +99,7 @@ joins_pair x y = ends_with carriage_return x && begins_with line_feed y
 one_more : (n : ℕ) → 1 + n ≡ suc n
 one_more n = omega arith
 
-and_false : (b : Bool) → (b && false) ≡ false
+pub and_false : (b : Bool) → (b && false) ≡ false
 and_false true = refl
 and_false false = refl
 
@@ -168,3 +169,89 @@ break_ends-take at (suc (suc n)) place (u ∷ []) e =
 break_ends-take at (suc (suc n)) place (u ∷ v ∷ after) e =
     take_more at place (ends_break u (v ∷ after)) (break_ends (at + 1) (take (suc n) (v ∷ after))) (break_ends (at + 1) (v ∷ after)) _ (omega arith)
     (break_ends-take (at + 1) (suc n) place (v ∷ after) (omega arith))
+
+-- places up to a second one, from the first one on
+pub count_to-drop : (first second : ℕ) (ends : List ℕ) → first ≤ second
+    → count_to first ends + count_to second (drop (count_to first ends) ends) ≡ count_to second ends
+count_to-drop first second [] h = refl
+count_to-drop first second (e ∷ ends) h =
+    elim (cases_lt first e) [
+      inl above ↦ rw (lt-leb e first above) (zero-add _)
+    | inr within ↦ rw (le-leb e first within, le-leb e second (omega arith), one_more) (omega (arith, count_to-drop first second ends h)) ]
+
+-- a place before a second one, among those up to the second one and a later tail
+pub count_to-take : (first second : ℕ) (ends tail : List ℕ) → first ≤ second → count_to first tail ≡ 0
+    → count_to first (take (count_to second ends) ends ++ tail) ≡ count_to first ends
+count_to-take first second [] tail h later = later
+count_to-take first second (e ∷ ends) tail h later =
+    elim (cases_lt second e) [
+      inl above ↦ rw (lt-leb e second above, lt-leb e first (omega arith)) later
+    | inr within ↦ rw (le-leb e second within, one_more)
+        (ap (λ n. cond (leb e first) (1 + n) 0) (count_to-take first second ends tail h later)) ]
+
+leb-moved : (by e place : ℕ) → leb (by + e) (by + place) ≡ leb e place
+leb-moved by e place =
+    elim (cases_lt place e) [
+      inl above ↦ lt-leb (by + e) (by + place) (omega arith) ∙ sym (lt-leb e place above)
+    | inr within ↦ le-leb (by + e) (by + place) (omega arith) ∙ sym (le-leb e place within) ]
+
+pub count_to-moved : (by place : ℕ) (ends : List ℕ) → count_to (by + place) (map (λ e. by + e) ends) ≡ count_to place ends
+count_to-moved by place [] = refl
+count_to-moved by place (e ∷ ends) = rw (leb-moved by e place, count_to-moved by place ends)
+
+above_cons : (at e : ℕ) (ends : List ℕ) → at < e → ((k d : ℕ) → k < length ends → at < get_or ends k d)
+    → (k d : ℕ) → k < length (e ∷ ends) → at < get_or (e ∷ ends) k d
+above_cons at e ends h later zero d inside = h
+above_cons at e ends h later (suc k) d inside = later k d (omega arith)
+
+-- every break ends after the text's start
+pub break_ends_above : (at place : ℕ) (x : List ℕ) → place ≤ at → (k d : ℕ) → k < length (break_ends at x) → place < get_or (break_ends at x) k d
+break_ends_above at place [] h = λ k d inside. absurd (omega arith)
+break_ends_above at place (u ∷ after) h =
+    elim (ends_break u after) as (λ b. (k d : ℕ) → k < length (cond b ((at + 1) ∷ break_ends (at + 1) after) (break_ends (at + 1) after)) → place < get_or (cond b ((at + 1) ∷ break_ends (at + 1) after) (break_ends (at + 1) after)) k d)
+    [ true ↦ above_cons place (at + 1) (break_ends (at + 1) after) (omega arith) (break_ends_above (at + 1) place after (omega arith))
+    | false ↦ break_ends_above (at + 1) place after (omega arith) ]
+
+ascend_cons : (e : ℕ) (ends : List ℕ) → ((k d : ℕ) → k < length ends → e < get_or ends k d) → IsNonDecreasingBy (λ n. n) ends → IsNonDecreasingBy (λ n. n) (e ∷ ends)
+ascend_cons e ends above rest zero zero d h inside = omega arith
+ascend_cons e ends above rest zero (suc j) d h inside = let later = above j d (omega arith) in omega arith
+ascend_cons e ends above rest (suc i) zero d h inside = absurd (omega arith)
+ascend_cons e ends above rest (suc i) (suc j) d h inside = rest i j d (omega arith) (omega arith)
+
+pub break_ends_ascend : (at : ℕ) (x : List ℕ) → IsNonDecreasingBy (λ e. e) (break_ends at x)
+break_ends_ascend at [] = λ i j d h inside. absurd (omega arith)
+break_ends_ascend at (u ∷ after) =
+    elim (ends_break u after) as (λ b. IsNonDecreasingBy (λ e. e) (cond b ((at + 1) ∷ break_ends (at + 1) after) (break_ends (at + 1) after)))
+    [ true ↦ ascend_cons (at + 1) (break_ends (at + 1) after) (break_ends_above (at + 1) (at + 1) after (omega arith)) (break_ends_ascend (at + 1) after)
+    | false ↦ break_ends_ascend (at + 1) after ]
+
+-- the last unit and the first one, by their places
+pub ends_with_last : (x : List ℕ) → ends_with carriage_return x ≡ (get_or x (length x - 1) 0 == carriage_return)
+ends_with_last [] = refl
+ends_with_last (u ∷ []) = refl
+ends_with_last (u ∷ v ∷ x) =
+    let last : suc (length (v ∷ x) - 1) ≡ length (u ∷ v ∷ x) - 1 = omega arith in
+    ends_with_last (v ∷ x) ∙ ap (λ n. get_or (u ∷ v ∷ x) n 0 == carriage_return) last
+
+pub begins_with_first : (x : List ℕ) → begins_with line_feed x ≡ (get_or x 0 0 == line_feed)
+begins_with_first [] = refl
+begins_with_first (u ∷ x) = refl
+
+-- a cut that lies in a CR LF
+pub joins_pair_at : (n : ℕ) (x : List ℕ) → 0 < n → n ≤ length x
+    → joins_pair (take n x) (drop n x) ≡ (get_or x (n - 1) 0 == carriage_return && get_or x n 0 == line_feed)
+joins_pair_at n x some inside =
+    rw (ends_with_last (take n x), begins_with_first (drop n x), length-take-le n x inside, get_or-take n x (n - 1) 0 (omega arith), get_or-drop n x 0 0, add-zero n)
+
+pub ends_with_push : (unit v : ℕ) (x : List ℕ) → ends_with unit (x ++ v ∷ []) ≡ (v == unit)
+ends_with_push unit v [] = refl
+ends_with_push unit v (u ∷ []) = refl
+ends_with_push unit v (u ∷ w ∷ x) = ends_with_push unit v (w ∷ x)
+
+-- a text has at most as many breaks as units
+pub break_ends_few : (at : ℕ) (x : List ℕ) → length (break_ends at x) ≤ length x
+break_ends_few at [] = omega arith
+break_ends_few at (u ∷ after) =
+    let few = break_ends_few (at + 1) after in
+    elim (ends_break u after) as (λ b. length (cond b ((at + 1) ∷ break_ends (at + 1) after) (break_ends (at + 1) after)) ≤ length (u ∷ after))
+    [ true ↦ omega arith | false ↦ omega arith ]
