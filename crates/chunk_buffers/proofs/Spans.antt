@@ -1,7 +1,7 @@
 -- Spans of buffers that grow.
-use Rattle.std.proofs.Common.{◌≡◌, ℕ, ◌+◌, ◌-◌, ◌<◌, ◌≤◌, ◌^◌, Bool, true, false, cond, List, [], ◌∷◌, ◌++◌, length, take, drop, set, get_or, map, sum_by, refl, ap, sym, subst, ◌∙◌, inl, inr, append_assoc, arith}
-use Rattle.std.proofs.lemmas.Bool.{cases_eq, cases_lt}
-use Rattle.std.proofs.lemmas.List.{length-append, length-map, map-set, get_or-map, length-set, length-take, length-take-le, length-drop, drop-drop, length_push, take_all, take_at, take-append-le, take-take, drop_at, drop-append-le, drop-take, get_or-set_same, get_or-set_other, get_or_append_left, get_or_at}
+use Rattle.std.proofs.Common.{◌≡◌, ℕ, ◌+◌, ◌-◌, ◌<◌, ◌≤◌, ◌^◌, Bool, true, false, cond, List, [], ◌∷◌, ◌++◌, length, take, drop, set, get_or, map, refl, ap, sym, subst, ◌∙◌, inl, inr, append_assoc, arith}
+use Rattle.std.proofs.lemmas.Bool.{cases_eq}
+use Rattle.std.proofs.lemmas.List.{length-append, length-map, map-set, get_or-map, length-set, length-take, length-take-le, length-drop, drop-drop, length_push, take_all, take_at, take-take, drop_at, drop-take, get_or-set_same, get_or-set_other, get_or_append_left}
 use Rattle.std.proofs.lemmas.List.Sums.{sum_by-set}
 use Rattle.text_rules.proofs.Breaks.{joins_pair}
 use Rattle.chunk_buffers.specs.Buffer.{Filled, padding, padded}

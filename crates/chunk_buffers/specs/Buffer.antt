@@ -1,5 +1,5 @@
 -- A buffer that texts are appended to.
-use Rattle.std.specs.Prelude.{ℕ, ◌+◌, ◌-◌, Bool, List, [], ◌∷◌, ◌++◌, length, take, drop, if◌then◌else◌, nat_le}
+use Rattle.std.specs.Prelude.{ℕ, ◌-◌, List, [], ◌∷◌, ◌++◌, take, drop, if◌then◌else◌, nat_le}
 use Rattle.std.specs.List.{prefix_len}
 use Rattle.line_starts.specs.Starts.{starts_of}
 use Rattle.text_rules.proofs.Breaks.{joins_pair}

@@ -1,4 +1,4 @@
-use Rattle.std.proofs.Common.{sym, rules}
+use Rattle.std.proofs.Common.{sym}
 use Rattle.text_rules.proofs.Breaks.{ends_with_last}
 use Rattle.chunk_buffers.proofs.buffer.ends_with_carriage_return.Goals as goal
 

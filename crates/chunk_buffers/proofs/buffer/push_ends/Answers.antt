@@ -1,4 +1,4 @@
-use Rattle.std.proofs.Common.{◌≡◌, ◌+◌, length, ap, sym, ◌∙◌, arith}
+use Rattle.std.proofs.Common.{length, ap, arith}
 use Rattle.std.proofs.lemmas.List.{length-append}
 use Rattle.line_starts.proofs.Starts.{break_ends_at_is}
 use Rattle.text_rules.proofs.Breaks.{break_ends_few}

@@ -1,4 +1,4 @@
-use Rattle.std.proofs.Common.{◌+◌, ◌≡◌, true, false, length, drop, arith, sym, ◌∙◌, ap}
+use Rattle.std.proofs.Common.{true, false, drop, arith, sym, ◌∙◌, ap}
 use Rattle.text_rules.proofs.Breaks.{joins_pair}
 use Rattle.chunk_buffers.specs.Buffer.{cut}
 use Rattle.chunk_buffers.proofs.Cuts.{counts_rise, break_count_if}

@@ -1,4 +1,4 @@
-use Rattle.std.proofs.Common.{◌+◌, ◌≤◌, arith}
+use Rattle.std.proofs.Common.{◌+◌, arith}
 use Rattle.chunk_buffers.proofs.Cuts.{counts_rise, breaks_to_of_cut}
 use Rattle.chunk_buffers.proofs.buffer.Buffer.breaks_to.Goals as goal
 

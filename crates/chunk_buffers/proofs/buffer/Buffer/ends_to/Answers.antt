@@ -1,5 +1,4 @@
-use Rattle.std.proofs.Common.{sym, ap}
-use Rattle.text_rules.proofs.Breaks.{break_ends_ascend, break_ends}
+use Rattle.text_rules.proofs.Breaks.{break_ends_ascend}
 use Rattle.chunk_buffers.proofs.buffer.Buffer.ends_to.Goals as goal
 
 pub ends_to-requires : goal.ends_to-requires

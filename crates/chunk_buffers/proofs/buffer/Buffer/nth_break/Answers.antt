@@ -1,4 +1,4 @@
-use Rattle.std.proofs.Common.{◌+◌, ◌-◌, ◌≡◌, ◌<◌, ◌≤◌, arith, ap, get_or, leb}
+use Rattle.std.proofs.Common.{◌+◌, ◌-◌, ◌≡◌, ◌<◌, arith, ap, get_or, leb}
 use Rattle.std.proofs.lemmas.List.Sums.{prefix_len-le-length}
 use Rattle.text_rules.specs.Lines.{line_start}
 use Rattle.text_rules.proofs.Breaks.{break_ends}

@@ -1,6 +1,4 @@
-use Rattle.std.proofs.Common.{sym, ap, ◌∙◌}
 use Rattle.line_starts.proofs.Starts.{break_ends_at_is}
-use Rattle.text_rules.proofs.Breaks.{break_ends}
 use Rattle.chunk_buffers.proofs.buffer.Buffer.of_text.Goals as goal
 
 pub invariant_of-result : goal.invariant_of-result

@@ -1,6 +1,5 @@
-use Rattle.std.proofs.Common.{◌≡◌, ◌+◌, ◌-◌, ◌<◌, ◌++◌, length, map, set, sym, ap, ◌∙◌, arith}
+use Rattle.std.proofs.Common.{◌≡◌, ◌+◌, ◌-◌, ◌<◌, ◌++◌, length, map, set, sym, ap, arith}
 use Rattle.std.proofs.lemmas.List.{length-append}
-use Rattle.chunk_buffers.specs.Chunks.{units_at, LiesIn, Extends, unit_count, last_room}
 use Rattle.chunk_buffers.proofs.Spans.{IsAppended, IsAppended-at, last_room_some}
 use Rattle.chunk_buffers.proofs.chunks.Chunks.append_joined.Goals as goal
 
