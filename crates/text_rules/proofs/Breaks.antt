@@ -176,8 +176,9 @@ pub count_to-drop : (first second : ℕ) (ends : List ℕ) → first ≤ second
 count_to-drop first second [] h = refl
 count_to-drop first second (e ∷ ends) h =
     elim (cases_lt first e) [
-      inl above ↦ rw (lt-leb e first above) (zero-add _)
-    | inr within ↦ rw (le-leb e first within, le-leb e second (omega arith), one_more) (omega (arith, count_to-drop first second ends h)) ]
+      | inl above ↦ rw (lt-leb e first above) (zero-add _)
+      | inr within ↦ rw (le-leb e first within, le-leb e second (omega arith), one_more) (omega (arith, count_to-drop first second ends h))
+    ]
 
 -- a place before a second one, among those up to the second one and a later tail
 pub count_to-take : (first second : ℕ) (ends tail : List ℕ) → first ≤ second → count_to first tail ≡ 0
@@ -185,15 +186,17 @@ pub count_to-take : (first second : ℕ) (ends tail : List ℕ) → first ≤ se
 count_to-take first second [] tail h later = later
 count_to-take first second (e ∷ ends) tail h later =
     elim (cases_lt second e) [
-      inl above ↦ rw (lt-leb e second above, lt-leb e first (omega arith)) later
-    | inr within ↦ rw (le-leb e second within, one_more)
-        (ap (λ n. cond (leb e first) (1 + n) 0) (count_to-take first second ends tail h later)) ]
+      | inl above ↦ rw (lt-leb e second above, lt-leb e first (omega arith)) later
+      | inr within ↦ rw (le-leb e second within, one_more)
+          (ap (λ n. cond (leb e first) (1 + n) 0) (count_to-take first second ends tail h later))
+    ]
 
 leb-moved : (by e place : ℕ) → leb (by + e) (by + place) ≡ leb e place
 leb-moved by e place =
     elim (cases_lt place e) [
-      inl above ↦ lt-leb (by + e) (by + place) (omega arith) ∙ sym (lt-leb e place above)
-    | inr within ↦ le-leb (by + e) (by + place) (omega arith) ∙ sym (le-leb e place within) ]
+      | inl above ↦ lt-leb (by + e) (by + place) (omega arith) ∙ sym (lt-leb e place above)
+      | inr within ↦ le-leb (by + e) (by + place) (omega arith) ∙ sym (le-leb e place within)
+    ]
 
 pub count_to-moved : (by place : ℕ) (ends : List ℕ) → count_to (by + place) (map (λ e. by + e) ends) ≡ count_to place ends
 count_to-moved by place [] = refl
@@ -208,9 +211,10 @@ above_cons at e ends h later (suc k) d inside = later k d (omega arith)
 pub break_ends_above : (at place : ℕ) (x : List ℕ) → place ≤ at → (k d : ℕ) → k < length (break_ends at x) → place < get_or (break_ends at x) k d
 break_ends_above at place [] h = λ k d inside. absurd (omega arith)
 break_ends_above at place (u ∷ after) h =
-    elim (ends_break u after) as (λ b. (k d : ℕ) → k < length (cond b ((at + 1) ∷ break_ends (at + 1) after) (break_ends (at + 1) after)) → place < get_or (cond b ((at + 1) ∷ break_ends (at + 1) after) (break_ends (at + 1) after)) k d)
-    [ true ↦ above_cons place (at + 1) (break_ends (at + 1) after) (omega arith) (break_ends_above (at + 1) place after (omega arith))
-    | false ↦ break_ends_above (at + 1) place after (omega arith) ]
+    elim (ends_break u after) as (λ b. (k d : ℕ) → k < length (cond b ((at + 1) ∷ break_ends (at + 1) after) (break_ends (at + 1) after)) → place < get_or (cond b ((at + 1) ∷ break_ends (at + 1) after) (break_ends (at + 1) after)) k d) [
+      | true ↦ above_cons place (at + 1) (break_ends (at + 1) after) (omega arith) (break_ends_above (at + 1) place after (omega arith))
+      | false ↦ break_ends_above (at + 1) place after (omega arith)
+    ]
 
 ascend_cons : (e : ℕ) (ends : List ℕ) → ((k d : ℕ) → k < length ends → e < get_or ends k d) → IsNonDecreasingBy (λ n. n) ends → IsNonDecreasingBy (λ n. n) (e ∷ ends)
 ascend_cons e ends above rest zero zero d h inside = omega arith
@@ -221,9 +225,10 @@ ascend_cons e ends above rest (suc i) (suc j) d h inside = rest i j d (omega ari
 pub break_ends_ascend : (at : ℕ) (x : List ℕ) → IsNonDecreasingBy (λ e. e) (break_ends at x)
 break_ends_ascend at [] = λ i j d h inside. absurd (omega arith)
 break_ends_ascend at (u ∷ after) =
-    elim (ends_break u after) as (λ b. IsNonDecreasingBy (λ e. e) (cond b ((at + 1) ∷ break_ends (at + 1) after) (break_ends (at + 1) after)))
-    [ true ↦ ascend_cons (at + 1) (break_ends (at + 1) after) (break_ends_above (at + 1) (at + 1) after (omega arith)) (break_ends_ascend (at + 1) after)
-    | false ↦ break_ends_ascend (at + 1) after ]
+    elim (ends_break u after) as (λ b. IsNonDecreasingBy (λ e. e) (cond b ((at + 1) ∷ break_ends (at + 1) after) (break_ends (at + 1) after))) [
+      | true ↦ ascend_cons (at + 1) (break_ends (at + 1) after) (break_ends_above (at + 1) (at + 1) after (omega arith)) (break_ends_ascend (at + 1) after)
+      | false ↦ break_ends_ascend (at + 1) after
+    ]
 
 -- the last unit and the first one, by their places
 pub ends_with_last : (x : List ℕ) → ends_with carriage_return x ≡ (get_or x (length x - 1) 0 == carriage_return)
