@@ -1,0 +1,5 @@
+pub mod Colours
+pub mod Memory
+pub mod Tree
+pub mod Weaving
+pub mod Woven
