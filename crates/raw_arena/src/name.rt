@@ -1,5 +1,5 @@
 //! The names of an arena's values.
-ghost use Rattle.std.specs.Prelude.{◌≡◌};
+ghost use Rattle.std.specs.Prelude.{◌≡◌, ◌==◌};
 
 use std::marker::Model;
 
@@ -20,6 +20,13 @@ impl Model for NodeId {
 }
 
 impl NodeId {
+    /// Whether the two names are one.
+    pub fn is(self, other: NodeId) -> bool
+        ensures { result ≡ (self == other) }
+    {
+        self.slot == other.slot
+    }
+
     pub(crate) fn new(slot: u64) -> NodeId
         ensures { result ≡ slot }
     {

@@ -1,6 +1,9 @@
 pub mod Balance
 pub mod Colouring
 pub mod Holes
+pub mod Live
 pub mod Memories
+pub mod Shapes
+pub mod Spots
 pub mod Turning
 pub mod Weaves

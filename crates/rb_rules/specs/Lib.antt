@@ -1,5 +1,6 @@
 pub mod Colours
 pub mod Memory
+pub mod Shape
 pub mod Tree
 pub mod Weaving
 pub mod Woven

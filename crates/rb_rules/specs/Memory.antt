@@ -1,11 +1,11 @@
 -- Which trees lie in a memory of slots.
-use Rattle.std.specs.Prelude.{◌≡◌, ℕ, ◌≤◌, Bool, Option, Some, None}
+use Rattle.std.specs.Prelude.{cond, ◌==◌, ◌≡◌, ℕ, ◌≤◌, Bool, Option, Some, None}
 use Rattle.std.specs.Ordering.{nat_cmp}
 use Rattle.std.specs.FinMap as map
 use Rattle.rb_rules.specs.declared.slot.Side.{Side}
 use Rattle.rb_rules.specs.declared.slot.Side.TheVariants.{Left, Right}
 use Rattle.rb_rules.specs.declared.slot.Slot.{Slot}
-use Rattle.rb_rules.specs.Tree.{Tree, tip, fork, Hole, top, on, root_of, above, count}
+use Rattle.rb_rules.specs.Tree.{plug, Tree, tip, fork, Hole, top, on, root_of, above, count}
 
 module _ {D : Type 0} where
   -- a slot with x on that side and y on the other
@@ -36,6 +36,10 @@ module _ {D : Type 0} where
   child Left s = s.left
   child Right s = s.right
 
+  -- the side of a child: left where the left link has its name
+  abbrev pub side_by_name : Slot D → ℕ → Side
+  side_by_name s i = elim s.left [ None ↦ Right | Some l ↦ cond (l == i) Left Right ]
+
   abbrev pub with_child : Side → Option ℕ → Slot D → Slot D
   with_child Left o s = record s { left = o }
   with_child Right o s = record s { right = o }
@@ -63,3 +67,34 @@ module _ {D : Type 0} where
 abbrev pub root_hung : Option ℕ → Option (ℕ × Side) → Option ℕ → Option ℕ
 root_hung root None o = o
 root_hung root (Some at) o = root
+
+-- a node of a tree, by what stands round it and below it
+pub record Spot (D : Type 0) : Type 0 where
+  pub hole : Hole D
+  pub red : Bool
+  pub datum : D
+  pub left : Tree D
+  pub right : Tree D
+
+module _ {D : Type 0} where
+  abbrev pub here : Spot D → ℕ → Tree D
+  here s i = fork s.red i s.datum s.left s.right
+
+  abbrev pub below : Side → Spot D → Tree D
+  below Left s = s.left
+  below Right s = s.right
+
+  module _ (m : map.FinMap nat_cmp (Slot D)) (root : Option ℕ) (i : ℕ) where
+    -- the name is that of a node of the tree that lies in the memory
+    abbrev pub Stands : Type 0
+    Stands = (s : Spot D) × Made m root (plug s.hole (here s i))
+
+    -- wherever it stands, this holds
+    abbrev pub AtSpot : (Spot D → Type 0) → Type 0
+    AtSpot P = (s : Spot D) → Made m root (plug s.hole (here s i)) → P s
+
+  -- A turn: the child on that side comes to stand above the node. Colours keep their places.
+  abbrev pub turned : Side → D → D → Tree D → Tree D
+  turned Left low high (fork a n dn (fork b c dc out mid) far) = fork a c high out (fork b n low mid far)
+  turned Right low high (fork a n dn far (fork b c dc mid out)) = fork a c high (fork b n low far mid) out
+  turned s low high t = t

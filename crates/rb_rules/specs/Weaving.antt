@@ -45,3 +45,22 @@ module _ {X S B : Type 0} (w : Weaving X S B) where
   abbrev pub raised : Side → Data X S B → Data X S B → S → S → Data X S B
   raised Left n c mid far = record { item = c.item; delta = c.delta; before = c.before; whole = n.whole }
   raised Right n c mid far = record { item = w.shift n.delta c.item; delta = w.plus n.delta c.delta; before = (lowered Right n c mid far).whole; whole = n.whole }
+
+module _ {X S B : Type 0} (w : Weaving X S B) (is_near : B → Type 0) where
+  -- A tree keeps numbers relative to a path. What is computed of them is the relative form of a value: some shift that a path may
+  -- have makes a value of it.
+  abbrev pub HeldItem : (X → Type 0) → X → Type 0
+  HeldItem is_item x = (acc : B) × is_near acc × is_item (w.shift acc x)
+
+  abbrev pub HeldSum : (S → Type 0) → (S → Type 0) → S → Type 0
+  HeldSum is_sum is_value s = (acc : B) × is_near acc × is_sum (w.shift_sum acc s) × is_value (w.shift_sum acc s)
+
+  -- a shift between two that a path may have
+  abbrev pub HeldBy : B → Type 0
+  HeldBy b = (acc : B) × is_near acc × is_near (w.plus acc b)
+
+-- what sums of items always meet
+pub record Sums {X S B : Type 0} (w : Weaving X S B) (is_item : X → Type 0) (is_sum : S → Type 0) : Type 0 where
+  pub of_none : is_sum w.none
+  pub of_one : (x : X) → is_item x → is_sum (w.one x)
+  pub of_join : (a b : S) → is_sum a → is_sum b → is_sum (w.join a b)

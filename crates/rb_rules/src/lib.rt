@@ -5,4 +5,4 @@ mod slot;
 mod weave;
 
 pub use slot::{Data, Side, Slot};
-pub use weave::Weave;
+pub use weave::{Turn, Weave};

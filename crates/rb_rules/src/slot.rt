@@ -1,4 +1,6 @@
 //! A node of a tree.
+ghost use Rattle.std.specs.Prelude.{◌≡◌};
+
 use raw_arena::NodeId;
 
 /// One of the two sides of a node.
@@ -26,4 +28,86 @@ pub struct Slot<D> {
     pub right: Option<NodeId>,
     pub red: bool,
     pub data: D,
+}
+
+impl Side {
+    ghost use Rattle.rb_rules.specs.Tree.{other};
+
+    pub fn other(self) -> Side
+        ensures { result ≡ other self }
+    {
+        match self {
+            Side::Left => Side::Right,
+            Side::Right => Side::Left,
+        }
+    }
+}
+
+impl<D: Copy> Slot<D> {
+    ghost use Rattle.rb_rules.specs.Memory.{child, with_child, sided, side_by_name};
+
+    /// The node on that side.
+    pub fn child(&self, side: Side) -> Option<NodeId>
+        ensures { result ≡ child side self.now }
+    {
+        match side {
+            Side::Left => self.left,
+            Side::Right => self.right,
+        }
+    }
+
+    /// The side of the child of that name.
+    pub fn side_of(&self, id: NodeId) -> Side
+        ensures { result ≡ side_by_name self.now id }
+    {
+        match self.left {
+            Some(left) if left.is(id) => Side::Left,
+            _ => Side::Right,
+        }
+    }
+
+    /// The same with another node on that side.
+    pub fn with_child(&self, side: Side, child: Option<NodeId>) -> Slot<D>
+        ensures { result ≡ with_child side child self.now }
+    {
+        match side {
+            Side::Left => Slot {
+                left: child,
+                ..*self
+            },
+            Side::Right => Slot {
+                right: child,
+                ..*self
+            },
+        }
+    }
+
+    /// A node with `near` on that side and `far` on the other.
+    pub fn sided(
+        side: Side,
+        parent: Option<NodeId>,
+        near: Option<NodeId>,
+        far: Option<NodeId>,
+        red: bool,
+        datum: D,
+    ) -> Slot<D>
+        ensures { result ≡ sided side parent near far red datum }
+    {
+        match side {
+            Side::Left => Slot {
+                parent,
+                left: near,
+                right: far,
+                red,
+                data: datum,
+            },
+            Side::Right => Slot {
+                parent,
+                left: far,
+                right: near,
+                red,
+                data: datum,
+            },
+        }
+    }
 }

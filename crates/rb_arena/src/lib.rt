@@ -1,0 +1,4 @@
+//! A red-black tree over any weave.
+#![tactic(auto)]
+
+mod links;
