@@ -1,6 +1,8 @@
 pub mod Balance
 pub mod Colouring
+pub mod Held
 pub mod Holes
+pub mod Knots
 pub mod Live
 pub mod Memories
 pub mod Shapes

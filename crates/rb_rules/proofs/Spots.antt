@@ -9,6 +9,9 @@ use Rattle.rb_rules.specs.declared.slot.Side.TheVariants.{Left, Right}
 use Rattle.rb_rules.specs.declared.slot.Slot.{Slot}
 use Rattle.rb_rules.specs.Tree.{Tree, tip, fork, Hole, other, forked, plug, root_of, above}
 use Rattle.rb_rules.specs.Memory.{sided, Makes, Made, child, place_of, adopted, hung, root_hung, Spot, here, below, turned}
+use Rattle.rb_rules.specs.declared.slot.Data.{Data}
+use Rattle.rb_rules.specs.Weaving.{Weaving}
+use Rattle.rb_rules.specs.Woven.{whole_in, whole_at}
 use Rattle.rb_rules.proofs.Memories.{opened, of_forked}
 use Rattle.rb_rules.proofs.Live.{Live, forks_on, here_forked, live_root, live_place}
 use Rattle.rb_rules.proofs.Turning as T
@@ -27,7 +30,7 @@ module _ {D : Type 0} (m : map.FinMap nat_cmp (Slot D)) (root : Option ℕ) wher
     pub at_place : IfSome (place_of sp.hole) (λ at. Live m at.0)
     at_place = live_place m root sp.hole _ (opened m root sp.hole (here sp i) h.from h.nodes).0
 
-    makes_below : (s : Side) → Makes m (Some i) (below s sp)
+    pub makes_below : (s : Side) → Makes m (Some i) (below s sp)
     makes_below Left = (opened m root sp.hole (here sp i) h.from h.nodes).1.1
     makes_below Right = (opened m root sp.hole (here sp i) h.from h.nodes).1.2
 
@@ -70,3 +73,8 @@ module _ {D : Type 0} (m : map.FinMap nat_cmp (Slot D)) (root : Option ℕ) wher
         subst (λ n_. P n_ l sp.right) (sym up) (subst (λ l_. P (sided Right (above sp.hole) (root_of sp.right) (root_of sp.left) sp.red sp.datum) l_ sp.right) (sym low_is)
         (subst (λ t. P (sided Right (above sp.hole) (root_of t) (root_of sp.left) sp.red sp.datum) (sided Right (Some i) (root_of x) (root_of y) b d) t) (sym is)
         (T.turned m root sp.hole Right sp.red b i j sp.datum d low high x y sp.left whole)))
+
+module _ {X S B : Type 0} (w : Weaving X S B) (m : map.FinMap nat_cmp (Slot (Data X S B))) where
+  pub whole_in_is : (p : Option ℕ) (t : Tree (Data X S B)) → Makes m p t → whole_in w m (root_of t) ≡ whole_at w t
+  whole_in_is p tip h = refl
+  whole_in_is p (fork c i d x y) (e, a, b) = ap (λ o. elim o [ None ↦ w.none | Some s ↦ s.«data».whole ]) e

@@ -64,3 +64,19 @@ pub record Sums {X S B : Type 0} (w : Weaving X S B) (is_item : X → Type 0) (i
   pub of_none : is_sum w.none
   pub of_one : (x : X) → is_item x → is_sum (w.one x)
   pub of_join : (a b : S) → is_sum a → is_sum b → is_sum (w.join a b)
+
+module _ {X S B : Type 0} (w : Weaving X S B) (is_near : B → Type 0) (is_item : X → Type 0) (is_sum is_value : S → Type 0) where
+  -- each number on the way to `summed` is the relative form of a value
+  abbrev pub CanSum : X → B → S → Type 0
+  CanSum item delta r = HeldSum w is_near is_sum is_value (w.shift_sum delta r) × HeldSum w is_near is_sum is_value (w.join (w.one item) (w.shift_sum delta r))
+
+  abbrev pub CanSumUp : X → B → S → S → Type 0
+  CanSumUp item delta l r = CanSum item delta r × HeldSum w is_near is_sum is_value (w.join l (w.join (w.one item) (w.shift_sum delta r)))
+
+  -- and to `lowered` and `raised`
+  abbrev pub CanTurn : Side → Data X S B → Data X S B → S → S → Type 0
+  CanTurn Left n c mid far =
+      HeldBy w is_near (w.minus w.still c.delta) × HeldItem w is_near is_item (w.shift (w.minus w.still c.delta) n.item) × HeldBy w is_near (w.minus n.delta c.delta)
+      × CanSumUp (w.shift (w.minus w.still c.delta) n.item) (w.minus n.delta c.delta) mid far
+  CanTurn Right n c mid far =
+      CanSumUp n.item n.delta far mid × HeldItem w is_near is_item (w.shift n.delta c.item) × HeldBy w is_near (w.plus n.delta c.delta)

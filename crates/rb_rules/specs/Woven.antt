@@ -1,5 +1,8 @@
 -- The items of a tree in order, with the shifts of the path applied, and that its nodes keep the right sums.
-use Rattle.std.specs.Prelude.{◌≡◌, ℕ, List, [], ◌∷◌, ◌++◌}
+use Rattle.std.specs.Ordering.{nat_cmp}
+use Rattle.std.specs.FinMap as map
+use Rattle.rb_rules.specs.declared.slot.Slot.{Slot}
+use Rattle.std.specs.Prelude.{Option, Some, None, ◌≡◌, ℕ, List, [], ◌∷◌, ◌++◌}
 use Rattle.rb_rules.specs.declared.slot.Data.{Data}
 use Rattle.rb_rules.specs.declared.slot.Side.TheVariants.{Left, Right}
 use Rattle.rb_rules.specs.Tree.{Tree, tip, fork, Hole, top, on}
@@ -45,3 +48,16 @@ module _ {X S B : Type 0} (w : Weaving X S B) where
   rights top = []
   rights (on Left c i d x k) = ((i, w.shift (shift_at k) d.item) ∷ entries (w.plus (shift_at k) d.delta) x) ++ rights k
   rights (on Right c i d x k) = rights k
+
+  -- each item is a value, and so is their sum
+  abbrev pub AllItems : (X → Type 0) → List (ℕ × X) → Type 0
+  AllItems is_item [] = Unit {0}
+  AllItems is_item (e ∷ es) = is_item e.1 × AllItems is_item es
+
+  abbrev pub Valued : (X → Type 0) → (S → Type 0) → List (ℕ × X) → Type 0
+  Valued is_item is_value es = AllItems is_item es × is_value (sum_of es)
+
+  -- the sum that the topmost node of that name keeps
+  abbrev pub whole_in : map.FinMap nat_cmp (Slot (Data X S B)) → Option ℕ → S
+  whole_in m None = w.none
+  whole_in m (Some i) = elim (map.get m i) [ None ↦ w.none | Some s ↦ s.«data».whole ]
