@@ -1,5 +1,6 @@
 //! A red-black tree over any weave.
 #![tactic(auto)]
 
+mod climb;
 mod links;
 mod sums;

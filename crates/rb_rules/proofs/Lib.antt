@@ -1,4 +1,5 @@
 pub mod Balance
+pub mod Climbs
 pub mod Colouring
 pub mod Held
 pub mod Holes

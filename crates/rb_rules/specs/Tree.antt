@@ -55,3 +55,8 @@ module _ {D : Type 0} where
   abbrev pub height : Tree D → ℕ
   height tip = 0
   height (fork c i d x y) = 1 + max (height x) (height y)
+
+  -- how many nodes stand above the hole
+  abbrev pub depth : Hole D → ℕ
+  depth top = 0
+  depth (on s c i d x k) = 1 + depth k
