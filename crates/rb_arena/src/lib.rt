@@ -3,4 +3,5 @@
 
 mod climb;
 mod links;
+mod mend;
 mod sums;

@@ -9,4 +9,5 @@ pub mod Memories
 pub mod Shapes
 pub mod Spots
 pub mod Turning
+pub mod Ups
 pub mod Weaves
