@@ -1,9 +1,10 @@
 //! After an insertion: the new node is red, and its parent may be red too.
-ghost use Rattle.std.specs.Prelude.{◌≡◌, ℕ, List, Some, None};
+ghost use Rattle.std.specs.Prelude.{◌≡◌, ℕ, ◌-◌, List};
 ghost use Rattle.std.specs.FinMap as map;
 ghost use Rattle.rb_rules.specs.Tree.{fork, plug};
 ghost use Rattle.rb_rules.specs.Memory.{Made, AtSpot, Stands};
 ghost use Rattle.rb_rules.specs.Woven.{Valued};
+ghost use Rattle.rb_arena.specs.Rising.{Mended, Rising, Risen};
 ghost use Rattle.rb_arena.specs.Mending.{case_of, bent, HasChild, red_child_in};
 
 use crate::climb::LONGEST;
@@ -84,5 +85,52 @@ fn find_case<D: Copy>(tree: &Links<D>, id: NodeId) -> Case
     match red_child(&tree.nodes, above.0, above.1.other()) {
         Some(uncle) => Case::RedUncle(at.0, uncle, above.0),
         None => bend(at.1, above.1, at.0, above.0),
+    }
+}
+
+/// Mends one step: `None` where nothing is left to mend, and else the node that is red now.
+fn step<W: Weave>(tree: &mut Links<Data<W::Item, W::Sum, W::By>>, id: NodeId) -> Option<NodeId>
+    requires { (es : List (ℕ × W.Item)) × ((n : ℕ) × Rising W.weaving W.is_near tree.old.nodes.live tree.old.root es id n × Valued W.weaving W.is_item W.is_value es) }
+    ensures risen { (es : List (ℕ × W.Item)) (n : ℕ) → Rising W.weaving W.is_near tree.old.nodes.live tree.old.root es id n → Valued W.weaving W.is_item W.is_value es → Risen W.weaving W.is_near tree.new.nodes.live tree.new.root es result (n - 1) }
+    ensures spare { tree.new.nodes.spare ≡ tree.old.nodes.spare }
+    ensures as_many { map.len tree.new.nodes.live ≡ map.len tree.old.nodes.live }
+{
+    match find_case(tree, id) {
+        Case::Settled => None,
+        Case::RedRoot(parent) => {
+            paint(tree, parent, false);
+            None
+        }
+        Case::RedUncle(parent, uncle, grand) => {
+            paint(tree, parent, false);
+            paint(tree, uncle, false);
+            paint(tree, grand, true);
+            Some(grand)
+        }
+        Case::Outer(grand, side) => {
+            turn_node::<W>(tree, grand, side);
+            None
+        }
+        Case::Inner(parent, side, grand) => {
+            turn_node::<W>(tree, parent, side);
+            turn_node::<W>(tree, grand, side.other());
+            None
+        }
+    }
+}
+
+/// Makes the tree red-black again after a red leaf has come.
+pub(crate) fn mend<W: Weave>(tree: &mut Links<Data<W::Item, W::Sum, W::By>>, id: NodeId)
+    requires { (es : List (ℕ × W.Item)) × Rising W.weaving W.is_near tree.old.nodes.live tree.old.root es id 128 × Valued W.weaving W.is_item W.is_value es }
+    ensures mended { (es : List (ℕ × W.Item)) → Rising W.weaving W.is_near tree.old.nodes.live tree.old.root es id 128 → Valued W.weaving W.is_item W.is_value es → Mended W.weaving W.is_near tree.new.nodes.live tree.new.root es }
+    ensures spare { tree.new.nodes.spare ≡ tree.old.nodes.spare }
+    ensures as_many { map.len tree.new.nodes.live ≡ map.len tree.old.nodes.live }
+{
+    let mut at = Some(id);
+    for _turn in 0..LONGEST {
+        let Some(red) = at else {
+            return;
+        };
+        at = step::<W>(tree, red);
     }
 }
