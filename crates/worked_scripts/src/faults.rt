@@ -1,0 +1,114 @@
+//! Scripts under reads and writes that fail or come short.
+
+use crate::runs::{Stream, expect_run};
+use model_core::Model;
+use script_runner::{Served, serve};
+use script_streams::{SureSink, SureSource, Turn};
+use std::test::Fail;
+
+const SIZE: &[u8] = b"{\"cmd\":\"size\"}\n";
+
+const SIZES: &[u8] = b"{\"cmd\":\"size\"}\n{\"cmd\":\"size\"}\n{\"cmd\":\"size\"}\n";
+
+const ONE_REPLY: &[u8] = b"ok 0 1\n";
+
+const THREE_REPLIES: &[u8] = b"ok 0 1\nok 0 1\nok 0 1\n";
+
+const ALL: Stream<'static> = Stream {
+    each: 65_536,
+    plan: &[],
+};
+
+#[test]
+fn byte_by_byte(rt: HostRuntime) -> Result<(), Fail> {
+    let one = Stream { each: 1, plan: &[] };
+    expect_run(&rt, SIZES, one, one, THREE_REPLIES, 0)?;
+    Ok(())
+}
+
+#[test]
+fn reads_that_fail(rt: HostRuntime) -> Result<(), Fail> {
+    let at_once = Stream {
+        each: 65_536,
+        plan: &[Turn::Fails { call: 1 }],
+    };
+    expect_run(&rt, SIZES, at_once, ALL, b"", 4)?;
+
+    let after_a_line = Stream {
+        each: 15,
+        plan: &[Turn::Fails { call: 2 }],
+    };
+    expect_run(&rt, SIZES, after_a_line, ALL, ONE_REPLY, 4)?;
+
+    // The second line lacks its LF, and the end was not seen.
+    let inside_a_line = Stream {
+        each: 29,
+        plan: &[Turn::Fails { call: 2 }],
+    };
+    expect_run(&rt, SIZES, inside_a_line, ALL, ONE_REPLY, 4)?;
+    expect_run(&rt, b"{\"cmd\":\"edit\"", inside_a_line, ALL, b"", 4)?;
+    Ok(())
+}
+
+#[test]
+fn a_last_line_without_its_break(rt: HostRuntime) -> Result<(), Fail> {
+    expect_run(&rt, &SIZES[..29], ALL, ALL, b"ok 0 1\nok 0 1\n", 0)?;
+    expect_run(&rt, b"{\"cmd\":\"edit\"", ALL, ALL, b"! syntax\n", 1)?;
+    expect_run(&rt, SIZE, ALL, ALL, ONE_REPLY, 0)?;
+    Ok(())
+}
+
+#[test]
+fn writes_that_fail(rt: HostRuntime) -> Result<(), Fail> {
+    let at_once = Stream {
+        each: 65_536,
+        plan: &[Turn::Fails { call: 1 }],
+    };
+    expect_run(&rt, SIZES, ALL, at_once, b"", 5)?;
+
+    let inside_a_reply = Stream {
+        each: 65_536,
+        plan: &[Turn::Short { call: 1, most: 3 }, Turn::Fails { call: 2 }],
+    };
+    expect_run(&rt, SIZES, ALL, inside_a_reply, b"ok ", 5)?;
+
+    let takes_nothing = Stream {
+        each: 65_536,
+        plan: &[Turn::Short { call: 2, most: 0 }],
+    };
+    expect_run(&rt, SIZES, ALL, takes_nothing, ONE_REPLY, 5)?;
+
+    let second = Stream {
+        each: 65_536,
+        plan: &[Turn::Fails { call: 2 }],
+    };
+    expect_run(&rt, SIZES, ALL, second, ONE_REPLY, 5)?;
+    Ok(())
+}
+
+#[test]
+fn a_budget_of_bytes(rt: HostRuntime) -> Result<(), Fail> {
+    let cases: [(u64, &[u8], Served); 4] = [
+        (0, b"", Served::TooLong),
+        (10, b"", Served::TooLong),
+        (15, ONE_REPLY, Served::TooLong),
+        (
+            16,
+            ONE_REPLY,
+            Served::Ended {
+                refused: 0,
+                memory: 0,
+            },
+        ),
+    ];
+    for (most, written, ended) in cases {
+        let mut model = Model::new(rt.alloc());
+        let mut src = SureSource::new(rt.alloc(), SIZE, 7)?;
+        let mut out = SureSink::new(rt.alloc(), 64, 7)?;
+        let mut buf = [0; 8];
+        let served = serve(rt.alloc(), &mut model, &mut src, &mut out, &mut buf, most);
+        assert_eq!(rt; served, ended, "with {most} bytes");
+        assert_eq!(rt; out.bytes(), Some(written), "with {most} bytes");
+    }
+    Ok(())
+}

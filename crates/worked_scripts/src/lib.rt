@@ -1,0 +1,9 @@
+//! Worked scripts with their replies, run through the program's call, under faults and cuts too.
+#![tactic(auto)]
+
+#[cfg(test)]
+mod faults;
+#[cfg(test)]
+mod runs;
+#[cfg(test)]
+mod scripts;

@@ -1,0 +1,42 @@
+//! Runs of the program over memory.
+ghost use Rattle.std.specs.Prelude.{◌<◌, All};
+ghost use Rattle.script_streams.specs.Plan.{GivesSomething};
+
+use script_runner::run_words;
+use script_streams::{MemSink, MemSource, SureSink, Turn};
+use std::alloc::AllocError;
+use std::process::Abort;
+
+/// How a stream in memory behaves.
+#[derive(Clone, Copy)]
+pub struct Stream<'a> {
+    /// The most bytes that one call gives or takes.
+    pub each: usize,
+    pub plan: &'a [Turn],
+}
+
+/// Runs the words `run` over the script, and expects what is written and the status.
+pub fn expect_run<R: AllocGlobal + Abort>(
+    rt: &R,
+    script: &[u8],
+    source: Stream<'_>,
+    sink: Stream<'_>,
+    written: &[u8],
+    status: u8,
+) -> Result<(), AllocError>
+    requires source_each { 0 < source.each }
+    requires sink_each { 0 < sink.each }
+    requires plan { All GivesSomething source.plan.now }
+{
+    let alloc = rt.alloc();
+    let mut words = Vec::new(alloc);
+    words.push(String::from_str(alloc, "run")?)?;
+    let mut src = MemSource::new(alloc, script, source.each, source.plan)?;
+    let mut out = MemSink::new(alloc, 4096, sink.each, sink.plan)?;
+    let mut err = SureSink::new(alloc, 4096, 1)?;
+    let ended = run_words(alloc, words.as_slice(), &mut src, &mut out, &mut err);
+    assert_eq!(rt; out.bytes(), Some(written));
+    assert_eq!(rt; ended, status);
+    assert_eq!(rt; err.bytes(), Some(b"".as_slice()));
+    Ok(())
+}
