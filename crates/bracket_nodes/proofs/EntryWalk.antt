@@ -63,9 +63,9 @@ none_later from to q level (pair k o i c) h =
     let start_later : to < start.lines = omega arith in
     let ends_later : to < ends.lines = omega arith in
     opening_none from to q o k level (closing_spot ends c) _ (later_lines from to q.lines h)
-        (NoneIn-append from to (tree_entries start (suc level) i) (closing_entries ends k level c (spot q o))
-            (none_later from to start (suc level) i start_later)
-            (closing_none from to ends k level c (spot q o) (later_lines from to ends.lines ends_later)))
+    (NoneIn-append from to (tree_entries start (suc level) i) (closing_entries ends k level c (spot q o))
+    (none_later from to start (suc level) i start_later)
+    (closing_none from to ends k level c (spot q o) (later_lines from to ends.lines ends_later)))
 none_later from to q level (stray k w) h = (later_lines from to q.lines h, tt)
 none_later from to q level (capped k w) h = tt
 none_later from to q level nothing h = tt
@@ -79,7 +79,7 @@ none_later from to q level (three a b c) h =
     let r_later : to < r.lines = omega arith in
     let s_later : to < s.lines = omega arith in
     NoneIn-append from to (tree_entries q level a) (tree_entries r level b ++ tree_entries s level c) (none_later from to q level a h)
-        (NoneIn-append from to (tree_entries r level b) (tree_entries s level c) (none_later from to r level b r_later) (none_later from to s level c s_later))
+    (NoneIn-append from to (tree_entries r level b) (tree_entries s level c) (none_later from to r level b r_later) (none_later from to s level c s_later))
 
 none_earlier : (from to : ℕ) (q : Length) (level : ℕ) (t : Tree) → q.lines + (tree_length t).lines < from → NoneIn from to (tree_entries q level t)
 unfolding NoneIn
@@ -91,9 +91,9 @@ none_earlier from to q level (pair k o i c) h =
     let inside : start.lines + (tree_length i).lines < from = omega arith in
     let ends_earlier : ends.lines < from = omega arith in
     opening_none from to q o k level (closing_spot ends c) _ (earlier_lines from to q.lines here)
-        (NoneIn-append from to (tree_entries start (suc level) i) (closing_entries ends k level c (spot q o))
-            (none_earlier from to start (suc level) i inside)
-            (closing_none from to ends k level c (spot q o) (earlier_lines from to ends.lines ends_earlier)))
+    (NoneIn-append from to (tree_entries start (suc level) i) (closing_entries ends k level c (spot q o))
+    (none_earlier from to start (suc level) i inside)
+    (closing_none from to ends k level c (spot q o) (earlier_lines from to ends.lines ends_earlier)))
 none_earlier from to q level (stray k w) h = let here : q.lines < from = omega arith in (earlier_lines from to q.lines here, tt)
 none_earlier from to q level (capped k w) h = tt
 none_earlier from to q level nothing h = tt
@@ -109,7 +109,7 @@ none_earlier from to q level (three a b c) h =
     let second : r.lines + (tree_length b).lines < from = omega arith in
     let third : s.lines + (tree_length c).lines < from = omega arith in
     NoneIn-append from to (tree_entries q level a) (tree_entries r level b ++ tree_entries s level c) (none_earlier from to q level a first)
-        (NoneIn-append from to (tree_entries r level b) (tree_entries s level c) (none_earlier from to r level b second) (none_earlier from to s level c third))
+    (NoneIn-append from to (tree_entries r level b) (tree_entries s level c) (none_earlier from to r level b second) (none_earlier from to s level c third))
 
 -- ---- what a walk appends
 
@@ -125,15 +125,15 @@ chosen_earlier from to q level t items h =
 
 pub chosen_of_two : (from to : ℕ) (q : Length) (level : ℕ) (a b : Tree) (items : List Entry)
     → items ++ chosen from to (tree_entries q level (two a b))
-        ≡ (items ++ chosen from to (tree_entries q level a)) ++ chosen from to (tree_entries (length_plus q (tree_length a)) level b)
+    ≡ (items ++ chosen from to (tree_entries q level a)) ++ chosen from to (tree_entries (length_plus q (tree_length a)) level b)
 chosen_of_two from to q level a b items =
     ap (λ (x : List Entry). items ++ x) (chosen-append from to (tree_entries q level a) (tree_entries (length_plus q (tree_length a)) level b))
     ∙ sym (append_assoc items (chosen from to (tree_entries q level a)) (chosen from to (tree_entries (length_plus q (tree_length a)) level b)))
 
 pub chosen_of_three : (from to : ℕ) (q : Length) (level : ℕ) (a b c : Tree) (items : List Entry)
     → items ++ chosen from to (tree_entries q level (three a b c))
-        ≡ ((items ++ chosen from to (tree_entries q level a)) ++ chosen from to (tree_entries (length_plus q (tree_length a)) level b))
-            ++ chosen from to (tree_entries (length_plus (length_plus q (tree_length a)) (tree_length b)) level c)
+    ≡ ((items ++ chosen from to (tree_entries q level a)) ++ chosen from to (tree_entries (length_plus q (tree_length a)) level b))
+    ++ chosen from to (tree_entries (length_plus (length_plus q (tree_length a)) (tree_length b)) level c)
 chosen_of_three from to q level a b c items =
     chosen_of_two from to q level a (two b c) items
     ∙ chosen_of_two from to (length_plus q (tree_length a)) level b c (items ++ chosen from to (tree_entries q level a))
@@ -147,18 +147,18 @@ one_chosen from to j js = either (is_between from to j.entry)
 
 pub chosen_of_pair : (from to : ℕ) (q : Length) (level k o : ℕ) (i : Tree) (c : Option ℕ) (items : List Entry)
     → items ++ chosen from to (tree_entries q level (pair k o i c))
-        ≡ ((items ++ chosen from to (judged_opening (bracket q o k true) level (closing_spot (inside_end q o i) c) ∷ []))
-            ++ chosen from to (tree_entries (inside_start q o) (level + 1) i))
-            ++ chosen from to (closing_entries (inside_end q o i) k level c (spot q o))
+    ≡ ((items ++ chosen from to (judged_opening (bracket q o k true) level (closing_spot (inside_end q o i) c) ∷ []))
+    ++ chosen from to (tree_entries (inside_start q o) (level + 1) i))
+    ++ chosen from to (closing_entries (inside_end q o i) k level c (spot q o))
 chosen_of_pair from to q level k o i c items =
     let first : List Judged = judged_opening (bracket q o k true) level (closing_spot (inside_end q o i) c) ∷ [] in
     let inside : List Judged = tree_entries (inside_start q o) (suc level) i in
     let last : List Judged = closing_entries (inside_end q o i) k level c (spot q o) in
     rw (add-one level)
-        (ap (λ (x : List Entry). items ++ x) (chosen-append from to first (inside ++ last)
-            ∙ ap (λ (x : List Entry). chosen from to first ++ x) (chosen-append from to inside last))
-        ∙ sym (append_assoc items (chosen from to first) (chosen from to inside ++ chosen from to last))
-        ∙ sym (append_assoc (items ++ chosen from to first) (chosen from to inside) (chosen from to last)))
+    (ap (λ (x : List Entry). items ++ x) (chosen-append from to first (inside ++ last)
+    ∙ ap (λ (x : List Entry). chosen from to first ++ x) (chosen-append from to inside last))
+    ∙ sym (append_assoc items (chosen from to first) (chosen from to inside ++ chosen from to last))
+    ∙ sym (append_assoc (items ++ chosen from to first) (chosen from to inside) (chosen from to last)))
 
 -- what was there stays in front, through one more append
 pub kept_through : (old more new : List Entry) → take (length (old ++ more)) new ≡ old ++ more → take (length old) new ≡ old

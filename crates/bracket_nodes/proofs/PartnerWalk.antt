@@ -87,9 +87,9 @@ none_before p q level (pair k o i c) h =
     let later_start = before_plus p q (wide o) h in
     let later_end = before_plus p start (tree_length i) later_start in
     not_at_opening p q o k level (closing_spot ends c) _ (apart_before p q h)
-        (NoneAt-append p (tree_entries start (suc level) i) (closing_entries ends k level c (spot q o))
-            (none_before p start (suc level) i later_start)
-            (closing_apart p ends k level c (spot q o) (and_false (is_some_width c) (same_place ends p) (apart_before p ends later_end))))
+    (NoneAt-append p (tree_entries start (suc level) i) (closing_entries ends k level c (spot q o))
+    (none_before p start (suc level) i later_start)
+    (closing_apart p ends k level c (spot q o) (and_false (is_some_width c) (same_place ends p) (apart_before p ends later_end))))
 none_before p q level (stray k w) h = (apart_before p q h, tt)
 none_before p q level (capped k w) h = tt
 none_before p q level nothing h = tt
@@ -101,7 +101,7 @@ none_before p q level (three a b c) h =
     let s : Length = length_plus r (tree_length b) in
     let later = before_plus p q (tree_length a) h in
     NoneAt-append p (tree_entries q level a) (tree_entries r level b ++ tree_entries s level c) (none_before p q level a h)
-        (NoneAt-append p (tree_entries r level b) (tree_entries s level c) (none_before p r level b later) (none_before p s level c (before_plus p r (tree_length b) later)))
+    (NoneAt-append p (tree_entries r level b) (tree_entries s level c) (none_before p r level b later) (none_before p s level c (before_plus p r (tree_length b) later)))
 
 -- ---- a tree that ends at the place or before it
 
@@ -118,15 +118,15 @@ none_after p q level (pair k o i c) h e =
     let start : Length = inside_start q o in
     let ends : Length = inside_end q o i in
     let all : length_plus q (tree_length (pair k o i c)) ≡ length_plus ends (wide (width_of c)) =
-        sym (ap (λ (l : Length). length_plus l (wide (width_of c))) (length_plus_assoc q (wide o) (tree_length i))
-            ∙ length_plus_assoc q (length_plus (wide o) (tree_length i)) (wide (width_of c))) in
+    sym (ap (λ (l : Length). length_plus l (wide (width_of c))) (length_plus_assoc q (wide o) (tree_length i))
+    ∙ length_plus_assoc q (length_plus (wide o) (tree_length i)) (wide (width_of c))) in
     let past : is_before p (length_plus ends (wide (width_of c))) ≡ false = ap (is_before p) (sym all) ∙ e in
     let past_inside = reached p ends (wide (width_of c)) past in
     let past_opening = reached p start (tree_length i) past_inside in
     not_at_opening p q o k level (closing_spot ends c) _ (apart_after p q o h.0.opening past_opening)
-        (NoneAt-append p (tree_entries start (suc level) i) (closing_entries ends k level c (spot q o))
-            (none_after p start (suc level) i h.1 past_inside)
-            (closing_passed p ends k level c (spot q o) h.0.closing past))
+    (NoneAt-append p (tree_entries start (suc level) i) (closing_entries ends k level c (spot q o))
+    (none_after p start (suc level) i h.1 past_inside)
+    (closing_passed p ends k level c (spot q o) h.0.closing past))
 none_after p q level (stray k w) h e = (apart_after p q w h.wide e, tt)
 none_after p q level (capped k w) h e = tt
 none_after p q level nothing h e = tt
@@ -134,17 +134,17 @@ none_after p q level (two a b) h e =
     let r : Length = length_plus q (tree_length a) in
     let past : is_before p (length_plus r (tree_length b)) ≡ false = ap (is_before p) (length_plus_assoc q (tree_length a) (tree_length b)) ∙ e in
     NoneAt-append p (tree_entries q level a) (tree_entries r level b)
-        (none_after p q level a h.1.0 (reached p r (tree_length b) past)) (none_after p r level b h.1.1 past)
+    (none_after p q level a h.1.0 (reached p r (tree_length b) past)) (none_after p r level b h.1.1 past)
 none_after p q level (three a b c) h e =
     let r : Length = length_plus q (tree_length a) in
     let s : Length = length_plus r (tree_length b) in
     let past : is_before p (length_plus s (tree_length c)) ≡ false =
-        ap (is_before p) (ap (λ (l : Length). length_plus l (tree_length c)) (length_plus_assoc q (tree_length a) (tree_length b))
-            ∙ length_plus_assoc q (length_plus (tree_length a) (tree_length b)) (tree_length c)) ∙ e in
+    ap (is_before p) (ap (λ (l : Length). length_plus l (tree_length c)) (length_plus_assoc q (tree_length a) (tree_length b))
+    ∙ length_plus_assoc q (length_plus (tree_length a) (tree_length b)) (tree_length c)) ∙ e in
     let past_b = reached p s (tree_length c) past in
     NoneAt-append p (tree_entries q level a) (tree_entries r level b ++ tree_entries s level c)
-        (none_after p q level a h.1.0 (reached p r (tree_length b) past_b))
-        (NoneAt-append p (tree_entries r level b) (tree_entries s level c) (none_after p r level b h.1.1.0 past_b) (none_after p s level c h.1.1.1 past))
+    (none_after p q level a h.1.0 (reached p r (tree_length b) past_b))
+    (NoneAt-append p (tree_entries r level b) (tree_entries s level c) (none_after p r level b h.1.1.0 past_b) (none_after p s level c h.1.1.1 past))
 
 -- ---- the part that decides
 
@@ -154,6 +154,7 @@ partner_of_start p q level k o i c h = either (closing_spot (inside_end q o i) c
   where
     rest : List Judged
     rest = tree_entries (inside_start q o) (suc level) i ++ closing_entries (inside_end q o i) k level c (spot q o)
+
     either : (s : Option Spot) → partner_at p (judged_opening (bracket q o k true) level s ∷ rest) ≡ s
     either None = ap (λ (b : Bool). cond b None (partner_at p rest)) h
     either (Some s) = ap (λ (b : Bool). cond b (Some s) (partner_at p rest)) h
@@ -172,7 +173,7 @@ partner_of_end p q level k o i (Some w) h e t =
     let ends : Length = inside_end q o i in
     past_opening p q o k level (Some (spot ends w)) (tree_entries start (suc level) i ++ closing_entries ends k level (Some w) (spot q o)) h
     ∙ partner_at-past p (tree_entries start (suc level) i) (closing_entries ends k level (Some w) (spot q o))
-        (none_after p start (suc level) i t (not_before_same p ends e))
+    (none_after p start (suc level) i t (not_before_same p ends e))
     ∙ ap (λ (b : Bool). cond b (Some (spot q o)) None) e
 
 pub partner_inside : (p q : Length) (level k o : ℕ) (i : Tree) (c : Option ℕ) → same_place q p ≡ false
@@ -188,7 +189,7 @@ pub partner_in_first : (p q : Length) (level : ℕ) (a b : Tree) → is_before p
     → partner_at p (tree_entries q level (two a b)) ≡ partner_at p (tree_entries q level a)
 partner_in_first p q level a b h =
     partner_at-before p (tree_entries q level a) (tree_entries (length_plus q (tree_length a)) level b)
-        (none_before p (length_plus q (tree_length a)) level b h)
+    (none_before p (length_plus q (tree_length a)) level b h)
 
 pub partner_in_second : (p q : Length) (level : ℕ) (a b : Tree) → is_before p (length_plus q (tree_length a)) ≡ false → IsTree a
     → partner_at p (tree_entries q level (two a b)) ≡ partner_at p (tree_entries (length_plus q (tree_length a)) level b)

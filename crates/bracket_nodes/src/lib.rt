@@ -18,3 +18,6 @@ pub use kinds::Kinds;
 pub use makers::{capped_node, pair_node, stray_node, text_node};
 pub use node::Node;
 pub use parser::{Next, Source, parse};
+
+#[cfg(test)]
+mod tests;

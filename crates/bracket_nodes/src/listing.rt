@@ -59,18 +59,16 @@ fn push_entries(
         Shape::Pair(kind, opening, inside, closing) => {
             let inside_start = start.plus(&wide(*opening));
             let ends = inside_start.plus(&inside.kept().length);
-            push_if(lines, opening_entry(start, *opening, *kind, level, *closing), out)?;
+            push_if(
+                lines,
+                opening_entry(start, *opening, *kind, level, *closing),
+                out,
+            )?;
             push_entries(inside, inside_start, level + 1, lines, out)?;
             push_closing(lines, ends, *kind, level, *closing, out)
         }
         Shape::Stray(kind, width) => {
-            let entry = Entry {
-                place: start,
-                len: *width,
-                kind: *kind,
-                status: Status::Unexpected,
-                level,
-            };
+            let entry = entry(start, *width, *kind, Status::Unexpected, level);
             push_if(lines, entry, out)
         }
         Shape::Two(a, b) => {
@@ -97,6 +95,12 @@ fn opening_entry(place: Length, len: u64, kind: u64, level: u64, closing: Option
     } else {
         Status::Unclosed
     };
+    entry(place, len, kind, status, level)
+}
+
+fn entry(place: Length, len: u64, kind: u64, status: Status, level: u64) -> Entry
+    ensures { result ≡ record { place = place; len = len; kind = kind; status = status; level = level } }
+{
     Entry {
         place,
         len,
@@ -120,13 +124,7 @@ fn push_closing(
     let Some(len) = closing else {
         return Ok(());
     };
-    let entry = Entry {
-        place,
-        len,
-        kind,
-        status: Status::PairedClosing,
-        level,
-    };
+    let entry = entry(place, len, kind, Status::PairedClosing, level);
     push_if(lines, entry, out)
 }
 

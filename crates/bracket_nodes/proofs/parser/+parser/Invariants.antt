@@ -13,7 +13,7 @@ decreases-take g l = 2 * (MOST_OPEN - l.level)
 abbrev pub invariant-parse_list-loop-joiner : goal.invariant-parse_list-loop-joiner
 invariant-parse_list-loop-joiner g l =
     Reads (g.S.Source.ahead l.initial.source) (g.S.Source.ahead l.source) l.opened l.level
-        (shared_items l.joiner.lists.items) (shared_weight l.joiner.lists.items)
+    (shared_items l.joiner.lists.items) (shared_weight l.joiner.lists.items)
 
 abbrev pub decreases-parse_list-loop-joiner : goal.decreases-parse_list-loop-joiner
 decreases-parse_list-loop-joiner g l = (g.S.Source.ahead l.source).weight
