@@ -1,4 +1,4 @@
--- Sources and sinks that no call was made of yet, and sources that never fail.
+-- Sources and sinks that no call was made of yet.
 use Rattle.std.specs.Prelude.{ℕ, List, Option, false}
 use Rattle.script_streams.specs.Streams.{SourceState, SinkState}
 

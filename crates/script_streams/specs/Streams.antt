@@ -72,6 +72,7 @@ pub record Taken (n : ℕ) (old new : SinkState) (piece : List ℕ) : Type 0 whe
   pub bytes : Took old.taken new.taken (take n piece)
   pub nothing : n ≡ 0 → 0 < length piece → Rose old.faults new.faults
   pub something : 0 < n → new.faults ≡ old.faults
+  pub nothing_asked : length piece ≡ 0 → new.faults ≡ old.faults
 
 -- a write failed, and took a front of the piece all the same, which may be empty
 pub record Cut (old new : SinkState) (piece : List ℕ) : Type 0 where

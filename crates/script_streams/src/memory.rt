@@ -34,8 +34,8 @@ impl Model for MemSource {
 }
 
 impl MemSource {
-    /// A source of these bytes, of which a read gives at most `each`, and less or nothing where the plan says so. Of
-    /// two turns that name the same read the first holds.
+    /// A source of these bytes, of which a read gives at most `each`, 1 or more. A read that the plan names fails, or
+    /// gives less. Of two turns that name the same read the first holds.
     pub fn new(
         alloc: Global,
         bytes: &[u8],
@@ -103,8 +103,8 @@ impl Model for MemSink {
 }
 
 impl MemSink {
-    /// A sink with room for that many bytes, of which a write takes at most `each`, and less or nothing where the
-    /// plan says so. Of two turns that name the same write the first holds.
+    /// A sink with room for that many bytes, of which a write takes at most `each`, 1 or more. A write that the plan
+    /// names fails and takes nothing, or takes less. Of two turns that name the same write the first holds.
     pub fn new(
         alloc: Global,
         room: usize,

@@ -10,7 +10,8 @@ use std::io;
 use std::io::{ErrorKind, Read, Write};
 use std::marker::Model;
 
-/// Gives what a reader gives, and tells nothing of what is left.
+/// Gives what a reader gives, and tells nothing of what is left. An error of the reader is a fault, but a read that a
+/// signal interrupts is tried again.
 #[derive(Drop)]
 pub struct StdSource<R> {
     reader: R,
@@ -29,6 +30,7 @@ impl<R> Model for StdSource<R> {
 }
 
 impl<R> StdSource<R> {
+    /// A source over this reader, of which nothing counts as given yet.
     pub fn new(reader: R) -> StdSource<R>
         ensures { result ≡ fresh_source None }
     {
@@ -73,7 +75,9 @@ fn read_past_signals<R: Read>(reader: &mut R, buf: &mut [u8]) -> io::Result<usiz
     Err(io::Error::from(ErrorKind::Interrupted))
 }
 
-/// Hands on to a writer, and tells what the writer tells. Each piece is flushed before the write answers.
+/// Hands on to a writer, and tells what the writer tells. Each piece is flushed before the write answers. An error of
+/// the writer is a fault, and so is an answer of 0 for a piece that is not empty, but a write that a signal interrupts
+/// is tried again.
 #[derive(Drop)]
 pub struct StdSink<W: Write> {
     writer: W,
@@ -92,6 +96,7 @@ impl<W: Write> Model for StdSink<W> {
 }
 
 impl<W: Write> StdSink<W> {
+    /// A sink over this writer, which tells the bytes that it holds at all times, or at none, as standard output.
     pub fn new(writer: W) -> StdSink<W>
         requires { TellsAlwaysOrNever W.contents }
         ensures { result ≡ fresh_sink (W.contents writer) }
@@ -99,6 +104,7 @@ impl<W: Write> StdSink<W> {
         StdSink { writer, faults: 0 }
     }
 
+    /// The writer, with all that the sink took.
     pub fn into_inner(self) -> W
         ensures { W.contents result ≡ self.taken }
     {

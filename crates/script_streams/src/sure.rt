@@ -29,7 +29,7 @@ impl Model for SureSource {
 }
 
 impl SureSource {
-    /// A source of these bytes, of which a read gives at most `each`.
+    /// A source of these bytes, of which a read gives at most `each`, 1 or more.
     pub fn new(alloc: Global, bytes: &[u8], each: usize) -> Result<SureSource, AllocError>
         requires { 0 < each }
         ensures { IfOk result (λ source. source ≡ fresh_source (Some bytes.now)) }
@@ -70,7 +70,7 @@ impl Model for SureSink {
 }
 
 impl SureSink {
-    /// A sink with room for that many bytes, of which a write takes at most `each`.
+    /// A sink with room for that many bytes, of which a write takes at most `each`, 1 or more.
     pub fn new(alloc: Global, room: usize, each: usize) -> Result<SureSink, AllocError>
         requires { 0 < each }
         ensures { IfOk result (λ sink. sink ≡ fresh_sink (Some [])) }

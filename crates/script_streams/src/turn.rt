@@ -9,7 +9,8 @@ use std::alloc::{AllocError, Global};
 pub enum Turn {
     /// The call fails.
     Fails { call: u64 },
-    /// The call gives or takes at most so many bytes.
+    /// The call gives or takes at most so many bytes: 1 or more of a source, for which 0 is the end. A sink that may
+    /// take 0 answers 0, which counts as a fault.
     Short { call: u64, most: usize },
 }
 

@@ -1,0 +1,6 @@
+pub mod KeptLemmas
+pub mod Shares
+pub mod LevelWalk
+pub mod PartnerWalk
+pub mod EntryWalk
+pub mod Parsing

@@ -1,0 +1,190 @@
+-- The steps of the parser.
+use Rattle.std.proofs.Common.{◌≡◌, ℕ, zero, suc, ◌+◌, ◌<◌, ◌≤◌, ◌≢◌, ◌⊎◌, Bool, true, false, cond, eqb, Option, Some, None, List, [], ◌∷◌, ◌++◌, refl, ap, sym, ◌∙◌, subst, arith, inl, inr, add-zero}
+use Rattle.std.proofs.lemmas.Bool.Decides.{eqb_tells}
+use Rattle.std.proofs.lemmas.List.{append-nil}
+use Rattle.bracket_rules.specs.declared.TheConstants.{MOST_PAIRS, MOST_OPEN}
+use Rattle.bracket_rules.specs.Rows.{Row, HasRow, empty_row, glue}
+use Rattle.bracket_rules.specs.Tree.{Tree, pair, stray, capped, nothing, bracket_row, tree_rows, weight, is_missing, is_nothing, IsPair, IsLone, IsTree, items}
+use Rattle.bracket_rules.specs.Told.{has_kind, with_kind, Fits, Tells, IsTreeOf}
+use Rattle.bracket_rules.proofs.Weights.{weight_pos}
+use Rattle.bracket_rules.proofs.KindSets.{has_kind-none, has_kind-with_other}
+use Rattle.bracket_rules.proofs.Telling.{Tells-none, Tells-append, Tells-fitting, Tells-stray, Tells-capped, Tells-paired, Tells-unclosed_end, Tells-unclosed_below, not_missing_inside}
+use Rattle.bracket_rules.proofs.Whole.{IsTreeOf-from_Tells}
+use Rattle.bracket_nodes.specs.declared.parser.Stop.{Stop}
+use Rattle.bracket_nodes.specs.declared.parser.Stop.TheVariants.{AtEnd, AtClosing}
+use Rattle.bracket_nodes.specs.declared.parser.Taken.{Taken}
+use Rattle.bracket_nodes.specs.declared.parser.Taken.TheVariants.{One, Last, Nothing}
+use Rattle.bracket_nodes.specs.Source.{Ahead, GivesNode, GivesBracket, rows_after, stop_width, IsClosing, IsStop, Listed, Parsed, Takes, closing_taken, pair_taken, HasWidth, Reads}
+
+same_ahead : (kinds level : ℕ) (from from' rest : List Row) (ts : List Tree) → from ≡ from' → Tells kinds level from' rest ts → Tells kinds level from rest ts
+same_ahead kinds level from from' rest ts h t = subst (λ (x : List Row). Tells kinds level x rest ts) (sym h) t
+
+-- ---- what the source gives
+
+pub Takes-end : (old new : Ahead) (kinds level : ℕ) → old.rows ≡ empty_row ∷ [] → new ≡ old → Takes old new kinds level (Nothing AtEnd)
+Takes-end old new kinds level h e =
+    let new_rows : new.rows ≡ empty_row ∷ [] = ap (λ (a : Ahead). a.rows) e ∙ h in
+    let has_row : HasRow new.rows = rw new_rows tt in
+    record {
+      tells = same_ahead kinds level old.rows new.rows new.rows [] (h ∙ sym new_rows) (Tells-none kinds level new.rows has_row);
+      stops = new_rows;
+      weighs = let same : new.weight ≡ old.weight = ap (λ (a : Ahead). a.weight) e in omega arith;
+      rest = has_row;
+    }
+
+pub Takes-ready : (old new : Ahead) (kinds level : ℕ) (t : Tree) → GivesNode old new kinds level t → Parsed old new kinds level t
+Takes-ready old new kinds level t h = record {
+  tells = same_ahead kinds level old.rows (glue (tree_rows t) new.rows) new.rows (items t) h.spells (Tells-fitting kinds level t new.rows h.tree h.fits);
+  some = weight_pos t h.tree h.some;
+  weighs = h.weighs;
+  rest = h.rest;
+}
+
+lone : (old new : Ahead) (k w : ℕ) (opening : Bool) → GivesBracket old new k w opening → IsLone k w
+lone old new k w opening h = record { has_kind = h.has_kind; wide = h.wide }
+
+pub Takes-closing : (old new : Ahead) (kinds level k w : ℕ) → level ≤ MOST_OPEN → GivesBracket old new k w false
+    → Takes old new kinds level (closing_taken kinds k w)
+Takes-closing old new kinds level k w room h = either (has_kind kinds k) refl
+  where
+    either : (b : Bool) → b ≡ has_kind kinds k → Takes old new kinds level (cond b (Nothing (AtClosing k w)) (One (stray k w)))
+    either true e = record {
+      tells = same_ahead kinds level old.rows (glue (bracket_row k w false) new.rows) (glue (bracket_row k w false) new.rows) [] h.spells
+          (Tells-none kinds level (glue (bracket_row k w false) new.rows) (has_row new.rows h.rest));
+      stops = record { is_open = sym e; has_kind = h.has_kind; wide = h.wide };
+      weighs = let weighs : old.weight ≡ w + new.weight = h.weighs in omega arith;
+      rest = h.rest;
+    }
+      where
+        has_row : (rows : List Row) → HasRow rows → HasRow (glue (bracket_row k w false) rows)
+        has_row [] g = elim g [ ]
+        has_row (r ∷ rows) g = tt
+    either false e = record {
+      tells = same_ahead kinds level old.rows (glue (bracket_row k w false) new.rows) new.rows (stray k w ∷ []) h.spells
+          (Tells-stray kinds level k w new.rows (lone old new k w false h) room (sym e));
+      some = h.wide;
+      weighs = h.weighs;
+      rest = h.rest;
+    }
+
+pub Takes-capped : (old new : Ahead) (kinds level k w : ℕ) → level ≡ MOST_OPEN → GivesBracket old new k w true
+    → Parsed old new kinds level (capped k w)
+Takes-capped old new kinds level k w full h = record {
+  tells = subst (λ (n : ℕ). Tells kinds n old.rows new.rows (capped k w ∷ [])) (sym full)
+      (same_ahead kinds MOST_OPEN old.rows (glue (bracket_row k w true) new.rows) new.rows (capped k w ∷ []) h.spells
+      (Tells-capped kinds k w new.rows));
+  some = h.wide;
+  weighs = h.weighs;
+  rest = h.rest;
+}
+
+-- ---- pairs
+
+module _ (old mid new : Ahead) (kinds level k w : ℕ) (t : Tree) (below : level < MOST_OPEN) (h : GivesBracket old mid k w true) where
+  unclosed_end : Listed mid new (with_kind kinds k) (suc level) t AtEnd → Listed old new kinds level (pair k w t None) AtEnd
+  unclosed_end l = record {
+    tells = same_ahead kinds level old.rows (glue (bracket_row k w true) mid.rows) new.rows (pair k w t None ∷ []) h.spells
+        (subst (λ (x : List Row). Tells kinds level (glue (bracket_row k w true) mid.rows) x (pair k w t None ∷ [])) (sym l.stops)
+        (Tells-unclosed_end kinds level k w mid.rows t below
+        (subst (λ (x : List Row). Tells (with_kind kinds k) (suc level) mid.rows x (items t)) l.stops l.tells)));
+    stops = l.stops;
+    weighs =
+        let outer : old.weight ≡ w + mid.weight = h.weighs in
+        let inner : mid.weight ≡ weight t + (0 + new.weight) = l.weighs in
+        omega arith;
+    rest = l.rest;
+  }
+
+  unclosed_below : (j v : ℕ) → j ≢ k → Listed mid new (with_kind kinds k) (suc level) t (AtClosing j v)
+      → Listed old new kinds level (pair k w t None) (AtClosing j v)
+  unclosed_below j v differ l =
+      let is_open : has_kind kinds j ≡ true = sym (has_kind-with_other kinds k j differ) ∙ l.stops.is_open in
+      record {
+        tells = same_ahead kinds level old.rows (glue (bracket_row k w true) mid.rows) (glue (bracket_row j v false) new.rows) (pair k w t None ∷ []) h.spells
+            (Tells-unclosed_below kinds level k w j v mid.rows new.rows t below l.rest differ is_open l.tells);
+        stops = record { is_open = is_open; has_kind = l.stops.has_kind; wide = l.stops.wide };
+        weighs =
+            let outer : old.weight ≡ w + mid.weight = h.weighs in
+            let inner : mid.weight ≡ weight t + (v + new.weight) = l.weighs in
+            omega arith;
+        rest = l.rest;
+      }
+
+  closed : (v : ℕ) → Listed mid new (with_kind kinds k) (suc level) t (AtClosing k v) → Parsed old new kinds level (pair k w t (Some v))
+  closed v l = record {
+    tells = same_ahead kinds level old.rows (glue (bracket_row k w true) mid.rows) new.rows (pair k w t (Some v) ∷ []) h.spells
+        (Tells-paired kinds level k w v mid.rows new.rows t below l.tells);
+    some = let wide : 0 < w = h.wide in omega arith;
+    weighs =
+        let outer : old.weight ≡ w + mid.weight = h.weighs in
+        let inner : mid.weight ≡ weight t + (v + new.weight) = l.weighs in
+        omega arith;
+    rest = l.rest;
+  }
+
+pub Takes-paired : (old mid new : Ahead) (kinds level k w : ℕ) (t : Tree) (stop : Stop) → level < MOST_OPEN → GivesBracket old mid k w true
+    → Listed mid new (with_kind kinds k) (suc level) t stop → Takes old new kinds level (pair_taken k w t stop)
+Takes-paired old mid new kinds level k w t AtEnd below h l = unclosed_end old mid new kinds level k w t below h l
+Takes-paired old mid new kinds level k w t (AtClosing j v) below h l = either (eqb_tells j k)
+  where
+    at_kind : j ≡ k → Listed mid new (with_kind kinds k) (suc level) t (AtClosing k v)
+    at_kind e = subst (λ (i : ℕ). Listed mid new (with_kind kinds k) (suc level) t (AtClosing i v)) e l
+
+    either : ((eqb j k ≡ true) × (j ≡ k)) ⊎ ((eqb j k ≡ false) × (j ≢ k)) → Takes old new kinds level (pair_taken k w t (AtClosing j v))
+    either (inl same) =
+        subst (λ (b : Bool). Takes old new kinds level (cond b (One (pair k w t (Some v))) (Last (pair k w t None) (AtClosing j v)))) (sym same.0)
+        (closed old mid new kinds level k w t below h v (at_kind same.1))
+    either (inr differ) =
+        subst (λ (b : Bool). Takes old new kinds level (cond b (One (pair k w t (Some v))) (Last (pair k w t None) (AtClosing j v)))) (sym differ.0)
+        (unclosed_below old mid new kinds level k w t below h j v differ.1 l)
+
+-- what `paired` asks
+pub asks_not_missing : (mid new : Ahead) (kinds level k : ℕ) (t : Tree) (stop : Stop)
+    → Listed mid new (with_kind kinds k) (suc level) t stop → is_missing k t ≡ false
+asks_not_missing mid new kinds level k t stop l = not_missing_inside kinds level k mid.rows (rows_after stop new) t l.tells
+
+pub asks_width : (mid new : Ahead) (kinds level : ℕ) (t : Tree) (stop : Stop) → Listed mid new kinds level t stop → HasWidth stop
+asks_width mid new kinds level t AtEnd l = tt
+asks_width mid new kinds level t (AtClosing j v) l = l.stops.wide
+
+-- ---- the loop
+
+pub Reads-start : (start : Ahead) (kinds level : ℕ) → HasRow start.rows → Reads start start kinds level [] 0
+Reads-start start kinds level h = record {
+  tells = Tells-none kinds level start.rows h;
+  weighs = omega arith;
+  rest = h;
+}
+
+pub Reads-one : (start now next : Ahead) (kinds level : ℕ) (ts : List Tree) (w : ℕ) (t : Tree)
+    → Reads start now kinds level ts w → Parsed now next kinds level t → Reads start next kinds level (ts ++ items t) (w + weight t)
+Reads-one start now next kinds level ts w t r p = record {
+  tells = Tells-append kinds level start.rows now.rows next.rows ts (items t) r.tells p.tells;
+  weighs =
+      let before : start.weight ≡ w + now.weight = r.weighs in
+      let after : now.weight ≡ weight t + next.weight = p.weighs in
+      omega arith;
+  rest = p.rest;
+}
+
+pub Listed-after : (start now new : Ahead) (kinds level : ℕ) (ts : List Tree) (w : ℕ) (t list : Tree) (stop : Stop)
+    → Reads start now kinds level ts w → Listed now new kinds level t stop
+    → items list ≡ ts ++ items t → weight list ≡ w + weight t → Listed start new kinds level list stop
+Listed-after start now new kinds level ts w t list stop r l nodes weighs = record {
+  tells = subst (λ (x : List Tree). Tells kinds level start.rows (rows_after stop new) x) (sym nodes)
+      (Tells-append kinds level start.rows now.rows (rows_after stop new) ts (items t) r.tells l.tells);
+  stops = l.stops;
+  weighs =
+      let before : start.weight ≡ w + now.weight = r.weighs in
+      let after : now.weight ≡ weight t + (stop_width stop + new.weight) = l.weighs in
+      omega arith;
+  rest = l.rest;
+}
+
+-- ---- the whole text
+
+pub whole : (start new : Ahead) (t : Tree) (stop : Stop) → Listed start new 0 0 t stop → IsTreeOf start.rows t
+whole start new t AtEnd l =
+    IsTreeOf-from_Tells start.rows t (subst (λ (x : List Row). Tells 0 0 start.rows x (items t)) l.stops l.tells)
+whole start new t (AtClosing j v) l =
+    let clash : false ≡ true = sym (has_kind-none j) ∙ l.stops.is_open in cc

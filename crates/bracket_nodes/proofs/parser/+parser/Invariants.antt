@@ -1,0 +1,19 @@
+use Rattle.std.proofs.Common.{ℕ, ◌+◌, ◌-◌, ◌*◌}
+use Rattle.bracket_rules.specs.declared.TheConstants.{MOST_OPEN}
+use Rattle.bracket_nodes.specs.SharedLists.{shared_items, shared_weight}
+use Rattle.bracket_nodes.specs.Source.{Reads}
+use Rattle.bracket_nodes.proofs.parser.+parser.Given as goal
+
+abbrev pub decreases-parse_list : goal.decreases-parse_list
+decreases-parse_list g l = 2 * (MOST_OPEN - l.level) + 1
+
+abbrev pub decreases-take : goal.decreases-take
+decreases-take g l = 2 * (MOST_OPEN - l.level)
+
+abbrev pub invariant-parse_list-loop-joiner : goal.invariant-parse_list-loop-joiner
+invariant-parse_list-loop-joiner g l =
+    Reads (g.S.Source.ahead l.initial.source) (g.S.Source.ahead l.source) l.opened l.level
+    (shared_items l.joiner.lists.items) (shared_weight l.joiner.lists.items)
+
+abbrev pub decreases-parse_list-loop-joiner : goal.decreases-parse_list-loop-joiner
+decreases-parse_list-loop-joiner g l = (g.S.Source.ahead l.source).weight

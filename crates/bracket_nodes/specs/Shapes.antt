@@ -1,0 +1,24 @@
+-- What a node is as a tree.
+use Rattle.std.specs.Prelude.{ℕ, ◌+◌}
+use Rattle.bracket_rules.specs.Tree.{Tree, text, pair, stray, capped, nothing, two, three}
+use Rattle.bracket_nodes.specs.declared.node.Shape.{Shape}
+use Rattle.bracket_nodes.specs.declared.node.Shape.TheVariants.{Text, Pair, Stray, Capped, Nothing, Two, Three}
+
+abbrev pub tree_of : Shape → Tree
+tree_of (Text l) = text l
+tree_of (Pair kind open_width inside close_width) = pair kind open_width inside.value close_width
+tree_of (Stray kind width) = stray kind width
+tree_of (Capped kind width) = capped kind width
+tree_of Nothing = nothing
+tree_of (Two a b) = two a.value b.value
+tree_of (Three a b c) = three a.value b.value c.value
+
+-- how many nodes a tree has
+abbrev pub tree_size : Tree → ℕ
+tree_size (text l) = 1
+tree_size (pair kind open_width inside close_width) = 1 + tree_size inside
+tree_size (stray kind width) = 1
+tree_size (capped kind width) = 1
+tree_size nothing = 1
+tree_size (two a b) = 1 + (tree_size a + tree_size b)
+tree_size (three a b c) = 1 + (tree_size a + (tree_size b + tree_size c))

@@ -1,0 +1,40 @@
+// What a node keeps of its subtree.
+ghost use Rattle.std.specs.Prelude.{◌≡◌, ◌+◌, ◌<◌, ◌^◌};
+ghost use Rattle.bracket_nodes.specs.Kept.{later, both_of};
+
+use crate::kinds::Kinds;
+use text_lengths::Length;
+
+#[derive(Clone, Copy)]
+pub(crate) struct Kept {
+    pub length: Length,
+    pub missing: Kinds,
+    pub closed: bool,
+    pub capped: bool,
+    pub nesting: u64,
+    pub height: u64,
+    // The level after the last entry, counted from the level of the node.
+    pub last_level: Option<u64>,
+}
+
+// What is kept of a list of this height with these two parts.
+pub(crate) fn both(a: Kept, b: Kept, height: u64) -> Kept
+    requires { a.length.lines + a.length.columns + (b.length.lines + b.length.columns) < 2 ^ 64 }
+    ensures { result ≡ both_of a b height }
+{
+    Kept {
+        length: a.length.plus(&b.length),
+        missing: a.missing.union(b.missing),
+        closed: a.closed && b.closed,
+        capped: a.capped || b.capped,
+        nesting: a.nesting.max(b.nesting),
+        height,
+        last_level: later(a.last_level, b.last_level),
+    }
+}
+
+fn later(first: Option<u64>, second: Option<u64>) -> Option<u64>
+    ensures { result ≡ later first second }
+{
+    second.or(first)
+}

@@ -1,0 +1,64 @@
+// Sets of kinds.
+ghost use Rattle.std.specs.Prelude.{◌≡◌, ◌<◌, ◌^◌, bit_or};
+ghost use Rattle.bracket_rules.specs.Told.{has_kind, with_kind};
+
+use bracket_rules::MOST_PAIRS;
+use std::marker::Model;
+
+/// A set of kinds of brackets.
+#[derive(Clone, Copy, PartialEq, Eq, Debug)]
+pub struct Kinds {
+    // Bit k is set where kind k is in the set.
+    bits: u64,
+}
+
+impl Model for Kinds {
+    ghost use Rattle.std.specs.Prelude.{ℕ};
+
+    ghost Value = { ℕ };
+
+    ghost view = { λ kinds. kinds.bits };
+
+    ghost inverse = { λ n. record { bits = n } };
+}
+
+impl Kinds {
+    /// The set of no kinds.
+    pub fn none() -> Kinds
+        ensures { result ≡ 0 }
+    {
+        Kinds { bits: 0 }
+    }
+
+    /// The set of this kind alone.
+    pub fn one(kind: u64) -> Kinds
+        requires { kind < MOST_PAIRS }
+        ensures { result ≡ 2 ^ kind }
+    {
+        Kinds { bits: 1 << kind }
+    }
+
+    pub fn has(&self, kind: u64) -> bool
+        ensures { result ≡ has_kind self.now kind }
+    {
+        let bits = self.bits;
+        kind < u64::BITS as u64 && (bits >> kind) & 1 == 1
+    }
+
+    /// The set with this kind too.
+    pub fn with(self, kind: u64) -> Kinds
+        requires { kind < MOST_PAIRS }
+        ensures { result ≡ with_kind self kind }
+    {
+        self.union(Kinds::one(kind))
+    }
+
+    /// The kinds of either set.
+    pub fn union(self, other: Kinds) -> Kinds
+        ensures { result ≡ bit_or self other }
+    {
+        Kinds {
+            bits: self.bits | other.bits,
+        }
+    }
+}

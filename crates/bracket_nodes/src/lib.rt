@@ -1,0 +1,23 @@
+//! Bracket trees: immutable nodes that share their parts, lists as (2,3)-trees, what a tree shows,
+//! and the parser that makes them from a source of brackets.
+#![tactic(auto)]
+
+mod joiner;
+mod kept;
+mod kinds;
+mod listing;
+mod lists;
+mod lookups;
+mod makers;
+mod node;
+mod parser;
+
+pub use bracket_rules::{Entry, Status};
+pub use joiner::concat;
+pub use kinds::Kinds;
+pub use makers::{capped_node, pair_node, stray_node, text_node};
+pub use node::Node;
+pub use parser::{Next, Source, parse};
+
+#[cfg(test)]
+mod tests;

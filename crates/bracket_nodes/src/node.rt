@@ -1,0 +1,138 @@
+// The nodes of a bracket tree.
+ghost use Rattle.std.specs.Prelude.{◌≡◌, ◌<◌, ◌^◌, ℕ, IfOk};
+ghost use Rattle.bracket_rules.specs.Told.{has_kind};
+ghost use Rattle.bracket_rules.specs.Tree.{tree_length, is_missing, is_closed, is_capped, nesting, height, weight, IsTree};
+ghost use Rattle.bracket_nodes.specs.Kept.{Keeps};
+ghost use Rattle.bracket_nodes.specs.Bounds.{IsBounded};
+
+use crate::kept::Kept;
+use crate::kinds::Kinds;
+use std::alloc::AllocError;
+use std::marker::Model;
+use std::rc::Rc;
+use text_lengths::Length;
+
+/// A node of a bracket tree. It is immutable, and its parts may belong to other trees too.
+#[derive(Drop)]
+pub struct Node {
+    pub(crate) inner: Rc<Inner>,
+}
+
+impl Model for Node {
+    ghost use Rattle.bracket_rules.specs.Tree.{Tree};
+    ghost use Rattle.bracket_rules.specs.TreeCode.{tree_code};
+
+    ghost Value = { Tree };
+
+    ghost coded = { tree_code };
+
+    ghost view = { λ node. node.inner.value };
+}
+
+impl Node {
+    /// The same tree, shared.
+    pub fn share(&self) -> Result<Node, AllocError>
+        ensures { IfOk result (λ node. node ≡ self.now) }
+    {
+        let inner = self.inner.clone()?;
+        Ok(Node { inner })
+    }
+
+    /// The tree's length. Every tree meets the rules of nodes, and its leaves together fit 64 bits.
+    pub fn length(&self) -> Length
+        ensures length { result ≡ tree_length self.now }
+        ensures tree { IsTree self.now }
+        ensures light { weight self.now < 2 ^ 64 }
+    {
+        self.inner.kept().length
+    }
+
+    /// The kinds of the unexpected closing brackets.
+    pub fn missing(&self) -> Kinds
+        ensures { (k : ℕ) → has_kind result k ≡ is_missing k self.now }
+    {
+        self.inner.kept().missing
+    }
+
+    /// Whether each pair has its closing bracket.
+    pub fn closed(&self) -> bool
+        ensures { result ≡ is_closed self.now }
+    {
+        self.inner.kept().closed
+    }
+
+    /// Whether there is a bracket beyond the most that may be open.
+    pub fn capped(&self) -> bool
+        ensures { result ≡ is_capped self.now }
+    {
+        self.inner.kept().capped
+    }
+
+    /// The greatest number of pairs inside one another.
+    pub fn nesting(&self) -> u64
+        ensures { result ≡ nesting self.now }
+    {
+        self.inner.kept().nesting
+    }
+
+    /// The height of a list of several nodes, and else 0.
+    pub fn height(&self) -> u64
+        ensures { result ≡ height self.now }
+    {
+        self.inner.kept().height
+    }
+}
+
+// A node with what it keeps of its subtree.
+#[cycle(inner)]
+#[derive(Drop)]
+pub(crate) struct Inner {
+    pub shape: Shape,
+    pub kept: Kept,
+}
+
+// What a node is.
+#[cycle(inner)]
+#[derive(Drop)]
+pub(crate) enum Shape {
+    Text(Length),
+    // The kind, the width of the opening bracket, what is inside, the width of the closing bracket.
+    Pair(u64, u64, Rc<Inner>, Option<u64>),
+    Stray(u64, u64),
+    Capped(u64, u64),
+    Nothing,
+    Two(Rc<Inner>, Rc<Inner>),
+    Three(Rc<Inner>, Rc<Inner>, Rc<Inner>),
+}
+
+impl Model for Inner {
+    ghost use Rattle.bracket_rules.specs.Tree.{Tree};
+    ghost use Rattle.bracket_rules.specs.TreeCode.{tree_code};
+
+    ghost Value = { Tree };
+
+    ghost coded = { tree_code };
+
+    ghost use Rattle.bracket_nodes.specs.Shapes.{tree_of, tree_size};
+    ghost use Rattle.bracket_nodes.specs.Kept.{Keeps};
+
+    ghost view = { λ inner. tree_of inner.shape };
+
+    ghost invariant = { λ inner. Keeps (tree_of inner.shape) inner.kept };
+
+    ghost size = { tree_size };
+
+    ghost use Rattle.bracket_nodes.specs.Falls.{depth_le-size};
+
+    ghost size_decreases = { λ inner h. depth_le-size inner.shape };
+}
+
+impl Inner {
+    /// What the node keeps of its subtree.
+    pub fn kept(&self) -> Kept
+        ensures keeps { Keeps self.now result }
+        ensures bounded { IsBounded (weight self.now) result }
+    {
+        self.kept
+    }
+}

@@ -1,0 +1,157 @@
+// The parser: it makes a tree of what a source gives.
+ghost use Rattle.std.specs.Prelude.{◌≡◌, ◌+◌, ◌<◌, ◌≤◌, ◌^◌, false, IfOk};
+ghost use Rattle.bracket_rules.specs.Rows.{HasRow};
+ghost use Rattle.bracket_rules.specs.Told.{IsTreeOf};
+ghost use Rattle.bracket_rules.specs.Tree.{IsLone, is_missing, weight};
+ghost use Rattle.bracket_nodes.specs.Source.{Listed, Takes, HasWidth, stop_width, closing_taken, pair_taken};
+
+use crate::joiner::Joiner;
+use crate::kinds::Kinds;
+use crate::makers::{capped_node, pair_node, stray_node, wide};
+use crate::node::Node;
+use bracket_rules::MOST_OPEN;
+use std::alloc::{AllocError, Global};
+
+/// What a source gives next.
+#[derive(Drop)]
+pub enum Next {
+    /// The text has ended.
+    End,
+    /// A node that may stand here as it is.
+    Ready(Node),
+    /// A bracket: its kind, its width, and whether it is an opening one.
+    Bracket(u64, u64, bool),
+}
+
+/// A text as brackets and ready nodes, from its start to its end.
+pub trait Source {
+    ghost use Rattle.bracket_nodes.specs.Source.{Ahead, Comes};
+
+    ghost ahead: { Self → Ahead };
+
+    /// What comes next, where brackets of these kinds are open, `level` of them; it is taken off
+    /// the source.
+    fn next(&mut self, alloc: Global, opened: Kinds, level: u64) -> Result<Next, AllocError>
+        requires { level ≤ MOST_OPEN }
+        ensures { IfOk result (Comes (ahead self.old) (ahead self.new) opened level) };
+}
+
+// Why a list stopped.
+#[derive(Clone, Copy)]
+pub(crate) enum Stop {
+    AtEnd,
+    // A closing bracket of a kind that is open: its kind and its width.
+    AtClosing(u64, u64),
+}
+
+// What was parsed next.
+#[derive(Drop)]
+pub(crate) enum Taken {
+    One(Node),
+    // A node that ends with the list.
+    Last(Node, Stop),
+    Nothing(Stop),
+}
+
+#[derive(Drop)]
+pub(crate) struct Part {
+    pub list: Node,
+    pub stop: Stop,
+}
+
+/// The tree of the text that the source has ahead.
+pub fn parse<S: Source>(alloc: Global, source: &mut S) -> Result<Node, AllocError>
+    requires some { HasRow (S.ahead source.old).rows }
+    requires fits { (S.ahead source.old).weight < 2 ^ 64 }
+    ensures { IfOk result (IsTreeOf (S.ahead source.old).rows) }
+{
+    let part = parse_list(alloc, source, Kinds::none(), 0)?;
+    Ok(part.list)
+}
+
+// The list of what stands before the end, or before a closing bracket of a kind that is open.
+#[cycle(parser)]
+fn parse_list<S: Source>(
+    alloc: Global,
+    source: &mut S,
+    opened: Kinds,
+    level: u64,
+) -> Result<Part, AllocError>
+    requires level { level ≤ MOST_OPEN }
+    requires some { HasRow (S.ahead source.old).rows }
+    requires fits { (S.ahead source.old).weight < 2 ^ 64 }
+    ensures { IfOk result (λ part. Listed (S.ahead source.old) (S.ahead source.new) opened level part.list part.stop) }
+{
+    let mut joiner = Joiner::new(alloc);
+    loop {
+        match take(alloc, source, opened, level)? {
+            Taken::One(node) => joiner.push(alloc, node)?,
+            Taken::Last(node, stop) => {
+                joiner.push(alloc, node)?;
+                let list = joiner.finish(alloc)?;
+                return Ok(Part { list, stop });
+            }
+            Taken::Nothing(stop) => {
+                let list = joiner.finish(alloc)?;
+                return Ok(Part { list, stop });
+            }
+        }
+    }
+}
+
+#[cycle(parser)]
+fn take<S: Source>(
+    alloc: Global,
+    source: &mut S,
+    opened: Kinds,
+    level: u64,
+) -> Result<Taken, AllocError>
+    requires level { level ≤ MOST_OPEN }
+    requires some { HasRow (S.ahead source.old).rows }
+    requires fits { (S.ahead source.old).weight < 2 ^ 64 }
+    ensures { IfOk result (Takes (S.ahead source.old) (S.ahead source.new) opened level) }
+{
+    match source.next(alloc, opened, level)? {
+        Next::End => Ok(Taken::Nothing(Stop::AtEnd)),
+        Next::Ready(node) => Ok(Taken::One(node)),
+        Next::Bracket(kind, width, opening) => {
+            if !opening {
+                return closing(alloc, opened, kind, width);
+            }
+            if level == MOST_OPEN {
+                return Ok(Taken::One(capped_node(alloc, kind, wide(width))?));
+            }
+            let part = parse_list(alloc, source, opened.with(kind), level + 1)?;
+            paired(alloc, kind, width, part)
+        }
+    }
+}
+
+// A closing bracket stops the list, or closes no bracket.
+fn closing(alloc: Global, opened: Kinds, kind: u64, width: u64) -> Result<Taken, AllocError>
+    requires { IsLone kind width }
+    ensures { IfOk result (λ taken. taken ≡ closing_taken opened kind width) }
+{
+    if opened.has(kind) {
+        return Ok(Taken::Nothing(Stop::AtClosing(kind, width)));
+    }
+    Ok(Taken::One(stray_node(alloc, kind, wide(width))?))
+}
+
+// The pair of an opening bracket and what stands after it, unclosed where that stopped otherwise.
+fn paired(alloc: Global, kind: u64, width: u64, part: Part) -> Result<Taken, AllocError>
+    requires opening { IsLone kind width }
+    requires not_missing { is_missing kind part.list ≡ false }
+    requires stop { HasWidth part.stop }
+    requires fits { width + (weight part.list + stop_width part.stop) < 2 ^ 64 }
+    ensures { IfOk result (λ taken. taken ≡ pair_taken kind width part.list part.stop) }
+{
+    let opening = wide(width);
+    match part.stop {
+        Stop::AtClosing(other, closing) if other == kind => {
+            let closing = Some(wide(closing));
+            Ok(Taken::One(pair_node(alloc, kind, opening, part.list, closing)?))
+        }
+        stop => Ok(Taken::Last(pair_node(alloc, kind, opening, part.list, None)?, stop)),
+    }
+}

@@ -1,0 +1,3 @@
+pub mod Padding
+pub mod Cuts
+pub mod Spans

@@ -1,0 +1,139 @@
+-- Spans of buffers that grow.
+use Rattle.std.proofs.Common.{◌≡◌, ℕ, ◌+◌, ◌-◌, ◌<◌, ◌≤◌, ◌^◌, Bool, true, false, cond, List, [], ◌∷◌, ◌++◌, length, take, drop, set, get_or, map, refl, ap, sym, subst, ◌∙◌, inl, inr, append_assoc, arith}
+use Rattle.std.proofs.lemmas.Bool.{cases_eq}
+use Rattle.std.proofs.lemmas.List.{length-append, length-map, map-set, get_or-map, length-set, length-take, length-take-le, length-drop, drop-drop, length_push, take_all, take_at, take-take, drop_at, drop-take, get_or-set_same, get_or-set_other, get_or_append_left}
+use Rattle.std.proofs.lemmas.List.Sums.{sum_by-set}
+use Rattle.text_rules.proofs.Breaks.{joins_pair}
+use Rattle.chunk_buffers.specs.Buffer.{Filled, padding, padded}
+use Rattle.chunk_buffers.specs.declared.span.ChunkSpan.{ChunkSpan}
+use Rattle.chunk_buffers.specs.Chunks.{buffer_at, units_at, LiesIn, Extends, unit_count, part_of, last_room}
+
+module _ (front whole : List ℕ) (is_front : take (length front) whole ≡ front) where
+  front_le : length front ≤ length whole
+  front_le = omega (arith, ap length is_front, length-take (length front) whole)
+
+  front_part : (start units : ℕ) → start + units ≤ length front → take units (drop start whole) ≡ take units (drop start front)
+  front_part start units within =
+      let rest : start + (length front - start) ≡ length front = omega arith in
+      sym (ap (λ x. take units (drop start x)) (sym is_front)
+      ∙ ap (λ n. take units (drop start (take n whole))) (sym rest)
+      ∙ ap (take units) (drop-take start (length front - start) whole)
+      ∙ take-take units (length front - start) (drop start whole) (omega arith))
+
+pub Extends-refl : (bs : List (List ℕ)) → Extends bs bs
+Extends-refl bs = record { count = omega arith; fronts = λ k inside. take_all _ _ (omega arith) }
+
+pub Extends-trans : (old mid new : List (List ℕ)) → Extends old mid → Extends mid new → Extends old new
+Extends-trans old mid new a b = record {
+  count = omega arith;
+  fronts = λ k inside.
+      let in_mid : k < length mid = omega arith in
+      sym (take-take (length (buffer_at old k)) (length (buffer_at mid k)) (buffer_at new k) (front_le _ _ (a.fronts k inside)))
+      ∙ ap (take (length (buffer_at old k))) (b.fronts k in_mid) ∙ a.fronts k inside;
+}
+
+pub Extends-push : (bs : List (List ℕ)) (b : List ℕ) → Extends bs (bs ++ b ∷ [])
+Extends-push bs b = record {
+  count = omega (arith, length_push bs b);
+  fronts = λ k inside. ap (take (length (buffer_at bs k))) (get_or_append_left bs (b ∷ []) [] k inside) ∙ take_all _ _ (omega arith);
+}
+
+pub LiesIn-extended : (old new : List (List ℕ)) (span : ChunkSpan) → Extends old new → LiesIn old span → LiesIn new span
+LiesIn-extended old new span grown lies = record {
+  buffer = omega arith;
+  end = omega (arith, front_le _ _ (grown.fronts span.buffer lies.buffer));
+  fits = lies.fits;
+}
+
+-- a span shows the same units for good
+pub units_at-extended : (old new : List (List ℕ)) (span : ChunkSpan) → Extends old new → LiesIn old span → units_at new span ≡ units_at old span
+units_at-extended old new span grown lies = front_part _ _ (grown.fronts span.buffer lies.buffer) span.start span.units lies.end
+
+-- a part of a span shows a part of its units
+pub units_at-part : (bs : List (List ℕ)) (span : ChunkSpan) (from to : ℕ) → from ≤ to → to ≤ span.units → LiesIn bs span
+    → units_at bs (part_of span from to) ≡ take (to - from) (drop from (units_at bs span))
+units_at-part bs span from to ordered within lies =
+    let rest = drop span.start (buffer_at bs span.buffer) in
+    let enough : span.units ≤ length rest = omega (arith, length-drop span.start (buffer_at bs span.buffer)) in
+    let size = length-take-le span.units rest enough in
+    let is_front : take (length (units_at bs span)) rest ≡ units_at bs span = ap (λ n. take n rest) size in
+    ap (take (to - from)) (sym (drop-drop from span.start (buffer_at bs span.buffer)))
+    ∙ front_part (units_at bs span) rest is_front from (to - from) (omega (arith, size))
+
+padded_front : (buffer text : List ℕ) (b : Bool) → take (length buffer) (cond b (buffer ++ padding ∷ []) buffer ++ text) ≡ buffer
+padded_front buffer text true = ap (take (length buffer)) (append_assoc buffer (padding ∷ []) text) ∙ take_at buffer (padding ∷ [] ++ text) (length buffer) refl
+padded_front buffer text false = take_at buffer text (length buffer) refl
+
+padded_count : (buffer : List ℕ) (b : Bool) → length (cond b (buffer ++ padding ∷ []) buffer) ≤ length buffer + 1
+padded_count buffer true = omega (arith, length_push buffer padding)
+padded_count buffer false = omega arith
+
+module _ (bs : List (List ℕ)) (number start units : ℕ) (text new : List ℕ) (inside : number < length bs)
+    (new_is : new ≡ padded (buffer_at bs number) text ++ text) (start_is : start ≡ length (padded (buffer_at bs number) text)) (units_is : units ≡ length text) where
+  abbrev appended : ChunkSpan
+  appended = record { buffer = number; start = start; units = units }
+
+  there : buffer_at (set bs number new) number ≡ padded (buffer_at bs number) text ++ text
+  there = get_or-set_same bs number new [] inside ∙ new_is
+
+  pub appended_shown : units_at (set bs number new) appended ≡ text
+  appended_shown =
+      ap (λ b. take units (drop start b)) there
+      ∙ ap (take units) (drop_at (padded (buffer_at bs number) text) text start (sym start_is))
+      ∙ take_all units text (omega arith)
+
+  pub appended_inside : start + units < 2 ^ 63 → LiesIn (set bs number new) appended
+  appended_inside fits = record {
+    buffer = omega (arith, length-set bs number new);
+    end = omega (arith, ap length there, length-append (padded (buffer_at bs number) text) text);
+    fits = fits;
+  }
+
+  pub appended_grown : Extends bs (set bs number new)
+  appended_grown = record {
+    count = omega (arith, length-set bs number new);
+    fronts = λ k within. elim (cases_eq k number) [
+      | inl same ↦ subst (λ (j : ℕ). take (length (buffer_at bs j)) (buffer_at (set bs number new) j) ≡ buffer_at bs j) (sym same)
+          (ap (take (length (buffer_at bs number))) there ∙ padded_front (buffer_at bs number) text (joins_pair (buffer_at bs number) text))
+      | inr other ↦ ap (take (length (buffer_at bs k))) (get_or-set_other bs number k new [] other) ∙ take_all _ _ (omega arith)
+    ];
+  }
+
+  pub appended_count : unit_count (set bs number new) ≤ unit_count bs + length text + 1
+  appended_count =
+      omega (
+        arith,
+        sum_by-set length bs number new [] inside,
+        ap length new_is,
+        length-append (padded (buffer_at bs number) text) text,
+        padded_count (buffer_at bs number) (joins_pair (buffer_at bs number) text),
+      )
+
+-- what appending to one of these buffers leaves
+pub record IsAppended (old new : List (List ℕ)) (span : ChunkSpan) (text : List ℕ) : Type 0 where
+  pub shown : units_at new span ≡ text
+  pub inside : LiesIn new span
+  pub grown : Extends old new
+  pub few : unit_count new ≤ unit_count old + length text + 1
+
+pub IsAppended-at : (items : List Filled) (number : ℕ) (old new : Filled) (start units : ℕ) (text : List ℕ) → number < length items
+    → old ≡ get_or items number old → new.units ≡ padded old.units text ++ text → start ≡ length (padded old.units text) → units ≡ length text
+    → start + length text < 2 ^ 63
+    → IsAppended (map (λ b. b.units) items) (map (λ b. b.units) (set items number new)) (record { buffer = number; start = start; units = units }) text
+IsAppended-at items number old new start units text inside old_is new_is start_is units_is fits =
+    let bs : List (List ℕ) = map (λ b. b.units) items in
+    let here : buffer_at bs number ≡ old.units = get_or-map (λ (b : Filled). b.units) items number old [] inside ∙ ap (λ (b : Filled). b.units) (sym old_is) in
+    let within : number < length bs = omega (arith, length-map items (λ (b : Filled). b.units)) in
+    let new_units : new.units ≡ padded (buffer_at bs number) text ++ text = new_is ∙ ap (λ b. padded b text ++ text) (sym here) in
+    let place : start ≡ length (padded (buffer_at bs number) text) = start_is ∙ ap (λ b. length (padded b text)) (sym here) in
+    rw (map-set (λ (b : Filled). b.units) items number new)
+    (record {
+      shown = appended_shown bs number start units text new.units within new_units place units_is;
+      inside = appended_inside bs number start units text new.units within new_units place units_is (omega arith);
+      grown = appended_grown bs number start units text new.units within new_units place units_is;
+      few = appended_count bs number start units text new.units within new_units place units_is;
+    })
+
+pub last_room_some : (items : List Filled) → 0 < last_room items → 0 < length items
+last_room_some [] h = absurd (omega arith)
+last_room_some (b ∷ items) h = omega arith

@@ -1,0 +1,40 @@
+-- Texts that lie in buffers, which only grow at their ends.
+use Rattle.std.specs.Prelude.{ℕ, ◌≡◌, ◌+◌, ◌-◌, ◌<◌, ◌≤◌, ◌^◌, List, [], length, take, drop, sum_by, slice_index_or}
+use Rattle.chunk_buffers.specs.declared.span.ChunkSpan.{ChunkSpan}
+use Rattle.chunk_buffers.specs.Buffer.{Filled}
+
+-- what contracts see of chunks
+pub record Shown : Type 0 where
+  -- the units of each buffer
+  pub buffers : List (List ℕ)
+  -- how many units may be appended without memory, where each text takes one more than its units
+  pub spare : ℕ
+
+abbrev pub buffer_at : List (List ℕ) → ℕ → List ℕ
+buffer_at buffers number = slice_index_or buffers number []
+
+-- the units that the span shows
+abbrev pub units_at : List (List ℕ) → ChunkSpan → List ℕ
+units_at buffers span = take span.units (drop span.start (buffer_at buffers span.buffer))
+
+-- the span lies in these buffers
+pub record LiesIn (buffers : List (List ℕ)) (span : ChunkSpan) : Type 0 where
+  pub buffer : span.buffer < length buffers
+  pub end : span.start + span.units ≤ length (buffer_at buffers span.buffer)
+  pub fits : span.start + span.units < 2 ^ 63
+
+-- each old buffer is a front of its new one, so that a span shows the same units for good
+pub record Extends (old new : List (List ℕ)) : Type 0 where
+  pub count : length old ≤ length new
+  pub fronts : (number : ℕ) → number < length old → take (length (buffer_at old number)) (buffer_at new number) ≡ buffer_at old number
+
+abbrev pub unit_count : List (List ℕ) → ℕ
+unit_count buffers = sum_by length buffers
+
+-- the units of a span between two places in it
+abbrev pub part_of : ChunkSpan → ℕ → ℕ → ChunkSpan
+part_of span from to = record { buffer = span.buffer; start = span.start + from; units = to - from }
+
+-- the room of the buffer that texts are appended to
+abbrev pub last_room : List Filled → ℕ
+last_room buffers = (slice_index_or buffers (length buffers - 1) (record { units = []; room = 0 })).room

@@ -1,0 +1,179 @@
+//! The buffers together.
+
+ghost use Rattle.std.specs.Prelude.{◌≡◌, ◌+◌, ◌-◌, ◌<◌, ◌≤◌, ◌++◌, [], length, take, drop, IfOk, OnOk, OnErr};
+ghost use Rattle.chunk_buffers.specs.Buffer.{breaks_to};
+ghost use Rattle.chunk_buffers.specs.Chunks.{units_at, LiesIn, Extends, unit_count, part_of};
+ghost use Rattle.line_starts.specs.Starts.{break_count};
+ghost use Rattle.text_rules.specs.Lines.{line_start};
+
+use crate::buffer::Buffer;
+use crate::span::ChunkSpan;
+use std::alloc::{AllocError, Global};
+use std::marker::Model;
+
+/// The least room of a buffer, in units.
+const LEAST_ROOM: usize = 4096;
+
+/// Texts in buffers that only grow at their ends, so that a span shows the same units for good.
+///
+/// A buffer is never moved: where a text has no room in the last one, a new one is begun.
+#[derive(Drop)]
+pub struct Chunks {
+    buffers: Vec<Buffer>,
+    alloc: Global,
+}
+
+impl Model for Chunks {
+    ghost use Rattle.std.specs.Prelude.{map};
+    ghost use Rattle.chunk_buffers.specs.Chunks.{Shown, last_room};
+
+    ghost Value = { Shown };
+
+    ghost view = { λ c. record {
+      buffers = map (λ b. b.units) c.buffers.items;
+      spare = last_room c.buffers.items;
+    } };
+}
+
+impl Chunks {
+    pub fn new(alloc: Global) -> Chunks
+        ensures buffers { result.buffers ≡ [] }
+        ensures spare { result.spare ≡ 0 }
+    {
+        Chunks {
+            buffers: Vec::new(alloc),
+            alloc,
+        }
+    }
+
+    /// Makes room for that many texts with that many units together. An error leaves all as it was.
+    pub fn reserve(&mut self, texts: u64, units: u64) -> Result<(), AllocError>
+        ensures ok { OnOk result (texts + units ≤ self.new.spare) }
+        ensures same { Extends self.old.buffers self.new.buffers }
+        ensures units { unit_count self.new.buffers ≡ unit_count self.old.buffers }
+        ensures err { OnErr result (self.new ≡ self.old) }
+    {
+        let room = texts.checked_add(units).ok_or(AllocError)? as usize;
+        if room <= self.room() {
+            return Ok(());
+        }
+        let buffer = Buffer::with_room(self.alloc, room.max(LEAST_ROOM))?;
+        self.buffers.push(buffer)?;
+        Ok(())
+    }
+
+    // The room of the last buffer.
+    fn room(&self) -> usize
+        ensures { result ≡ self.now.spare }
+    {
+        match self.buffers.last() {
+            Some(buffer) => buffer.room(),
+            None => 0,
+        }
+    }
+
+    /// Appends the text, and takes no memory.
+    pub fn append(&mut self, text: &[u16]) -> ChunkSpan
+        requires { length text.now < self.old.spare }
+        ensures shown { units_at self.new.buffers result ≡ text.now }
+        ensures inside { LiesIn self.new.buffers result }
+        ensures grown { Extends self.old.buffers self.new.buffers }
+        ensures units { unit_count self.new.buffers ≤ unit_count self.old.buffers + length text.now + 1 }
+        ensures spare { self.old.spare ≤ self.new.spare + length text.now + 1 }
+    {
+        self.append_joined(&[], text, &[])
+    }
+
+    /// Appends the three texts as one, and takes no memory.
+    pub fn append_joined(&mut self, before: &[u16], text: &[u16], after: &[u16]) -> ChunkSpan
+        requires { length (before.now ++ text.now ++ after.now) < self.old.spare }
+        ensures shown { units_at self.new.buffers result ≡ before.now ++ text.now ++ after.now }
+        ensures inside { LiesIn self.new.buffers result }
+        ensures grown { Extends self.old.buffers self.new.buffers }
+        ensures units { unit_count self.new.buffers
+            ≤ unit_count self.old.buffers + length (before.now ++ text.now ++ after.now) + 1 }
+        ensures spare { self.old.spare ≤ self.new.spare + length (before.now ++ text.now ++ after.now) + 1 }
+    {
+        let number = self.buffers.len() - 1;
+        let buffer = &mut self.buffers[number];
+        let start = buffer.append(before, text, after);
+        ChunkSpan {
+            buffer: number as u64,
+            start: start as u64,
+            units: (before.len() + text.len() + after.len()) as u64,
+        }
+    }
+
+    /// Appends the text to a buffer of its own, which takes the memory for it and no more.
+    pub fn append_whole(&mut self, text: &[u16]) -> Result<ChunkSpan, AllocError>
+        ensures shown { IfOk result (λ span. units_at self.new.buffers span ≡ text.now) }
+        ensures inside { IfOk result (λ span. LiesIn self.new.buffers span) }
+        ensures grown { Extends self.old.buffers self.new.buffers }
+        ensures units { OnOk result (unit_count self.new.buffers ≡ unit_count self.old.buffers + length text.now) }
+        ensures err { OnErr result (self.new ≡ self.old) }
+    {
+        let buffer = Buffer::of_text(self.alloc, text)?;
+        let number = self.buffers.len();
+        self.buffers.push(buffer)?;
+        Ok(ChunkSpan {
+            buffer: number as u64,
+            start: 0,
+            units: text.len() as u64,
+        })
+    }
+
+    /// The units that the span shows.
+    pub fn units(&self, span: ChunkSpan) -> &[u16]
+        requires { LiesIn self.now.buffers span }
+        ensures { result.now ≡ units_at self.now.buffers span }
+    {
+        let (start, end) = (span.start as usize, (span.start + span.units) as usize);
+        &self.buffers[span.buffer as usize].units()[start..end]
+    }
+
+    /// How many breaks the units of the span have.
+    pub fn breaks(&self, span: ChunkSpan) -> u64
+        requires { LiesIn self.now.buffers span }
+        ensures { result ≡ break_count (units_at self.now.buffers span) }
+    {
+        let (start, end) = (span.start as usize, (span.start + span.units) as usize);
+        self.buffers[span.buffer as usize].breaks(start, end)
+    }
+
+    /// The place after the `k`-th break of the span's units, counted from the span's start. Breaks count from 1.
+    pub fn nth_break(&self, span: ChunkSpan, k: u64) -> u64
+        requires inside { LiesIn self.now.buffers span }
+        requires first { 0 < k }
+        requires there { k ≤ break_count (units_at self.now.buffers span) }
+        ensures { result ≡ line_start (units_at self.now.buffers span) (k + 1) }
+    {
+        let (start, end) = (span.start as usize, (span.start + span.units) as usize);
+        self.buffers[span.buffer as usize].nth_break(start, end, k)
+    }
+
+    /// How many breaks of the span's units end at the place or before it, where the place counts from the span's start.
+    pub fn breaks_to(&self, span: ChunkSpan, place: u64) -> u64
+        requires inside { LiesIn self.now.buffers span }
+        requires place { place < span.units }
+        ensures { result ≡ breaks_to (units_at self.now.buffers span) place }
+    {
+        let (start, end) = (span.start as usize, (span.start + span.units) as usize);
+        self.buffers[span.buffer as usize].breaks_to(start, end, place as usize)
+    }
+
+    /// The part of the span between two places in it.
+    pub fn part(&self, span: ChunkSpan, from: u64, to: u64) -> ChunkSpan
+        requires inside { LiesIn self.now.buffers span }
+        requires ordered { from ≤ to }
+        requires within { to ≤ span.units }
+        ensures part { result ≡ part_of span from to }
+        ensures inside { LiesIn self.now.buffers result }
+        ensures shown { units_at self.now.buffers result ≡ take (to - from) (drop from (units_at self.now.buffers span)) }
+    {
+        ChunkSpan {
+            buffer: span.buffer,
+            start: span.start + from,
+            units: to - from,
+        }
+    }
+}

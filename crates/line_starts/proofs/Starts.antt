@@ -1,0 +1,39 @@
+-- The definitions of starts by the places at which breaks end.
+use Rattle.std.proofs.Common.{◌≡◌, ℕ, ◌+◌, ◌<◌, true, false, List, [], ◌∷◌, ◌++◌, length, drop, get_or, ap, sym, ◌∙◌, add-zero, add_assoc, append_assoc, arith}
+use Rattle.std.proofs.lemmas.List.{drop_more}
+use Rattle.line_starts.specs.Starts.{starts_of, break_count, break_ends_at}
+use Rattle.text_rules.proofs.Breaks.{break_ends, ends_break, starts_are, break_ends_moved, line_count_is}
+
+pub starts_of_is : (x : List ℕ) → starts_of x ≡ 0 ∷ break_ends 0 x
+starts_of_is x = starts_are x
+
+pub break_count_is : (x : List ℕ) → break_count x ≡ length (break_ends 0 x)
+break_count_is x = omega (arith, line_count_is x)
+
+pub break_ends_at_is : (place : ℕ) (x : List ℕ) → break_ends_at place x ≡ break_ends place x
+break_ends_at_is place x = rw (starts_of_is x) (sym (break_ends_moved place 0 x) ∙ ap (λ n. break_ends n x) (add-zero place))
+
+module _ (at i : ℕ) (x : List ℕ) (inside : i < length x) where
+  pub break_ends_at_end : ends_break (get_or x i 0) (drop (i + 1) x) ≡ true → break_ends at (drop i x) ≡ (at + 1) ∷ break_ends (at + 1) (drop (i + 1) x)
+  break_ends_at_end e = rw (drop_more x i 0 inside, e)
+
+  pub break_ends_at_other : ends_break (get_or x i 0) (drop (i + 1) x) ≡ false → break_ends at (drop i x) ≡ break_ends (at + 1) (drop (i + 1) x)
+  break_ends_at_other e = rw (drop_more x i 0 inside, e)
+
+module _ (out whole : List ℕ) (start i : ℕ) (x : List ℕ) (inside : i < length x) where
+  pub push_at_end : ends_break (get_or x i 0) (drop (i + 1) x) ≡ true → out ++ break_ends (start + i) (drop i x) ≡ whole
+      → (out ++ (start + i + 1) ∷ []) ++ break_ends (start + (i + 1)) (drop (i + 1) x) ≡ whole
+  push_at_end e so_far =
+      append_assoc out ((start + i + 1) ∷ []) _
+      ∙ ap (λ n. out ++ (start + i + 1) ∷ break_ends n (drop (i + 1) x)) (sym (add_assoc start i 1))
+      ∙ ap (λ s. out ++ s) (sym (break_ends_at_end (start + i) i x inside e)) ∙ so_far
+
+  pub push_at_other : ends_break (get_or x i 0) (drop (i + 1) x) ≡ false → out ++ break_ends (start + i) (drop i x) ≡ whole
+      → out ++ break_ends (start + (i + 1)) (drop (i + 1) x) ≡ whole
+  push_at_other e so_far =
+      ap (λ n. out ++ break_ends n (drop (i + 1) x)) (sym (add_assoc start i 1))
+      ∙ ap (λ s. out ++ s) (sym (break_ends_at_other (start + i) i x inside e)) ∙ so_far
+
+-- 0, and then the place after each break
+pub starts_after_0 : (new pushed old x : List ℕ) → pushed ≡ old ++ 0 ∷ [] → new ≡ pushed ++ break_ends_at 0 x → new ≡ old ++ starts_of x
+starts_after_0 new pushed old x first rest = rw (rest, first, break_ends_at_is 0 x, starts_of_is x) (simp append_assoc)

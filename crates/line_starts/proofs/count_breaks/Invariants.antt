@@ -1,0 +1,9 @@
+use Rattle.std.proofs.Common.{◌≡◌, ◌+◌, ◌≤◌, length, drop}
+use Rattle.text_rules.proofs.Breaks.{break_ends}
+use Rattle.line_starts.proofs.count_breaks.Given as goal
+
+abbrev pub invariant-loop-at : goal.invariant-loop-at
+invariant-loop-at l = record {
+  counted : l.breaks + length (break_ends l.at (drop l.at l.units)) ≡ length (break_ends 0 l.units);
+  few : l.breaks ≤ l.at;
+}

@@ -1,0 +1,2 @@
+pub mod Starts
+mod Examples

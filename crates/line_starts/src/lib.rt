@@ -1,0 +1,108 @@
+//! Where the lines of a text start.
+#![tactic(auto)]
+
+ghost use Rattle.std.specs.Prelude.{◌≡◌, ◌+◌, ◌<◌, ◌≤◌, ◌^◌, ◌++◌, List, length, drop, get_or, OnOk, OnErr, IsOk, vec_len, vec_capacity, take};
+ghost use Rattle.line_starts.specs.Starts.{starts_of, break_count, break_ends_at};
+ghost use Rattle.text_rules.proofs.Breaks.{ends_break};
+
+use std::alloc::AllocError;
+
+const LINE_FEED: u16 = 10;
+
+const CARRIAGE_RETURN: u16 = 13;
+
+/// Appends the start of each line: 0, and the place after each break. After an error `out` is as it was.
+pub fn find_starts(units: &[u16], out: &mut Vec<u64>) -> Result<(), AllocError>
+    ensures ok { OnOk result (out.new.items ≡ out.old.items ++ starts_of units.now) }
+    ensures err { OnErr result (out.new.items ≡ out.old.items) }
+    ensures with_room { vec_len out.old + (length units.now + 1) ≤ vec_capacity out.old → IsOk result }
+    ensures capacity { vec_capacity out.old ≤ vec_capacity out.new }
+{
+    let before = out.len();
+    out.push(0)?;
+    let appended = push_break_ends(units, 0, out);
+    if appended.is_err() {
+        out.truncate(before);
+    }
+    appended
+}
+
+/// Appends the place after each break, counted from a place `start` before the units. After an error `out` is as it was.
+pub fn find_break_ends(units: &[u16], start: u64, out: &mut Vec<u64>) -> Result<(), AllocError>
+    requires { start + length units.now < 2 ^ 64 }
+    ensures ok { OnOk result (out.new.items ≡ out.old.items ++ break_ends_at start units.now) }
+    ensures err { OnErr result (out.new.items ≡ out.old.items) }
+    ensures with_room { vec_len out.old + length units.now ≤ vec_capacity out.old → IsOk result }
+    ensures capacity { vec_capacity out.old ≤ vec_capacity out.new }
+{
+    let before = out.len();
+    let appended = push_break_ends(units, start, out);
+    if appended.is_err() {
+        out.truncate(before);
+    }
+    appended
+}
+
+// After an error some of the places stand behind what was there.
+fn push_break_ends(units: &[u16], start: u64, out: &mut Vec<u64>) -> Result<(), AllocError>
+    requires { start + length units.now < 2 ^ 64 }
+    ensures ok { OnOk result (out.new.items ≡ out.old.items ++ break_ends_at start units.now) }
+    ensures before { take (vec_len out.old) out.new.items ≡ out.old.items }
+    ensures with_room { vec_len out.old + length units.now ≤ vec_capacity out.old → IsOk result }
+    ensures capacity { vec_capacity out.old ≤ vec_capacity out.new }
+{
+    for at in 0..units.len() {
+        if is_break_end(units, at) {
+            out.push(start + at as u64 + 1)?;
+        }
+    }
+    Ok(())
+}
+
+/// How many line breaks the units have.
+pub fn count_breaks(units: &[u16]) -> u64
+    ensures { result ≡ break_count units.now }
+{
+    let mut breaks = 0;
+    for at in 0..units.len() {
+        if is_break_end(units, at) {
+            breaks += 1;
+        }
+    }
+    breaks
+}
+
+// Whether a break ends with the unit at this place: an LF, or a CR with no LF after it.
+fn is_break_end(units: &[u16], at: usize) -> bool
+    requires { at < length units.now }
+    ensures { result ≡ ends_break (get_or units.now at 0) (drop (at + 1) units.now) }
+{
+    match units[at] {
+        LINE_FEED => true,
+        CARRIAGE_RETURN => units.get(at + 1) != Some(&LINE_FEED),
+        _ => false,
+    }
+}
+
+#[cfg(test)]
+mod tests {
+    use super::*;
+    use std::test::Fail;
+
+    fn units(text: &[u8; 8]) -> [u16; 8] {
+        text.map(|byte| byte as u16)
+    }
+
+    #[test]
+    fn starts_of_four_lines(rt: HostRuntime) -> Result<(), Fail> {
+        let text = units(b"a\r\nb\rc\nd");
+        let mut starts = Vec::new(rt.alloc());
+        find_starts(&text, &mut starts)?;
+        assert_eq!(rt; starts.as_slice(), [0, 3, 5, 7].as_slice());
+        assert_eq!(rt; count_breaks(&text), 3);
+
+        find_break_ends(&text, 10, &mut starts)?;
+        assert_eq!(rt; starts.as_slice(), [0, 3, 5, 7, 13, 15, 17].as_slice());
+        Ok(())
+    }
+}

@@ -1,0 +1,82 @@
+-- The pieces of a text, as a list that is cut and inserted into.
+use Rattle.std.specs.Prelude.{ℕ, ◌≡◌, ◌+◌, ◌-◌, ◌==◌, ◌<◌, ◌≤◌, Option, Some, None, nat_le, if◌then◌else◌, List, [], ◌∷◌, ◌++◌, length, map, sum_by, slice_get}
+use Rattle.chunk_buffers.specs.declared.span.ChunkSpan.{ChunkSpan}
+use Rattle.chunk_buffers.specs.Chunks.{units_at, LiesIn, part_of}
+use Rattle.line_starts.specs.Starts.{break_count}
+use Rattle.piece_tree.specs.declared.piece.Piece.{Piece}
+use Rattle.piece_tree.specs.declared.piece.PieceId.{PieceId}
+use Rattle.piece_tree.specs.declared.piece.PieceSum.{PieceSum}
+use Rattle.piece_tree.specs.declared.piece.Found.{Found}
+
+pub record Entry : Type 0 where
+  pub id : PieceId
+  pub piece : Piece
+
+-- what contracts see of a piece tree
+pub record Pieces : Type 0 where
+  -- the pieces in the order of the text, each with its name
+  pub entries : List Entry
+  -- for how many splices there is room
+  pub spare : ℕ
+
+abbrev pub pieces_of : List Entry → List Piece
+pieces_of entries = map (λ e. e.piece) entries
+
+abbrev pub unit_count : List Piece → ℕ
+unit_count pieces = sum_by (λ p. p.span.units) pieces
+
+abbrev pub break_count_of : List Piece → ℕ
+break_count_of pieces = sum_by (λ p. p.breaks) pieces
+
+abbrev pub sum_of : List Piece → PieceSum
+sum_of pieces = record { units = unit_count pieces; breaks = break_count_of pieces }
+
+-- the piece of a span of these buffers
+abbrev pub piece_of : List (List ℕ) → ChunkSpan → Piece
+piece_of buffers span = record { span = span; breaks = break_count (units_at buffers span) }
+
+abbrev pub piece_list : List (List ℕ) → Option ChunkSpan → List Piece
+piece_list buffers None = []
+piece_list buffers (Some span) = piece_of buffers span ∷ []
+
+-- the piece lies in these buffers, and has the number of breaks that its units have there
+pub record IsPieceOf (buffers : List (List ℕ)) (piece : Piece) : Type 0 where
+  pub inside : LiesIn buffers piece.span
+  pub breaks : piece.breaks ≡ break_count (units_at buffers piece.span)
+
+-- the pieces of the first n units; a piece that goes on past them is cut
+abbrev pub front : List (List ℕ) → ℕ → List Piece → List Piece
+front buffers n [] = []
+front buffers n (p ∷ ps) =
+    if nat_le p.span.units n then p ∷ front buffers (n - p.span.units) ps else
+    (if n == 0 then [] else piece_of buffers (part_of p.span 0 n) ∷ [])
+
+-- the pieces after the first n units; a piece that begins before is cut
+abbrev pub back : List (List ℕ) → ℕ → List Piece → List Piece
+back buffers n [] = []
+back buffers n (p ∷ ps) =
+    if nat_le p.span.units n then back buffers (n - p.span.units) ps else
+    (if n == 0 then p ∷ ps else piece_of buffers (part_of p.span n p.span.units) ∷ ps)
+
+-- the pieces in which the span has taken the place of the units from `start` to `end`
+abbrev pub spliced : List (List ℕ) → ℕ → ℕ → Option ChunkSpan → List Piece → List Piece
+spliced buffers start end span pieces = front buffers start pieces ++ piece_list buffers span ++ back buffers end pieces
+
+-- the looked-up piece is one of the list, and is told with what the pieces before it have
+pub record IsFound (entries : List Entry) (found : Found) : Type 0 where
+  pub earlier : List Entry
+  pub later : List Entry
+  pub place : entries ≡ earlier ++ record { id = found.id; piece = record { span = found.span; breaks = found.breaks } } ∷ later
+  pub before : found.before ≡ sum_of (pieces_of earlier)
+
+-- the entry has this name
+pub record IsAmong (entries : List Entry) (id : PieceId) : Type 0 where
+  pub earlier : List Entry
+  pub later : List Entry
+  pub piece : Piece
+  pub place : entries ≡ earlier ++ record { id = id; piece = piece } ∷ later
+
+-- the name and the span of the first of these
+abbrev pub first_of : List Entry → Option (PieceId × ChunkSpan)
+first_of [] = None
+first_of (e ∷ entries) = Some (e.id, e.piece.span)

@@ -1,0 +1,35 @@
+//! Pieces, their names and their sums.
+
+use chunk_buffers::ChunkSpan;
+
+/// The name of a piece in its tree. A splice may change it.
+#[derive(Clone, Copy, PartialEq, Eq, Debug)]
+pub struct PieceId {
+    pub(crate) index: u64,
+}
+
+/// A part of the text.
+#[derive(Clone, Copy, PartialEq, Eq, Debug)]
+pub struct Piece {
+    pub span: ChunkSpan,
+    /// How many breaks its units have.
+    pub breaks: u64,
+}
+
+/// What some pieces have together.
+#[derive(Clone, Copy, PartialEq, Eq, Debug)]
+pub struct PieceSum {
+    pub units: u64,
+    pub breaks: u64,
+}
+
+/// A piece that was looked up.
+#[derive(Clone, Copy, PartialEq, Eq, Debug)]
+pub struct Found {
+    pub id: PieceId,
+    pub span: ChunkSpan,
+    /// How many breaks its units have.
+    pub breaks: u64,
+    /// What the pieces before it have.
+    pub before: PieceSum,
+}

@@ -1,0 +1,19 @@
+-- a `&` to the slots reaches each item. Assumes `Logic`.
+use mathlib.Core.List.{[], ◌++◌}
+use base.Fml.{Incl-trans}
+use contract.BorrowLft.{meet_⊑_left}
+use denote.RattleType.{RattleType}
+use denote.RawPtr.{RawPtr}
+use denote.Param.Laws.{Laws}
+use denote.Param.Shared.{copy_shared}
+use denote.Struct.Laws.{field_copy}
+use denote.Struct.Lending.{of_Lends}
+use Rattle.std.specs.contracts.marker.PhantomData as marker
+use Rattle.raw_arena.specs.contracts.raw.Slots as C
+use Rattle.raw_arena.proofs.raw.Slots.TheLaw.Statement.{statement}
+use Rattle.raw_arena.proofs.Sharing.{page_lent-laws, Lends-page}
+
+pub shares : (R : RattleType) (L : Laws R) → statement R L
+shares R L = of_Lends (C.struct R) (C.the_codes R.Denot R.coded (marker.the_row RawPtr).coded) (C.the_heap R) (C.the_lent R)
+    (λ d p. page_lent-laws R L.shr_laws d.at d.slots) (copy_shared (marker.the_field RawPtr) (field_copy (marker.the_type RawPtr) tt), tt)
+    (λ M 𝓤 𝓛 d p. Lends-page 𝓛 (C.the_row R).lives R L (Incl-trans (meet_⊑_left (R.lives ++ []) _) (meet_⊑_left R.lives [])) d.at d.slots)

@@ -1,0 +1,7 @@
+//! A red-black tree over any weave.
+#![tactic(auto)]
+
+mod climb;
+mod links;
+mod mend;
+mod sums;

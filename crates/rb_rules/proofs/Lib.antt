@@ -1,0 +1,13 @@
+pub mod Balance
+pub mod Climbs
+pub mod Colouring
+pub mod Held
+pub mod Holes
+pub mod Knots
+pub mod Live
+pub mod Memories
+pub mod Shapes
+pub mod Spots
+pub mod Turning
+pub mod Ups
+pub mod Weaves
