@@ -1,7 +1,6 @@
 //! The document: a text that is changed by edits, and its versions.
 #![tactic(auto)]
 
-mod lines;
 mod model;
 
 pub use document_rules::ModelError;

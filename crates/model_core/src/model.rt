@@ -1,29 +1,28 @@
 //! The document and its calls.
 
-ghost use Rattle.std.specs.Prelude.{◌≡◌, ◌+◌, ◌-◌, [], length, false, IfOk};
+ghost use Rattle.std.specs.Prelude.{◌≡◌, [], length};
 ghost use Rattle.unit_text.specs.Units.{IsPaired};
-ghost use Rattle.text_rules.specs.Edits.{is_bad_span, edited};
+ghost use Rattle.text_rules.specs.Edits.{is_bad_span};
 ghost use Rattle.document_rules.specs.Outcomes.{Changes, Appends};
-ghost use Rattle.document_rules.specs.Document.{new_document, flat_open, flat_edit, flat_line, flat_line_count};
+ghost use Rattle.document_rules.specs.Document.{new_document, flat_open, flat_edit, flat_line, flat_value, flat_position, flat_offset, flat_line_count};
 
-use crate::lines::{line_content, line_count};
 use document_rules::ModelError;
-use std::alloc::{AllocError, Global};
-use text_lengths::Span;
+use std::alloc::Global;
+use std::sync::ledger::Ledger;
+use steps::Steps;
+use text_buffer::TextBuffer;
+use text_lengths::{GREATEST_NUMBER, Position, Span};
 use text_rules::Op;
-use unit_text::{Flat, Units};
+use unit_text::Flat;
 
 /// The most units that a text may have.
 pub const MOST_UNITS: u64 = 0x3FFF_FFFF;
-
-/// The greatest version of a document.
-pub const GREATEST_VERSION: u64 = 0x7FFF_FFFF_FFFF_FFFF;
 
 /// A document: its text, and which version of it that is.
 #[derive(Drop)]
 pub struct Model {
     alloc: Global,
-    text: Units,
+    text: TextBuffer,
     version: u64,
     alternative: u64,
 }
@@ -36,10 +35,10 @@ impl std::marker::Model for Model {
     ghost Value = { ModelState };
 
     ghost view = { λ m. record {
-      document = record { units = m.text; version = m.version; alternative = m.alternative };
+      document = record { units = m.text.units; version = m.version; alternative = m.alternative };
     } };
 
-    ghost invariant = { λ m. (length m.text ≤ most_units) × (m.version ≤ greatest_version) };
+    ghost invariant = { λ m. (length m.text.units ≤ most_units) × (m.version ≤ greatest_version) };
 }
 
 impl Model {
@@ -49,7 +48,7 @@ impl Model {
     {
         Model {
             alloc,
-            text: Units::from_vec(Vec::new(alloc)),
+            text: TextBuffer::new(alloc),
             version: 1,
             alternative: 1,
         }
@@ -62,7 +61,7 @@ impl Model {
         if text.len() as u64 > MOST_UNITS {
             return Err(ModelError::Limit);
         }
-        let text = Units::copy_of(self.alloc, text).map_err(|_| ModelError::Memory)?;
+        let text = TextBuffer::of_units(self.alloc, text).map_err(|_| ModelError::Memory)?;
         self.text = text;
         self.version = 1;
         self.alternative = 1;
@@ -80,11 +79,11 @@ impl Model {
             return Err(ModelError::Range);
         }
         let kept = self.text.len() - (op.span.end - op.span.start);
-        if op.text.len() > MOST_UNITS - kept || self.version == GREATEST_VERSION {
+        if op.text.len() > MOST_UNITS - kept || self.version == GREATEST_NUMBER {
             return Err(ModelError::Limit);
         }
-        let text = edited(self.alloc, self.text.as_slice(), op).map_err(|_| ModelError::Memory)?;
-        self.text = text;
+        self.text.reserve(1, op.text.len()).map_err(|_| ModelError::Memory)?;
+        self.text.replace(op.span, op.text.as_slice());
         self.version += 1;
         self.alternative = self.version;
         Ok(())
@@ -101,7 +100,7 @@ impl Model {
     pub fn line_count(&self) -> u64
         ensures { result ≡ flat_line_count self.now.document }
     {
-        line_count(self.text.as_slice())
+        self.text.line_count()
     }
 
     /// Appends the content of the line of this number, counted from 1. `Range` where there is no such line; after an
@@ -109,9 +108,34 @@ impl Model {
     pub fn line(&self, n: u64, out: &mut Vec<u16>) -> Result<(), ModelError>
         ensures { Appends result out.old.items out.new.items (flat_line self.now.document n) }
     {
-        let content = line_content(self.text.as_slice(), n).ok_or(ModelError::Range)?;
-        out.extend_from_slice(content)
-            .map_err(|_| ModelError::Memory)
+        if n == 0 || n > self.text.line_count() {
+            return Err(ModelError::Range);
+        }
+        self.text.line(n, out).map_err(|_| ModelError::Memory)
+    }
+
+    /// Appends the units of the span. `Range` where it is none of the text; after an error `out` is as it was.
+    pub fn value(&self, span: Span, out: &mut Vec<u16>) -> Result<(), ModelError>
+        ensures { Appends result out.old.items out.new.items (flat_value self.now.document span) }
+    {
+        if is_bad_span(&self.text, span) {
+            return Err(ModelError::Range);
+        }
+        self.text.value(span, out).map_err(|_| ModelError::Memory)
+    }
+
+    /// The position of the offset, or None where it is no place of the text. Each piece that is looked at is a step.
+    pub fn position_at<L: Ledger>(&self, offset: u64, steps: &mut Steps<L>) -> Option<Position>
+        ensures { result ≡ flat_position self.now.document offset }
+    {
+        self.text.position_at(offset, steps)
+    }
+
+    /// The offset of the position, or None where it is none of the text. Each piece that is looked at is a step.
+    pub fn offset_at<L: Ledger>(&self, p: Position, steps: &mut Steps<L>) -> Option<u64>
+        ensures { result ≡ flat_offset self.now.document p }
+    {
+        self.text.offset_at(p, steps)
     }
 
     /// The version, and the version at which the text was last as it is now.
@@ -123,28 +147,8 @@ impl Model {
     }
 }
 
-fn is_bad_span(text: &Units, span: Span) -> bool
-    ensures { result ≡ is_bad_span text.now span }
+fn is_bad_span(text: &TextBuffer, span: Span) -> bool
+    ensures { result ≡ is_bad_span text.now.units span }
 {
     span.start > span.end || !(text.is_place(span.start) && text.is_place(span.end))
-}
-
-/// The text after the edit.
-fn edited(alloc: Global, units: &[u16], op: &Op) -> Result<Units, AllocError>
-    requires { is_bad_span units.now op.now.span ≡ false }
-    ensures text { IfOk result (λ text. text ≡ edited units.now op.now) }
-    ensures len { IfOk result (λ text. length text
-        ≡ length units.now - (op.now.span.end - op.now.span.start) + length op.now.text) }
-    ensures paired { IfOk result (λ text. IsPaired units.now → IsPaired op.now.text → IsPaired text) }
-{
-    let start = op.span.start as usize;
-    let end = op.span.end as usize;
-    let mut text = Vec::with_capacity(
-        alloc,
-        units.len() - (end - start) + op.text.as_slice().len(),
-    )?;
-    text.extend_from_slice(&units[..start])?;
-    text.extend_from_slice(op.text.as_slice())?;
-    text.extend_from_slice(&units[end..])?;
-    Ok(Units::from_vec(text))
 }

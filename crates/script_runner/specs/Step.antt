@@ -1,10 +1,16 @@
 -- One command on the flat document: its reply, and the document after it.
-use Rattle.std.specs.Prelude.{◌≡◌, ℕ, ◌⊎◌, List, [], ◌∷◌, length, Result, Ok, Err, ⊤}
+use Rattle.std.specs.Prelude.{◌≡◌, ℕ, ◌⊎◌, List, [], ◌∷◌, length, Option, Some, None, Result, Ok, Err, ⊤}
+use Rattle.text_lengths.specs.declared.Position.{Position}
+use Rattle.text_lengths.specs.declared.Span.{Span}
 use Rattle.document_rules.specs.declared.ModelError.{ModelError}
 use Rattle.document_rules.specs.declared.ModelError.TheVariants as error
-use Rattle.document_rules.specs.Document.{FlatState, flat_open, flat_edit, flat_line, flat_line_count}
+use Rattle.document_rules.specs.Document.{FlatState, flat_open, flat_edit, flat_line, flat_value, flat_position, flat_offset, flat_line_count}
 use Rattle.script_lines.specs.declared.command.Command.{Command}
-use Rattle.script_lines.specs.declared.command.Command.TheVariants.{Open, Edit, Size, Line}
+use Rattle.script_lines.specs.declared.command.Command.TheVariants.{Open, Edit, Size, Line, Value, Offset}
+use Rattle.script_lines.specs.declared.command.Command.TheVariants as command
+use Rattle.script_lines.specs.declared.op.LineOp.{LineOp}
+use Rattle.script_lines.specs.declared.op.Place.{Place}
+use Rattle.script_lines.specs.declared.op.Place.TheVariants.{At, InRange}
 use Rattle.script_lines.specs.declared.reason.Refusal.{Refusal}
 use Rattle.script_lines.specs.declared.reason.Refusal.TheVariants as refusal
 use Rattle.script_lines.specs.Replies.{ok_reply, text_reply, refusal_reply}
@@ -33,11 +39,38 @@ abbrev pub text_answer : Result (List ℕ) ModelError → List ℕ
 text_answer (Ok units) = text_reply units
 text_answer (Err e) = refusal_reply (refusal_of e)
 
+-- `ok` and the number, or `! range`
+abbrev pub offset_answer : Option ℕ → List ℕ
+offset_answer None = refusal_reply refusal.Range
+offset_answer (Some offset) = ok_reply (offset ∷ [])
+
+-- `ok LINE COL`, or `! range`
+abbrev pub position_answer : Option Position → List ℕ
+position_answer None = refusal_reply refusal.Range
+position_answer (Some p) = ok_reply (p.line ∷ p.column ∷ [])
+
+abbrev pub span_between : Option ℕ → Option ℕ → Option Span
+span_between None end = None
+span_between (Some start) None = None
+span_between (Some start) (Some end) = Some (record { start = start; end = end })
+
+-- the span at which an op stands; none where one of its positions is none of the text
+abbrev pub span_of : FlatState → Place → Option Span
+span_of f (At span) = Some span
+span_of f (InRange start end) = span_between (flat_offset f start) (flat_offset f end)
+
+abbrev pub edited_at : FlatState → LineOp → Option Span → List ℕ × FlatState
+edited_at f op None = (refusal_reply refusal.Range, f)
+edited_at f op (Some span) = changed f (flat_edit f (record { span = span; text = op.text; force = op.force }))
+
 abbrev pub step : FlatState → Command → List ℕ × FlatState
 step f (Open text) = changed f (flat_open text)
-step f (Edit op) = changed f (flat_edit f op)
+step f (Edit op) = edited_at f op (span_of f op.place)
 step f Size = (ok_reply (length f.units ∷ flat_line_count f ∷ []), f)
 step f (Line n) = (text_answer (flat_line f n), f)
+step f (Value span) = (text_answer (flat_value f span), f)
+step f (Offset p) = (offset_answer (flat_offset f p), f)
+step f (command.Position offset) = (position_answer (flat_position f offset), f)
 
 -- The reply is this one, and the document is as it says; or it is `! memory`, and the document is as before.
 pub data Answers (flat : List ℕ × FlatState) (old : FlatState) (reply : List ℕ) (new : FlatState) : Type 0 where

@@ -2,6 +2,7 @@
 #![tactic(auto)]
 
 mod line;
+mod look_up;
 mod reply;
 mod running;
 mod serving;

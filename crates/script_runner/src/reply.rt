@@ -1,20 +1,22 @@
 //! Commands carried out, and the replies to lines.
 
 ghost use Rattle.std.specs.Prelude.{◌≡◌, ℕ, List, [], IfOk, ◌⊎◌};
-ghost use Rattle.document_rules.specs.Document.{FlatState};
+ghost use Rattle.document_rules.specs.Document.{FlatState, flat_offset, flat_position};
 ghost use Rattle.script_lines.specs.Commands.{command_of};
 ghost use Rattle.script_lines.specs.Replies.{text_reply, refusal_reply};
-ghost use Rattle.script_runner.specs.Step.{refusal_of, memory_reply, step, Answers};
+ghost use Rattle.script_runner.specs.Step.{refusal_of, memory_reply, offset_answer, position_answer, span_of, step, Answers};
 ghost use Rattle.script_runner.specs.Script.{Turn, commanded};
 ghost use Rattle.script_runner.specs.Progress.{IsLineSoFar};
 ghost use Rattle.script_runner.specs.Bytes.{bytes_of, change_answer, TextOrMemory};
 
 use crate::line::PartialLine;
-use model_core::{Model, ModelError};
+use crate::look_up::{offset_at, position_at};
+use model_core::{Model, ModelError, Op};
 use script_lines::{
     Command, LineFault, Refusal, Short, command_of, long_begin, long_end, long_text, refusal,
 };
 use std::alloc::{AllocError, Global};
+use text_lengths::{Position, Span};
 
 /// The reply to a line.
 #[derive(Drop)]
@@ -79,12 +81,42 @@ fn carry_out(alloc: Global, model: &mut Model, command: Command) -> Reply
             let outcome = model.open_doc(text.as_slice());
             after_change(outcome, model)
         }
-        Command::Edit { op } => {
-            let outcome = model.edit(&op);
-            after_change(outcome, model)
-        }
+        Command::Edit { op } => edit_reply(model, op),
         Command::Size => Reply::Short(Short::ok(&[model.len(), model.line_count()])),
         Command::Line { n } => line_reply(alloc, model, n),
+        Command::Value { at } => value_reply(alloc, model, at),
+        Command::Offset { p } => offset_reply(model, p),
+        Command::Position { offset } => position_reply(model, offset),
+    }
+}
+
+fn edit_reply(model: &mut Model, op: LineOp) -> Reply
+    ensures { Answers (step model.old.document (Command.Edit op)) model.old.document
+        (bytes_of result) model.new.document }
+{
+    let Some(span) = span_of(model, op.place) else {
+        return refused(Refusal::Range);
+    };
+    let op = Op {
+        span,
+        text: op.text,
+        force: op.force,
+    };
+    let outcome = model.edit(&op);
+    after_change(outcome, model)
+}
+
+/// The span at which the op stands.
+fn span_of(model: &Model, place: Place) -> Option<Span>
+    ensures { result ≡ span_of model.now.document place }
+{
+    match place {
+        Place::At(span) => Some(span),
+        Place::InRange(start, end) => {
+            let start = offset_at(model, start)?;
+            let end = offset_at(model, end)?;
+            Some(Span { start, end })
+        }
     }
 }
 
@@ -117,6 +149,35 @@ fn line_reply(alloc: Global, model: &Model, n: u64) -> Reply
     match model.line(n, &mut units) {
         Ok(()) => text_or_memory(alloc, units.as_slice()),
         Err(error) => refused(refusal_of(error)),
+    }
+}
+
+fn value_reply(alloc: Global, model: &Model, span: Span) -> Reply
+    ensures { Answers (step model.now.document (Command.Value span)) model.now.document
+        (bytes_of result) model.now.document }
+{
+    let mut units = Vec::new(alloc);
+    match model.value(span, &mut units) {
+        Ok(()) => text_or_memory(alloc, units.as_slice()),
+        Err(error) => refused(refusal_of(error)),
+    }
+}
+
+fn offset_reply(model: &Model, p: Position) -> Reply
+    ensures { bytes_of result ≡ offset_answer (flat_offset model.now.document p) }
+{
+    match offset_at(model, p) {
+        Some(offset) => Reply::Short(Short::ok(&[offset])),
+        None => refused(Refusal::Range),
+    }
+}
+
+fn position_reply(model: &Model, offset: u64) -> Reply
+    ensures { bytes_of result ≡ position_answer (flat_position model.now.document offset) }
+{
+    match position_at(model, offset) {
+        Some(p) => Reply::Short(Short::ok(&[p.line, p.column])),
+        None => refused(Refusal::Range),
     }
 }
 
