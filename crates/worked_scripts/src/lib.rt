@@ -4,6 +4,8 @@
 #[cfg(test)]
 mod faults;
 #[cfg(test)]
+mod one_list;
+#[cfg(test)]
 mod runs;
 #[cfg(test)]
 mod scripts;

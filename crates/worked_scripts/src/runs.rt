@@ -32,7 +32,7 @@ pub fn expect_run<R: AllocGlobal + Abort>(
     let mut words = Vec::new(alloc);
     words.push(String::from_str(alloc, "run")?)?;
     let mut src = MemSource::new(alloc, script, source.each, source.plan)?;
-    let mut out = MemSink::new(alloc, 4096, sink.each, sink.plan)?;
+    let mut out = MemSink::new(alloc, 0x1_0000, sink.each, sink.plan)?;
     let mut err = SureSink::new(alloc, 4096, 1)?;
     let ended = run_words(alloc, words.as_slice(), &mut src, &mut out, &mut err);
     assert_eq!(rt; out.bytes(), Some(written));

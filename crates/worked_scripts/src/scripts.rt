@@ -56,6 +56,36 @@ fn a_text_with_escapes(rt: HostRuntime) -> Result<(), Fail> {
 }
 
 #[test]
+fn positions_and_offsets(rt: HostRuntime) -> Result<(), Fail> {
+    let script = "{\"cmd\":\"open\",\"text\":\"a\\r\\nb\\rc\\nd\"}\n\
+        {\"cmd\":\"position\",\"offset\":2}\n{\"cmd\":\"offset\",\"line\":1,\"col\":3}\n\
+        {\"cmd\":\"offset\",\"line\":4,\"col\":2}\n{\"cmd\":\"position\",\"offset\":9}\n";
+    expect(&rt, script, "ok 1 8 4\nok 1 3\n! range\nok 8\n! range\n", 1)?;
+    Ok(())
+}
+
+#[test]
+fn breaks_that_an_edit_splits_and_joins(rt: HostRuntime) -> Result<(), Fail> {
+    let split = "{\"cmd\":\"open\",\"text\":\"a\\r\\nb\"}\n\
+        {\"cmd\":\"edit\",\"ops\":[{\"at\":[2,2],\"text\":\"X\"}]}\n";
+    expect(&rt, split, "ok 1 4 2\nok 2 5 3\n", 0)?;
+    let join = "{\"cmd\":\"open\",\"text\":\"a\\r\"}\n\
+        {\"cmd\":\"edit\",\"ops\":[{\"at\":[2,2],\"text\":\"\\n\"}]}\n";
+    expect(&rt, join, "ok 1 2 2\nok 2 3 2\n", 0)?;
+    Ok(())
+}
+
+#[test]
+fn edits_by_range(rt: HostRuntime) -> Result<(), Fail> {
+    let script = "{\"cmd\":\"open\",\"text\":\"a\\r\\nb\"}\n\
+        {\"cmd\":\"edit\",\"ops\":[{\"range\":[1,3,2,1],\"text\":\"-\"}]}\n\
+        {\"cmd\":\"edit\",\"ops\":[{\"range\":[1,2,2,1],\"text\":\"-\"}]}\n\
+        {\"cmd\":\"value\",\"at\":[0,3]}\n";
+    expect(&rt, script, "ok 1 4 2\n! range\nok 2 3 1\nok \"a-b\"\n", 1)?;
+    Ok(())
+}
+
+#[test]
 fn lines_that_are_no_commands(rt: HostRuntime) -> Result<(), Fail> {
     for line in [
         "{\"cmd\":\"size\",\"x\":1}",
