@@ -1,0 +1,2 @@
+//! The undo and redo lists, over any type of change.
+#![tactic(auto)]
