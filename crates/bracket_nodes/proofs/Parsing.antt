@@ -1,20 +1,18 @@
 -- The steps of the parser.
-use Rattle.std.proofs.Common.{◌≡◌, ℕ, zero, suc, ◌+◌, ◌<◌, ◌≤◌, ◌≢◌, ◌⊎◌, Bool, true, false, cond, eqb, Option, Some, None, List, [], ◌∷◌, ◌++◌, refl, ap, sym, ◌∙◌, subst, arith, inl, inr, add-zero}
+use Rattle.std.proofs.Common.{◌≡◌, ℕ, suc, ◌+◌, ◌<◌, ◌≤◌, ◌≢◌, ◌⊎◌, Bool, true, false, cond, eqb, Some, None, List, [], ◌∷◌, ◌++◌, refl, ap, sym, ◌∙◌, subst, arith, inl, inr}
 use Rattle.std.proofs.lemmas.Bool.Decides.{eqb_tells}
-use Rattle.std.proofs.lemmas.List.{append-nil}
-use Rattle.bracket_rules.specs.declared.TheConstants.{MOST_PAIRS, MOST_OPEN}
+use Rattle.bracket_rules.specs.declared.TheConstants.{MOST_OPEN}
 use Rattle.bracket_rules.specs.Rows.{Row, HasRow, empty_row, glue}
-use Rattle.bracket_rules.specs.Tree.{Tree, pair, stray, capped, nothing, bracket_row, tree_rows, weight, is_missing, is_nothing, IsPair, IsLone, IsTree, items}
-use Rattle.bracket_rules.specs.Told.{has_kind, with_kind, Fits, Tells, IsTreeOf}
+use Rattle.bracket_rules.specs.Tree.{Tree, pair, stray, capped, bracket_row, tree_rows, weight, is_missing, IsLone, items}
+use Rattle.bracket_rules.specs.Told.{has_kind, with_kind, Tells, IsTreeOf}
 use Rattle.bracket_rules.proofs.Weights.{weight_pos}
 use Rattle.bracket_rules.proofs.KindSets.{has_kind-none, has_kind-with_other}
 use Rattle.bracket_rules.proofs.Telling.{Tells-none, Tells-append, Tells-fitting, Tells-stray, Tells-capped, Tells-paired, Tells-unclosed_end, Tells-unclosed_below, not_missing_inside}
 use Rattle.bracket_rules.proofs.Whole.{IsTreeOf-from_Tells}
 use Rattle.bracket_nodes.specs.declared.parser.Stop.{Stop}
 use Rattle.bracket_nodes.specs.declared.parser.Stop.TheVariants.{AtEnd, AtClosing}
-use Rattle.bracket_nodes.specs.declared.parser.Taken.{Taken}
 use Rattle.bracket_nodes.specs.declared.parser.Taken.TheVariants.{One, Last, Nothing}
-use Rattle.bracket_nodes.specs.Source.{Ahead, GivesNode, GivesBracket, rows_after, stop_width, IsClosing, IsStop, Listed, Parsed, Takes, closing_taken, pair_taken, HasWidth, Reads}
+use Rattle.bracket_nodes.specs.Source.{Ahead, GivesNode, GivesBracket, rows_after, stop_width, Listed, Parsed, Takes, closing_taken, pair_taken, HasWidth, Reads}
 
 same_ahead : (kinds level : ℕ) (from from' rest : List Row) (ts : List Tree) → from ≡ from' → Tells kinds level from' rest ts → Tells kinds level from rest ts
 same_ahead kinds level from from' rest ts h t = subst (λ (x : List Row). Tells kinds level x rest ts) (sym h) t

@@ -1,5 +1,5 @@
 -- What a source of brackets has ahead, what it gives, and what is parsed of it.
-use Rattle.std.specs.Prelude.{◌≡◌, ℕ, ◌+◌, ◌<◌, ◌≤◌, Bool, true, false, ◌==◌, if◌then◌else◌, List, [], ◌∷◌, Some, None, ⊤}
+use Rattle.std.specs.Prelude.{◌≡◌, ℕ, ◌+◌, ◌<◌, Bool, true, false, ◌==◌, if◌then◌else◌, List, [], ◌∷◌, Some, None, ⊤}
 use Rattle.bracket_rules.specs.declared.TheConstants.{MOST_PAIRS}
 use Rattle.bracket_rules.specs.Rows.{Row, HasRow, empty_row, glue}
 use Rattle.bracket_rules.specs.Tree.{Tree, pair, stray, nothing, bracket_row, tree_rows, weight, is_nothing, IsTree, items}

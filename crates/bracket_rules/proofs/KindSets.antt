@@ -66,12 +66,13 @@ IsStack-none = record { size = refl; of_kinds = λ k. sym (has_kind-none k) }
 
 pub has_kind-one : (kind k : ℕ) → has_kind (2 ^ kind) k ≡ eqb kind k
 has_kind-one kind k = elim (eqb_tells kind k) [
-    | inl same ↦
-        let here : bit_at (2 ^ kind) k ≡ 1 = rw same.1 (bit_at-pow_same k) in
-        ap (λ (n : ℕ). eqb n 1) here ∙ sym same.0
-    | inr differ ↦
-        let there : bit_at (2 ^ kind) k ≡ 0 = bit_at-pow_other kind k (λ e. differ.1 (sym e)) in
-        ap (λ (n : ℕ). eqb n 1) there ∙ sym differ.0 ]
+  | inl same ↦
+      let here : bit_at (2 ^ kind) k ≡ 1 = rw same.1 (bit_at-pow_same k) in
+      ap (λ (n : ℕ). eqb n 1) here ∙ sym same.0
+  | inr differ ↦
+      let there : bit_at (2 ^ kind) k ≡ 0 = bit_at-pow_other kind k (λ e. differ.1 (sym e)) in
+      ap (λ (n : ℕ). eqb n 1) there ∙ sym differ.0
+]
 
 max_bit : (m n : ℕ) → m < 2 → n < 2 → eqb (max m n) 1 ≡ (eqb m 1 || eqb n 1)
 max_bit m n h k = grind (arith, nat_tests)
