@@ -50,7 +50,7 @@ Takes-closing old new kinds level k w room h = either (has_kind kinds k) refl
       tells = same_ahead kinds level old.rows (glue (bracket_row k w false) new.rows) (glue (bracket_row k w false) new.rows) [] h.spells
           (Tells-none kinds level (glue (bracket_row k w false) new.rows) (has_row new.rows h.rest));
       stops = record { is_open = sym e; has_kind = h.has_kind; wide = h.wide };
-      weighs = let weighs : old.weight ≡ w + new.weight = h.weighs in omega arith;
+      weighs = let weighs : w + new.weight ≤ old.weight = h.weighs in omega arith;
       rest = h.rest;
     }
       where
@@ -87,8 +87,8 @@ module _ (old mid new : Ahead) (kinds level k w : ℕ) (t : Tree) (below : level
         (subst (λ (x : List Row). Tells (with_kind kinds k) (suc level) mid.rows x (items t)) l.stops l.tells)));
     stops = l.stops;
     weighs =
-        let outer : old.weight ≡ w + mid.weight = h.weighs in
-        let inner : mid.weight ≡ weight t + (0 + new.weight) = l.weighs in
+        let outer : w + mid.weight ≤ old.weight = h.weighs in
+        let inner : weight t + (0 + new.weight) ≤ mid.weight = l.weighs in
         omega arith;
     rest = l.rest;
   }
@@ -102,8 +102,8 @@ module _ (old mid new : Ahead) (kinds level k w : ℕ) (t : Tree) (below : level
             (Tells-unclosed_below kinds level k w j v mid.rows new.rows t below l.rest differ is_open l.tells);
         stops = record { is_open = is_open; has_kind = l.stops.has_kind; wide = l.stops.wide };
         weighs =
-            let outer : old.weight ≡ w + mid.weight = h.weighs in
-            let inner : mid.weight ≡ weight t + (v + new.weight) = l.weighs in
+            let outer : w + mid.weight ≤ old.weight = h.weighs in
+            let inner : weight t + (v + new.weight) ≤ mid.weight = l.weighs in
             omega arith;
         rest = l.rest;
       }
@@ -114,8 +114,8 @@ module _ (old mid new : Ahead) (kinds level k w : ℕ) (t : Tree) (below : level
         (Tells-paired kinds level k w v mid.rows new.rows t below l.tells);
     some = let wide : 0 < w = h.wide in omega arith;
     weighs =
-        let outer : old.weight ≡ w + mid.weight = h.weighs in
-        let inner : mid.weight ≡ weight t + (v + new.weight) = l.weighs in
+        let outer : w + mid.weight ≤ old.weight = h.weighs in
+        let inner : weight t + (v + new.weight) ≤ mid.weight = l.weighs in
         omega arith;
     rest = l.rest;
   }
@@ -159,8 +159,8 @@ pub Reads-one : (start now next : Ahead) (kinds level : ℕ) (ts : List Tree) (w
 Reads-one start now next kinds level ts w t r p = record {
   tells = Tells-append kinds level start.rows now.rows next.rows ts (items t) r.tells p.tells;
   weighs =
-      let before : start.weight ≡ w + now.weight = r.weighs in
-      let after : now.weight ≡ weight t + next.weight = p.weighs in
+      let before : w + now.weight ≤ start.weight = r.weighs in
+      let after : weight t + next.weight ≤ now.weight = p.weighs in
       omega arith;
   rest = p.rest;
 }
@@ -173,8 +173,8 @@ Listed-after start now new kinds level ts w t list stop r l nodes weighs = recor
       (Tells-append kinds level start.rows now.rows (rows_after stop new) ts (items t) r.tells l.tells);
   stops = l.stops;
   weighs =
-      let before : start.weight ≡ w + now.weight = r.weighs in
-      let after : now.weight ≡ weight t + (stop_width stop + new.weight) = l.weighs in
+      let before : w + now.weight ≤ start.weight = r.weighs in
+      let after : weight t + (stop_width stop + new.weight) ≤ now.weight = l.weighs in
       omega arith;
   rest = l.rest;
 }
