@@ -1,13 +1,12 @@
 -- The walk down to the level at a place: the entries of a part all start before the place, or none does.
-use Rattle.std.proofs.Common.{◌≡◌, ℕ, zero, suc, ◌+◌, Bool, true, false, cond, Option, Some, None, List, [], ◌∷◌, ◌++◌, ◌&&◌, refl, ap, sym, ◌∙◌, arith, add-one}
+use Rattle.std.proofs.Common.{◌≡◌, ℕ, suc, ◌+◌, Bool, true, false, cond, Option, Some, None, List, [], ◌∷◌, ◌++◌, ◌&&◌, refl, ap, ◌∙◌, arith, add-one}
 use Rattle.std.proofs.lemmas.Bool.Decides.{nat_tests}
 use Rattle.std.proofs.lemmas.Grind.{common_steps}
 use Rattle.text_lengths.specs.declared.Length.{Length}
 use Rattle.text_lengths.specs.Length.{length_plus, is_before}
 use Rattle.text_lengths.proofs.Lengths.{length_plus_assoc}
-use Rattle.bracket_rules.specs.declared.Entry.{Entry}
-use Rattle.bracket_rules.specs.Parse.{Bracket, bracket, Spot, spot, Judged, judged_opening, judged_closing}
-use Rattle.bracket_rules.specs.Tree.{is_some_width, Tree, text, pair, stray, capped, nothing, two, three, wide, width_of, tree_length, inside_start, inside_end, closing_spot, closing_entries, tree_entries, level_after, level_before}
+use Rattle.bracket_rules.specs.Parse.{bracket, Spot, spot, Judged, judged_opening}
+use Rattle.bracket_rules.specs.Tree.{is_some_width, Tree, text, pair, stray, capped, nothing, two, three, wide, tree_length, inside_start, inside_end, closing_spot, closing_entries, tree_entries, level_after, level_before}
 use Rattle.bracket_rules.proofs.Levels.{not_before_later, not_before_sum, level_before-opening}
 use Rattle.bracket_nodes.specs.Kept.{later, inside_level, last_level}
 use Rattle.bracket_nodes.specs.Walks.{level_from}

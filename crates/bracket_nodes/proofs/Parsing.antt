@@ -1,20 +1,18 @@
 -- The steps of the parser.
-use Rattle.std.proofs.Common.{◌≡◌, ℕ, zero, suc, ◌+◌, ◌<◌, ◌≤◌, ◌≢◌, ◌⊎◌, Bool, true, false, cond, eqb, Option, Some, None, List, [], ◌∷◌, ◌++◌, refl, ap, sym, ◌∙◌, subst, arith, inl, inr, add-zero}
+use Rattle.std.proofs.Common.{◌≡◌, ℕ, suc, ◌+◌, ◌<◌, ◌≤◌, ◌≢◌, ◌⊎◌, Bool, true, false, cond, eqb, Some, None, List, [], ◌∷◌, ◌++◌, refl, ap, sym, ◌∙◌, subst, arith, inl, inr}
 use Rattle.std.proofs.lemmas.Bool.Decides.{eqb_tells}
-use Rattle.std.proofs.lemmas.List.{append-nil}
-use Rattle.bracket_rules.specs.declared.TheConstants.{MOST_PAIRS, MOST_OPEN}
+use Rattle.bracket_rules.specs.declared.TheConstants.{MOST_OPEN}
 use Rattle.bracket_rules.specs.Rows.{Row, HasRow, empty_row, glue}
-use Rattle.bracket_rules.specs.Tree.{Tree, pair, stray, capped, nothing, bracket_row, tree_rows, weight, is_missing, is_nothing, IsPair, IsLone, IsTree, items}
-use Rattle.bracket_rules.specs.Told.{has_kind, with_kind, Fits, Tells, IsTreeOf}
+use Rattle.bracket_rules.specs.Tree.{Tree, pair, stray, capped, bracket_row, tree_rows, weight, is_missing, IsLone, items}
+use Rattle.bracket_rules.specs.Told.{has_kind, with_kind, Tells, IsTreeOf}
 use Rattle.bracket_rules.proofs.Weights.{weight_pos}
 use Rattle.bracket_rules.proofs.KindSets.{has_kind-none, has_kind-with_other}
 use Rattle.bracket_rules.proofs.Telling.{Tells-none, Tells-append, Tells-fitting, Tells-stray, Tells-capped, Tells-paired, Tells-unclosed_end, Tells-unclosed_below, not_missing_inside}
 use Rattle.bracket_rules.proofs.Whole.{IsTreeOf-from_Tells}
 use Rattle.bracket_nodes.specs.declared.parser.Stop.{Stop}
 use Rattle.bracket_nodes.specs.declared.parser.Stop.TheVariants.{AtEnd, AtClosing}
-use Rattle.bracket_nodes.specs.declared.parser.Taken.{Taken}
 use Rattle.bracket_nodes.specs.declared.parser.Taken.TheVariants.{One, Last, Nothing}
-use Rattle.bracket_nodes.specs.Source.{Ahead, GivesNode, GivesBracket, rows_after, stop_width, IsClosing, IsStop, Listed, Parsed, Takes, closing_taken, pair_taken, HasWidth, Reads}
+use Rattle.bracket_nodes.specs.Source.{Ahead, GivesNode, GivesBracket, rows_after, stop_width, Listed, Parsed, Takes, closing_taken, pair_taken, HasWidth, Reads}
 
 same_ahead : (kinds level : ℕ) (from from' rest : List Row) (ts : List Tree) → from ≡ from' → Tells kinds level from' rest ts → Tells kinds level from rest ts
 same_ahead kinds level from from' rest ts h t = subst (λ (x : List Row). Tells kinds level x rest ts) (sym h) t
@@ -52,7 +50,7 @@ Takes-closing old new kinds level k w room h = either (has_kind kinds k) refl
       tells = same_ahead kinds level old.rows (glue (bracket_row k w false) new.rows) (glue (bracket_row k w false) new.rows) [] h.spells
           (Tells-none kinds level (glue (bracket_row k w false) new.rows) (has_row new.rows h.rest));
       stops = record { is_open = sym e; has_kind = h.has_kind; wide = h.wide };
-      weighs = let weighs : old.weight ≡ w + new.weight = h.weighs in omega arith;
+      weighs = let weighs : w + new.weight ≤ old.weight = h.weighs in omega arith;
       rest = h.rest;
     }
       where
@@ -89,8 +87,8 @@ module _ (old mid new : Ahead) (kinds level k w : ℕ) (t : Tree) (below : level
         (subst (λ (x : List Row). Tells (with_kind kinds k) (suc level) mid.rows x (items t)) l.stops l.tells)));
     stops = l.stops;
     weighs =
-        let outer : old.weight ≡ w + mid.weight = h.weighs in
-        let inner : mid.weight ≡ weight t + (0 + new.weight) = l.weighs in
+        let outer : w + mid.weight ≤ old.weight = h.weighs in
+        let inner : weight t + (0 + new.weight) ≤ mid.weight = l.weighs in
         omega arith;
     rest = l.rest;
   }
@@ -104,8 +102,8 @@ module _ (old mid new : Ahead) (kinds level k w : ℕ) (t : Tree) (below : level
             (Tells-unclosed_below kinds level k w j v mid.rows new.rows t below l.rest differ is_open l.tells);
         stops = record { is_open = is_open; has_kind = l.stops.has_kind; wide = l.stops.wide };
         weighs =
-            let outer : old.weight ≡ w + mid.weight = h.weighs in
-            let inner : mid.weight ≡ weight t + (v + new.weight) = l.weighs in
+            let outer : w + mid.weight ≤ old.weight = h.weighs in
+            let inner : weight t + (v + new.weight) ≤ mid.weight = l.weighs in
             omega arith;
         rest = l.rest;
       }
@@ -116,8 +114,8 @@ module _ (old mid new : Ahead) (kinds level k w : ℕ) (t : Tree) (below : level
         (Tells-paired kinds level k w v mid.rows new.rows t below l.tells);
     some = let wide : 0 < w = h.wide in omega arith;
     weighs =
-        let outer : old.weight ≡ w + mid.weight = h.weighs in
-        let inner : mid.weight ≡ weight t + (v + new.weight) = l.weighs in
+        let outer : w + mid.weight ≤ old.weight = h.weighs in
+        let inner : weight t + (v + new.weight) ≤ mid.weight = l.weighs in
         omega arith;
     rest = l.rest;
   }
@@ -161,8 +159,8 @@ pub Reads-one : (start now next : Ahead) (kinds level : ℕ) (ts : List Tree) (w
 Reads-one start now next kinds level ts w t r p = record {
   tells = Tells-append kinds level start.rows now.rows next.rows ts (items t) r.tells p.tells;
   weighs =
-      let before : start.weight ≡ w + now.weight = r.weighs in
-      let after : now.weight ≡ weight t + next.weight = p.weighs in
+      let before : w + now.weight ≤ start.weight = r.weighs in
+      let after : weight t + next.weight ≤ now.weight = p.weighs in
       omega arith;
   rest = p.rest;
 }
@@ -175,8 +173,8 @@ Listed-after start now new kinds level ts w t list stop r l nodes weighs = recor
       (Tells-append kinds level start.rows now.rows (rows_after stop new) ts (items t) r.tells l.tells);
   stops = l.stops;
   weighs =
-      let before : start.weight ≡ w + now.weight = r.weighs in
-      let after : now.weight ≡ weight t + (stop_width stop + new.weight) = l.weighs in
+      let before : w + now.weight ≤ start.weight = r.weighs in
+      let after : weight t + (stop_width stop + new.weight) ≤ now.weight = l.weighs in
       omega arith;
   rest = l.rest;
 }

@@ -1,11 +1,11 @@
 -- The walk down to the partner of the entry at a place: at most one part has an entry there.
-use Rattle.std.proofs.Common.{◌≡◌, ℕ, zero, suc, ◌+◌, ◌<◌, Bool, true, false, cond, ◌&&◌, Option, Some, None, List, [], ◌∷◌, ◌++◌, refl, ap, sym, ◌∙◌, arith, add-zero}
+use Rattle.std.proofs.Common.{◌≡◌, ℕ, suc, ◌<◌, Bool, true, false, cond, ◌&&◌, Option, Some, None, List, [], ◌∷◌, ◌++◌, refl, ap, sym, ◌∙◌, arith}
 use Rattle.std.proofs.lemmas.Bool.Decides.{nat_tests}
 use Rattle.std.proofs.lemmas.Grind.{common_steps}
 use Rattle.text_lengths.specs.declared.Length.{Length}
 use Rattle.text_lengths.specs.Length.{length_plus, is_before}
 use Rattle.text_lengths.proofs.Lengths.{length_plus_assoc}
-use Rattle.bracket_rules.specs.Parse.{Bracket, bracket, Spot, spot, Judged, judged_opening, judged_closing, same_place, partner_at}
+use Rattle.bracket_rules.specs.Parse.{bracket, Spot, spot, Judged, judged_opening, same_place, partner_at}
 use Rattle.bracket_rules.specs.Tree.{Tree, text, pair, stray, capped, nothing, two, three, wide, width_of, is_some_width, tree_length, inside_start, inside_end, closing_spot, closing_entries, tree_entries, IsWidth, IsTree}
 
 -- no entry starts at the place

@@ -1,5 +1,5 @@
 -- What a node keeps of its tree.
-use Rattle.std.specs.Prelude.{◌≡◌, ℕ, suc, ◌+◌, ◌<◌, ◌^◌, ◌&&◌, ◌||◌, max, bit_or, Option, Some, None, unwrap_or}
+use Rattle.std.specs.Prelude.{◌≡◌, ℕ, suc, ◌<◌, ◌^◌, ◌&&◌, ◌||◌, max, bit_or, Option, Some, None, unwrap_or}
 use Rattle.text_lengths.specs.Length.{length_plus}
 use Rattle.bracket_rules.specs.Tree.{Tree, text, pair, stray, capped, nothing, two, three, tree_length, is_missing, is_closed, is_capped, nesting, height, weight, IsTree}
 use Rattle.bracket_rules.specs.Told.{has_kind}

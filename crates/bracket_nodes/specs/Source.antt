@@ -11,7 +11,7 @@ use Rattle.bracket_nodes.specs.declared.parser.Stop.TheVariants.{AtEnd, AtClosin
 use Rattle.bracket_nodes.specs.declared.parser.Taken.{Taken}
 use Rattle.bracket_nodes.specs.declared.parser.Taken.TheVariants.{One, Last, Nothing}
 
--- the rows from here to the end of the text, and the weight of all that is left
+-- the rows from here to the end of the text, and a bound on the weight of all that is left
 pub record Ahead : Type 0 where
   pub rows : List Row
   pub weight : ℕ
@@ -24,14 +24,14 @@ pub record GivesNode (old new : Ahead) (kinds level : ℕ) (t : Tree) : Type 0 w
   pub some : is_nothing t ≡ false
   pub fits : Fits kinds level t
   pub spells : old.rows ≡ glue (tree_rows t) new.rows
-  pub weighs : old.weight ≡ weight t + new.weight
+  pub weighs : weight t + new.weight ≤ old.weight
   pub rest : HasRow new.rows
 
 pub record GivesBracket (old new : Ahead) (kind width : ℕ) (opening : Bool) : Type 0 where
   pub has_kind : kind < MOST_PAIRS
   pub wide : 0 < width
   pub spells : old.rows ≡ glue (bracket_row kind width opening) new.rows
-  pub weighs : old.weight ≡ width + new.weight
+  pub weighs : width + new.weight ≤ old.weight
   pub rest : HasRow new.rows
 
 abbrev pub Comes : Ahead → Ahead → ℕ → ℕ → Next → Type 0
@@ -64,14 +64,14 @@ IsStop kinds new (AtClosing kind width) = IsClosing kinds kind width
 pub record Listed (old new : Ahead) (kinds level : ℕ) (t : Tree) (stop : Stop) : Type 0 where
   pub tells : Tells kinds level old.rows (rows_after stop new) (items t)
   pub stops : IsStop kinds new stop
-  pub weighs : old.weight ≡ weight t + (stop_width stop + new.weight)
+  pub weighs : weight t + (stop_width stop + new.weight) ≤ old.weight
   pub rest : HasRow new.rows
 
 -- the node is what stands between
 pub record Parsed (old new : Ahead) (kinds level : ℕ) (t : Tree) : Type 0 where
   pub tells : Tells kinds level old.rows new.rows (items t)
   pub some : 0 < weight t
-  pub weighs : old.weight ≡ weight t + new.weight
+  pub weighs : weight t + new.weight ≤ old.weight
   pub rest : HasRow new.rows
 
 abbrev pub Takes : Ahead → Ahead → ℕ → ℕ → Taken → Type 0
@@ -96,5 +96,5 @@ HasWidth (AtClosing kind width) = 0 < width
 -- what has been read of a source, as the nodes of a list
 pub record Reads (start now : Ahead) (kinds level : ℕ) (nodes : List Tree) (w : ℕ) : Type 0 where
   pub tells : Tells kinds level start.rows now.rows nodes
-  pub weighs : start.weight ≡ w + now.weight
+  pub weighs : w + now.weight ≤ start.weight
   pub rest : HasRow now.rows

@@ -16,22 +16,22 @@ use Rattle.piece_tree.specs.Pieces.{unit_count, piece_of, piece_list, IsPieceOf,
 use Rattle.piece_tree.proofs.Sums.{units-cons}
 
 module _ (b : List (List ℕ)) where
-  front_past : (n : ℕ) (p : Piece) (ps : List Piece) → p.span.units ≤ n → front b n (p ∷ ps) ≡ p ∷ front b (n - p.span.units) ps
+  pub front_past : (n : ℕ) (p : Piece) (ps : List Piece) → p.span.units ≤ n → front b n (p ∷ ps) ≡ p ∷ front b (n - p.span.units) ps
   front_past n p ps h = rw (le-leb p.span.units n h)
 
-  back_past : (n : ℕ) (p : Piece) (ps : List Piece) → p.span.units ≤ n → back b n (p ∷ ps) ≡ back b (n - p.span.units) ps
+  pub back_past : (n : ℕ) (p : Piece) (ps : List Piece) → p.span.units ≤ n → back b n (p ∷ ps) ≡ back b (n - p.span.units) ps
   back_past n p ps h = rw (le-leb p.span.units n h)
 
-  front_none : (p : Piece) (ps : List Piece) → 0 < p.span.units → front b 0 (p ∷ ps) ≡ []
+  pub front_none : (p : Piece) (ps : List Piece) → 0 < p.span.units → front b 0 (p ∷ ps) ≡ []
   front_none p ps h = rw (lt-leb p.span.units 0 h)
 
-  back_none : (p : Piece) (ps : List Piece) → 0 < p.span.units → back b 0 (p ∷ ps) ≡ p ∷ ps
+  pub back_none : (p : Piece) (ps : List Piece) → 0 < p.span.units → back b 0 (p ∷ ps) ≡ p ∷ ps
   back_none p ps h = rw (lt-leb p.span.units 0 h)
 
-  front_part : (n : ℕ) (p : Piece) (ps : List Piece) → 0 < n → n < p.span.units → front b n (p ∷ ps) ≡ piece_of b (part_of p.span 0 n) ∷ []
+  pub front_part : (n : ℕ) (p : Piece) (ps : List Piece) → 0 < n → n < p.span.units → front b n (p ∷ ps) ≡ piece_of b (part_of p.span 0 n) ∷ []
   front_part n p ps some h = let other : n ≡ 0 → ⊥ = λ e. absurd (omega arith) in rw (lt-leb p.span.units n h, ne_eqb n 0 other)
 
-  back_part : (n : ℕ) (p : Piece) (ps : List Piece) → 0 < n → n < p.span.units → back b n (p ∷ ps) ≡ piece_of b (part_of p.span n p.span.units) ∷ ps
+  pub back_part : (n : ℕ) (p : Piece) (ps : List Piece) → 0 < n → n < p.span.units → back b n (p ∷ ps) ≡ piece_of b (part_of p.span n p.span.units) ∷ ps
   back_part n p ps some h = let other : n ≡ 0 → ⊥ = λ e. absurd (omega arith) in rw (lt-leb p.span.units n h, ne_eqb n 0 other)
 
   module _ (ps : List Piece) (i rest units : ℕ) (d : Piece) (inside : i < length ps) where
@@ -118,7 +118,7 @@ module _ (b : List (List ℕ)) where
         ]
       ]
 
-  inside_part : (span : ChunkSpan) (from to : ℕ) → from ≤ to → to ≤ span.units → LiesIn b span → LiesIn b (part_of span from to)
+  pub inside_part : (span : ChunkSpan) (from to : ℕ) → from ≤ to → to ≤ span.units → LiesIn b span → LiesIn b (part_of span from to)
   inside_part span from to ordered within lies = record { buffer = lies.buffer; end = omega arith; fits = omega arith }
 
   pub pieces-front : (n : ℕ) (ps : List Piece) → All (IsPieceOf b) ps → All (IsPieceOf b) (front b n ps)
@@ -211,7 +211,7 @@ module _ (b : List (List ℕ)) where
       let parts = sum_by-append (λ (q : Piece). q.span.units) (front b n ps) (back b n ps) in
       omega (arith, parts, units-front n ps h, units-back n ps)
 
-  piece_few : (p : Piece) → IsPieceOf b p → p.breaks ≤ p.span.units
+  pub piece_few : (p : Piece) → IsPieceOf b p → p.breaks ≤ p.span.units
   piece_few p is =
       let shown = units_at b p.span in
       omega (arith, is.breaks, break_count_is shown, break_ends_few 0 shown, length-take p.span.units (drop p.span.start (buffer_at b p.span.buffer)))

@@ -71,14 +71,16 @@ impl PieceTree {
 
     /// How many units the pieces have.
     pub fn len(&self) -> u64
-        ensures { result ≡ unit_count (pieces_of self.now.entries) }
+        ensures sum { result ≡ unit_count (pieces_of self.now.entries) }
+        ensures small { result < 2 ^ 62 }
     {
         self.total.units
     }
 
     /// How many breaks the pieces have.
     pub fn breaks(&self) -> u64
-        ensures { result ≡ break_count_of (pieces_of self.now.entries) }
+        ensures sum { result ≡ break_count_of (pieces_of self.now.entries) }
+        ensures small { result < 2 ^ 62 }
     {
         self.total.breaks
     }

@@ -119,7 +119,7 @@ fn commands_of_lines(rt: HostRuntime) {
 
 #[test]
 fn words_that_are_no_command(rt: HostRuntime) -> Result<(), Fail> {
-    for line in ["run x", "", "walk"] {
+    for line in ["run x", "", "walk", "play 10000001 0"] {
         let mut words = Vec::new(rt.alloc());
         for word in line.split_whitespace() {
             words.push(String::from_str(rt.alloc(), word)?)?;

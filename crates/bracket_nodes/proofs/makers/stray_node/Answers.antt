@@ -1,8 +1,7 @@
-use Rattle.std.proofs.Common.{◌≡◌, ℕ, ◌<◌, ◌^◌, refl, arith}
+use Rattle.std.proofs.Common.{refl, arith}
 use Rattle.text_lengths.proofs.Lengths.{same_length}
-use Rattle.bracket_rules.specs.Tree.{stray, wide}
+use Rattle.bracket_rules.specs.Tree.{wide}
 use Rattle.bracket_rules.proofs.KindSets.{has_kind-one}
-use Rattle.bracket_nodes.specs.Kept.{Keeps}
 use Rattle.bracket_nodes.proofs.makers.stray_node.Goals as goal
 
 pub invariant_of-shared : goal.invariant_of-shared

@@ -1,13 +1,13 @@
-use Rattle.std.proofs.Common.{◌≡◌, ℕ, suc, ◌+◌, ◌<◌, ap, sym, ◌∙◌, subst, add-zero, add-one, Result, arith}
+use Rattle.std.proofs.Common.{◌≡◌, ◌<◌, ap, sym, ◌∙◌, subst, add-zero, add-one, Result, arith}
 use Rattle.std.specs.Prelude.{IfOk}
 use Rattle.std.proofs.lemmas.Result.{IfOk-weaker}
 use Rattle.text_lengths.specs.declared.Length.{Length}
 use Rattle.bracket_rules.specs.declared.TheConstants.{MOST_OPEN}
 use Rattle.std.proofs.lemmas.List.{append-nil}
-use Rattle.bracket_rules.specs.Tree.{Tree, nothing, weight, items}
+use Rattle.bracket_rules.specs.Tree.{nothing}
 use Rattle.bracket_nodes.specs.SharedLists.{shared_items, shared_weight}
 use Rattle.bracket_nodes.specs.declared.parser.Taken.{Taken}
-use Rattle.bracket_nodes.specs.Source.{Ahead, Takes, Listed, closing_taken, pair_taken}
+use Rattle.bracket_nodes.specs.Source.{Ahead, Takes, closing_taken, pair_taken}
 use Rattle.bracket_nodes.proofs.Parsing.{Takes-ready, Takes-closing, Takes-capped, Takes-paired, asks_not_missing, Reads-start, Reads-one, Listed-after}
 use Rattle.bracket_nodes.proofs.parser.+parser.Goals as goal
 

@@ -1,5 +1,5 @@
-use Rattle.std.proofs.Common.{◌≡◌, ℕ, ◌+◌, [], ◌∷◌, ◌++◌, ap, ◌∙◌, arith}
-use Rattle.bracket_rules.specs.Tree.{Tree, text, wide, weight, all_weight}
+use Rattle.std.proofs.Common.{◌≡◌, [], ◌∷◌, ◌++◌, ap, ◌∙◌, arith}
+use Rattle.bracket_rules.specs.Tree.{Tree, text, weight, all_weight}
 use Rattle.bracket_rules.proofs.ItemLists.{all_weight-append}
 use Rattle.bracket_nodes.proofs.tests.texts.Goals as goal
 

@@ -1,8 +1,8 @@
-use Rattle.std.proofs.Common.{◌≡◌, ◌+◌, List, [], ◌∷◌, ◌++◌, ap, sym, ◌∙◌, arith}
+use Rattle.std.proofs.Common.{◌≡◌, ◌+◌, [], ◌∷◌, ◌++◌, ap, sym, ◌∙◌, arith}
 use Rattle.std.proofs.lemmas.List.{append-nil}
 use Rattle.bracket_rules.specs.Tree.{Tree, weight, items}
 use Rattle.bracket_nodes.specs.declared.joiner.Joiner.{Joiner}
-use Rattle.bracket_nodes.specs.SharedLists.{Takes, shared_items, shared_weight}
+use Rattle.bracket_nodes.specs.SharedLists.{shared_items, shared_weight}
 use Rattle.bracket_nodes.proofs.Shares.{popped_items, popped_weight, Holds-joined}
 use Rattle.bracket_nodes.proofs.joiner.Joiner.push.Goals as goal
 use Rattle.bracket_nodes.proofs.joiner.Joiner.push.Goals.{In_ok-push-2, in-Some+then-kept+in_ok-push, in_default}

@@ -1,0 +1,5 @@
+pub mod Stack
+pub mod Element
+pub mod Shown
+pub mod Lists
+mod Examples

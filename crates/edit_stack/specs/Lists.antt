@@ -1,0 +1,44 @@
+-- What contracts see of a stack, and what its fields keep.
+use Rattle.std.specs.Prelude.{◌≡◌, ℕ, ◌+◌, ◌<◌, ◌≤◌, ◌&&◌, Bool, true, false, nat_lt, if◌then◌else◌, List, [], ◌∷◌, ◌++◌, map, reverse, length, Option, Some, None, is_some, refl}
+use Rattle.std.specs.Vec.{vec_len, vec_capacity}
+use Rattle.edit_stack.specs.declared.element.Element.{Element}
+use Rattle.edit_stack.specs.declared.stack.EditStack.TheInside.{Inside}
+use Rattle.edit_stack.specs.Element.{step_of}
+use Rattle.edit_stack.specs.Stack.{Step, Stack}
+use Rattle.edit_stack.specs.Shown.{Shown}
+
+module _ {C : Type 0} where
+  abbrev pub opened : Option (Element C) → List (Step C)
+  opened None = []
+  opened (Some e) = step_of e ∷ []
+
+  -- how many elements there are
+  abbrev pub element_count : Inside C → ℕ
+  element_count s = vec_len s.done + length (opened s.open_element) + vec_len s.taken_back
+
+  -- whether the open element has room for one change more
+  abbrev pub may_join : Option (Element C) → Bool
+  may_join None = true
+  may_join (Some e) = nat_lt (vec_len e.changes) (vec_capacity e.changes)
+
+  abbrev pub is_ready : Inside C → Bool
+  is_ready s = nat_lt (element_count s) (vec_capacity s.done) && nat_lt (element_count s) (vec_capacity s.taken_back)
+      && nat_lt 0 (vec_capacity s.room) && may_join s.open_element
+
+  abbrev pub shown : Inside C → Shown C
+  shown s = record {
+    stack = record {
+      undo = opened s.open_element ++ map step_of (reverse s.done.items);
+      redo = map step_of (reverse s.taken_back.items);
+      is_open = is_some s.open_element;
+    };
+    spare = if is_ready s then 1 else 0;
+  }
+
+  -- each list has room for all elements
+  pub record HasRoom (s : Inside C) : Type 0 where
+    pub done : element_count s ≤ vec_capacity s.done
+    pub taken_back : element_count s ≤ vec_capacity s.taken_back
+    pub room : s.room.items ≡ []
+    -- while an element is open there is nothing to redo
+    pub apart : is_some s.open_element ≡ true → s.taken_back.items ≡ []

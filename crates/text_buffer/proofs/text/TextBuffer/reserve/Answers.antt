@@ -1,0 +1,25 @@
+use Rattle.std.proofs.Common.{◌≡◌, ap, sym, ◌∙◌, subst}
+use Rattle.piece_tree.specs.Pieces.{pieces_of}
+use Rattle.text_buffer.specs.Text.{spelled, IsText}
+use Rattle.text_buffer.proofs.Extended.{pieces-extended, spelled-extended, unsplit-extended}
+use Rattle.text_buffer.proofs.text.TextBuffer.reserve.Goals as goal
+
+pub invariant_of-self-2 : goal.invariant_of-self-2
+invariant_of-self-2 c =
+    let old = c.self.inside.chunks.buffers in
+    let new = c.reserve.new.self.buffers in
+    let ps = pieces_of c.self.inside.pieces.entries in
+    rw c.reserve-2.ensures.same
+    (record {
+      pieces = pieces-extended old new c.reserve.ensures.same ps c.self.invariant.pieces;
+      full = c.self.invariant.full;
+      unsplit = unsplit-extended old new c.reserve.ensures.same ps c.self.invariant.pieces c.self.invariant.unsplit;
+    })
+
+pub returns-clause-same : goal.returns-clause-same
+returns-clause-same c =
+    let old = c.self.inside.chunks.buffers in
+    let new = c.reserve.new.self.buffers in
+    let ps = pieces_of c.self.inside.pieces.entries in
+    ap (λ e. spelled new (pieces_of e)) c.reserve-2.ensures.same
+    ∙ spelled-extended old new c.reserve.ensures.same ps c.self.invariant.pieces ∙ ap (λ v. v.units) c.self.view_is

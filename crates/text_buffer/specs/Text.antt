@@ -1,0 +1,54 @@
+-- A text in pieces of buffers.
+use Rattle.std.specs.Prelude.{ℕ, ◌≡◌, ◌+◌, ◌<◌, Bool, false, if◌then◌else◌, Option, Some, None, length, List, [], ◌∷◌, ◌++◌, map}
+use Rattle.std.specs.List.{All, flat_map}
+use Rattle.chunk_buffers.specs.declared.span.ChunkSpan.{ChunkSpan}
+use Rattle.chunk_buffers.specs.Chunks.{Shown, units_at, LiesIn}
+use Rattle.piece_tree.specs.declared.piece.Piece.{Piece}
+use Rattle.piece_tree.specs.Pieces.{Pieces, pieces_of, IsPieceOf}
+use Rattle.text_rules.proofs.Breaks.{joins_pair}
+
+-- what contracts see of a text buffer
+pub record Text : Type 0 where
+  pub units : List ℕ
+  -- the spans of the buffers that spell the units, one for each piece
+  pub spans : List ChunkSpan
+  pub buffers : List (List ℕ)
+  -- for how many edits there is room, and for how many units; each edit takes up to three more than its text has
+  pub spare_edits : ℕ
+  pub spare_units : ℕ
+
+-- the units of the pieces, one after another
+abbrev pub spelled : List (List ℕ) → List Piece → List ℕ
+spelled buffers pieces = flat_map (λ p. units_at buffers p.span) pieces
+
+-- no CR LF lies across the border of two pieces
+abbrev pub IsUnsplit : List (List ℕ) → List Piece → Type 0
+IsUnsplit buffers [] = Unit {0}
+IsUnsplit buffers (p ∷ ps) = (joins_pair (units_at buffers p.span) (spelled buffers ps) ≡ false) × IsUnsplit buffers ps
+
+pub record IsText (tree : Pieces) (chunks : Shown) : Type 0 where
+  pub pieces : All (IsPieceOf chunks.buffers) (pieces_of tree.entries)
+  -- no piece is empty
+  pub full : All (λ (p : Piece). 0 < p.span.units) (pieces_of tree.entries)
+  pub unsplit : IsUnsplit chunks.buffers (pieces_of tree.entries)
+
+abbrev pub text_of : Pieces → Shown → Text
+text_of tree chunks = record {
+  units = spelled chunks.buffers (pieces_of tree.entries);
+  spans = map (λ p. p.span) (pieces_of tree.entries);
+  buffers = chunks.buffers;
+  spare_edits = tree.spare;
+  spare_units = chunks.spare;
+}
+
+-- the unit, where the test holds
+abbrev pub unit_if : Bool → ℕ → List ℕ
+unit_if b unit = if b then unit ∷ [] else []
+
+abbrev pub one_if : Bool → ℕ
+one_if b = if b then 1 else 0
+
+-- the units lie in these buffers as the span; where there are none, there is no span
+abbrev pub IsAdded : List (List ℕ) → Option ChunkSpan → List ℕ → Type 0
+IsAdded buffers None units = units ≡ []
+IsAdded buffers (Some span) units = LiesIn buffers span × ((units_at buffers span ≡ units) × (0 < length units))

@@ -1,0 +1,7 @@
+//! One text in pieces over buffers that are only appended to.
+#![tactic(auto)]
+
+mod look_up;
+mod text;
+
+pub use text::TextBuffer;

@@ -1,0 +1,235 @@
+//! The text, with its edits.
+
+ghost use Rattle.std.specs.Prelude.{◌≡◌, ℕ, ◌+◌, ◌-◌, ◌*◌, ◌<◌, ◌≤◌, ◌^◌, ◌&&◌, ◌++◌, ◌∷◌, List, [], true, false, if◌then◌else◌, length, map, take, drop, slice_index, OnOk, OnErr, IfOk, MatchOption};
+ghost use Rattle.chunk_buffers.specs.Chunks.{units_at, unit_count, LiesIn, Extends};
+ghost use Rattle.text_rules.specs.Edits.{edited};
+ghost use Rattle.text_rules.specs.Lines.{lines_of, line_feed, carriage_return, begins_with};
+ghost use Rattle.text_rules.proofs.Breaks.{ends_with, joins_pair};
+ghost use Rattle.text_buffer.specs.Text.{unit_if, one_if, IsAdded};
+
+use crate::look_up::piece_at;
+use chunk_buffers::{ChunkSpan, Chunks};
+use piece_tree::PieceTree;
+use std::alloc::{AllocError, Global};
+use std::marker::Model;
+use text_lengths::Span;
+
+const LINE_FEED: u16 = 10;
+const CARRIAGE_RETURN: u16 = 13;
+
+/// What an edit may append beside its text: a CR, an LF, and a unit that keeps buffers apart.
+const UNITS_AN_EDIT: u64 = 3;
+
+/// One text. Contracts see its units, and the spans that spell them.
+///
+/// No CR LF lies across the border of two pieces, and no piece is empty.
+#[derive(Drop)]
+pub struct TextBuffer {
+    pieces: PieceTree,
+    chunks: Chunks,
+}
+
+impl Model for TextBuffer {
+    ghost use Rattle.text_buffer.specs.Text.{Text, text_of, IsText};
+
+    ghost Value = { Text };
+
+    ghost view = { λ t. text_of t.pieces t.chunks };
+
+    ghost invariant = { λ t. IsText t.pieces t.chunks };
+}
+
+impl TextBuffer {
+    pub fn new(alloc: Global) -> TextBuffer
+        ensures units { result.units ≡ [] }
+        ensures spans { result.spans ≡ [] }
+        ensures buffers { result.buffers ≡ [] }
+    {
+        TextBuffer {
+            pieces: PieceTree::new(alloc),
+            chunks: Chunks::new(alloc),
+        }
+    }
+
+    /// A buffer of this text.
+    pub fn of_units(alloc: Global, units: &[u16]) -> Result<TextBuffer, AllocError>
+        ensures { IfOk result (λ text. text.units ≡ units.now) }
+    {
+        let mut pieces = PieceTree::new(alloc);
+        let mut chunks = Chunks::new(alloc);
+        if !units.is_empty() {
+            pieces.reserve(1)?;
+            let span = chunks.append_whole(units)?;
+            pieces.splice(0, 0, Some(span), &chunks);
+        }
+        Ok(TextBuffer { pieces, chunks })
+    }
+
+    /// Makes room for that many edits whose texts have that many units together. An error leaves the text as it was.
+    pub fn reserve(&mut self, edits: u64, units: u64) -> Result<(), AllocError>
+        ensures edits { OnOk result (edits ≤ self.new.spare_edits) }
+        ensures room { OnOk result (units + 3 * edits ≤ self.new.spare_units) }
+        ensures same { self.new.units ≡ self.old.units }
+        ensures spans { self.new.spans ≡ self.old.spans }
+        ensures grown { Extends self.old.buffers self.new.buffers }
+        ensures appended { unit_count self.new.buffers ≡ unit_count self.old.buffers }
+    {
+        let room = edits
+            .checked_mul(UNITS_AN_EDIT)
+            .and_then(|more| units.checked_add(more))
+            .ok_or(AllocError)?;
+        self.chunks.reserve(0, room)?;
+        self.pieces.reserve(edits)
+    }
+
+    /// How many units the text has.
+    pub fn len(&self) -> u64
+        ensures units { result ≡ length self.now.units }
+        ensures small { result < 2 ^ 62 }
+    {
+        self.pieces.len()
+    }
+
+    /// How many lines the text has.
+    pub fn line_count(&self) -> u64
+        ensures { result ≡ length (lines_of self.now.units) }
+    {
+        self.pieces.breaks() + 1
+    }
+
+    /// The buffers in which the text lies.
+    pub fn chunks(&self) -> &Chunks
+        ensures { result.now.buffers ≡ self.now.buffers }
+    {
+        &self.chunks
+    }
+
+    /// Appends the spans that spell the text. An error leaves `out` as it was.
+    pub fn spans(&self, out: &mut Vec<ChunkSpan>) -> Result<(), AllocError>
+        ensures ok { OnOk result (out.new.items ≡ out.old.items ++ self.now.spans) }
+        ensures err { OnErr result (out.new.items ≡ out.old.items) }
+    {
+        self.pieces.spans(out)
+    }
+
+    /// Puts the text in the place of the span. It takes no memory.
+    pub fn replace(&mut self, span: Span, text: &[u16])
+        requires ordered { span.start ≤ span.end }
+        requires within { span.end ≤ length self.old.units }
+        requires edits { 0 < self.old.spare_edits }
+        requires room { length text.now + 3 ≤ self.old.spare_units }
+        requires small { length (edited self.old.units (record { span = span; text = text.now; force = false })) < 2 ^ 62 }
+        ensures units { self.new.units ≡ edited self.old.units (record { span = span; text = text.now; force = false }) }
+        ensures pieces { length self.new.spans ≤ length self.old.spans + 6 }
+        ensures appended { unit_count self.new.buffers ≤ unit_count self.old.buffers + length text.now + 8 }
+        ensures grown { Extends self.old.buffers self.new.buffers }
+        ensures spare_edits { self.new.spare_edits + 1 ≡ self.old.spare_edits }
+        ensures spare_units { self.old.spare_units ≤ self.new.spare_units + length text.now + 3 }
+    {
+        let front = self.joins_front(span, text);
+        let back = self.joins_back(span, text);
+        let start = span.start - one_if(front);
+        let end = span.end + one_if(back);
+        let added = append_some(
+            &mut self.chunks,
+            carriage_return_if(front),
+            text,
+            line_feed_if(back),
+        );
+        self.pieces.splice(start, end - start, added, &self.chunks);
+    }
+
+    // Whether a CR before the span and an LF at the start of what comes after it make a pair.
+    fn joins_front(&self, span: Span, text: &[u16]) -> bool
+        requires ordered { span.start ≤ span.end }
+        requires within { span.end ≤ length self.now.units }
+        ensures { result ≡ joins_pair (take span.start self.now.units) (text.now ++ drop span.end self.now.units) }
+    {
+        if !self.is_carriage_return_before(span.start) {
+            return false;
+        }
+        if text.is_empty() {
+            return self.is_line_feed_at(span.end);
+        }
+        text[0] == LINE_FEED
+    }
+
+    // Whether a CR at the end of what comes before the span's end and an LF after it make a pair.
+    fn joins_back(&self, span: Span, text: &[u16]) -> bool
+        requires ordered { span.start ≤ span.end }
+        requires within { span.end ≤ length self.now.units }
+        ensures pair { result ≡ joins_pair (take span.start self.now.units ++ text.now) (drop span.end self.now.units) }
+        ensures inside { result ≡ true → span.end < 2 ^ 62 }
+    {
+        if !self.is_line_feed_at(span.end) {
+            return false;
+        }
+        if text.is_empty() {
+            return self.is_carriage_return_before(span.start);
+        }
+        text[text.len() - 1] == CARRIAGE_RETURN
+    }
+
+    fn is_carriage_return_before(&self, offset: u64) -> bool
+        requires { offset ≤ length self.now.units }
+        ensures { result ≡ ends_with carriage_return (take offset self.now.units) }
+    {
+        if offset == 0 {
+            return false;
+        }
+        self.unit(offset - 1) == CARRIAGE_RETURN
+    }
+
+    fn is_line_feed_at(&self, offset: u64) -> bool
+        ensures unit { result ≡ begins_with line_feed (drop offset self.now.units) }
+        ensures inside { result ≡ true → offset < 2 ^ 62 }
+    {
+        if offset >= self.len() {
+            return false;
+        }
+        self.unit(offset) == LINE_FEED
+    }
+
+    // The unit at this offset.
+    fn unit(&self, offset: u64) -> u16
+        requires { offset < length self.now.units }
+        ensures { result ≡ slice_index self.now.units offset }
+    {
+        let found = piece_at(&self.pieces, offset);
+        let at = offset - found.before.units;
+        self.chunks.units(found.span)[at as usize]
+    }
+}
+
+fn one_if(test: bool) -> u64
+    ensures { result ≡ one_if test }
+{
+    if test { 1 } else { 0 }
+}
+
+fn carriage_return_if(test: bool) -> &'static [u16]
+    ensures { result.now ≡ unit_if test carriage_return }
+{
+    if test { &[CARRIAGE_RETURN] } else { &[] }
+}
+
+fn line_feed_if(test: bool) -> &'static [u16]
+    ensures { result.now ≡ unit_if test line_feed }
+{
+    if test { &[LINE_FEED] } else { &[] }
+}
+
+// Appends the three texts as one, if they have any unit.
+fn append_some(chunks: &mut Chunks, before: &[u16], text: &[u16], after: &[u16]) -> Option<ChunkSpan>
+    requires { length (before.now ++ text.now ++ after.now) < chunks.old.spare }
+    ensures added { IsAdded chunks.new.buffers result (before.now ++ text.now ++ after.now) }
+    ensures grown { Extends chunks.old.buffers chunks.new.buffers }
+    ensures units { unit_count chunks.new.buffers
+        ≤ unit_count chunks.old.buffers + length (before.now ++ text.now ++ after.now) + 1 }
+    ensures spare { chunks.old.spare ≤ chunks.new.spare + length (before.now ++ text.now ++ after.now) + 1 }
+{
+    if before.is_empty() && text.is_empty() && after.is_empty() {
+        return None;
+    }
+    Some(chunks.append_joined(before, text, after))
+}
