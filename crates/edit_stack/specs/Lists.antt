@@ -1,10 +1,10 @@
 -- What contracts see of a stack, and what its fields keep.
-use Rattle.std.specs.Prelude.{◌≡◌, ℕ, ◌+◌, ◌<◌, ◌≤◌, ◌&&◌, Bool, true, false, nat_lt, if◌then◌else◌, List, [], ◌∷◌, ◌++◌, map, reverse, length, Option, Some, None, is_some, refl}
+use Rattle.std.specs.Prelude.{◌≡◌, ℕ, ◌+◌, ◌≤◌, ◌&&◌, Bool, true, nat_lt, if◌then◌else◌, List, [], ◌∷◌, ◌++◌, map, reverse, length, Option, Some, None, is_some}
 use Rattle.std.specs.Vec.{vec_len, vec_capacity}
 use Rattle.edit_stack.specs.declared.element.Element.{Element}
 use Rattle.edit_stack.specs.declared.stack.EditStack.TheInside.{Inside}
 use Rattle.edit_stack.specs.Element.{step_of}
-use Rattle.edit_stack.specs.Stack.{Step, Stack}
+use Rattle.edit_stack.specs.Stack.{Step}
 use Rattle.edit_stack.specs.Shown.{Shown}
 
 module _ {C : Type 0} where

@@ -1,17 +1,15 @@
 -- How a script is answered, line by line and piece by piece.
-use Rattle.std.proofs.Common.{◌≡◌, ℕ, zero, suc, ◌+◌, ◌≤◌, ◌<◌, min, Bool, true, false, List, [], ◌∷◌, ◌++◌, length, append_assoc, length-append, refl, ap, sym, ◌∙◌, subst, arith, count_by}
+use Rattle.std.proofs.Common.{◌≡◌, ℕ, suc, ◌+◌, ◌≤◌, min, List, [], ◌∷◌, ◌++◌, length, append_assoc, refl, ap, sym, ◌∙◌, subst, arith}
 use Rattle.std.specs.Str.{bytes_eq}
-use Rattle.std.specs.List.{flat_map}
 use Rattle.std.proofs.lemmas.List.{append-nil}
 use Rattle.std.proofs.lemmas.List.Concat.{flat_map-append}
 use Rattle.std.proofs.lemmas.List.Sums.{sum_by-append, count_by-le-length}
 use Rattle.document_rules.specs.Document.{FlatState}
-use Rattle.script_streams.specs.Streams.{SinkState, TakenWhole, Cut, Took, Rose, StartsWith, greatest_count}
+use Rattle.script_streams.specs.Streams.{SinkState, TakenWhole, Rose, greatest_count}
 use Rattle.script_streams.proofs.StreamLaws.{Took-append, Took-nothing}
-use Rattle.script_runner.specs.declared.line.PartialLine.{PartialLine}
 use Rattle.script_runner.specs.declared.serving.Progress.{Progress}
-use Rattle.script_runner.specs.Script.{Lines, cut, is_refused, whole_lines, last_line, all_lines, written, IsInOneLine, Turn, Transcript}
-use Rattle.script_runner.specs.Progress.{IsLineSoFar, refusals, memory_refusals, Led, Went, Broken, Broke, LineAnswered, LineBroken, PieceAnswered, PieceBroken}
+use Rattle.script_runner.specs.Script.{cut, is_refused, whole_lines, all_lines, written, IsInOneLine, Turn, Transcript}
+use Rattle.script_runner.specs.Progress.{IsLineSoFar, refusals, memory_refusals, Led, Went, Broke, LineAnswered, LineBroken, PieceAnswered, PieceBroken}
 use Rattle.script_runner.specs.Step.{memory_reply}
 use Rattle.script_runner.proofs.CutLemmas.{cut-append_line, cut-append_break, length-all_lines}
 

@@ -1,19 +1,18 @@
 -- What a run of the program comes to.
-use Rattle.std.proofs.Common.{◌≡◌, ℕ, zero, suc, ◌+◌, ◌≤◌, ◌<◌, Bool, true, false, ◌||◌, cond, List, [], ◌∷◌, ◌++◌, length, count_by, Option, Some, None, refl, ap, sym, ◌∙◌, subst, arith}
+use Rattle.std.proofs.Common.{◌≡◌, ℕ, zero, suc, ◌+◌, ◌≤◌, ◌<◌, Bool, true, false, ◌||◌, cond, List, [], ◌∷◌, ◌++◌, Option, Some, None, refl, ap, sym, ◌∙◌, subst, arith}
 use Rattle.std.specs.List.{list_any}
 use Rattle.std.proofs.lemmas.Bool.{lt-ltb}
 use Rattle.std.proofs.lemmas.List.{append-nil}
 use Rattle.std.proofs.lemmas.List.Sums.{sum_by-cons}
 use Rattle.document_rules.specs.Document.{FlatState, new_document}
 use Rattle.script_streams.specs.Streams.{SourceState, SinkState, Gave, NothingLeft, Took}
-use Rattle.script_runner.specs.declared.running.Status.{Status}
 use Rattle.script_runner.specs.declared.running.Status.TheVariants as status
 use Rattle.script_runner.specs.declared.serving.Served.{Served}
 use Rattle.script_runner.specs.declared.serving.Served.TheVariants.{Ended, ReadFault, WriteFault, TooLong}
 use Rattle.script_runner.specs.Script.{all_lines, written, is_refused, Transcript}
 use Rattle.script_runner.specs.Progress.{refusals}
 use Rattle.script_runner.specs.Serving.{Serves, ServedAll}
-use Rattle.script_runner.specs.Runs.{most_script_bytes, number_of, status_after, EndsWith, Runs, AnswersAll, IsAnswered}
+use Rattle.script_runner.specs.Runs.{most_script_bytes, status_after, EndsWith, Runs, IsAnswered}
 
 module _ (src src' : SourceState) (out out' : SinkState) where
   runs_after_end : (refused memory : ℕ) (end : FlatState) → ServedAll (new_document []) end src src' out out' refused memory

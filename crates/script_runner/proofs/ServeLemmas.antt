@@ -1,5 +1,5 @@
 -- How a whole script is served.
-use Rattle.std.proofs.Common.{◌≡◌, ℕ, zero, suc, ◌+◌, ◌-◌, ◌≤◌, ◌<◌, ◌^◌, min, Bool, true, false, List, [], ◌∷◌, ◌++◌, length, take, append_assoc, length-append, refl, ap, sym, ◌∙◌, subst, arith, inl, inr, ◌⊎◌, Result, Ok, Err, is_err}
+use Rattle.std.proofs.Common.{◌≡◌, ℕ, ◌+◌, ◌-◌, ◌≤◌, ◌<◌, ◌^◌, min, true, false, List, [], ◌∷◌, ◌++◌, length, take, append_assoc, length-append, refl, ap, sym, ◌∙◌, subst, arith, inl, inr, Result, Ok, Err, is_err}
 use Rattle.std.specs.Bool.{⊤}
 use Rattle.std.proofs.lemmas.Bool.{cases_lt, and_left, and_from, ne_eqb, eq-eqb, lt-ltb}
 use Rattle.std.proofs.lemmas.List.{append-nil, nil_from_length, length-take-le}
@@ -7,15 +7,14 @@ use Rattle.std.proofs.lemmas.List.Concat.{flat_map-append}
 use Rattle.std.proofs.lemmas.List.Sums.{sum_by-append}
 use Rattle.document_rules.specs.Document.{FlatState}
 use Rattle.script_streams.specs.declared.Failed.{Failed}
-use Rattle.script_streams.specs.Streams.{SourceState, SinkState, TakenWhole, Cut, Took, Gave, NothingLeft, Given, NotGiven, Rose, StartsWith, greatest_count}
+use Rattle.script_streams.specs.Streams.{SourceState, SinkState, Took, Gave, Given, NotGiven, Rose, greatest_count}
 use Rattle.script_streams.proofs.StreamLaws.{Took-append, Took-nothing, Gave-append, Gave-nothing}
 use Rattle.script_runner.specs.declared.serving.Progress.{Progress}
-use Rattle.script_runner.specs.Script.{cut, most_line_bytes, whole_lines, last_line, all_lines, written, Turn, Transcript}
-use Rattle.script_runner.specs.Progress.{IsLineSoFar, refusals, memory_refusals, Led, Went, Broken, Broke, LineAnswered, LineBroken, PieceAnswered, PieceBroken, AnswersPiece}
+use Rattle.script_runner.specs.Script.{cut, most_line_bytes, whole_lines, last_line, all_lines, written}
+use Rattle.script_runner.specs.Progress.{IsLineSoFar, refusals, memory_refusals, Led, Broken, LineAnswered, LineBroken, PieceAnswered, PieceBroken, AnswersPiece}
 use Rattle.script_runner.specs.declared.serving.Served.{Served}
 use Rattle.script_runner.specs.declared.serving.Served.TheVariants.{Ended, ReadFault, WriteFault, TooLong}
-use Rattle.script_runner.specs.Serving.{Serves, Finishes, RoseBy, AllAnswered, Finished, FinishBroken, ServedAll, ServedToReadFault, ServedToWriteFault, ServedToLimit}
-use Rattle.script_runner.proofs.CutLemmas.{length-all_lines}
+use Rattle.script_runner.specs.Serving.{Serves, Finishes, RoseBy, Finished, FinishBroken, ServedAll, ServedToReadFault, ServedToWriteFault, ServedToLimit}
 use Rattle.script_runner.proofs.LedLemmas.{Transcript-push, few_refusals, few_memory_refusals, counted_more, Led-start}
 
 -- ---- the last line

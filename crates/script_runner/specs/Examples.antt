@@ -1,5 +1,5 @@
 -- Worked examples of the definitions.
-use Rattle.std.specs.Prelude.{◌≡◌, ◌∷◌, [], codes, refl, true, false}
+use Rattle.std.specs.Prelude.{◌≡◌, ◌∷◌, [], codes, refl, false}
 use Rattle.document_rules.specs.Document.{new_document}
 use Rattle.script_lines.specs.declared.command.Command.TheVariants.{Open, Edit, Size, Line}
 use Rattle.std.specs.Fmt.{digits}

@@ -1,5 +1,5 @@
 -- A script, line by line, and the replies that may answer it.
-use Rattle.std.specs.Prelude.{◌≡◌, ℕ, ◌^◌, ◌||◌, ◌&&◌, ◌==◌, nat_lt, not, Bool, true, false, if◌then◌else◌, List, [], ◌∷◌, ◌++◌, length, Option, Some, None}
+use Rattle.std.specs.Prelude.{◌≡◌, ℕ, ◌^◌, ◌||◌, ◌==◌, nat_lt, not, Bool, true, false, if◌then◌else◌, List, [], ◌∷◌, ◌++◌, length, Option, Some, None}
 use Rattle.std.specs.List.{list_all, flat_map}
 use Rattle.document_rules.specs.Document.{FlatState}
 use Rattle.script_lines.specs.declared.reason.Refusal.TheVariants.{Syntax, Limit}

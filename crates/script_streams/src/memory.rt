@@ -1,7 +1,7 @@
 //! Sources and sinks in memory that fail or come short by a plan.
-ghost use Rattle.std.specs.Prelude.{◌≡◌, ◌<◌, length, All, IfOk, OnErr, Some, []};
+ghost use Rattle.std.specs.Prelude.{◌≡◌, ◌<◌, All, IfOk, OnErr, Some, []};
 ghost use Rattle.std.specs.Option.{option_copied};
-ghost use Rattle.script_streams.specs.Streams.{Reads, Writes};
+ghost use Rattle.script_streams.specs.Streams.{Writes};
 ghost use Rattle.script_streams.specs.Fresh.{fresh_source, fresh_sink};
 ghost use Rattle.script_streams.specs.Plan.{GivesSomething};
 

@@ -1,5 +1,5 @@
 //! Sources and sinks over std's readers and writers: where the outside is trusted.
-ghost use Rattle.std.specs.Prelude.{◌≡◌, ◌<◌, None, length};
+ghost use Rattle.std.specs.Prelude.{◌≡◌, ◌<◌, None};
 ghost use Rattle.std.specs.Io.{ReadsAtMost, WritesAtMost};
 ghost use Rattle.std.specs.Io.KnownBytes.{WriteAppends};
 ghost use Rattle.script_streams.specs.Fresh.{fresh_source, fresh_sink};

@@ -1,5 +1,5 @@
 //! Sources and sinks in memory that never fail.
-ghost use Rattle.std.specs.Prelude.{◌≡◌, ◌<◌, length, IfOk, IsOk, Some, []};
+ghost use Rattle.std.specs.Prelude.{◌≡◌, ◌<◌, IfOk, IsOk, Some, []};
 ghost use Rattle.std.specs.Option.{option_copied};
 ghost use Rattle.script_streams.specs.Streams.{Reads, Writes};
 ghost use Rattle.script_streams.specs.Fresh.{fresh_source, fresh_sink};

@@ -1,4 +1,4 @@
-use Rattle.std.proofs.Common.{[], List, ℕ, Bor, length, map, sym, ◌∙◌}
+use Rattle.std.proofs.Common.{[], List, ℕ, Bor, map, sym, ◌∙◌}
 use Rattle.std.specs.Str.{bytes_eq}
 use Rattle.std.proofs.Math.ListN.{get_or-map, length-map}
 use Rattle.std.proofs.lemmas.List.Folds.{list_any_at}

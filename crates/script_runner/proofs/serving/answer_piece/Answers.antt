@@ -1,7 +1,7 @@
 use Rattle.std.proofs.Common.{refl}
 use Rattle.std.proofs.lemmas.Result.{err_from_is_err_and}
 use Rattle.script_runner.specs.declared.serving.Progress.{Progress}
-use Rattle.script_runner.proofs.LedLemmas.{answered_to_start, answered_to_line, piece_broken, piece_answered}
+use Rattle.script_runner.proofs.LedLemmas.{answered_to_line, piece_broken, piece_answered}
 use Rattle.script_runner.proofs.serving.answer_piece.Goals as goal
 
 pub returns-in_err-answer_line : goal.returns-in_err-answer_line

@@ -1,5 +1,4 @@
-use Rattle.std.proofs.Common.{ap, sym, ◌∙◌}
-use Rattle.script_runner.proofs.ServeLemmas.{finish_empty, finish_line, finish_broken}
+use Rattle.script_runner.proofs.ServeLemmas.{finish_line, finish_broken}
 use Rattle.script_runner.proofs.serving.finish.Goals as goal
 
 pub returns-in-Ok : goal.returns-in-Ok

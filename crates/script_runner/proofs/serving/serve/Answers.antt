@@ -1,4 +1,4 @@
-use Rattle.std.proofs.Common.{◌≡◌, ◌<◌, ◌≤◌, ℕ, List, ◌++◌, length, take, drop, min, arith, sym, ◌∙◌}
+use Rattle.std.proofs.Common.{◌≡◌, ℕ, List, length, take, drop, min, arith, sym, ◌∙◌}
 use Rattle.std.proofs.lemmas.List.{take-append-le, length-take-le}
 use Rattle.script_runner.proofs.ServeLemmas.{serves_end, served_to_more, served_to_write_fault, piece_broken_at_err, piece_answered_at_ok}
 use Rattle.script_runner.proofs.serving.serve.Goals as goal
