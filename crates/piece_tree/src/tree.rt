@@ -115,6 +115,7 @@ impl PieceTree {
         ensures piece { IsFound self.now.entries result }
         ensures start { result.before.breaks < n }
         ensures end { n ≤ result.before.breaks + result.breaks }
+        ensures small { result.before.units + result.span.units < 2 ^ 62 }
     {
         let mut before = PieceSum {
             units: 0,

@@ -47,47 +47,59 @@ module _ (b : List (List ℕ)) where
       let tail : All (IsPieceOf b) (q ∷ ps) = All-tail (IsPieceOf b) p (q ∷ ps) all in
       let full_tail : All (λ (r : Piece). 0 < r.span.units) (q ∷ ps) = All-tail (λ (r : Piece). 0 < r.span.units) p (q ∷ ps) full in
       let some : 0 < length (spelled b (q ∷ ps)) =
-          omega (arith, length-append (units_at b q.span) (spelled b ps),
-              some_units q (All-head (IsPieceOf b) q ps tail) (All-head (λ (r : Piece). 0 < r.span.units) q ps full_tail)) in
+      omega (
+        arith,
+        length-append (units_at b q.span) (spelled b ps),
+        some_units q (All-head (IsPieceOf b) q ps tail) (All-head (λ (r : Piece). 0 < r.span.units) q ps full_tail),
+      ) in
       let after : begins_with line_feed (spelled b ((q ∷ ps) ++ qs)) ≡ begins_with line_feed (spelled b (q ∷ ps)) =
-          ap (begins_with line_feed) (spelled-append b (q ∷ ps) qs) ∙ begins_with-append line_feed (spelled b (q ∷ ps)) (spelled b qs) some in
+      ap (begins_with line_feed) (spelled-append b (q ∷ ps) qs) ∙ begins_with-append line_feed (spelled b (q ∷ ps)) (spelled b qs) some in
       let last : ends_with carriage_return (units_at b p.span ++ spelled b (q ∷ ps)) ≡ ends_with carriage_return (spelled b (q ∷ ps)) =
-          ends_with-append carriage_return (units_at b p.span) (spelled b (q ∷ ps)) some in
-      (ap (λ f. ends_with carriage_return (units_at b p.span) && f) after ∙ a.0,
-      unsplit-append (q ∷ ps) qs tail full_tail a.1 c (ap (λ f. f && begins_with line_feed (spelled b qs)) (sym last) ∙ border))
+      ends_with-append carriage_return (units_at b p.span) (spelled b (q ∷ ps)) some in (
+        ap (λ f. ends_with carriage_return (units_at b p.span) && f) after ∙ a.0,
+        unsplit-append (q ∷ ps) qs tail full_tail a.1 c (ap (λ f. f && begins_with line_feed (spelled b qs)) (sym last) ∙ border),
+      )
 
   -- the two parts of a list of pieces
   pub unsplit-parts : (ps qs : List Piece) → All (IsPieceOf b) ps → All (λ (p : Piece). 0 < p.span.units) ps → IsUnsplit b (ps ++ qs)
       → (joins_pair (spelled b ps) (spelled b qs) ≡ false) × (IsUnsplit b ps × IsUnsplit b qs)
   unsplit-parts [] qs all full a = (refl, (tt, a))
-  unsplit-parts (p ∷ []) qs all full a =
-      (subst (λ (s : List ℕ). joins_pair s (spelled b qs) ≡ false) (sym (append-nil (units_at b p.span))) a.0,
-      ((and_false (ends_with carriage_return (units_at b p.span)), tt), a.1))
+  unsplit-parts (p ∷ []) qs all full a = (
+    subst (λ (s : List ℕ). joins_pair s (spelled b qs) ≡ false) (sym (append-nil (units_at b p.span))) a.0,
+    ((and_false (ends_with carriage_return (units_at b p.span)), tt), a.1),
+  )
   unsplit-parts (p ∷ q ∷ ps) qs all full a =
       let tail : All (IsPieceOf b) (q ∷ ps) = All-tail (IsPieceOf b) p (q ∷ ps) all in
       let full_tail : All (λ (r : Piece). 0 < r.span.units) (q ∷ ps) = All-tail (λ (r : Piece). 0 < r.span.units) p (q ∷ ps) full in
       let some : 0 < length (spelled b (q ∷ ps)) =
-          omega (arith, length-append (units_at b q.span) (spelled b ps),
-              some_units q (All-head (IsPieceOf b) q ps tail) (All-head (λ (r : Piece). 0 < r.span.units) q ps full_tail)) in
+      omega (
+        arith,
+        length-append (units_at b q.span) (spelled b ps),
+        some_units q (All-head (IsPieceOf b) q ps tail) (All-head (λ (r : Piece). 0 < r.span.units) q ps full_tail),
+      ) in
       let after : begins_with line_feed (spelled b ((q ∷ ps) ++ qs)) ≡ begins_with line_feed (spelled b (q ∷ ps)) =
-          ap (begins_with line_feed) (spelled-append b (q ∷ ps) qs) ∙ begins_with-append line_feed (spelled b (q ∷ ps)) (spelled b qs) some in
+      ap (begins_with line_feed) (spelled-append b (q ∷ ps) qs) ∙ begins_with-append line_feed (spelled b (q ∷ ps)) (spelled b qs) some in
       let last : ends_with carriage_return (units_at b p.span ++ spelled b (q ∷ ps)) ≡ ends_with carriage_return (spelled b (q ∷ ps)) =
-          ends_with-append carriage_return (units_at b p.span) (spelled b (q ∷ ps)) some in
-      let rest = unsplit-parts (q ∷ ps) qs tail full_tail a.1 in
-      (ap (λ f. f && begins_with line_feed (spelled b qs)) last ∙ rest.0,
-      ((ap (λ f. ends_with carriage_return (units_at b p.span) && f) (sym after) ∙ a.0, rest.1.0), rest.1.1))
+      ends_with-append carriage_return (units_at b p.span) (spelled b (q ∷ ps)) some in
+      let rest = unsplit-parts (q ∷ ps) qs tail full_tail a.1 in (
+        ap (λ f. f && begins_with line_feed (spelled b qs)) last ∙ rest.0,
+        ((ap (λ f. ends_with carriage_return (units_at b p.span) && f) (sym after) ∙ a.0, rest.1.0), rest.1.1),
+      )
 
   pub unsplit-front : (n : ℕ) (ps : List Piece) → All (IsPieceOf b) ps → IsUnsplit b ps → IsUnsplit b (front b n ps)
   unsplit-front n [] all a = tt
   unsplit-front n (p ∷ ps) all a =
       let tail : All (IsPieceOf b) ps = All-tail (IsPieceOf b) p ps all in
       elim (cases_lt n p.span.units) [
-        inr past ↦ subst (IsUnsplit b) (sym (front_past b n p ps past))
-            (subst (λ (s : List ℕ). joins_pair (units_at b p.span) s ≡ false) (sym (spelled-front b (n - p.span.units) ps tail)) (begins_with-take (n - p.span.units) (units_at b p.span) (spelled b ps) a.0),
-            unsplit-front (n - p.span.units) ps tail a.1)
-      | inl within ↦ elim (cases_eq n 0) [
-          inl none ↦ subst (IsUnsplit b) (sym (ap (λ (k : ℕ). front b k (p ∷ ps)) none ∙ front_none b p ps (omega arith))) tt
-        | inr some ↦ subst (IsUnsplit b) (sym (front_part b n p ps (omega arith) within)) (and_false (ends_with carriage_return (units_at b (part_of p.span 0 n))), tt) ] ]
+        | inr past ↦ subst (IsUnsplit b) (sym (front_past b n p ps past)) (
+          subst (λ (s : List ℕ). joins_pair (units_at b p.span) s ≡ false) (sym (spelled-front b (n - p.span.units) ps tail)) (begins_with-take (n - p.span.units) (units_at b p.span) (spelled b ps) a.0),
+          unsplit-front (n - p.span.units) ps tail a.1,
+        )
+        | inl within ↦ elim (cases_eq n 0) [
+          | inl none ↦ subst (IsUnsplit b) (sym (ap (λ (k : ℕ). front b k (p ∷ ps)) none ∙ front_none b p ps (omega arith))) tt
+          | inr some ↦ subst (IsUnsplit b) (sym (front_part b n p ps (omega arith) within)) (and_false (ends_with carriage_return (units_at b (part_of p.span 0 n))), tt)
+        ]
+      ]
 
   pub unsplit-back : (n : ℕ) (ps : List Piece) → All (IsPieceOf b) ps → IsUnsplit b ps → IsUnsplit b (back b n ps)
   unsplit-back n [] all a = tt
@@ -95,58 +107,72 @@ module _ (b : List (List ℕ)) where
       let head : IsPieceOf b p = All-head (IsPieceOf b) p ps all in
       let tail : All (IsPieceOf b) ps = All-tail (IsPieceOf b) p ps all in
       elim (cases_lt n p.span.units) [
-        inr past ↦ subst (IsUnsplit b) (sym (back_past b n p ps past)) (unsplit-back (n - p.span.units) ps tail a.1)
-      | inl within ↦ elim (cases_eq n 0) [
-          inl none ↦ subst (IsUnsplit b) (sym (ap (λ (k : ℕ). back b k (p ∷ ps)) none ∙ back_none b p ps (omega arith))) a
-        | inr some ↦ subst (IsUnsplit b) (sym (back_part b n p ps (omega arith) within))
-            (ap (λ f. f && begins_with line_feed (spelled b ps))
+        | inr past ↦ subst (IsUnsplit b) (sym (back_past b n p ps past)) (unsplit-back (n - p.span.units) ps tail a.1)
+        | inl within ↦ elim (cases_eq n 0) [
+          | inl none ↦ subst (IsUnsplit b) (sym (ap (λ (k : ℕ). back b k (p ∷ ps)) none ∙ back_none b p ps (omega arith))) a
+          | inr some ↦ subst (IsUnsplit b) (sym (back_part b n p ps (omega arith) within)) (
+            ap (λ f. f && begins_with line_feed (spelled b ps))
                 (ap (ends_with carriage_return) (back_of_piece b p n head (omega arith)) ∙ ends_with-drop carriage_return n (units_at b p.span) (omega (arith, length-units_at b p.span head.inside)))
-                ∙ a.0, a.1) ] ]
+                ∙ a.0,
+            a.1,
+          )
+        ]
+      ]
 
   pub full-front : (n : ℕ) (ps : List Piece) → All (λ (p : Piece). 0 < p.span.units) ps → All (λ (p : Piece). 0 < p.span.units) (front b n ps)
   full-front n [] full = full
   full-front n (p ∷ ps) full =
       let P : Piece → Type 0 = λ q. 0 < q.span.units in
       elim (cases_lt n p.span.units) [
-        inr past ↦ subst (All P) (sym (front_past b n p ps past)) (All-cons P p (front b (n - p.span.units) ps) (All-head P p ps full) (full-front (n - p.span.units) ps (All-tail P p ps full)))
-      | inl within ↦ elim (cases_eq n 0) [
-          inl none ↦ subst (All P) (sym (ap (λ (k : ℕ). front b k (p ∷ ps)) none ∙ front_none b p ps (omega arith))) (All-nil P)
-        | inr some ↦ subst (All P) (sym (front_part b n p ps (omega arith) within)) (All-cons P (piece_of b (part_of p.span 0 n)) [] (omega arith) (All-nil P)) ] ]
+        | inr past ↦ subst (All P) (sym (front_past b n p ps past)) (All-cons P p (front b (n - p.span.units) ps) (All-head P p ps full) (full-front (n - p.span.units) ps (All-tail P p ps full)))
+        | inl within ↦ elim (cases_eq n 0) [
+          | inl none ↦ subst (All P) (sym (ap (λ (k : ℕ). front b k (p ∷ ps)) none ∙ front_none b p ps (omega arith))) (All-nil P)
+          | inr some ↦ subst (All P) (sym (front_part b n p ps (omega arith) within)) (All-cons P (piece_of b (part_of p.span 0 n)) [] (omega arith) (All-nil P))
+        ]
+      ]
 
   pub full-back : (n : ℕ) (ps : List Piece) → All (λ (p : Piece). 0 < p.span.units) ps → All (λ (p : Piece). 0 < p.span.units) (back b n ps)
   full-back n [] full = full
   full-back n (p ∷ ps) full =
       let P : Piece → Type 0 = λ q. 0 < q.span.units in
       elim (cases_lt n p.span.units) [
-        inr past ↦ subst (All P) (sym (back_past b n p ps past)) (full-back (n - p.span.units) ps (All-tail P p ps full))
-      | inl within ↦ elim (cases_eq n 0) [
-          inl none ↦ subst (All P) (sym (ap (λ (k : ℕ). back b k (p ∷ ps)) none ∙ back_none b p ps (omega arith))) full
-        | inr some ↦ subst (All P) (sym (back_part b n p ps (omega arith) within)) (All-cons P (piece_of b (part_of p.span n p.span.units)) ps (omega arith) (All-tail P p ps full)) ] ]
+        | inr past ↦ subst (All P) (sym (back_past b n p ps past)) (full-back (n - p.span.units) ps (All-tail P p ps full))
+        | inl within ↦ elim (cases_eq n 0) [
+          | inl none ↦ subst (All P) (sym (ap (λ (k : ℕ). back b k (p ∷ ps)) none ∙ back_none b p ps (omega arith))) full
+          | inr some ↦ subst (All P) (sym (back_part b n p ps (omega arith) within)) (All-cons P (piece_of b (part_of p.span n p.span.units)) ps (omega arith) (All-tail P p ps full))
+        ]
+      ]
 
   pub length-front : (n : ℕ) (ps : List Piece) → length (front b n ps) ≤ length ps
   length-front n [] = omega arith
   length-front n (p ∷ ps) =
       elim (cases_lt n p.span.units) [
-        inr past ↦ omega (arith, ap length (front_past b n p ps past), length-front (n - p.span.units) ps)
-      | inl within ↦ elim (cases_eq n 0) [
-          inl none ↦ omega (arith, ap length (ap (λ (k : ℕ). front b k (p ∷ ps)) none ∙ front_none b p ps (omega arith)))
-        | inr some ↦ omega (arith, ap length (front_part b n p ps (omega arith) within)) ] ]
+        | inr past ↦ omega (arith, ap length (front_past b n p ps past), length-front (n - p.span.units) ps)
+        | inl within ↦ elim (cases_eq n 0) [
+          | inl none ↦ omega (arith, ap length (ap (λ (k : ℕ). front b k (p ∷ ps)) none ∙ front_none b p ps (omega arith)))
+          | inr some ↦ omega (arith, ap length (front_part b n p ps (omega arith) within))
+        ]
+      ]
 
   length-back : (n : ℕ) (ps : List Piece) → length (back b n ps) ≤ length ps
   length-back n [] = omega arith
   length-back n (p ∷ ps) =
       elim (cases_lt n p.span.units) [
-        inr past ↦ omega (arith, ap length (back_past b n p ps past), length-back (n - p.span.units) ps)
-      | inl within ↦ elim (cases_eq n 0) [
-          inl none ↦ omega (arith, ap length (ap (λ (k : ℕ). back b k (p ∷ ps)) none ∙ back_none b p ps (omega arith)))
-        | inr some ↦ omega (arith, ap length (back_part b n p ps (omega arith) within)) ] ]
+        | inr past ↦ omega (arith, ap length (back_past b n p ps past), length-back (n - p.span.units) ps)
+        | inl within ↦ elim (cases_eq n 0) [
+          | inl none ↦ omega (arith, ap length (ap (λ (k : ℕ). back b k (p ∷ ps)) none ∙ back_none b p ps (omega arith)))
+          | inr some ↦ omega (arith, ap length (back_part b n p ps (omega arith) within))
+        ]
+      ]
 
   -- at most one piece is in both parts
   pub length-parts : (n m : ℕ) (ps : List Piece) → n ≤ m → length (front b n ps) + length (back b m ps) ≤ length ps + 1
   length-parts n m [] h = omega arith
   length-parts n m (p ∷ ps) h =
       elim (cases_lt n p.span.units) [
-        inr past ↦ omega (arith, ap length (front_past b n p ps past), ap length (back_past b m p ps (omega arith)), length-parts (n - p.span.units) (m - p.span.units) ps (omega arith))
-      | inl within ↦ elim (cases_eq n 0) [
-          inl none ↦ omega (arith, ap length (ap (λ (k : ℕ). front b k (p ∷ ps)) none ∙ front_none b p ps (omega arith)), length-back m (p ∷ ps))
-        | inr some ↦ omega (arith, ap length (front_part b n p ps (omega arith) within), length-back m (p ∷ ps)) ] ]
+        | inr past ↦ omega (arith, ap length (front_past b n p ps past), ap length (back_past b m p ps (omega arith)), length-parts (n - p.span.units) (m - p.span.units) ps (omega arith))
+        | inl within ↦ elim (cases_eq n 0) [
+          | inl none ↦ omega (arith, ap length (ap (λ (k : ℕ). front b k (p ∷ ps)) none ∙ front_none b p ps (omega arith)), length-back m (p ∷ ps))
+          | inr some ↦ omega (arith, ap length (front_part b n p ps (omega arith) within), length-back m (p ∷ ps))
+        ]
+      ]

@@ -31,7 +31,7 @@ module _ (b : List (List ℕ)) where
 
   added_pieces : (span : Option ChunkSpan) (units : List ℕ) → IsAdded b span units → All (IsPieceOf b) (piece_list b span)
   added_pieces None units is = All-nil (IsPieceOf b)
-  added_pieces (Some span) units is = All-cons (IsPieceOf b) (piece_of b span) [] (record { inside = is.0; breaks = refl; }) (All-nil (IsPieceOf b))
+  added_pieces (Some span) units is = All-cons (IsPieceOf b) (piece_of b span) [] (record { inside = is.0; breaks = refl }) (All-nil (IsPieceOf b))
 
   added_full : (span : Option ChunkSpan) (units : List ℕ) → IsAdded b span units → All IsFull (piece_list b span)
   added_full None units is = All-nil IsFull
@@ -76,11 +76,11 @@ IsReplaced-at old_b b ps x text start end front_joins back_joins span grown old_
     let fm_text : spelled b (fs ++ ms) ≡ take s x ++ w = spelled-append b fs ms ∙ ap (λ t. t ++ spelled b ms) f_text ∙ ap (λ t. take s x ++ t) m_text in
     let inside : start ≤ length x = omega arith in
     let border : joins_pair (spelled b fs) (spelled b ms) ≡ false =
-        ap (λ t. joins_pair t (spelled b ms)) f_text ∙ ap (joins_pair (take s x)) m_text
-        ∙ joins_front (take s x) w (drop e x) (front_border x text start end inside back_joins back_is front_joins front_is) in
+    ap (λ t. joins_pair t (spelled b ms)) f_text ∙ ap (joins_pair (take s x)) m_text
+    ∙ joins_front (take s x) w (drop e x) (front_border x text start end inside back_joins back_is front_joins front_is) in
     let next_border : joins_pair (spelled b (fs ++ ms)) (spelled b ks) ≡ false =
-        ap (λ t. joins_pair t (spelled b ks)) fm_text ∙ ap (joins_pair (take s x ++ w)) k_text
-        ∙ back_border x text start end inside front_joins front_is back_joins back_is in
+    ap (λ t. joins_pair t (spelled b ks)) fm_text ∙ ap (joins_pair (take s x ++ w)) k_text
+    ∙ back_border x text start end inside front_joins front_is back_joins back_is in
     let all_fm = All-append (IsPieceOf b) fs ms (pieces-front b s ps all) (added_pieces b span w added) in
     let full_fm = All-append IsFull fs ms (full-front b s ps full) (added_full b span w added) in
     record {
@@ -105,12 +105,12 @@ IsReplaced-of old_b b ps new x text start end front_joins back_joins span one tw
     let first : start - one ≡ start - one_if front_joins = ap (λ (n : ℕ). start - n) one_is in
     let last : start - one + (end + two - (start - one)) ≡ end + one_if back_joins = omega (arith, two_is) in
     let whole_is : cr ++ text ++ lf ≡ (unit_if front_joins carriage_return ++ text) ++ unit_if back_joins line_feed =
-        ap (λ c. c ++ text ++ lf) cr_is ∙ ap (λ l. (unit_if front_joins carriage_return ++ text) ++ l) lf_is in
+    ap (λ c. c ++ text ++ lf) cr_is ∙ ap (λ l. (unit_if front_joins carriage_return ++ text) ++ l) lf_is in
     let pieces_are : new ≡ spliced b (start - one_if front_joins) (end + one_if back_joins) span ps =
-        new_is ∙ ap (λ (n : ℕ). spliced b n (start - one + (end + two - (start - one))) span ps) first ∙ ap (λ (n : ℕ). spliced b (start - one_if front_joins) n span ps) last in
+    new_is ∙ ap (λ (n : ℕ). spliced b n (start - one + (end + two - (start - one))) span ps) first ∙ ap (λ (n : ℕ). spliced b (start - one_if front_joins) n span ps) last in
     subst (λ (qs : List Piece). IsReplaced b ps qs x text start end) (sym pieces_are)
     (IsReplaced-at old_b b ps x text start end front_joins back_joins span grown all full unsplit x_is ordered within (sym front_is) (sym back_is)
-        (subst (IsAdded b span) whole_is added))
+    (subst (IsAdded b span) whole_is added))
 
 pub units-added : (b : List (List ℕ)) (span : Option ChunkSpan) (units : List ℕ) → IsAdded b span units → unit_count (piece_list b span) ≡ length units
 units-added b span units added =

@@ -31,7 +31,8 @@ module _ (old new : List (List ℕ)) (grown : Extends old new) where
   unsplit-extended [] all a = tt
   unsplit-extended (p ∷ ps) all a =
       let head : IsPieceOf old p = All-head (IsPieceOf old) p ps all in
-      let tail : All (IsPieceOf old) ps = All-tail (IsPieceOf old) p ps all in
-      (ap (λ s. joins_pair s (spelled new ps)) (units_at-extended old new p.span grown head.inside)
-          ∙ ap (joins_pair (units_at old p.span)) (spelled-extended ps tail) ∙ a.0,
-      unsplit-extended ps tail a.1)
+      let tail : All (IsPieceOf old) ps = All-tail (IsPieceOf old) p ps all in (
+        ap (λ s. joins_pair s (spelled new ps)) (units_at-extended old new p.span grown head.inside)
+            ∙ ap (joins_pair (units_at old p.span)) (spelled-extended ps tail) ∙ a.0,
+        unsplit-extended ps tail a.1,
+      )

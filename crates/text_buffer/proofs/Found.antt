@@ -1,7 +1,7 @@
 -- What a looked-up piece says of the text.
-use Rattle.std.proofs.Common.{◌≡◌, ℕ, ◌+◌, ◌-◌, ◌<◌, ◌≤◌, false, List, [], ◌∷◌, ◌++◌, length, take, drop, get_or, map, add-zero, refl, ap, sym, subst, ◌∙◌, arith}
+use Rattle.std.proofs.Common.{◌≡◌, ℕ, ◌+◌, ◌-◌, ◌<◌, ◌≤◌, false, List, [], ◌∷◌, ◌++◌, length, take, drop, get_or, map, add-zero, zero-add, refl, ap, sym, subst, ◌∙◌, arith}
 use Rattle.std.specs.List.{All}
-use Rattle.std.proofs.lemmas.List.{map-append, length-map, take_at, drop_at, length-append, get_or_append_left, get_or-append_right}
+use Rattle.std.proofs.lemmas.List.{map-append, length-map, take_at, drop_at, drop-append-le, length-append, get_or_append_left, get_or-append_right, get_or-map}
 use Rattle.std.proofs.lemmas.List.Elements.{All-head, All-tail, All-take, All-drop, All-same}
 use Rattle.chunk_buffers.specs.Chunks.{units_at, LiesIn}
 use Rattle.line_starts.specs.Starts.{break_count}
@@ -10,10 +10,10 @@ use Rattle.piece_tree.specs.declared.piece.Piece.{Piece}
 use Rattle.piece_tree.specs.declared.piece.Found.{Found}
 use Rattle.piece_tree.specs.Pieces.{Entry, pieces_of, unit_count, break_count_of, IsPieceOf, IsFound}
 use Rattle.piece_tree.proofs.Sums.{units-cons, breaks-cons}
-use Rattle.text_rules.specs.Lines.{lines_of}
-use Rattle.text_rules.proofs.Breaks.{break_ends, break_ends-append, break_ends_moved, joins_pair, line_count_is}
+use Rattle.text_rules.specs.Lines.{lines_of, line_start}
+use Rattle.text_rules.proofs.Breaks.{break_ends, break_ends-append, break_ends_moved, joins_pair, line_count_is, line_start_is, count_to, count_to_all, count_to_none, count_to-append, count_to-later, count_to-moved}
 use Rattle.text_buffer.specs.Text.{spelled, IsUnsplit}
-use Rattle.text_buffer.proofs.Spelling.{spelled-append, length-spelled, length-units_at}
+use Rattle.text_buffer.proofs.Spelling.{spelled-append, length-spelled, length-units_at, drop-past}
 use Rattle.text_buffer.proofs.Borders.{unsplit-parts}
 
 ends_count : (at : ℕ) (x : List ℕ) → length (break_ends at x) ≡ length (break_ends 0 x)
@@ -28,8 +28,16 @@ breaks_of_pieces b (p ∷ ps) all a =
     let own = units_at b p.span in
     let parts = ap length (break_ends-append 0 own (spelled b ps) a.0) in
     let moved : length (break_ends (0 + length own) (spelled b ps)) ≡ length (break_ends 0 (spelled b ps)) = ends_count (0 + length own) (spelled b ps) in
-    omega (arith, breaks-cons p ps, head.breaks, break_count_is own, parts, length-append (break_ends 0 own) (break_ends (0 + length own) (spelled b ps)), moved,
-        breaks_of_pieces b ps (All-tail (IsPieceOf b) p ps all) a.1)
+    omega (
+      arith,
+      breaks-cons p ps,
+      head.breaks,
+      break_count_is own,
+      parts,
+      length-append (break_ends 0 own) (break_ends (0 + length own) (spelled b ps)),
+      moved,
+      breaks_of_pieces b ps (All-tail (IsPieceOf b) p ps all) a.1,
+    )
 
 pub line_count_of_pieces : (b : List (List ℕ)) (ps : List Piece) → All (IsPieceOf b) ps → IsUnsplit b ps → break_count_of ps + 1 ≡ length (lines_of (spelled b ps))
 line_count_of_pieces b ps all a = omega (arith, breaks_of_pieces b ps all a, line_count_is (spelled b ps))
@@ -86,3 +94,78 @@ module _ (b : List (List ℕ)) (entries : List Entry) (found : Found) (is : IsFo
       ap (λ s. get_or s offset 0) found_text
       ∙ get_or-append_right earlier_text (own_text ++ later_text) found.before.units offset 0 found_start start
       ∙ get_or_append_left own_text later_text 0 (offset - found.before.units) (omega (arith, found_size))
+
+  -- the units from a place in the piece to its end are the next ones of the text
+  pub found_run : (offset : ℕ) → found.before.units ≤ offset → offset < found.before.units + found.span.units
+      → drop (offset - found.before.units) own_text ≡ take (length (drop (offset - found.before.units) own_text)) (drop offset (spelled b (pieces_of entries)))
+  found_run offset start end =
+      let run : List ℕ = drop (offset - found.before.units) own_text in
+      let rest : drop offset (spelled b (pieces_of entries)) ≡ run ++ later_text =
+      ap (drop offset) found_text ∙ drop-past offset found.before.units earlier_text (own_text ++ later_text) (sym found_start) start
+      ∙ drop-append-le (offset - found.before.units) own_text later_text (omega (arith, found_size)) in
+      sym (ap (take (length run)) rest ∙ take_at run later_text (length run) refl)
+
+  module _ (full : All (λ (p : Piece). 0 < p.span.units) (pieces_of entries)) (unsplit : IsUnsplit b (pieces_of entries)) where
+    full_earlier : All (λ (p : Piece). 0 < p.span.units) (pieces_of is.earlier)
+    full_earlier =
+        let P : Piece → Type 0 = λ p. 0 < p.span.units in
+        All-same P (pieces_of is.earlier) (take (length (pieces_of is.earlier)) (pieces_of is.earlier ++ own ∷ pieces_of is.later))
+        (sym (take_at (pieces_of is.earlier) (own ∷ pieces_of is.later) (length (pieces_of is.earlier)) refl))
+        (All-take P (length (pieces_of is.earlier)) (pieces_of is.earlier ++ own ∷ pieces_of is.later) (subst (All P) pieces_are full))
+
+    parts : (joins_pair earlier_text (own_text ++ later_text) ≡ false) × (IsUnsplit b (pieces_of is.earlier) × IsUnsplit b (own ∷ pieces_of is.later))
+    parts = unsplit-parts b (pieces_of is.earlier) (own ∷ pieces_of is.later) all_earlier full_earlier (subst (IsUnsplit b) pieces_are unsplit)
+
+    pub earlier_breaks : length (break_ends 0 earlier_text) ≡ found.before.breaks
+    earlier_breaks = sym (breaks_of_pieces b (pieces_of is.earlier) all_earlier parts.1.0) ∙ ap (λ s. s.breaks) (sym is.before)
+
+    pub own_breaks : length (break_ends 0 own_text) ≡ found.breaks
+    own_breaks = sym (break_count_is own_text) ∙ sym own_is.breaks
+
+    -- the places after the breaks of the text
+    ends_parts : break_ends 0 (spelled b (pieces_of entries))
+        ≡ break_ends 0 earlier_text ++ (map (λ e. found.before.units + e) (break_ends 0 own_text) ++ break_ends (found.before.units + length own_text) later_text)
+    ends_parts =
+        let start : ℕ = found.before.units in
+        ap (break_ends 0) found_text ∙ break_ends-append 0 earlier_text (own_text ++ later_text) parts.0
+        ∙ ap (λ ends. break_ends 0 earlier_text ++ ends)
+        (ap (λ (n : ℕ). break_ends n (own_text ++ later_text)) (zero-add (length earlier_text) ∙ found_start)
+        ∙ break_ends-append start own_text later_text parts.1.1.0
+        ∙ ap (λ ends. ends ++ break_ends (start + length own_text) later_text)
+        (ap (λ (n : ℕ). break_ends n own_text) (sym (add-zero start)) ∙ break_ends_moved start 0 own_text))
+
+    -- the breaks that end at a place in the piece or before it
+    pub found_breaks_to : (offset : ℕ) → found.before.units ≤ offset → offset < found.before.units + found.span.units
+        → count_to offset (break_ends 0 (spelled b (pieces_of entries))) ≡ found.before.breaks + count_to (offset - found.before.units) (break_ends 0 own_text)
+    found_breaks_to offset start end =
+        let s : ℕ = found.before.units in
+        let mine : List ℕ = map (λ e. s + e) (break_ends 0 own_text) in
+        let place : s + (offset - s) ≡ offset = omega arith in
+        let all_before = count_to_all 0 offset earlier_text (omega (arith, found_start)) in
+        let none_after = count_to_none (s + length own_text) offset later_text (omega (arith, found_size)) in
+        ap (count_to offset) ends_parts
+        ∙ count_to-append offset (break_ends 0 earlier_text) (mine ++ break_ends (s + length own_text) later_text) all_before
+        ∙ ap (λ (n : ℕ). n + count_to offset (mine ++ break_ends (s + length own_text) later_text)) earlier_breaks
+        ∙ ap (λ (n : ℕ). found.before.breaks + n)
+        (count_to-later offset mine (break_ends (s + length own_text) later_text) none_after
+        ∙ ap (λ (t : ℕ). count_to t mine) (sym place) ∙ count_to-moved s (offset - s) (break_ends 0 own_text))
+
+    -- the start of the line after a break in the piece
+    pub found_line_start : (n : ℕ) → found.before.breaks < n → n ≤ found.before.breaks + found.breaks
+        → line_start (spelled b (pieces_of entries)) (n + 1) ≡ found.before.units + line_start own_text (n - found.before.breaks + 1)
+    found_line_start n start end =
+        let s : ℕ = found.before.units in
+        let x : List ℕ = spelled b (pieces_of entries) in
+        let mine : List ℕ = map (λ e. s + e) (break_ends 0 own_text) in
+        let later : List ℕ = break_ends (s + length own_text) later_text in
+        let i : ℕ = n - 1 - found.before.breaks in
+        let mine_size : length mine ≡ found.breaks = length-map (break_ends 0 own_text) (λ e. s + e) ∙ own_breaks in
+        let whole = ap length ends_parts ∙ length-append (break_ends 0 earlier_text) (mine ++ later) in
+        let there : n - 1 < length (break_ends 0 x) = omega (arith, whole, length-append mine later, mine_size, earlier_breaks) in
+        let inside : i < length (break_ends 0 own_text) = omega (arith, own_breaks) in
+        line_start_is x (n - 1) (n + 1) there (omega arith)
+        ∙ ap (λ ends. get_or ends (n - 1) 0) ends_parts
+        ∙ get_or-append_right (break_ends 0 earlier_text) (mine ++ later) found.before.breaks (n - 1) 0 earlier_breaks (omega arith)
+        ∙ get_or_append_left mine later 0 i (omega (arith, mine_size))
+        ∙ get_or-map (λ e. s + e) (break_ends 0 own_text) i 0 0 inside
+        ∙ ap (λ (k : ℕ). s + k) (sym (line_start_is own_text i (n - found.before.breaks + 1) inside (omega arith)))

@@ -5,3 +5,4 @@ pub mod Replacing
 pub mod Found
 pub mod Edited
 pub mod Lasts
+pub mod Runs

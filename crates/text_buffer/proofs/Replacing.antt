@@ -43,7 +43,7 @@ module _ (x text : List ℕ) (start end : ℕ) (within : start ≤ length x) whe
       let size = length-take-le start x within in
       let last : length before - 1 ≡ start - 1 = omega (arith, size) in
       sym (ends_with_split carriage_return before parts.0
-          ∙ ap (λ s. s ++ carriage_return ∷ []) (ap (λ (n : ℕ). take n before) last ∙ take-take (start - 1) start x (omega arith)))
+      ∙ ap (λ s. s ++ carriage_return ∷ []) (ap (λ (n : ℕ). take n before) last ∙ take-take (start - 1) start x (omega arith)))
 
   kept_back : (b : Bool) → joins_pair (before ++ text) after ≡ b → unit_if b line_feed ++ drop (end + one_if b) x ≡ after
   kept_back false e = ap (λ (n : ℕ). drop n x) (add-zero end)
@@ -71,7 +71,7 @@ module _ (x text : List ℕ) (start end : ℕ) (within : start ≤ length x) whe
     front_border false e =
         let here : start - 0 ≡ start = omega arith in
         let rest : (text ++ unit_if back line_feed) ++ drop (end + one_if back) x ≡ text ++ after =
-            append_assoc text (unit_if back line_feed) (drop (end + one_if back) x) ∙ ap (λ s. text ++ s) (kept_back back back_is) in
+        append_assoc text (unit_if back line_feed) (drop (end + one_if back) x) ∙ ap (λ s. text ++ s) (kept_back back back_is) in
         ap (λ (n : ℕ). joins_pair (take n x) ((text ++ unit_if back line_feed) ++ drop (end + one_if back) x)) here ∙ ap (joins_pair before) rest ∙ e
 
   module _ (front : Bool) (front_is : joins_pair before (text ++ after) ≡ front) where
@@ -80,15 +80,15 @@ module _ (x text : List ℕ) (start end : ℕ) (within : start ≤ length x) whe
     back_border true e =
         let lines : List ℕ = take (start - one_if front) x ++ (unit_if front carriage_return ++ text) in
         let last : ends_with carriage_return (take (start - one_if front) x ++ ((unit_if front carriage_return ++ text) ++ line_feed ∷ [])) ≡ false =
-            ap (ends_with carriage_return) (sym (append_assoc (take (start - one_if front) x) (unit_if front carriage_return ++ text) (line_feed ∷ [])))
-            ∙ ends_with_push carriage_return line_feed lines in
+        ap (ends_with carriage_return) (sym (append_assoc (take (start - one_if front) x) (unit_if front carriage_return ++ text) (line_feed ∷ [])))
+        ∙ ends_with_push carriage_return line_feed lines in
         ap (λ b. b && begins_with line_feed (drop (end + 1) x)) last
     back_border false e =
         let here : end + 0 ≡ end = omega arith in
         let rest : take (start - one_if front) x ++ ((unit_if front carriage_return ++ text) ++ []) ≡ before ++ text =
-            ap (λ s. take (start - one_if front) x ++ s) (append-nil (unit_if front carriage_return ++ text))
-            ∙ sym (append_assoc (take (start - one_if front) x) (unit_if front carriage_return) text)
-            ∙ ap (λ s. s ++ text) (kept_front front front_is) in
+        ap (λ s. take (start - one_if front) x ++ s) (append-nil (unit_if front carriage_return ++ text))
+        ∙ sym (append_assoc (take (start - one_if front) x) (unit_if front carriage_return) text)
+        ∙ ap (λ s. s ++ text) (kept_front front front_is) in
         ap (λ (n : ℕ). joins_pair (take (start - one_if front) x ++ ((unit_if front carriage_return ++ text) ++ [])) (drop n x)) here ∙ ap (λ s. joins_pair s after) rest ∙ e
 
   -- a unit that is taken along is there

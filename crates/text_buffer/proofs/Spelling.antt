@@ -57,12 +57,14 @@ module _ (b : List (List ℕ)) where
       let tail : All (IsPieceOf b) ps = All-tail (IsPieceOf b) p ps all in
       let size = length-units_at p.span head.inside in
       elim (cases_lt n p.span.units) [
-        inr past ↦ ap (spelled b) (front_past b n p ps past) ∙ ap (λ s. units_at b p.span ++ s) (spelled-front (n - p.span.units) ps tail)
+        | inr past ↦ ap (spelled b) (front_past b n p ps past) ∙ ap (λ s. units_at b p.span ++ s) (spelled-front (n - p.span.units) ps tail)
             ∙ sym (take-past n p.span.units (units_at b p.span) (spelled b ps) (sym size) past)
-      | inl within ↦ elim (cases_eq n 0) [
-          inl none ↦ ap (λ (k : ℕ). spelled b (front b k (p ∷ ps))) none ∙ ap (spelled b) (front_none b p ps (omega arith)) ∙ ap (λ (k : ℕ). take k (spelled b (p ∷ ps))) (sym none)
-        | inr some ↦ ap (spelled b) (front_part b n p ps (omega arith) within) ∙ append-nil (units_at b (part_of p.span 0 n)) ∙ front_of_piece p n head (omega arith)
-            ∙ sym (take-append-le n (units_at b p.span) (spelled b ps) (omega (arith, size))) ] ]
+        | inl within ↦ elim (cases_eq n 0) [
+          | inl none ↦ ap (λ (k : ℕ). spelled b (front b k (p ∷ ps))) none ∙ ap (spelled b) (front_none b p ps (omega arith)) ∙ ap (λ (k : ℕ). take k (spelled b (p ∷ ps))) (sym none)
+          | inr some ↦ ap (spelled b) (front_part b n p ps (omega arith) within) ∙ append-nil (units_at b (part_of p.span 0 n)) ∙ front_of_piece p n head (omega arith)
+              ∙ sym (take-append-le n (units_at b p.span) (spelled b ps) (omega (arith, size)))
+        ]
+      ]
 
   pub spelled-back : (n : ℕ) (ps : List Piece) → All (IsPieceOf b) ps → spelled b (back b n ps) ≡ drop n (spelled b ps)
   spelled-back zero [] all = refl
@@ -72,9 +74,11 @@ module _ (b : List (List ℕ)) where
       let tail : All (IsPieceOf b) ps = All-tail (IsPieceOf b) p ps all in
       let size = length-units_at p.span head.inside in
       elim (cases_lt n p.span.units) [
-        inr past ↦ ap (spelled b) (back_past b n p ps past) ∙ spelled-back (n - p.span.units) ps tail
+        | inr past ↦ ap (spelled b) (back_past b n p ps past) ∙ spelled-back (n - p.span.units) ps tail
             ∙ sym (drop-past n p.span.units (units_at b p.span) (spelled b ps) (sym size) past)
-      | inl within ↦ elim (cases_eq n 0) [
-          inl none ↦ ap (λ (k : ℕ). spelled b (back b k (p ∷ ps))) none ∙ ap (spelled b) (back_none b p ps (omega arith)) ∙ ap (λ (k : ℕ). drop k (spelled b (p ∷ ps))) (sym none)
-        | inr some ↦ ap (spelled b) (back_part b n p ps (omega arith) within) ∙ ap (λ s. s ++ spelled b ps) (back_of_piece p n head (omega arith))
-            ∙ sym (drop-append-le n (units_at b p.span) (spelled b ps) (omega (arith, size))) ] ]
+        | inl within ↦ elim (cases_eq n 0) [
+          | inl none ↦ ap (λ (k : ℕ). spelled b (back b k (p ∷ ps))) none ∙ ap (spelled b) (back_none b p ps (omega arith)) ∙ ap (λ (k : ℕ). drop k (spelled b (p ∷ ps))) (sym none)
+          | inr some ↦ ap (spelled b) (back_part b n p ps (omega arith) within) ∙ ap (λ s. s ++ spelled b ps) (back_of_piece p n head (omega arith))
+              ∙ sym (drop-append-le n (units_at b p.span) (spelled b ps) (omega (arith, size)))
+        ]
+      ]

@@ -5,3 +5,6 @@ mod look_up;
 mod text;
 
 pub use text::TextBuffer;
+
+#[cfg(test)]
+mod tests;

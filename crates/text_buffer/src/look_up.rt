@@ -1,7 +1,7 @@
 //! Look-ups that nobody counts.
 
 ghost use Rattle.std.specs.Prelude.{◌≡◌, ◌+◌, ◌<◌, ◌≤◌};
-ghost use Rattle.piece_tree.specs.Pieces.{pieces_of, unit_count, break_count_of, IsFound};
+ghost use Rattle.piece_tree.specs.Pieces.{pieces_of, unit_count, IsFound};
 
 use piece_tree::{Found, PieceTree};
 use std::marker::Brand;
@@ -29,29 +29,4 @@ fn piece_at_for<L: Ledger>(pieces: &PieceTree, offset: u64, blank: Blank) -> Fou
 {
     let mut steps = Steps::<L>::new(blank);
     pieces.find_offset(offset, &mut steps)
-}
-
-/// The piece that has the `n`-th break. Breaks count from 1.
-pub(crate) fn piece_of_break(pieces: &PieceTree, n: u64) -> Found
-    requires first { 0 < n }
-    requires there { n ≤ break_count_of (pieces_of pieces.now.entries) }
-    ensures piece { IsFound pieces.now.entries result }
-    ensures start { result.before.breaks < n }
-    ensures end { n ≤ result.before.breaks + result.breaks }
-{
-    piece_of_break_for::<Brand>(pieces, n, Blank::new(1))
-}
-
-fn piece_of_break_for<L: Ledger>(pieces: &PieceTree, n: u64, blank: Blank) -> Found
-    requires first { 0 < n }
-    requires there { n ≤ break_count_of (pieces_of pieces.now.entries) }
-    requires name { blank.name ≡ L.name }
-    requires parts { blank.parts ≡ L.parts }
-    requires some { 0 < L.parts }
-    ensures piece { IsFound pieces.now.entries result }
-    ensures start { result.before.breaks < n }
-    ensures end { n ≤ result.before.breaks + result.breaks }
-{
-    let mut steps = Steps::<L>::new(blank);
-    pieces.find_line(n, &mut steps)
 }

@@ -1,10 +1,12 @@
 //! The text, with its edits.
 
-ghost use Rattle.std.specs.Prelude.{◌≡◌, ℕ, ◌+◌, ◌-◌, ◌*◌, ◌<◌, ◌≤◌, ◌^◌, ◌&&◌, ◌++◌, ◌∷◌, List, [], true, false, if◌then◌else◌, length, map, take, drop, slice_index, OnOk, OnErr, IfOk, MatchOption};
+ghost use Rattle.std.specs.Prelude.{◌≡◌, ℕ, ◌+◌, ◌-◌, ◌*◌, ◌<◌, ◌≤◌, ◌^◌, ◌&&◌, ◌++◌, ◌∷◌, List, [], true, false, if◌then◌else◌, length, map, take, drop, slice_index, OnOk, OnErr, IfOk, vec_len, vec_capacity};
 ghost use Rattle.chunk_buffers.specs.Chunks.{units_at, unit_count, LiesIn, Extends};
+ghost use Rattle.unit_text.specs.Units.{is_place};
+ghost use Rattle.text_rules.specs.Positions.{position_of};
 ghost use Rattle.text_rules.specs.Edits.{edited};
-ghost use Rattle.text_rules.specs.Lines.{lines_of, line_feed, carriage_return, begins_with};
-ghost use Rattle.text_rules.proofs.Breaks.{ends_with, joins_pair};
+ghost use Rattle.text_rules.specs.Lines.{lines_of, line_start, line_feed, carriage_return, begins_with};
+ghost use Rattle.text_rules.proofs.Breaks.{ends_with, joins_pair, count_to, break_ends};
 ghost use Rattle.text_buffer.specs.Text.{unit_if, one_if, IsAdded};
 
 use crate::look_up::piece_at;
@@ -12,9 +14,13 @@ use chunk_buffers::{ChunkSpan, Chunks};
 use piece_tree::PieceTree;
 use std::alloc::{AllocError, Global};
 use std::marker::Model;
-use text_lengths::Span;
+use std::sync::ledger::Ledger;
+use steps::Steps;
+use text_lengths::{Position, Span};
+use unit_text::{Flat, cuts_pair};
 
 const LINE_FEED: u16 = 10;
+
 const CARRIAGE_RETURN: u16 = 13;
 
 /// What an edit may append beside its text: a CR, an LF, and a unit that keeps buffers apart.
@@ -139,6 +145,131 @@ impl TextBuffer {
         self.pieces.splice(start, end - start, added, &self.chunks);
     }
 
+    /// The position of the offset; None where the offset is no place of the text.
+    pub fn position_at<L: Ledger>(&self, offset: u64, steps: &mut Steps<L>) -> Option<Position>
+        ensures { result ≡ (if is_place self.now.units offset then Some (position_of self.now.units offset) else None) }
+    {
+        if !self.is_place_counted(offset, steps) {
+            return None;
+        }
+        let breaks = self.breaks_to(offset, steps);
+        let start = self.line_start(breaks, steps);
+        Some(Position {
+            line: breaks + 1,
+            column: offset - start + 1,
+        })
+    }
+
+    // How many breaks end at the offset or before it.
+    fn breaks_to<L: Ledger>(&self, offset: u64, steps: &mut Steps<L>) -> u64
+        requires { offset ≤ length self.now.units }
+        ensures breaks { result ≡ count_to offset (break_ends 0 self.now.units) }
+        ensures small { result < 2 ^ 62 }
+    {
+        if offset >= self.pieces.len() {
+            return self.pieces.breaks();
+        }
+        let found = self.pieces.find_offset(offset, steps);
+        let own = self
+            .chunks
+            .breaks_to(found.span, offset - found.before.units);
+        found.before.breaks + own
+    }
+
+    // The start of the line after so many breaks.
+    fn line_start<L: Ledger>(&self, breaks: u64, steps: &mut Steps<L>) -> u64
+        requires { breaks < length (lines_of self.now.units) }
+        ensures { result ≡ line_start self.now.units (breaks + 1) }
+    {
+        if breaks == 0 {
+            return 0;
+        }
+        let found = self.pieces.find_line(breaks, steps);
+        let own = self
+            .chunks
+            .nth_break(found.span, breaks - found.before.breaks);
+        found.before.units + own
+    }
+
+    // `is_place`, with its look-ups counted.
+    fn is_place_counted<L: Ledger>(&self, offset: u64, steps: &mut Steps<L>) -> bool
+        ensures place { result ≡ is_place self.now.units offset }
+        ensures inside { result ≡ true → offset ≤ length self.now.units }
+        ensures small { result ≡ true → offset < 2 ^ 62 }
+    {
+        if offset > self.len() {
+            return false;
+        }
+        if offset == 0 || offset == self.len() {
+            return true;
+        }
+        let high = self.unit_counted(offset - 1, steps);
+        !cuts_pair(&[high, self.unit_counted(offset, steps)], 1)
+    }
+
+    // `unit`, with its look-up counted.
+    fn unit_counted<L: Ledger>(&self, offset: u64, steps: &mut Steps<L>) -> u16
+        requires { offset < length self.now.units }
+        ensures { result ≡ slice_index self.now.units offset }
+    {
+        let found = self.pieces.find_offset(offset, steps);
+        let at = offset - found.before.units;
+        self.chunks.units(found.span)[at as usize]
+    }
+
+    /// Appends the units of the span. An error leaves `out` as it was.
+    pub fn value(&self, span: Span, out: &mut Vec<u16>) -> Result<(), AllocError>
+        requires ordered { span.start ≤ span.end }
+        requires within { span.end ≤ length self.now.units }
+        ensures ok { OnOk result (out.new.items ≡ out.old.items ++ take (span.end - span.start) (drop span.start self.now.units)) }
+        ensures err { OnErr result (out.new.items ≡ out.old.items) }
+    {
+        out.reserve((span.end - span.start) as usize)?;
+        self.push_units(span, out);
+        Ok(())
+    }
+
+    // Appends the units of the span, for which there is room.
+    fn push_units(&self, span: Span, out: &mut Vec<u16>)
+        requires ordered { span.start ≤ span.end }
+        requires within { span.end ≤ length self.now.units }
+        requires room { vec_len out.old + (span.end - span.start) ≤ vec_capacity out.old }
+        ensures { out.new.items ≡ out.old.items ++ take (span.end - span.start) (drop span.start self.now.units) }
+    {
+        let mut at = span.start;
+        while at < span.end {
+            let run = self.run_at(at);
+            let units = (run.len() as u64).min(span.end - at);
+            let _ = out.extend_from_slice(&run[..units as usize]);
+            at += units;
+        }
+    }
+
+    // The units from a place on, up to the end of their piece.
+    fn run_at(&self, at: u64) -> &[u16]
+        requires { at < length self.now.units }
+        ensures some { 0 < length result.now }
+        ensures front { result.now ≡ take (length result.now) (drop at self.now.units) }
+    {
+        let found = piece_at(&self.pieces, at);
+        let units = self.chunks.units(found.span);
+        let (_, run) = units.split_at((at - found.before.units) as usize);
+        run
+    }
+
+    // Whether the offset is at most the length, and does not stand inside a pair of surrogates.
+    fn is_place_at(&self, offset: u64) -> bool
+        ensures { result ≡ is_place self.now.units offset }
+    {
+        if offset > self.len() {
+            return false;
+        }
+        if offset == 0 || offset == self.len() {
+            return true;
+        }
+        !cuts_pair(&[self.unit(offset - 1), self.unit(offset)], 1)
+    }
+
     // Whether a CR before the span and an LF at the start of what comes after it make a pair.
     fn joins_front(&self, span: Span, text: &[u16]) -> bool
         requires ordered { span.start ≤ span.end }
@@ -195,9 +326,23 @@ impl TextBuffer {
         requires { offset < length self.now.units }
         ensures { result ≡ slice_index self.now.units offset }
     {
-        let found = piece_at(&self.pieces, offset);
-        let at = offset - found.before.units;
-        self.chunks.units(found.span)[at as usize]
+        self.run_at(offset)[0]
+    }
+}
+
+impl Flat for TextBuffer {
+    ghost units = { λ text. text.units };
+
+    fn len(&self) -> u64 {
+        TextBuffer::len(self)
+    }
+
+    fn is_place(&self, offset: u64) -> bool {
+        self.is_place_at(offset)
+    }
+
+    fn run(&self, at: u64) -> &[u16] {
+        self.run_at(at)
     }
 }
 
@@ -220,7 +365,12 @@ fn line_feed_if(test: bool) -> &'static [u16]
 }
 
 // Appends the three texts as one, if they have any unit.
-fn append_some(chunks: &mut Chunks, before: &[u16], text: &[u16], after: &[u16]) -> Option<ChunkSpan>
+fn append_some(
+    chunks: &mut Chunks,
+    before: &[u16],
+    text: &[u16],
+    after: &[u16],
+) -> Option<ChunkSpan>
     requires { length (before.now ++ text.now ++ after.now) < chunks.old.spare }
     ensures added { IsAdded chunks.new.buffers result (before.now ++ text.now ++ after.now) }
     ensures grown { Extends chunks.old.buffers chunks.new.buffers }

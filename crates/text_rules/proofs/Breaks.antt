@@ -96,7 +96,7 @@ ends_with unit (u ∷ v ∷ x) = ends_with unit (v ∷ x)
 abbrev pub joins_pair : List ℕ → List ℕ → Bool
 joins_pair x y = ends_with carriage_return x && begins_with line_feed y
 
-one_more : (n : ℕ) → 1 + n ≡ suc n
+pub one_more : (n : ℕ) → 1 + n ≡ suc n
 one_more n = omega arith
 
 pub and_false : (b : Bool) → (b && false) ≡ false
@@ -260,3 +260,24 @@ break_ends_few at (u ∷ after) =
     let few = break_ends_few (at + 1) after in
     elim (ends_break u after) as (λ b. length (cond b ((at + 1) ∷ break_ends (at + 1) after) (break_ends (at + 1) after)) ≤ length (u ∷ after))
     [ true ↦ omega arith | false ↦ omega arith ]
+
+-- places that are all at most this one, and later ones
+pub count_to_all : (at place : ℕ) (x : List ℕ) → at + length x ≤ place → count_to place (break_ends at x) ≡ length (break_ends at x)
+count_to_all at place [] h = refl
+count_to_all at place (u ∷ after) h =
+    elim (ends_break u after) as (λ b. count_to place (cond b ((at + 1) ∷ break_ends (at + 1) after) (break_ends (at + 1) after)) ≡ length (cond b ((at + 1) ∷ break_ends (at + 1) after) (break_ends (at + 1) after)))
+    [ true ↦ rw (le-leb (at + 1) place (omega arith), one_more) (ap suc (count_to_all (at + 1) place after (omega arith))) | false ↦ count_to_all (at + 1) place after (omega arith) ]
+
+pub count_to-append : (place : ℕ) (xs ys : List ℕ) → count_to place xs ≡ length xs → count_to place (xs ++ ys) ≡ length xs + count_to place ys
+count_to-append place [] ys e = sym (zero-add (count_to place ys))
+count_to-append place (x ∷ xs) ys e =
+    elim (cases_lt place x) [
+      | inl above ↦ (let none : 0 ≡ suc (length xs) = rw (lt-leb x place above) at e in absurd (omega arith))
+      | inr within ↦ (let more : suc (count_to place xs) ≡ suc (length xs) = rw (le-leb x place within, one_more) at e in
+          let rest : count_to place xs ≡ length xs = omega arith in
+          rw (le-leb x place within, one_more) (omega (arith, count_to-append place xs ys rest)))
+    ]
+
+pub count_to-later : (place : ℕ) (xs ys : List ℕ) → count_to place ys ≡ 0 → count_to place (xs ++ ys) ≡ count_to place xs
+count_to-later place [] ys e = e
+count_to-later place (x ∷ xs) ys e = ap (λ (n : ℕ). cond (leb x place) (1 + n) 0) (count_to-later place xs ys e)

@@ -24,6 +24,13 @@ returns-then-n-before-clause-piece g c =
     IsFound-of ps c.args.self.now.entries c.loop-before.index c.index-piece.result.now c.loop-before.before c.found.result inside c.index-piece.ensures c.loop-before.invariant.before
     (ap (λ v. v.entries) c.self.view_is) c.found.ensures
 
+pub returns-then-n-before-clause-small : goal.returns-then-n-before-clause-small
+returns-then-n-before-clause-small g c =
+    let ps = c.self.inside.pieces.items in
+    let inside = break_inside ps c.args.self.now.entries c.loop-before.index c.loop-before.before c.args.n (ap (λ v. v.entries) c.self.view_is) c.loop-before.invariant.before c.loop-before.invariant.start c.requires.there in
+    let within = units_within ps c.loop-before.index c.index-piece.result.now c.loop-before.before inside c.index-piece.ensures c.loop-before.invariant.before in
+    omega (arith, within, ap (λ f. f.before.units + f.span.units) c.found.ensures)
+
 pub plus-before-requires-clause-units : goal.plus-before-requires-clause-units
 plus-before-requires-clause-units g c =
     let ps = c.self.inside.pieces.items in
