@@ -1,10 +1,10 @@
 //! Commands carried out, and the replies to lines.
 
-ghost use Rattle.std.specs.Prelude.{◌≡◌, ℕ, List, [], IfOk, ◌⊎◌};
-ghost use Rattle.document_rules.specs.Document.{FlatState, flat_offset, flat_position};
+ghost use Rattle.std.specs.Prelude.{◌≡◌, ℕ, List, [], IfOk};
+ghost use Rattle.document_rules.specs.Document.{flat_offset, flat_position};
 ghost use Rattle.script_lines.specs.Commands.{command_of};
 ghost use Rattle.script_lines.specs.Replies.{text_reply, refusal_reply};
-ghost use Rattle.script_runner.specs.Step.{refusal_of, memory_reply, offset_answer, position_answer, span_of, step, Answers};
+ghost use Rattle.script_runner.specs.Step.{refusal_of, offset_answer, position_answer, span_of, step, Answers};
 ghost use Rattle.script_runner.specs.Script.{Turn, commanded};
 ghost use Rattle.script_runner.specs.Progress.{IsLineSoFar};
 ghost use Rattle.script_runner.specs.Bytes.{bytes_of, change_answer, TextOrMemory};
