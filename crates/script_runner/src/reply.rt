@@ -13,7 +13,8 @@ use crate::line::PartialLine;
 use crate::look_up::{offset_at, position_at};
 use model_core::{Model, ModelError, Op};
 use script_lines::{
-    Command, LineFault, Refusal, Short, command_of, long_begin, long_end, long_text, refusal,
+    Command, LineFault, LineOp, Place, Refusal, Short, command_of, long_begin, long_end, long_text,
+    refusal,
 };
 use std::alloc::{AllocError, Global};
 use text_lengths::{Position, Span};
