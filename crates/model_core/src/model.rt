@@ -82,7 +82,9 @@ impl Model {
         if op.text.len() > MOST_UNITS - kept || self.version == GREATEST_NUMBER {
             return Err(ModelError::Limit);
         }
-        self.text.reserve(1, op.text.len()).map_err(|_| ModelError::Memory)?;
+        self.text
+            .reserve(1, op.text.len())
+            .map_err(|_| ModelError::Memory)?;
         self.text.replace(op.span, op.text.as_slice());
         self.version += 1;
         self.alternative = self.version;
@@ -111,7 +113,7 @@ impl Model {
         if n == 0 || n > self.text.line_count() {
             return Err(ModelError::Range);
         }
-        Err(ModelError::Memory)
+        self.text.line(n, out).map_err(|_| ModelError::Memory)
     }
 
     /// Appends the units of the span. `Range` where it is none of the text; after an error `out` is as it was.
@@ -133,8 +135,9 @@ impl Model {
 
     /// The offset of the position, or None where it is none of the text. Each piece that is looked at is a step.
     pub fn offset_at<L: Ledger>(&self, p: Position, steps: &mut Steps<L>) -> Option<u64>
+        ensures { result ≡ flat_offset self.now.document p }
     {
-        None
+        self.text.offset_at(p, steps)
     }
 
     /// The version, and the version at which the text was last as it is now.

@@ -1,6 +1,5 @@
-use Rattle.std.proofs.Common.{◌≡◌, ◌+◌, ◌≤◌, false, length, ap, ◌∙◌, arith}
+use Rattle.std.proofs.Common.{◌≡◌, false, length, ap, ◌∙◌, arith}
 use Rattle.std.proofs.lemmas.Grind.{common_steps}
-use Rattle.document_rules.specs.Document.{most_units}
 use Rattle.text_rules.specs.Edits.{is_bad_span, edited}
 use Rattle.text_rules.proofs.EditLemmas.{span_from_test, length-edited, IsPaired-edited}
 use Rattle.model_core.proofs.model.Model.edit.Goals as goal
