@@ -6,3 +6,5 @@ pub mod Found
 pub mod Edited
 pub mod Lasts
 pub mod Runs
+pub mod Contents
+pub mod Positions

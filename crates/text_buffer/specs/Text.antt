@@ -1,5 +1,5 @@
 -- A text in pieces of buffers.
-use Rattle.std.specs.Prelude.{ℕ, ◌≡◌, ◌+◌, ◌<◌, Bool, false, if◌then◌else◌, Option, Some, None, length, List, [], ◌∷◌, ◌++◌, map}
+use Rattle.std.specs.Prelude.{ℕ, ◌≡◌, ◌+◌, ◌<◌, Bool, false, ◌==◌, ◌&&◌, if◌then◌else◌, Option, Some, None, length, List, [], ◌∷◌, ◌++◌, map}
 use Rattle.std.specs.List.{All, flat_map}
 use Rattle.chunk_buffers.specs.declared.span.ChunkSpan.{ChunkSpan}
 use Rattle.chunk_buffers.specs.Chunks.{Shown, units_at, LiesIn}
@@ -52,3 +52,10 @@ one_if b = if b then 1 else 0
 abbrev pub IsAdded : List (List ℕ) → Option ChunkSpan → List ℕ → Type 0
 IsAdded buffers None units = units ≡ []
 IsAdded buffers (Some span) units = LiesIn buffers span × ((units_at buffers span ≡ units) × (0 < length units))
+
+-- whether a text ends with CR LF
+abbrev pub ends_with_pair : List ℕ → Bool
+ends_with_pair [] = false
+ends_with_pair (u ∷ []) = false
+ends_with_pair (u ∷ v ∷ []) = u == 13 && v == 10
+ends_with_pair (u ∷ v ∷ w ∷ x) = ends_with_pair (v ∷ w ∷ x)

@@ -25,6 +25,12 @@ fn an_edit_between_cr_and_lf(rt: HostRuntime) -> Result<(), Fail> {
     text.value(Span { start: 0, end: 2 }, &mut units)?;
     assert_eq!(rt; units.as_slice(), [A, 13].as_slice());
 
+    let mut line = Vec::new(rt.alloc());
+    let lines = text.line_count();
+    assert_eq!(rt; lines, 2);
+    text.line(1, &mut line)?;
+    assert_eq!(rt; line.as_slice(), [A].as_slice());
+
     let mut spans = Vec::new(rt.alloc());
     text.spans(&mut spans)?;
     assert_eq!(rt; spans.len(), 3);

@@ -1,20 +1,20 @@
 //! The text, with its edits.
 
-ghost use Rattle.std.specs.Prelude.{◌≡◌, ℕ, ◌+◌, ◌-◌, ◌*◌, ◌<◌, ◌≤◌, ◌^◌, ◌&&◌, ◌++◌, ◌∷◌, List, [], true, false, if◌then◌else◌, length, map, take, drop, slice_index, OnOk, OnErr, IfOk, vec_len, vec_capacity};
+ghost use Rattle.std.specs.Prelude.{◌≡◌, ℕ, ◌+◌, ◌-◌, ◌*◌, ◌<◌, ◌≤◌, ◌^◌, ◌&&◌, ◌++◌, ◌∷◌, List, [], true, false, if◌then◌else◌, length, map, take, drop, slice_index, slice_index_or, OnOk, OnErr, IfOk, vec_len, vec_capacity};
 ghost use Rattle.chunk_buffers.specs.Chunks.{units_at, unit_count, LiesIn, Extends};
 ghost use Rattle.unit_text.specs.Units.{is_place};
-ghost use Rattle.text_rules.specs.Positions.{position_of};
+ghost use Rattle.text_rules.specs.Positions.{position_of, is_position, offset_of};
 ghost use Rattle.text_rules.specs.Edits.{edited};
-ghost use Rattle.text_rules.specs.Lines.{lines_of, line_start, line_feed, carriage_return, begins_with};
+ghost use Rattle.text_rules.specs.Lines.{Line, lines_of, line_at, line_start, line_feed, carriage_return, begins_with};
 ghost use Rattle.text_rules.proofs.Breaks.{ends_with, joins_pair, count_to, break_ends};
-ghost use Rattle.text_buffer.specs.Text.{unit_if, one_if, IsAdded};
+ghost use Rattle.text_buffer.specs.Text.{unit_if, one_if, IsAdded, ends_with_pair};
 
 use crate::look_up::piece_at;
 use chunk_buffers::{ChunkSpan, Chunks};
 use piece_tree::PieceTree;
 use std::alloc::{AllocError, Global};
-use std::marker::Model;
-use std::sync::ledger::Ledger;
+use std::marker::{Brand, Model};
+use std::sync::ledger::{Blank, Ledger};
 use steps::Steps;
 use text_lengths::{Position, Span};
 use unit_text::{Flat, cuts_pair};
@@ -145,6 +145,33 @@ impl TextBuffer {
         self.pieces.splice(start, end - start, added, &self.chunks);
     }
 
+    /// Appends the content of the line of this number, counted from 1. An error leaves `out` as it was.
+    pub fn line(&self, n: u64, out: &mut Vec<u16>) -> Result<(), AllocError>
+        requires first { 0 < n }
+        requires there { n ≤ length (lines_of self.now.units) }
+        ensures ok { (line : Line) → line_at self.now.units n ≡ Some line → OnOk result (out.new.items ≡ out.old.items ++ line.content) }
+        ensures err { OnErr result (out.new.items ≡ out.old.items) }
+    {
+        self.value(self.content_for::<Brand>(n, Blank::new(1)), out)
+    }
+
+    // The span of the content of a line.
+    fn content_for<L: Ledger>(&self, n: u64, blank: Blank) -> Span
+        requires first { 0 < n }
+        requires there { n ≤ length (lines_of self.now.units) }
+        requires name { blank.name ≡ L.name }
+        requires parts { blank.parts ≡ L.parts }
+        requires some { 0 < L.parts }
+        ensures start { result.start ≡ line_start self.now.units n }
+        ensures content { (d : Line) → result.end ≡ result.start + length (slice_index_or (lines_of self.now.units) (n - 1) d).content }
+        ensures within { result.end ≤ length self.now.units }
+    {
+        let mut steps = Steps::<L>::new(blank);
+        let start = self.line_start(n - 1, &mut steps);
+        let end = self.content_end(n, start, &mut steps);
+        Span { start, end }
+    }
+
     /// The position of the offset; None where the offset is no place of the text.
     pub fn position_at<L: Ledger>(&self, offset: u64, steps: &mut Steps<L>) -> Option<Position>
         ensures { result ≡ (if is_place self.now.units offset then Some (position_of self.now.units offset) else None) }
@@ -158,6 +185,65 @@ impl TextBuffer {
             line: breaks + 1,
             column: offset - start + 1,
         })
+    }
+
+    /// The offset of the position; None where it is no position of the text.
+    pub fn offset_at<L: Ledger>(&self, position: Position, steps: &mut Steps<L>) -> Option<u64>
+        ensures { result ≡ (if is_position self.now.units position then Some (offset_of self.now.units position) else None) }
+    {
+        if position.line == 0 {
+            return None;
+        }
+        if position.line > self.line_count() {
+            return None;
+        }
+        let start = self.line_start(position.line - 1, steps);
+        let end = self.content_end(position.line, start, steps);
+        if position.column == 0 {
+            return None;
+        }
+        if position.column - 1 > end - start {
+            return None;
+        }
+        let offset = start + (position.column - 1);
+        if self.is_place_counted(offset, steps) {
+            Some(offset)
+        } else {
+            None
+        }
+    }
+
+    // The offset after the content of the line that starts here.
+    fn content_end<L: Ledger>(&self, line: u64, start: u64, steps: &mut Steps<L>) -> u64
+        requires first { 0 < line }
+        requires there { line ≤ length (lines_of self.now.units) }
+        requires start { start ≡ line_start self.now.units line }
+        ensures content { (d : Line) → result ≡ start + length (slice_index_or (lines_of self.now.units) (line - 1) d).content }
+        ensures within { result ≤ length self.now.units }
+    {
+        if line == self.line_count() {
+            return self.len();
+        }
+        let end = self.line_start(line, steps);
+        if self.is_pair_before(start, end, steps) {
+            end - 2
+        } else {
+            end - 1
+        }
+    }
+
+    // Whether the units from one place to another end with CR LF.
+    fn is_pair_before<L: Ledger>(&self, start: u64, end: u64, steps: &mut Steps<L>) -> bool
+        requires { end ≤ length self.now.units }
+        ensures { result ≡ ends_with_pair (take (end - start) (drop start self.now.units)) }
+    {
+        if end < 2 || end - 2 < start {
+            return false;
+        }
+        if self.unit_counted(end - 2, steps) != CARRIAGE_RETURN {
+            return false;
+        }
+        self.unit_counted(end - 1, steps) == LINE_FEED
     }
 
     // How many breaks end at the offset or before it.

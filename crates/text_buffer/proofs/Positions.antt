@@ -1,0 +1,56 @@
+-- Positions that are there, and positions that are not.
+use Rattle.std.proofs.Common.{◌≡◌, ℕ, ◌+◌, ◌-◌, ◌<◌, ◌≤◌, ◌&&◌, leb, Bool, true, false, if◌then◌else◌, Option, Some, None, List, length, get_or, refl, ap, sym, ◌∙◌, arith}
+use Rattle.std.proofs.lemmas.Bool.{le-leb, lt-leb}
+use Rattle.text_lengths.specs.declared.Position.{Position}
+use Rattle.unit_text.specs.Units.{is_place}
+use Rattle.text_rules.specs.Lines.{Line, lines_of, line_at, line_start}
+use Rattle.text_rules.specs.Positions.{is_position, offset_of, has_column}
+use Rattle.text_buffer.proofs.Contents.{line_at_is, no_line_at}
+
+abbrev answer : List ℕ → Position → Option ℕ
+answer x p = if is_position x p then Some (offset_of x p) else None
+
+none_where : (x : List ℕ) (p : Position) → is_position x p ≡ false → None ≡ answer x p
+none_where x p e = sym (ap {B = Option ℕ} (λ b. if b then Some (offset_of x p) else None) e)
+
+without_line : (x : List ℕ) (p : Position) → line_at x p.line ≡ None → is_position x p ≡ false
+without_line x p e = ap (λ l. has_column l p.column && is_place x (offset_of x p)) e
+
+pub no_line_0 : (x : List ℕ) (p : Position) → p.line ≡ 0 → None ≡ answer x p
+no_line_0 x p e = none_where x p (without_line x p (ap (line_at x) e))
+
+pub no_such_line : (x : List ℕ) (p : Position) → length (lines_of x) < p.line → None ≡ answer x p
+no_such_line x p past = none_where x p (without_line x p (no_line_at x p.line past))
+
+module _ (x : List ℕ) (p : Position) (d : Line) (first : 0 < p.line) (there : p.line ≤ length (lines_of x)) where
+  abbrev content_length : ℕ
+  content_length = length (get_or (lines_of x) (p.line - 1) d).content
+
+  column_is : has_column (line_at x p.line) p.column ≡ (leb 1 p.column && leb p.column (content_length + 1))
+  column_is = ap (λ l. has_column l p.column) (line_at_is x p.line d first there)
+
+  pub no_column : (p.column ≡ 0) → None ≡ answer x p
+  no_column e =
+      none_where x p (ap (λ b. b && is_place x (offset_of x p)) (column_is ∙ ap (λ b. b && leb p.column (content_length + 1)) (lt-leb 1 p.column (omega arith))))
+
+  pub past_column : 0 < p.column → content_length + 1 < p.column → None ≡ answer x p
+  past_column some past =
+      none_where x p (ap (λ b. b && is_place x (offset_of x p))
+      (column_is ∙ ap (λ b. b && leb p.column (content_length + 1)) (le-leb 1 p.column (omega arith)) ∙ lt-leb p.column (content_length + 1) past))
+
+  module _ (offset : ℕ) (some : 0 < p.column) (within : p.column ≤ content_length + 1) (offset_is : offset ≡ line_start x p.line + (p.column - 1)) where
+    same_offset : offset_of x p ≡ offset
+    same_offset = omega (arith, offset_is)
+
+    place_decides : is_position x p ≡ is_place x offset
+    place_decides =
+        ap (λ b. b && is_place x (offset_of x p))
+        (column_is ∙ ap (λ b. b && leb p.column (content_length + 1)) (le-leb 1 p.column (omega arith)) ∙ le-leb p.column (content_length + 1) within)
+        ∙ ap (is_place x) same_offset
+
+    pub at_place : is_place x offset ≡ true → Some offset ≡ answer x p
+    at_place e =
+        ap {B = Option ℕ} (λ n. Some n) (sym same_offset) ∙ sym (ap {B = Option ℕ} (λ b. if b then Some (offset_of x p) else None) (place_decides ∙ e))
+
+    pub at_no_place : is_place x offset ≡ false → None ≡ answer x p
+    at_no_place e = none_where x p (place_decides ∙ e)
