@@ -1,2 +1,4 @@
 pub mod Cases
+pub mod Inserting
+pub mod Paths
 pub mod Steps

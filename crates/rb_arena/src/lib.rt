@@ -2,6 +2,7 @@
 #![tactic(auto)]
 
 mod climb;
+mod insert;
 mod links;
 mod mend;
 mod sums;

@@ -19,7 +19,7 @@ use Rattle.rb_rules.proofs.Spots.{upper_is, makes_below, whole_in_is}
 use Rattle.rb_rules.proofs.Weaves.{turned_items, turned_woven, woven_at, woven_replug, same_replug, entries-plug}
 use Rattle.rb_rules.proofs.Held.{can_turn, valued_left, valued_right}
 
-data-sided : {D : Type 0} (s : Side) (p x y : Option ℕ) (c : Bool) (d : D) → (sided s p x y c d).«data» ≡ d
+pub data-sided : {D : Type 0} (s : Side) (p x y : Option ℕ) (c : Bool) (d : D) → (sided s p x y c d).«data» ≡ d
 data-sided Left p x y c d = refl
 data-sided Right p x y c d = refl
 

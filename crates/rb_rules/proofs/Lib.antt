@@ -1,3 +1,4 @@
+pub mod Attaching
 pub mod Balance
 pub mod Climbs
 pub mod Colouring
@@ -9,5 +10,6 @@ pub mod Memories
 pub mod Shapes
 pub mod Spots
 pub mod Turning
+pub mod Unshaping
 pub mod Ups
 pub mod Weaves
