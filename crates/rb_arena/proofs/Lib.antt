@@ -1,4 +1,6 @@
 pub mod Cases
+pub mod Growing
 pub mod Inserting
+pub mod Listing
 pub mod Paths
 pub mod Steps

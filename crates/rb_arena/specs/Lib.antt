@@ -1,3 +1,4 @@
 pub mod Mending
 pub mod Placing
 pub mod Rising
+pub mod Value

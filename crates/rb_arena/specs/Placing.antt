@@ -6,7 +6,7 @@ use Rattle.rb_rules.specs.declared.slot.Data.{Data}
 use Rattle.rb_rules.specs.declared.slot.Side.{Side}
 use Rattle.rb_rules.specs.declared.slot.Side.TheVariants.{Left, Right}
 use Rattle.rb_rules.specs.declared.slot.Slot.{Slot}
-use Rattle.rb_rules.specs.Tree.{Tree, tip, Hole, plug, depth}
+use Rattle.rb_rules.specs.Tree.{Tree, tip, Hole, plug, depth, root_of, height}
 use Rattle.rb_rules.specs.Colours.{Balanced}
 use Rattle.rb_rules.specs.Memory.{Made, place_of}
 use Rattle.rb_rules.specs.Weaving.{Weaving}
@@ -35,3 +35,7 @@ module _ {X S B : Type 0} (w : Weaving X S B) (is_near : B → Type 0) (m : map.
   abbrev pub CanTake : (X → Type 0) → (S → Type 0) → X → Hole (Data X S B) → Type 0
   CanTake is_item is_value x k =
       WovenAt tip k × Balanced (plug k tip) × Valued w is_item is_value (lefts w k ++ (0, x) ∷ rights w k)
+
+-- the tree hangs at the place, with no path longer than 128 nodes
+abbrev pub StartsAt : {D : Type 0} → map.FinMap nat_cmp (Slot D) → Option ℕ → Option (ℕ × Side) → Option ℕ → Tree D → Hole D → Type 0
+StartsAt m root from below t k = HoleAt m root from t k × (below ≡ root_of t) × (height t ≤ 128)

@@ -6,3 +6,6 @@ mod insert;
 mod links;
 mod mend;
 mod sums;
+mod tree;
+
+pub use tree::RbTree;

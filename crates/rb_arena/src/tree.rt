@@ -1,0 +1,88 @@
+//! The tree as its users see it.
+ghost use Rattle.std.specs.Prelude.{◌≡◌, ◌+◌, ◌<◌, ◌≤◌, [], ◌∷◌, ◌++◌, OnOk};
+ghost use Rattle.rb_rules.specs.Tree.{Tree, Hole};
+ghost use Rattle.rb_rules.specs.Memory.{place_of};
+ghost use Rattle.rb_rules.specs.Woven.{sum_of};
+ghost use Rattle.rb_arena.specs.Value.{listed, first_hole};
+ghost use Rattle.rb_arena.specs.Placing.{StartsAt};
+
+use crate::climb::LONGEST;
+use crate::insert::insert_at;
+use crate::links::{Links, Place, read};
+use raw_arena::{Arena, NodeId};
+use rb_rules::{Data, Side, Weave};
+use std::alloc::{AllocError, Global};
+use std::marker::Model;
+
+/// A list of items in a red-black tree that keeps sums of them.
+///
+/// A contract sees the items in order, each under its name, and for how many more there is room.
+#[derive(Drop)]
+pub struct RbTree<W: Weave> {
+    links: Links<Data<W::Item, W::Sum, W::By>>,
+}
+
+impl<W: Weave> Model for RbTree<W> {
+    ghost use Rattle.rb_arena.specs.Value.{Listed, listed, listed_code, items_in, Keeps};
+
+    ghost Value = { Listed W.Item };
+
+    ghost coded = { listed_code W.Item.code };
+
+    ghost view = { λ t. listed (items_in W.weaving W.is_near W.is_item W.is_value t.links.nodes.live t.links.root) t.links.nodes.spare };
+
+    ghost invariant = { λ t. Keeps W.weaving W.is_near W.is_item W.is_value t.links.nodes.live t.links.root };
+}
+
+/// The first place of a subtree that hangs at a place.
+fn first_place<D: Copy>(tree: &Links<D>, from: Place, below: Option<NodeId>) -> Place
+    requires { (t : Tree D) × ((k : Hole D) × StartsAt tree.now.nodes.live tree.now.root from below t k) }
+    ensures { (t : Tree D) (k : Hole D) → StartsAt tree.now.nodes.live tree.now.root from below t k → result ≡ place_of (first_hole k t) }
+{
+    let mut at = from;
+    let mut next = below;
+    for _turn in 0..LONGEST {
+        let Some(id) = next else {
+            return at;
+        };
+        at = Some((id, Side::Left));
+        next = read(&tree.nodes, id).left;
+    }
+    at
+}
+
+impl<W: Weave> RbTree<W> {
+    /// A tree with no item.
+    pub fn new(alloc: Global) -> RbTree<W>
+        requires { W.is_value W.weaving.none }
+        ensures { result ≡ listed [] 0 }
+    {
+        RbTree {
+            links: Links {
+                nodes: Arena::new(alloc),
+                root: None,
+            },
+        }
+    }
+
+    /// Makes room for `count` more items. It fails where memory is short.
+    pub fn reserve(&mut self, count: u64) -> Result<(), AllocError>
+        ensures items { self.new.items ≡ self.old.items }
+        ensures room { OnOk result (count ≤ self.new.spare) }
+        ensures kept { self.old.spare ≤ self.new.spare }
+    {
+        self.links.nodes.reserve(count)
+    }
+
+    /// Puts an item before all others.
+    pub fn insert_first(&mut self, item: W::Item) -> NodeId
+        requires room { 0 < self.old.spare }
+        requires value { W.is_item item }
+        requires sum { W.is_value (sum_of W.weaving ((0, item) ∷ self.old.items)) }
+        ensures items { self.new.items ≡ (result, item) ∷ self.old.items }
+        ensures spare { self.new.spare + 1 ≡ self.old.spare }
+    {
+        let at = first_place(&self.links, None, self.links.root);
+        insert_at::<W>(&mut self.links, at, item)
+    }
+}
