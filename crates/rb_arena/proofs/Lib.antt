@@ -2,5 +2,6 @@ pub mod Cases
 pub mod Growing
 pub mod Inserting
 pub mod Listing
+pub mod Locating
 pub mod Paths
 pub mod Steps

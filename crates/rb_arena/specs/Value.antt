@@ -1,5 +1,5 @@
 -- What a contract sees of a tree: its items in order, each under its name.
-use Rattle.std.specs.Prelude.{◌≡◌, ℕ, zero, suc, ◌+◌, ◌<◌, ◌^◌, List, length, ◌∷◌, ◌++◌, Option, Some, None, refl}
+use Rattle.std.specs.Prelude.{◌≡◌, ℕ, zero, suc, ◌+◌, ◌<◌, ◌^◌, List, [], length, ◌∷◌, ◌++◌, Option, Some, None, refl}
 use Rattle.std.specs.Coded.{Coded, code_by, coded×, coded_list, coded_ℕ}
 use Rattle.std.specs.Ordering.{nat_cmp}
 use Rattle.std.specs.FinMap as map
@@ -10,7 +10,7 @@ use Rattle.rb_rules.specs.Tree.{Tree, tip, fork, Hole, top, on, root_of}
 use Rattle.rb_rules.specs.Colours.{Balanced}
 use Rattle.rb_rules.specs.Memory.{Made}
 use Rattle.rb_rules.specs.Weaving.{Weaving}
-use Rattle.rb_rules.specs.Woven.{entries, Woven, Valued}
+use Rattle.rb_rules.specs.Woven.{entries, sum_of, Woven, Valued}
 
 -- the items in order, each with its name, and for how many more there is room
 pub record Listed (X : Type 0) : Type 0 where
@@ -58,3 +58,12 @@ module _ {X S B : Type 0} (w : Weaving X S B) (is_near : B → Type 0) (is_item 
     pub values : Valued w is_item is_value (entries w w.still tree)
     pub all : length (entries w w.still tree) ≡ map.len m
     pub few : map.len m < 2 ^ 63
+
+-- the name of the first item, or o where there is none
+abbrev pub first_or : {X : Type 0} → Option ℕ → List (ℕ × X) → Option ℕ
+first_or o [] = o
+first_or o (e ∷ es) = Some e.0
+
+-- the sum of the items is a value once that item stands right after the one of that name
+abbrev pub SumsTo : {X S B : Type 0} → Weaving X S B → (S → Type 0) → List (ℕ × X) → ℕ → X → Type 0
+SumsTo {X = X} w is_value items id item = (us : List (ℕ × X)) (x : X) (vs : List (ℕ × X)) → SplitsAt items id us x vs → is_value (sum_of w (us ++ (id, x) ∷ (0, item) ∷ vs))

@@ -1,14 +1,14 @@
 //! The tree as its users see it.
-ghost use Rattle.std.specs.Prelude.{◌≡◌, ◌+◌, ◌<◌, ◌≤◌, [], ◌∷◌, ◌++◌, OnOk};
+ghost use Rattle.std.specs.Prelude.{◌≡◌, ℕ, List, None, ◌+◌, ◌<◌, ◌≤◌, [], ◌∷◌, ◌++◌, OnOk};
 ghost use Rattle.rb_rules.specs.Tree.{Tree, Hole};
 ghost use Rattle.rb_rules.specs.Memory.{place_of};
 ghost use Rattle.rb_rules.specs.Woven.{sum_of};
-ghost use Rattle.rb_arena.specs.Value.{listed, first_hole};
+ghost use Rattle.rb_arena.specs.Value.{listed, first_hole, first_or, IsItem, SplitsAt, SumsTo};
 ghost use Rattle.rb_arena.specs.Placing.{StartsAt};
 
 use crate::climb::LONGEST;
-use crate::insert::insert_at;
-use crate::links::{Links, Place, read};
+use crate::insert::{insert_at, parent_at, path_shift};
+use crate::links::{Links, Place, place, read};
 use raw_arena::{Arena, NodeId};
 use rb_rules::{Data, Side, Weave};
 use std::alloc::{AllocError, Global};
@@ -72,6 +72,37 @@ impl<W: Weave> RbTree<W> {
         ensures kept { self.old.spare ≤ self.new.spare }
     {
         self.links.nodes.reserve(count)
+    }
+
+    /// The first item's name.
+    pub fn first(&self) -> Option<NodeId>
+        ensures { result ≡ first_or None self.now.items }
+    {
+        parent_at(&first_place(&self.links, None, self.links.root))
+    }
+
+    /// The item of that name.
+    pub fn get(&self, id: NodeId) -> W::Item
+        requires { IsItem self.now.items id }
+        ensures { (us : List (ℕ × W.Item)) (x : W.Item) (vs : List (ℕ × W.Item)) → SplitsAt self.now.items id us x vs → result ≡ x }
+    {
+        let at = place(&self.links, id);
+        let by = path_shift::<W>(&self.links, at);
+        W::shift(by, read(&self.links.nodes, id).data.item)
+    }
+
+    /// Puts an item right after that one.
+    pub fn insert_after(&mut self, id: NodeId, item: W::Item) -> NodeId
+        requires room { 0 < self.old.spare }
+        requires named { IsItem self.old.items id }
+        requires value { W.is_item item }
+        requires sum { SumsTo W.weaving W.is_value self.old.items id item }
+        ensures items { (us : List (ℕ × W.Item)) (x : W.Item) (vs : List (ℕ × W.Item)) → SplitsAt self.old.items id us x vs → self.new.items ≡ us ++ (id, x) ∷ (result, item) ∷ vs }
+        ensures spare { self.new.spare + 1 ≡ self.old.spare }
+    {
+        let right = read(&self.links.nodes, id).right;
+        let at = first_place(&self.links, Some((id, Side::Right)), right);
+        insert_at::<W>(&mut self.links, at, item)
     }
 
     /// Puts an item before all others.
