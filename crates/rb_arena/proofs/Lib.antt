@@ -4,4 +4,5 @@ pub mod Inserting
 pub mod Listing
 pub mod Locating
 pub mod Paths
+pub mod Searches
 pub mod Steps

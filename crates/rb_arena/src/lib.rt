@@ -2,6 +2,7 @@
 #![tactic(auto)]
 
 mod climb;
+mod descend;
 mod insert;
 mod links;
 mod mend;

@@ -1,18 +1,22 @@
 //! The tree as its users see it.
-ghost use Rattle.std.specs.Prelude.{◌≡◌, ℕ, List, None, ◌+◌, ◌<◌, ◌≤◌, [], ◌∷◌, ◌++◌, OnOk};
+ghost use Rattle.std.specs.Prelude.{◌≡◌, ℕ, List, None, length, ◌-◌, ◌^◌, ◌+◌, ◌<◌, ◌≤◌, [], ◌∷◌, ◌++◌, OnOk};
 ghost use Rattle.rb_rules.specs.Tree.{Tree, Hole};
 ghost use Rattle.rb_rules.specs.Memory.{place_of};
 ghost use Rattle.rb_rules.specs.Woven.{sum_of};
 ghost use Rattle.rb_arena.specs.Value.{listed, first_hole, first_or, IsItem, SplitsAt, SumsTo};
 ghost use Rattle.rb_arena.specs.Placing.{StartsAt};
+ghost use Rattle.rb_arena.specs.Searching.{Found};
 
 use crate::climb::LONGEST;
+use crate::descend::descend;
 use crate::insert::{insert_at, parent_at, path_shift};
 use crate::links::{Links, Place, place, read};
 use raw_arena::{Arena, NodeId};
 use rb_rules::{Data, Side, Weave};
 use std::alloc::{AllocError, Global};
 use std::marker::Model;
+use std::sync::ledger::Ledger;
+use steps::Steps;
 
 /// A list of items in a red-black tree that keeps sums of them.
 ///
@@ -79,6 +83,19 @@ impl<W: Weave> RbTree<W> {
         ensures { result ≡ first_or None self.now.items }
     {
         parent_at(&first_place(&self.links, None, self.links.root))
+    }
+
+    /// Searches for a key: an item at which the search ends, with its name and the sum of the items before it. The search ends
+    /// where `turn` says stop, or between two items that point at each other. Each node that is visited counts as a step.
+    pub fn descend<L: Ledger>(
+        &self,
+        key: W::Key,
+        steps: &mut Steps<L>,
+    ) -> Option<(NodeId, W::Item, W::Sum)>
+        ensures found { Found W.weaving W.turn key self.now.items result }
+        ensures cost { 2 ^ (steps.new - steps.old) ≤ (length self.now.items + 1) ^ 2 }
+    {
+        descend::<W, L>(&self.links, key, steps)
     }
 
     /// The item of that name.
