@@ -1,5 +1,5 @@
 use Rattle.std.proofs.Common.{◌≡◌, ℕ, ◌+◌, ◌-◌, ◌*◌, ◌^◌, ◌≤◌, length, Option, sym, ◌∙◌, ap, subst, arith, lit<}
-use Rattle.std.proofs.Math.Nat.{pow-le-pow_right, pow-two}
+use Rattle.std.proofs.Math.Nat.{pow-le-pow_right, pow-suc, pow-zero, one-mul}
 use Rattle.rb_rules.specs.Tree.{size, height}
 use Rattle.rb_rules.specs.Woven.{entries}
 use Rattle.rb_rules.proofs.Balance.{bound}
@@ -7,6 +7,9 @@ use Rattle.rb_arena.specs.Searching.{Found}
 use Rattle.rb_arena.proofs.Growing.{length-entries}
 use Rattle.rb_arena.proofs.Listing.{low, items_are}
 use Rattle.rb_arena.proofs.tree.RbTree.descend.Goals as goal
+
+square_is : (k : ℕ) → k ^ 2 ≡ k * k
+square_is k = pow-suc k 1 ∙ ap (λ z. z * k) (pow-suc k 0 ∙ ap (λ z. z * k) (pow-zero k) ∙ one-mul k)
 
 pub descend-requires : goal.descend-requires
 descend-requires g c =
@@ -27,5 +30,5 @@ returns-clause-cost g c =
     let up = pow-le-pow_right {n = 2} (lit< tt) {i = c.descend.new.steps - c.args.steps.now} {j = height K.tree} cost in
     let few = bound K.tree K.balanced in
     let n : size K.tree ≡ length c.args.self.now.items = sym (length-entries t.weaving t.weaving.still K.tree) ∙ ap length same in
-    let square : (size K.tree + 1) * (size K.tree + 1) ≡ (length c.args.self.now.items + 1) ^ 2 = sym (pow-two (size K.tree + 1)) ∙ ap (λ k. (k + 1) ^ 2) n in
+    let square : (size K.tree + 1) * (size K.tree + 1) ≡ (length c.args.self.now.items + 1) ^ 2 = sym (square_is (size K.tree + 1)) ∙ ap (λ k. (k + 1) ^ 2) n in
     omega (arith, up, few, square)
