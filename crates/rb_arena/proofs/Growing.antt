@@ -1,5 +1,5 @@
 -- The tree in a memory, its length and its height, and where its items stand.
-use Rattle.std.proofs.Common.{◌≡◌, ℕ, zero, suc, ◌+◌, ◌*◌, ◌^◌, ◌≤◌, ◌<◌, max, Bool, List, [], ◌∷◌, ◌++◌, length, Option, Some, None, refl, sym, ap, ◌∙◌, subst, arith, append_assoc, ◌⊎◌, inl, inr, lit<, lit≤, length-append}
+use Rattle.std.proofs.Common.{◌≡◌, ℕ, zero, suc, ◌+◌, ◌*◌, ◌^◌, ◌≤◌, ◌<◌, Bool, ◌∷◌, ◌++◌, length, Option, Some, None, refl, sym, ap, ◌∙◌, arith, append_assoc, inl, inr, lit<, length-append}
 use Rattle.std.proofs.Math.Nat.{mul-le-mul, pow-le-pow_right}
 use Rattle.std.proofs.lemmas.Bool.{cases_lt}
 use Rattle.std.proofs.lemmas.Option.{none-some}
@@ -11,8 +11,8 @@ use Rattle.rb_rules.specs.declared.slot.Side.TheVariants.{Left, Right}
 use Rattle.rb_rules.specs.declared.slot.Slot.{Slot}
 use Rattle.rb_rules.specs.Tree.{Tree, tip, fork, Hole, top, on, forked, plug, root_of, size, height, depth}
 use Rattle.rb_rules.specs.Colours.{Balanced}
-use Rattle.rb_rules.specs.Memory.{Makes, Made, Spot, here}
-use Rattle.rb_rules.specs.Weaving.{Weaving, Lawful}
+use Rattle.rb_rules.specs.Memory.{Makes}
+use Rattle.rb_rules.specs.Weaving.{Weaving}
 use Rattle.rb_rules.specs.Woven.{entries, lefts, rights, shift_at}
 use Rattle.rb_rules.proofs.Balance.{bound}
 use Rattle.rb_arena.specs.Value.{grown, first_hole}

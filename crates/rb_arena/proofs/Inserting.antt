@@ -1,25 +1,22 @@
 -- An item that comes to a hole of a tree.
-use Rattle.std.proofs.Common.{◌≡◌, ℕ, suc, zero, ◌+◌, ◌≤◌, Bool, true, false, List, [], ◌∷◌, ◌++◌, Option, Some, None, refl, sym, ap, ◌∙◌, subst, arith}
+use Rattle.std.proofs.Common.{◌≡◌, ℕ, ◌≤◌, true, false, List, [], ◌∷◌, ◌++◌, Option, refl, sym, ap, ◌∙◌, subst, arith}
 use Rattle.std.specs.Ordering.{nat_cmp}
 use Rattle.std.specs.FinMap as map
 use Rattle.rb_rules.specs.declared.slot.Data.{Data}
-use Rattle.rb_rules.specs.declared.slot.Side.{Side}
-use Rattle.rb_rules.specs.declared.slot.Side.TheVariants.{Left, Right}
+use Rattle.rb_rules.specs.declared.slot.Side.TheVariants.{Left}
 use Rattle.rb_rules.specs.declared.slot.Slot.{Slot}
 use Rattle.rb_rules.specs.Tree.{Tree, tip, fork, Hole, plug, above, root_of, depth}
-use Rattle.rb_rules.specs.Colours.{Rb, Fits, Balanced}
-use Rattle.rb_rules.specs.Memory.{Made, place_of}
-use Rattle.rb_rules.specs.Shape.{each, shape}
+use Rattle.rb_rules.specs.Colours.{Fits, Balanced}
+use Rattle.rb_rules.specs.Memory.{Made}
 use Rattle.rb_rules.specs.Weaving.{Weaving, Lawful, Sums, HeldItem, HeldBy, CanSumUp, summed}
 use Rattle.rb_rules.specs.Woven.{entries, sum_of, Woven, AllItems, Valued, lefts, rights, shift_at}
-use Rattle.rb_rules.specs.Sound.{Lists, IsSlack, RenewedFrom}
+use Rattle.rb_rules.specs.Sound.{IsSlack, RenewedFrom}
 use Rattle.rb_rules.proofs.Colouring as C
 use Rattle.rb_rules.proofs.Climbs.{slack_of}
 use Rattle.rb_rules.proofs.Held.{can_sum_up, items_right, valued_left, valued_right}
 use Rattle.rb_rules.proofs.Shapes.{same_items}
 use Rattle.rb_rules.proofs.Unshaping as U
 use Rattle.rb_rules.proofs.Weaves.{woven_at, near_of, woven_summed, entries-plug}
-use Rattle.rb_arena.specs.Placing.{CanTake}
 use Rattle.rb_arena.specs.Rising.{Rising}
 
 empty_fits : {D : Type 0} (k : Hole D) → Balanced (plug k tip) → Fits false 0 k
@@ -64,9 +61,9 @@ module _ {X S B : Type 0} (w : Weaving X S B) (L : Lawful w) (is_near : B → Ty
     pub can_sum_leaf : CanSumUp w is_near is_item is_sum is_value (w.shift (w.minus w.still (shift_at w k)) x) w.still w.none w.none
     can_sum_leaf =
         let one = valued_left w L is_near is_item is_sum is_value sums parts ((0, x) ∷ []) (rights w k)
-              (valued_right w L is_near is_item is_sum is_value sums parts (lefts w k) ((0, x) ∷ rights w k) v) in
+        (valued_right w L is_near is_item is_sum is_value sums parts (lefts w k) ((0, x) ∷ rights w k) v) in
         can_sum_up w L is_near is_item is_sum is_value sums parts (shift_at w k) 0 (w.shift (w.minus w.still (shift_at w k)) x) w.still tip tip near still_near
-          (subst (λ z. Valued w is_item is_value ((0, z) ∷ [])) (sym back) one)
+        (subst (λ z. Valued w is_item is_value ((0, z) ∷ [])) (sym back) one)
 
     module _ (id : ℕ) where
       abbrev leaf : Tree (Data X S B)
@@ -83,14 +80,36 @@ module _ {X S B : Type 0} (w : Weaving X S B) (L : Lawful w) (is_near : B → Ty
 
       pub slack_leaf : (m : map.FinMap nat_cmp (Slot (Data X S B))) (root at : Option ℕ) → at ≡ above k → depth k ≤ 128 → Made m root (plug k leaf)
           → IsSlack w is_near is_item is_value m root at 128 (plug k leaf)
-      slack_leaf m root at e le made =
-          (k, (leaf, refl, made, e, woven_summed w L is_near (shift_at w k) true id (w.shift (w.minus w.still (shift_at w k)) x) w.still tip tip near still_near,
-            slack_of w L is_near is_item is_sum is_value sums parts k tip wv, subst (Valued w is_item is_value) (sym items_are) valued_new, le))
+      slack_leaf m root at e le made = (
+        k,
+        (
+          leaf,
+          refl,
+          made,
+          e,
+          woven_summed w L is_near (shift_at w k) true id (w.shift (w.minus w.still (shift_at w k)) x) w.still tip tip near still_near,
+          slack_of w L is_near is_item is_sum is_value sums parts k tip wv,
+          subst (Valued w is_item is_value) (sym items_are) valued_new,
+          le,
+        ),
+      )
 
       pub rising_leaf : (m : map.FinMap nat_cmp (Slot (Data X S B))) (root : Option ℕ) → depth k ≤ 128 → RenewedFrom w is_near m root (plug k leaf) → Rising w is_near m root (lefts w k ++ (id, x) ∷ rights w k) id 128
       rising_leaf m root le (u, made, wv2, alike) =
           let f : Data X S B → X × B = λ d. (d.item, d.delta) in
           let (k2, (t2, is, alike2, deep, fits)) = U.unplugged f k leaf u alike in
-          let (d2, (a, b, same, ea, eb)) = U.forked_back f Left t2 true id (own, w.still) tip tip alike2 in
-          (k2, (t2, (0, subst (Made m root) is made, (subst (Woven w is_near w.still) is wv2, ap (entries w w.still) (sym is) ∙ same_items w w.still u (plug k leaf) alike ∙ items_are),
-            ap root_of same, U.rb_same f true 0 leaf t2 (sym alike2) (refl, (refl, refl), (refl, refl)), fits false 0 (empty_fits k bal), omega (arith, deep, le))))
+          let (d2, (a, b, same, ea, eb)) = U.forked_back f Left t2 true id (own, w.still) tip tip alike2 in (
+            k2,
+            (
+              t2,
+              (
+                0,
+                subst (Made m root) is made,
+                (subst (Woven w is_near w.still) is wv2, ap (entries w w.still) (sym is) ∙ same_items w w.still u (plug k leaf) alike ∙ items_are),
+                ap root_of same,
+                U.rb_same f true 0 leaf t2 (sym alike2) (refl, (refl, refl), (refl, refl)),
+                fits false 0 (empty_fits k bal),
+                omega (arith, deep, le),
+              ),
+            ),
+          )

@@ -1,10 +1,9 @@
 -- The node of an item in the list.
-use Rattle.std.proofs.Common.{◌≡◌, ℕ, suc, Bool, List, [], ◌∷◌, ◌++◌, length, Option, Some, None, refl, sym, ap, ◌∙◌, subst, arith, append_assoc, append-nil, ◌⊎◌, inl, inr, length-append}
+use Rattle.std.proofs.Common.{◌≡◌, ℕ, List, [], ◌∷◌, ◌++◌, length, Option, Some, refl, sym, ap, ◌∙◌, subst, arith, append_assoc, append-nil, ◌⊎◌, inl, inr, length-append}
 use Rattle.rb_rules.specs.declared.slot.Data.{Data}
-use Rattle.rb_rules.specs.declared.slot.Side.{Side}
 use Rattle.rb_rules.specs.declared.slot.Side.TheVariants.{Left, Right}
 use Rattle.rb_rules.specs.Tree.{Tree, tip, fork, Hole, top, on, plug, above}
-use Rattle.rb_rules.specs.Memory.{Spot, here, place_of}
+use Rattle.rb_rules.specs.Memory.{Spot, here}
 use Rattle.rb_rules.specs.Weaving.{Weaving}
 use Rattle.rb_rules.specs.Woven.{entries, lefts, rights, shift_at, AllItems}
 use Rattle.rb_arena.specs.Value.{first_hole, first_or}
@@ -60,7 +59,7 @@ module _ {X S B : Type 0} (w : Weaving X S B) where
   -- the same in a whole tree
   pub locate_in : (t : Tree (Data X S B)) (us : List (ℕ × X)) (id : ℕ) (x : X) (vs : List (ℕ × X)) → entries w w.still t ≡ us ++ (id, x) ∷ vs
       → (s : Spot (Data X S B)) × (plug s.hole (here s id) ≡ t) × (x ≡ w.shift (shift_at w s.hole) s.datum.item)
-        × (us ≡ lefts w s.hole ++ entries w (shift_at w s.hole) s.left) × (vs ≡ entries w (w.plus (shift_at w s.hole) s.datum.delta) s.right ++ rights w s.hole)
+      × (us ≡ lefts w s.hole ++ entries w (shift_at w s.hole) s.left) × (vs ≡ entries w (w.plus (shift_at w s.hole) s.datum.delta) s.right ++ rights w s.hole)
   locate_in t us id x vs e = let (s, whole, val, l, r) = locate top t us id x vs e in (s, whole, val, l, sym (append-nil vs) ∙ r)
 
   first_of_left : (o : Option ℕ) (i : ℕ) (x : X) (es fs : List (ℕ × X)) → first_or (Some i) es ≡ first_or o (es ++ (i, x) ∷ fs)

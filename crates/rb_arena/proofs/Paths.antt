@@ -1,7 +1,6 @@
 -- The shifts on the path to a place, summed from the place up.
-use Rattle.std.proofs.Common.{◌≡◌, ℕ, suc, ◌+◌, ◌≤◌, Bool, Option, Some, None, refl, sym, ap, ◌∙◌, subst, arith}
+use Rattle.std.proofs.Common.{◌≡◌, ℕ, suc, ◌≤◌, Bool, Option, Some, None, refl, sym, ap, ◌∙◌, subst, arith}
 use Rattle.std.specs.Option.{unwrap_or}
-use Rattle.std.proofs.lemmas.Option.{none-some}
 use Rattle.std.specs.Ordering.{nat_cmp}
 use Rattle.std.specs.FinMap as map
 use Rattle.rb_rules.specs.declared.slot.Data.{Data}
@@ -57,17 +56,24 @@ module _ {X S B : Type 0} (w : Weaving X S B) (L : Lawful w) where
         let wv2 = woven_at w L is_near k2 (forked a.1 c a.0 d t x) (subst (λ l. Woven w is_near w.still (plug l t)) is wv) in
         let same = datum_next a.1 c a.0 d x k2 t slot here f in
         let reach : all ≡ w.plus (shift_at w k2) (passed w a.1 slot.«data».delta by)
-              = sum ∙ ap (λ l. w.plus (shift_at w l) by) is ∙ shift_step a.1 c a.0 d x k2 by ∙ ap (λ z. w.plus (shift_at w k2) (passed w a.1 z.delta by)) (sym same) in
+        = sum ∙ ap (λ l. w.plus (shift_at w l) by) is ∙ shift_step a.1 c a.0 d x k2 by ∙ ap (λ z. w.plus (shift_at w k2) (passed w a.1 z.delta by)) (sym same) in
         (shift_at w k2, near_of w L is_near (shift_at w k2) (forked a.1 c a.0 d t x) wv2, subst is_near reach near)
 
     pub along_next : (all : B) (a : ℕ × Side) (by : B) (n : ℕ) (slot : Slot (Data X S B)) (at2 : Option (ℕ × Side)) → Along all (Some a) by (suc n) → map.get m a.0 ≡ Some slot
         → AtSpot m root a.0 (λ s. at2 ≡ place_of s.hole) → Along all at2 (passed w a.1 slot.«data».delta by) n
     along_next all a by n slot at2 (k, (t, e, made, wv, sum, le)) f next =
         let (c, (d, x, k2, is)) = hole_on k a.0 a.1 (sym e) in let here = subst (λ l. Made m root (plug l t)) is made in
-        let same = datum_next a.1 c a.0 d x k2 t slot here f in let deep : depth k ≡ suc (depth k2) = ap depth is ∙ omega arith in
-        (k2, (forked a.1 c a.0 d t x, next (spot_of a.1 c d t x k2) (stands_above m root a.1 c a.0 d x k2 t here) ∙ ap place_of (spot_hole a.1 c d t x k2), here,
-          subst (λ l. Woven w is_near w.still (plug l t)) is wv,
-          sum ∙ ap (λ l. w.plus (shift_at w l) by) is ∙ shift_step a.1 c a.0 d x k2 by ∙ ap (λ z. w.plus (shift_at w k2) (passed w a.1 z.delta by)) (sym same), omega (arith, deep, le)))
+        let same = datum_next a.1 c a.0 d x k2 t slot here f in let deep : depth k ≡ suc (depth k2) = ap depth is ∙ omega arith in (
+          k2,
+          (
+            forked a.1 c a.0 d t x,
+            next (spot_of a.1 c d t x k2) (stands_above m root a.1 c a.0 d x k2 t here) ∙ ap place_of (spot_hole a.1 c d t x k2),
+            here,
+            subst (λ l. Woven w is_near w.still (plug l t)) is wv,
+            sum ∙ ap (λ l. w.plus (shift_at w l) by) is ∙ shift_step a.1 c a.0 d x k2 by ∙ ap (λ z. w.plus (shift_at w k2) (passed w a.1 z.delta by)) (sym same),
+            omega (arith, deep, le),
+          ),
+        )
 
     pub along_done : (all by : B) (n : ℕ) → Along all None by n → by ≡ all
     along_done all by n (k, (t, e, made, wv, sum, le)) = sym (sum ∙ ap (λ l. w.plus (shift_at w l) by) (hole_top k (sym e)) ∙ still_plus by)

@@ -1,5 +1,5 @@
 -- A place for an item in a tree in memory.
-use Rattle.std.specs.Prelude.{◌≡◌, ℕ, ◌≤◌, List, ◌∷◌, ◌++◌, Option, Some, None}
+use Rattle.std.specs.Prelude.{◌≡◌, ℕ, ◌≤◌, ◌∷◌, ◌++◌, Option, Some, None}
 use Rattle.std.specs.Ordering.{nat_cmp}
 use Rattle.std.specs.FinMap as map
 use Rattle.rb_rules.specs.declared.slot.Data.{Data}
@@ -10,7 +10,7 @@ use Rattle.rb_rules.specs.Tree.{Tree, tip, Hole, plug, depth, root_of, height}
 use Rattle.rb_rules.specs.Colours.{Balanced}
 use Rattle.rb_rules.specs.Memory.{Made, place_of}
 use Rattle.rb_rules.specs.Weaving.{Weaving}
-use Rattle.rb_rules.specs.Woven.{entries, Woven, Valued, lefts, rights, shift_at}
+use Rattle.rb_rules.specs.Woven.{Woven, Valued, lefts, rights}
 
 -- the shift of the subtree on that side of a node, from that of the node
 abbrev pub passed : {X S B : Type 0} → Weaving X S B → Side → B → B → B

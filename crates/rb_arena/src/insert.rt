@@ -54,10 +54,7 @@ fn pass<W: Weave>(side: Side, delta: W::By, by: W::By) -> W::By
 }
 
 /// What the shifts on the path to a place come to.
-pub(crate) fn path_shift<W: Weave>(
-    tree: &Links<Data<W::Item, W::Sum, W::By>>,
-    from: Place,
-) -> W::By
+pub(crate) fn path_shift<W: Weave>(tree: &Links<Data<W::Item, W::Sum, W::By>>, from: Place) -> W::By
     requires { (t : Tree (Data W.Item W.Sum W.By)) × ((k : Hole (Data W.Item W.Sum W.By)) × WovenAt W.weaving W.is_near tree.now.nodes.live tree.now.root from t k) }
     ensures { (t : Tree (Data W.Item W.Sum W.By)) (k : Hole (Data W.Item W.Sum W.By)) → WovenAt W.weaving W.is_near tree.now.nodes.live tree.now.root from t k → result ≡ shift_at W.weaving k }
 {

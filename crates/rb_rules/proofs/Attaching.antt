@@ -1,16 +1,15 @@
 -- A leaf that comes to a hole of a tree in memory.
-use Rattle.std.proofs.Common.{◌≡◌, ◌≢◌, ℕ, suc, ◌+◌, ◌≤◌, Bool, true, false, cond, eqb, Option, Some, None, refl, sym, ap, ◌∙◌, subst, arith, inl, inr}
+use Rattle.std.proofs.Common.{◌≡◌, ◌≢◌, ℕ, ◌+◌, ◌≤◌, Bool, true, false, cond, eqb, Option, Some, None, refl, sym, ap, ◌∙◌, arith, inl, inr}
 use Rattle.std.proofs.lemmas.Bool.Decides.{eqb_tells}
 use Rattle.std.proofs.lemmas.Option.{none-some}
 use Rattle.std.proofs.lemmas.Bool.{false≢true}
 use Rattle.std.specs.Ordering.{nat_cmp}
 use Rattle.std.specs.FinMap as map
 use Rattle.raw_arena.proofs.Names.{get-insert_same}
-use Rattle.rb_rules.specs.declared.slot.Side.{Side}
-use Rattle.rb_rules.specs.declared.slot.Side.TheVariants.{Left, Right}
+use Rattle.rb_rules.specs.declared.slot.Side.TheVariants.{Left}
 use Rattle.rb_rules.specs.declared.slot.Slot.{Slot}
-use Rattle.rb_rules.specs.Tree.{Tree, tip, fork, Hole, top, on, forked, plug, root_of, above, count, count_round}
-use Rattle.rb_rules.specs.Memory.{sided, Makes, Around, Made, place_of, hung, root_hung}
+use Rattle.rb_rules.specs.Tree.{Tree, tip, fork, Hole, plug, above, count, count_round}
+use Rattle.rb_rules.specs.Memory.{sided, Makes, Made, place_of, hung, root_hung}
 use Rattle.rb_rules.proofs.Holes.{count-plug}
 use Rattle.rb_rules.proofs.Memories.{opened, closed, kept_round, hung_round, slot_hung}
 

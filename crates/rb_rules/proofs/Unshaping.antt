@@ -1,10 +1,8 @@
 -- A tree that has the shape of a plugged one is plugged in the same way.
-use Rattle.std.proofs.Common.{◌≡◌, ℕ, suc, ◌+◌, Bool, true, false, Option, Some, None, refl, sym, ap, ◌∙◌, subst}
-use Rattle.std.proofs.lemmas.Bool.{true≢false, false≢true}
-use Rattle.rb_rules.specs.declared.slot.Data.{Data}
+use Rattle.std.proofs.Common.{◌≡◌, ℕ, suc, ◌+◌, Bool, true, false, refl, sym, ap, ◌∙◌, subst}
 use Rattle.rb_rules.specs.declared.slot.Side.{Side}
 use Rattle.rb_rules.specs.declared.slot.Side.TheVariants.{Left, Right}
-use Rattle.rb_rules.specs.Tree.{Tree, tip, fork, Hole, top, on, forked, plug, root_of, depth}
+use Rattle.rb_rules.specs.Tree.{Tree, tip, fork, Hole, top, on, forked, plug, depth}
 use Rattle.rb_rules.specs.Colours.{Rb, Fits}
 use Rattle.rb_rules.specs.Shape.{each}
 use Rattle.rb_rules.proofs.Shapes.{rb_to_each, rb_of_each, each-forked}

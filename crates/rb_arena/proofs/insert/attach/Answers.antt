@@ -1,12 +1,11 @@
-use Rattle.std.proofs.Common.{◌≡◌, ℕ, ◌+◌, ◌^◌, ◌<◌, Bool, true, Option, Some, None, refl, sym, ap, ◌∙◌, subst, arith}
+use Rattle.std.proofs.Common.{ℕ, true, Option, Some, None, refl, sym, ap, ◌∙◌, subst}
 use Rattle.std.specs.Prelude.{IfSome}
 use Rattle.std.specs.Ordering.{nat_cmp}
 use Rattle.std.specs.FinMap as map
 use Rattle.std.proofs.lemmas.Cmp.{nat_cmp_total}
-use Rattle.rb_rules.specs.declared.slot.Side.{Side}
 use Rattle.rb_rules.specs.declared.slot.Side.TheVariants.{Left}
 use Rattle.rb_rules.specs.declared.slot.Slot.{Slot}
-use Rattle.rb_rules.specs.Tree.{tip, fork, plug, above}
+use Rattle.rb_rules.specs.Tree.{tip, fork, plug}
 use Rattle.rb_rules.specs.Memory.{sided, Made, place_of, hung, root_hung}
 use Rattle.rb_rules.proofs.Memories.{opened}
 use Rattle.rb_rules.proofs.Live.{Live, live_insert, live_place, len_hung}
@@ -24,8 +23,8 @@ hang-requires g c =
     let (k, (e, made)) = c.requires.hole in let m = c.args.tree.now.nodes.live in let root = c.args.tree.now.root in
     let live = live_place m root k _ (opened m root k tip made.from made.nodes).0 in
     subst (λ l. IfSome c.args.at (λ at. Live l at.0)) (sym c.put-id.ensures.live)
-      (each_live (λ at. Live m at.0) (λ at. Live (map.insert m c.put-id.result c.sided-leaf.result) at.0) (λ at h. live_insert m c.put-id.result c.sided-leaf.result at.0 h) c.args.at
-        (subst (λ o. IfSome o (λ at. Live m at.0)) (sym e) live))
+    (each_live (λ at. Live m at.0) (λ at. Live (map.insert m c.put-id.result c.sided-leaf.result) at.0) (λ at h. live_insert m c.put-id.result c.sided-leaf.result at.0 h) c.args.at
+    (subst (λ o. IfSome o (λ at. Live m at.0)) (sym e) live))
 
 pub returns-clause-made : goal.returns-clause-made
 returns-clause-made g c = λ k (e, made).
@@ -34,7 +33,7 @@ returns-clause-made g c = λ k (e, made).
     let live = c.hang.ensures.live ∙ (λ i. hung (c.put-id.ensures.live i) (e i) (Some id)) ∙ ap (λ s. hung (map.insert m id s) (place_of k) (Some id)) leaf in
     let top = c.hang.ensures.root ∙ ap (λ o. root_hung root o (Some id)) e in
     subst {A = map.FinMap nat_cmp (Slot g.row.D.Denot) × Option ℕ} (λ t. Made t.0 t.1 (plug k (fork true id c.args.datum tip tip))) (sym (λ i. (live i, top i)))
-      (attached m root k id c.args.datum c.put-id.ensures.new_name made)
+    (attached m root k id c.args.datum c.put-id.ensures.new_name made)
 
 pub returns-clause-as_many : goal.returns-clause-as_many
 returns-clause-as_many g c =

@@ -1,9 +1,8 @@
-use Rattle.std.proofs.Common.{◌≡◌, ℕ, List, ◌∷◌, ◌++◌, Option, Some, None, true, refl, sym, ap, ◌∙◌, subst}
-use Rattle.std.specs.FinMap as map
-use Rattle.rb_rules.specs.Tree.{tip, fork, plug, above}
-use Rattle.rb_rules.specs.Memory.{Made, place_of}
+use Rattle.std.proofs.Common.{◌∷◌, ◌++◌, true, sym, ap, ◌∙◌, subst}
+use Rattle.rb_rules.specs.Tree.{tip, fork, plug}
+use Rattle.rb_rules.specs.Memory.{Made}
 use Rattle.rb_rules.specs.Weaving.{HeldItem, HeldBy, CanSumUp, summed}
-use Rattle.rb_rules.specs.Woven.{shift_at, lefts, rights}
+use Rattle.rb_rules.specs.Woven.{lefts, rights}
 use Rattle.rb_arena.specs.Placing.{above_place, WovenAt}
 use Rattle.rb_arena.proofs.Paths.{above-place}
 use Rattle.rb_arena.proofs.Inserting.{held_minus, held_own, can_sum_leaf, slack_leaf, rising_leaf, valued_new}
@@ -37,7 +36,7 @@ summed-leaf-requires g c =
     let first = c.minus.ensures ∙ (λ i. w.minus (c.still.ensures i) (by i)) in
     let item = c.shift-own.ensures ∙ ap (λ b. w.shift b c.args.item) first in
     subst {A = g.row.W-Item.Denot × g.row.W-By.Denot × g.row.W-Sum.Denot × g.row.W-Sum.Denot} (λ p. CanSumUp w t.is_near t.is_item t.is_sum t.is_value p.0 p.1 p.2 p.3)
-      (sym (λ i. (item i, c.still-2.ensures i, c.none.ensures i, c.none-2.ensures i))) (can_sum_leaf w laws.laws t.is_near t.is_item t.is_sum t.is_value laws.sums laws.parts laws.starts_near k c.args.item h.1 bal v)
+    (sym (λ i. (item i, c.still-2.ensures i, c.none.ensures i, c.none-2.ensures i))) (can_sum_leaf w laws.laws t.is_near t.is_item t.is_sum t.is_value laws.sums laws.parts laws.starts_near k c.args.item h.1 bal v)
 
 pub renew_up-requires : goal.renew_up-requires
 renew_up-requires g c =

@@ -1,4 +1,4 @@
-use Rattle.std.proofs.Common.{◌≡◌, ◌-◌}
+use Rattle.std.proofs.Common.{◌-◌}
 use Rattle.rb_rules.specs.declared.slot.Data.{Data}
 use Rattle.rb_rules.specs.Tree.{Tree, Hole}
 use Rattle.rb_rules.specs.Woven.{shift_at}

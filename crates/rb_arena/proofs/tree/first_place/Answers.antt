@@ -1,8 +1,8 @@
-use Rattle.std.proofs.Common.{◌≡◌, ℕ, suc, ◌-◌, ◌+◌, Option, Some, None, refl, sym, ap, ◌∙◌, subst, arith}
+use Rattle.std.proofs.Common.{refl, sym, ap, ◌∙◌, subst, arith}
 use Rattle.std.specs.Option.{unwrap_or}
 use Rattle.rb_rules.specs.declared.slot.Side.TheVariants.{Left}
-use Rattle.rb_rules.specs.Tree.{Tree, Hole, on, plug, root_of, height}
-use Rattle.rb_rules.specs.Memory.{Made, Spot, here, place_of}
+use Rattle.rb_rules.specs.Tree.{on, plug, height}
+use Rattle.rb_rules.specs.Memory.{Made, place_of}
 use Rattle.rb_rules.proofs.Live.{slot_here, forks}
 use Rattle.rb_arena.specs.Value.{first_hole}
 use Rattle.rb_arena.proofs.Growing.{no_root, no_height}

@@ -1,7 +1,6 @@
-use Rattle.std.proofs.Common.{◌≡◌, ℕ, ◌+◌, ◌-◌, ◌*◌, ◌^◌, ◌≤◌, length, Option, sym, ◌∙◌, ap, subst, arith, lit<}
+use Rattle.std.proofs.Common.{◌≡◌, ℕ, ◌+◌, ◌-◌, ◌*◌, ◌^◌, length, sym, ◌∙◌, ap, subst, arith, lit<}
 use Rattle.std.proofs.Math.Nat.{pow-le-pow_right, pow-suc, pow-zero, one-mul}
 use Rattle.rb_rules.specs.Tree.{size, height}
-use Rattle.rb_rules.specs.Woven.{entries}
 use Rattle.rb_rules.proofs.Balance.{bound}
 use Rattle.rb_arena.specs.Searching.{Found}
 use Rattle.rb_arena.proofs.Growing.{length-entries}

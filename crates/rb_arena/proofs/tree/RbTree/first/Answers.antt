@@ -1,24 +1,11 @@
-use Rattle.std.proofs.Common.{◌≡◌, ℕ, suc, ◌+◌, ◌<◌, ◌^◌, List, [], ◌∷◌, ◌++◌, length, Option, Some, None, refl, sym, ap, ◌∙◌, subst, arith, append_assoc, length-append}
-use Rattle.std.specs.Option.{unwrap_or}
-use Rattle.std.specs.FinMap as map
-use Rattle.rb_rules.specs.declared.slot.Data.{Data}
-use Rattle.rb_rules.specs.declared.slot.Side.TheVariants.{Left, Right}
-use Rattle.rb_rules.specs.Tree.{Tree, Hole, top, on, plug, root_of, height, depth}
-use Rattle.rb_rules.specs.Memory.{Made, Spot, here, place_of}
-use Rattle.rb_rules.specs.Weaving.{HeldItem}
-use Rattle.rb_rules.specs.Woven.{entries, sum_of, Woven, Valued, lefts, rights, shift_at}
-use Rattle.rb_rules.proofs.Held.{items_right}
-use Rattle.rb_rules.proofs.Live.{slot_here}
-use Rattle.rb_rules.proofs.Spots.{upper_is}
-use Rattle.rb_arena.specs.Placing.{above_place, WovenAt}
-use Rattle.rb_arena.specs.Rising.{Mended}
-use Rattle.rb_arena.specs.Value.{first_hole, first_or, items_in, Keeps, SplitsAt}
-use Rattle.rb_arena.proofs.Growing.{depth_height}
-use Rattle.rb_arena.proofs.Inserting.{valued_renamed}
-use Rattle.rb_arena.proofs.Listing.{low, starts_top, items_are, can_take, list_first, keeps_mended}
-use Rattle.rb_arena.proofs.Locating.{locate_in, after_list, items_more, above_first}
+use Rattle.std.proofs.Common.{◌≡◌, None, sym, ap, ◌∙◌}
+use Rattle.rb_rules.specs.Tree.{top}
+use Rattle.rb_rules.specs.Woven.{entries}
+use Rattle.rb_arena.specs.Placing.{above_place}
+use Rattle.rb_arena.specs.Value.{first_hole, first_or}
+use Rattle.rb_arena.proofs.Listing.{starts_top, items_are}
+use Rattle.rb_arena.proofs.Locating.{above_first}
 use Rattle.rb_arena.proofs.Paths.{above-place}
-use Rattle.rb_arena.proofs.tree.RbTree.first.Given.{Over}
 use Rattle.rb_arena.proofs.tree.RbTree.first.Goals as goal
 
 pub first_place-requires : goal.first_place-requires

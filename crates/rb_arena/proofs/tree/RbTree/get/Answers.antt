@@ -1,24 +1,15 @@
-use Rattle.std.proofs.Common.{◌≡◌, ℕ, suc, ◌+◌, ◌<◌, ◌^◌, List, [], ◌∷◌, ◌++◌, length, Option, Some, None, refl, sym, ap, ◌∙◌, subst, arith, append_assoc, length-append}
-use Rattle.std.specs.Option.{unwrap_or}
-use Rattle.std.specs.FinMap as map
-use Rattle.rb_rules.specs.declared.slot.Data.{Data}
-use Rattle.rb_rules.specs.declared.slot.Side.TheVariants.{Left, Right}
-use Rattle.rb_rules.specs.Tree.{Tree, Hole, top, on, plug, root_of, height, depth}
-use Rattle.rb_rules.specs.Memory.{Made, Spot, here, place_of}
-use Rattle.rb_rules.specs.Weaving.{HeldItem}
-use Rattle.rb_rules.specs.Woven.{entries, sum_of, Woven, AllItems, Valued, lefts, rights, shift_at}
+use Rattle.std.proofs.Common.{◌≡◌, ◌∷◌, sym, ap, ◌∙◌, subst, arith}
+use Rattle.rb_rules.specs.declared.slot.Side.TheVariants.{Left}
+use Rattle.rb_rules.specs.Tree.{height}
+use Rattle.rb_rules.specs.Memory.{Made, here}
+use Rattle.rb_rules.specs.Woven.{entries, Woven, AllItems}
 use Rattle.rb_rules.proofs.Held.{items_right}
 use Rattle.rb_rules.proofs.Live.{slot_here}
 use Rattle.rb_rules.proofs.Spots.{upper_is}
-use Rattle.rb_arena.specs.Placing.{above_place, WovenAt}
-use Rattle.rb_arena.specs.Rising.{Mended}
-use Rattle.rb_arena.specs.Value.{first_hole, first_or, items_in, Keeps, SplitsAt}
+use Rattle.rb_arena.specs.Placing.{WovenAt}
 use Rattle.rb_arena.proofs.Growing.{depth_height}
-use Rattle.rb_arena.proofs.Inserting.{valued_renamed}
-use Rattle.rb_arena.proofs.Listing.{low, starts_top, items_are, can_take, list_first, keeps_mended}
-use Rattle.rb_arena.proofs.Locating.{locate_in, after_list, items_more, above_first}
-use Rattle.rb_arena.proofs.Paths.{above-place}
-use Rattle.rb_arena.proofs.tree.RbTree.get.Given.{Over}
+use Rattle.rb_arena.proofs.Listing.{low, items_are}
+use Rattle.rb_arena.proofs.Locating.{locate_in}
 use Rattle.rb_arena.proofs.tree.RbTree.get.Goals as goal
 
 pub place-at-requires : goal.place-at-requires
@@ -37,7 +28,7 @@ path_shift-by-requires g c =
     let (s, whole, val, l, r) = locate_in w K.tree us c.args.id x vs (sym same ∙ e) in let made = subst (Made m root) (sym whole) K.made in
     let deep = depth_height s.hole (here s c.args.id) in let high = ap height whole in let lo = low w t.is_near t.is_item t.is_value m root K in
     let at : WovenAt w t.is_near m root c.place-at.result (here s c.args.id) s.hole
-          = ((c.place-at.ensures s made, made), subst (Woven w t.is_near w.still) (sym whole) K.woven, omega (arith, deep, high, lo)) in
+    = ((c.place-at.ensures s made, made), subst (Woven w t.is_near w.still) (sym whole) K.woven, omega (arith, deep, high, lo)) in
     (here s c.args.id, (s.hole, at))
 
 pub read-requires : goal.read-requires
@@ -56,7 +47,7 @@ shift-requires g c =
     let (s, whole, val, l, r) = locate_in w K.tree us c.args.id x vs (sym same ∙ e) in let made = subst (Made m root) (sym whole) K.made in
     let deep = depth_height s.hole (here s c.args.id) in let high = ap height whole in let lo = low w t.is_near t.is_item t.is_value m root K in
     let at : WovenAt w t.is_near m root c.place-at.result (here s c.args.id) s.hole
-          = ((c.place-at.ensures s made, made), subst (Woven w t.is_near w.still) (sym whole) K.woven, omega (arith, deep, high, lo)) in
+    = ((c.place-at.ensures s made, made), subst (Woven w t.is_near w.still) (sym whole) K.woven, omega (arith, deep, high, lo)) in
     let slot = upper_is m root s c.args.id made Left c.read.result c.read.ensures in
     let is : w.shift c.path_shift-by.result c.read.result.«data».item ≡ x = (λ i. w.shift (c.path_shift-by.ensures (here s c.args.id) s.hole at i) (slot i).«data».item) ∙ sym val in
     let mine = items_right w laws.laws t.is_near t.is_item t.is_sum t.is_value laws.sums laws.parts us ((c.args.id, x) ∷ vs) (subst (λ q. AllItems w t.is_item q) (sym same ∙ e) K.values.0) in
@@ -69,7 +60,7 @@ returns g c = λ us x vs e.
     let (s, whole, val, l, r) = locate_in w K.tree us c.args.id x vs (sym same ∙ e) in let made = subst (Made m root) (sym whole) K.made in
     let deep = depth_height s.hole (here s c.args.id) in let high = ap height whole in let lo = low w t.is_near t.is_item t.is_value m root K in
     let at : WovenAt w t.is_near m root c.place-at.result (here s c.args.id) s.hole
-          = ((c.place-at.ensures s made, made), subst (Woven w t.is_near w.still) (sym whole) K.woven, omega (arith, deep, high, lo)) in
+    = ((c.place-at.ensures s made, made), subst (Woven w t.is_near w.still) (sym whole) K.woven, omega (arith, deep, high, lo)) in
     let slot = upper_is m root s c.args.id made Left c.read.result c.read.ensures in
     let is : w.shift c.path_shift-by.result c.read.result.«data».item ≡ x = (λ i. w.shift (c.path_shift-by.ensures (here s c.args.id) s.hole at i) (slot i).«data».item) ∙ sym val in
     c.shift.ensures ∙ is

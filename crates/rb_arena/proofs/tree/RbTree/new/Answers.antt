@@ -1,4 +1,4 @@
-use Rattle.std.proofs.Common.{◌≡◌, [], None, sym, ap, ◌∙◌, subst}
+use Rattle.std.proofs.Common.{None, sym, ap, ◌∙◌, subst}
 use Rattle.rb_arena.specs.Value.{listed, items_in, Keeps}
 use Rattle.rb_arena.proofs.Listing.{keeps_none, none_in}
 use Rattle.rb_arena.proofs.tree.RbTree.new.Goals as goal
