@@ -72,3 +72,7 @@ module _ {D : Type 0} where
   pub no_height : (t : Tree D) → height t ≤ 0 → t ≡ tip
   no_height tip le = refl
   no_height (fork c i d x y) le = absurd (omega arith)
+
+  pub hole_depth : (k : Hole D) → depth k ≤ 0 → k ≡ top
+  hole_depth top le = refl
+  hole_depth (on s c i d x k) le = absurd (omega arith)

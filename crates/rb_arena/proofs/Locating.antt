@@ -1,12 +1,12 @@
 -- The node of an item in the list.
-use Rattle.std.proofs.Common.{◌≡◌, ℕ, List, [], ◌∷◌, ◌++◌, length, Option, Some, refl, sym, ap, ◌∙◌, subst, arith, append_assoc, append-nil, ◌⊎◌, inl, inr, length-append}
+use Rattle.std.proofs.Common.{None, ◌≡◌, ℕ, List, [], ◌∷◌, ◌++◌, length, Option, Some, refl, sym, ap, ◌∙◌, subst, arith, append_assoc, append-nil, ◌⊎◌, inl, inr, length-append}
 use Rattle.rb_rules.specs.declared.slot.Data.{Data}
 use Rattle.rb_rules.specs.declared.slot.Side.TheVariants.{Left, Right}
-use Rattle.rb_rules.specs.Tree.{Tree, tip, fork, Hole, top, on, plug, above}
+use Rattle.rb_rules.specs.Tree.{Tree, tip, fork, Hole, top, on, plug, above, root_of}
 use Rattle.rb_rules.specs.Memory.{Spot, here}
 use Rattle.rb_rules.specs.Weaving.{Weaving}
 use Rattle.rb_rules.specs.Woven.{entries, lefts, rights, shift_at, AllItems}
-use Rattle.rb_arena.specs.Value.{first_hole, first_or}
+use Rattle.rb_arena.specs.Value.{first_hole, first_or, up_next}
 
 module _ {A : Type 0} where
   head_or : A → List A → A
@@ -86,3 +86,17 @@ module _ {X S B : Type 0} (w : Weaving X S B) where
   pub items_more : (is_item : X → Type 0) (us : List (ℕ × X)) (e f : ℕ × X) (vs : List (ℕ × X)) → is_item f.1 → AllItems w is_item (us ++ e ∷ vs) → AllItems w is_item (us ++ e ∷ f ∷ vs)
   items_more is_item [] e f vs x (h, hs) = (h, (x, hs))
   items_more is_item (u ∷ us) e f vs x (h, hs) = (h, items_more is_item us e f vs x hs)
+
+  first_of_more : (o p : Option ℕ) (es : List (ℕ × X)) (e : ℕ × X) (fs gs : List (ℕ × X)) → first_or o (es ++ e ∷ fs) ≡ first_or p ((es ++ e ∷ fs) ++ gs)
+  first_of_more o p [] e fs gs = refl
+  first_of_more o p (f ∷ es) e fs gs = refl
+
+  -- a tree with a node has a first item
+  pub first_of_tree : (o p : Option ℕ) (acc : B) (t : Tree (Data X S B)) (gs : List (ℕ × X)) → (root_of t ≡ None → ⊥) → first_or o (entries w acc t) ≡ first_or p (entries w acc t ++ gs)
+  first_of_tree o p acc tip gs some = absurd (some refl)
+  first_of_tree o p acc (fork c i d x y) gs some = first_of_more o p (entries w acc x) (i, w.shift acc d.item) (entries w (w.plus acc d.delta) y) gs
+
+  pub up-next : (k : Hole (Data X S B)) → up_next k ≡ first_or None (rights w k)
+  up-next top = refl
+  up-next (on Left c i d x k) = refl
+  up-next (on Right c i d x k) = up-next k

@@ -4,9 +4,9 @@ use Rattle.std.specs.Coded.{Coded, code_by, coded×, coded_list, coded_ℕ}
 use Rattle.std.specs.Ordering.{nat_cmp}
 use Rattle.std.specs.FinMap as map
 use Rattle.rb_rules.specs.declared.slot.Data.{Data}
-use Rattle.rb_rules.specs.declared.slot.Side.TheVariants.{Left}
+use Rattle.rb_rules.specs.declared.slot.Side.TheVariants.{Left, Right}
 use Rattle.rb_rules.specs.declared.slot.Slot.{Slot}
-use Rattle.rb_rules.specs.Tree.{Tree, tip, fork, Hole, on}
+use Rattle.rb_rules.specs.Tree.{Tree, tip, fork, Hole, top, on}
 use Rattle.rb_rules.specs.Colours.{Balanced}
 use Rattle.rb_rules.specs.Memory.{Made}
 use Rattle.rb_rules.specs.Weaving.{Weaving}
@@ -67,3 +67,9 @@ first_or o (e ∷ es) = Some e.0
 -- the sum of the items is a value once that item stands right after the one of that name
 abbrev pub SumsTo : {X S B : Type 0} → Weaving X S B → (S → Type 0) → List (ℕ × X) → ℕ → X → Type 0
 SumsTo {X = X} w is_value items id item = (us : List (ℕ × X)) (x : X) (vs : List (ℕ × X)) → SplitsAt items id us x vs → is_value (sum_of w (us ++ (id, x) ∷ (0, item) ∷ vs))
+
+-- the nearest node above a hole that stands after it
+abbrev pub up_next : {D : Type 0} → Hole D → Option ℕ
+up_next top = None
+up_next (on Left c i d x k) = Some i
+up_next (on Right c i d x k) = up_next k

@@ -1,9 +1,9 @@
 //! The tree as its users see it.
 ghost use Rattle.std.specs.Prelude.{◌≡◌, ℕ, List, None, length, ◌-◌, ◌^◌, ◌+◌, ◌<◌, ◌≤◌, [], ◌∷◌, ◌++◌, OnOk};
-ghost use Rattle.rb_rules.specs.Tree.{Tree, Hole};
-ghost use Rattle.rb_rules.specs.Memory.{place_of};
+ghost use Rattle.rb_rules.specs.Tree.{Tree, Hole, plug, depth};
+ghost use Rattle.rb_rules.specs.Memory.{Made, Spot, here, AtSpot, place_of};
 ghost use Rattle.rb_rules.specs.Woven.{sum_of};
-ghost use Rattle.rb_arena.specs.Value.{listed, first_hole, first_or, IsItem, SplitsAt, SumsTo};
+ghost use Rattle.rb_arena.specs.Value.{listed, first_hole, first_or, up_next, IsItem, SplitsAt, SumsTo};
 ghost use Rattle.rb_arena.specs.Placing.{StartsAt};
 ghost use Rattle.rb_arena.specs.Searching.{Found};
 
@@ -55,6 +55,24 @@ fn first_place<D: Copy>(tree: &Links<D>, from: Place, below: Option<NodeId>) -> 
     at
 }
 
+/// The nearest node above that one that stands after it.
+fn next_above<D: Copy>(tree: &Links<D>, id: NodeId) -> Option<NodeId>
+    requires { (s : Spot D) × Made tree.now.nodes.live tree.now.root (plug s.hole (here s id)) × (depth s.hole ≤ 128) }
+    ensures { AtSpot tree.now.nodes.live tree.now.root id (λ s. depth s.hole ≤ 128 → result ≡ up_next s.hole) }
+{
+    let mut at = place(tree, id);
+    for _turn in 0..LONGEST {
+        let Some(above) = at else {
+            return None;
+        };
+        match above.1 {
+            Side::Left => return Some(above.0),
+            Side::Right => at = place(tree, above.0),
+        }
+    }
+    None
+}
+
 impl<W: Weave> RbTree<W> {
     /// A tree with no item.
     pub fn new(alloc: Global) -> RbTree<W>
@@ -83,6 +101,18 @@ impl<W: Weave> RbTree<W> {
         ensures { result ≡ first_or None self.now.items }
     {
         parent_at(&first_place(&self.links, None, self.links.root))
+    }
+
+    /// The name of the item after that one.
+    pub fn next(&self, id: NodeId) -> Option<NodeId>
+        requires { IsItem self.now.items id }
+        ensures { (us : List (ℕ × W.Item)) (x : W.Item) (vs : List (ℕ × W.Item)) → SplitsAt self.now.items id us x vs → result ≡ first_or None vs }
+    {
+        let right = read(&self.links.nodes, id).right;
+        if right.is_none() {
+            return next_above(&self.links, id);
+        }
+        parent_at(&first_place(&self.links, Some((id, Side::Right)), right))
     }
 
     /// Searches for a key: an item at which the search ends, with its name and the sum of the items before it. The search ends
