@@ -5,4 +5,5 @@ pub mod Listing
 pub mod Locating
 pub mod Paths
 pub mod Searches
+pub mod Setting
 pub mod Steps

@@ -73,3 +73,10 @@ abbrev pub up_next : {D : Type 0} → Hole D → Option ℕ
 up_next top = None
 up_next (on Left c i d x k) = Some i
 up_next (on Right c i d x k) = up_next k
+
+abbrev pub with_item : {X S B : Type 0} → Data X S B → X → Data X S B
+with_item d x = record { item = x; delta = d.delta; before = d.before; whole = d.whole }
+
+-- the sum of the items is a value once that item stands in the place of the one of that name
+abbrev pub SumsWith : {X S B : Type 0} → Weaving X S B → (S → Type 0) → List (ℕ × X) → ℕ → X → Type 0
+SumsWith {X = X} w is_value items id item = (us : List (ℕ × X)) (x : X) (vs : List (ℕ × X)) → SplitsAt items id us x vs → is_value (sum_of w (us ++ (id, item) ∷ vs))

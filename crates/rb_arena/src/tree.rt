@@ -3,14 +3,15 @@ ghost use Rattle.std.specs.Prelude.{◌≡◌, ℕ, List, None, length, ◌-◌,
 ghost use Rattle.rb_rules.specs.Tree.{Tree, Hole, plug, depth};
 ghost use Rattle.rb_rules.specs.Memory.{Made, Spot, here, AtSpot, place_of};
 ghost use Rattle.rb_rules.specs.Woven.{sum_of};
-ghost use Rattle.rb_arena.specs.Value.{listed, first_hole, first_or, up_next, IsItem, SplitsAt, SumsTo};
+ghost use Rattle.rb_arena.specs.Value.{listed, first_hole, first_or, up_next, IsItem, SplitsAt, SumsTo, SumsWith};
 ghost use Rattle.rb_arena.specs.Placing.{StartsAt};
 ghost use Rattle.rb_arena.specs.Searching.{Found};
 
-use crate::climb::LONGEST;
+use crate::climb::{LONGEST, renew_up};
 use crate::descend::descend;
 use crate::insert::{insert_at, parent_at, path_shift};
 use crate::links::{Links, Place, place, read};
+use crate::sums::replace_item;
 use raw_arena::{Arena, NodeId};
 use rb_rules::{Data, Side, Weave};
 use std::alloc::{AllocError, Global};
@@ -136,6 +137,21 @@ impl<W: Weave> RbTree<W> {
         let at = place(&self.links, id);
         let by = path_shift::<W>(&self.links, at);
         W::shift(by, read(&self.links.nodes, id).data.item)
+    }
+
+    /// Puts another item in the place of that one, under its name.
+    pub fn set(&mut self, id: NodeId, item: W::Item)
+        requires named { IsItem self.old.items id }
+        requires value { W.is_item item }
+        requires sum { SumsWith W.weaving W.is_value self.old.items id item }
+        ensures items { (us : List (ℕ × W.Item)) (x : W.Item) (vs : List (ℕ × W.Item)) → SplitsAt self.old.items id us x vs → self.new.items ≡ us ++ (id, item) ∷ vs }
+        ensures spare { self.new.spare ≡ self.old.spare }
+    {
+        let at = place(&self.links, id);
+        let by = path_shift::<W>(&self.links, at);
+        let own = W::shift(W::minus(W::still(), by), item);
+        replace_item::<W>(&mut self.links, id, own);
+        renew_up::<W>(&mut self.links, Some(id));
     }
 
     /// Puts an item right after that one.
