@@ -6,7 +6,7 @@ use Rattle.rb_rules.specs.Tree.{Tree, tip, fork, Hole, top, on, plug, above, roo
 use Rattle.rb_rules.specs.Memory.{Spot, here}
 use Rattle.rb_rules.specs.Weaving.{Weaving}
 use Rattle.rb_rules.specs.Woven.{entries, lefts, rights, shift_at, AllItems}
-use Rattle.rb_arena.specs.Value.{first_hole, first_or, up_next}
+use Rattle.rb_arena.specs.Value.{first_hole, first_or, up_next, last_hole, last_or, up_prev}
 
 module _ {A : Type 0} where
   head_or : A → List A → A
@@ -100,3 +100,26 @@ module _ {X S B : Type 0} (w : Weaving X S B) where
   up-next top = refl
   up-next (on Left c i d x k) = refl
   up-next (on Right c i d x k) = up-next k
+
+  last_of_right : (o : Option ℕ) (i : ℕ) (x : X) (es fs : List (ℕ × X)) → last_or (Some i) fs ≡ last_or o (es ++ (i, x) ∷ fs)
+  last_of_right o i x [] fs = refl
+  last_of_right o i x (e ∷ es) fs = last_of_right (Some e.0) i x es fs
+
+  -- the node above the last place is the last
+  pub above_last : (k : Hole (Data X S B)) (t : Tree (Data X S B)) → above (last_hole k t) ≡ last_or (above k) (entries w (shift_at w k) t)
+  above_last k tip = refl
+  above_last k (fork c i d x y) = above_last (on Right c i d x k) y
+      ∙ last_of_right (above k) i (w.shift (shift_at w k) d.item) (entries w (shift_at w k) x) (entries w (w.plus (shift_at w k) d.delta) y)
+
+  pub last_of_tree : (o p : Option ℕ) (acc : B) (t : Tree (Data X S B)) (gs : List (ℕ × X)) → (root_of t ≡ None → ⊥) → last_or o (entries w acc t) ≡ last_or p (gs ++ entries w acc t)
+  last_of_tree o p acc tip gs some = absurd (some refl)
+  last_of_tree o p acc (fork c i d x y) gs some =
+      let es = entries w acc x in let fs = entries w (w.plus acc d.delta) y in let e : ℕ × X = (i, w.shift acc d.item) in
+      sym (last_of_right o i (w.shift acc d.item) es fs) ∙ last_of_right p i (w.shift acc d.item) (gs ++ es) fs ∙ ap (last_or p) (append_assoc gs es (e ∷ fs))
+
+  pub up-prev : (k : Hole (Data X S B)) → up_prev k ≡ last_or None (lefts w k)
+  up-prev top = refl
+  up-prev (on Left c i d x k) = up-prev k
+  up-prev (on Right c i d x k) =
+      let es = entries w (shift_at w k) x in let e : ℕ × X = (i, w.shift (shift_at w k) d.item) in
+      last_of_right None i (w.shift (shift_at w k) d.item) (lefts w k ++ es) [] ∙ ap (last_or None) (append_assoc (lefts w k) es (e ∷ []))

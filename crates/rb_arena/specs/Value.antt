@@ -80,3 +80,20 @@ with_item d x = record { item = x; delta = d.delta; before = d.before; whole = d
 -- the sum of the items is a value once that item stands in the place of the one of that name
 abbrev pub SumsWith : {X S B : Type 0} → Weaving X S B → (S → Type 0) → List (ℕ × X) → ℕ → X → Type 0
 SumsWith {X = X} w is_value items id item = (us : List (ℕ × X)) (x : X) (vs : List (ℕ × X)) → SplitsAt items id us x vs → is_value (sum_of w (us ++ (id, item) ∷ vs))
+
+-- the name of the last item, or o where there is none
+abbrev pub last_or : {X : Type 0} → Option ℕ → List (ℕ × X) → Option ℕ
+last_or o [] = o
+last_or o (e ∷ es) = last_or (Some e.0) es
+
+module _ {D : Type 0} where
+  -- the hole of a tree's last place
+  abbrev pub last_hole : Hole D → Tree D → Hole D
+  last_hole k tip = k
+  last_hole k (fork c i d x y) = last_hole (on Right c i d x k) y
+
+  -- the nearest node above a hole that stands before it
+  abbrev pub up_prev : Hole D → Option ℕ
+  up_prev top = None
+  up_prev (on Right c i d x k) = Some i
+  up_prev (on Left c i d x k) = up_prev k

@@ -3,7 +3,7 @@ ghost use Rattle.std.specs.Prelude.{◌≡◌, ℕ, List, None, length, ◌-◌,
 ghost use Rattle.rb_rules.specs.Tree.{Tree, Hole, plug, depth};
 ghost use Rattle.rb_rules.specs.Memory.{Made, Spot, here, AtSpot, place_of};
 ghost use Rattle.rb_rules.specs.Woven.{sum_of};
-ghost use Rattle.rb_arena.specs.Value.{listed, first_hole, first_or, up_next, IsItem, SplitsAt, SumsTo, SumsWith};
+ghost use Rattle.rb_arena.specs.Value.{listed, first_hole, first_or, last_hole, last_or, up_next, up_prev, IsItem, SplitsAt, SumsTo, SumsWith};
 ghost use Rattle.rb_arena.specs.Placing.{StartsAt};
 ghost use Rattle.rb_arena.specs.Searching.{Found};
 
@@ -74,6 +74,41 @@ fn next_above<D: Copy>(tree: &Links<D>, id: NodeId) -> Option<NodeId>
     None
 }
 
+/// The last place of a subtree that hangs at a place.
+fn last_place<D: Copy>(tree: &Links<D>, from: Place, below: Option<NodeId>) -> Place
+    requires { (t : Tree D) × ((k : Hole D) × StartsAt tree.now.nodes.live tree.now.root from below t k) }
+    ensures { (t : Tree D) (k : Hole D) → StartsAt tree.now.nodes.live tree.now.root from below t k → result ≡ place_of (last_hole k t) }
+{
+    let mut at = from;
+    let mut next = below;
+    for _turn in 0..LONGEST {
+        let Some(id) = next else {
+            return at;
+        };
+        at = Some((id, Side::Right));
+        next = read(&tree.nodes, id).right;
+    }
+    at
+}
+
+/// The nearest node above that one that stands before it.
+fn prev_above<D: Copy>(tree: &Links<D>, id: NodeId) -> Option<NodeId>
+    requires { (s : Spot D) × Made tree.now.nodes.live tree.now.root (plug s.hole (here s id)) × (depth s.hole ≤ 128) }
+    ensures { AtSpot tree.now.nodes.live tree.now.root id (λ s. depth s.hole ≤ 128 → result ≡ up_prev s.hole) }
+{
+    let mut at = place(tree, id);
+    for _turn in 0..LONGEST {
+        let Some(above) = at else {
+            return None;
+        };
+        match above.1 {
+            Side::Right => return Some(above.0),
+            Side::Left => at = place(tree, above.0),
+        }
+    }
+    None
+}
+
 impl<W: Weave> RbTree<W> {
     /// A tree with no item.
     pub fn new(alloc: Global) -> RbTree<W>
@@ -114,6 +149,18 @@ impl<W: Weave> RbTree<W> {
             return next_above(&self.links, id);
         }
         parent_at(&first_place(&self.links, Some((id, Side::Right)), right))
+    }
+
+    /// The name of the item before that one.
+    pub fn prev(&self, id: NodeId) -> Option<NodeId>
+        requires { IsItem self.now.items id }
+        ensures { (us : List (ℕ × W.Item)) (x : W.Item) (vs : List (ℕ × W.Item)) → SplitsAt self.now.items id us x vs → result ≡ last_or None us }
+    {
+        let left = read(&self.links.nodes, id).left;
+        if left.is_none() {
+            return prev_above(&self.links, id);
+        }
+        parent_at(&last_place(&self.links, Some((id, Side::Left)), left))
     }
 
     /// Searches for a key: an item at which the search ends, with its name and the sum of the items before it. The search ends
