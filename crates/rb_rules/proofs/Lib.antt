@@ -2,6 +2,7 @@ pub mod Attaching
 pub mod Balance
 pub mod Climbs
 pub mod Colouring
+pub mod Detaching
 pub mod Held
 pub mod Holes
 pub mod Knots
