@@ -1,19 +1,17 @@
 -- How a red node stands to the nodes above it, read from the slots.
-use Rattle.std.proofs.Common.{◌≡◌, ℕ, Bool, true, false, cond, Option, Some, None, refl, sym, ap, ◌∙◌, subst}
+use Rattle.std.proofs.Common.{◌≡◌, ℕ, Bool, true, false, cond, Option, Some, None, refl, sym, ap, ◌∙◌}
 use Rattle.std.proofs.lemmas.Option.{none-some}
 use Rattle.std.specs.Option.{unwrap_or}
 use Rattle.std.specs.Ordering.{nat_cmp}
 use Rattle.std.specs.FinMap as map
 use Rattle.rb_rules.specs.declared.slot.Side.{Side}
-use Rattle.rb_rules.specs.declared.slot.Side.TheVariants.{Left, Right}
 use Rattle.rb_rules.specs.declared.slot.Slot.{Slot}
-use Rattle.rb_rules.specs.Tree.{Tree, tip, fork, Hole, top, on, other, plug, root_of, above}
-use Rattle.rb_rules.specs.Memory.{sided, Makes, Made, child}
+use Rattle.rb_rules.specs.Tree.{Tree, tip, fork, Hole, on, other, plug, root_of, above}
+use Rattle.rb_rules.specs.Memory.{Makes, Made, child}
 use Rattle.rb_rules.proofs.Live.{child-sided}
 use Rattle.rb_rules.proofs.Ups.{slot_above, made_beside}
-use Rattle.rb_arena.specs.declared.mend.Case.{Case}
-use Rattle.rb_arena.specs.declared.mend.Case.TheVariants.{Settled, RedRoot, RedUncle, Outer, Inner}
-use Rattle.rb_arena.specs.Mending.{bent, by_uncle, case_of, red_in, red_child_in}
+use Rattle.rb_arena.specs.declared.mend.Case.TheVariants.{RedUncle}
+use Rattle.rb_arena.specs.Mending.{bent, by_uncle, red_in, red_child_in}
 
 module _ {D : Type 0} where
   -- the name of a tree's topmost node, if that is red

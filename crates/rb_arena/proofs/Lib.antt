@@ -1,2 +1,9 @@
 pub mod Cases
+pub mod Growing
+pub mod Inserting
+pub mod Listing
+pub mod Locating
+pub mod Paths
+pub mod Searches
+pub mod Setting
 pub mod Steps

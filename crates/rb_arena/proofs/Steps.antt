@@ -1,6 +1,5 @@
 -- One step of the mending: what each case does to the tree.
-use Rattle.std.proofs.Common.{◌≡◌, ℕ, suc, ◌+◌, ◌-◌, ◌≤◌, Bool, true, false, List, Option, Some, None, refl, sym, ap, ◌∙◌, subst, arith, ◌⊎◌, inl, inr}
-use Rattle.std.specs.Prelude.{IsSome}
+use Rattle.std.proofs.Common.{◌≡◌, ℕ, suc, ◌-◌, ◌≤◌, Bool, true, false, List, Option, Some, None, refl, sym, ap, ◌∙◌, subst, arith, ◌⊎◌, inl, inr}
 use Rattle.std.proofs.lemmas.Bool.{true≢false}
 use Rattle.std.specs.Ordering.{nat_cmp}
 use Rattle.std.specs.FinMap as map
@@ -10,9 +9,9 @@ use Rattle.rb_rules.specs.declared.slot.Side.TheVariants.{Left, Right}
 use Rattle.rb_rules.specs.declared.slot.Slot.{Slot}
 use Rattle.rb_rules.specs.Tree.{Tree, tip, fork, Hole, top, on, other, forked, plug, root_of, depth}
 use Rattle.rb_rules.specs.Colours.{Rb, Fits, Balanced}
-use Rattle.rb_rules.specs.Memory.{Made, Spot, here, below, Stands, AtSpot, turned}
+use Rattle.rb_rules.specs.Memory.{Made, Stands, AtSpot}
 use Rattle.rb_rules.specs.Weaving.{Weaving, Lawful}
-use Rattle.rb_rules.specs.Woven.{entries, Woven, Valued, shift_at}
+use Rattle.rb_rules.specs.Woven.{Valued}
 use Rattle.rb_rules.specs.Sound.{Lists, CanTurnAt, TurnedAt}
 use Rattle.rb_rules.proofs.Holes.{forked-other, root-forked}
 use Rattle.rb_rules.proofs.Live.{forks, forks_on}
@@ -115,9 +114,12 @@ module _ {X S B : Type 0} (w : Weaving X S B) (L : Lawful w) (is_near : B → Ty
         stands_parent c k2 e = stands m root k2 s c p d t x (subst (λ l. Made m root (plug l t)) e made)
 
         pub root_blackened : (m2 : map.FinMap nat_cmp (Slot (Data X S B))) (root2 : Option ℕ) → k ≡ on s true p d x top → Painted m root m2 root2 p false → Mended w is_near m2 root2 es
-        root_blackened m2 root2 e done =
-            (forked s false p d t x, painted m root m2 root2 top s true false p d t x done (subst (λ l. Made m root (plug l t)) e made),
-              recoloured top s true false p d t x es (subst (λ l. Lists w is_near (plug l t) es) e lists), C.blackened_root s h t rt p d x (subst (Fits false h) e f))
+        root_blackened m2 root2 e done = (
+          forked s false p d t x,
+          painted m root m2 root2 top s true false p d t x done (subst (λ l. Made m root (plug l t)) e made),
+          recoloured top s true false p d t x es (subst (λ l. Lists w is_near (plug l t) es) e lists),
+          C.blackened_root s h t rt p d x (subst (Fits false h) e f),
+        )
 
         -- a red uncle: the parent and the uncle turn black, and the grandparent red
         module _ (s2 : Side) (g : ℕ) (dg : Data X S B) (u : ℕ) (ud : Data X S B) (a b : Tree (Data X S B)) (k2 : Hole (Data X S B))
@@ -151,9 +153,21 @@ module _ {X S B : Type 0} (w : Weaving X S B) (L : Lawful w) (is_near : B → Ty
               let l2 = recoloured (on (other s2) false g dg Parent k2) Left true false u ud a b es (subst (λ q. Lists w is_near q es) (swapped false true) l1) in
               let l3 = subst (λ q. Lists w is_near q es) (sym (swapped false false)) l2 in
               let (rb, fit) = C.uncle_red s h t rt p d x s2 g dg k2 u ud a b (subst (Fits false h) e f) in
-              let deep : suc (suc (depth k2)) ≤ n = let q = subst (λ l. depth l ≤ n) e le in omega (arith, q) in
-              (k2, (forked s2 true g dg Parent (Uncle false), (suc h, painted m3 root3 m4 root4 k2 s2 false true g dg Parent (Uncle false) done h3,
-                recoloured k2 s2 false true g dg Parent (Uncle false) es l3, root-forked s2 true g dg Parent (Uncle false), rb, fit, omega (arith, deep))))
+              let deep : suc (suc (depth k2)) ≤ n = let q = subst (λ l. depth l ≤ n) e le in omega (arith, q) in (
+                k2,
+                (
+                  forked s2 true g dg Parent (Uncle false),
+                  (
+                    suc h,
+                    painted m3 root3 m4 root4 k2 s2 false true g dg Parent (Uncle false) done h3,
+                    recoloured k2 s2 false true g dg Parent (Uncle false) es l3,
+                    root-forked s2 true g dg Parent (Uncle false),
+                    rb,
+                    fit,
+                    omega (arith, deep),
+                  ),
+                ),
+              )
 
       -- no red uncle, and the node on its parent's side of it
       module _ (s : Side) (p g : ℕ) (d dg : Data X S B) (x u : Tree (Data X S B)) (k2 : Hole (Data X S B)) (e : k ≡ on s true p d x (on s false g dg u k2)) where
@@ -185,8 +199,8 @@ module _ {X S B : Type 0} (w : Weaving X S B) (L : Lawful w) (is_near : B → Ty
 
         pub inner_turned : (m2 : map.FinMap nat_cmp (Slot (Data X S B))) (root2 : Option ℕ) → AtSpot m root p (λ sp. TurnedAt w is_near m2 root2 p s sp)
             → (low : Data X S B) × ((high : Data X S B) × Made m2 root2 (plug (on (other s) true z high a k2) (forked s true p low b x))
-              × Lists w is_near (plug (on (other s) true z high a k2) (forked s true p low b x)) es
-              × Rb true h (forked s true p low b x) × Fits false h (on (other s) true z high a k2))
+            × Lists w is_near (plug (on (other s) true z high a k2) (forked s true p low b x)) es
+            × Rb true h (forked s true p low b x) × Fits false h (on (other s) true z high a k2))
         inner_turned m2 root2 done =
             let (low, (high, made2, lists2)) = turned_at k2 true true p z d dz a b x m2 root2 s done made_inner lists_inner in
             let swap = ap (plug k2) (sym (forked-other s true z high (forked s true p low b x) a)) in

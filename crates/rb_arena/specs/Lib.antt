@@ -1,2 +1,5 @@
 pub mod Mending
+pub mod Placing
 pub mod Rising
+pub mod Searching
+pub mod Value

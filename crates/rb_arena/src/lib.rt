@@ -2,6 +2,11 @@
 #![tactic(auto)]
 
 mod climb;
+mod descend;
+mod insert;
 mod links;
 mod mend;
 mod sums;
+mod tree;
+
+pub use tree::RbTree;

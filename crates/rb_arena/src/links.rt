@@ -90,7 +90,7 @@ fn adopt<D: Copy>(nodes: &mut Arena<Slot<D>>, id: Option<NodeId>, parent: Option
 }
 
 /// Hangs another node, or none, at a place.
-fn hang<D: Copy>(tree: &mut Links<D>, place: Place, child: Option<NodeId>)
+pub(crate) fn hang<D: Copy>(tree: &mut Links<D>, place: Place, child: Option<NodeId>)
     requires { IfSome place (λ at. IsLive tree.old.nodes at.0) }
     ensures live { tree.new.nodes.live ≡ hung tree.old.nodes.live place child }
     ensures root { tree.new.root ≡ root_hung tree.old.root place child }

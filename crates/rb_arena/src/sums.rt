@@ -2,12 +2,14 @@
 ghost use Rattle.std.specs.Prelude.{◌≡◌, IfSome};
 ghost use Rattle.std.specs.FinMap as map;
 ghost use Rattle.raw_arena.specs.Arena.{IsLive};
-ghost use Rattle.rb_rules.specs.Memory.{AtSpot};
+ghost use Rattle.rb_rules.specs.Memory.{Made, AtSpot, Stands};
+ghost use Rattle.rb_rules.specs.Tree.{fork, plug};
+ghost use Rattle.rb_arena.specs.Value.{with_item};
 ghost use Rattle.rb_rules.specs.Weaving as weaving;
 ghost use Rattle.rb_rules.specs.Woven.{whole_in};
 ghost use Rattle.rb_rules.specs.Sound.{CanTurnAt, TurnedAt};
 
-use crate::links::{Links, read, turn};
+use crate::links::{Links, read, rewrite, turn};
 use raw_arena::{Arena, NodeId};
 use rb_rules::{Data, Side, Slot, Weave};
 
@@ -102,4 +104,25 @@ pub(crate) fn turn_node<W: Weave>(
     let far = whole::<W>(&tree.nodes, upper.child(side.other()));
     let (low, high) = turned_data::<W>(side, &upper.data, &lower.data, mid, far);
     turn(tree, id, side, low, high);
+}
+
+/// Writes a node's item, and nothing else.
+pub(crate) fn replace_item<W: Weave>(
+    tree: &mut Links<Data<W::Item, W::Sum, W::By>>,
+    id: NodeId,
+    item: W::Item,
+)
+    requires { Stands tree.old.nodes.live tree.old.root id }
+    ensures made { AtSpot tree.old.nodes.live tree.old.root id (λ s. Made tree.new.nodes.live tree.new.root (plug s.hole (fork s.red id (with_item s.datum item) s.left s.right))) }
+    ensures spare { tree.new.nodes.spare ≡ tree.old.nodes.spare }
+    ensures as_many { map.len tree.new.nodes.live ≡ map.len tree.old.nodes.live }
+{
+    let slot = read(&tree.nodes, id);
+    let datum = Data {
+        item,
+        delta: slot.data.delta,
+        before: slot.data.before,
+        whole: slot.data.whole,
+    };
+    rewrite(tree, id, slot.red, datum);
 }

@@ -1,22 +1,20 @@
 -- A climb that renews the sums of the nodes above a tree.
-use Rattle.std.proofs.Common.{◌≡◌, ℕ, suc, ◌+◌, ◌≤◌, Bool, List, [], ◌∷◌, ◌++◌, Option, Some, None, refl, sym, ap, ◌∙◌, subst, arith}
-use Rattle.std.specs.Prelude.{IfSome}
+use Rattle.std.proofs.Common.{◌≡◌, ℕ, suc, ◌≤◌, Option, Some, None, refl, sym, ap, ◌∙◌, subst, arith}
 use Rattle.std.specs.Option.{unwrap_or}
 use Rattle.std.proofs.lemmas.Option.{none-some}
 use Rattle.std.specs.Ordering.{nat_cmp}
 use Rattle.std.specs.FinMap as map
 use Rattle.rb_rules.specs.declared.slot.Data.{Data}
-use Rattle.rb_rules.specs.declared.slot.Side.{Side}
 use Rattle.rb_rules.specs.declared.slot.Side.TheVariants.{Left, Right}
 use Rattle.rb_rules.specs.declared.slot.Slot.{Slot}
-use Rattle.rb_rules.specs.Tree.{Tree, tip, fork, Hole, top, on, forked, plug, above, depth}
+use Rattle.rb_rules.specs.Tree.{Tree, fork, Hole, top, on, plug, above, depth}
 use Rattle.rb_rules.specs.Memory.{Made, Spot, here}
-use Rattle.rb_rules.specs.Shape.{each, shape}
-use Rattle.rb_rules.specs.Weaving.{Weaving, Lawful, Sums, summed, CanSumUp}
+use Rattle.rb_rules.specs.Shape.{shape}
+use Rattle.rb_rules.specs.Weaving.{Weaving, Lawful, Sums, CanSumUp}
 use Rattle.rb_rules.specs.Woven.{entries, Woven, Valued, whole_at, shift_at}
 use Rattle.rb_rules.specs.Sound.{Slack, renewed, CanRenew, IsSlack}
-use Rattle.rb_rules.proofs.Shapes.{each-plug, each-forked, same_items}
-use Rattle.rb_rules.proofs.Weaves.{woven_at, woven_summed, near_of}
+use Rattle.rb_rules.proofs.Shapes.{each-plug, same_items}
+use Rattle.rb_rules.proofs.Weaves.{woven_at, woven_summed}
 use Rattle.rb_rules.proofs.Knots.{valued_at}
 use Rattle.rb_rules.proofs.Held.{can_sum_up}
 
@@ -32,10 +30,10 @@ module _ {X S B : Type 0} (w : Weaving X S B) (L : Lawful w) (is_near : B → Ty
     renew_ready id n whole (top, (t, same, made, at, wt, sl, v, le)) = absurd (none-some id (sym at))
     renew_ready id n whole (on Left c i d x k, (t, same, made, at, wt, (wx, sl), v, le)) =
         subst (λ z. CanRenew w is_near is_item is_value m root z) (sym (ap (λ o. unwrap_or o 0) at))
-          (record { hole = k; red = c; datum = d; left = t; right = x }, made, wt, wx, valued_at w L is_near is_item is_sum is_value sums parts k (fork c i d t x) v)
+        (record { hole = k; red = c; datum = d; left = t; right = x }, made, wt, wx, valued_at w L is_near is_item is_sum is_value sums parts k (fork c i d t x) v)
     renew_ready id n whole (on Right c i d x k, (t, same, made, at, wt, (wx, sl), v, le)) =
         subst (λ z. CanRenew w is_near is_item is_value m root z) (sym (ap (λ o. unwrap_or o 0) at))
-          (record { hole = k; red = c; datum = d; left = x; right = t }, made, wx, wt, valued_at w L is_near is_item is_sum is_value sums parts k (fork c i d x t) v)
+        (record { hole = k; red = c; datum = d; left = x; right = t }, made, wx, wt, valued_at w L is_near is_item is_sum is_value sums parts k (fork c i d x t) v)
 
     module _ (m2 : map.FinMap nat_cmp (Slot (Data X S B))) (root2 : Option ℕ) where
       abbrev Renewed : ℕ → Type 0
@@ -53,12 +51,23 @@ module _ {X S B : Type 0} (w : Weaving X S B) (L : Lawful w) (is_near : B → Ty
       step p id i n whole s is same made wl wr sl v le done parent =
           let d = renewed w is_near s in let t = fork s.red i d s.left s.right in
           let alike = each-plug (λ (e : Data X S B). (e.item, e.delta)) s.hole t (here s i) refl in
-          let made_id = subst (λ z. Made m root (plug s.hole (here s z))) (sym is) made in
-          (plug s.hole t,
-            (s.hole, (t, refl, subst (λ z. Made m2 root2 (plug s.hole (fork s.red z d s.left s.right))) is (done s made_id), parent s made_id,
-              woven_summed w L is_near (shift_at w s.hole) s.red i s.datum.item s.datum.delta s.left s.right wl wr, sl,
-              subst (Valued w is_item is_value) (sym (same_items w w.still (plug s.hole t) (plug s.hole (here s i)) alike)) v, le)),
-            alike ∙ ap shape (sym same))
+          let made_id = subst (λ z. Made m root (plug s.hole (here s z))) (sym is) made in (
+            plug s.hole t,
+            (
+              s.hole,
+              (
+                t,
+                refl,
+                subst (λ z. Made m2 root2 (plug s.hole (fork s.red z d s.left s.right))) is (done s made_id),
+                parent s made_id,
+                woven_summed w L is_near (shift_at w s.hole) s.red i s.datum.item s.datum.delta s.left s.right wl wr,
+                sl,
+                subst (Valued w is_item is_value) (sym (same_items w w.still (plug s.hole t) (plug s.hole (here s i)) alike)) v,
+                le,
+              ),
+            ),
+            alike ∙ ap shape (sym same),
+          )
 
       pub climbed : (p : Option ℕ) (id n : ℕ) (whole : Tree (Data X S B)) → IsSlack w is_near is_item is_value m root (Some id) (suc n) whole → Renewed id → Parent id p → Climbed p n whole
       climbed p id n whole (top, (t, same, made, at, wt, sl, v, le)) done parent = absurd (none-some id (sym at))

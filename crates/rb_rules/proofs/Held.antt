@@ -1,10 +1,10 @@
 -- What a tree computes of its numbers is the relative form of values.
-use Rattle.std.proofs.Common.{◌≡◌, ℕ, Bool, List, [], ◌∷◌, ◌++◌, refl, sym, ap, ◌∙◌, subst, append_assoc}
+use Rattle.std.proofs.Common.{◌≡◌, ℕ, Bool, List, [], ◌∷◌, ◌++◌, sym, ap, ◌∙◌, subst, append_assoc}
 use Rattle.rb_rules.specs.declared.slot.Data.{Data}
 use Rattle.rb_rules.specs.declared.slot.Side.{Side}
 use Rattle.rb_rules.specs.declared.slot.Side.TheVariants.{Left, Right}
-use Rattle.rb_rules.specs.Tree.{Tree, tip, fork, Hole, top, on, forked, plug}
-use Rattle.rb_rules.specs.Weaving.{Weaving, Lawful, Sums, HeldItem, HeldSum, HeldBy, CanSumUp, CanTurn, summed, lowered, raised}
+use Rattle.rb_rules.specs.Tree.{Tree, forked}
+use Rattle.rb_rules.specs.Weaving.{Weaving, Lawful, Sums, HeldSum, CanSumUp, CanTurn}
 use Rattle.rb_rules.specs.Woven.{entries, sum_of, Woven, whole_at, AllItems, Valued}
 use Rattle.rb_rules.proofs.Weaves.{sum-append, near_of, whole_is}
 
@@ -42,7 +42,7 @@ module _ {X S B : Type 0} (w : Weaving X S B) (L : Lawful w) (is_near : B → Ty
       let right : w.shift_sum acc (w.shift_sum delta (whole_at w y)) ≡ sum_of w fs = sym (L.shift_sum_plus acc delta (whole_at w y)) ∙ whole_is w L is_near (w.plus acc delta) y r in
       let tail : w.shift_sum acc (w.join (w.one item) (w.shift_sum delta (whole_at w y))) ≡ sum_of w (e ∷ fs) = L.shift_join acc _ _ ∙ (λ j. w.join (L.shift_one acc item j) (right j)) in
       let all : w.shift_sum acc (w.join (whole_at w x) (w.join (w.one item) (w.shift_sum delta (whole_at w y)))) ≡ sum_of w (es ++ e ∷ fs)
-            = L.shift_join acc _ _ ∙ (λ j. w.join (whole_is w L is_near acc x l j) (tail j)) ∙ sym (sum-append w L es (e ∷ fs)) in
+      = L.shift_join acc _ _ ∙ (λ j. w.join (whole_is w L is_near acc x l j) (tail j)) ∙ sym (sum-append w L es (e ∷ fs)) in
       let vt = valued_right es (e ∷ fs) v in
       ((held acc _ fs near right (valued_tail e fs vt), held acc _ (e ∷ fs) near tail vt), held acc _ (es ++ e ∷ fs) near all v)
 
@@ -60,14 +60,19 @@ module _ {X S B : Type 0} (w : Weaving X S B) (L : Lawful w) (is_near : B → Ty
         let ec : ℕ × X = (c, w.shift acc dc.item) in let en : ℕ × X = (n, w.shift acc dn.item) in
         let vn = valued_tail ec (ms ++ en ∷ fs) (valued_right os (ec ∷ (ms ++ en ∷ fs)) (subst (Valued w is_item is_value) (append_assoc os (ec ∷ ms) (en ∷ fs)) v)) in
         let is = (valued_right ms (en ∷ fs) vn).0.0 in
-        let vn2 = subst (Valued w is_item is_value) (λ j. ms ++ (n, sym item j) ∷ entries w (sym same j) far) vn in
-        ((inner, nm, subst is_near (sym back) na), (inner, nm, subst is_item (sym item) is), (inner, nm, subst is_near (sym same) nf),
-          can_sum_up inner n _ delta mid far wm (subst (λ k. Woven w is_near k far) (sym same) wf) vn2)
+        let vn2 = subst (Valued w is_item is_value) (λ j. ms ++ (n, sym item j) ∷ entries w (sym same j) far) vn in (
+          (inner, nm, subst is_near (sym back) na),
+          (inner, nm, subst is_item (sym item) is),
+          (inner, nm, subst is_near (sym same) nf),
+          can_sum_up inner n _ delta mid far wm (subst (λ k. Woven w is_near k far) (sym same) wf) vn2,
+        )
     can_turn Right (e, f, wf, (g, h, wm, wo)) v =
         let na = near_of w L is_near acc far wf in let no = near_of w L is_near (w.plus (w.plus acc dn.delta) dc.delta) out wo in
         let fs = entries w acc far in let ms = entries w (w.plus acc dn.delta) mid in let os = entries w (w.plus (w.plus acc dn.delta) dc.delta) out in
         let ec : ℕ × X = (c, w.shift (w.plus acc dn.delta) dc.item) in let en : ℕ × X = (n, w.shift acc dn.item) in
         let v2 = subst (Valued w is_item is_value) (sym (append_assoc fs (en ∷ ms) (ec ∷ os))) v in
-        let is = (valued_right (fs ++ en ∷ ms) (ec ∷ os) v2).0.0 in
-        (can_sum_up acc n dn.item dn.delta far mid wf wm (valued_left (fs ++ en ∷ ms) (ec ∷ os) v2),
-          (acc, na, subst is_item (L.shift_plus acc dn.delta dc.item) is), (acc, na, subst is_near (L.plus_assoc acc dn.delta dc.delta) no))
+        let is = (valued_right (fs ++ en ∷ ms) (ec ∷ os) v2).0.0 in (
+          can_sum_up acc n dn.item dn.delta far mid wf wm (valued_left (fs ++ en ∷ ms) (ec ∷ os) v2),
+          (acc, na, subst is_item (L.shift_plus acc dn.delta dc.item) is),
+          (acc, na, subst is_near (L.plus_assoc acc dn.delta dc.delta) no),
+        )

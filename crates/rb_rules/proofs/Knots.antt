@@ -1,6 +1,5 @@
 -- A turn at a node of a tree in memory: its numbers are the relative form of values, and it leaves the sums right.
-use Rattle.std.proofs.Common.{◌≡◌, ℕ, Bool, List, [], ◌∷◌, ◌++◌, Option, Some, None, refl, sym, ap, ◌∙◌, subst}
-use Rattle.std.specs.Prelude.{IfSome}
+use Rattle.std.proofs.Common.{◌≡◌, ℕ, Bool, ◌++◌, Option, Some, refl, sym, ap, ◌∙◌, subst}
 use Rattle.std.specs.Option.{unwrap_or}
 use Rattle.std.specs.Ordering.{nat_cmp}
 use Rattle.std.specs.FinMap as map
@@ -13,13 +12,13 @@ use Rattle.rb_rules.specs.Memory.{sided, Makes, Made, child, Spot, here, below, 
 use Rattle.rb_rules.specs.Weaving.{Weaving, Lawful, Sums, CanTurn, lowered, raised}
 use Rattle.rb_rules.specs.Woven.{entries, Woven, Valued, whole_at, whole_in, shift_at, lefts, rights}
 use Rattle.rb_rules.specs.Sound.{Lists}
-use Rattle.rb_rules.proofs.Memories.{opened, of_forked}
+use Rattle.rb_rules.proofs.Memories.{of_forked}
 use Rattle.rb_rules.proofs.Live.{forks_on, here_forked, child-sided}
 use Rattle.rb_rules.proofs.Spots.{upper_is, makes_below, whole_in_is}
 use Rattle.rb_rules.proofs.Weaves.{turned_items, turned_woven, woven_at, woven_replug, same_replug, entries-plug}
 use Rattle.rb_rules.proofs.Held.{can_turn, valued_left, valued_right}
 
-data-sided : {D : Type 0} (s : Side) (p x y : Option ℕ) (c : Bool) (d : D) → (sided s p x y c d).«data» ≡ d
+pub data-sided : {D : Type 0} (s : Side) (p x y : Option ℕ) (c : Bool) (d : D) → (sided s p x y c d).«data» ≡ d
 data-sided Left p x y c d = refl
 data-sided Right p x y c d = refl
 
@@ -35,7 +34,7 @@ module _ {X S B : Type 0} (w : Weaving X S B) (L : Lawful w) (is_near : B → Ty
   valued_at k t v =
       let all = subst (Valued w is_item is_value) (entries-plug w L is_near k t) v in
       valued_left w L is_near is_item is_sum is_value sums parts (entries w (shift_at w k) t) (rights w k)
-        (valued_right w L is_near is_item is_sum is_value sums parts (lefts w k) (entries w (shift_at w k) t ++ rights w k) all)
+      (valued_right w L is_near is_item is_sum is_value sums parts (lefts w k) (entries w (shift_at w k) t ++ rights w k) all)
 
   module _ (m : map.FinMap nat_cmp (Slot (Data X S B))) (root : Option ℕ) (sp : Spot (Data X S B)) (i : ℕ) (h : Made m root (plug sp.hole (here sp i)))
       (wv : Woven w is_near w.still (plug sp.hole (here sp i))) (s : Side) (j : ℕ) (n l : Slot (Data X S B))
@@ -86,7 +85,7 @@ module _ {X S B : Type 0} (w : Weaving X S B) (L : Lawful w) (is_near : B → Ty
       can : Valued w is_item is_value (entries w w.still (plug sp.hole (here sp i))) → CanTurn w is_near is_item is_sum is_value s n.«data» l.«data» mid_sum far_sum
       can v = subst (λ t. CanTurn w is_near is_item is_sum is_value s t.0 t.1 t.2 t.3) numbers
           (can_turn w L is_near is_item is_sum is_value sums parts (shift_at w sp.hole) sp.red b i j sp.datum d out mid (below (other s) sp) s woven_here
-            (subst (λ t. Valued w is_item is_value (entries w (shift_at w sp.hole) t)) tree_is (valued_at sp.hole (here sp i) v)))
+          (subst (λ t. Valued w is_item is_value (entries w (shift_at w sp.hole) t)) tree_is (valued_at sp.hole (here sp i) v)))
 
       lists : let t = turned s (lowered w s n.«data» l.«data» mid_sum far_sum) (raised w s n.«data» l.«data» mid_sum far_sum) (here sp i) in
           Lists w is_near (plug sp.hole t) (entries w w.still (plug sp.hole (here sp i)))
@@ -97,11 +96,11 @@ module _ {X S B : Type 0} (w : Weaving X S B) (L : Lawful w) (is_near : B → Ty
           let right = turned_woven w L is_near (shift_at w sp.hole) sp.red b i j sp.datum d out mid far s woven_here in
           let old_all = subst (λ t. Woven w is_near w.still (plug sp.hole t)) tree_is wv in
           let both : Lists w is_near (plug sp.hole new) (entries w w.still (plug sp.hole (here sp i))) =
-                (woven_replug w L is_near sp.hole old new old_all same right, same_replug w L is_near sp.hole old new same ∙ ap (λ t. entries w w.still (plug sp.hole t)) (sym tree_is)) in
+          (woven_replug w L is_near sp.hole old new old_all same right, same_replug w L is_near sp.hole old new same ∙ ap (λ t. entries w w.still (plug sp.hole t)) (sym tree_is)) in
           subst (λ t. Lists w is_near (plug sp.hole (turned s (lowered w s t.0 t.1 t.2 t.3) (raised w s t.0 t.1 t.2 t.3) (here sp i))) (entries w w.still (plug sp.hole (here sp i)))) numbers
-            (subst (λ t. Lists w is_near (plug sp.hole t) (entries w w.still (plug sp.hole (here sp i))))
-              (sym (ap (turned s (lowered w s sp.datum d (whole_at w mid) (whole_at w far)) (raised w s sp.datum d (whole_at w mid) (whole_at w far))) tree_is
-                ∙ turned-forked s _ _ sp.red b i j sp.datum d out mid far)) both)
+          (subst (λ t. Lists w is_near (plug sp.hole t) (entries w w.still (plug sp.hole (here sp i))))
+          (sym (ap (turned s (lowered w s sp.datum d (whole_at w mid) (whole_at w far)) (raised w s sp.datum d (whole_at w mid) (whole_at w far))) tree_is
+          ∙ turned-forked s _ _ sp.red b i j sp.datum d out mid far)) both)
 
     pub can_turn_here : Valued w is_item is_value (entries w w.still (plug sp.hole (here sp i))) → CanTurn w is_near is_item is_sum is_value s n.«data» l.«data» mid_sum far_sum
     can_turn_here v = let (b, (d, x, y, is)) = forks_on s (below s sp) j is_below in can b d x y is v

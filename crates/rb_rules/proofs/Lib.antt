@@ -1,6 +1,8 @@
+pub mod Attaching
 pub mod Balance
 pub mod Climbs
 pub mod Colouring
+pub mod Detaching
 pub mod Held
 pub mod Holes
 pub mod Knots
@@ -9,5 +11,6 @@ pub mod Memories
 pub mod Shapes
 pub mod Spots
 pub mod Turning
+pub mod Unshaping
 pub mod Ups
 pub mod Weaves

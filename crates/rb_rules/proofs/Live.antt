@@ -1,6 +1,6 @@
 -- Which names are live, and how many, after the writes of a turn.
-use Rattle.std.proofs.Common.{◌≡◌, ◌≢◌, ℕ, suc, ◌+◌, Bool, true, false, cond, eqb, Option, Some, None, refl, sym, ap, ◌∙◌, subst, arith, inl, inr, eq-eqb}
-use Rattle.std.specs.Prelude.{IfSome, IsSome}
+use Rattle.std.proofs.Common.{◌≡◌, ℕ, ◌+◌, Bool, cond, eqb, Option, Some, None, refl, sym, ap, ◌∙◌, subst, arith, inl, inr, eq-eqb}
+use Rattle.std.specs.Prelude.{IfSome}
 use Rattle.std.specs.Option.{unwrap_or}
 use Rattle.std.specs.Ordering.{nat_cmp}
 use Rattle.std.specs.FinMap as map
@@ -13,7 +13,7 @@ use Rattle.rb_rules.specs.declared.slot.Side.{Side}
 use Rattle.rb_rules.specs.declared.slot.Side.TheVariants.{Left, Right}
 use Rattle.rb_rules.specs.declared.slot.Slot.{Slot}
 use Rattle.rb_rules.specs.Tree.{Tree, tip, fork, Hole, top, on, other, forked, plug, root_of, above, count, count_round}
-use Rattle.rb_rules.specs.Memory.{sided, Makes, Around, Made, child, with_child, place_of, side_by_name, updated, adopted, hung, Spot, here, below}
+use Rattle.rb_rules.specs.Memory.{sided, Makes, Around, Made, child, place_of, side_by_name, updated, adopted, hung, Spot, here, below}
 use Rattle.rb_rules.proofs.Memories.{opened}
 use Rattle.rb_rules.proofs.Holes.{count-plug, count_self}
 

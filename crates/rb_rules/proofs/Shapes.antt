@@ -1,10 +1,10 @@
 -- What a tree's shape tells of it.
-use Rattle.std.proofs.Common.{◌≡◌, ℕ, suc, ◌+◌, max, Bool, true, false, cond, eqb, List, [], ◌∷◌, ◌++◌, refl, sym, ap, ◌∙◌, subst, arith}
+use Rattle.std.proofs.Common.{◌≡◌, ℕ, ◌+◌, max, Bool, true, false, List, [], ◌∷◌, ◌++◌, refl, sym, ap, ◌∙◌, subst}
 use Rattle.rb_rules.specs.declared.slot.Data.{Data}
 use Rattle.rb_rules.specs.declared.slot.Side.{Side}
 use Rattle.rb_rules.specs.declared.slot.Side.TheVariants.{Left, Right}
-use Rattle.rb_rules.specs.Tree.{Tree, tip, fork, Hole, top, on, forked, plug, count, size, height}
-use Rattle.rb_rules.specs.Colours.{Rb, Black, Balanced}
+use Rattle.rb_rules.specs.Tree.{Tree, tip, fork, Hole, top, on, forked, plug, size, height}
+use Rattle.rb_rules.specs.Colours.{Rb}
 use Rattle.rb_rules.specs.Shape.{each, shape}
 use Rattle.rb_rules.specs.Weaving.{Weaving}
 use Rattle.rb_rules.specs.Woven.{entries}

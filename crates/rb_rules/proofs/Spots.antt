@@ -7,13 +7,13 @@ use Rattle.std.specs.FinMap as map
 use Rattle.rb_rules.specs.declared.slot.Side.{Side}
 use Rattle.rb_rules.specs.declared.slot.Side.TheVariants.{Left, Right}
 use Rattle.rb_rules.specs.declared.slot.Slot.{Slot}
-use Rattle.rb_rules.specs.Tree.{Tree, tip, fork, Hole, other, forked, plug, root_of, above}
+use Rattle.rb_rules.specs.Tree.{Tree, tip, fork, other, plug, root_of, above}
 use Rattle.rb_rules.specs.Memory.{sided, Makes, Made, child, place_of, adopted, hung, root_hung, Spot, here, below, turned}
 use Rattle.rb_rules.specs.declared.slot.Data.{Data}
 use Rattle.rb_rules.specs.Weaving.{Weaving}
 use Rattle.rb_rules.specs.Woven.{whole_in, whole_at}
 use Rattle.rb_rules.proofs.Memories.{opened, of_forked}
-use Rattle.rb_rules.proofs.Live.{Live, forks_on, here_forked, live_root, live_place}
+use Rattle.rb_rules.proofs.Live.{Live, forks_on, live_root, live_place}
 use Rattle.rb_rules.proofs.Turning as T
 
 module _ {D : Type 0} where

@@ -1,5 +1,5 @@
 -- From a node of a tree in memory to the node above it.
-use Rattle.std.proofs.Common.{◌≡◌, ℕ, Bool, Option, Some, None, refl, sym, ap, ◌∙◌, subst}
+use Rattle.std.proofs.Common.{◌≡◌, ℕ, Bool, Option, Some, None, refl, sym, ap, subst}
 use Rattle.std.specs.Prelude.{IfSome}
 use Rattle.std.specs.Option.{unwrap_or}
 use Rattle.std.proofs.lemmas.Option.{none-some}
@@ -8,10 +8,10 @@ use Rattle.std.specs.FinMap as map
 use Rattle.rb_rules.specs.declared.slot.Side.{Side}
 use Rattle.rb_rules.specs.declared.slot.Side.TheVariants.{Left, Right}
 use Rattle.rb_rules.specs.declared.slot.Slot.{Slot}
-use Rattle.rb_rules.specs.Tree.{Tree, tip, fork, Hole, top, on, other, forked, plug, root_of, above}
-use Rattle.rb_rules.specs.Memory.{sided, Makes, Around, Made, child, place_of, Spot, here, below}
+use Rattle.rb_rules.specs.Tree.{Tree, Hole, top, on, forked, plug, root_of, above}
+use Rattle.rb_rules.specs.Memory.{sided, Makes, Made, place_of, Spot, here}
 use Rattle.rb_rules.proofs.Memories.{opened}
-use Rattle.rb_rules.proofs.Live.{Live, live_root, child-sided}
+use Rattle.rb_rules.proofs.Live.{Live, live_root}
 
 module _ {D : Type 0} where
   -- the node that has the subtrees x on that side and y on the other, in the hole k

@@ -1,5 +1,4 @@
 -- Trees whose data are forgotten in part.
-use Rattle.std.specs.Prelude.{ℕ, Bool}
 use Rattle.rb_rules.specs.declared.slot.Data.{Data}
 use Rattle.rb_rules.specs.Tree.{Tree, tip, fork}
 

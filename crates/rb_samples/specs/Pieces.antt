@@ -1,5 +1,5 @@
 -- The weave of pieces in small: sums of units and of breaks, and no shift.
-use Rattle.std.specs.Prelude.{◌≡◌, ℕ, ◌+◌, ◌-◌, ◌<◌, ◌^◌, cond, nat_lt, ⊤, refl}
+use Rattle.std.specs.Prelude.{ℕ, ◌+◌, ◌-◌, ◌<◌, ◌^◌, cond, nat_lt, ⊤, refl}
 use Rattle.std.proofs.Common.{add_assoc, add-zero, zero-add, arith}
 use Rattle.rb_samples.specs.declared.pieces.Piece.{Piece}
 use Rattle.rb_rules.specs.declared.weave.Turn.{Turn}

@@ -4,3 +4,6 @@
 mod pieces;
 
 pub use pieces::{Piece, Pieces};
+
+#[cfg(test)]
+mod tests;

@@ -5,8 +5,8 @@ use rb_rules::{Turn, Weave};
 
 #[derive(Clone, Copy)]
 pub struct Piece {
-    units: u64,
-    breaks: u64,
+    pub units: u64,
+    pub breaks: u64,
 }
 
 pub struct Pieces;

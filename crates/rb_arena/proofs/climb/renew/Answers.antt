@@ -1,13 +1,11 @@
-use Rattle.std.proofs.Common.{◌≡◌, ℕ, Bool, Option, Some, None, sym, ◌∙◌, ap, refl, subst}
+use Rattle.std.proofs.Common.{Bool, Some, sym, ◌∙◌, ap, subst}
 use Rattle.std.specs.Prelude.{IfSome}
-use Rattle.std.specs.FinMap as map
 use Rattle.rb_rules.specs.declared.slot.Side.TheVariants.{Left, Right}
 use Rattle.rb_rules.specs.declared.slot.Data.{Data}
 use Rattle.rb_rules.specs.Tree.{fork, plug}
 use Rattle.rb_rules.specs.Memory.{Made}
 use Rattle.rb_rules.specs.Weaving.{CanSumUp, summed}
-use Rattle.rb_rules.specs.Woven.{whole_in, whole_at}
-use Rattle.rb_rules.specs.Sound.{renewed}
+use Rattle.rb_rules.specs.Woven.{whole_in}
 use Rattle.rb_rules.proofs.Live.{Live, slot_here}
 use Rattle.rb_rules.proofs.Spots.{upper_is, live_below, makes_below, whole_in_is}
 use Rattle.rb_rules.proofs.Climbs.{can_renew}
@@ -38,7 +36,7 @@ summed-datum-requires g c =
     let right = c.whole-right.ensures ∙ ap (λ n. whole_in t.weaving m n.right) up ∙ whole_in_is t.weaving m (Some c.args.id) s.right (makes_below m root s c.args.id h Right) in
     let can = can_renew t.weaving laws.laws t.is_near t.is_item t.is_sum t.is_value laws.sums laws.parts c.args.id s wl wr v in
     subst {A = Data g.row.W-Item.Denot g.row.W-Sum.Denot g.row.W-By.Denot × g.row.W-Sum.Denot × g.row.W-Sum.Denot}
-      (λ p. CanSumUp t.weaving t.is_near t.is_item t.is_sum t.is_value p.0.item p.0.delta p.1 p.2) (sym (λ i. (datum i, left i, right i))) can
+    (λ p. CanSumUp t.weaving t.is_near t.is_item t.is_sum t.is_value p.0.item p.0.delta p.1 p.2) (sym (λ i. (datum i, left i, right i))) can
 
 pub returns-clause-made : goal.returns-clause-made
 returns-clause-made g c = λ s h.
@@ -48,4 +46,4 @@ returns-clause-made g c = λ s h.
     let right = c.whole-right.ensures ∙ ap (λ n. whole_in t.weaving m n.right) up ∙ whole_in_is t.weaving m (Some c.args.id) s.right (makes_below m root s c.args.id h Right) in
     let datum = c.summed-datum.ensures ∙ (λ i. summed t.weaving (up i).«data».item (up i).«data».delta (left i) (right i)) in
     subst {A = Bool × Data g.row.W-Item.Denot g.row.W-Sum.Denot g.row.W-By.Denot}
-      (λ p. Made c.rewrite.new.tree.nodes.live c.rewrite.new.tree.root (plug s.hole (fork p.0 c.args.id p.1 s.left s.right))) (λ i. ((up i).red, datum i)) (c.rewrite.ensures.made s h)
+    (λ p. Made c.rewrite.new.tree.nodes.live c.rewrite.new.tree.root (plug s.hole (fork p.0 c.args.id p.1 s.left s.right))) (λ i. ((up i).red, datum i)) (c.rewrite.ensures.made s h)

@@ -1,8 +1,4 @@
-use Rattle.std.proofs.Common.{◌≡◌, ℕ, suc, ◌-◌, ◌+◌, Option, Some, None, sym, ◌∙◌, ap, refl, subst, arith}
-use Rattle.std.specs.FinMap as map
-use Rattle.rb_rules.specs.declared.slot.Data.{Data}
-use Rattle.rb_rules.specs.Tree.{Tree}
-use Rattle.rb_rules.specs.Shape.{shape}
+use Rattle.std.proofs.Common.{◌≡◌, suc, ◌-◌, ◌+◌, Some, ◌∙◌, ap, refl, subst, arith}
 use Rattle.rb_rules.specs.Sound.{IsSlack}
 use Rattle.rb_rules.specs.declared.slot.Side.TheVariants.{Left}
 use Rattle.rb_rules.proofs.Live.{slot_here}
@@ -18,7 +14,7 @@ returns-in_default-clause-made g c = λ whole h.
     let t = g.W.Weave in let laws = g.met.W.Weave in let l = c.loop-turn in
     let (now, sl, alike) = l.invariant.0 whole h in
     let (made, wv) = ended t.weaving laws.laws t.is_near t.is_item t.is_sum t.is_value laws.sums laws.parts l.tree.nodes.live l.tree.root (128 - l._turn) now
-          (subst (λ o. IsSlack t.weaving t.is_near t.is_item t.is_value l.tree.nodes.live l.tree.root o (128 - l._turn) now) c.in_default.is sl) in
+    (subst (λ o. IsSlack t.weaving t.is_near t.is_item t.is_value l.tree.nodes.live l.tree.root o (128 - l._turn) now) c.in_default.is sl) in
     (now, made, wv, alike)
 
 pub returns-in_default-clause-spare : goal.returns-in_default-clause-spare
@@ -32,7 +28,7 @@ read-at-requires g c =
     let t = g.W.Weave in let laws = g.met.W.Weave in let l = c.loop-turn in
     let (now, sl, alike) = l.invariant.0 c.requires.0 c.requires.1 in
     let (s, made, wl, wr, v) = renew_ready t.weaving laws.laws t.is_near t.is_item t.is_sum t.is_value laws.sums laws.parts l.tree.nodes.live l.tree.root c.in-Some.id (128 - l._turn) now
-          (subst (λ o. IsSlack t.weaving t.is_near t.is_item t.is_value l.tree.nodes.live l.tree.root o (128 - l._turn) now) c.in-Some.is sl) in
+    (subst (λ o. IsSlack t.weaving t.is_near t.is_item t.is_value l.tree.nodes.live l.tree.root o (128 - l._turn) now) c.in-Some.is sl) in
     (_, slot_here l.tree.nodes.live l.tree.root s c.in-Some.id made)
 
 pub renew-requires : goal.renew-requires
@@ -40,21 +36,24 @@ renew-requires g c =
     let t = g.W.Weave in let laws = g.met.W.Weave in let l = c.loop-turn in
     let (now, sl, alike) = l.invariant.0 c.requires.0 c.requires.1 in
     renew_ready t.weaving laws.laws t.is_near t.is_item t.is_sum t.is_value laws.sums laws.parts l.tree.nodes.live l.tree.root c.in-Some.id (128 - l._turn) now
-      (subst (λ o. IsSlack t.weaving t.is_near t.is_item t.is_value l.tree.nodes.live l.tree.root o (128 - l._turn) now) c.in-Some.is sl)
+    (subst (λ o. IsSlack t.weaving t.is_near t.is_item t.is_value l.tree.nodes.live l.tree.root o (128 - l._turn) now) c.in-Some.is sl)
 
 pub loop-turn-preserved : goal.loop-turn-preserved
 loop-turn-preserved g c =
-    let t = g.W.Weave in let laws = g.met.W.Weave in let l = c.loop-turn in
-    ((λ whole h.
-      let (now, sl, alike) = l.invariant.0 whole h in
-      let fewer : 128 - l._turn ≡ suc (128 - (l._turn + 1)) = omega (arith, c.loop-turn-test.true) in
-      let here = subst (λ o. IsSlack t.weaving t.is_near t.is_item t.is_value l.tree.nodes.live l.tree.root o (128 - l._turn) now) c.in-Some.is sl in
-      let (next, sl2, alike2) = climbed t.weaving laws.laws t.is_near t.is_item t.is_sum t.is_value laws.sums laws.parts l.tree.nodes.live l.tree.root
-            c.renew.new.tree.nodes.live c.renew.new.tree.root c.read-at.result.parent c.in-Some.id (128 - (l._turn + 1)) now
-            (subst (λ n. IsSlack t.weaving t.is_near t.is_item t.is_value l.tree.nodes.live l.tree.root (Some c.in-Some.id) n now) fewer here)
-            c.renew.ensures.made
-            (λ s made. ap (λ n. n.parent) (upper_is l.tree.nodes.live l.tree.root s c.in-Some.id made Left c.read-at.result c.read-at.ensures)) in
-      (next, sl2, alike2 ∙ alike)), c.renew.ensures.spare ∙ l.invariant.1, c.renew.ensures.as_many ∙ l.invariant.2)
+    let t = g.W.Weave in let laws = g.met.W.Weave in let l = c.loop-turn in (
+      (λ whole h.
+          let (now, sl, alike) = l.invariant.0 whole h in
+          let fewer : 128 - l._turn ≡ suc (128 - (l._turn + 1)) = omega (arith, c.loop-turn-test.true) in
+          let here = subst (λ o. IsSlack t.weaving t.is_near t.is_item t.is_value l.tree.nodes.live l.tree.root o (128 - l._turn) now) c.in-Some.is sl in
+          let (next, sl2, alike2) = climbed t.weaving laws.laws t.is_near t.is_item t.is_sum t.is_value laws.sums laws.parts l.tree.nodes.live l.tree.root
+          c.renew.new.tree.nodes.live c.renew.new.tree.root c.read-at.result.parent c.in-Some.id (128 - (l._turn + 1)) now
+          (subst (λ n. IsSlack t.weaving t.is_near t.is_item t.is_value l.tree.nodes.live l.tree.root (Some c.in-Some.id) n now) fewer here)
+          c.renew.ensures.made
+          (λ s made. ap (λ n. n.parent) (upper_is l.tree.nodes.live l.tree.root s c.in-Some.id made Left c.read-at.result c.read-at.ensures)) in
+          (next, sl2, alike2 ∙ alike)),
+      c.renew.ensures.spare ∙ l.invariant.1,
+      c.renew.ensures.as_many ∙ l.invariant.2,
+    )
 
 pub returns-clause-made : goal.returns-clause-made
 returns-clause-made g c = λ whole h.
@@ -64,7 +63,7 @@ returns-clause-made g c = λ whole h.
     let last = subst (λ n. IsSlack t.weaving t.is_near t.is_item t.is_value l.tree.nodes.live l.tree.root l.at n now) over sl in
     let none = none_left t.weaving laws.laws t.is_near t.is_item t.is_sum t.is_value laws.sums laws.parts l.tree.nodes.live l.tree.root l.at now last in
     let (made, wv) = ended t.weaving laws.laws t.is_near t.is_item t.is_sum t.is_value laws.sums laws.parts l.tree.nodes.live l.tree.root 0 now
-          (subst (λ o. IsSlack t.weaving t.is_near t.is_item t.is_value l.tree.nodes.live l.tree.root o 0 now) none last) in
+    (subst (λ o. IsSlack t.weaving t.is_near t.is_item t.is_value l.tree.nodes.live l.tree.root o 0 now) none last) in
     (now, made, wv, alike)
 
 pub returns-clause-spare : goal.returns-clause-spare

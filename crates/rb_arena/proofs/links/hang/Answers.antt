@@ -1,4 +1,4 @@
-use Rattle.std.proofs.Common.{Some, subst}
+use Rattle.std.proofs.Common.{subst}
 use Rattle.std.specs.Prelude.{IfSome}
 use Rattle.raw_arena.specs.Arena.{IsLive}
 use Rattle.rb_arena.proofs.links.hang.Goals as goal

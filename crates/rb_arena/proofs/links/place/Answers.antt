@@ -1,8 +1,5 @@
-use Rattle.std.proofs.Common.{◌≡◌, Some, None, sym, ◌∙◌, ap, refl, subst, inl, inr, true, false}
+use Rattle.std.proofs.Common.{Some, sym, ◌∙◌, ap}
 use Rattle.std.specs.Option.{unwrap_or}
-use Rattle.std.proofs.lemmas.Option.{none-some}
-use Rattle.rb_rules.specs.Tree.{above, top, on}
-use Rattle.rb_rules.specs.Memory.{place_of}
 use Rattle.rb_rules.proofs.Live.{slot_here, live_above, side_is, no_place}
 use Rattle.rb_arena.proofs.links.place.Goals as goal
 

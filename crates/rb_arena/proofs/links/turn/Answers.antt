@@ -1,11 +1,11 @@
-use Rattle.std.proofs.Common.{◌≡◌, ℕ, Option, Some, None, sym, ◌∙◌, ap, refl, subst}
+use Rattle.std.proofs.Common.{◌≡◌, ℕ, Option, Some, None, sym, ◌∙◌, ap, subst}
 use Rattle.std.specs.Prelude.{IfSome, IsSome}
 use Rattle.std.specs.FinMap as map
 use Rattle.std.specs.Ordering.{nat_cmp}
 use Rattle.std.proofs.lemmas.Bool.{false≢true}
 use Rattle.rb_rules.specs.declared.slot.Slot.{Slot}
-use Rattle.rb_rules.specs.Tree.{plug, root_of, above, other}
-use Rattle.rb_rules.specs.Memory.{Made, place_of, child, sided, adopted, hung, root_hung, here, below, turned}
+use Rattle.rb_rules.specs.Tree.{plug}
+use Rattle.rb_rules.specs.Memory.{Made, child, sided, adopted, hung, root_hung, here, turned}
 use Rattle.rb_rules.proofs.Live.{Live, slot_here, live_insert, live_adopted, live_hung, len_insert, len_adopted, len_hung, child-sided}
 use Rattle.rb_rules.proofs.Spots.{upper_is, at_place, live_below, live_below_below, turn_made}
 use Rattle.rb_arena.proofs.links.turn.Goals as goal

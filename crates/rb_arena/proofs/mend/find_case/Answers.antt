@@ -1,8 +1,8 @@
-use Rattle.std.proofs.Common.{◌≡◌, ℕ, Bool, true, false, Option, Some, None, sym, ◌∙◌, ap, refl, subst}
+use Rattle.std.proofs.Common.{true, Some, sym, ◌∙◌, ap, subst}
 use Rattle.std.specs.Prelude.{IfSome}
 use Rattle.std.specs.Option.{unwrap_or}
-use Rattle.rb_rules.specs.Tree.{Tree, Hole, top, on, other, plug, above, root_of}
-use Rattle.rb_rules.specs.Memory.{sided, Made, Spot, here, child, place_of}
+use Rattle.rb_rules.specs.Tree.{on, plug, above, root_of}
+use Rattle.rb_rules.specs.Memory.{sided, Made, here, child, place_of}
 use Rattle.rb_rules.proofs.Live.{Live, child-sided}
 use Rattle.rb_rules.proofs.Ups.{hole_top, hole_on, spot_of, spot_hole, stands_above, slot_above, live_beside, red-sided}
 use Rattle.rb_arena.specs.Mending.{case_of, red_child_in}

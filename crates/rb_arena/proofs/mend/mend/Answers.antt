@@ -1,5 +1,5 @@
-use Rattle.std.proofs.Common.{◌≡◌, ℕ, ◌-◌, ◌+◌, List, Option, Some, None, refl, sym, ap, ◌∙◌, subst, arith}
-use Rattle.rb_arena.specs.Rising.{Mended, Rising, Risen}
+use Rattle.std.proofs.Common.{◌≡◌, ◌-◌, ◌+◌, refl, ◌∙◌, subst, arith}
+use Rattle.rb_arena.specs.Rising.{Risen}
 use Rattle.rb_arena.proofs.Steps.{at_last}
 use Rattle.rb_arena.proofs.mend.mend.Goals as goal
 
@@ -24,12 +24,14 @@ step-at-requires g c =
 
 pub loop-turn-preserved : goal.loop-turn-preserved
 loop-turn-preserved g c =
-    let t = g.W.Weave in let l = c.loop-turn in
-    ((λ es h v.
-      let now = subst (λ o. Risen t.weaving t.is_near l.tree.nodes.live l.tree.root es o (128 - l._turn)) c.in-Some.is (l.invariant.0 es h v) in
-      let fewer : (128 - l._turn) - 1 ≡ 128 - (l._turn + 1) = omega arith in
-      subst (λ n. Risen t.weaving t.is_near c.step-at.new.tree.nodes.live c.step-at.new.tree.root es c.step-at.result n) fewer (c.step-at.ensures.risen es (128 - l._turn) now v)),
-      c.step-at.ensures.spare ∙ l.invariant.1, c.step-at.ensures.as_many ∙ l.invariant.2)
+    let t = g.W.Weave in let l = c.loop-turn in (
+      (λ es h v.
+          let now = subst (λ o. Risen t.weaving t.is_near l.tree.nodes.live l.tree.root es o (128 - l._turn)) c.in-Some.is (l.invariant.0 es h v) in
+          let fewer : (128 - l._turn) - 1 ≡ 128 - (l._turn + 1) = omega arith in
+          subst (λ n. Risen t.weaving t.is_near c.step-at.new.tree.nodes.live c.step-at.new.tree.root es c.step-at.result n) fewer (c.step-at.ensures.risen es (128 - l._turn) now v)),
+      c.step-at.ensures.spare ∙ l.invariant.1,
+      c.step-at.ensures.as_many ∙ l.invariant.2,
+    )
 
 pub returns-clause-mended : goal.returns-clause-mended
 returns-clause-mended g c = λ es h v.

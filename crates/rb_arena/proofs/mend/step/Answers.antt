@@ -1,10 +1,8 @@
-use Rattle.std.proofs.Common.{◌≡◌, ℕ, suc, ◌≤◌, Bool, true, false, List, Option, Some, None, refl, sym, ap, ◌∙◌, subst, arith}
-use Rattle.rb_rules.specs.declared.slot.Side.{Side}
-use Rattle.rb_rules.specs.Tree.{Tree, Hole, fork, on, other, forked, plug, depth}
-use Rattle.rb_rules.specs.Memory.{Made, AtSpot, Stands}
-use Rattle.rb_rules.specs.Sound.{Lists, CanTurnAt, TurnedAt}
+use Rattle.std.proofs.Common.{true, false, refl, sym, subst}
+use Rattle.rb_rules.specs.Tree.{on, other, forked}
+use Rattle.rb_rules.specs.Memory.{AtSpot}
+use Rattle.rb_rules.specs.Sound.{CanTurnAt, TurnedAt}
 use Rattle.rb_arena.specs.declared.mend.Case.TheVariants.{Settled, RedRoot, RedUncle, Outer, Inner}
-use Rattle.rb_arena.specs.Rising.{Mended, Rising}
 use Rattle.rb_arena.proofs.Steps.{stands_named, shape_is, settled, stands_parent, root_blackened, after_parent, stands_uncle, after_uncle, stands_grand, risen_grand, can_turn_outer, outer_turned, can_turn_inner, inner_turned, red_node}
 use Rattle.rb_arena.proofs.mend.step.Goals as goal
 
@@ -70,8 +68,8 @@ turn_node-requires-in-Inner-2 g c =
     let q = c.turn_node-in-Inner.new.tree in let K = on (other s) false c.in-Inner.grand dg u k2 in
     let (low, (high, made2, lists2, rb2, fit2)) = inner_turned t_.weaving laws.laws t_.is_near t_.is_item t_.is_value m root es k t h made lists rt f s c.args.id c.in-Inner.parent dz d a b x K same is q.nodes.live q.root c.turn_node-in-Inner.ensures.turned in
     subst (λ l. CanTurnAt t_.weaving t_.is_near t_.is_item t_.is_value q.nodes.live q.root c.in-Inner.grand l) (sym c.other.ensures)
-      (can_turn_outer t_.weaving laws.laws t_.is_near t_.is_item t_.is_value q.nodes.live q.root es (on (other s) true c.args.id high a K) (forked s true c.in-Inner.parent low b x) h made2 lists2 rb2 fit2
-        (other s) c.args.id c.in-Inner.grand high dg a u k2 refl v)
+    (can_turn_outer t_.weaving laws.laws t_.is_near t_.is_item t_.is_value q.nodes.live q.root es (on (other s) true c.args.id high a K) (forked s true c.in-Inner.parent low b x) h made2 lists2 rb2 fit2
+    (other s) c.args.id c.in-Inner.grand high dg a u k2 refl v)
 
 pub returns-in-Settled-clause-risen : goal.returns-in-Settled-clause-risen
 returns-in-Settled-clause-risen g c = λ es n (k, (t, (h, made, lists, e, rt, f, le))) v.
@@ -108,5 +106,5 @@ returns-in-Inner-clause-risen g c = λ es n (k, (t, (h, made, lists, e, rt, f, l
     let q = c.turn_node-in-Inner.new.tree in let z = c.turn_node-in-Inner-2.new.tree in let K = on (other s) false c.in-Inner.grand dg u k2 in
     let (low, (high, made2, lists2, rb2, fit2)) = inner_turned t_.weaving laws.laws t_.is_near t_.is_item t_.is_value m root es k t h made lists rt f s c.args.id c.in-Inner.parent dz d a b x K same is q.nodes.live q.root c.turn_node-in-Inner.ensures.turned in
     outer_turned t_.weaving laws.laws t_.is_near t_.is_item t_.is_value q.nodes.live q.root es (on (other s) true c.args.id high a K) (forked s true c.in-Inner.parent low b x) h made2 lists2 rb2 fit2
-      (other s) c.args.id c.in-Inner.grand high dg a u k2 refl z.nodes.live z.root ru
-      (subst (λ l. AtSpot q.nodes.live q.root c.in-Inner.grand (λ sp. TurnedAt t_.weaving t_.is_near z.nodes.live z.root c.in-Inner.grand l sp)) c.other.ensures c.turn_node-in-Inner-2.ensures.turned)
+    (other s) c.args.id c.in-Inner.grand high dg a u k2 refl z.nodes.live z.root ru
+    (subst (λ l. AtSpot q.nodes.live q.root c.in-Inner.grand (λ sp. TurnedAt t_.weaving t_.is_near z.nodes.live z.root c.in-Inner.grand l sp)) c.other.ensures c.turn_node-in-Inner-2.ensures.turned)
