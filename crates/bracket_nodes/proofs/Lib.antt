@@ -5,3 +5,4 @@ pub mod PartnerWalk
 pub mod EntryWalk
 pub mod Parsing
 pub mod ScannedSteps
+pub mod Scans

@@ -1,20 +1,21 @@
 -- A text as scanned lines, and what is left of it.
-use Rattle.std.specs.Prelude.{◌≡◌, ℕ, ◌+◌, ◌-◌, ◌<◌, ◌≤◌, List, [], ◌∷◌, drop, ⊤}
+use Rattle.std.specs.Prelude.{◌≡◌, ℕ, ◌+◌, ◌-◌, List, [], ◌∷◌, length, ⊤}
 use Rattle.bracket_rules.specs.declared.Token.{Token}
-use Rattle.bracket_rules.specs.declared.TheConstants.{MOST_PAIRS}
 use Rattle.bracket_rules.specs.Rows.{Row, row, empty_row}
-use Rattle.bracket_rules.specs.Table.{token}
+use Rattle.bracket_rules.specs.Table.{Table, token, tokens_of, AreInLine}
 use Rattle.bracket_nodes.specs.declared.scanned.ScannedLine.{ScannedLine}
 use Rattle.bracket_nodes.specs.Source.{Ahead}
 
--- tokens of a line from this column on: in order, not overlapping, and within the line
-abbrev pub IsLine : ℕ → ℕ → List Token → Type 0
-IsLine column columns [] = column ≤ columns
-IsLine column columns (t ∷ ts) = (column ≤ t.at) × (0 < t.len) × (t.kind < MOST_PAIRS) × IsLine (t.at + t.len) columns ts
-
 abbrev pub AreLines : List ScannedLine → Type 0
 AreLines [] = ⊤
-AreLines (l ∷ lines) = IsLine 0 l.columns l.tokens.items × AreLines lines
+AreLines (l ∷ lines) = AreInLine 0 l.columns l.tokens.items × AreLines lines
+
+-- the scans by a table of lines with these contents
+abbrev pub AreScans : Table → List (List ℕ) → List ScannedLine → Type 0
+AreScans table [] [] = ⊤
+AreScans table (x ∷ xs) (l ∷ lines) =
+    (l.tokens.items ≡ tokens_of table x) × (l.columns ≡ length x) × AreScans table xs lines
+AreScans table _ _ = ⊥
 
 -- ---- what is left, from a column of the first line on, where these tokens of it are left
 
@@ -41,5 +42,6 @@ scanned_bound (l ∷ lines) = bound_left 0 l.columns lines
 
 abbrev pub ahead_of : ℕ → List Token → ℕ → List ScannedLine → Ahead
 ahead_of column tokens columns lines = record {
-    rows = rows_left column tokens columns lines;
-    weight = bound_left column columns lines }
+  rows = rows_left column tokens columns lines;
+  weight = bound_left column columns lines;
+}

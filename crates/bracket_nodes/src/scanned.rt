@@ -40,11 +40,12 @@ impl<'a> Model for ScannedText<'a> {
 
     ghost Value = { Ahead };
 
-    ghost use Rattle.bracket_nodes.specs.ScannedLines.{IsLine, AreLines, ahead_of};
+    ghost use Rattle.bracket_rules.specs.Table.{AreInLine};
+    ghost use Rattle.bracket_nodes.specs.ScannedLines.{AreLines, ahead_of};
 
     ghost view = { λ s. ahead_of s.column s.tokens.now s.columns s.lines.now };
 
-    ghost invariant = { λ s. IsLine s.column s.columns s.tokens.now × AreLines s.lines.now };
+    ghost invariant = { λ s. AreInLine s.column s.columns s.tokens.now × AreLines s.lines.now };
 }
 
 impl<'a> Source for ScannedText<'a> {
