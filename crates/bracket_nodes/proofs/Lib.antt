@@ -4,3 +4,5 @@ pub mod LevelWalk
 pub mod PartnerWalk
 pub mod EntryWalk
 pub mod Parsing
+pub mod ScannedSteps
+pub mod Scans

@@ -8,3 +8,4 @@ pub mod SharedLists
 pub mod Walks
 pub mod Source
 pub mod Openings
+pub mod ScannedLines

@@ -11,13 +11,15 @@ mod lookups;
 mod makers;
 mod node;
 mod parser;
+mod scanned;
 
-pub use bracket_rules::{Entry, Status};
+pub use bracket_rules::{Entry, Status, Token};
 pub use joiner::concat;
 pub use kinds::Kinds;
 pub use makers::{capped_node, pair_node, stray_node, text_node};
 pub use node::Node;
 pub use parser::{Next, Source, parse};
+pub use scanned::{ScannedLine, parse_lines};
 
 #[cfg(test)]
 mod tests;

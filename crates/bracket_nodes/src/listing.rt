@@ -21,7 +21,8 @@ impl Node {
     /// Appends the entries that start in the lines `from` to `to` of the tree, both counted from 0
     /// and both included, in the order of the text. On want of memory `out` is unchanged.
     pub fn entries(&self, from: u64, to: u64, out: &mut Vec<Entry>) -> Result<(), AllocError>
-        ensures ok { OnOk result (out.new.items ≡ out.old.items ++ entries_between from to (entries_of (tree_story self.now))) }
+        ensures ok { OnOk result (out.new.items
+            ≡ out.old.items ++ entries_between from to (entries_of (tree_story self.now))) }
         ensures err { OnErr result (out.new.items ≡ out.old.items) }
     {
         let count = out.len();
@@ -48,7 +49,8 @@ fn push_entries(
     out: &mut Vec<Entry>,
 ) -> Result<(), AllocError>
     requires { HasRoom start level inner.now }
-    ensures ok { OnOk result (out.new.items ≡ out.old.items ++ chosen lines.from lines.to (tree_entries start level inner.now)) }
+    ensures ok { OnOk result (out.new.items
+        ≡ out.old.items ++ chosen lines.from lines.to (tree_entries start level inner.now)) }
     ensures err { OnErr result (take (length out.old.items) out.new.items ≡ out.old.items) }
 {
     let end = start.plus(&inner.kept().length);
@@ -88,7 +90,8 @@ fn push_entries(
 }
 
 fn opening_entry(place: Length, len: u64, kind: u64, level: u64, closing: Option<u64>) -> Entry
-    ensures { (closer : Length) → result ≡ (judged_opening (bracket place len kind true) level (closing_spot closer closing)).entry }
+    ensures { (closer : Length) → result
+        ≡ (judged_opening (bracket place len kind true) level (closing_spot closer closing)).entry }
 {
     let status = if closing.is_some() {
         Status::PairedOpening
@@ -99,7 +102,8 @@ fn opening_entry(place: Length, len: u64, kind: u64, level: u64, closing: Option
 }
 
 fn entry(place: Length, len: u64, kind: u64, status: Status, level: u64) -> Entry
-    ensures { result ≡ record { place = place; len = len; kind = kind; status = status; level = level } }
+    ensures { result
+        ≡ record { place = place; len = len; kind = kind; status = status; level = level } }
 {
     Entry {
         place,
@@ -118,7 +122,8 @@ fn push_closing(
     closing: Option<u64>,
     out: &mut Vec<Entry>,
 ) -> Result<(), AllocError>
-    ensures ok { (opener : Spot) → OnOk result (out.new.items ≡ out.old.items ++ chosen lines.from lines.to (closing_entries place kind level closing opener)) }
+    ensures ok { (opener : Spot) → OnOk result (out.new.items
+        ≡ out.old.items ++ chosen lines.from lines.to (closing_entries place kind level closing opener)) }
     ensures err { OnErr result (take (length out.old.items) out.new.items ≡ out.old.items) }
 {
     let Some(len) = closing else {
@@ -129,7 +134,8 @@ fn push_closing(
 }
 
 fn push_if(lines: LineRange, entry: Entry, out: &mut Vec<Entry>) -> Result<(), AllocError>
-    ensures ok { OnOk result (out.new.items ≡ out.old.items ++ entry_if (is_between lines.from lines.to entry) entry) }
+    ensures ok { OnOk result (out.new.items
+        ≡ out.old.items ++ entry_if (is_between lines.from lines.to entry) entry) }
     ensures err { OnErr result (take (length out.old.items) out.new.items ≡ out.old.items) }
 {
     if lines.from <= entry.place.lines && entry.place.lines <= lines.to {

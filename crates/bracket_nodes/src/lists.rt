@@ -49,7 +49,9 @@ fn append(alloc: Global, list: &Shared, last: Shared) -> Result<Grown, AllocErro
     requires some { is_nothing list.now.value ≡ false }
     requires last_some { is_nothing last.value ≡ false }
     requires fits { weight list.now.value + weight last.value < 2 ^ 64 }
-    ensures { IfOk result (Grows (height list.now.value) (items list.now.value ++ items last.value) (weight list.now.value + weight last.value)) }
+    ensures { IfOk result (Grows (height list.now.value)
+        (items list.now.value ++ items last.value)
+        (weight list.now.value + weight last.value)) }
 {
     let inner: &Inner = list;
     if inner.kept().height == last.kept().height {
@@ -73,7 +75,9 @@ fn after_one(alloc: Global, a: Shared, grown: Grown) -> Result<Grown, AllocError
     requires some { is_nothing a.value ≡ false }
     requires grown { AreListsOf (height a.value) grown }
     requires fits { weight a.value + grown_weight grown < 2 ^ 64 }
-    ensures { IfOk result (Grows (suc (height a.value)) (items a.value ++ grown_items grown) (weight a.value + grown_weight grown)) }
+    ensures { IfOk result (Grows (suc (height a.value))
+        (items a.value ++ grown_items grown)
+        (weight a.value + grown_weight grown)) }
 {
     match grown {
         Grown::One(b) => Ok(Grown::One(two_of(alloc, a, b)?)),
@@ -86,7 +90,9 @@ fn after_two(alloc: Global, a: Shared, b: Shared, grown: Grown) -> Result<Grown,
     requires even { IsEven a.value b.value }
     requires grown { AreListsOf (height a.value) grown }
     requires fits { weight a.value + (weight b.value + grown_weight grown) < 2 ^ 64 }
-    ensures { IfOk result (Grows (suc (height a.value)) (items a.value ++ (items b.value ++ grown_items grown)) (weight a.value + (weight b.value + grown_weight grown))) }
+    ensures { IfOk result (Grows (suc (height a.value))
+        (items a.value ++ (items b.value ++ grown_items grown)) (weight a.value +
+        (weight b.value + grown_weight grown))) }
 {
     match grown {
         Grown::One(c) => Ok(Grown::One(three_of(alloc, a, b, c)?)),
@@ -104,7 +110,9 @@ fn prepend(alloc: Global, first: Shared, list: &Shared) -> Result<Grown, AllocEr
     requires first_some { is_nothing first.value ≡ false }
     requires some { is_nothing list.now.value ≡ false }
     requires fits { weight first.value + weight list.now.value < 2 ^ 64 }
-    ensures { IfOk result (Grows (height list.now.value) (items first.value ++ items list.now.value) (weight first.value + weight list.now.value)) }
+    ensures { IfOk result (Grows (height list.now.value)
+        (items first.value ++ items list.now.value)
+        (weight first.value + weight list.now.value)) }
 {
     let inner: &Inner = list;
     if inner.kept().height == first.kept().height {
@@ -128,7 +136,9 @@ fn before_one(alloc: Global, grown: Grown, c: Shared) -> Result<Grown, AllocErro
     requires some { is_nothing c.value ≡ false }
     requires grown { AreListsOf (height c.value) grown }
     requires fits { grown_weight grown + weight c.value < 2 ^ 64 }
-    ensures { IfOk result (Grows (suc (height c.value)) (grown_items grown ++ items c.value) (grown_weight grown + weight c.value)) }
+    ensures { IfOk result (Grows (suc (height c.value))
+        (grown_items grown ++ items c.value)
+        (grown_weight grown + weight c.value)) }
 {
     match grown {
         Grown::One(b) => Ok(Grown::One(two_of(alloc, b, c)?)),
@@ -141,7 +151,9 @@ fn before_two(alloc: Global, grown: Grown, c: Shared, d: Shared) -> Result<Grown
     requires even { IsEven c.value d.value }
     requires grown { AreListsOf (height c.value) grown }
     requires fits { grown_weight grown + (weight c.value + weight d.value) < 2 ^ 64 }
-    ensures { IfOk result (Grows (suc (height c.value)) (grown_items grown ++ (items c.value ++ items d.value)) (grown_weight grown + (weight c.value + weight d.value))) }
+    ensures { IfOk result (Grows (suc (height c.value)) (grown_items grown ++
+        (items c.value ++ items d.value)) (grown_weight grown +
+        (weight c.value + weight d.value))) }
 {
     match grown {
         Grown::One(b) => Ok(Grown::One(three_of(alloc, b, c, d)?)),

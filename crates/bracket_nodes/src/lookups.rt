@@ -105,7 +105,8 @@ fn level_from(level: u64, before: u64, last: Option<u64>) -> u64
 // The partner of the bracket at the place in a node that starts here.
 fn partner_of(inner: &Inner, start: Length, place: &Length) -> Option<(Length, u64)>
     requires { start.lines + start.columns + weight inner.now < 2 ^ 64 }
-    ensures { (level : ℕ) → result ≡ option_map place_and_len (partner_at place.now (tree_entries start level inner.now)) }
+    ensures { (level : ℕ) → result
+        ≡ option_map place_and_len (partner_at place.now (tree_entries start level inner.now)) }
 {
     match &inner.shape {
         Shape::Pair(_, opening, inside, closing) => {

@@ -80,7 +80,8 @@ fn parse_list<S: Source>(
     requires level { level ≤ MOST_OPEN }
     requires some { HasRow (S.ahead source.old).rows }
     requires fits { (S.ahead source.old).weight < 2 ^ 64 }
-    ensures { IfOk result (λ part. Listed (S.ahead source.old) (S.ahead source.new) opened level part.list part.stop) }
+    ensures { IfOk result (λ part.
+        Listed (S.ahead source.old) (S.ahead source.new) opened level part.list part.stop) }
 {
     let mut joiner = Joiner::new(alloc);
     loop {

@@ -3,7 +3,10 @@ ghost use Rattle.std.specs.Prelude.{◌≡◌, IfOk};
 ghost use Rattle.bracket_rules.specs.Tree.{wide, all_weight};
 
 use crate::parser::{Next, Source, parse};
-use crate::{Entry, Kinds, Node, Status, capped_node, concat, pair_node, stray_node, text_node};
+use crate::{
+    Entry, Kinds, Node, ScannedLine, Status, capped_node, concat, pair_node, parse_lines,
+    stray_node, text_node,
+};
 use std::alloc::{AllocError, Global};
 use std::test::Fail;
 use text_lengths::Length;
@@ -100,5 +103,17 @@ fn parses_a_hundred_thousand_opening_brackets(rt: HostRuntime) -> Result<(), Fai
     let mut out = Vec::new(rt.alloc());
     tree.entries(0, 0, &mut out)?;
     assert_eq!(rt; out.len(), 300);
+    Ok(())
+}
+
+#[test]
+fn parses_a_line_without_brackets(rt: HostRuntime) -> Result<(), Fail> {
+    let line = ScannedLine {
+        tokens: Vec::new(rt.alloc()),
+        columns: 3,
+    };
+    let tree = parse_lines(rt.alloc(), &[line])?;
+    assert_eq!(rt; tree.length(), wide(3));
+    assert_eq!(rt; tree.level_at(wide(3)), 0);
     Ok(())
 }

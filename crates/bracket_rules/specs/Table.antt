@@ -1,5 +1,5 @@
 -- Bracket tables, and the tokens of a line: at each place the longest text of the table that stands there.
-use Rattle.std.specs.Prelude.{◌≡◌, ℕ, zero, suc, ◌-◌, Bool, true, false, not, ◌&&◌, ◌==◌, nat_eq, nat_lt, nat_le, if◌then◌else◌, List, [], ◌∷◌, ◌++◌, length, Option, Some, None, refl}
+use Rattle.std.specs.Prelude.{◌≡◌, ◌<◌, ◌≤◌, ℕ, zero, suc, ◌+◌, ◌-◌, Bool, true, false, not, ◌&&◌, ◌==◌, nat_eq, nat_lt, nat_le, if◌then◌else◌, List, [], ◌∷◌, ◌++◌, length, Option, Some, None, refl}
 use Rattle.std.specs.Cmp.Lexicographic.{pointwise}
 use Rattle.std.specs.List.{starts_with, list_all, list_any}
 use Rattle.std.specs.Option.{option_to_list}
@@ -75,6 +75,12 @@ tokens_from table at zero (u ∷ units) =
 
 abbrev pub tokens_of : Table → List ℕ → List Token
 tokens_of table line = tokens_from table 0 0 line
+
+-- tokens of a line from this column on: in order, not overlapping, and within the line
+abbrev pub AreInLine : ℕ → ℕ → List Token → Type 0
+AreInLine column columns [] = column ≤ columns
+AreInLine column columns (t ∷ ts) =
+    (column ≤ t.at) × (0 < t.len) × (t.kind < MOST_PAIRS) × AreInLine (t.at + t.len) columns ts
 
 -- ---- worked examples
 

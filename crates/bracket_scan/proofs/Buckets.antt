@@ -1,12 +1,12 @@
 -- Only the texts that begin in the bucket of a unit can stand where this unit is.
-use Rattle.std.proofs.Common.{◌≡◌, ℕ, suc, ◌+◌, ◌%◌, ◌<◌, ◌≤◌, Bool, true, false, ◌&&◌, eqb, ltb, leb, get_or, drop, Option, Some, None, List, [], ◌∷◌, ◌++◌, length, refl, ap, sym, ◌∙◌, arith, append_assoc, inl, inr, add-one}
+use Rattle.std.proofs.Common.{◌≡◌, ℕ, suc, ◌+◌, ◌%◌, ◌<◌, ◌≤◌, Bool, true, false, ◌&&◌, eqb, get_or, drop, Option, Some, None, List, [], ◌∷◌, ◌++◌, length, refl, ap, sym, ◌∙◌, arith, append_assoc, inl, inr, add-one}
 use Rattle.std.specs.List.{All, list_all}
 use Rattle.std.proofs.lemmas.Bool.Decides.{eqb_tells, nat_tests}
 use Rattle.std.proofs.lemmas.List.{get_or_at, length_push}
 use Rattle.std.proofs.lemmas.List.Elements.{All-nil, All-cons, All-append}
 use Rattle.bracket_rules.specs.declared.Token.{Token}
-use Rattle.bracket_rules.specs.Table.{Table, texts_of, is_bracket_text, are_distinct, is_table, standing, longer, longest}
-use Rattle.bracket_rules.specs.declared.TheConstants.{MOST_PAIRS}
+use Rattle.bracket_rules.specs.Table.{Table, texts_of, is_bracket_text, is_table, standing, longer, longest}
+use Rattle.bracket_rules.proofs.Tokens.{has_texts}
 use Rattle.bracket_scan.specs.declared.starts.Start.{Start}
 use Rattle.bracket_scan.specs.declared.starts.TheConstants.{BUCKETS}
 use Rattle.bracket_scan.specs.Starts.{begins_in, start, start_if, starts_in, text_at, longest_among}
@@ -115,11 +115,6 @@ pub starts_in-kinds : (bucket : ℕ) (pairs : Table) → All (λ s. s.kind < len
 starts_in-kinds bucket pairs = starts_in-within bucket 0 (length pairs) pairs (omega arith)
 
 -- ---- what a table's dispatch gives at a place
-
-pub has_texts : (pairs : Table) → is_table pairs ≡ true → list_all is_bracket_text (texts_of pairs) ≡ true
-has_texts pairs h =
-    and_second (ltb 0 (length pairs) && leb (length pairs) MOST_PAIRS) (list_all is_bracket_text (texts_of pairs))
-    (and_first ((ltb 0 (length pairs) && leb (length pairs) MOST_PAIRS) && list_all is_bracket_text (texts_of pairs)) (are_distinct (texts_of pairs)) h)
 
 -- units that begin with one of them
 pub first_and_rest : (units : List ℕ) → 0 < length units → units ≡ get_or units 0 0 ∷ drop 1 units

@@ -1,64 +1,23 @@
 -- The steps of a scan: past a token, and past a unit where none stands.
-use Rattle.std.proofs.Common.{◌≡◌, ℕ, zero, suc, ◌+◌, ◌-◌, ◌<◌, ◌≤◌, Bool, true, false, cond, ◌&&◌, Option, Some, None, List, [], ◌∷◌, ◌++◌, length, take, drop, get_or, refl, ap, sym, ◌∙◌, arith, length-take}
-use Rattle.std.specs.Prelude.{nat_eq, IfSome, nat_lt}
-use Rattle.std.specs.Cmp.Lexicographic.{pointwise}
-use Rattle.std.specs.List.{list_all, starts_with}
+use Rattle.std.proofs.Common.{◌≡◌, ℕ, zero, suc, ◌+◌, ◌-◌, ◌<◌, ◌≤◌, true, Option, Some, None, List, [], ◌∷◌, ◌++◌, length, take, drop, get_or, refl, ap, sym, ◌∙◌, arith, length-take}
+use Rattle.std.specs.Prelude.{IfSome}
 use Rattle.std.specs.Option.{option_to_list}
 use Rattle.std.proofs.lemmas.List.{drop_more, drop-drop, take-append-le, append_assoc}
 use Rattle.bracket_rules.specs.declared.Token.{Token}
-use Rattle.bracket_rules.specs.Table.{Table, texts_of, is_bracket_text, is_table, token, standing, longer, longest, units_after_first, tokens_from}
+use Rattle.bracket_rules.specs.Table.{Table, is_table, longest, units_after_first, tokens_from}
 use Rattle.bracket_scan.specs.Starts.{IsWithin}
-use Rattle.bracket_scan.proofs.Buckets.{and_first, and_second, has_texts}
+use Rattle.bracket_rules.specs.declared.TheConstants.{MOST_PAIRS}
+use Rattle.bracket_rules.proofs.Tokens.{IsThere, longest-there}
 
 -- ---- a token has units, and no more than are there
 
-pointwise_length : (x y : List ℕ) → pointwise nat_eq x y ≡ true → length x ≡ length y
-pointwise_length [] [] h = refl
-pointwise_length [] (v ∷ y) h = cc
-pointwise_length (u ∷ x) [] h = cc
-pointwise_length (u ∷ x) (v ∷ y) h = ap suc (pointwise_length x y (and_second (nat_eq u v) (pointwise nat_eq x y) h))
-
-fits_from : (text units : List ℕ) → starts_with nat_eq units text ≡ true → length text ≤ length units
-fits_from text units h =
-    let same = pointwise_length text (take (length text) units) h in
-    omega (arith, length-take (length text) units)
-
-nonempty_from : (text : List ℕ) → is_bracket_text text ≡ true → 0 < length text
-nonempty_from [] h = cc
-nonempty_from (u ∷ text) h = omega arith
-
-standing-within : (at kind : ℕ) (opening : Bool) (text units : List ℕ) → is_bracket_text text ≡ true
-    → IfSome (standing at kind opening text units) (IsWithin (length units))
-standing-within at kind opening text units h = either (starts_with nat_eq units text) refl
-  where
-    either : (b : Bool) → b ≡ starts_with nat_eq units text
-        → IfSome (cond b (Some (token at (length text) kind opening)) None) (IsWithin (length units))
-    either true e = record { some = nonempty_from text h; enough = fits_from text units (sym e) }
-    either false e = tt
-
-longer-within : (n : ℕ) (a b : Option Token) → IfSome a (IsWithin n) → IfSome b (IsWithin n) → IfSome (longer a b) (IsWithin n)
-longer-within n None b h k = k
-longer-within n (Some t) None h k = h
-longer-within n (Some t) (Some u) h k = either (nat_lt t.len u.len)
-  where
-    either : (b : Bool) → IfSome (cond b (Some u) (Some t)) (IsWithin n)
-    either true = k
-    either false = h
-
-longest-within_from : (at kind : ℕ) (ps : Table) (units : List ℕ) → list_all is_bracket_text (texts_of ps) ≡ true
-    → IfSome (longest at kind ps units) (IsWithin (length units))
-longest-within_from at kind [] units h = tt
-longest-within_from at kind (p ∷ ps) units h =
-    let others = and_second (is_bracket_text p.0) (is_bracket_text p.1 && list_all is_bracket_text (texts_of ps)) h in
-    longer-within (length units) _ _
-    (standing-within at kind true p.0 units (and_first (is_bracket_text p.0) _ h))
-    (longer-within (length units) _ _
-    (standing-within at kind false p.1 units (and_first (is_bracket_text p.1) (list_all is_bracket_text (texts_of ps)) others))
-    (longest-within_from at (suc kind) ps units (and_second (is_bracket_text p.1) (list_all is_bracket_text (texts_of ps)) others)))
+within_from : (at n kinds : ℕ) (found : Option Token) → IfSome found (IsThere at n kinds) → IfSome found (IsWithin n)
+within_from at n kinds None h = tt
+within_from at n kinds (Some t) h = record { some = h.some; enough = h.enough }
 
 pub longest-within : (at : ℕ) (table : Table) (units : List ℕ) → is_table table ≡ true
     → IfSome (longest at 0 table units) (IsWithin (length units))
-longest-within at table units h = longest-within_from at 0 table units (has_texts table h)
+longest-within at table units h = within_from at (length units) MOST_PAIRS (longest at 0 table units) (longest-there at table units h)
 
 -- ---- steps
 

@@ -1,0 +1,132 @@
+-- The steps of a text of scanned lines as a source.
+use Rattle.std.proofs.Common.{◌≡◌, ℕ, ◌+◌, ◌-◌, ◌<◌, ◌≤◌, true, false, List, [], ◌∷◌, ◌++◌, length, get_or, drop, refl, ap, sym, ◌∙◌, arith, inl, inr}
+use Rattle.bracket_rules.specs.declared.Token.{Token}
+use Rattle.bracket_rules.specs.declared.TheConstants.{MOST_OPEN}
+use Rattle.bracket_rules.specs.Table.{token, AreInLine}
+use Rattle.bracket_rules.specs.Rows.{Row, HasRow, row, empty_row, shifted, glue}
+use Rattle.bracket_rules.specs.Tree.{text, wide}
+use Rattle.bracket_rules.specs.Told.{Fits}
+use Rattle.text_lengths.specs.Length.{length_of}
+use Rattle.bracket_rules.proofs.Glue.{empty_glue}
+use Rattle.bracket_nodes.specs.declared.scanned.ScannedLine.{ScannedLine}
+use Rattle.bracket_nodes.specs.Source.{GivesNode, GivesBracket}
+use Rattle.bracket_nodes.specs.ScannedLines.{moved_back, rows_left, bound_left, ahead_of}
+
+-- ---- lines
+
+pub line_end : (column columns : ℕ) (ts : List Token) → AreInLine column columns ts → column ≤ columns
+line_end column columns [] h = h
+line_end column columns (t ∷ ts) h =
+    let rest = line_end (t.at + t.len) columns ts h.3 in
+    let first : column ≤ t.at = h.0 in
+    omega arith
+
+AreInLine-from : (c d n : ℕ) (ts : List Token) → c ≤ d → AreInLine d n ts → AreInLine c n ts
+AreInLine-from c d n [] h k = omega arith
+AreInLine-from c d n (t ∷ ts) h k = let first : d ≤ t.at = k.0 in (omega arith, k.1, k.2, k.3)
+
+shifted-moved_back : (c d n : ℕ) (ts : List Token) → c ≤ d → AreInLine d n ts → shifted (d - c) (moved_back d ts) ≡ moved_back c ts
+shifted-moved_back c d n [] h k = refl
+shifted-moved_back c d n (t ∷ ts) h k =
+    let first : d ≤ t.at = k.0 in
+    let at : (d - c) + (t.at - d) ≡ t.at - c = omega arith in
+    let here : token ((d - c) + (t.at - d)) t.len t.kind t.opening ≡ token (t.at - c) t.len t.kind t.opening =
+    ap (λ (m : ℕ). token m t.len t.kind t.opening) at in
+    let later : d ≤ t.at + t.len = omega arith in
+    let rest : shifted (d - c) (moved_back d ts) ≡ moved_back c ts =
+    shifted-moved_back c d n ts h (AreInLine-from d (t.at + t.len) n ts later k.3) in
+    cc
+
+pub HasRow-rows_left : (column : ℕ) (ts : List Token) (columns : ℕ) (lines : List ScannedLine) → HasRow (rows_left column ts columns lines)
+HasRow-rows_left column ts columns [] = tt
+HasRow-rows_left column ts columns (l ∷ lines) = tt
+
+same_row : (x y : List Token) (m n : ℕ) → x ≡ y → m ≡ n → row x m ≡ row y n
+same_row x y m n p q = ap (λ (z : List Token). row z m) p ∙ ap (row y) q
+
+-- the rows from column c on are some brackets up to column d, and the rows from there
+cut : (c d n : ℕ) (front ts all : List Token) (lines : List ScannedLine) → c ≤ d → d ≤ n
+    → moved_back c all ≡ front ++ shifted (d - c) (moved_back d ts)
+    → rows_left c all n lines ≡ glue (row front (d - c) ∷ []) (rows_left d ts n lines)
+cut c d n front ts all [] h k e =
+    let columns : n - c ≡ (d - c) + (n - d) = omega arith in
+    ap (λ (r : Row). r ∷ []) (same_row (moved_back c all) (front ++ shifted (d - c) (moved_back d ts)) (n - c) ((d - c) + (n - d)) e columns)
+cut c d n front ts all (l ∷ []) h k e =
+    ap (λ (x : List Token). row x 0 ∷ rows_left 0 l.tokens.items l.columns []) e
+cut c d n front ts all (l ∷ m ∷ lines) h k e =
+    ap (λ (x : List Token). row x 0 ∷ rows_left 0 l.tokens.items l.columns (m ∷ lines)) e
+
+-- ---- what the source gives
+
+fits_text : (kinds level lines columns : ℕ) → level ≤ MOST_OPEN → Fits kinds level (text (length_of lines columns))
+fits_text kinds level lines columns h = record {
+  closed = refl;
+  uncapped = refl;
+  apart = λ k m. let clash : false ≡ true = m in cc;
+  room = omega arith;
+}
+
+bound_cut : (c d n : ℕ) (lines : List ScannedLine) → c ≤ d → d ≤ n → (d - c) + bound_left d n lines ≤ bound_left c n lines
+bound_cut c d n [] h k = omega arith
+bound_cut c d n (l ∷ lines) h k = omega arith
+
+pub gives_gap : (c d n kinds level : ℕ) (ts : List Token) (lines : List ScannedLine) → level ≤ MOST_OPEN → c < d → AreInLine d n ts
+    → GivesNode (ahead_of c ts n lines) (ahead_of d ts n lines) kinds level (text (wide (d - c)))
+gives_gap c d n kinds level ts lines room h k =
+    let below : c ≤ d = omega arith in
+    let within = line_end d n ts k in
+    let bound = bound_cut c d n lines below within in
+    record {
+      tree = inl (refl, omega arith);
+      some = refl;
+      fits = fits_text kinds level 0 (d - c) room;
+      spells = cut c d n [] ts ts lines below within (sym (shifted-moved_back c d n ts below k));
+      weighs = omega arith;
+      rest = HasRow-rows_left d ts n lines;
+    }
+
+pub gives_bracket : (c n : ℕ) (t : Token) (ts : List Token) (lines : List ScannedLine) → t.at ≤ c → AreInLine c n (t ∷ ts)
+    → GivesBracket (ahead_of c (t ∷ ts) n lines) (ahead_of (c + t.len) ts n lines) t.kind t.len t.opening
+gives_bracket c n t ts lines h k =
+    let first : c ≤ t.at = k.0 in
+    let here : t.at ≡ c = omega arith in
+    let line : AreInLine (c + t.len) n ts = rw (← here) k.3 in
+    let within = line_end (c + t.len) n ts line in
+    let below : c ≤ c + t.len = omega arith in
+    let width : (c + t.len) - c ≡ t.len = omega arith in
+    let start : t.at - c ≡ 0 = omega arith in
+    let bound = bound_cut c (c + t.len) n lines below within in
+    record {
+      has_kind = k.2;
+      wide = k.1;
+      spells =
+          cut c (c + t.len) n (token 0 t.len t.kind t.opening ∷ []) ts (t ∷ ts) lines below within
+          (ap (λ (m : ℕ). token m t.len t.kind t.opening ∷ moved_back c ts) start
+          ∙ ap (λ (x : List Token). token 0 t.len t.kind t.opening ∷ x) (sym (shifted-moved_back c (c + t.len) n ts below line)))
+          ∙ ap (λ (m : ℕ). glue (row (token 0 t.len t.kind t.opening ∷ []) m ∷ []) (rows_left (c + t.len) ts n lines)) width;
+      weighs = omega arith;
+      rest = HasRow-rows_left (c + t.len) ts n lines;
+    }
+
+pub gives_break : (c n kinds level : ℕ) (l : ScannedLine) (lines : List ScannedLine) → level ≤ MOST_OPEN
+    → GivesNode (ahead_of c [] n (l ∷ lines)) (ahead_of 0 l.tokens.items l.columns lines) kinds level (text (length_of 1 0))
+gives_break c n kinds level l lines room = record {
+  tree = inr (refl, refl);
+  some = refl;
+  fits = fits_text kinds level 1 0 room;
+  spells = ap (λ (x : List Row). empty_row ∷ x) (sym (empty_glue (rows_left 0 l.tokens.items l.columns lines) (HasRow-rows_left 0 l.tokens.items l.columns lines)));
+  weighs = omega arith;
+  rest = HasRow-rows_left 0 l.tokens.items l.columns lines;
+}
+
+-- ---- the next token, and the lines after the next
+
+pub split_first : {X : Type 0} (xs : List X) (d : X) → 1 ≤ length xs → xs ≡ get_or xs 0 d ∷ drop 1 xs
+split_first [] d h = absurd (omega arith)
+split_first (x ∷ xs) d h = refl
+
+pub at_token : (c n : ℕ) (t : Token) (ts : List Token) → AreInLine c n (t ∷ ts) → AreInLine t.at n (t ∷ ts)
+at_token c n t ts h = (omega arith, h.1, h.2, h.3)
+
+pub token_fits : (c n : ℕ) (t : Token) (ts : List Token) → t.at ≤ c → AreInLine c n (t ∷ ts) → c + t.len ≤ n
+token_fits c n t ts h k = let first : c ≤ t.at = k.0 in let rest = line_end (t.at + t.len) n ts k.3 in omega arith

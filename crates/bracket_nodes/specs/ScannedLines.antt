@@ -1,0 +1,47 @@
+-- A text as scanned lines, and what is left of it.
+use Rattle.std.specs.Prelude.{◌≡◌, ℕ, ◌+◌, ◌-◌, List, [], ◌∷◌, length, ⊤}
+use Rattle.bracket_rules.specs.declared.Token.{Token}
+use Rattle.bracket_rules.specs.Rows.{Row, row, empty_row}
+use Rattle.bracket_rules.specs.Table.{Table, token, tokens_of, AreInLine}
+use Rattle.bracket_nodes.specs.declared.scanned.ScannedLine.{ScannedLine}
+use Rattle.bracket_nodes.specs.Source.{Ahead}
+
+abbrev pub AreLines : List ScannedLine → Type 0
+AreLines [] = ⊤
+AreLines (l ∷ lines) = AreInLine 0 l.columns l.tokens.items × AreLines lines
+
+-- the scans by a table of lines with these contents
+abbrev pub AreScans : Table → List (List ℕ) → List ScannedLine → Type 0
+AreScans table [] [] = ⊤
+AreScans table (x ∷ xs) (l ∷ lines) =
+    (l.tokens.items ≡ tokens_of table x) × (l.columns ≡ length x) × AreScans table xs lines
+AreScans table _ _ = ⊥
+
+-- ---- what is left, from a column of the first line on, where these tokens of it are left
+
+abbrev pub moved_back : ℕ → List Token → List Token
+moved_back column [] = []
+moved_back column (t ∷ ts) = token (t.at - column) t.len t.kind t.opening ∷ moved_back column ts
+
+abbrev pub rows_left : ℕ → List Token → ℕ → List ScannedLine → List Row
+rows_left column tokens columns [] = row (moved_back column tokens) (columns - column) ∷ []
+rows_left column tokens columns (l ∷ lines) = row (moved_back column tokens) 0 ∷ rows_left 0 l.tokens.items l.columns lines
+
+abbrev pub bound_left : ℕ → ℕ → List ScannedLine → ℕ
+bound_left column columns [] = columns - column
+bound_left column columns (l ∷ lines) = (columns - column) + (1 + bound_left 0 l.columns lines)
+
+-- the rows of all lines
+abbrev pub scanned_rows : List ScannedLine → List Row
+scanned_rows [] = empty_row ∷ []
+scanned_rows (l ∷ lines) = rows_left 0 l.tokens.items l.columns lines
+
+abbrev pub scanned_bound : List ScannedLine → ℕ
+scanned_bound [] = 0
+scanned_bound (l ∷ lines) = bound_left 0 l.columns lines
+
+abbrev pub ahead_of : ℕ → List Token → ℕ → List ScannedLine → Ahead
+ahead_of column tokens columns lines = record {
+  rows = rows_left column tokens columns lines;
+  weight = bound_left column columns lines;
+}
