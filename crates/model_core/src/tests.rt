@@ -2,7 +2,7 @@
 
 use super::*;
 use std::test::Fail;
-use text_lengths::Span;
+use text_lengths::{GREATEST_NUMBER, Span, raised};
 use unit_text::Units;
 
 #[test]
@@ -21,4 +21,10 @@ fn open_edit_and_line(rt: HostRuntime) -> Result<(), Fail> {
     model.line(1, &mut line)?;
     assert_eq!(rt; line.as_slice(), [97, 88, 100].as_slice());
     Ok(())
+}
+
+#[test]
+fn the_greatest_number_is_not_raised(rt: HostRuntime) {
+    assert_eq!(rt; raised(GREATEST_NUMBER, 1), None);
+    assert_eq!(rt; raised(GREATEST_NUMBER - 1, 1), Some(GREATEST_NUMBER));
 }

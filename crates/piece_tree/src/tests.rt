@@ -1,7 +1,7 @@
 //! A tree that is spliced, and each call that can want memory on its happy path.
 
 use super::*;
-use chunk_buffers::Chunks;
+use chunk_buffers::{ChunkSpan, Chunks};
 use std::test::Fail;
 
 #[test]
@@ -13,10 +13,16 @@ fn a_unit_in_the_middle(rt: HostRuntime) -> Result<(), Fail> {
     let mut tree = PieceTree::new(rt.alloc());
     tree.reserve(2)?;
     tree.splice(0, 0, Some(abcd), &chunks);
-    assert_eq!(rt; tree.len(), 4);
+    tree.splice(2, 1, Some(x), &chunks);
     let mut spans = Vec::new(rt.alloc());
     tree.spans(&mut spans)?;
-    assert_eq!(rt; spans.as_slice(), [abcd].as_slice());
-    assert_eq!(rt; x.units, 1);
+    let ab = ChunkSpan { units: 2, ..abcd };
+    let d = ChunkSpan {
+        start: abcd.start + 3,
+        units: 1,
+        ..abcd
+    };
+    assert_eq!(rt; spans.as_slice(), [ab, x, d].as_slice());
+    assert_eq!(rt; tree.len(), 4);
     Ok(())
 }

@@ -24,6 +24,11 @@ fn an_edit_between_cr_and_lf(rt: HostRuntime) -> Result<(), Fail> {
     let mut units = Vec::new(rt.alloc());
     text.value(Span { start: 0, end: 2 }, &mut units)?;
     assert_eq!(rt; units.as_slice(), [A, 13].as_slice());
+    text.value(Span { start: 2, end: 4 }, &mut units)?;
+    assert_eq!(rt; units.as_slice(), [A, 13, 10, B].as_slice());
+    let mut line = Vec::new(rt.alloc());
+    text.line(1, &mut line)?;
+    assert_eq!(rt; line.as_slice(), [A].as_slice());
 
     let mut line = Vec::new(rt.alloc());
     let lines = text.line_count();
