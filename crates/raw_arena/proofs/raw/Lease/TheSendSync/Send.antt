@@ -1,8 +1,0 @@
-use denote.RattleType.{RattleType}
-use denote.Param.Send.{IsSend, Frees}
-use Rattle.std.specs.declared.alloc.Allocator.{Ghosts}
-use Rattle.raw_arena.proofs.Crosses.{Lease-send}
-use Rattle.raw_arena.specs.contracts.raw.Lease.{the_row}
-
-pub send : (R A : RattleType) (g : Ghosts A.Denot) → IsSend A → Frees g g.dealloc_token → IsSend (the_row R A g)
-send R A g s = Lease-send R A g

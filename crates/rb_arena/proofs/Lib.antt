@@ -1,9 +1,0 @@
-pub mod Cases
-pub mod Growing
-pub mod Inserting
-pub mod Listing
-pub mod Locating
-pub mod Paths
-pub mod Searches
-pub mod Setting
-pub mod Steps

@@ -1,5 +1,0 @@
-pub mod Mending
-pub mod Placing
-pub mod Rising
-pub mod Searching
-pub mod Value
