@@ -30,15 +30,13 @@ fn an_edit_between_cr_and_lf(rt: HostRuntime) -> Result<(), Fail> {
     text.line(1, &mut line)?;
     assert_eq!(rt; line.as_slice(), [A].as_slice());
 
-    let mut line = Vec::new(rt.alloc());
-    let lines = text.line_count();
-    assert_eq!(rt; lines, 2);
-    text.line(1, &mut line)?;
-    assert_eq!(rt; line.as_slice(), [A].as_slice());
-
     let mut spans = Vec::new(rt.alloc());
     text.spans(&mut spans)?;
     assert_eq!(rt; spans.len(), 3);
+    let chunks = text.chunks();
+    assert_eq!(rt; chunks.units(spans[0]), [A].as_slice());
+    assert_eq!(rt; chunks.units(spans[1]), [13, 10].as_slice());
+    assert_eq!(rt; chunks.units(spans[2]), [B].as_slice());
     assert_eq!(rt; Flat::is_place(&text, 4), true);
     Ok(())
 }

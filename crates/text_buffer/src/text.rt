@@ -1,6 +1,7 @@
 //! The text, with its edits.
 
 ghost use Rattle.std.specs.Prelude.{◌≡◌, ℕ, ◌+◌, ◌-◌, ◌*◌, ◌<◌, ◌≤◌, ◌^◌, ◌&&◌, ◌++◌, ◌∷◌, List, [], true, false, if◌then◌else◌, length, map, take, drop, slice_index, slice_index_or, OnOk, OnErr, IfOk, vec_len, vec_capacity};
+ghost use Rattle.std.specs.List.{All, flat_map};
 ghost use Rattle.chunk_buffers.specs.Chunks.{units_at, unit_count, LiesIn, Extends};
 ghost use Rattle.unit_text.specs.Units.{is_place};
 ghost use Rattle.text_rules.specs.Positions.{position_of, is_position, offset_of};
@@ -112,6 +113,8 @@ impl TextBuffer {
 
     /// Appends the spans that spell the text. An error leaves `out` as it was.
     pub fn spans(&self, out: &mut Vec<ChunkSpan>) -> Result<(), AllocError>
+        ensures spelled { self.now.units ≡ flat_map (units_at self.now.buffers) self.now.spans }
+        ensures inside { All (LiesIn self.now.buffers) self.now.spans }
         ensures ok { OnOk result (out.new.items ≡ out.old.items ++ self.now.spans) }
         ensures err { OnErr result (out.new.items ≡ out.old.items) }
     {
