@@ -1,8 +1,14 @@
 -- A batch of edits: several ops whose spans are all of one text, applied at once.
-use Rattle.std.specs.Prelude.{ℕ, ◌+◌, ◌-◌, ◌==◌, ◌&&◌, ◌||◌, Bool, false, nat_lt, nat_le, if◌then◌else◌, List, [], ◌∷◌, ◌++◌, length, take, drop}
+use Rattle.std.specs.Prelude.{ℕ, ◌+◌, ◌-◌, ◌^◌, ◌≤◌, ◌==◌, ◌&&◌, ◌||◌, Bool, false, nat_lt, nat_le, if◌then◌else◌, List, [], ◌∷◌, ◌++◌, length, take, drop, sum_by, Result, Ok, Err}
 use Rattle.std.specs.List.{list_any}
 use Rattle.text_rules.specs.declared.Op.{Op}
-use Rattle.text_rules.specs.Edits.{is_bad_span}
+use Rattle.text_rules.specs.Edits.{is_bad_span, edited}
+use Rattle.batch_rules.specs.declared.BatchError.{BatchError}
+use Rattle.batch_rules.specs.declared.BatchError.TheVariants.{Range, Overlap, Limit}
+
+-- the most units that a text may have
+abbrev pub most_units : ℕ
+most_units = 2 ^ 30 - 1
 
 -- the first op stands before the second: its end is lower, or the ends are equal and its start is not higher
 abbrev pub stands_before : Op → Op → Bool
@@ -36,6 +42,19 @@ applied_from at x (op ∷ ops) = take (op.span.start - at) (drop at x) ++ op.tex
 abbrev pub applied : List ℕ → List Op → List ℕ
 applied x ops = applied_from 0 x (sorted_ops ops)
 
+-- the ops of the batch in their order, or why it is refused
+abbrev pub checked_batch : List ℕ → List Op → Result (List Op) BatchError
+checked_batch x ops =
+    if has_bad_span x ops then Err Range else
+    (if overlap (sorted_ops ops) then Err Overlap else
+    (if nat_lt most_units (length (applied x ops)) then Err Limit
+    else Ok (sorted_ops ops)))
+
+-- From a place on the spans stand in the text one after another: each begins where the one before it ends, or later.
+abbrev pub StandFrom : ℕ → List ℕ → List Op → Type 0
+StandFrom at x [] = at ≤ length x
+StandFrom at x (op ∷ ops) = (at ≤ op.span.start) × (op.span.start ≤ op.span.end) × StandFrom op.span.end x ops
+
 -- The ops that take a batch back, where `at` is a place of the old text and `now` the same place of the new one.
 abbrev pub inverse_from : ℕ → ℕ → List ℕ → List Op → List Op
 inverse_from at now x [] = []
@@ -48,3 +67,12 @@ inverse_from at now x (op ∷ ops) =
 
 abbrev pub inverse_of : List ℕ → List Op → List Op
 inverse_of x ops = inverse_from 0 0 x (sorted_ops ops)
+
+-- the text after the ops were carried out one by one, the last of them first
+abbrev pub edited_backwards : List ℕ → List Op → List ℕ
+edited_backwards x [] = x
+edited_backwards x (op ∷ ops) = edited (edited_backwards x ops) op
+
+-- how many units the texts of the ops have together
+abbrev pub text_units : List Op → ℕ
+text_units ops = sum_by (λ op. length op.text) ops

@@ -1,7 +1,8 @@
 -- Worked examples of the definitions.
-use Rattle.std.specs.Prelude.{◌≡◌, ℕ, [], ◌∷◌, List, codes, true, false, refl}
+use Rattle.std.specs.Prelude.{◌≡◌, ℕ, [], ◌∷◌, List, codes, true, false, Ok, Err, refl}
 use Rattle.text_rules.specs.declared.Op.{Op}
-use Rattle.batch_rules.specs.Batches.{sorted_ops, overlap, applied, inverse_of}
+use Rattle.batch_rules.specs.declared.BatchError.TheVariants.{Range, Overlap}
+use Rattle.batch_rules.specs.Batches.{sorted_ops, overlap, applied, checked_batch, inverse_of, edited_backwards, text_units}
 
 abbrev op : ℕ → ℕ → List ℕ → Op
 op start end text = record { span = record { start = start; end = end }; text = text; force = false }
@@ -20,3 +21,24 @@ an_insert_at_the_end_of_a_deletion = refl
 
 two_deletions_that_touch : inverse_of (codes "abcdef") (op 1 3 [] ∷ op 3 5 [] ∷ []) ≡ op 1 1 (codes "bc") ∷ op 1 1 (codes "de") ∷ []
 two_deletions_that_touch = refl
+
+the_inverse_of_two_ops : inverse_of (codes "abcdef") (op 4 5 (codes "Y") ∷ op 1 2 (codes "XX") ∷ []) ≡ op 1 3 (codes "b") ∷ op 5 6 (codes "e") ∷ []
+the_inverse_of_two_ops = refl
+
+two_ops_taken_back : applied (codes "aXXcdYf") (op 1 3 (codes "b") ∷ op 5 6 (codes "e") ∷ []) ≡ codes "abcdef"
+two_ops_taken_back = refl
+
+two_ops_from_the_last_to_the_first : edited_backwards (codes "abcdef") (op 1 2 (codes "XX") ∷ op 4 5 (codes "Y") ∷ []) ≡ codes "aXXcdYf"
+two_ops_from_the_last_to_the_first = refl
+
+texts_of_two_ops : text_units (op 1 2 (codes "XX") ∷ op 4 5 (codes "Y") ∷ []) ≡ 3
+texts_of_two_ops = refl
+
+a_batch_comes_in_order : checked_batch (codes "abcdef") (op 4 5 (codes "Y") ∷ op 1 2 (codes "XX") ∷ []) ≡ Ok (op 1 2 (codes "XX") ∷ op 4 5 (codes "Y") ∷ [])
+a_batch_comes_in_order = refl
+
+a_bad_span_comes_before_an_overlap : checked_batch (codes "abc") (op 0 2 [] ∷ op 1 3 [] ∷ op 2 9 [] ∷ []) ≡ Err Range
+a_bad_span_comes_before_an_overlap = refl
+
+an_overlap : checked_batch (codes "abc") (op 1 3 [] ∷ op 0 2 [] ∷ []) ≡ Err Overlap
+an_overlap = refl

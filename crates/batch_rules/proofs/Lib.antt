@@ -1,0 +1,6 @@
+pub mod Order
+pub mod Standing
+pub mod Answers
+pub mod Inverses
+pub mod Backwards
+pub mod Pairs

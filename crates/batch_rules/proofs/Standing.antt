@@ -1,0 +1,94 @@
+-- Where the ops of an accepted batch stand, and the length of what they leave.
+use Rattle.std.proofs.Common.{◌≡◌, ℕ, ◌+◌, ◌-◌, ◌≤◌, ltb, Bool, cond, true, false, List, [], ◌∷◌, ◌++◌, length, take, drop, Result, Ok, Err, refl, subst, length-append, length-drop, arith}
+use Rattle.std.specs.List.{All}
+use Rattle.std.proofs.lemmas.Bool.{ltb-false, or_parts}
+use Rattle.std.proofs.lemmas.List.{length-take-le}
+use Rattle.std.proofs.lemmas.List.Elements.{All-nil, All-cons, All-head, All-tail}
+use Rattle.std.proofs.lemmas.List.Sums.{sum_by-cons}
+use Rattle.text_rules.specs.declared.Op.{Op}
+use Rattle.text_rules.specs.Edits.{is_bad_span}
+use Rattle.text_rules.proofs.EditLemmas.{span_from_test}
+use Rattle.batch_rules.specs.declared.BatchError.{BatchError}
+use Rattle.batch_rules.specs.declared.BatchError.TheVariants.{Range, Overlap, Limit}
+use Rattle.batch_rules.specs.Batches.{most_units, sorted_ops, has_bad_span, overlap, applied_from, applied, checked_batch, StandFrom, text_units, inverse_from}
+use Rattle.batch_rules.proofs.Order.{All-sorted_ops}
+
+abbrev pub IsGood : List ℕ → Op → Type 0
+IsGood x op = is_bad_span x op.span ≡ false
+
+pub all_good : (x : List ℕ) (ops : List Op) → has_bad_span x ops ≡ false → All (IsGood x) ops
+all_good x [] e = All-nil (IsGood x)
+all_good x (op ∷ ops) e =
+    let parts = or_parts _ _ e in
+    All-cons (IsGood x) op ops parts.0 (all_good x ops parts.1)
+
+-- ops in order that do not overlap, by spans of the text
+pub stand_from_tests : (at : ℕ) (x : List ℕ) (op : Op) (ops : List Op) → at ≤ op.span.start → All (IsGood x) (op ∷ ops) → overlap (op ∷ ops) ≡ false → StandFrom at x (op ∷ ops)
+stand_from_tests at x op [] above good apart =
+    let span = span_from_test x op.span (All-head (IsGood x) op [] good) in
+    (above, span.ordered, span.within)
+stand_from_tests at x op (next ∷ ops) above good apart =
+    let span = span_from_test x op.span (All-head (IsGood x) op (next ∷ ops) good) in
+    let parts = or_parts _ _ apart in
+    (above, span.ordered, stand_from_tests op.span.end x next ops (ltb-false _ _ parts.0) (All-tail (IsGood x) op (next ∷ ops) good) parts.1)
+
+pub stand_from_start : (x : List ℕ) (ops : List Op) → All (IsGood x) ops → overlap ops ≡ false → StandFrom 0 x ops
+stand_from_start x [] good apart = omega arith
+stand_from_start x (op ∷ ops) good apart = stand_from_tests 0 x op ops (omega arith) good apart
+
+-- what an accepted batch is
+pub record IsAccepted (x : List ℕ) (ops sorted : List Op) : Type 0 where
+  pub in_order : sorted ≡ sorted_ops ops
+  pub good : All (IsGood x) sorted
+  pub standing : StandFrom 0 x sorted
+  pub fits : length (applied_from 0 x sorted) ≤ most_units
+
+abbrev answer_by : Bool → Bool → Bool → List Op → Result (List Op) BatchError
+answer_by bad overlaps long sorted = cond bad (Err Range) (cond overlaps (Err Overlap) (cond long (Err Limit) (Ok sorted)))
+
+accepted_at : (x : List ℕ) (ops sorted : List Op) (bad overlaps long : Bool) → has_bad_span x ops ≡ bad → overlap (sorted_ops ops) ≡ overlaps → ltb most_units (length (applied x ops)) ≡ long
+    → answer_by bad overlaps long (sorted_ops ops) ≡ Ok sorted → IsAccepted x ops sorted
+accepted_at x ops sorted true overlaps long h1 h2 h3 e = absurd cc
+accepted_at x ops sorted false true long h1 h2 h3 e = absurd cc
+accepted_at x ops sorted false false true h1 h2 h3 e = absurd cc
+accepted_at x ops sorted false false false h1 h2 h3 e =
+    let same : sorted_ops ops ≡ sorted = cc in
+    let good = All-sorted_ops (IsGood x) ops (all_good x ops h1) in
+    subst (λ s. IsAccepted x ops s) same (record { in_order = refl; good = good; standing = stand_from_start x (sorted_ops ops) good h2; fits = ltb-false _ _ h3 })
+
+pub accepted : (x : List ℕ) (ops sorted : List Op) → checked_batch x ops ≡ Ok sorted → IsAccepted x ops sorted
+accepted x ops sorted e = accepted_at x ops sorted _ _ _ refl refl refl e
+
+-- a place that ops stand from lies within the text
+pub standing_within : (at : ℕ) (x : List ℕ) (ops : List Op) → StandFrom at x ops → at ≤ length x
+standing_within at x [] standing = standing
+standing_within at x (op ∷ ops) standing =
+    omega (arith, standing.0, standing.1, standing_within op.span.end x ops standing.2)
+
+pub length-kept : (at : ℕ) (x : List ℕ) (op : Op) (ops : List Op) → StandFrom at x (op ∷ ops)
+    → length (take (op.span.start - at) (drop at x)) ≡ op.span.start - at
+length-kept at x op ops standing =
+    let within = standing_within op.span.end x ops standing.2 in
+    length-take-le (op.span.start - at) (drop at x) (omega (arith, length-drop at x, standing.0, standing.1))
+
+pub length-applied_from : (at : ℕ) (x : List ℕ) (op : Op) (ops : List Op) → StandFrom at x (op ∷ ops)
+    → length (applied_from at x (op ∷ ops)) ≡ op.span.start - at + length op.text + length (applied_from op.span.end x ops)
+length-applied_from at x op ops standing =
+    omega (arith, length-append (take (op.span.start - at) (drop at x) ++ op.text) (applied_from op.span.end x ops), length-append (take (op.span.start - at) (drop at x)) op.text, length-kept at x op ops standing)
+
+-- the new texts all stand in the text after the batch
+pub text_units_applied : (at : ℕ) (x : List ℕ) (ops : List Op) → StandFrom at x ops → text_units ops ≤ length (applied_from at x ops)
+text_units_applied at x [] standing = omega arith
+text_units_applied at x (op ∷ ops) standing =
+    omega (arith, sum_by-cons {X = Op} (λ o. length o.text) op ops, length-applied_from at x op ops standing, text_units_applied op.span.end x ops standing.2)
+
+-- the texts of the ops that take a batch back stood in the text before it
+pub text_units_inverse : (at now : ℕ) (x : List ℕ) (ops : List Op) → StandFrom at x ops → at + text_units (inverse_from at now x ops) ≤ length x
+text_units_inverse at now x [] standing = omega (arith, standing)
+text_units_inverse at now x (op ∷ ops) standing =
+    let later : ℕ = now + (op.span.start - at) + length op.text in
+    let back : Op = record { span = record { start = now + (op.span.start - at); end = later }; text = take (op.span.end - op.span.start) (drop op.span.start x); force = false } in
+    let within = standing_within op.span.end x ops standing.2 in
+    let taken : length back.text ≡ op.span.end - op.span.start =
+    length-take-le (op.span.end - op.span.start) (drop op.span.start x) (omega (arith, length-drop op.span.start x)) in
+    omega (arith, sum_by-cons {X = Op} (λ o. length o.text) back (inverse_from op.span.end later x ops), taken, text_units_inverse op.span.end later x ops standing.2, standing.0, standing.1)
