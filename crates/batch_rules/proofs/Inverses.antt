@@ -3,8 +3,8 @@ use Rattle.std.proofs.Common.{◌≡◌, ℕ, ◌+◌, ◌-◌, false, List, [],
 use Rattle.std.proofs.lemmas.List.{take-append-drop, take_at, drop_at, drop-drop}
 use Rattle.text_rules.specs.declared.Op.{Op}
 use Rattle.batch_rules.specs.Batches.{sorted_ops, has_bad_span, overlap, applied_from, applied, StandFrom, inverse_from, inverse_of}
-use Rattle.batch_rules.proofs.Order.{All-sorted_ops, sorted_ops_standing}
-use Rattle.batch_rules.proofs.Standing.{IsGood, all_good, stand_from_start, length-kept, length-applied_from}
+use Rattle.batch_rules.proofs.Order.{sorted_ops_standing}
+use Rattle.batch_rules.proofs.Standing.{sorted_ops_stand, length-kept, length-applied_from}
 
 -- the inverse stands in the text after the batch
 pub inverse_stands : (at now : ℕ) (x y : List ℕ) (ops : List Op) → StandFrom at x ops → now + length (applied_from at x ops) ≡ length y
@@ -52,9 +52,14 @@ inverse_stands_from_start x ops standing = inverse_stands 0 0 x (applied_from 0 
 pub inverse_in_order : (x : List ℕ) (ops : List Op) → StandFrom 0 x ops → sorted_ops (inverse_from 0 0 x ops) ≡ inverse_from 0 0 x ops
 inverse_in_order x ops standing = sorted_ops_standing 0 (applied_from 0 x ops) (inverse_from 0 0 x ops) (inverse_stands_from_start x ops standing)
 
+pub inverse_takes_back : (x : List ℕ) (ops : List Op) → StandFrom 0 x ops → applied (applied x ops) (inverse_from 0 0 x ops) ≡ x
+inverse_takes_back x ops standing =
+    ap (λ l. applied (applied_from 0 x l) (inverse_from 0 0 x ops)) (sorted_ops_standing 0 x ops standing)
+    ∙ ap (applied_from 0 (applied_from 0 x ops)) (inverse_in_order x ops standing) ∙ inverse_gives_back x ops standing
+
 -- for any batch without a bad span and without an overlap
 pub inverse_of_gives_back : (x : List ℕ) (ops : List Op) → has_bad_span x ops ≡ false → overlap (sorted_ops ops) ≡ false
     → applied (applied x ops) (inverse_of x ops) ≡ x
 inverse_of_gives_back x ops good apart =
-    let standing = stand_from_start x (sorted_ops ops) (All-sorted_ops (IsGood x) ops (all_good x ops good)) apart in
+    let standing = sorted_ops_stand x ops good apart in
     ap (applied_from 0 (applied x ops)) (inverse_in_order x (sorted_ops ops) standing) ∙ inverse_gives_back x (sorted_ops ops) standing

@@ -10,7 +10,7 @@ use Rattle.text_rules.specs.Edits.{is_bad_span}
 use Rattle.text_rules.proofs.EditLemmas.{span_from_test}
 use Rattle.batch_rules.specs.declared.BatchError.{BatchError}
 use Rattle.batch_rules.specs.declared.BatchError.TheVariants.{Range, Overlap, Limit}
-use Rattle.batch_rules.specs.Batches.{most_units, sorted_ops, has_bad_span, overlap, applied_from, applied, checked_batch, StandFrom, text_units, inverse_from}
+use Rattle.batch_rules.specs.Batches.{most_units, sorted_ops, has_bad_span, overlap, applied_from, applied, checked_batch, StandFrom, FollowFrom, text_units, inverse_from}
 use Rattle.batch_rules.proofs.Order.{All-sorted_ops}
 
 abbrev pub IsGood : List ℕ → Op → Type 0
@@ -35,6 +35,9 @@ stand_from_tests at x op (next ∷ ops) above good apart =
 pub stand_from_start : (x : List ℕ) (ops : List Op) → All (IsGood x) ops → overlap ops ≡ false → StandFrom 0 x ops
 stand_from_start x [] good apart = omega arith
 stand_from_start x (op ∷ ops) good apart = stand_from_tests 0 x op ops (omega arith) good apart
+
+pub sorted_ops_stand : (x : List ℕ) (ops : List Op) → has_bad_span x ops ≡ false → overlap (sorted_ops ops) ≡ false → StandFrom 0 x (sorted_ops ops)
+sorted_ops_stand x ops good apart = stand_from_start x (sorted_ops ops) (All-sorted_ops (IsGood x) ops (all_good x ops good)) apart
 
 -- what an accepted batch is
 pub record IsAccepted (x : List ℕ) (ops sorted : List Op) : Type 0 where
@@ -64,6 +67,11 @@ pub standing_within : (at : ℕ) (x : List ℕ) (ops : List Op) → StandFrom at
 standing_within at x [] standing = standing
 standing_within at x (op ∷ ops) standing =
     omega (arith, standing.0, standing.1, standing_within op.span.end x ops standing.2)
+
+-- ops that stand in a text follow one another
+pub follow_standing : (at : ℕ) (x : List ℕ) (ops : List Op) → StandFrom at x ops → FollowFrom at ops
+follow_standing at x [] standing = tt
+follow_standing at x (op ∷ ops) standing = (standing.0, standing.1, follow_standing op.span.end x ops standing.2)
 
 pub length-kept : (at : ℕ) (x : List ℕ) (op : Op) (ops : List Op) → StandFrom at x (op ∷ ops)
     → length (take (op.span.start - at) (drop at x)) ≡ op.span.start - at

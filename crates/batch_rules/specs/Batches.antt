@@ -1,5 +1,5 @@
 -- A batch of edits: several ops whose spans are all of one text, applied at once.
-use Rattle.std.specs.Prelude.{ℕ, ◌+◌, ◌-◌, ◌^◌, ◌≤◌, ◌==◌, ◌&&◌, ◌||◌, Bool, false, nat_lt, nat_le, if◌then◌else◌, List, [], ◌∷◌, ◌++◌, length, take, drop, sum_by, Result, Ok, Err}
+use Rattle.std.specs.Prelude.{ℕ, ◌+◌, ◌-◌, ◌^◌, ◌≤◌, ◌==◌, ◌&&◌, ◌||◌, Bool, false, nat_lt, nat_le, if◌then◌else◌, List, [], ◌∷◌, ◌++◌, length, take, drop, sum_by, Result, Ok, Err, ⊤}
 use Rattle.std.specs.List.{list_any}
 use Rattle.text_rules.specs.declared.Op.{Op}
 use Rattle.text_rules.specs.Edits.{is_bad_span, edited}
@@ -54,6 +54,11 @@ checked_batch x ops =
 abbrev pub StandFrom : ℕ → List ℕ → List Op → Type 0
 StandFrom at x [] = at ≤ length x
 StandFrom at x (op ∷ ops) = (at ≤ op.span.start) × (op.span.start ≤ op.span.end) × StandFrom op.span.end x ops
+
+-- the same without the text
+abbrev pub FollowFrom : ℕ → List Op → Type 0
+FollowFrom at [] = ⊤
+FollowFrom at (op ∷ ops) = (at ≤ op.span.start) × (op.span.start ≤ op.span.end) × FollowFrom op.span.end ops
 
 -- The ops that take a batch back, where `at` is a place of the old text and `now` the same place of the new one.
 abbrev pub inverse_from : ℕ → ℕ → List ℕ → List Op → List Op

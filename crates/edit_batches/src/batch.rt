@@ -1,0 +1,85 @@
+//! A batch that was checked.
+
+ghost use Rattle.std.specs.Prelude.{◌≡◌, ℕ, ◌+◌, ◌<◌, ◌≤◌, ◌^◌, length, IfOk};
+ghost use Rattle.batch_rules.specs.Batches.{most_units, applied_from, applied, checked_batch, inverse_from, text_units, StandFrom, FollowFrom};
+ghost use Rattle.edit_batches.specs.Outcomes.{Checks};
+
+use crate::checks::{has_bad_span, is_too_long, overlap};
+use crate::inverse::inverse_of;
+use crate::order::sorted_ops;
+use batch_rules::BatchError;
+use std::alloc::{AllocError, Global};
+use std::marker::Model;
+use text_rules::Op;
+use unit_text::Flat;
+
+/// Edits of one text, in their order and without overlap. Contracts see the list of them.
+#[derive(Drop)]
+pub struct Batch {
+    ops: Vec<Op>,
+}
+
+impl Model for Batch {
+    ghost use Rattle.std.specs.Prelude.{List};
+    ghost use Rattle.text_rules.specs.declared.Op.{Op};
+    ghost use Rattle.batch_rules.specs.Batches.{FollowFrom};
+
+    ghost Value = { List Op };
+
+    ghost view = { λ b. b.ops.items };
+
+    ghost invariant = { λ b. FollowFrom 0 b.ops.items };
+}
+
+impl Batch {
+    /// A batch of these edits of the text, in their order. `Range` where a span is none of the text; else `Overlap` where two of them
+    /// overlap; else `Limit` where the new text would be too long. The memory that it takes is taken after `Range`.
+    pub fn checked<F: Flat>(alloc: Global, ops: &[Op], text: &F) -> Result<Batch, BatchError>
+        ensures rule { Checks result (checked_batch (F.units text.now) ops.now) }
+        ensures standing { IfOk result (λ b. StandFrom 0 (F.units text.now) b) }
+        ensures fits { IfOk result (λ b. length (applied_from 0 (F.units text.now) b) ≤ most_units) }
+        ensures texts { IfOk result (λ b. text_units b ≤ most_units) }
+    {
+        if has_bad_span(ops, text) {
+            return Err(BatchError::Range);
+        }
+        let ops = sorted_ops(alloc, ops).map_err(|_| BatchError::Memory)?;
+        if overlap(&ops) {
+            return Err(BatchError::Overlap);
+        }
+        if is_too_long(&ops, text) {
+            return Err(BatchError::Limit);
+        }
+        Ok(Batch { ops })
+    }
+
+    /// The batch that takes this one back, where the text is the one before it. It reads the units that this one takes
+    /// away, and no others.
+    pub fn inverse<F: Flat>(&self, alloc: Global, text: &F) -> Result<Batch, AllocError>
+        requires standing { StandFrom 0 (F.units text.now) self.now }
+        requires fits { length (applied_from 0 (F.units text.now) self.now) ≤ most_units }
+        ensures ops { IfOk result (λ b. b ≡ inverse_from 0 0 (F.units text.now) self.now) }
+        ensures standing { IfOk result (λ b. StandFrom 0 (applied_from 0 (F.units text.now) self.now) b) }
+        ensures back { IfOk result (λ b. applied (applied (F.units text.now) self.now) b ≡ F.units text.now) }
+        ensures texts { IfOk result (λ b. text_units b ≤ length (F.units text.now)) }
+    {
+        let ops = inverse_of(alloc, &self.ops, text)?;
+        Ok(Batch { ops })
+    }
+
+    /// The edits, in their order.
+    pub fn ops(&self) -> &[Op]
+        ensures ops { result.now ≡ self.now }
+        ensures in_order { FollowFrom 0 self.now }
+    {
+        self.ops.as_slice()
+    }
+
+    /// How many units the new texts have together.
+    pub fn text_units(&self) -> u64
+        requires { text_units self.now < 2 ^ 64 }
+        ensures { result ≡ text_units self.now }
+    {
+        self.ops.iter().map(|op| op.text.len()).sum()
+    }
+}

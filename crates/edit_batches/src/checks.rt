@@ -1,0 +1,56 @@
+//! The tests of a batch.
+
+ghost use Rattle.std.specs.Prelude.{◌≡◌, nat_lt, length};
+ghost use Rattle.text_rules.specs.Edits.{is_bad_span};
+ghost use Rattle.batch_rules.specs.Batches.{most_units, has_bad_span, overlap, applied_from, StandFrom};
+
+use text_lengths::Span;
+use text_rules::Op;
+use unit_text::Flat;
+
+/// The most units that a text may have.
+pub const MOST_UNITS: u64 = 0x3FFF_FFFF;
+
+pub(crate) fn has_bad_span<F: Flat>(ops: &[Op], text: &F) -> bool
+    ensures { result ≡ has_bad_span (F.units text.now) ops.now }
+{
+    ops.iter().any(|op| is_bad_span(text, op.span))
+}
+
+fn is_bad_span<F: Flat>(text: &F, span: Span) -> bool
+    ensures { result ≡ is_bad_span (F.units text.now) span }
+{
+    span.start > span.end || !(text.is_place(span.start) && text.is_place(span.end))
+}
+
+/// Whether one of the edits, which are in order, starts below the end of the one before it.
+pub(crate) fn overlap(ops: &[Op]) -> bool
+    ensures { result ≡ overlap ops.now }
+{
+    let mut end = 0;
+    for op in ops {
+        if op.span.start < end {
+            return true;
+        }
+        end = op.span.end;
+    }
+    false
+}
+
+/// Whether the text after the edits would have more units than a text may have.
+pub(crate) fn is_too_long<F: Flat>(ops: &[Op], text: &F) -> bool
+    requires { StandFrom 0 (F.units text.now) ops.now }
+    ensures { result ≡ nat_lt most_units (length (applied_from 0 (F.units text.now) ops.now)) }
+{
+    let mut at = 0;
+    let mut room = MOST_UNITS;
+    for op in ops {
+        let kept = op.span.start - at;
+        if kept > room || op.text.len() > room - kept {
+            return true;
+        }
+        room -= kept + op.text.len();
+        at = op.span.end;
+    }
+    text.len() - at > room
+}

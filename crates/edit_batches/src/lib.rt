@@ -1,0 +1,15 @@
+//! Batches of edits: checked against a text, put in their order, and the batch that takes them back.
+#![tactic(auto)]
+
+mod batch;
+mod checks;
+mod inverse;
+mod order;
+
+pub use batch::Batch;
+pub use batch_rules::BatchError;
+pub use checks::MOST_UNITS;
+pub use text_rules::Op;
+
+#[cfg(test)]
+mod tests;
