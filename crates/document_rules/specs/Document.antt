@@ -1,21 +1,27 @@
--- The flat document: one list of units, changed by the rule of each call.
-use Rattle.std.specs.Prelude.{ℕ, ◌+◌, ◌-◌, ◌^◌, nat_lt, nat_le, ◌||◌, if◌then◌else◌, List, length, take, drop, Option, Some, None, Result, Ok, Err}
+-- The flat document: one list of units, changed by the rule of each call. What can be undone is kept as whole texts.
+use Rattle.std.specs.Prelude.{ℕ, ◌+◌, ◌-◌, ◌^◌, nat_lt, nat_le, if◌then◌else◌, List, [], ◌∷◌, length, take, drop, Option, Some, None, Result, Ok, Err}
 use Rattle.text_lengths.specs.declared.Position.{Position}
 use Rattle.text_lengths.specs.declared.Span.{Span}
 use Rattle.unit_text.specs.Units.{is_place}
 use Rattle.text_rules.specs.Positions.{position_of, offset_of, is_position}
 use Rattle.text_rules.specs.declared.Op.{Op}
 use Rattle.text_rules.specs.Lines.{Line, line_at, lines_of}
-use Rattle.text_rules.specs.Edits.{is_bad_span, edited}
+use Rattle.text_rules.specs.Edits.{is_bad_span}
+use Rattle.batch_rules.specs.declared.BatchError.{BatchError}
+use Rattle.batch_rules.specs.declared.BatchError.TheVariants as refused
+use Rattle.batch_rules.specs.Batches.{most_units, checked_batch, applied}
+use Rattle.edit_stack.specs.Stack.{Step, Stack, empty_stack, pushed, stopped, undone, redone}
 use Rattle.document_rules.specs.declared.ModelError.{ModelError}
-use Rattle.document_rules.specs.declared.ModelError.TheVariants.{Range, Limit}
-
--- the most units that a text may have
-abbrev pub most_units : ℕ
-most_units = 2 ^ 30 - 1
+use Rattle.document_rules.specs.declared.ModelError.TheVariants.{Range, Overlap, Limit, Memory}
 
 abbrev pub greatest_version : ℕ
 greatest_version = 2 ^ 63 - 1
+
+-- one accepted batch: its ops in their order, and the whole text before and after it
+pub record FlatChange : Type 0 where
+  pub before : List ℕ
+  pub ops : List Op
+  pub after : List ℕ
 
 pub record FlatState : Type 0 where
   pub units : List ℕ
@@ -23,23 +29,76 @@ pub record FlatState : Type 0 where
   pub version : ℕ
   -- the version at which the text was last as it is now
   pub alternative : ℕ
+  -- what can be undone and redone
+  pub history : Stack FlatChange
 
 -- a new document with this text
 abbrev pub new_document : List ℕ → FlatState
-new_document units = record { units = units; version = 1; alternative = 1 }
+new_document units = record { units = units; version = 1; alternative = 1; history = empty_stack }
 
 abbrev pub flat_open : List ℕ → Result FlatState ModelError
 flat_open text = if nat_lt most_units (length text) then Err Limit else Ok (new_document text)
 
--- the next version, with this text
-abbrev pub changed_text : FlatState → List ℕ → FlatState
-changed_text f units = record f { units = units; version = f.version + 1; alternative = f.version + 1 }
+-- the next version, whose text is that after the batch
+abbrev pub after_batch : FlatState → List Op → List Op → FlatState
+after_batch f ops sorted = record f {
+  units = applied f.units ops;
+  version = f.version + 1;
+  alternative = f.version + 1;
+  history = pushed f.history (record { before = f.units; ops = sorted; after = applied f.units ops }) f.alternative (f.version + 1);
+}
 
-abbrev pub flat_edit : FlatState → Op → Result FlatState ModelError
-flat_edit f op =
-    if is_bad_span f.units op.span then Err Range else
-    (if nat_lt most_units (length (edited f.units op)) || nat_le greatest_version f.version then Err Limit
-    else Ok (changed_text f (edited f.units op)))
+abbrev pub error_of : BatchError → ModelError
+error_of refused.Range = Range
+error_of refused.Overlap = Overlap
+error_of refused.Limit = Limit
+error_of refused.Memory = Memory
+
+abbrev pub edited_by : FlatState → List Op → Result (List Op) BatchError → Result FlatState ModelError
+edited_by f ops (Err e) = Err (error_of e)
+edited_by f ops (Ok sorted) = if nat_le greatest_version f.version then Err Limit else Ok (after_batch f ops sorted)
+
+-- a batch of edits at once
+abbrev pub flat_edit : FlatState → List Op → Result FlatState ModelError
+flat_edit f ops = edited_by f ops (checked_batch f.units ops)
+
+-- the next edit begins a step of undo
+abbrev pub flat_stop : FlatState → FlatState
+flat_stop f = record f { history = stopped f.history }
+
+-- the whole text before the first of these changes; the text now, where there are none
+abbrev pub text_before : List ℕ → List FlatChange → List ℕ
+text_before now [] = now
+text_before now (change ∷ changes) = change.before
+
+-- the whole text after the last of them
+abbrev pub text_after : List ℕ → List FlatChange → List ℕ
+text_after now [] = now
+text_after now (change ∷ changes) = text_after change.after changes
+
+-- the next version, with the text and the alternative version of another moment
+abbrev pub returned : FlatState → List ℕ → ℕ → Stack FlatChange → FlatState
+returned f units alternative history =
+    record f { units = units; version = f.version + 1; alternative = alternative; history = history }
+
+abbrev pub unless_last_version : FlatState → FlatState → Result (Option FlatState) ModelError
+unless_last_version f new = if nat_le greatest_version f.version then Err Limit else Ok (Some new)
+
+abbrev pub undone_step : FlatState → List (Step FlatChange) → Result (Option FlatState) ModelError
+undone_step f [] = Ok None
+undone_step f (step ∷ steps) = unless_last_version f (returned f (text_before f.units step.changes) step.alt_before (undone f.history))
+
+-- back to the text before the last step; nothing where there is none
+abbrev pub flat_undo : FlatState → Result (Option FlatState) ModelError
+flat_undo f = undone_step f f.history.undo
+
+abbrev pub redone_step : FlatState → List (Step FlatChange) → Result (Option FlatState) ModelError
+redone_step f [] = Ok None
+redone_step f (step ∷ steps) = unless_last_version f (returned f (text_after f.units step.changes) step.alt_after (redone f.history))
+
+-- on to the text after the step that was undone last; nothing where there is none
+abbrev pub flat_redo : FlatState → Result (Option FlatState) ModelError
+flat_redo f = redone_step f f.history.redo
 
 abbrev pub content_of : Option Line → Result (List ℕ) ModelError
 content_of None = Err Range

@@ -1,18 +1,59 @@
 -- Worked examples of the rules.
-use Rattle.std.specs.Prelude.{◌≡◌, Ok, Err, Some, None, codes, false, refl}
-use Rattle.document_rules.specs.declared.ModelError.TheVariants.{Range}
-use Rattle.document_rules.specs.Document.{new_document, flat_edit, flat_line, flat_value, flat_position, flat_offset, flat_line_count, greatest_version}
-use Rattle.document_rules.specs.declared.ModelError.TheVariants.{Limit}
+use Rattle.std.specs.Prelude.{◌≡◌, ℕ, List, [], ◌∷◌, Ok, Err, Some, None, codes, false, true, refl}
+use Rattle.text_rules.specs.declared.Op.{Op}
+use Rattle.document_rules.specs.declared.ModelError.TheVariants.{Range, Overlap, Limit}
+use Rattle.document_rules.specs.Document.{FlatState, new_document, after_batch, flat_edit, flat_undo, flat_redo, flat_line, flat_value, flat_position, flat_offset, flat_line_count, greatest_version}
 
-an_edit_over_a_break : flat_edit (new_document (codes "ab\ncd")) (record { span = record { start = 1; end = 4 }; text = codes "X"; force = false })
-    ≡ Ok (record { units = codes "aXd"; version = 2; alternative = 2 })
+abbrev op : ℕ → ℕ → List ℕ → Op
+op start end text = record { span = record { start = start; end = end }; text = text; force = false }
+
+an_edit_over_a_break : flat_edit (new_document (codes "ab\ncd")) (op 1 4 (codes "X") ∷ [])
+    ≡ Ok (record {
+      units = codes "aXd";
+      version = 2;
+      alternative = 2;
+      history = record {
+        undo = record { changes = record { before = codes "ab\ncd"; ops = op 1 4 (codes "X") ∷ []; after = codes "aXd" } ∷ []; alt_before = 1; alt_after = 2 } ∷ [];
+        redo = [];
+        is_open = true;
+      };
+    })
 an_edit_over_a_break = refl
 
-an_edit_past_the_end : flat_edit (new_document (codes "ab")) (record { span = record { start = 1; end = 3 }; text = codes "X"; force = false }) ≡ Err Range
+an_edit_past_the_end : flat_edit (new_document (codes "ab")) (op 1 3 (codes "X") ∷ []) ≡ Err Range
 an_edit_past_the_end = refl
 
-an_edit_at_the_last_version : flat_edit (record { units = codes "ab"; version = greatest_version; alternative = 1 }) (record { span = record { start = 1; end = 2 }; text = codes "X"; force = false }) ≡ Err Limit
+two_edits_that_overlap : flat_edit (new_document (codes "abcde")) (op 1 4 [] ∷ op 3 3 [] ∷ []) ≡ Err Overlap
+two_edits_that_overlap = refl
+
+an_edit_at_the_last_version : flat_edit (record (new_document (codes "ab")) { version = greatest_version }) (op 1 2 (codes "X") ∷ []) ≡ Err Limit
 an_edit_at_the_last_version = refl
+
+-- "a", after an edit has put "b" behind it
+abbrev one_edit : FlatState
+one_edit = after_batch (new_document (codes "a")) (op 1 1 (codes "b") ∷ []) (op 1 1 (codes "b") ∷ [])
+
+an_undo_goes_back_to_the_old_text : flat_undo one_edit
+    ≡ Ok (Some (record { units = codes "a"; version = 3; alternative = 1; history = record { undo = []; redo = one_edit.history.undo; is_open = false } }))
+an_undo_goes_back_to_the_old_text = refl
+
+a_redo_makes_the_step_again : flat_redo (record { units = codes "a"; version = 3; alternative = 1; history = record { undo = []; redo = one_edit.history.undo; is_open = false } })
+    ≡ Ok (Some (record { units = codes "ab"; version = 4; alternative = 2; history = record { undo = one_edit.history.undo; redo = []; is_open = false } }))
+a_redo_makes_the_step_again = refl
+
+-- two edits without a stop are one step
+abbrev two_edits : FlatState
+two_edits = after_batch one_edit (op 2 2 (codes "c") ∷ []) (op 2 2 (codes "c") ∷ [])
+
+an_undo_takes_back_the_whole_step : flat_undo two_edits
+    ≡ Ok (Some (record { units = codes "a"; version = 4; alternative = 1; history = record { undo = []; redo = two_edits.history.undo; is_open = false } }))
+an_undo_takes_back_the_whole_step = refl
+
+no_undo_at_the_last_version : flat_undo (record one_edit { version = greatest_version }) ≡ Err Limit
+no_undo_at_the_last_version = refl
+
+nothing_to_undo : flat_undo (new_document (codes "ab")) ≡ Ok None
+nothing_to_undo = refl
 
 the_second_line : flat_line (new_document (codes "ab\ncd")) 2 ≡ Ok (codes "cd")
 the_second_line = refl

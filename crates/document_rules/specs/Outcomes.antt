@@ -1,6 +1,6 @@
 -- What the answer of a call says, by the rule that the call follows. Want of memory may take the place of any answer,
 -- and then nothing changed.
-use Rattle.std.specs.Prelude.{◌≡◌, ℕ, ◌⊎◌, List, ◌++◌, Result, Ok, Err, ⊤}
+use Rattle.std.specs.Prelude.{◌≡◌, ℕ, ◌⊎◌, Bool, true, false, List, ◌++◌, Option, Some, None, Result, Ok, Err, ⊤}
 use Rattle.document_rules.specs.declared.ModelError.{ModelError}
 use Rattle.document_rules.specs.declared.ModelError.TheVariants.{Memory}
 
@@ -8,6 +8,12 @@ use Rattle.document_rules.specs.declared.ModelError.TheVariants.{Memory}
 abbrev pub Changes : {S : Type 0} → Result ⊤ ModelError → S → S → Result S ModelError → Type 0
 Changes (Ok x) old new rule = rule ≡ Ok new
 Changes (Err e) old new rule = (new ≡ old) × ((e ≡ Memory) ⊎ (rule ≡ Err e))
+
+-- a call that answers whether there was anything to do, and made the rule's new value if there was
+abbrev pub Moves : {S : Type 0} → Result Bool ModelError → S → S → Result (Option S) ModelError → Type 0
+Moves (Ok true) old new rule = rule ≡ Ok (Some new)
+Moves (Ok false) old new rule = (rule ≡ Ok None) × (new ≡ old)
+Moves (Err e) old new rule = (new ≡ old) × ((e ≡ Memory) ⊎ (rule ≡ Err e))
 
 -- an accepted call appends the rule's answer, and a refused one leaves what was there, for the rule's reason
 abbrev pub Appends : Result ⊤ ModelError → List ℕ → List ℕ → Result (List ℕ) ModelError → Type 0

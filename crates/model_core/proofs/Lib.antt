@@ -1,1 +1,5 @@
 pub mod LineLemmas
+pub mod Histories
+pub mod Turns
+pub mod Editing
+pub mod Stepping

@@ -1,6 +1,7 @@
-//! The document: a text that is changed by edits, and its versions.
+//! The document: a text that is changed by edits, its versions, and what can be undone.
 #![tactic(auto)]
 
+mod change;
 mod model;
 
 pub use document_rules::ModelError;

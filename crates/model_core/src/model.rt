@@ -1,44 +1,54 @@
 //! The document and its calls.
 
 ghost use Rattle.std.specs.Prelude.{◌≡◌, [], length};
+ghost use Rattle.std.specs.List.{All};
 ghost use Rattle.unit_text.specs.Units.{IsPaired};
 ghost use Rattle.text_rules.specs.Edits.{is_bad_span};
-ghost use Rattle.document_rules.specs.Outcomes.{Changes, Appends};
-ghost use Rattle.document_rules.specs.Document.{new_document, flat_open, flat_edit, flat_line, flat_value, flat_position, flat_offset, flat_line_count};
+ghost use Rattle.document_rules.specs.Outcomes.{Changes, Moves, Appends};
+ghost use Rattle.document_rules.specs.Document.{new_document, flat_open, flat_edit, flat_stop, flat_undo, flat_redo, flat_line, flat_value, flat_position, flat_offset, flat_line_count, error_of};
 
+use crate::change::{Change, Way, apply, make_again, reserve_for, take_back};
 use document_rules::ModelError;
+use edit_batches::{Batch, BatchError, MOST_UNITS};
+use edit_stack::EditStack;
 use std::alloc::Global;
 use std::sync::ledger::Ledger;
 use steps::Steps;
 use text_buffer::TextBuffer;
-use text_lengths::{GREATEST_NUMBER, Position, Span};
+use text_lengths::{Position, Span, raised};
 use text_rules::Op;
 use unit_text::Flat;
 
-/// The most units that a text may have.
-pub const MOST_UNITS: u64 = 0x3FFF_FFFF;
-
-/// A document: its text, and which version of it that is.
+/// A document: its text, which version of it that is, and what can be undone and redone.
 #[derive(Drop)]
 pub struct Model {
     alloc: Global,
     text: TextBuffer,
     version: u64,
     alternative: u64,
+    history: EditStack<Change>,
 }
 
 impl std::marker::Model for Model {
     ghost use Rattle.std.specs.Prelude.{◌≤◌, length};
-    ghost use Rattle.document_rules.specs.Document.{most_units, greatest_version};
+    ghost use Rattle.batch_rules.specs.Batches.{most_units};
+    ghost use Rattle.document_rules.specs.Document.{greatest_version};
     ghost use Rattle.model_core.specs.State.{ModelState};
+    ghost use Rattle.model_core.specs.History.{history_of, IsHistory};
 
     ghost Value = { ModelState };
 
     ghost view = { λ m. record {
-      document = record { units = m.text.units; version = m.version; alternative = m.alternative };
+      document = record {
+        units = m.text.units;
+        version = m.version;
+        alternative = m.alternative;
+        history = history_of m.text.units m.history.stack;
+      };
     } };
 
-    ghost invariant = { λ m. (length m.text.units ≤ most_units) × (m.version ≤ greatest_version) };
+    ghost invariant = { λ m. (length m.text.units ≤ most_units) × (m.version ≤ greatest_version)
+        × IsHistory m.text.units m.history.stack };
 }
 
 impl Model {
@@ -51,6 +61,7 @@ impl Model {
             text: TextBuffer::new(alloc),
             version: 1,
             alternative: 1,
+            history: EditStack::new(alloc),
         }
     }
 
@@ -65,30 +76,77 @@ impl Model {
         self.text = text;
         self.version = 1;
         self.alternative = 1;
+        self.history = EditStack::new(self.alloc);
         Ok(())
     }
 
-    /// Carries out one edit, which makes the next version. `Range` where the span is none of the text; else `Limit`
-    /// where the new text or the version would pass its limit.
-    pub fn edit(&mut self, op: &Op) -> Result<(), ModelError>
+    /// Carries out the edits at once, which makes the next version. `Range` where a span is none of the text; else
+    /// `Overlap` where two spans overlap; else `Limit` where the new text or the version would pass its limit. All
+    /// memory is taken before the first change.
+    pub fn edit(&mut self, ops: &[Op]) -> Result<(), ModelError>
         ensures document { Changes result self.old.document self.new.document
-            (flat_edit self.old.document op.now) }
-        ensures paired { IsPaired self.old.document.units → IsPaired op.now.text → IsPaired self.new.document.units }
+            (flat_edit self.old.document ops.now) }
+        ensures paired { IsPaired self.old.document.units → All (λ op. IsPaired op.text) ops.now
+            → IsPaired self.new.document.units }
     {
-        if is_bad_span(&self.text, op.span) {
-            return Err(ModelError::Range);
-        }
-        let kept = self.text.len() - (op.span.end - op.span.start);
-        if op.text.len() > MOST_UNITS - kept || self.version == GREATEST_NUMBER {
-            return Err(ModelError::Limit);
-        }
-        self.text
-            .reserve(1, op.text.len())
+        let batch = Batch::checked(self.alloc, ops, &self.text).map_err(error_of)?;
+        let version = raised(self.version, 1).ok_or(ModelError::Limit)?;
+        let inverse = batch
+            .inverse(self.alloc, &self.text)
             .map_err(|_| ModelError::Memory)?;
-        self.text.replace(op.span, op.text.as_slice());
-        self.version += 1;
-        self.alternative = self.version;
+        self.history.reserve().map_err(|_| ModelError::Memory)?;
+        self.text
+            .reserve(batch.ops().len() as u64, batch.text_units())
+            .map_err(|_| ModelError::Memory)?;
+        apply(&mut self.text, batch.ops());
+        self.history
+            .push(Change { batch, inverse }, self.alternative, version);
+        self.version = version;
+        self.alternative = version;
         Ok(())
+    }
+
+    /// The next edit begins a step of undo.
+    pub fn stop(&mut self)
+        ensures { self.new.document ≡ flat_stop self.old.document }
+    {
+        self.history.stop();
+    }
+
+    /// Goes back to the text before the last step, as the next version, and answers whether there was one. `Limit`
+    /// where the version would pass its limit. All memory is taken before the first change.
+    pub fn undo(&mut self) -> Result<bool, ModelError>
+        ensures { Moves result self.old.document self.new.document (flat_undo self.old.document) }
+    {
+        let Some(step) = self.history.undo_next() else {
+            return Ok(false);
+        };
+        let version = raised(self.version, 1).ok_or(ModelError::Limit)?;
+        let changes = step.changes();
+        reserve_for(&mut self.text, changes, Way::Back).map_err(|_| ModelError::Memory)?;
+        take_back(&mut self.text, changes);
+        self.version = version;
+        self.alternative = step.alt_before();
+        self.history.undone();
+        Ok(true)
+    }
+
+    /// Goes on to the text after the step that was undone last, as the next version, and answers whether there was one.
+    /// `Limit` where the version would pass its limit. All memory is taken before the first change.
+    pub fn redo(&mut self) -> Result<bool, ModelError>
+        ensures { Moves result self.old.document self.new.document (flat_redo self.old.document) }
+    {
+        let Some(step) = self.history.redo_next() else {
+            return Ok(false);
+        };
+        let version = raised(self.version, 1).ok_or(ModelError::Limit)?;
+        let changes = step.changes();
+        reserve_for(&mut self.text, changes, Way::On).map_err(|_| ModelError::Memory)?;
+        make_again(&mut self.text, changes);
+        self.version = version;
+        self.alternative = step.alt_after();
+        self.history.redone();
+        Ok(true)
     }
 
     /// How many units the text has.
@@ -153,4 +211,15 @@ fn is_bad_span(text: &TextBuffer, span: Span) -> bool
     ensures { result ≡ is_bad_span text.now.units span }
 {
     span.start > span.end || !(text.is_place(span.start) && text.is_place(span.end))
+}
+
+fn error_of(error: BatchError) -> ModelError
+    ensures { result ≡ error_of error }
+{
+    match error {
+        BatchError::Range => ModelError::Range,
+        BatchError::Overlap => ModelError::Overlap,
+        BatchError::Limit => ModelError::Limit,
+        BatchError::Memory => ModelError::Memory,
+    }
 }

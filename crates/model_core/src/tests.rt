@@ -15,11 +15,27 @@ fn open_edit_and_line(rt: HostRuntime) -> Result<(), Fail> {
         text: Units::copy_of(rt.alloc(), &[88])?,
         force: false,
     };
-    model.edit(&op)?;
+    model.edit(&[op])?;
     assert_eq!(rt; model.versions(), (2, 2));
     let mut line = Vec::new(rt.alloc());
     model.line(1, &mut line)?;
     assert_eq!(rt; line.as_slice(), [97, 88, 100].as_slice());
+    Ok(())
+}
+
+#[test]
+fn undo_and_redo(rt: HostRuntime) -> Result<(), Fail> {
+    let mut model = Model::new(rt.alloc());
+    let op = Op {
+        span: Span { start: 0, end: 0 },
+        text: Units::copy_of(rt.alloc(), &[97])?,
+        force: false,
+    };
+    model.edit(&[op])?;
+    let undone = model.undo()?;
+    assert_eq!(rt; (undone, model.len()), (true, 0));
+    let redone = model.redo()?;
+    assert_eq!(rt; (redone, model.len()), (true, 1));
     Ok(())
 }
 

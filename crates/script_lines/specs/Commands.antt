@@ -10,7 +10,7 @@ use Rattle.script_lines.specs.declared.op.Place.TheVariants.{At, InRange}
 use Rattle.script_lines.specs.Reading.{◌>>=◌}
 use Rattle.script_lines.specs.Fields.{has_only, number_at, string_at, text_at, span_at, positions_at, position_in, flag_at}
 use Rattle.script_lines.specs.declared.command.Command.{Command}
-use Rattle.script_lines.specs.declared.command.Command.TheVariants.{Open, Edit, Size, Line, Value, Offset, Position}
+use Rattle.script_lines.specs.declared.command.Command.TheVariants.{Open, Edit, Undo, Redo, Stop, Size, Version, Line, Value, Offset, Position}
 
 -- `{"cmd":"open","text":TEXT}`
 abbrev pub open_in : Data → Option Command
@@ -34,19 +34,26 @@ op_in d =
     if has_only (codes "at" ∷ codes "text" ∷ codes "force" ∷ []) d || has_only (codes "range" ∷ codes "text" ∷ codes "force" ∷ []) d
     then op_of d else None
 
-abbrev pub one_op_in : Items → Option LineOp
-one_op_in no_items = None
-one_op_in (item d no_items) = op_in d
-one_op_in (item d (item e ds)) = None
+abbrev pub ops_in : Items → Option (List LineOp)
+ops_in no_items = Some []
+ops_in (item d ds) = do
+  op ← op_in d
+  ops ← ops_in ds
+  Some (op ∷ ops)
 
--- `{"cmd":"edit","ops":[OP]}`
+-- one op or more
+abbrev pub some_ops_in : Items → Option (List LineOp)
+some_ops_in no_items = None
+some_ops_in (item d ds) = ops_in (item d ds)
+
+-- `{"cmd":"edit","ops":[OP,..]}`
 abbrev pub edit_in : Data → Option Command
 edit_in d = if has_only (codes "cmd" ∷ codes "ops" ∷ []) d
-    then option_map Edit (option_and_then one_op_in (option_and_then as_array (get (codes "ops") d))) else None
+    then option_map Edit (option_and_then some_ops_in (option_and_then as_array (get (codes "ops") d))) else None
 
--- `{"cmd":"size"}`
-abbrev pub size_in : Data → Option Command
-size_in d = if has_only (codes "cmd" ∷ []) d then Some Size else None
+-- `{"cmd":NAME}`, for the command of that name
+abbrev pub bare_in : Command → Data → Option Command
+bare_in command d = if has_only (codes "cmd" ∷ []) d then Some command else None
 
 -- `{"cmd":"line","n":NUMBER}`
 abbrev pub line_in : Data → Option Command
@@ -65,18 +72,30 @@ abbrev pub position_command_in : Data → Option Command
 position_command_in d =
     if has_only (codes "cmd" ∷ codes "offset" ∷ []) d then option_map Position (number_at (codes "offset") d) else None
 
+abbrev pub history_named : List ℕ → Option Command
+history_named name =
+    if bytes_eq name (codes "undo") then Some Undo else
+    (if bytes_eq name (codes "redo") then Some Redo else
+    (if bytes_eq name (codes "stop") then Some Stop else None))
+
 abbrev pub query_named : List ℕ → Data → Option Command
 query_named name d =
-    if bytes_eq name (codes "size") then size_in d else
+    if bytes_eq name (codes "size") then bare_in Size d else
+    (if bytes_eq name (codes "version") then bare_in Version d else
     (if bytes_eq name (codes "line") then line_in d else
     (if bytes_eq name (codes "value") then value_in d else
     (if bytes_eq name (codes "offset") then offset_in d else
-    (if bytes_eq name (codes "position") then position_command_in d else None))))
+    (if bytes_eq name (codes "position") then position_command_in d else None)))))
+
+-- the command without fields, or else a query
+abbrev pub bare_or_query : Option Command → List ℕ → Data → Option Command
+bare_or_query (Some command) name d = bare_in command d
+bare_or_query None name d = query_named name d
 
 abbrev pub command_named : List ℕ → Data → Option Command
 command_named name d =
     if bytes_eq name (codes "open") then open_in d else
-    (if bytes_eq name (codes "edit") then edit_in d else query_named name d)
+    (if bytes_eq name (codes "edit") then edit_in d else bare_or_query (history_named name) name d)
 
 abbrev pub command_in : Data → Option Command
 command_in d = option_and_then (λ name. command_named name d) (string_at (codes "cmd") d)

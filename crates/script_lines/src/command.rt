@@ -5,12 +5,12 @@ ghost use Rattle.std.specs.Str.{is_utf8};
 ghost use Rattle.serde_json.specs.Read.{read};
 ghost use Rattle.serde_json.specs.View.{view, items_view};
 ghost use Rattle.script_lines.specs.Reading.{Reads};
-ghost use Rattle.script_lines.specs.Commands.{open_in, place_in, op_of, op_in, one_op_in, edit_in, size_in, line_in, value_in, offset_in, position_command_in, query_named, command_named, command_in, command_of};
+ghost use Rattle.script_lines.specs.Commands.{open_in, place_in, op_of, op_in, some_ops_in, edit_in, bare_in, line_in, value_in, offset_in, position_command_in, history_named, query_named, command_named, command_in, command_of};
 
 use crate::fields::{
     LineFault, flag_at, has_only, number_at, position_in, positions_at, span_at, text_at,
 };
-use crate::op::{LineOp, Place};
+use crate::op::{LineOp, LineOps, Place};
 use serde_json::Value;
 use serde_json::error::Category;
 use std::alloc::Global;
@@ -23,9 +23,17 @@ pub enum Command {
     /// Puts a new document in place of the old one.
     Open { text: Units },
     /// Changes the text.
-    Edit { op: LineOp },
+    Edit { ops: LineOps },
+    /// Goes back to the text before the last step.
+    Undo,
+    /// Goes on to the text after the step that was undone last.
+    Redo,
+    /// Lets the next edit begin a step.
+    Stop,
     /// Asks how many units and lines the text has.
     Size,
+    /// Asks for the version, and the version at which the text was last as it is now.
+    Version,
     /// Asks for the content of the line of this number, counted from 1.
     Line { n: u64 },
     /// Asks for the units of the span.
@@ -76,14 +84,35 @@ fn command_named(alloc: Global, name: &str, value: &Value) -> Result<Command, Li
     if name == "edit" {
         return edit_in(alloc, value);
     }
-    query_named(name, value)
+    match history_named(name) {
+        Some(command) => bare_in(value, command),
+        None => query_named(name, value),
+    }
+}
+
+fn history_named(name: &str) -> Option<Command>
+    ensures { result ≡ history_named name.now }
+{
+    if name == "undo" {
+        return Some(Command::Undo);
+    }
+    if name == "redo" {
+        return Some(Command::Redo);
+    }
+    if name == "stop" {
+        return Some(Command::Stop);
+    }
+    None
 }
 
 fn query_named(name: &str, value: &Value) -> Result<Command, LineFault>
     ensures { Reads result (query_named name.now (view value.now)) }
 {
     if name == "size" {
-        return size_in(value);
+        return bare_in(value, Command::Size);
+    }
+    if name == "version" {
+        return bare_in(value, Command::Version);
     }
     if name == "line" {
         return line_in(value);
@@ -118,20 +147,22 @@ fn edit_in(alloc: Global, value: &Value) -> Result<Command, LineFault>
     }
     let field = value.get("ops").ok_or(LineFault::Syntax)?;
     let ops = field.as_array().ok_or(LineFault::Syntax)?;
-    let op = one_op_in(alloc, ops.as_slice())?;
-    Ok(Command::Edit { op })
+    let ops = some_ops_in(alloc, ops.as_slice())?;
+    Ok(Command::Edit { ops })
 }
 
-fn one_op_in(alloc: Global, ops: &[Value]) -> Result<LineOp, LineFault>
-    ensures { Reads result (one_op_in (items_view ops.now)) }
+fn some_ops_in(alloc: Global, values: &[Value]) -> Result<LineOps, LineFault>
+    ensures { Reads result (some_ops_in (items_view values.now)) }
 {
-    let Some((only, others)) = ops.split_first() else {
-        return Err(LineFault::Syntax);
-    };
-    if !others.is_empty() {
+    if values.is_empty() {
         return Err(LineFault::Syntax);
     }
-    op_in(alloc, only)
+    let mut ops = Vec::with_capacity(alloc, values.len()).map_err(|_| LineFault::Memory)?;
+    for value in values {
+        let op = op_in(alloc, value)?;
+        ops.push(op).map_err(|_| LineFault::Memory)?;
+    }
+    Ok(LineOps::from_vec(ops))
 }
 
 fn op_in(alloc: Global, value: &Value) -> Result<LineOp, LineFault>
@@ -163,13 +194,13 @@ fn place_in(value: &Value) -> Result<Place, LineFault>
     Ok(Place::InRange(start, end))
 }
 
-fn size_in(value: &Value) -> Result<Command, LineFault>
-    ensures { Reads result (size_in (view value.now)) }
+fn bare_in(value: &Value, command: Command) -> Result<Command, LineFault>
+    ensures { Reads result (bare_in command (view value.now)) }
 {
     if !has_only(value, &["cmd"]) {
         return Err(LineFault::Syntax);
     }
-    Ok(Command::Size)
+    Ok(command)
 }
 
 fn line_in(value: &Value) -> Result<Command, LineFault>

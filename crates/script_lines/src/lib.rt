@@ -11,6 +11,6 @@ mod short;
 pub use command::{Command, command_of};
 pub use fields::LineFault;
 pub use long::{long_begin, long_end, long_mark, long_number, long_text};
-pub use op::{LineOp, Place};
+pub use op::{LineOp, LineOps, Place};
 pub use reason::Refusal;
 pub use short::{Short, refusal};

@@ -2,3 +2,4 @@ pub mod CutLemmas
 pub mod LedLemmas
 pub mod ServeLemmas
 pub mod RunLemmas
+pub mod OpLemmas

@@ -1,8 +1,12 @@
 -- The bytes of a reply.
-use Rattle.std.specs.Prelude.{◌≡◌, ℕ, ◌⊎◌, List, [], Result, Ok, Err, ⊤}
+use Rattle.std.specs.Prelude.{◌≡◌, ℕ, ◌⊎◌, Bool, true, false, List, [], Option, Some, None, Result, Ok, Err, ⊤}
+use Rattle.text_rules.specs.declared.Op.{Op}
+use Rattle.std.specs.declared.vec.Vec.{Vec}
+use Rattle.std.specs.declared.alloc.Global.{Global}
 use Rattle.document_rules.specs.declared.ModelError.{ModelError}
+use Rattle.document_rules.specs.declared.ModelError.TheVariants.{Range, Memory}
 use Rattle.document_rules.specs.Document.{FlatState}
-use Rattle.script_lines.specs.Replies.{text_reply, refusal_reply}
+use Rattle.script_lines.specs.Replies.{none_reply, text_reply, refusal_reply}
 use Rattle.script_runner.specs.declared.reply.Reply.{Reply}
 use Rattle.script_runner.specs.declared.reply.Reply.TheVariants.{Nothing, Short, Long}
 use Rattle.script_runner.specs.Step.{refusal_of, change_reply, memory_reply}
@@ -16,6 +20,17 @@ bytes_of (Long bytes) = bytes.items
 abbrev pub change_answer : Result ⊤ ModelError → FlatState → List ℕ
 change_answer (Ok x) f = change_reply f
 change_answer (Err e) f = refusal_reply (refusal_of e)
+
+-- the reply to a change for which there may be nothing to do
+abbrev pub move_answer : Result Bool ModelError → FlatState → List ℕ
+move_answer (Ok true) f = change_reply f
+move_answer (Ok false) f = none_reply
+move_answer (Err e) f = refusal_reply (refusal_of e)
+
+-- these are the ops, or they are refused for the range of one of them; or memory is wanting
+abbrev pub AreFound : Result (Vec Op Global) ModelError → Option (List Op) → Type 0
+AreFound (Ok ops) rule = rule ≡ Some ops.items
+AreFound (Err e) rule = (e ≡ Memory) ⊎ ((e ≡ Range) × (rule ≡ None))
 
 abbrev pub TextOrMemory : List ℕ → List ℕ → Type 0
 TextOrMemory units reply = (reply ≡ text_reply units) ⊎ (reply ≡ memory_reply)

@@ -1,7 +1,7 @@
 -- Worked examples of the definitions.
 use Rattle.std.specs.Prelude.{◌≡◌, ◌∷◌, [], codes, refl, false}
 use Rattle.document_rules.specs.Document.{new_document}
-use Rattle.script_lines.specs.declared.command.Command.TheVariants.{Open, Edit, Size, Line, Value, Offset}
+use Rattle.script_lines.specs.declared.command.Command.TheVariants.{Open, Edit, Undo, Version, Size, Line, Value, Offset}
 use Rattle.script_lines.specs.declared.command.Command.TheVariants as command
 use Rattle.script_lines.specs.declared.op.Place.TheVariants.{At, InRange}
 use Rattle.std.specs.Fmt.{digits}
@@ -26,10 +26,21 @@ opened : step (new_document []) (Open (codes "ab\ncd")) ≡ (codes "ok 1 5 2\n",
 unfolding digits
 opened = refl
 
-edited_over_a_break : step (new_document (codes "ab\ncd")) (Edit (record { place = At (record { start = 1; end = 4 }); text = codes "X"; force = false }))
-    ≡ (codes "ok 2 3 1\n", record { units = codes "aXd"; version = 2; alternative = 2 })
+edited_over_a_break : (step (new_document (codes "ab\ncd")) (Edit (record { place = At (record { start = 1; end = 4 }); text = codes "X"; force = false } ∷ []))).0 ≡ codes "ok 2 3 1\n"
 unfolding digits
 edited_over_a_break = refl
+
+two_edits_that_overlap : step (new_document (codes "abcde"))
+    (Edit (record { place = At (record { start = 1; end = 4 }); text = []; force = false } ∷ record { place = At (record { start = 3; end = 3 }); text = []; force = false } ∷ []))
+    ≡ (codes "! overlap\n", new_document (codes "abcde"))
+two_edits_that_overlap = refl
+
+nothing_to_undo : step (new_document (codes "ab")) Undo ≡ (codes "ok none\n", new_document (codes "ab"))
+nothing_to_undo = refl
+
+versions_of_a_new_document : step (new_document []) Version ≡ (codes "ok 1 1\n", new_document [])
+unfolding digits
+versions_of_a_new_document = refl
 
 the_first_line : step (new_document (codes "aXd")) (Line 1) ≡ (codes "ok \"aXd\"\n", new_document (codes "aXd"))
 unfolding utf16_chars encode
@@ -39,12 +50,11 @@ size_of_a_new_document : step (new_document []) Size ≡ (codes "ok 0 1\n", new_
 unfolding digits
 size_of_a_new_document = refl
 
-edited_by_range : step (new_document (codes "ab\ncd")) (Edit (record { place = InRange (record { line = 1; column = 2 }) (record { line = 2; column = 2 }); text = codes "X"; force = false }))
-    ≡ (codes "ok 2 3 1\n", record { units = codes "aXd"; version = 2; alternative = 2 })
+edited_by_range : (step (new_document (codes "ab\ncd")) (Edit (record { place = InRange (record { line = 1; column = 2 }) (record { line = 2; column = 2 }); text = codes "X"; force = false } ∷ []))).0 ≡ codes "ok 2 3 1\n"
 unfolding digits
 edited_by_range = refl
 
-a_range_with_no_such_column : step (new_document (codes "ab\ncd")) (Edit (record { place = InRange (record { line = 1; column = 4 }) (record { line = 2; column = 1 }); text = []; force = false }))
+a_range_with_no_such_column : step (new_document (codes "ab\ncd")) (Edit (record { place = InRange (record { line = 1; column = 4 }) (record { line = 2; column = 1 }); text = []; force = false } ∷ []))
     ≡ (codes "! range\n", new_document (codes "ab\ncd"))
 a_range_with_no_such_column = refl
 

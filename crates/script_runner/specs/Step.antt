@@ -1,19 +1,20 @@
 -- One command on the flat document: its reply, and the document after it.
-use Rattle.std.specs.Prelude.{◌≡◌, ℕ, List, [], ◌∷◌, length, Option, Some, None, Result, Ok, Err}
+use Rattle.std.specs.Prelude.{◌≡◌, ℕ, List, [], ◌∷◌, length, Option, Some, None, option_map, option_and_then, Result, Ok, Err}
 use Rattle.text_lengths.specs.declared.Position.{Position}
 use Rattle.text_lengths.specs.declared.Span.{Span}
+use Rattle.text_rules.specs.declared.Op.{Op}
 use Rattle.document_rules.specs.declared.ModelError.{ModelError}
 use Rattle.document_rules.specs.declared.ModelError.TheVariants as error
-use Rattle.document_rules.specs.Document.{FlatState, flat_open, flat_edit, flat_line, flat_value, flat_position, flat_offset, flat_line_count}
+use Rattle.document_rules.specs.Document.{FlatState, flat_open, flat_edit, flat_undo, flat_redo, flat_stop, flat_line, flat_value, flat_position, flat_offset, flat_line_count}
 use Rattle.script_lines.specs.declared.command.Command.{Command}
-use Rattle.script_lines.specs.declared.command.Command.TheVariants.{Open, Edit, Size, Line, Value, Offset}
+use Rattle.script_lines.specs.declared.command.Command.TheVariants.{Open, Edit, Undo, Redo, Stop, Size, Version, Line, Value, Offset}
 use Rattle.script_lines.specs.declared.command.Command.TheVariants as command
 use Rattle.script_lines.specs.declared.op.LineOp.{LineOp}
 use Rattle.script_lines.specs.declared.op.Place.{Place}
 use Rattle.script_lines.specs.declared.op.Place.TheVariants.{At, InRange}
 use Rattle.script_lines.specs.declared.reason.Refusal.{Refusal}
 use Rattle.script_lines.specs.declared.reason.Refusal.TheVariants as refusal
-use Rattle.script_lines.specs.Replies.{ok_reply, text_reply, refusal_reply}
+use Rattle.script_lines.specs.Replies.{ok_reply, none_reply, text_reply, refusal_reply}
 
 abbrev pub refusal_of : ModelError → Refusal
 refusal_of error.Unknown = refusal.Unknown
@@ -33,6 +34,12 @@ change_reply f = ok_reply (f.version ∷ length f.units ∷ flat_line_count f �
 abbrev pub changed : FlatState → Result FlatState ModelError → List ℕ × FlatState
 changed old (Ok new) = (change_reply new, new)
 changed old (Err e) = (refusal_reply (refusal_of e), old)
+
+-- a change that the rule accepts or refuses, or finds nothing to do for: `ok none` then
+abbrev pub moved : FlatState → Result (Option FlatState) ModelError → List ℕ × FlatState
+moved old (Ok None) = (none_reply, old)
+moved old (Ok (Some new)) = (change_reply new, new)
+moved old (Err e) = (refusal_reply (refusal_of e), old)
 
 -- `ok "TEXT"`, or why there is none
 abbrev pub text_answer : Result (List ℕ) ModelError → List ℕ
@@ -59,13 +66,26 @@ abbrev pub span_of : FlatState → Place → Option Span
 span_of f (At span) = Some span
 span_of f (InRange start end) = span_between (flat_offset f start) (flat_offset f end)
 
-abbrev pub edited_at : FlatState → LineOp → Option Span → List ℕ × FlatState
-edited_at f op None = (refusal_reply refusal.Range, f)
-edited_at f op (Some span) = changed f (flat_edit f (record { span = span; text = op.text; force = op.force }))
+-- the op at its span
+abbrev pub op_at : FlatState → LineOp → Option Op
+op_at f op = option_map (λ span. record { span = span; text = op.text; force = op.force }) (span_of f op.place)
+
+-- the ops at their spans; none where a position of theirs is none of the text
+abbrev pub ops_at : FlatState → List LineOp → Option (List Op)
+ops_at f [] = Some []
+ops_at f (op ∷ ops) = option_and_then (λ first. option_map (λ rest. first ∷ rest) (ops_at f ops)) (op_at f op)
+
+abbrev pub edited_at : FlatState → Option (List Op) → List ℕ × FlatState
+edited_at f None = (refusal_reply refusal.Range, f)
+edited_at f (Some ops) = changed f (flat_edit f ops)
 
 abbrev pub step : FlatState → Command → List ℕ × FlatState
 step f (Open text) = changed f (flat_open text)
-step f (Edit op) = edited_at f op (span_of f op.place)
+step f (Edit ops) = edited_at f (ops_at f ops)
+step f Undo = moved f (flat_undo f)
+step f Redo = moved f (flat_redo f)
+step f Stop = (ok_reply [], flat_stop f)
+step f Version = (ok_reply (f.version ∷ f.alternative ∷ []), f)
 step f Size = (ok_reply (length f.units ∷ flat_line_count f ∷ []), f)
 step f (Line n) = (text_answer (flat_line f n), f)
 step f (Value span) = (text_answer (flat_value f span), f)

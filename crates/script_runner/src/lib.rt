@@ -3,6 +3,7 @@
 
 mod line;
 mod look_up;
+mod ops;
 mod reply;
 mod running;
 mod serving;

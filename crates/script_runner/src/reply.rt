@@ -4,16 +4,17 @@ ghost use Rattle.std.specs.Prelude.{◌≡◌, ℕ, List, [], IfOk};
 ghost use Rattle.document_rules.specs.Document.{flat_offset, flat_position};
 ghost use Rattle.script_lines.specs.Commands.{command_of};
 ghost use Rattle.script_lines.specs.Replies.{text_reply, refusal_reply};
-ghost use Rattle.script_runner.specs.Step.{refusal_of, offset_answer, position_answer, span_of, step, Answers};
+ghost use Rattle.script_runner.specs.Step.{refusal_of, offset_answer, position_answer, step, Answers};
 ghost use Rattle.script_runner.specs.Script.{Turn, commanded};
 ghost use Rattle.script_runner.specs.Progress.{IsLineSoFar};
-ghost use Rattle.script_runner.specs.Bytes.{bytes_of, change_answer, TextOrMemory};
+ghost use Rattle.script_runner.specs.Bytes.{bytes_of, change_answer, move_answer, TextOrMemory};
 
 use crate::line::PartialLine;
 use crate::look_up::{offset_at, position_at};
-use model_core::{Model, ModelError, Op};
+use crate::ops::ops_at;
+use model_core::{Model, ModelError};
 use script_lines::{
-    Command, LineFault, LineOp, Place, Refusal, Short, command_of, long_begin, long_end, long_text,
+    Command, LineFault, LineOps, Refusal, Short, command_of, long_begin, long_end, long_text,
     refusal,
 };
 use std::alloc::{AllocError, Global};
@@ -82,7 +83,23 @@ fn carry_out(alloc: Global, model: &mut Model, command: Command) -> Reply
             let outcome = model.open_doc(text.as_slice());
             after_change(outcome, model)
         }
-        Command::Edit { op } => edit_reply(model, op),
+        Command::Edit { ops } => edit_reply(alloc, model, ops),
+        Command::Undo => {
+            let outcome = model.undo();
+            after_move(outcome, model)
+        }
+        Command::Redo => {
+            let outcome = model.redo();
+            after_move(outcome, model)
+        }
+        Command::Stop => {
+            model.stop();
+            Reply::Short(Short::ok(&[]))
+        }
+        Command::Version => {
+            let (version, alternative) = model.versions();
+            Reply::Short(Short::ok(&[version, alternative]))
+        }
         Command::Size => Reply::Short(Short::ok(&[model.len(), model.line_count()])),
         Command::Line { n } => line_reply(alloc, model, n),
         Command::Value { at } => value_reply(alloc, model, at),
@@ -91,33 +108,16 @@ fn carry_out(alloc: Global, model: &mut Model, command: Command) -> Reply
     }
 }
 
-fn edit_reply(model: &mut Model, op: LineOp) -> Reply
-    ensures { Answers (step model.old.document (Command.Edit op)) model.old.document
+fn edit_reply(alloc: Global, model: &mut Model, ops: LineOps) -> Reply
+    ensures { Answers (step model.old.document (Command.Edit ops)) model.old.document
         (bytes_of result) model.new.document }
 {
-    let Some(span) = span_of(model, op.place) else {
-        return refused(Refusal::Range);
-    };
-    let op = Op {
-        span,
-        text: op.text,
-        force: op.force,
-    };
-    let outcome = model.edit(&op);
-    after_change(outcome, model)
-}
-
-/// The span at which the op stands.
-fn span_of(model: &Model, place: Place) -> Option<Span>
-    ensures { result ≡ span_of model.now.document place }
-{
-    match place {
-        Place::At(span) => Some(span),
-        Place::InRange(start, end) => {
-            let start = offset_at(model, start)?;
-            let end = offset_at(model, end)?;
-            Some(Span { start, end })
+    match ops_at(alloc, model, ops) {
+        Ok(ops) => {
+            let outcome = model.edit(&ops);
+            after_change(outcome, model)
         }
+        Err(error) => refused(refusal_of(error)),
     }
 }
 
@@ -126,6 +126,17 @@ fn after_change(outcome: Result<(), ModelError>, model: &Model) -> Reply
 {
     match outcome {
         Ok(()) => Reply::Short(Short::ok(&[model.versions().0, model.len(), model.line_count()])),
+        Err(error) => refused(refusal_of(error)),
+    }
+}
+
+/// `ok none` where there was nothing to do.
+fn after_move(outcome: Result<bool, ModelError>, model: &Model) -> Reply
+    ensures { bytes_of result ≡ move_answer outcome model.now.document }
+{
+    match outcome {
+        Ok(true) => after_change(Ok(()), model),
+        Ok(false) => Reply::Short(Short::none()),
         Err(error) => refused(refusal_of(error)),
     }
 }

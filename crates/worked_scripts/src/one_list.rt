@@ -42,6 +42,8 @@ impl Draws {
 struct Told {
     alloc: Global,
     text: Vec<u8>,
+    /// The text before the step that the next edit joins.
+    before: Vec<u8>,
     version: u64,
     script: String,
     replies: String,
@@ -52,6 +54,7 @@ impl Told {
         Told {
             alloc,
             text: Vec::new(alloc),
+            before: Vec::new(alloc),
             version: 1,
             script: String::new(alloc),
             replies: String::new(alloc),
@@ -71,13 +74,15 @@ impl Told {
         Ok(starts)
     }
 
+    /// A text somewhere, and a `z` at the end.
     fn edit(&mut self, draws: &mut Draws) -> Result<(), AllocError> {
         let len = self.text.len() as u64;
         let start = draws.below(len.saturating_add(1)).min(len);
         let end = start.saturating_add(draws.below(4)).min(len);
         let (spelled, bytes) = TEXTS[draws.below(8) as usize % 8];
         let line = format!(in self.alloc;
-            "{{\"cmd\":\"edit\",\"ops\":[{{\"at\":[{start},{end}],\"text\":\"{spelled}\"}}]}}\n"
+            "{{\"cmd\":\"edit\",\"ops\":[{{\"at\":[{start},{end}],\"text\":\"{spelled}\"}},\
+            {{\"at\":[{len},{len}],\"text\":\"z\"}}]}}\n"
         )?;
         self.script.push_str(line.as_str())?;
 
@@ -89,12 +94,30 @@ impl Told {
         for byte in self.text.iter().skip(end as usize) {
             text.push(*byte)?;
         }
+        text.push(b'z')?;
+        self.change_to(text)
+    }
+
+    fn change_to(&mut self, text: Vec<u8>) -> Result<(), AllocError> {
         self.text = text;
         self.version = self.version.saturating_add(1);
         let (units, lines) = (self.text.len(), self.starts()?.len());
         let version = self.version;
         let reply = format!(in self.alloc; "ok {version} {units} {lines}\n")?;
         self.replies.push_str(reply.as_str())
+    }
+
+    /// Back to the text before the step, and on again; the next edit begins a step.
+    fn undo_and_redo(&mut self) -> Result<(), AllocError> {
+        let after = self.text.clone()?;
+        let before = self.before.clone()?;
+        self.script.push_str("{\"cmd\":\"undo\"}\n")?;
+        self.change_to(before)?;
+        self.value()?;
+        self.script.push_str("{\"cmd\":\"redo\"}\n")?;
+        self.change_to(after)?;
+        self.before = self.text.clone()?;
+        self.value()
     }
 
     fn position(&mut self, draws: &mut Draws) -> Result<(), AllocError> {
@@ -156,10 +179,13 @@ fn generated_scripts(rt: HostRuntime) -> Result<(), Fail> {
     for seed in 0..4 {
         let mut draws = Draws { state: seed };
         let mut told = Told::new(rt.alloc());
-        for _ in 0..60 {
+        for round in 0..60 {
             told.edit(&mut draws)?;
             told.position(&mut draws)?;
             told.value()?;
+            if round % 5 == 4 {
+                told.undo_and_redo()?;
+            }
         }
         let status = if told.replies.as_str().contains("!") {
             1

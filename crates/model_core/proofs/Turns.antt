@@ -1,0 +1,147 @@
+-- One turn of each walk: the ops of a batch from the last to the first, and the changes of a step either way.
+use Rattle.std.proofs.Common.{◌≡◌, ℕ, zero, suc, ◌+◌, ◌-◌, ◌*◌, ◌<◌, ◌≤◌, List, [], ◌∷◌, length, drop, get_or, slice_index_or, refl, ap, sym, subst, ◌∙◌, arith}
+use Rattle.std.proofs.Math.Seq.{drop-cons}
+use Rattle.std.specs.List.{All}
+use Rattle.std.proofs.lemmas.List.Elements.{All-nil, All-cons}
+use Rattle.std.proofs.lemmas.List.Sums.{sum_by-cons, sum_by-drop_more, sum_by-take-drop}
+use Rattle.text_rules.specs.declared.Op.{Op}
+use Rattle.text_rules.specs.Edits.{edited}
+use Rattle.batch_rules.specs.Batches.{most_units, applied_from, inverse_from, text_units, StandFrom, edited_backwards}
+use Rattle.batch_rules.proofs.Backwards.{backwards_step, backwards_few, IsStep}
+use Rattle.batch_rules.proofs.Standing.{text_units_applied, text_units_inverse}
+use Rattle.batch_rules.proofs.Inverses.{inverse_stands_from_start}
+use Rattle.model_core.specs.declared.change.Change.{Change}
+use Rattle.model_core.specs.declared.change.Way.{Way}
+use Rattle.model_core.specs.declared.change.Way.TheVariants.{Back, On}
+use Rattle.model_core.specs.History.{text_back, text_on, Leads, LeadBack, LeadOn, ops_by, op_count, unit_count}
+
+-- the op whose turn it is, after so many others, on the text of the moment
+pub record IsTurn (x : List ℕ) (ops : List Op) (done : ℕ) (op : Op) (now : List ℕ) : Type 0 where
+  pub ordered : op.span.start ≤ op.span.end
+  pub within : op.span.end ≤ length now
+  pub leaves : edited_backwards x (drop (length ops - (done + 1)) ops) ≡ edited now op
+  pub few : length (edited now op) ≤ length x + text_units ops
+  pub units : text_units (drop (length ops - (done + 1)) ops) ≡ length op.text + text_units (drop (length ops - done) ops)
+  pub left : text_units (drop (length ops - (done + 1)) ops) ≤ text_units ops
+
+turn_at : (x : List ℕ) (ops : List Op) (i done : ℕ) (op : Op) (now : List ℕ) → StandFrom 0 x ops → i < length ops → length ops - (done + 1) ≡ i → length ops - done ≡ suc i
+    → op ≡ get_or ops i op → now ≡ edited_backwards x (drop (suc i) ops) → IsTurn x ops done op now
+turn_at x ops i done op now standing inside here next is text =
+    let step : IsStep x op now (edited_backwards x (drop i ops)) =
+    subst (λ t. IsStep x op t (edited_backwards x (drop i ops))) (sym text)
+    (subst (λ o. IsStep x o (edited_backwards x (drop (suc i) ops)) (edited_backwards x (drop i ops))) (sym is) (backwards_step 0 x ops i op standing inside)) in
+    let few : length (edited_backwards x (drop i ops)) ≤ length x + text_units ops = backwards_few 0 x ops i standing in
+    let sum : text_units (drop i ops) ≡ length (get_or ops i op).text + text_units (drop (i + 1) ops) = sum_by-drop_more {X = Op} (λ o. length o.text) ops i op inside in
+    let own : length (get_or ops i op).text ≡ length op.text = ap (λ (o : Op). length o.text) (sym is) in
+    let more : i + 1 ≡ suc i = omega arith in
+    let rest : text_units (drop (i + 1) ops) ≡ text_units (drop (suc i) ops) = ap (λ (k : ℕ). text_units (drop k ops)) more in
+    let all = sum_by-take-drop {X = Op} (λ o. length o.text) ops i in
+    record {
+      ordered = step.ordered;
+      within = step.within;
+      leaves = rw here step.leaves;
+      few = subst (λ t. length t ≤ length x + text_units ops) step.leaves few;
+      units = rw (here, next) (omega (arith, sum, own, rest));
+      left = rw here (omega (arith, all));
+    }
+
+pub turn : (x : List ℕ) (ops : List Op) (done : ℕ) (op : Op) (now : List ℕ) → StandFrom 0 x ops → done < length ops
+    → op ≡ slice_index_or ops (length ops - 1 - done) op → now ≡ edited_backwards x (drop (length ops - done) ops) → IsTurn x ops done op now
+turn x ops done op now standing inside is text =
+    let next : length ops - done ≡ suc (length ops - 1 - done) = omega arith in
+    turn_at x ops (length ops - 1 - done) done op now standing (omega arith) (omega arith) next is (text ∙ ap (λ (k : ℕ). edited_backwards x (drop k ops)) next)
+
+op_count-cons : (way : Way) (c : Change) (cs : List Change) → op_count way (c ∷ cs) ≡ length (ops_by way c) + op_count way cs
+op_count-cons way c cs = sum_by-cons {X = Change} (λ d. length (ops_by way d)) c cs
+
+unit_count-cons : (way : Way) (c : Change) (cs : List Change) → unit_count way (c ∷ cs) ≡ text_units (ops_by way c) + unit_count way cs
+unit_count-cons way c cs = sum_by-cons {X = Change} (λ d. text_units (ops_by way d)) c cs
+
+-- a batch that may be carried out on the text of the moment, with the room that it takes
+pub record IsFit (way : Way) (c : Change) (now : List ℕ) : Type 0 where
+  pub standing : StandFrom 0 now (ops_by way c)
+  pub few : length now ≤ most_units
+  pub units : text_units (ops_by way c) ≤ most_units
+
+fit_back : (before after : List ℕ) (c : Change) → Leads before c after → IsFit Back c after
+fit_back before after c leads =
+    record {
+      standing = rw (leads.on, leads.inverse) (inverse_stands_from_start before c.batch leads.standing);
+      few = leads.fits_after;
+      units = rw leads.inverse (omega (arith, text_units_inverse 0 0 before c.batch leads.standing, leads.fits_before));
+    }
+
+fit_on : (before after : List ℕ) (c : Change) → Leads before c after → IsFit On c before
+fit_on before after c leads =
+    record {
+      standing = leads.standing;
+      few = leads.fits_before;
+      units = omega (arith, text_units_applied 0 before c.batch leads.standing, ap length leads.on, leads.fits_after);
+    }
+
+-- the change whose turn it is to be taken back, after so many others
+pub record IsTurnBack (after : List ℕ) (cs : List Change) (done : ℕ) (c : Change) (now : List ℕ) : Type 0 where
+  pub fit : IsFit Back c now
+  pub leaves : text_back after (drop (length cs - (done + 1)) cs) ≡ applied_from 0 now c.inverse
+  pub ops : op_count Back (drop (length cs - (done + 1)) cs) ≡ length c.inverse + op_count Back (drop (length cs - done) cs)
+  pub units : unit_count Back (drop (length cs - (done + 1)) cs) ≡ text_units c.inverse + unit_count Back (drop (length cs - done) cs)
+  pub ops_left : op_count Back (drop (length cs - (done + 1)) cs) ≤ op_count Back cs
+  pub units_left : unit_count Back (drop (length cs - (done + 1)) cs) ≤ unit_count Back cs
+
+pub LeadBack-drop : (i : ℕ) (after : List ℕ) (cs : List Change) → LeadBack after cs → LeadBack after (drop i cs)
+LeadBack-drop zero after cs lead = lead
+LeadBack-drop (suc i) after [] lead = tt
+LeadBack-drop (suc i) after (c ∷ cs) lead = LeadBack-drop i after cs lead.1
+
+turn_back_at : (after : List ℕ) (cs : List Change) (i done : ℕ) (c : Change) (now : List ℕ) → LeadBack after cs → i < length cs → length cs - (done + 1) ≡ i → length cs - done ≡ suc i
+    → c ≡ get_or cs i c → now ≡ text_back after (drop (suc i) cs) → IsTurnBack after cs done c now
+turn_back_at after cs i done c now lead inside here next is text =
+    let cut : drop i cs ≡ c ∷ drop (suc i) cs = drop-cons cs i c inside ∙ ap (λ d. d ∷ drop (suc i) cs) (sym is) in
+    let led : LeadBack after (c ∷ drop (suc i) cs) = subst (LeadBack after) cut (LeadBack-drop i after cs lead) in
+    let ops : op_count Back (drop i cs) ≡ length c.inverse + op_count Back (drop (suc i) cs) = rw cut (op_count-cons Back c (drop (suc i) cs)) in
+    let units : unit_count Back (drop i cs) ≡ text_units c.inverse + unit_count Back (drop (suc i) cs) = rw cut (unit_count-cons Back c (drop (suc i) cs)) in
+    record {
+      fit = subst (IsFit Back c) (sym text) (fit_back _ _ c led.0);
+      leaves = rw (here, cut, text) refl;
+      ops = rw (here, next) ops;
+      units = rw (here, next) units;
+      ops_left = rw here (omega (arith, sum_by-take-drop {X = Change} (λ d. length (ops_by Back d)) cs i));
+      units_left = rw here (omega (arith, sum_by-take-drop {X = Change} (λ d. text_units (ops_by Back d)) cs i));
+    }
+
+pub turn_back : (after : List ℕ) (cs : List Change) (done : ℕ) (c : Change) (now : List ℕ) → LeadBack after cs → done < length cs
+    → c ≡ slice_index_or cs (length cs - 1 - done) c → now ≡ text_back after (drop (length cs - done) cs) → IsTurnBack after cs done c now
+turn_back after cs done c now lead inside is text =
+    let next : length cs - done ≡ suc (length cs - 1 - done) = omega arith in
+    turn_back_at after cs (length cs - 1 - done) done c now lead (omega arith) (omega arith) next is (text ∙ ap (λ (k : ℕ). text_back after (drop k cs)) next)
+
+-- the change whose turn it is to be made again, after so many others
+pub record IsTurnOnAt (cs : List Change) (done : ℕ) (c : Change) (now : List ℕ) : Type 0 where
+  pub fit : IsFit On c now
+  pub leaves : text_on now (drop done cs) ≡ text_on (applied_from 0 now c.batch) (drop (done + 1) cs)
+  pub lead : LeadOn (applied_from 0 now c.batch) (drop (done + 1) cs)
+  pub ops : op_count On (drop done cs) ≡ length c.batch + op_count On (drop (done + 1) cs)
+  pub units : unit_count On (drop done cs) ≡ text_units c.batch + unit_count On (drop (done + 1) cs)
+
+pub turn_on_at : (cs : List Change) (done : ℕ) (c : Change) (now : List ℕ) → done < length cs → c ≡ slice_index_or cs done c → LeadOn now (drop done cs) → IsTurnOnAt cs done c now
+turn_on_at cs done c now inside is lead =
+    let next : suc done ≡ done + 1 = omega arith in
+    let cut : drop done cs ≡ c ∷ drop (done + 1) cs =
+    drop-cons cs done c inside ∙ ap (λ d. d ∷ drop (suc done) cs) (sym is) ∙ ap (λ (k : ℕ). c ∷ drop k cs) next in
+    let led : LeadOn now (c ∷ drop (done + 1) cs) = subst (LeadOn now) cut lead in
+    record {
+      fit = fit_on now (applied_from 0 now c.batch) c led.0;
+      leaves = ap (text_on now) cut;
+      lead = led.1;
+      ops = ap (op_count On) cut ∙ op_count-cons On c (drop (done + 1) cs);
+      units = ap (unit_count On) cut ∙ unit_count-cons On c (drop (done + 1) cs);
+    }
+
+-- each change of a step is fit for its way
+pub few_back : (after : List ℕ) (cs : List Change) → LeadBack after cs → All (λ c. text_units (ops_by Back c) ≤ most_units) cs
+few_back after [] lead = All-nil (λ c. text_units (ops_by Back c) ≤ most_units)
+few_back after (c ∷ cs) lead = All-cons (λ d. text_units (ops_by Back d) ≤ most_units) c cs (fit_back _ _ c lead.0).units (few_back after cs lead.1)
+
+pub few_on : (before : List ℕ) (cs : List Change) → LeadOn before cs → All (λ c. text_units (ops_by On c) ≤ most_units) cs
+few_on before [] lead = All-nil (λ c. text_units (ops_by On c) ≤ most_units)
+few_on before (c ∷ cs) lead = All-cons (λ d. text_units (ops_by On d) ≤ most_units) c cs (fit_on _ _ c lead.0).units (few_on (applied_from 0 before c.batch) cs lead.1)

@@ -1,0 +1,60 @@
+use Rattle.std.proofs.Common.{◌≡◌, ℕ, ◌+◌, ◌-◌, ◌≤◌, List, [], ◌++◌, length, drop, take, ap, sym, ◌∙◌, subst, arith}
+use Rattle.std.proofs.lemmas.List.{drop_all}
+use Rattle.text_rules.specs.declared.Op.{Op}
+use Rattle.batch_rules.specs.Batches.{text_units, edited_backwards, applied_from}
+use Rattle.batch_rules.proofs.Backwards.{backwards_is_one_pass}
+use Rattle.model_core.proofs.Turns.{turn}
+use Rattle.model_core.proofs.change.apply.Goals as goal
+
+pub loop-done-init : goal.loop-done-init
+loop-done-init c =
+    let ops = c.args.ops.now in
+    let none : drop (length ops - 0) ops ≡ [] = drop_all (length ops - 0) ops (omega arith) in
+    record { units = sym (ap (edited_backwards c.args.text.now.units) none); edits = omega arith; room = omega arith }
+
+pub replace-requires-clause-ordered : goal.replace-requires-clause-ordered
+replace-requires-clause-ordered c =
+    (turn c.args.text.now.units c.args.ops.now c.loop-done.done c.index-ops-ops.result _ c.requires.standing c.loop-done-test.true c.index-ops-ops.is c.loop-done.invariant.units).ordered
+
+pub replace-requires-clause-within : goal.replace-requires-clause-within
+replace-requires-clause-within c =
+    (turn c.args.text.now.units c.args.ops.now c.loop-done.done c.index-ops-ops.result _ c.requires.standing c.loop-done-test.true c.index-ops-ops.is c.loop-done.invariant.units).within
+
+pub replace-requires-clause-edits : goal.replace-requires-clause-edits
+replace-requires-clause-edits c = omega (arith, c.requires.edits, c.loop-done.invariant.edits, c.loop-done-test.true)
+
+pub replace-requires-clause-room : goal.replace-requires-clause-room
+replace-requires-clause-room c =
+    let now = turn c.args.text.now.units c.args.ops.now c.loop-done.done c.index-ops-ops.result _ c.requires.standing c.loop-done-test.true c.index-ops-ops.is c.loop-done.invariant.units in
+    omega (arith, c.requires.room, c.loop-done.invariant.room, c.loop-done-test.true, now.units, now.left, ap length c.as_slice.ensures)
+
+pub replace-requires-clause-small : goal.replace-requires-clause-small
+replace-requires-clause-small c =
+    let now = turn c.args.text.now.units c.args.ops.now c.loop-done.done c.index-ops-ops.result _ c.requires.standing c.loop-done-test.true c.index-ops-ops.is c.loop-done.invariant.units in
+    rw c.as_slice.ensures (omega (arith, now.few, c.requires.small))
+
+pub loop-done-preserved : goal.loop-done-preserved
+loop-done-preserved c =
+    let now = turn c.args.text.now.units c.args.ops.now c.loop-done.done c.index-ops-ops.result _ c.requires.standing c.loop-done-test.true c.index-ops-ops.is c.loop-done.invariant.units in
+    let span = c.index-ops-ops.result.span in
+    let text = ap (λ (t : List ℕ). take span.start c.loop-done.text.units ++ t ++ drop span.end c.loop-done.text.units) c.as_slice.ensures in
+    record {
+      units = c.replace.ensures.units ∙ text ∙ sym now.leaves;
+      edits = omega (arith, c.loop-done.invariant.edits, c.replace.ensures.spare_edits);
+      room = omega (arith, c.loop-done.invariant.room, c.replace.ensures.spare_units, now.units, ap length c.as_slice.ensures);
+    }
+
+pub returns-clause-units : goal.returns-clause-units
+returns-clause-units c =
+    let ops = c.args.ops.now in
+    let all : length ops - c.loop-done.done ≡ 0 = omega arith in
+    c.loop-done.invariant.units ∙ ap (λ (k : ℕ). edited_backwards c.args.text.now.units (drop k ops)) all ∙ backwards_is_one_pass c.args.text.now.units ops c.requires.standing
+
+pub returns-clause-edits : goal.returns-clause-edits
+returns-clause-edits c = omega (arith, c.loop-done.invariant.edits)
+
+pub returns-clause-room : goal.returns-clause-room
+returns-clause-room c =
+    let ops = c.args.ops.now in
+    let all : length ops - c.loop-done.done ≡ 0 = omega arith in
+    omega (arith, c.loop-done.invariant.room, ap (λ (k : ℕ). text_units (drop k ops)) all)

@@ -1,0 +1,47 @@
+use Rattle.std.proofs.Common.{◌≡◌, ℕ, ◌+◌, ◌-◌, ◌≤◌, List, [], ◌∷◌, length, drop, slice_index_or, ap, sym, ◌∙◌, subst, arith, refl}
+use Rattle.std.proofs.Math.Seq.{drop-cons}
+use Rattle.std.proofs.lemmas.List.{drop_all}
+use Rattle.text_rules.specs.declared.Op.{Op}
+use Rattle.batch_rules.specs.Batches.{text_units, applied_from, StandFrom}
+use Rattle.model_core.specs.declared.change.Change.{Change}
+use Rattle.model_core.specs.declared.change.Way.TheVariants.{On}
+use Rattle.model_core.specs.History.{text_on, LeadOn, op_count, unit_count}
+use Rattle.model_core.proofs.Turns.{turn_on_at, IsTurnOnAt}
+use Rattle.model_core.proofs.change.make_again.Goals as goal
+
+turn_now : (g : goal.After-ops) → IsTurnOnAt g.args.changes.now g.loop-change.change-index g.change-item.result g.loop-change.text.units
+turn_now c = turn_on_at c.args.changes.now c.loop-change.change-index c.change-item.result c.loop-change.text.units c.loop-change-test.true c.change-item.is c.loop-change.invariant.lead
+
+pub apply-requires-clause-standing : goal.apply-requires-clause-standing
+apply-requires-clause-standing c = rw c.ops.ensures.ops (turn_now c).fit.standing
+
+pub apply-requires-clause-small : goal.apply-requires-clause-small
+apply-requires-clause-small c =
+    let now = turn_now c in
+    omega (arith, now.fit.few, now.fit.units, ap text_units c.ops.ensures.ops)
+
+pub apply-requires-clause-edits : goal.apply-requires-clause-edits
+apply-requires-clause-edits c =
+    let now = turn_now c in
+    omega (arith, c.loop-change.invariant.edits, now.ops, ap length c.ops.ensures.ops)
+
+pub apply-requires-clause-room : goal.apply-requires-clause-room
+apply-requires-clause-room c =
+    let now = turn_now c in
+    omega (arith, c.loop-change.invariant.room, now.ops, now.units, ap length c.ops.ensures.ops, ap text_units c.ops.ensures.ops)
+
+pub loop-change-preserved : goal.loop-change-preserved
+loop-change-preserved c =
+    let now = turn_on_at c.args.changes.now c.loop-change.change-index c.change-item.result c.loop-change.text.units c.loop-change-test.true c.change-item.is c.loop-change.invariant.lead in
+    let text = c.apply.ensures.units ∙ ap (applied_from 0 c.loop-change.text.units) c.ops.ensures.ops in
+    record {
+      units = ap (λ t. text_on t (drop (c.loop-change.change-index + 1) c.args.changes.now)) text ∙ sym now.leaves ∙ c.loop-change.invariant.units;
+      lead = subst (λ t. LeadOn t (drop (c.loop-change.change-index + 1) c.args.changes.now)) (sym text) now.lead;
+      edits = omega (arith, c.loop-change.invariant.edits, c.apply.ensures.edits, now.ops, ap length c.ops.ensures.ops);
+      room = omega (arith, c.loop-change.invariant.room, c.apply.ensures.room, now.ops, now.units, ap length c.ops.ensures.ops, ap text_units c.ops.ensures.ops);
+    }
+
+pub returns : goal.returns
+returns c =
+    let changes = c.args.changes.now in
+    sym (ap (text_on c.loop-change.text.units) (drop_all c.loop-change.change-index changes (omega arith))) ∙ c.loop-change.invariant.units

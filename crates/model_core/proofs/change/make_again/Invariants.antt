@@ -1,0 +1,12 @@
+use Rattle.std.proofs.Common.{◌≡◌, ◌+◌, ◌*◌, ◌≤◌, drop}
+use Rattle.model_core.specs.declared.change.Way.TheVariants.{On}
+use Rattle.model_core.specs.History.{text_on, LeadOn, op_count, unit_count}
+use Rattle.model_core.proofs.change.make_again.Given as goal
+
+abbrev pub invariant-loop-change : goal.invariant-loop-change
+invariant-loop-change l = record {
+  units : text_on l.text.units (drop l.change-index l.changes) ≡ text_on l.fn.text.units l.changes;
+  lead : LeadOn l.text.units (drop l.change-index l.changes);
+  edits : op_count On (drop l.change-index l.changes) ≤ l.text.spare_edits;
+  room : unit_count On (drop l.change-index l.changes) + 3 * op_count On (drop l.change-index l.changes) ≤ l.text.spare_units;
+}

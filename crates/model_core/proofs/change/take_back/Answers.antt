@@ -1,0 +1,51 @@
+use Rattle.std.proofs.Common.{◌≡◌, ℕ, ◌+◌, ◌-◌, ◌≤◌, List, [], length, drop, ap, sym, ◌∙◌, subst, arith}
+use Rattle.std.proofs.lemmas.List.{drop_all}
+use Rattle.text_rules.specs.declared.Op.{Op}
+use Rattle.batch_rules.specs.Batches.{text_units, applied_from, StandFrom}
+use Rattle.model_core.specs.declared.change.Change.{Change}
+use Rattle.model_core.specs.declared.change.Way.TheVariants.{Back}
+use Rattle.model_core.specs.History.{text_back, op_count, unit_count}
+use Rattle.model_core.proofs.Turns.{turn_back, IsTurnBack}
+use Rattle.model_core.proofs.change.take_back.Goals as goal
+
+pub loop-done-init : goal.loop-done-init
+loop-done-init c =
+    let changes = c.args.changes.now in
+    let none : drop (length changes - 0) changes ≡ [] = drop_all (length changes - 0) changes (omega arith) in
+    record { units = sym (ap (text_back c.args.text.now.units) none); edits = omega arith; room = omega arith }
+
+turn_now : (g : goal.After-ops) → IsTurnBack g.args.text.now.units g.args.changes.now g.loop-done.done g.index-changes-changes.result g.loop-done.text.units
+turn_now c = turn_back c.args.text.now.units c.args.changes.now c.loop-done.done c.index-changes-changes.result c.loop-done.text.units c.requires.lead c.loop-done-test.true c.index-changes-changes.is c.loop-done.invariant.units
+
+pub apply-requires-clause-standing : goal.apply-requires-clause-standing
+apply-requires-clause-standing c = rw c.ops.ensures.ops (turn_now c).fit.standing
+
+pub apply-requires-clause-small : goal.apply-requires-clause-small
+apply-requires-clause-small c =
+    let now = turn_now c in
+    omega (arith, now.fit.few, now.fit.units, ap text_units c.ops.ensures.ops)
+
+pub apply-requires-clause-edits : goal.apply-requires-clause-edits
+apply-requires-clause-edits c =
+    let now = turn_now c in
+    omega (arith, c.requires.edits, c.loop-done.invariant.edits, now.ops, now.ops_left, ap length c.ops.ensures.ops)
+
+pub apply-requires-clause-room : goal.apply-requires-clause-room
+apply-requires-clause-room c =
+    let now = turn_now c in
+    omega (arith, c.requires.room, c.loop-done.invariant.room, now.ops, now.units, now.ops_left, now.units_left, ap length c.ops.ensures.ops, ap text_units c.ops.ensures.ops)
+
+pub loop-done-preserved : goal.loop-done-preserved
+loop-done-preserved c =
+    let now = turn_back c.args.text.now.units c.args.changes.now c.loop-done.done c.index-changes-changes.result c.loop-done.text.units c.requires.lead c.loop-done-test.true c.index-changes-changes.is c.loop-done.invariant.units in
+    record {
+      units = c.apply.ensures.units ∙ ap (applied_from 0 c.loop-done.text.units) c.ops.ensures.ops ∙ sym now.leaves;
+      edits = omega (arith, c.loop-done.invariant.edits, c.apply.ensures.edits, now.ops, ap length c.ops.ensures.ops);
+      room = omega (arith, c.loop-done.invariant.room, c.apply.ensures.room, now.ops, now.units, ap length c.ops.ensures.ops, ap text_units c.ops.ensures.ops);
+    }
+
+pub returns : goal.returns
+returns c =
+    let changes = c.args.changes.now in
+    let all : length changes - c.loop-done.done ≡ 0 = omega arith in
+    c.loop-done.invariant.units ∙ ap (λ (k : ℕ). text_back c.args.text.now.units (drop k changes)) all

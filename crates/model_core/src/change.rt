@@ -1,0 +1,102 @@
+//! Batches that were carried out, and how the text is led along them.
+
+ghost use Rattle.std.specs.Prelude.{◌≡◌, ◌+◌, ◌*◌, ◌<◌, ◌≤◌, ◌^◌, length, OnOk};
+ghost use Rattle.std.specs.List.{All};
+ghost use Rattle.batch_rules.specs.Batches.{most_units, applied_from, text_units, StandFrom};
+ghost use Rattle.model_core.specs.History.{text_back, text_on, LeadBack, LeadOn, ops_by, op_count, unit_count};
+
+use edit_batches::Batch;
+use std::alloc::AllocError;
+use text_buffer::TextBuffer;
+use text_rules::Op;
+
+/// Which way a text is led along changes.
+#[derive(Clone, Copy)]
+pub(crate) enum Way {
+    /// The changes are taken back.
+    Back,
+    /// The changes are made again.
+    On,
+}
+
+/// A batch that was carried out, and the one that takes it back.
+#[derive(Drop)]
+pub(crate) struct Change {
+    pub batch: Batch,
+    pub inverse: Batch,
+}
+
+impl Change {
+    fn batch_for(&self, way: Way) -> &Batch
+        ensures { result.now ≡ ops_by way self.now }
+    {
+        match way {
+            Way::Back => &self.inverse,
+            Way::On => &self.batch,
+        }
+    }
+}
+
+/// Carries out the ops, for which there is room.
+pub(crate) fn apply(text: &mut TextBuffer, ops: &[Op])
+    requires standing { StandFrom 0 text.old.units ops.now }
+    requires small { length text.old.units + text_units ops.now < 2 ^ 62 }
+    requires edits { length ops.now ≤ text.old.spare_edits }
+    requires room { text_units ops.now + 3 * length ops.now ≤ text.old.spare_units }
+    ensures units { text.new.units ≡ applied_from 0 text.old.units ops.now }
+    ensures edits { text.old.spare_edits ≤ text.new.spare_edits + length ops.now }
+    ensures room { text.old.spare_units ≤ text.new.spare_units + (text_units ops.now + 3 * length ops.now) }
+{
+    for done in 0..ops.len() {
+        let op = &ops[ops.len() - 1 - done];
+        text.replace(op.span, op.text.as_slice());
+    }
+}
+
+/// Takes the changes back, the last of them first. There is room for it.
+pub(crate) fn take_back(text: &mut TextBuffer, changes: &[Change])
+    requires lead { LeadBack text.old.units changes.now }
+    requires edits { op_count Way.Back changes.now ≤ text.old.spare_edits }
+    requires room { unit_count Way.Back changes.now + 3 * op_count Way.Back changes.now ≤ text.old.spare_units }
+    ensures { text.new.units ≡ text_back text.old.units changes.now }
+{
+    for done in 0..changes.len() {
+        let change = &changes[changes.len() - 1 - done];
+        apply(text, change.inverse.ops());
+    }
+}
+
+/// Makes the changes again, the first of them first. There is room for it.
+pub(crate) fn make_again(text: &mut TextBuffer, changes: &[Change])
+    requires lead { LeadOn text.old.units changes.now }
+    requires edits { op_count Way.On changes.now ≤ text.old.spare_edits }
+    requires room { unit_count Way.On changes.now + 3 * op_count Way.On changes.now ≤ text.old.spare_units }
+    ensures { text.new.units ≡ text_on text.old.units changes.now }
+{
+    for change in changes {
+        apply(text, change.batch.ops());
+    }
+}
+
+/// Makes room to lead the text along the changes this way. An error leaves the text as it was.
+pub(crate) fn reserve_for(
+    text: &mut TextBuffer,
+    changes: &[Change],
+    way: Way,
+) -> Result<(), AllocError>
+    requires { All (λ c. text_units (ops_by way c) ≤ most_units) changes.now }
+    ensures edits { OnOk result (op_count way changes.now ≤ text.new.spare_edits) }
+    ensures room { OnOk result (unit_count way changes.now + 3 * op_count way changes.now ≤ text.new.spare_units) }
+    ensures same { text.new.units ≡ text.old.units }
+{
+    let mut edits: u64 = 0;
+    let mut units: u64 = 0;
+    for change in changes {
+        let batch = change.batch_for(way);
+        edits = edits
+            .checked_add(batch.ops().len() as u64)
+            .ok_or(AllocError)?;
+        units = units.checked_add(batch.text_units()).ok_or(AllocError)?;
+    }
+    text.reserve(edits, units)
+}
