@@ -1,0 +1,4 @@
+pub mod MoveLemmas
+pub mod OrderLemmas
+pub mod MarkLists
+pub mod InText

@@ -1,0 +1,120 @@
+-- Worked examples of the definitions.
+use Rattle.std.specs.Prelude.{◌≡◌, ℕ, ◌^◌, true, false, List, [], ◌∷◌, map, Some, Ok, Err, refl}
+use Rattle.text_lengths.specs.declared.Span.{Span}
+use Rattle.decoration_rules.specs.declared.Sticky.{Sticky}
+use Rattle.decoration_rules.specs.declared.Sticky.TheVariants.{AlwaysGrows, NeverGrows, GrowsBefore, GrowsAfter}
+use Rattle.decoration_rules.specs.declared.Edit.{Edit}
+use Rattle.decoration_rules.specs.declared.Mark.{Mark}
+use Rattle.decoration_rules.specs.declared.NewDeco.{NewDeco}
+use Rattle.decoration_rules.specs.declared.DecoError.TheVariants.{Unknown, Range, Limit}
+use Rattle.decoration_rules.specs.Moves.{moved}
+use Rattle.decoration_rules.specs.Marks.{carried, touching}
+use Rattle.decoration_rules.specs.Decorations.{Decorations, no_decorations, decorated, decos_in}
+
+abbrev span : ℕ → ℕ → Span
+span start end = record { start = start; end = end }
+
+abbrev edit : ℕ → ℕ → ℕ → Edit
+edit start end units = record { start = start; end = end; units = units; force = false }
+
+abbrev forced : ℕ → ℕ → ℕ → Edit
+forced start end units = record (edit start end units) { force = true }
+
+-- where [2, 5] stands after the edit, by its stickiness
+abbrev all_modes : Edit → List Span
+all_modes e = map (λ sticky. moved (span 2 5) sticky false e) (AlwaysGrows ∷ NeverGrows ∷ GrowsBefore ∷ GrowsAfter ∷ [])
+
+three_units_at_the_start : all_modes (edit 2 2 3) ≡ span 2 8 ∷ span 5 8 ∷ span 2 8 ∷ span 5 8 ∷ []
+three_units_at_the_start = refl
+
+three_units_at_the_end : all_modes (edit 5 5 3) ≡ span 2 8 ∷ span 2 5 ∷ span 2 5 ∷ span 2 8 ∷ []
+three_units_at_the_end = refl
+
+three_units_inside : all_modes (edit 3 3 3) ≡ span 2 8 ∷ span 2 8 ∷ span 2 8 ∷ span 2 8 ∷ []
+three_units_inside = refl
+
+three_units_before : all_modes (edit 0 0 3) ≡ span 5 8 ∷ span 5 8 ∷ span 5 8 ∷ span 5 8 ∷ []
+three_units_before = refl
+
+all_removed : all_modes (edit 0 8 0) ≡ span 0 0 ∷ span 0 0 ∷ span 0 0 ∷ span 0 0 ∷ []
+all_removed = refl
+
+put_back : moved (span 0 0) NeverGrows false (edit 0 0 8) ≡ span 8 8
+put_back = refl
+
+fewer_in_its_place : all_modes (edit 1 6 3) ≡ span 2 4 ∷ span 2 4 ∷ span 2 4 ∷ span 2 4 ∷ []
+fewer_in_its_place = refl
+
+just_as_many_in_its_place : moved (span 2 5) AlwaysGrows false (edit 2 5 3) ≡ span 2 5
+just_as_many_in_its_place = refl
+
+just_as_many_by_force : moved (span 2 5) AlwaysGrows false (forced 2 5 3) ≡ span 5 5
+just_as_many_by_force = refl
+
+collapsed : moved (span 2 5) AlwaysGrows true (edit 1 6 3) ≡ span 1 1
+collapsed = refl
+
+collapsed_at_an_insert : moved (span 1 1) AlwaysGrows true (edit 1 1 1) ≡ span 1 1
+collapsed_at_an_insert = refl
+
+not_all_of_it_taken : moved (span 2 5) AlwaysGrows true (edit 3 6 0) ≡ span 2 3
+not_all_of_it_taken = refl
+
+an_empty_one_grows : moved (span 1 1) AlwaysGrows false (edit 1 1 1) ≡ span 1 2
+an_empty_one_grows = refl
+
+an_empty_one_by_force : moved (span 1 1) AlwaysGrows false (forced 1 1 1) ≡ span 2 2
+an_empty_one_by_force = refl
+
+-- its start would pass its end
+an_empty_one_never_grows : moved (span 1 1) NeverGrows false (edit 1 1 1) ≡ span 2 2
+an_empty_one_never_grows = refl
+
+abbrev mark : ℕ → ℕ → ℕ → Sticky → Mark
+mark id start end sticky = record { id = id; owner = 1; span = span start end; sticky = sticky; collapse = false }
+
+-- the insert at 4 comes first, then the one at 2
+a_batch_from_its_last_op : carried (mark 1 2 4 NeverGrows ∷ mark 2 3 3 NeverGrows ∷ []) (edit 2 2 2 ∷ edit 4 4 1 ∷ [])
+    ≡ mark 1 4 6 NeverGrows ∷ mark 2 5 5 NeverGrows ∷ []
+a_batch_from_its_last_op = refl
+
+-- what stood first stands last
+an_insert_that_turns_the_order : carried (mark 1 2 2 NeverGrows ∷ mark 2 2 4 AlwaysGrows ∷ []) (edit 2 2 1 ∷ [])
+    ≡ mark 2 2 5 AlwaysGrows ∷ mark 1 3 3 NeverGrows ∷ []
+an_insert_that_turns_the_order = refl
+
+abbrev three : List Mark
+three = mark 1 2 5 AlwaysGrows ∷ mark 2 5 5 NeverGrows ∷ mark 3 6 8 AlwaysGrows ∷ []
+
+to_touch_counts : touching (span 5 5) three ≡ mark 1 2 5 AlwaysGrows ∷ mark 2 5 5 NeverGrows ∷ []
+to_touch_counts = refl
+
+none_of_another_owner : decos_in (record { marks = three; next_id = 4 }) (span 5 5) (Some 9) ≡ []
+none_of_another_owner = refl
+
+abbrev new : ℕ → ℕ → ℕ → NewDeco
+new start end stick = record { span = span start end; stick = stick; collapse = false }
+
+abbrev one : Decorations
+one = record { marks = mark 1 0 0 AlwaysGrows ∷ []; next_id = 2 }
+
+the_first_id : decorated no_decorations 1 [] (new 0 0 0 ∷ []) [] ≡ Ok one
+the_first_id = refl
+
+named_twice : decorated one 1 (1 ∷ 1 ∷ []) [] [] ≡ Err Unknown
+named_twice = refl
+
+of_another_owner : decorated one 2 (1 ∷ []) [] [] ≡ Err Unknown
+of_another_owner = refl
+
+an_id_is_not_used_again : decorated one 1 (1 ∷ []) (new 0 0 3 ∷ []) [] ≡ Ok (record { marks = mark 2 0 0 GrowsAfter ∷ []; next_id = 3 })
+an_id_is_not_used_again = refl
+
+no_such_mode : decorated one 1 [] (new 0 0 4 ∷ []) [] ≡ Err Range
+no_such_mode = refl
+
+unknown_comes_first : decorated one 1 (7 ∷ []) (new 0 1 0 ∷ []) [] ≡ Err Unknown
+unknown_comes_first = refl
+
+no_id_is_left : decorated (record { marks = []; next_id = 2 ^ 63 }) 1 [] (new 0 0 0 ∷ []) [] ≡ Err Limit
+no_id_is_left = refl

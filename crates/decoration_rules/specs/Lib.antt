@@ -1,0 +1,4 @@
+pub mod Moves
+pub mod Marks
+pub mod Decorations
+mod Examples

@@ -1,0 +1,5 @@
+mod Repeats
+mod Removed
+mod Added
+mod Sets
+mod Deltas

@@ -1,0 +1,62 @@
+use Rattle.std.proofs.Common.{◌+◌, ◌++◌, List, length, sym, ◌∙◌, ap, subst}
+use Rattle.std.specs.Prelude.{IsOk}
+use Rattle.std.specs.List.{list_all}
+use Rattle.decoration_rules.specs.declared.Mark.{Mark}
+use Rattle.decoration_rules.specs.Marks.{IsInOrder, HasDistinctIds, is_live, in_order}
+use Rattle.decoration_rules.specs.Decorations.{Decorations, IsSound, decorated, kept, new_marks}
+use Rattle.decorations.proofs.Removed.{all_live-owned}
+use Rattle.decorations.proofs.Added.{Below}
+use Rattle.decorations.proofs.Deltas.{IsFit, fit-from_ok, all_new, IsSound-delta, kept-ordered, kept-distinct, kept-below}
+use Rattle.decorations.proofs.set.DecoSet.delta.Goals as goal
+
+pub remove_all-requires-clause-live : goal.remove_all-requires-clause-live
+remove_all-requires-clause-live g c =
+    let units = g.F.Flat.units c.args.text.now in
+    let before : Decorations = record { marks = c.self.inside.tree.marks; next_id = c.self.inside.next_id } in
+    let fit : IsFit before c.args.owner c.args.remove.now c.args.add.now units = fit-from_ok before c.args.owner c.args.remove.now c.args.add.now units
+    (subst (λ (d : Decorations). IsOk (decorated d c.args.owner c.args.remove.now c.args.add.now units)) (sym c.self.view_is) c.in_ok-check.ensures.ok) in
+    ap (λ ms. list_all (is_live ms) c.args.remove.now) c.reserve.ensures.marks ∙ all_live-owned c.self.inside.tree.marks c.args.owner c.args.remove.now fit.owned
+
+pub add_all-requires-clause-used : goal.add_all-requires-clause-used
+add_all-requires-clause-used g c =
+    subst (Below c.self.inside.next_id) (sym (c.remove_all.ensures.marks ∙ ap (λ ms. kept ms c.args.remove.now) c.reserve.ensures.marks))
+    (kept-below c.self.inside.next_id c.self.inside.tree.marks c.args.remove.now c.self.invariant.used)
+
+pub add_all-requires-clause-ordered : goal.add_all-requires-clause-ordered
+add_all-requires-clause-ordered g c =
+    subst IsInOrder (sym (c.remove_all.ensures.marks ∙ ap (λ ms. kept ms c.args.remove.now) c.reserve.ensures.marks))
+    (kept-ordered c.self.inside.tree.marks c.args.remove.now c.self.invariant.ordered)
+
+pub add_all-requires-clause-distinct : goal.add_all-requires-clause-distinct
+add_all-requires-clause-distinct g c =
+    subst HasDistinctIds (sym (c.remove_all.ensures.marks ∙ ap (λ ms. kept ms c.args.remove.now) c.reserve.ensures.marks))
+    (kept-distinct c.self.inside.tree.marks c.args.remove.now c.self.invariant.distinct)
+
+pub add_all-requires-clause-good : goal.add_all-requires-clause-good
+add_all-requires-clause-good g c =
+    let units = g.F.Flat.units c.args.text.now in
+    let fit : IsFit c.args.self.now c.args.owner c.args.remove.now c.args.add.now units =
+    fit-from_ok c.args.self.now c.args.owner c.args.remove.now c.args.add.now units c.in_ok-check.ensures.ok in
+    all_new units c.args.add.now c.requires fit.good
+
+pub invariant_of-self-2 : goal.invariant_of-self-2
+invariant_of-self-2 g c =
+    let units = g.F.Flat.units c.args.text.now in
+    let before : Decorations = record { marks = c.self.inside.tree.marks; next_id = c.self.inside.next_id } in
+    let fit : IsFit before c.args.owner c.args.remove.now c.args.add.now units = fit-from_ok before c.args.owner c.args.remove.now c.args.add.now units
+    (subst (λ (d : Decorations). IsOk (decorated d c.args.owner c.args.remove.now c.args.add.now units)) (sym c.self.view_is) c.in_ok-check.ensures.ok) in
+    subst (λ (ms : List Mark). IsSound (record { marks = ms; next_id = c.self.inside.next_id + length c.args.add.now }))
+    (sym (c.add_all.ensures ∙ ap (λ ms. in_order (ms ++ new_marks c.args.owner c.self.inside.next_id c.args.add.now))
+    (c.remove_all.ensures.marks ∙ ap (λ ms. kept ms c.args.remove.now) c.reserve.ensures.marks)))
+    (IsSound-delta before c.args.owner c.args.remove.now c.args.add.now units c.self.invariant fit)
+
+pub returns-clause-sound : goal.returns-clause-sound
+returns-clause-sound g c =
+    let units = g.F.Flat.units c.args.text.now in
+    let before : Decorations = record { marks = c.self.inside.tree.marks; next_id = c.self.inside.next_id } in
+    let fit : IsFit before c.args.owner c.args.remove.now c.args.add.now units = fit-from_ok before c.args.owner c.args.remove.now c.args.add.now units
+    (subst (λ (d : Decorations). IsOk (decorated d c.args.owner c.args.remove.now c.args.add.now units)) (sym c.self.view_is) c.in_ok-check.ensures.ok) in
+    subst (λ (ms : List Mark). IsSound (record { marks = ms; next_id = c.self.inside.next_id + length c.args.add.now }))
+    (sym (c.add_all.ensures ∙ ap (λ ms. in_order (ms ++ new_marks c.args.owner c.self.inside.next_id c.args.add.now))
+    (c.remove_all.ensures.marks ∙ ap (λ ms. kept ms c.args.remove.now) c.reserve.ensures.marks)))
+    (IsSound-delta before c.args.owner c.args.remove.now c.args.add.now units c.self.invariant fit)

@@ -1,0 +1,11 @@
+//! The decorations of a document: who owns them, their ids, and which text they stand at.
+#![tactic(auto)]
+
+mod changes;
+mod set;
+
+pub use decoration_rules::{Deco, DecoError, Edit, NewDeco};
+pub use set::DecoSet;
+
+#[cfg(test)]
+mod tests;

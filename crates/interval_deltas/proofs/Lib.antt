@@ -1,0 +1,5 @@
+mod MoveLoops
+mod Sorting
+mod Ranks
+mod Places
+mod Trees
