@@ -1,12 +1,12 @@
 -- What stays of a list of decorations, and of its order, when one is put in, some are taken out, or all are moved.
-use Rattle.std.proofs.Common.{◌≡◌, ℕ, Bool, true, false, ◌||◌, eqb, ◌⊎◌, inl, inr, List, [], ◌∷◌, ◌++◌, map, refl, sym, ◌∙◌, ap, subst, suc, length, Some, None}
+use Rattle.std.proofs.Common.{◌≡◌, ℕ, Bool, true, false, not, ◌||◌, eqb, ◌⊎◌, inl, inr, List, [], ◌∷◌, ◌++◌, map, refl, sym, ◌∙◌, ap, subst, suc, length, Some, None}
 use Rattle.std.specs.Prelude.{filter}
 use Rattle.std.specs.List.{list_any, list_all, All}
 use Rattle.std.proofs.lemmas.Bool.{or_parts, and_parts, and_from, ne_eqb, eq-eqb, both_ways, cond_both, cond-true, cond-false}
 use Rattle.decoration_rules.specs.declared.Edit.{Edit}
 use Rattle.decoration_rules.specs.declared.Mark.{Mark}
 use Rattle.decoration_rules.specs.Moves.{moved_mark, moved_by_all}
-use Rattle.decoration_rules.specs.Marks.{stands_before, put_in_order, in_order, carried, IsInOrder, has_id, is_live, mark_of, HasDistinctIds}
+use Rattle.decoration_rules.specs.Marks.{stands_before, put_in_order, in_order, carried, IsInOrder, has_id, is_live, mark_of, HasDistinctIds, without}
 use Rattle.decoration_rules.proofs.OrderLemmas.{Has, HaveSame, All-has, has-All, list_all-at, list_all-from, list_any-at, list_any-none, stands_before-trans, stands_before-total, IsInOrder-unique}
 
 -- One is put in.
@@ -217,6 +217,12 @@ in_order-filter p xs distinct = in_order-unique (filter p xs) (filter p (in_orde
       to = λ q has. let there : Has xs q × (p q ≡ true) = Has-from_filter p xs q has in Has-filter p (in_order xs) q (Has-in_order xs q there.0) there.1;
       from = λ q has. let there : Has (in_order xs) q × (p q ≡ true) = Has-from_filter p (in_order xs) q has in Has-filter p xs q (Has-from_in_order xs q there.0) there.1;
     })
+
+pub without-none : (id : ℕ) (xs : List Mark) → is_live xs id ≡ false → without id xs ≡ xs
+without-none id [] none = refl
+without-none id (x ∷ xs) none =
+    cond-true (not (has_id id x)) (x ∷ without id xs) (without id xs) (ap not (or_parts (has_id id x) (is_live xs id) none).0)
+    ∙ ap (λ ms. x ∷ ms) (without-none id xs (or_parts (has_id id x) (is_live xs id) none).1)
 
 -- All are changed.
 

@@ -1,7 +1,7 @@
 -- The order of decorations: there is one list in order of the same ones.
 use Rattle.std.proofs.Common.{◌≡◌, ℕ, ◌<◌, zero, suc, length, get_or, Bool, true, false, ◌||◌, eqb, ◌⊎◌, inl, inr, List, [], ◌∷◌, refl, sym, ◌∙◌, ap, subst, arith}
 use Rattle.std.specs.List.{list_any, list_all, Contains, All}
-use Rattle.std.proofs.lemmas.Bool.{or_parts, or_from, or_left, and_parts, and_from, both_ways}
+use Rattle.std.proofs.lemmas.Bool.{or_cases, or_parts, or_from, or_left, and_parts, and_from, both_ways}
 use Rattle.std.proofs.lemmas.Bool.Decides.{nat_tests}
 use Rattle.decoration_rules.specs.declared.Mark.{Mark}
 use Rattle.decoration_rules.specs.Marks.{stands_before, IsInOrder}
@@ -54,6 +54,16 @@ list_any-some p (x ∷ xs) q has pass = elim has [
   where
     or_right' : list_any p xs ≡ true → (p x || list_any p xs) ≡ true
     or_right' e = rw e (elim (p x) as (λ v. (v || true) ≡ true) [ true ↦ refl | false ↦ refl ])
+
+pub list_any-found : (p : Mark → Bool) (xs : List Mark) → list_any p xs ≡ true → (q : Mark) × Has xs q × (p q ≡ true)
+list_any-found p [] some = absurd (both_ways false refl some)
+list_any-found p (x ∷ xs) some = elim (or_cases (p x) (list_any p xs) some) [
+  | inl here ↦ (x, inl refl, here)
+  | inr later ↦ next (list_any-found p xs later)
+]
+  where
+    next : ((q : Mark) × Has xs q × (p q ≡ true)) → (q : Mark) × Has (x ∷ xs) q × (p q ≡ true)
+    next h = (h.0, inr h.1, h.2)
 
 -- The same by place.
 

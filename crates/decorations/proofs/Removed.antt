@@ -5,8 +5,8 @@ use Rattle.std.proofs.lemmas.Bool.{cond-true, cond-false, or_parts, or_cases, an
 use Rattle.decoration_rules.specs.declared.Mark.{Mark}
 use Rattle.decoration_rules.specs.Marks.{has_id, is_live, HasDistinctIds, without}
 use Rattle.decoration_rules.specs.Decorations.{kept, has_repeat, owns, owned_by}
-use Rattle.decoration_rules.proofs.OrderLemmas.{Has, list_any-some}
-use Rattle.decoration_rules.proofs.MarkLists.{Has-filter, distinct_filter, mark_of-none}
+use Rattle.decoration_rules.proofs.OrderLemmas.{list_any-found, Has, list_any-some}
+use Rattle.decoration_rules.proofs.MarkLists.{without-none, Has-filter, distinct_filter, mark_of-none}
 
 pub kept-none : (marks : List Mark) → kept marks [] ≡ marks
 kept-none [] = refl
@@ -30,19 +30,9 @@ kept-first id ids (x ∷ marks) = elim (cases_Bool (eqb x.id id)) [
       ∙ ap (λ ms. kept ms ids) (sym (cond-true (not (has_id id x)) (x ∷ without id marks) (without id marks) (ap not other)))
 ]
 
-found : (id : ℕ) (xs : List Mark) → is_live xs id ≡ true → (q : Mark) × Has xs q × (has_id id q ≡ true)
-found id [] live = absurd (both_ways false refl live)
-found id (x ∷ xs) live = elim (or_cases (has_id id x) (is_live xs id) live) [
-  | inl here ↦ (x, inl refl, here)
-  | inr later ↦ next (found id xs later)
-]
-  where
-    next : ((q : Mark) × Has xs q × (has_id id q ≡ true)) → (q : Mark) × Has (x ∷ xs) q × (has_id id q ≡ true)
-    next h = (h.0, inr h.1, h.2)
-
 is_live-without : (id other : ℕ) (marks : List Mark) → eqb other id ≡ false → is_live marks other ≡ true → is_live (without id marks) other ≡ true
 is_live-without id other marks apart live =
-    let it : (q : Mark) × Has marks q × (has_id other q ≡ true) = found other marks live in
+    let it : (q : Mark) × Has marks q × (has_id other q ≡ true) = list_any-found (has_id other) marks live in
     list_any-some (has_id other) (without id marks) it.0
     (Has-filter (λ mark. not (has_id id mark)) marks it.0 it.1 (ap not (subst (λ n. eqb n id ≡ false) (sym (eqb-true it.0.id other it.2)) apart))) it.2
 
@@ -54,12 +44,6 @@ all_live-without id (other ∷ ids) marks apart live =
     let apart' = or_parts (eqb other id) (list_any (λ other. eqb other id) ids) apart in
     and_from (is_live (without id marks) other) (list_all (is_live (without id marks)) ids)
     (is_live-without id other marks apart'.0 parts.0) (all_live-without id ids marks apart'.1 parts.1)
-
-without-none : (id : ℕ) (marks : List Mark) → is_live marks id ≡ false → without id marks ≡ marks
-without-none id [] none = refl
-without-none id (x ∷ marks) none =
-    let parts = or_parts (has_id id x) (is_live marks id) none in
-    cond-true (not (has_id id x)) (x ∷ without id marks) (without id marks) (ap not parts.0) ∙ ap (λ ms. x ∷ ms) (without-none id marks parts.1)
 
 length-without : (id : ℕ) (marks : List Mark) → HasDistinctIds marks → is_live marks id ≡ true → length (without id marks) + 1 ≡ length marks
 length-without id [] distinct live = absurd (both_ways false refl live)

@@ -1,5 +1,6 @@
--- The flat document: one list of units, changed by the rule of each call. What can be undone is kept as whole texts.
-use Rattle.std.specs.Prelude.{ℕ, ◌+◌, ◌-◌, ◌^◌, nat_lt, nat_le, if◌then◌else◌, List, [], ◌∷◌, length, take, drop, Option, Some, None, Result, Ok, Err}
+-- The flat document: one list of units and one of decorations, changed by the rule of each call. What can be undone is
+-- kept as whole texts.
+use Rattle.std.specs.Prelude.{ℕ, ◌+◌, ◌-◌, ◌^◌, Bool, false, nat_lt, nat_le, if◌then◌else◌, List, [], ◌∷◌, length, map, take, drop, Option, Some, None, Result, Ok, Err}
 use Rattle.text_lengths.specs.declared.Position.{Position}
 use Rattle.text_lengths.specs.declared.Span.{Span}
 use Rattle.unit_text.specs.Units.{is_place}
@@ -9,10 +10,17 @@ use Rattle.text_rules.specs.Lines.{Line, line_at, lines_of}
 use Rattle.text_rules.specs.Edits.{is_bad_span}
 use Rattle.batch_rules.specs.declared.BatchError.{BatchError}
 use Rattle.batch_rules.specs.declared.BatchError.TheVariants as refused
-use Rattle.batch_rules.specs.Batches.{most_units, checked_batch, applied}
+use Rattle.batch_rules.specs.Batches.{most_units, checked_batch, applied, inverse_from}
+use Rattle.decoration_rules.specs.declared.Edit.{Edit}
+use Rattle.decoration_rules.specs.declared.NewDeco.{NewDeco}
+use Rattle.decoration_rules.specs.declared.Deco.{Deco}
+use Rattle.decoration_rules.specs.declared.DecoError.{DecoError}
+use Rattle.decoration_rules.specs.declared.DecoError.TheVariants as undecorated
+use Rattle.decoration_rules.specs.Marks.{carried}
+use Rattle.decoration_rules.specs.Decorations.{Decorations, no_decorations, decorated, deco_at, decos_in}
 use Rattle.edit_stack.specs.Stack.{Step, Stack, empty_stack, pushed, stopped, undone, redone}
 use Rattle.document_rules.specs.declared.ModelError.{ModelError}
-use Rattle.document_rules.specs.declared.ModelError.TheVariants.{Range, Overlap, Limit, Memory}
+use Rattle.document_rules.specs.declared.ModelError.TheVariants.{Unknown, Range, Overlap, Limit, Memory}
 
 abbrev pub greatest_version : ℕ
 greatest_version = 2 ^ 63 - 1
@@ -29,15 +37,24 @@ pub record FlatState : Type 0 where
   pub version : ℕ
   -- the version at which the text was last as it is now
   pub alternative : ℕ
+  pub decorations : Decorations
   -- what can be undone and redone
   pub history : Stack FlatChange
 
 -- a new document with this text
 abbrev pub new_document : List ℕ → FlatState
-new_document units = record { units = units; version = 1; alternative = 1; history = empty_stack }
+new_document units = record { units = units; version = 1; alternative = 1; decorations = no_decorations; history = empty_stack }
 
 abbrev pub flat_open : List ℕ → Result FlatState ModelError
 flat_open text = if nat_lt most_units (length text) then Err Limit else Ok (new_document text)
+
+-- an op as decorations see it
+abbrev pub edit_of : Op → Edit
+edit_of op = record { start = op.span.start; end = op.span.end; units = length op.text; force = op.force }
+
+-- decorations that were moved by the ops, from the last to the first
+abbrev pub carried_by : Decorations → List Op → Decorations
+carried_by d ops = record d { marks = carried d.marks (map edit_of ops) }
 
 -- the next version, whose text is that after the batch
 abbrev pub after_batch : FlatState → List Op → List Op → FlatState
@@ -45,6 +62,7 @@ after_batch f ops sorted = record f {
   units = applied f.units ops;
   version = f.version + 1;
   alternative = f.version + 1;
+  decorations = carried_by f.decorations sorted;
   history = pushed f.history (record { before = f.units; ops = sorted; after = applied f.units ops }) f.alternative (f.version + 1);
 }
 
@@ -76,17 +94,30 @@ abbrev pub text_after : List ℕ → List FlatChange → List ℕ
 text_after now [] = now
 text_after now (change ∷ changes) = text_after change.after changes
 
+-- Undo and redo move decorations as any edit does. Back: by the inverses, the last batch first.
+abbrev pub carried_back : Decorations → List FlatChange → Decorations
+carried_back d [] = d
+carried_back d (change ∷ changes) = carried_by (carried_back d changes) (inverse_from 0 0 change.before change.ops)
+
+abbrev pub unforced : Op → Op
+unforced op = record op { force = false }
+
+-- On: by the batches in their order, where nothing is forced.
+abbrev pub carried_on : Decorations → List FlatChange → Decorations
+carried_on d [] = d
+carried_on d (change ∷ changes) = carried_on (carried_by d (map unforced change.ops)) changes
+
 -- the next version, with the text and the alternative version of another moment
-abbrev pub returned : FlatState → List ℕ → ℕ → Stack FlatChange → FlatState
-returned f units alternative history =
-    record f { units = units; version = f.version + 1; alternative = alternative; history = history }
+abbrev pub returned : FlatState → List ℕ → ℕ → Decorations → Stack FlatChange → FlatState
+returned f units alternative decorations history =
+    record f { units = units; version = f.version + 1; alternative = alternative; decorations = decorations; history = history }
 
 abbrev pub unless_last_version : FlatState → FlatState → Result (Option FlatState) ModelError
 unless_last_version f new = if nat_le greatest_version f.version then Err Limit else Ok (Some new)
 
 abbrev pub undone_step : FlatState → List (Step FlatChange) → Result (Option FlatState) ModelError
 undone_step f [] = Ok None
-undone_step f (step ∷ steps) = unless_last_version f (returned f (text_before f.units step.changes) step.alt_before (undone f.history))
+undone_step f (step ∷ steps) = unless_last_version f (returned f (text_before f.units step.changes) step.alt_before (carried_back f.decorations step.changes) (undone f.history))
 
 -- back to the text before the last step; nothing where there is none
 abbrev pub flat_undo : FlatState → Result (Option FlatState) ModelError
@@ -94,11 +125,33 @@ flat_undo f = undone_step f f.history.undo
 
 abbrev pub redone_step : FlatState → List (Step FlatChange) → Result (Option FlatState) ModelError
 redone_step f [] = Ok None
-redone_step f (step ∷ steps) = unless_last_version f (returned f (text_after f.units step.changes) step.alt_after (redone f.history))
+redone_step f (step ∷ steps) = unless_last_version f (returned f (text_after f.units step.changes) step.alt_after (carried_on f.decorations step.changes) (redone f.history))
 
 -- on to the text after the step that was undone last; nothing where there is none
 abbrev pub flat_redo : FlatState → Result (Option FlatState) ModelError
 flat_redo f = redone_step f f.history.redo
+
+abbrev pub refusal_of : DecoError → ModelError
+refusal_of undecorated.Unknown = Unknown
+refusal_of undecorated.Range = Range
+refusal_of undecorated.Limit = Limit
+refusal_of undecorated.Memory = Memory
+
+abbrev pub with_decorations : FlatState → Result Decorations DecoError → Result FlatState ModelError
+with_decorations f (Err e) = Err (refusal_of e)
+with_decorations f (Ok d) = Ok (record f { decorations = d })
+
+-- decorations of one owner go, and new ones come
+abbrev pub flat_decorate : FlatState → ℕ → List ℕ → List NewDeco → Result FlatState ModelError
+flat_decorate f owner remove add = with_decorations f (decorated f.decorations owner remove add f.units)
+
+-- the live decoration of this id
+abbrev pub flat_deco : FlatState → ℕ → Option Deco
+flat_deco f id = deco_at f.decorations id
+
+-- those that touch the span, of all owners or of one
+abbrev pub flat_decos : FlatState → Span → Option ℕ → Result (List Deco) ModelError
+flat_decos f span owner = if is_bad_span f.units span then Err Range else Ok (decos_in f.decorations span owner)
 
 abbrev pub content_of : Option Line → Result (List ℕ) ModelError
 content_of None = Err Range

@@ -1,8 +1,11 @@
 -- Worked examples of the rules.
-use Rattle.std.specs.Prelude.{◌≡◌, ℕ, List, [], ◌∷◌, Ok, Err, Some, None, codes, false, true, refl}
+use Rattle.std.specs.Prelude.{◌≡◌, ℕ, List, [], ◌∷◌, Ok, Err, Option, Some, None, codes, false, true, refl}
 use Rattle.text_rules.specs.declared.Op.{Op}
+use Rattle.decoration_rules.specs.declared.Deco.{Deco}
+use Rattle.decoration_rules.specs.declared.Sticky.TheVariants.{AlwaysGrows}
+use Rattle.decoration_rules.specs.Decorations.{no_decorations}
 use Rattle.document_rules.specs.declared.ModelError.TheVariants.{Range, Overlap, Limit}
-use Rattle.document_rules.specs.Document.{FlatState, new_document, after_batch, flat_edit, flat_undo, flat_redo, flat_line, flat_value, flat_position, flat_offset, flat_line_count, greatest_version}
+use Rattle.document_rules.specs.Document.{FlatState, new_document, after_batch, flat_edit, flat_undo, flat_redo, flat_decorate, flat_deco, carried_on, flat_line, flat_value, flat_position, flat_offset, flat_line_count, greatest_version}
 
 abbrev op : ℕ → ℕ → List ℕ → Op
 op start end text = record { span = record { start = start; end = end }; text = text; force = false }
@@ -12,6 +15,7 @@ an_edit_over_a_break : flat_edit (new_document (codes "ab\ncd")) (op 1 4 (codes 
       units = codes "aXd";
       version = 2;
       alternative = 2;
+      decorations = no_decorations;
       history = record {
         undo = record { changes = record { before = codes "ab\ncd"; ops = op 1 4 (codes "X") ∷ []; after = codes "aXd" } ∷ []; alt_before = 1; alt_after = 2 } ∷ [];
         redo = [];
@@ -34,11 +38,11 @@ abbrev one_edit : FlatState
 one_edit = after_batch (new_document (codes "a")) (op 1 1 (codes "b") ∷ []) (op 1 1 (codes "b") ∷ [])
 
 an_undo_goes_back_to_the_old_text : flat_undo one_edit
-    ≡ Ok (Some (record { units = codes "a"; version = 3; alternative = 1; history = record { undo = []; redo = one_edit.history.undo; is_open = false } }))
+    ≡ Ok (Some (record { units = codes "a"; version = 3; alternative = 1; decorations = no_decorations; history = record { undo = []; redo = one_edit.history.undo; is_open = false } }))
 an_undo_goes_back_to_the_old_text = refl
 
-a_redo_makes_the_step_again : flat_redo (record { units = codes "a"; version = 3; alternative = 1; history = record { undo = []; redo = one_edit.history.undo; is_open = false } })
-    ≡ Ok (Some (record { units = codes "ab"; version = 4; alternative = 2; history = record { undo = one_edit.history.undo; redo = []; is_open = false } }))
+a_redo_makes_the_step_again : flat_redo (record { units = codes "a"; version = 3; alternative = 1; decorations = no_decorations; history = record { undo = []; redo = one_edit.history.undo; is_open = false } })
+    ≡ Ok (Some (record { units = codes "ab"; version = 4; alternative = 2; decorations = no_decorations; history = record { undo = one_edit.history.undo; redo = []; is_open = false } }))
 a_redo_makes_the_step_again = refl
 
 -- two edits without a stop are one step
@@ -46,11 +50,38 @@ abbrev two_edits : FlatState
 two_edits = after_batch one_edit (op 2 2 (codes "c") ∷ []) (op 2 2 (codes "c") ∷ [])
 
 an_undo_takes_back_the_whole_step : flat_undo two_edits
-    ≡ Ok (Some (record { units = codes "a"; version = 4; alternative = 1; history = record { undo = []; redo = two_edits.history.undo; is_open = false } }))
+    ≡ Ok (Some (record { units = codes "a"; version = 4; alternative = 1; decorations = no_decorations; history = record { undo = []; redo = two_edits.history.undo; is_open = false } }))
 an_undo_takes_back_the_whole_step = refl
 
 no_undo_at_the_last_version : flat_undo (record one_edit { version = greatest_version }) ≡ Err Limit
 no_undo_at_the_last_version = refl
+
+-- "ab" with a decoration of owner 1 at its one inner place
+abbrev decorated_text : FlatState
+decorated_text = record (new_document (codes "ab")) {
+  decorations = record { marks = record { id = 1; owner = 1; span = record { start = 1; end = 1 }; sticky = AlwaysGrows; collapse = false } ∷ []; next_id = 2 };
+}
+
+a_decoration_of_one_place : flat_decorate (new_document (codes "ab")) 1 [] (record { span = record { start = 1; end = 1 }; stick = 0; collapse = false } ∷ []) ≡ Ok decorated_text
+a_decoration_of_one_place = refl
+
+-- where the decoration stands
+abbrev stands_at : FlatState → Option Deco
+stands_at f = flat_deco f 1
+
+abbrev deco : ℕ → ℕ → Deco
+deco start end = record { id = 1; owner = 1; span = record { start = start; end = end }; stick = 0; collapse = false }
+
+abbrev forced_insert : FlatState
+forced_insert = after_batch decorated_text (record (op 1 1 (codes "x")) { force = true } ∷ []) (record (op 1 1 (codes "x")) { force = true } ∷ [])
+
+a_forced_insert_moves_it : stands_at forced_insert ≡ Some (deco 2 2)
+a_forced_insert_moves_it = refl
+
+-- a redo forces nothing: the decoration grows, which it did not at first
+a_redo_forces_nothing : carried_on decorated_text.decorations (record { before = codes "ab"; ops = record (op 1 1 (codes "x")) { force = true } ∷ []; after = codes "axb" } ∷ [])
+    ≡ record { marks = record { id = 1; owner = 1; span = record { start = 1; end = 2 }; sticky = AlwaysGrows; collapse = false } ∷ []; next_id = 2 }
+a_redo_forces_nothing = refl
 
 nothing_to_undo : flat_undo (new_document (codes "ab")) ≡ Ok None
 nothing_to_undo = refl

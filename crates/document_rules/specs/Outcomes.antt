@@ -15,7 +15,12 @@ Moves (Ok true) old new rule = rule ≡ Ok (Some new)
 Moves (Ok false) old new rule = (rule ≡ Ok None) × (new ≡ old)
 Moves (Err e) old new rule = (new ≡ old) × ((e ≡ Memory) ⊎ (rule ≡ Err e))
 
+-- a call that answers this number where it is accepted
+abbrev pub ChangesWith : {S : Type 0} → ℕ → Result ℕ ModelError → S → S → Result S ModelError → Type 0
+ChangesWith answer (Ok n) old new rule = (rule ≡ Ok new) × (n ≡ answer)
+ChangesWith answer (Err e) old new rule = (new ≡ old) × ((e ≡ Memory) ⊎ (rule ≡ Err e))
+
 -- an accepted call appends the rule's answer, and a refused one leaves what was there, for the rule's reason
-abbrev pub Appends : Result ⊤ ModelError → List ℕ → List ℕ → Result (List ℕ) ModelError → Type 0
-Appends (Ok x) old new rule = (added : List ℕ) × (rule ≡ Ok added) × (new ≡ old ++ added)
-Appends (Err e) old new rule = (new ≡ old) × ((e ≡ Memory) ⊎ (rule ≡ Err e))
+abbrev pub Appends : {A : Type 0} → Result ⊤ ModelError → List A → List A → Result (List A) ModelError → Type 0
+Appends {A} (Ok x) old new rule = (added : List A) × (rule ≡ Ok added) × (new ≡ old ++ added)
+Appends {A} (Err e) old new rule = (new ≡ old) × ((e ≡ Memory) ⊎ (rule ≡ Err e))

@@ -1,11 +1,11 @@
 -- What an insert and a removal leave at the place that a search by halving finds.
 use Rattle.std.proofs.Common.{◌≡◌, ℕ, ◌+◌, ◌<◌, suc, Bool, true, false, not, cond, ltb, eqb, inl, inr, List, [], ◌∷◌, length, get_or, refl, sym, ◌∙◌, ap, subst, arith}
-use Rattle.std.specs.List.{list_any, list_all, prefix_len, insert, remove}
+use Rattle.std.specs.List.{list_all, prefix_len, insert, remove}
 use Rattle.std.proofs.lemmas.Bool.{cond_both, cond-true, cond-false, or_parts, or_cases, and_from, eqb-true, ne_eqb, eq-eqb, ltb-true, ltb-false, lt-ltb, le-ltb, both_ways, cases_Bool}
 use Rattle.decoration_rules.specs.declared.Mark.{Mark}
 use Rattle.decoration_rules.specs.Marks.{stands_before, put_in_order, in_order, IsInOrder, has_id, is_live, mark_of, HasDistinctIds, without}
-use Rattle.decoration_rules.proofs.OrderLemmas.{Has, list_all-at, list_all-from, list_any-at, list_any-none, list_any-some, stands_before-itself, stands_before-total}
-use Rattle.decoration_rules.proofs.MarkLists.{HaveSame-in_order, is_live-same, mark_of-has, mark_of-none, in_order-unique, IsInOrder-put, IsInOrder-in_order, distinct_in_order, Has-put, Has-from_put}
+use Rattle.decoration_rules.proofs.OrderLemmas.{list_any-found, Has, list_all-at, list_all-from, list_any-at, list_any-none, list_any-some, stands_before-itself, stands_before-total}
+use Rattle.decoration_rules.proofs.MarkLists.{without-none, HaveSame-in_order, is_live-same, mark_of-has, mark_of-none, in_order-unique, IsInOrder-put, IsInOrder-in_order, distinct_in_order, Has-put, Has-from_put}
 use Rattle.interval_deltas.specs.Tree.{IsById}
 use Rattle.interval_deltas.proofs.Sorting.{stands_before-weak}
 
@@ -153,12 +153,6 @@ remove-prefix_len p (x ∷ xs) = elim (cases_Bool (p x)) [
       ∙ sym (cond-false (p x) (x ∷ drop_behind p xs) xs fails)
 ]
 
-pub without-none : (id : ℕ) (xs : List Mark) → is_live xs id ≡ false → without id xs ≡ xs
-without-none id [] none = refl
-without-none id (x ∷ xs) none =
-    cond-true (not (has_id id x)) (x ∷ without id xs) (without id xs) (ap not (or_parts (has_id id x) (is_live xs id) none).0)
-    ∙ ap (λ ms. x ∷ ms) (without-none id xs (or_parts (has_id id x) (is_live xs id) none).1)
-
 without-keeps : (id : ℕ) (x : Mark) (xs : List Mark) → has_id id x ≡ false → without id (x ∷ xs) ≡ x ∷ without id xs
 without-keeps id x xs other = cond-true (not (has_id id x)) (x ∷ without id xs) (without id xs) (ap not other)
 
@@ -217,16 +211,6 @@ pub remove-rank : (m : Mark) (xs : List Mark) → IsInOrder xs → HasDistinctId
 remove-rank m xs ordered distinct has = remove-prefix_len (λ other. stands_before other m) xs ∙ drop_behind-before m xs ordered distinct has
 
 -- The one of an id.
-
-pub list_any-found : (p : Mark → Bool) (xs : List Mark) → list_any p xs ≡ true → (q : Mark) × Has xs q × (p q ≡ true)
-list_any-found p [] some = absurd (both_ways false refl some)
-list_any-found p (x ∷ xs) some = elim (or_cases (p x) (list_any p xs) some) [
-  | inl here ↦ (x, inl refl, here)
-  | inr later ↦ next (list_any-found p xs later)
-]
-  where
-    next : ((q : Mark) × Has xs q × (p q ≡ true)) → (q : Mark) × Has (x ∷ xs) q × (p q ≡ true)
-    next h = (h.0, inr h.1, h.2)
 
 at_prefix : (id : ℕ) (xs : List Mark) (q : Mark) (d : Mark) → IsById xs → Has xs q → q.id ≡ id → get_or xs (prefix_len (below id) xs) d ≡ q
 at_prefix id [] q d ordered has same = absurd has

@@ -12,7 +12,8 @@ use std::alloc::{AllocError, Global};
 use std::marker::Model;
 use text_lengths::Span;
 
-/// The decorations of a document, by start, then by end, then by id. Only `reserve` and `search` take memory.
+/// The decorations of a document, by start, then by end, then by id. Only `reserve` and `search` take memory. They lie
+/// in vectors: a look-up by id halves, and every other call costs time in the number of decorations.
 #[derive(Drop)]
 pub struct IntervalTree {
     /// By start, then by end, then by id.

@@ -3,3 +3,4 @@ pub mod Histories
 pub mod Turns
 pub mod Editing
 pub mod Stepping
+pub mod Carries

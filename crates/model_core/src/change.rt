@@ -4,11 +4,14 @@ ghost use Rattle.std.specs.Prelude.{◌≡◌, ◌+◌, ◌*◌, ◌<◌, ◌≤
 ghost use Rattle.std.specs.List.{All};
 ghost use Rattle.batch_rules.specs.Batches.{most_units, applied_from, text_units, StandFrom};
 ghost use Rattle.model_core.specs.History.{text_back, text_on, LeadBack, LeadOn, ops_by, op_count, unit_count};
+ghost use Rattle.model_core.specs.Carrying.{edit_with, carried_with, decorations_back, decorations_on, AreIn};
 
+use decorations::{DecoSet, Edit};
 use edit_batches::Batch;
 use std::alloc::AllocError;
 use text_buffer::TextBuffer;
 use text_rules::Op;
+use unit_text::Flat;
 
 /// Which way a text is led along changes.
 #[derive(Clone, Copy)]
@@ -37,44 +40,66 @@ impl Change {
     }
 }
 
-/// Carries out the ops, for which there is room.
-pub(crate) fn apply(text: &mut TextBuffer, ops: &[Op])
+/// Carries out the ops, for which there is room, and moves the decorations with them; forced ones only where they are
+/// wanted.
+pub(crate) fn apply(text: &mut TextBuffer, decorations: &mut DecoSet, ops: &[Op], forces: bool)
     requires standing { StandFrom 0 text.old.units ops.now }
     requires small { length text.old.units + text_units ops.now < 2 ^ 62 }
     requires edits { length ops.now ≤ text.old.spare_edits }
     requires room { text_units ops.now + 3 * length ops.now ≤ text.old.spare_units }
+    requires inside { AreIn (length text.old.units) decorations.old }
     ensures units { text.new.units ≡ applied_from 0 text.old.units ops.now }
     ensures edits { text.old.spare_edits ≤ text.new.spare_edits + length ops.now }
     ensures room { text.old.spare_units ≤ text.new.spare_units + (text_units ops.now + 3 * length ops.now) }
+    ensures decorations { decorations.new ≡ carried_with forces decorations.old ops.now }
+    ensures inside { AreIn (length text.new.units) decorations.new }
 {
     for done in 0..ops.len() {
         let op = &ops[ops.len() - 1 - done];
+        decorations.accept(&edit_with(op, forces));
         text.replace(op.span, op.text.as_slice());
     }
 }
 
+fn edit_with(op: &Op, forces: bool) -> Edit
+    ensures { result ≡ edit_with forces op.now }
+{
+    Edit {
+        start: op.span.start,
+        end: op.span.end,
+        units: op.text.len(),
+        force: forces && op.force,
+    }
+}
+
 /// Takes the changes back, the last of them first. There is room for it.
-pub(crate) fn take_back(text: &mut TextBuffer, changes: &[Change])
+pub(crate) fn take_back(text: &mut TextBuffer, decorations: &mut DecoSet, changes: &[Change])
     requires lead { LeadBack text.old.units changes.now }
     requires edits { op_count Way.Back changes.now ≤ text.old.spare_edits }
     requires room { unit_count Way.Back changes.now + 3 * op_count Way.Back changes.now ≤ text.old.spare_units }
-    ensures { text.new.units ≡ text_back text.old.units changes.now }
+    requires inside { AreIn (length text.old.units) decorations.old }
+    ensures units { text.new.units ≡ text_back text.old.units changes.now }
+    ensures decorations { decorations.new ≡ decorations_back decorations.old changes.now }
+    ensures inside { AreIn (length text.new.units) decorations.new }
 {
     for done in 0..changes.len() {
         let change = &changes[changes.len() - 1 - done];
-        apply(text, change.inverse.ops());
+        apply(text, decorations, change.inverse.ops(), true);
     }
 }
 
 /// Makes the changes again, the first of them first. There is room for it.
-pub(crate) fn make_again(text: &mut TextBuffer, changes: &[Change])
+pub(crate) fn make_again(text: &mut TextBuffer, decorations: &mut DecoSet, changes: &[Change])
     requires lead { LeadOn text.old.units changes.now }
     requires edits { op_count Way.On changes.now ≤ text.old.spare_edits }
     requires room { unit_count Way.On changes.now + 3 * op_count Way.On changes.now ≤ text.old.spare_units }
-    ensures { text.new.units ≡ text_on text.old.units changes.now }
+    requires inside { AreIn (length text.old.units) decorations.old }
+    ensures units { text.new.units ≡ text_on text.old.units changes.now }
+    ensures decorations { decorations.new ≡ decorations_on decorations.old changes.now }
+    ensures inside { AreIn (length text.new.units) decorations.new }
 {
     for change in changes {
-        apply(text, change.batch.ops());
+        apply(text, decorations, change.batch.ops(), false);
     }
 }
 

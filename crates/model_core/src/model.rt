@@ -4,10 +4,11 @@ ghost use Rattle.std.specs.Prelude.{◌≡◌, [], length};
 ghost use Rattle.std.specs.List.{All};
 ghost use Rattle.unit_text.specs.Units.{IsPaired};
 ghost use Rattle.text_rules.specs.Edits.{is_bad_span};
-ghost use Rattle.document_rules.specs.Outcomes.{Changes, Moves, Appends};
-ghost use Rattle.document_rules.specs.Document.{new_document, flat_open, flat_edit, flat_stop, flat_undo, flat_redo, flat_line, flat_value, flat_position, flat_offset, flat_line_count, error_of};
+ghost use Rattle.document_rules.specs.Outcomes.{Changes, ChangesWith, Moves, Appends};
+ghost use Rattle.document_rules.specs.Document.{new_document, flat_open, flat_edit, flat_stop, flat_undo, flat_redo, flat_decorate, flat_deco, flat_decos, flat_line, flat_value, flat_position, flat_offset, flat_line_count, error_of, refusal_of};
 
 use crate::change::{Change, Way, apply, make_again, reserve_for, take_back};
+use decorations::{Deco, DecoError, DecoSet, NewDeco};
 use document_rules::ModelError;
 use edit_batches::{Batch, BatchError, MOST_UNITS};
 use edit_stack::EditStack;
@@ -26,6 +27,7 @@ pub struct Model {
     text: TextBuffer,
     version: u64,
     alternative: u64,
+    decorations: DecoSet,
     history: EditStack<Change>,
 }
 
@@ -35,6 +37,7 @@ impl std::marker::Model for Model {
     ghost use Rattle.document_rules.specs.Document.{greatest_version};
     ghost use Rattle.model_core.specs.State.{ModelState};
     ghost use Rattle.model_core.specs.History.{history_of, IsHistory};
+    ghost use Rattle.model_core.specs.Carrying.{AreIn};
 
     ghost Value = { ModelState };
 
@@ -43,12 +46,13 @@ impl std::marker::Model for Model {
         units = m.text.units;
         version = m.version;
         alternative = m.alternative;
+        decorations = m.decorations;
         history = history_of m.text.units m.history.stack;
       };
     } };
 
     ghost invariant = { λ m. (length m.text.units ≤ most_units) × (m.version ≤ greatest_version)
-        × IsHistory m.text.units m.history.stack };
+        × IsHistory m.text.units m.history.stack × AreIn (length m.text.units) m.decorations };
 }
 
 impl Model {
@@ -61,6 +65,7 @@ impl Model {
             text: TextBuffer::new(alloc),
             version: 1,
             alternative: 1,
+            decorations: DecoSet::new(alloc),
             history: EditStack::new(alloc),
         }
     }
@@ -76,6 +81,7 @@ impl Model {
         self.text = text;
         self.version = 1;
         self.alternative = 1;
+        self.decorations = DecoSet::new(self.alloc);
         self.history = EditStack::new(self.alloc);
         Ok(())
     }
@@ -98,7 +104,7 @@ impl Model {
         self.text
             .reserve(batch.ops().len() as u64, batch.text_units())
             .map_err(|_| ModelError::Memory)?;
-        apply(&mut self.text, batch.ops());
+        apply(&mut self.text, &mut self.decorations, batch.ops(), true);
         self.history
             .push(Change { batch, inverse }, self.alternative, version);
         self.version = version;
@@ -124,7 +130,7 @@ impl Model {
         let version = raised(self.version, 1).ok_or(ModelError::Limit)?;
         let changes = step.changes();
         reserve_for(&mut self.text, changes, Way::Back).map_err(|_| ModelError::Memory)?;
-        take_back(&mut self.text, changes);
+        take_back(&mut self.text, &mut self.decorations, changes);
         self.version = version;
         self.alternative = step.alt_before();
         self.history.undone();
@@ -142,11 +148,54 @@ impl Model {
         let version = raised(self.version, 1).ok_or(ModelError::Limit)?;
         let changes = step.changes();
         reserve_for(&mut self.text, changes, Way::On).map_err(|_| ModelError::Memory)?;
-        make_again(&mut self.text, changes);
+        make_again(&mut self.text, &mut self.decorations, changes);
         self.version = version;
         self.alternative = step.alt_after();
         self.history.redone();
         Ok(true)
+    }
+
+    /// Takes decorations of an owner out and puts new ones in, all of it or none, and answers the first new id, or the
+    /// next free one where nothing is added. `Unknown` where a named one is not live, has another owner or is named
+    /// twice; else `Range` where a span is none of the text or a mode is above 3; else `Limit` where too many would be
+    /// live, or an id would pass the greatest one.
+    pub fn decorate(
+        &mut self,
+        owner: u64,
+        remove: &[u64],
+        add: &[NewDeco],
+    ) -> Result<u64, ModelError>
+        ensures { ChangesWith self.old.document.decorations.next_id result self.old.document self.new.document
+            (flat_decorate self.old.document owner remove.now add.now) }
+    {
+        self.decorations
+            .delta(owner, remove, add, &self.text)
+            .map_err(refusal_of)
+    }
+
+    /// The live decoration of this id.
+    pub fn get_deco(&self, id: u64) -> Option<Deco>
+        ensures { result ≡ flat_deco self.now.document id }
+    {
+        self.decorations.get(id)
+    }
+
+    /// Appends the decorations that share a unit with the span, or touch it: all of them, or those of one owner. `Range`
+    /// where the span is none of the text; after an error `out` is as it was.
+    pub fn decos_in(
+        &self,
+        span: Span,
+        owner: Option<u64>,
+        out: &mut Vec<Deco>,
+    ) -> Result<(), ModelError>
+        ensures { Appends result out.old.items out.new.items (flat_decos self.now.document span owner) }
+    {
+        if is_bad_span(&self.text, span) {
+            return Err(ModelError::Range);
+        }
+        self.decorations
+            .in_range(span, owner, out)
+            .map_err(|_| ModelError::Memory)
     }
 
     /// How many units the text has.
@@ -221,5 +270,16 @@ fn error_of(error: BatchError) -> ModelError
         BatchError::Overlap => ModelError::Overlap,
         BatchError::Limit => ModelError::Limit,
         BatchError::Memory => ModelError::Memory,
+    }
+}
+
+fn refusal_of(error: DecoError) -> ModelError
+    ensures { result ≡ refusal_of error }
+{
+    match error {
+        DecoError::Unknown => ModelError::Unknown,
+        DecoError::Range => ModelError::Range,
+        DecoError::Limit => ModelError::Limit,
+        DecoError::Memory => ModelError::Memory,
     }
 }

@@ -40,6 +40,35 @@ fn undo_and_redo(rt: HostRuntime) -> Result<(), Fail> {
 }
 
 #[test]
+fn a_decoration_that_is_moved(rt: HostRuntime) -> Result<(), Fail> {
+    let mut model = Model::new(rt.alloc());
+    model.open_doc(&[97, 98])?;
+    let new = NewDeco {
+        span: Span { start: 1, end: 2 },
+        stick: 1,
+        collapse: false,
+    };
+    assert_eq!(rt; model.decorate(7, &[], &[new]), Ok(1));
+    let op = Op {
+        span: Span { start: 0, end: 0 },
+        text: Units::copy_of(rt.alloc(), &[99])?,
+        force: false,
+    };
+    model.edit(&[op])?;
+    let moved = Deco {
+        id: 1,
+        owner: 7,
+        span: Span { start: 2, end: 3 },
+        stick: 1,
+        collapse: false,
+    };
+    let mut found = Vec::new(rt.alloc());
+    model.decos_in(Span { start: 0, end: 3 }, Some(7), &mut found)?;
+    assert_eq!(rt; found.as_slice(), [moved].as_slice());
+    Ok(())
+}
+
+#[test]
 fn the_greatest_number_is_not_raised(rt: HostRuntime) {
     assert_eq!(rt; raised(GREATEST_NUMBER, 1), None);
     assert_eq!(rt; raised(GREATEST_NUMBER - 1, 1), Some(GREATEST_NUMBER));

@@ -7,10 +7,9 @@ use Rattle.serde_json.specs.declared.value.Value.{Value}
 use Rattle.serde_json.specs.View.{view, items_view, members_view}
 use Rattle.serde_json.specs.Data.{Data, null, boolean, number, string, array, object, Members}
 use Rattle.serde_json.specs.Find.{as_object}
-use Rattle.script_lines.specs.Fields.{keys_among, has_only, span_in, positions_in}
-use Rattle.script_lines.specs.declared.op.LineOp.{LineOp}
+use Rattle.script_lines.specs.Fields.{keys_among, has_only, all_of, span_in, positions_in}
 use Rattle.script_lines.specs.Reading.{◌>>=◌}
-use Rattle.script_lines.specs.Commands.{op_in, ops_in, some_ops_in}
+use Rattle.script_lines.specs.Commands.{op_in, some_ops_in}
 
 pub keys_among-members_view : (names : List (List ℕ)) (es : List (String Global × Value))
     → keys_among names (members_view es) ≡ list_all (λ key. list_any (bytes_eq (string_bytes key)) names) (map (λ e. e.0) es)
@@ -40,39 +39,50 @@ has_only-as_object names (object ns) ms is =
     let same : ns ≡ ms = cc in
     ap (keys_among names) same
 
-abbrev joined : Option LineOp → Option (List LineOp) → Option (List LineOp)
-joined first rest = first >>= (λ op. rest >>= (λ ops. Some (op ∷ ops)))
+abbrev joined : {X : Type 0} → Option X → Option (List X) → Option (List X)
+joined first rest = first >>= (λ x. rest >>= (λ xs. Some (x ∷ xs)))
 
-joined_some : (first : Option LineOp) (rest : Option (List LineOp)) (all : List LineOp) → joined first rest ≡ Some all
-    → (op : LineOp) × (ops : List LineOp) × (first ≡ Some op) × (rest ≡ Some ops) × (all ≡ op ∷ ops)
+joined_some : {X : Type 0} (first : Option X) (rest : Option (List X)) (all : List X) → joined first rest ≡ Some all
+    → (x : X) × (xs : List X) × (first ≡ Some x) × (rest ≡ Some xs) × (all ≡ x ∷ xs)
 joined_some None rest all is = absurd cc
-joined_some (Some op) None all is = absurd cc
-joined_some (Some op) (Some ops) all is = (op, ops, refl, refl, cc)
+joined_some (Some x) None all is = absurd cc
+joined_some (Some x) (Some xs) all is = (x, xs, refl, refl, cc)
 
-joined_none : (first : Option LineOp) → joined first None ≡ None
+joined_none : {X : Type 0} (first : Option X) → joined first None ≡ None
 joined_none None = refl
-joined_none (Some op) = refl
+joined_none (Some x) = refl
 
--- one op more was read
-pub ops_in_more : (vs : List Value) (i : ℕ) (d : Value) (op : LineOp) (ops : List LineOp) → i < length vs → op_in (view (get_or vs i d)) ≡ Some op
-    → ops_in (items_view (take i vs)) ≡ Some ops → ops_in (items_view (take (i + 1) vs)) ≡ Some (ops ++ op ∷ [])
-ops_in_more [] i d op ops inside next read = absurd (omega arith)
-ops_in_more (v ∷ vs) zero d op ops inside next read =
-    let none : ops ≡ [] = cc in
+more_read : {X : Type 0} (reads : Data → Option X) (vs : List Value) (i : ℕ) (d : Value) (x : X) (xs : List X) → i < length vs
+    → reads (view (get_or vs i d)) ≡ Some x → all_of reads (items_view (take i vs)) ≡ Some xs
+    → all_of reads (items_view (take (i + 1) vs)) ≡ Some (xs ++ x ∷ [])
+more_read reads [] i d x xs inside next read = absurd (omega arith)
+more_read reads (v ∷ vs) zero d x xs inside next read =
+    let none : xs ≡ [] = cc in
     rw (next, none) refl
-ops_in_more (v ∷ vs) (suc i) d op ops inside next read =
-    let parts = joined_some (op_in (view v)) (ops_in (items_view (take i vs))) ops read in
-    let more = ops_in_more vs i d op parts.1 (omega arith) next parts.3 in
+more_read reads (v ∷ vs) (suc i) d x xs inside next read =
+    let parts = joined_some (reads (view v)) (all_of reads (items_view (take i vs))) xs read in
+    let more = more_read reads vs i d x parts.1 (omega arith) next parts.3 in
     let count : suc i + 1 ≡ suc (i + 1) = omega arith in
-    rw count (ap (λ o. joined o (ops_in (items_view (take (i + 1) vs)))) parts.2 ∙ ap (joined (Some parts.0)) more ∙ ap (λ l. Some (l ++ op ∷ [])) (sym parts.4))
+    rw count (ap (λ o. joined o (all_of reads (items_view (take (i + 1) vs)))) parts.2 ∙ ap (joined (Some parts.0)) more ∙ ap (λ l. Some (l ++ x ∷ [])) (sym parts.4))
 
--- an op that is none refuses them all
-pub ops_in_refused : (vs : List Value) (i : ℕ) (d : Value) → i < length vs → op_in (view (get_or vs i d)) ≡ None → ops_in (items_view vs) ≡ None
-ops_in_refused [] i d inside none = absurd (omega arith)
-ops_in_refused (v ∷ vs) zero d inside none = rw none refl
-ops_in_refused (v ∷ vs) (suc i) d inside none = rw (ops_in_refused vs i d (omega arith) none) (joined_none (op_in (view v)))
+one_refused : {X : Type 0} (reads : Data → Option X) (vs : List Value) (i : ℕ) (d : Value) → i < length vs
+    → reads (view (get_or vs i d)) ≡ None → all_of reads (items_view vs) ≡ None
+one_refused reads [] i d inside none = absurd (omega arith)
+one_refused reads (v ∷ vs) zero d inside none = rw none refl
+one_refused reads (v ∷ vs) (suc i) d inside none = rw (one_refused reads vs i d (omega arith) none) (joined_none (reads (view v)))
 
-pub some_ops_in-some : (vs : List Value) → 0 < length vs → some_ops_in (items_view vs) ≡ ops_in (items_view vs)
+-- the item at place i was read as well
+pub all_of_more : {X : Type 0} (reads : Data → Option X) (vs : List Value) (i : ℕ) (v : Value) (x : X) (xs : List X) → i < length vs
+    → v ≡ get_or vs i v → reads (view v) ≡ Some x → all_of reads (items_view (take i vs)) ≡ Some xs
+    → all_of reads (items_view (take (i + 1) vs)) ≡ Some (xs ++ x ∷ [])
+all_of_more reads vs i v x xs inside at next read = more_read reads vs i v x xs inside (ap (λ w. reads (view w)) (sym at) ∙ next) read
+
+-- an item that is not read refuses them all
+pub all_of_refused : {X : Type 0} (reads : Data → Option X) (vs : List Value) (i : ℕ) (v : Value) → i < length vs
+    → v ≡ get_or vs i v → reads (view v) ≡ None → all_of reads (items_view vs) ≡ None
+all_of_refused reads vs i v inside at none = one_refused reads vs i v inside (ap (λ w. reads (view w)) (sym at) ∙ none)
+
+pub some_ops_in-some : (vs : List Value) → 0 < length vs → some_ops_in (items_view vs) ≡ all_of op_in (items_view vs)
 some_ops_in-some [] some = absurd (omega arith)
 some_ops_in-some (v ∷ vs) some = refl
 

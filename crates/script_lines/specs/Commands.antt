@@ -8,9 +8,10 @@ use Rattle.script_lines.specs.declared.op.LineOp.{LineOp}
 use Rattle.script_lines.specs.declared.op.Place.{Place}
 use Rattle.script_lines.specs.declared.op.Place.TheVariants.{At, InRange}
 use Rattle.script_lines.specs.Reading.{◌>>=◌}
-use Rattle.script_lines.specs.Fields.{has_only, number_at, string_at, text_at, span_at, positions_at, position_in, flag_at}
+use Rattle.script_lines.specs.Fields.{has_only, number_at, optional_number_at, all_of, ids_at, string_at, text_at, span_at, positions_at, position_in, flag_at}
+use Rattle.script_lines.specs.Decorations.{new_decos_at}
 use Rattle.script_lines.specs.declared.command.Command.{Command}
-use Rattle.script_lines.specs.declared.command.Command.TheVariants.{Open, Edit, Undo, Redo, Stop, Size, Version, Line, Value, Offset, Position}
+use Rattle.script_lines.specs.declared.command.Command.TheVariants.{Open, Edit, Decorate, Undo, Redo, Stop, Size, Version, Line, Value, Offset, Position, Deco, Decos}
 
 -- `{"cmd":"open","text":TEXT}`
 abbrev pub open_in : Data → Option Command
@@ -34,22 +35,26 @@ op_in d =
     if has_only (codes "at" ∷ codes "text" ∷ codes "force" ∷ []) d || has_only (codes "range" ∷ codes "text" ∷ codes "force" ∷ []) d
     then op_of d else None
 
-abbrev pub ops_in : Items → Option (List LineOp)
-ops_in no_items = Some []
-ops_in (item d ds) = do
-  op ← op_in d
-  ops ← ops_in ds
-  Some (op ∷ ops)
-
 -- one op or more
 abbrev pub some_ops_in : Items → Option (List LineOp)
 some_ops_in no_items = None
-some_ops_in (item d ds) = ops_in (item d ds)
+some_ops_in (item d ds) = all_of op_in (item d ds)
 
 -- `{"cmd":"edit","ops":[OP,..]}`
 abbrev pub edit_in : Data → Option Command
 edit_in d = if has_only (codes "cmd" ∷ codes "ops" ∷ []) d
     then option_map Edit (option_and_then some_ops_in (option_and_then as_array (get (codes "ops") d))) else None
+
+abbrev pub decorate_of : Data → Option Command
+decorate_of d = do
+  owner ← number_at (codes "owner") d
+  remove ← ids_at (codes "remove") d
+  add ← new_decos_at (codes "add") d
+  Some (Decorate owner remove add)
+
+-- `{"cmd":"decorate","owner":NUMBER,"remove":[NUMBER,..],"add":[NEW,..]}`
+abbrev pub decorate_in : Data → Option Command
+decorate_in d = if has_only (codes "cmd" ∷ codes "owner" ∷ codes "remove" ∷ codes "add" ∷ []) d then decorate_of d else None
 
 -- `{"cmd":NAME}`, for the command of that name
 abbrev pub bare_in : Command → Data → Option Command
@@ -72,11 +77,30 @@ abbrev pub position_command_in : Data → Option Command
 position_command_in d =
     if has_only (codes "cmd" ∷ codes "offset" ∷ []) d then option_map Position (number_at (codes "offset") d) else None
 
+-- `{"cmd":"deco","id":NUMBER}`
+abbrev pub deco_in : Data → Option Command
+deco_in d = if has_only (codes "cmd" ∷ codes "id" ∷ []) d then option_map Deco (number_at (codes "id") d) else None
+
+abbrev pub decos_of : Data → Option Command
+decos_of d = do
+  at ← span_at (codes "at") d
+  owner ← optional_number_at (codes "owner") d
+  Some (Decos at owner)
+
+-- `{"cmd":"decos","at":[START,END]}`, with `"owner":NUMBER` if only those of one owner are wanted
+abbrev pub decos_in : Data → Option Command
+decos_in d = if has_only (codes "cmd" ∷ codes "at" ∷ codes "owner" ∷ []) d then decos_of d else None
+
 abbrev pub history_named : List ℕ → Option Command
 history_named name =
     if bytes_eq name (codes "undo") then Some Undo else
     (if bytes_eq name (codes "redo") then Some Redo else
     (if bytes_eq name (codes "stop") then Some Stop else None))
+
+abbrev pub decoration_query_named : List ℕ → Data → Option Command
+decoration_query_named name d =
+    if bytes_eq name (codes "deco") then deco_in d else
+    (if bytes_eq name (codes "decos") then decos_in d else None)
 
 abbrev pub query_named : List ℕ → Data → Option Command
 query_named name d =
@@ -85,7 +109,7 @@ query_named name d =
     (if bytes_eq name (codes "line") then line_in d else
     (if bytes_eq name (codes "value") then value_in d else
     (if bytes_eq name (codes "offset") then offset_in d else
-    (if bytes_eq name (codes "position") then position_command_in d else None)))))
+    (if bytes_eq name (codes "position") then position_command_in d else decoration_query_named name d)))))
 
 -- the command without fields, or else a query
 abbrev pub bare_or_query : Option Command → List ℕ → Data → Option Command
@@ -95,7 +119,8 @@ bare_or_query None name d = query_named name d
 abbrev pub command_named : List ℕ → Data → Option Command
 command_named name d =
     if bytes_eq name (codes "open") then open_in d else
-    (if bytes_eq name (codes "edit") then edit_in d else bare_or_query (history_named name) name d)
+    (if bytes_eq name (codes "edit") then edit_in d else
+    (if bytes_eq name (codes "decorate") then decorate_in d else bare_or_query (history_named name) name d))
 
 abbrev pub command_in : Data → Option Command
 command_in d = option_and_then (λ name. command_named name d) (string_at (codes "cmd") d)

@@ -1,7 +1,11 @@
 -- Worked examples of the definitions.
-use Rattle.std.specs.Prelude.{◌≡◌, ◌∷◌, [], codes, refl}
+use Rattle.std.specs.Prelude.{◌≡◌, ℕ, false, ◌∷◌, [], Some, None, codes, refl}
 use Rattle.std.specs.Fmt.{digits}
+use Rattle.serde_json.specs.Data.{Data, null, number, string, array, object, unsigned, Items, no_items, item, no_members, member}
 use Rattle.script_lines.specs.Replies.{ok_reply}
+use Rattle.script_lines.specs.Decorations.{new_deco_in}
+use Rattle.script_lines.specs.Commands.{command_in}
+use Rattle.script_lines.specs.declared.command.Command.TheVariants.{Decorate, Decos}
 
 three_numbers : ok_reply (2 ∷ 3 ∷ 10 ∷ []) ≡ codes "ok 2 3 10\n"
 unfolding digits
@@ -9,3 +13,55 @@ three_numbers = refl
 
 no_numbers : ok_reply [] ≡ codes "ok\n"
 no_numbers = refl
+
+-- ---- decorations
+
+-- `N`, `[A,B]` and `{"at":[2,5],"stick":1}`
+abbrev whole : ℕ → Data
+whole n = number (unsigned n)
+
+abbrev two : ℕ → ℕ → Items
+two a b = item (whole a) (item (whole b) no_items)
+
+abbrev new : Data
+new = object (member (codes "at") (array (two 2 5)) (member (codes "stick") (whole 1) no_members))
+
+-- what is not there is off
+new_without_collapse : new_deco_in new ≡ Some (record { span = record { start = 2; end = 5 }; stick = 1; collapse = false })
+new_without_collapse = refl
+
+-- `null` is neither on nor off
+new_with_null :
+    new_deco_in (object (member (codes "at") (array (two 2 5)) (member (codes "collapse") null (member (codes "stick") (whole 1) no_members))))
+    ≡ None
+new_with_null = refl
+
+-- `{"add":[..],"cmd":"decorate","owner":7,"remove":[..]}`
+abbrev decorate : Items → Items → Data
+decorate remove add = object (member (codes "add") (array add) (member (codes "cmd") (string (codes "decorate"))
+    (member (codes "owner") (whole 7) (member (codes "remove") (array remove) no_members))))
+
+nothing_to_decorate : command_in (decorate no_items no_items) ≡ Some (Decorate 7 [] [])
+nothing_to_decorate = refl
+
+ids_in_their_order : command_in (decorate (two 9 4) (item new no_items))
+    ≡ Some (Decorate 7 (9 ∷ 4 ∷ []) (record { span = record { start = 2; end = 5 }; stick = 1; collapse = false } ∷ []))
+ids_in_their_order = refl
+
+text_is_no_id : command_in (decorate (item (whole 9) (item (string (codes "4")) no_items)) no_items) ≡ None
+text_is_no_id = refl
+
+-- `{"at":[2,5],"cmd":"decos"}`, for any owner
+of_any_owner : command_in (object (member (codes "at") (array (two 2 5)) (member (codes "cmd") (string (codes "decos")) no_members)))
+    ≡ Some (Decos (record { start = 2; end = 5 }) None)
+of_any_owner = refl
+
+-- `{"at":[2,5],"cmd":"decos","owner":OWNER}`
+abbrev of_owner : Data → Data
+of_owner owner = object (member (codes "at") (array (two 2 5)) (member (codes "cmd") (string (codes "decos")) (member (codes "owner") owner no_members)))
+
+of_owner_7 : command_in (of_owner (whole 7)) ≡ Some (Decos (record { start = 2; end = 5 }) (Some 7))
+of_owner_7 = refl
+
+of_owner_null : command_in (of_owner null) ≡ None
+of_owner_null = refl

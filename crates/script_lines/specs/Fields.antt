@@ -1,5 +1,5 @@
 -- The fields of a JSON object, as serde_json reads it.
-use Rattle.std.specs.Prelude.{ℕ, Bool, true, false, ◌&&◌, List, Option, Some, None, option_map, option_and_then, codes}
+use Rattle.std.specs.Prelude.{ℕ, Bool, true, false, ◌&&◌, List, [], ◌∷◌, Option, Some, None, option_map, option_and_then, codes}
 use Rattle.std.specs.List.{list_any}
 use Rattle.std.specs.Str.{bytes_eq}
 use Rattle.serde_json.specs.Data.{Data, null, boolean, number, string, array, object, Items, no_items, item, Members, no_members, member}
@@ -29,6 +29,29 @@ whole_number d = option_and_then as_u64 (as_number d)
 
 abbrev pub number_at : List ℕ → Data → Option ℕ
 number_at key d = option_and_then whole_number (get key d)
+
+abbrev pub optional_number_of : Option Data → Option (Option ℕ)
+optional_number_of None = Some None
+optional_number_of (Some d) = option_map Some (whole_number d)
+
+-- a number, or none where the field is absent
+abbrev pub optional_number_at : List ℕ → Data → Option (Option ℕ)
+optional_number_at key d = optional_number_of (get key d)
+
+-- what is read of each item, in order; nothing where one of them is not read
+abbrev pub all_of : {X : Type 0} → (Data → Option X) → Items → Option (List X)
+all_of reads no_items = Some []
+all_of reads (item d ds) = do
+  x ← reads d
+  xs ← all_of reads ds
+  Some (x ∷ xs)
+
+-- an array of any count of whole numbers
+abbrev pub ids_in : Items → Option (List ℕ)
+ids_in ds = all_of whole_number ds
+
+abbrev pub ids_at : List ℕ → Data → Option (List ℕ)
+ids_at key d = option_and_then ids_in (option_and_then as_array (get key d))
 
 abbrev pub string_at : List ℕ → Data → Option (List ℕ)
 string_at key d = option_and_then as_str (get key d)

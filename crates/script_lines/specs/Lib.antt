@@ -1,5 +1,6 @@
 pub mod Reading
 pub mod Fields
+pub mod Decorations
 pub mod Commands
 pub mod Replies
 mod Examples

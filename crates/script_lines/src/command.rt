@@ -5,11 +5,14 @@ ghost use Rattle.std.specs.Str.{is_utf8};
 ghost use Rattle.serde_json.specs.Read.{read};
 ghost use Rattle.serde_json.specs.View.{view, items_view};
 ghost use Rattle.script_lines.specs.Reading.{Reads};
-ghost use Rattle.script_lines.specs.Commands.{open_in, place_in, op_of, op_in, some_ops_in, edit_in, bare_in, line_in, value_in, offset_in, position_command_in, history_named, query_named, command_named, command_in, command_of};
+ghost use Rattle.script_lines.specs.Commands.{open_in, place_in, op_of, op_in, some_ops_in, edit_in, decorate_in, bare_in, line_in, value_in, offset_in, position_command_in, deco_in, decos_in, history_named, query_named, decoration_query_named, command_named, command_in, command_of};
 
+use crate::decoration::new_decos_at;
 use crate::fields::{
-    LineFault, flag_at, has_only, number_at, position_in, positions_at, span_at, text_at,
+    LineFault, flag_at, has_only, ids_at, number_at, optional_number_at, position_in, positions_at,
+    span_at, text_at,
 };
+use crate::lists::{Ids, NewDecos};
 use crate::op::{LineOp, LineOps, Place};
 use serde_json::Value;
 use serde_json::error::Category;
@@ -21,9 +24,19 @@ use unit_text::Units;
 #[derive(Drop, Debug)]
 pub enum Command {
     /// Puts a new document in place of the old one.
-    Open { text: Units },
+    Open {
+        text: Units,
+    },
     /// Changes the text.
-    Edit { ops: LineOps },
+    Edit {
+        ops: LineOps,
+    },
+    /// Removes decorations of the owner, by their ids, and adds new ones to it.
+    Decorate {
+        owner: u64,
+        remove: Ids,
+        add: NewDecos,
+    },
     /// Goes back to the text before the last step.
     Undo,
     /// Goes on to the text after the step that was undone last.
@@ -35,13 +48,30 @@ pub enum Command {
     /// Asks for the version, and the version at which the text was last as it is now.
     Version,
     /// Asks for the content of the line of this number, counted from 1.
-    Line { n: u64 },
+    Line {
+        n: u64,
+    },
     /// Asks for the units of the span.
-    Value { at: Span },
+    Value {
+        at: Span,
+    },
     /// Asks for the offset of the position.
-    Offset { p: Position },
+    Offset {
+        p: Position,
+    },
     /// Asks for the position of the offset.
-    Position { offset: u64 },
+    Position {
+        offset: u64,
+    },
+    /// Asks for the span, the mode and the owner of the decoration.
+    Deco {
+        id: u64,
+    },
+    /// Asks for the decorations that share a unit with the span, or touch it: all of them, or those of one owner.
+    Decos {
+        at: Span,
+        owner: Option<u64>,
+    },
 }
 
 /// The command that the line spells. `Syntax` exactly where it spells none.
@@ -84,6 +114,9 @@ fn command_named(alloc: Global, name: &str, value: &Value) -> Result<Command, Li
     if name == "edit" {
         return edit_in(alloc, value);
     }
+    if name == "decorate" {
+        return decorate_in(alloc, value);
+    }
     match history_named(name) {
         Some(command) => bare_in(value, command),
         None => query_named(name, value),
@@ -125,6 +158,18 @@ fn query_named(name: &str, value: &Value) -> Result<Command, LineFault>
     }
     if name == "position" {
         return position_command_in(value);
+    }
+    decoration_query_named(name, value)
+}
+
+fn decoration_query_named(name: &str, value: &Value) -> Result<Command, LineFault>
+    ensures { Reads result (decoration_query_named name.now (view value.now)) }
+{
+    if name == "deco" {
+        return deco_in(value);
+    }
+    if name == "decos" {
+        return decos_in(value);
     }
     Err(LineFault::Syntax)
 }
@@ -194,6 +239,18 @@ fn place_in(value: &Value) -> Result<Place, LineFault>
     Ok(Place::InRange(start, end))
 }
 
+fn decorate_in(alloc: Global, value: &Value) -> Result<Command, LineFault>
+    ensures { Reads result (decorate_in (view value.now)) }
+{
+    if !has_only(value, &["cmd", "owner", "remove", "add"]) {
+        return Err(LineFault::Syntax);
+    }
+    let owner = number_at(value, "owner")?;
+    let remove = ids_at(alloc, value, "remove")?;
+    let add = new_decos_at(alloc, value, "add")?;
+    Ok(Command::Decorate { owner, remove, add })
+}
+
 fn bare_in(value: &Value, command: Command) -> Result<Command, LineFault>
     ensures { Reads result (bare_in command (view value.now)) }
 {
@@ -241,4 +298,25 @@ fn position_command_in(value: &Value) -> Result<Command, LineFault>
     }
     let offset = number_at(value, "offset")?;
     Ok(Command::Position { offset })
+}
+
+fn deco_in(value: &Value) -> Result<Command, LineFault>
+    ensures { Reads result (deco_in (view value.now)) }
+{
+    if !has_only(value, &["cmd", "id"]) {
+        return Err(LineFault::Syntax);
+    }
+    let id = number_at(value, "id")?;
+    Ok(Command::Deco { id })
+}
+
+fn decos_in(value: &Value) -> Result<Command, LineFault>
+    ensures { Reads result (decos_in (view value.now)) }
+{
+    if !has_only(value, &["cmd", "at", "owner"]) {
+        return Err(LineFault::Syntax);
+    }
+    let at = span_at(value, "at")?;
+    let owner = optional_number_at(value, "owner")?;
+    Ok(Command::Decos { at, owner })
 }

@@ -6,8 +6,9 @@ ghost use Rattle.std.specs.List.{list_any, list_all};
 ghost use Rattle.std.specs.Str.{bytes_eq};
 ghost use Rattle.serde_json.specs.View.{view, items_view};
 ghost use Rattle.script_lines.specs.Reading.{Reads};
-ghost use Rattle.script_lines.specs.Fields.{has_only, whole_number, number_at, text_at, span_in, span_at, position_of, positions_in, positions_at, position_in, flag_at};
+ghost use Rattle.script_lines.specs.Fields.{has_only, whole_number, number_at, optional_number_at, ids_in, ids_at, text_at, span_in, span_at, position_of, positions_in, positions_at, position_in, flag_at};
 
+use crate::lists::Ids;
 use serde_json::{Map, Value};
 use std::alloc::{AllocError, Global};
 use text_lengths::{Position, Span};
@@ -64,6 +65,34 @@ pub(crate) fn number_at(value: &Value, key: &str) -> Result<u64, LineFault>
 {
     let field = value.get(key).ok_or(LineFault::Syntax)?;
     whole_number(field).ok_or(LineFault::Syntax)
+}
+
+pub(crate) fn optional_number_at(value: &Value, key: &str) -> Result<Option<u64>, LineFault>
+    ensures { Reads result (optional_number_at key.now (view value.now)) }
+{
+    match value.get(key) {
+        None => Ok(None),
+        Some(field) => whole_number(field).map(Some).ok_or(LineFault::Syntax),
+    }
+}
+
+pub(crate) fn ids_at(alloc: Global, value: &Value, key: &str) -> Result<Ids, LineFault>
+    ensures { Reads result (ids_at key.now (view value.now)) }
+{
+    let field = value.get(key).ok_or(LineFault::Syntax)?;
+    let items = field.as_array().ok_or(LineFault::Syntax)?;
+    ids_in(alloc, items.as_slice())
+}
+
+fn ids_in(alloc: Global, values: &[Value]) -> Result<Ids, LineFault>
+    ensures { Reads result (ids_in (items_view values.now)) }
+{
+    let mut ids = Vec::with_capacity(alloc, values.len()).map_err(|_| LineFault::Memory)?;
+    for value in values {
+        let id = whole_number(value).ok_or(LineFault::Syntax)?;
+        ids.push(id).map_err(|_| LineFault::Memory)?;
+    }
+    Ok(Ids::from_vec(ids))
 }
 
 pub(crate) fn text_at(alloc: Global, value: &Value, key: &str) -> Result<Units, LineFault>

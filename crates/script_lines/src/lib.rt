@@ -2,7 +2,9 @@
 #![tactic(auto)]
 
 mod command;
+mod decoration;
 mod fields;
+mod lists;
 mod long;
 mod op;
 mod reason;
@@ -10,6 +12,7 @@ mod short;
 
 pub use command::{Command, command_of};
 pub use fields::LineFault;
+pub use lists::{Ids, NewDecos};
 pub use long::{long_begin, long_end, long_mark, long_number, long_text};
 pub use op::{LineOp, LineOps, Place};
 pub use reason::Refusal;

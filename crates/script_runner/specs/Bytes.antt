@@ -32,5 +32,9 @@ abbrev pub AreFound : Result (Vec Op Global) ModelError → Option (List Op) →
 AreFound (Ok ops) rule = rule ≡ Some ops.items
 AreFound (Err e) rule = (e ≡ Memory) ⊎ ((e ≡ Range) × (rule ≡ None))
 
+-- the reply is this one, or `! memory`
+abbrev pub ThisOrMemory : List ℕ → List ℕ → Type 0
+ThisOrMemory this reply = (reply ≡ this) ⊎ (reply ≡ memory_reply)
+
 abbrev pub TextOrMemory : List ℕ → List ℕ → Type 0
-TextOrMemory units reply = (reply ≡ text_reply units) ⊎ (reply ≡ memory_reply)
+TextOrMemory units reply = ThisOrMemory (text_reply units) reply

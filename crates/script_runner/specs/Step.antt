@@ -3,11 +3,13 @@ use Rattle.std.specs.Prelude.{◌≡◌, ℕ, List, [], ◌∷◌, length, Optio
 use Rattle.text_lengths.specs.declared.Position.{Position}
 use Rattle.text_lengths.specs.declared.Span.{Span}
 use Rattle.text_rules.specs.declared.Op.{Op}
+use Rattle.decoration_rules.specs.declared.Deco.{Deco}
+use Rattle.std.specs.List.{flat_map}
 use Rattle.document_rules.specs.declared.ModelError.{ModelError}
 use Rattle.document_rules.specs.declared.ModelError.TheVariants as error
-use Rattle.document_rules.specs.Document.{FlatState, flat_open, flat_edit, flat_undo, flat_redo, flat_stop, flat_line, flat_value, flat_position, flat_offset, flat_line_count}
+use Rattle.document_rules.specs.Document.{FlatState, flat_open, flat_edit, flat_undo, flat_redo, flat_stop, flat_decorate, flat_deco, flat_decos, flat_line, flat_value, flat_position, flat_offset, flat_line_count}
 use Rattle.script_lines.specs.declared.command.Command.{Command}
-use Rattle.script_lines.specs.declared.command.Command.TheVariants.{Open, Edit, Undo, Redo, Stop, Size, Version, Line, Value, Offset}
+use Rattle.script_lines.specs.declared.command.Command.TheVariants.{Open, Edit, Decorate, Undo, Redo, Stop, Size, Version, Line, Value, Offset, Decos}
 use Rattle.script_lines.specs.declared.command.Command.TheVariants as command
 use Rattle.script_lines.specs.declared.op.LineOp.{LineOp}
 use Rattle.script_lines.specs.declared.op.Place.{Place}
@@ -56,6 +58,25 @@ abbrev pub position_answer : Option Position → List ℕ
 position_answer None = refusal_reply refusal.Range
 position_answer (Some p) = ok_reply (p.line ∷ p.column ∷ [])
 
+-- `ok FIRSTID COUNT`, or why nothing was changed
+abbrev pub decorated : FlatState → ℕ → Result FlatState ModelError → List ℕ × FlatState
+decorated old count (Ok new) = (ok_reply (old.decorations.next_id ∷ count ∷ []), new)
+decorated old count (Err e) = (refusal_reply (refusal_of e), old)
+
+-- `ok START END STICK OWNER`, or `! unknown`
+abbrev pub deco_answer : Option Deco → List ℕ
+deco_answer None = refusal_reply refusal.Unknown
+deco_answer (Some d) = ok_reply (d.span.start ∷ d.span.end ∷ d.stick ∷ d.owner ∷ [])
+
+-- ID, START and END of each
+abbrev pub deco_numbers : List Deco → List ℕ
+deco_numbers decos = flat_map (λ d. d.id ∷ d.span.start ∷ d.span.end ∷ []) decos
+
+-- `ok` and for each decoration ` ID START END`, or why there are none
+abbrev pub decos_answer : Result (List Deco) ModelError → List ℕ
+decos_answer (Ok decos) = ok_reply (deco_numbers decos)
+decos_answer (Err e) = refusal_reply (refusal_of e)
+
 abbrev pub span_between : Option ℕ → Option ℕ → Option Span
 span_between None end = None
 span_between (Some start) None = None
@@ -82,6 +103,7 @@ edited_at f (Some ops) = changed f (flat_edit f ops)
 abbrev pub step : FlatState → Command → List ℕ × FlatState
 step f (Open text) = changed f (flat_open text)
 step f (Edit ops) = edited_at f (ops_at f ops)
+step f (Decorate owner remove add) = decorated f (length add) (flat_decorate f owner remove add)
 step f Undo = moved f (flat_undo f)
 step f Redo = moved f (flat_redo f)
 step f Stop = (ok_reply [], flat_stop f)
@@ -91,6 +113,8 @@ step f (Line n) = (text_answer (flat_line f n), f)
 step f (Value span) = (text_answer (flat_value f span), f)
 step f (Offset p) = (offset_answer (flat_offset f p), f)
 step f (command.Position offset) = (position_answer (flat_position f offset), f)
+step f (command.Deco id) = (deco_answer (flat_deco f id), f)
+step f (Decos span owner) = (decos_answer (flat_decos f span owner), f)
 
 -- The reply is this one, and the document is as it says; or it is `! memory`, and the document is as before.
 pub data Answers (flat : List ℕ × FlatState) (old : FlatState) (reply : List ℕ) (new : FlatState) : Type 0 where

@@ -9,6 +9,7 @@ ghost use Rattle.script_runner.specs.Script.{Turn, commanded};
 ghost use Rattle.script_runner.specs.Progress.{IsLineSoFar};
 ghost use Rattle.script_runner.specs.Bytes.{bytes_of, change_answer, move_answer, TextOrMemory};
 
+use crate::decoration_replies::{deco_reply, decorate_reply, decos_reply};
 use crate::line::PartialLine;
 use crate::look_up::{offset_at, position_at};
 use crate::ops::ops_at;
@@ -41,7 +42,7 @@ impl Reply {
     }
 }
 
-fn refused(reason: Refusal) -> Reply
+pub(crate) fn refused(reason: Refusal) -> Reply
     ensures { bytes_of result ≡ refusal_reply reason }
 {
     Reply::Short(refusal(reason))
@@ -84,6 +85,7 @@ fn carry_out(alloc: Global, model: &mut Model, command: Command) -> Reply
             after_change(outcome, model)
         }
         Command::Edit { ops } => edit_reply(alloc, model, ops),
+        Command::Decorate { owner, remove, add } => decorate_reply(model, owner, remove, add),
         Command::Undo => {
             let outcome = model.undo();
             after_move(outcome, model)
@@ -105,6 +107,8 @@ fn carry_out(alloc: Global, model: &mut Model, command: Command) -> Reply
         Command::Value { at } => value_reply(alloc, model, at),
         Command::Offset { p } => offset_reply(model, p),
         Command::Position { offset } => position_reply(model, offset),
+        Command::Deco { id } => deco_reply(model, id),
+        Command::Decos { at, owner } => decos_reply(alloc, model, at, owner),
     }
 }
 
@@ -141,7 +145,7 @@ fn after_move(outcome: Result<bool, ModelError>, model: &Model) -> Reply
     }
 }
 
-fn refusal_of(error: ModelError) -> Refusal
+pub(crate) fn refusal_of(error: ModelError) -> Refusal
     ensures { result ≡ refusal_of error }
 {
     match error {

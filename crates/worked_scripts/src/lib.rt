@@ -4,6 +4,8 @@
 #[cfg(test)]
 mod batches;
 #[cfg(test)]
+mod decorated;
+#[cfg(test)]
 mod faults;
 #[cfg(test)]
 mod one_list;

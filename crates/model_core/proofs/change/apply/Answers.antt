@@ -1,16 +1,39 @@
-use Rattle.std.proofs.Common.{◌≡◌, ℕ, ◌+◌, ◌-◌, ◌≤◌, List, [], ◌++◌, length, drop, take, ap, sym, ◌∙◌, subst, arith}
+use Rattle.std.proofs.Common.{◌≡◌, ℕ, ◌+◌, ◌-◌, ◌≤◌, List, [], ◌++◌, length, map, drop, take, ap, sym, ◌∙◌, subst, arith}
 use Rattle.std.proofs.lemmas.List.{drop_all}
 use Rattle.text_rules.specs.declared.Op.{Op}
+use Rattle.text_rules.specs.Edits.{edited}
+use Rattle.decoration_rules.specs.Moves.{moved_mark}
+use Rattle.decoration_rules.specs.Marks.{in_order}
 use Rattle.batch_rules.specs.Batches.{text_units, edited_backwards, applied_from}
 use Rattle.batch_rules.proofs.Backwards.{backwards_is_one_pass}
+use Rattle.model_core.specs.Carrying.{edit_with, carried_with, AreIn}
 use Rattle.model_core.proofs.Turns.{turn}
+use Rattle.model_core.proofs.Carries.{carried_turn, carried_with-none}
 use Rattle.model_core.proofs.change.apply.Goals as goal
 
 pub loop-done-init : goal.loop-done-init
 loop-done-init c =
     let ops = c.args.ops.now in
     let none : drop (length ops - 0) ops ≡ [] = drop_all (length ops - 0) ops (omega arith) in
-    record { units = sym (ap (edited_backwards c.args.text.now.units) none); edits = omega arith; room = omega arith }
+    record {
+      units = sym (ap (edited_backwards c.args.text.now.units) none);
+      edits = omega arith;
+      room = omega arith;
+      carried = sym (ap (carried_with c.args.forces c.args.decorations.now) none ∙ carried_with-none c.args.forces c.args.decorations.now c.requires.inside.sound);
+      inside = c.requires.inside;
+    }
+
+pub accept-requires-clause-upright : goal.accept-requires-clause-upright
+accept-requires-clause-upright c =
+    let now = turn c.args.text.now.units c.args.ops.now c.loop-done.done c.index-ops-ops.result _ c.requires.standing c.loop-done-test.true c.index-ops-ops.is c.loop-done.invariant.units in
+    rw c.edit_with.ensures now.ordered
+
+pub accept-requires-clause-fits : goal.accept-requires-clause-fits
+accept-requires-clause-fits c =
+    let now = turn c.args.text.now.units c.args.ops.now c.loop-done.done c.index-ops-ops.result _ c.requires.standing c.loop-done-test.true c.index-ops-ops.is c.loop-done.invariant.units in
+    let moved = carried_turn c.args.forces c.args.decorations.now c.args.ops.now c.loop-done.done c.index-ops-ops.result c.loop-done.text.units c.loop-done.decorations c.requires.inside.sound c.loop-done.invariant.inside
+    c.loop-done-test.true c.index-ops-ops.is c.loop-done.invariant.carried now.ordered now.within (omega (arith, now.few, c.requires.small)) in
+    rw c.edit_with.ensures moved.fits
 
 pub replace-requires-clause-ordered : goal.replace-requires-clause-ordered
 replace-requires-clause-ordered c =
@@ -36,12 +59,19 @@ replace-requires-clause-small c =
 pub loop-done-preserved : goal.loop-done-preserved
 loop-done-preserved c =
     let now = turn c.args.text.now.units c.args.ops.now c.loop-done.done c.index-ops-ops.result _ c.requires.standing c.loop-done-test.true c.index-ops-ops.is c.loop-done.invariant.units in
+    let moved = carried_turn c.args.forces c.args.decorations.now c.args.ops.now c.loop-done.done c.index-ops-ops.result c.loop-done.text.units c.loop-done.decorations c.requires.inside.sound c.loop-done.invariant.inside
+    c.loop-done-test.true c.index-ops-ops.is c.loop-done.invariant.carried now.ordered now.within (omega (arith, now.few, c.requires.small)) in
+    let set : c.accept.new.self ≡ record { marks = in_order (map (moved_mark (edit_with c.args.forces c.index-ops-ops.result)) c.loop-done.decorations.marks); next_id = c.loop-done.decorations.next_id } =
+    rw (← c.edit_with.ensures) c.accept.ensures.moved in
     let span = c.index-ops-ops.result.span in
     let text = ap (λ (t : List ℕ). take span.start c.loop-done.text.units ++ t ++ drop span.end c.loop-done.text.units) c.as_slice.ensures in
+    let left : c.replace.new.self.units ≡ edited c.loop-done.text.units c.index-ops-ops.result = c.replace.ensures.units ∙ text in
     record {
-      units = c.replace.ensures.units ∙ text ∙ sym now.leaves;
+      units = left ∙ sym now.leaves;
       edits = omega (arith, c.loop-done.invariant.edits, c.replace.ensures.spare_edits);
       room = omega (arith, c.loop-done.invariant.room, c.replace.ensures.spare_units, now.units, ap length c.as_slice.ensures);
+      carried = set ∙ sym moved.leaves;
+      inside = record { sound = c.accept.ensures.sound; inside = rw (left, set) moved.inside };
     }
 
 pub returns-clause-units : goal.returns-clause-units
@@ -49,6 +79,12 @@ returns-clause-units c =
     let ops = c.args.ops.now in
     let all : length ops - c.loop-done.done ≡ 0 = omega arith in
     c.loop-done.invariant.units ∙ ap (λ (k : ℕ). edited_backwards c.args.text.now.units (drop k ops)) all ∙ backwards_is_one_pass c.args.text.now.units ops c.requires.standing
+
+pub returns-clause-decorations : goal.returns-clause-decorations
+returns-clause-decorations c =
+    let ops = c.args.ops.now in
+    let all : length ops - c.loop-done.done ≡ 0 = omega arith in
+    c.loop-done.invariant.carried ∙ ap (λ (k : ℕ). carried_with c.args.forces c.args.decorations.now (drop k ops)) all
 
 pub returns-clause-edits : goal.returns-clause-edits
 returns-clause-edits c = omega (arith, c.loop-done.invariant.edits)

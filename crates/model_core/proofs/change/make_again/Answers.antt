@@ -1,4 +1,4 @@
-use Rattle.std.proofs.Common.{◌≡◌, ℕ, ◌+◌, ◌-◌, ◌≤◌, List, [], ◌∷◌, length, drop, slice_index_or, ap, sym, ◌∙◌, subst, arith, refl}
+use Rattle.std.proofs.Common.{◌≡◌, ℕ, false, ◌+◌, ◌-◌, ◌≤◌, List, [], ◌∷◌, length, drop, slice_index_or, ap, sym, ◌∙◌, subst, arith, refl}
 use Rattle.std.proofs.Math.Seq.{drop-cons}
 use Rattle.std.proofs.lemmas.List.{drop_all}
 use Rattle.text_rules.specs.declared.Op.{Op}
@@ -6,6 +6,8 @@ use Rattle.batch_rules.specs.Batches.{text_units, applied_from, StandFrom}
 use Rattle.model_core.specs.declared.change.Change.{Change}
 use Rattle.model_core.specs.declared.change.Way.TheVariants.{On}
 use Rattle.model_core.specs.History.{text_on, LeadOn, op_count, unit_count}
+use Rattle.model_core.specs.Carrying.{carried_with, decorations_on}
+use Rattle.model_core.proofs.Carries.{decorations_on-cut}
 use Rattle.model_core.proofs.Turns.{turn_on_at, IsTurnOnAt}
 use Rattle.model_core.proofs.change.make_again.Goals as goal
 
@@ -34,14 +36,23 @@ pub loop-change-preserved : goal.loop-change-preserved
 loop-change-preserved c =
     let now = turn_on_at c.args.changes.now c.loop-change.change-index c.change-item.result c.loop-change.text.units c.loop-change-test.true c.change-item.is c.loop-change.invariant.lead in
     let text = c.apply.ensures.units ∙ ap (applied_from 0 c.loop-change.text.units) c.ops.ensures.ops in
+    let moved = c.apply.ensures.decorations ∙ ap (carried_with false c.loop-change.decorations) c.ops.ensures.ops in
     record {
       units = ap (λ t. text_on t (drop (c.loop-change.change-index + 1) c.args.changes.now)) text ∙ sym now.leaves ∙ c.loop-change.invariant.units;
       lead = subst (λ t. LeadOn t (drop (c.loop-change.change-index + 1) c.args.changes.now)) (sym text) now.lead;
       edits = omega (arith, c.loop-change.invariant.edits, c.apply.ensures.edits, now.ops, ap length c.ops.ensures.ops);
       room = omega (arith, c.loop-change.invariant.room, c.apply.ensures.room, now.ops, now.units, ap length c.ops.ensures.ops, ap text_units c.ops.ensures.ops);
+      carried = ap (λ d. decorations_on d (drop (c.loop-change.change-index + 1) c.args.changes.now)) moved
+          ∙ sym (decorations_on-cut c.loop-change.decorations c.args.changes.now c.loop-change.change-index c.change-item.result c.loop-change-test.true c.change-item.is) ∙ c.loop-change.invariant.carried;
+      inside = c.apply.ensures.inside;
     }
 
-pub returns : goal.returns
-returns c =
+pub returns-clause-units : goal.returns-clause-units
+returns-clause-units c =
     let changes = c.args.changes.now in
     sym (ap (text_on c.loop-change.text.units) (drop_all c.loop-change.change-index changes (omega arith))) ∙ c.loop-change.invariant.units
+
+pub returns-clause-decorations : goal.returns-clause-decorations
+returns-clause-decorations c =
+    let changes = c.args.changes.now in
+    sym (ap (decorations_on c.loop-change.decorations) (drop_all c.loop-change.change-index changes (omega arith))) ∙ c.loop-change.invariant.carried

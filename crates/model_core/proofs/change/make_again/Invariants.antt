@@ -1,6 +1,7 @@
-use Rattle.std.proofs.Common.{◌≡◌, ◌+◌, ◌*◌, ◌≤◌, drop}
+use Rattle.std.proofs.Common.{◌≡◌, ◌+◌, ◌*◌, ◌≤◌, length, drop}
 use Rattle.model_core.specs.declared.change.Way.TheVariants.{On}
 use Rattle.model_core.specs.History.{text_on, LeadOn, op_count, unit_count}
+use Rattle.model_core.specs.Carrying.{decorations_on, AreIn}
 use Rattle.model_core.proofs.change.make_again.Given as goal
 
 abbrev pub invariant-loop-change : goal.invariant-loop-change
@@ -9,4 +10,6 @@ invariant-loop-change l = record {
   lead : LeadOn l.text.units (drop l.change-index l.changes);
   edits : op_count On (drop l.change-index l.changes) ≤ l.text.spare_edits;
   room : unit_count On (drop l.change-index l.changes) + 3 * op_count On (drop l.change-index l.changes) ≤ l.text.spare_units;
+  carried : decorations_on l.decorations (drop l.change-index l.changes) ≡ decorations_on l.fn.decorations l.changes;
+  inside : AreIn (length l.text.units) l.decorations;
 }

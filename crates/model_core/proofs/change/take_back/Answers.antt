@@ -1,10 +1,12 @@
-use Rattle.std.proofs.Common.{◌≡◌, ℕ, ◌+◌, ◌-◌, ◌≤◌, List, [], length, drop, ap, sym, ◌∙◌, subst, arith}
+use Rattle.std.proofs.Common.{◌≡◌, ℕ, suc, true, ◌+◌, ◌-◌, ◌≤◌, List, [], length, drop, ap, sym, ◌∙◌, subst, arith}
 use Rattle.std.proofs.lemmas.List.{drop_all}
 use Rattle.text_rules.specs.declared.Op.{Op}
 use Rattle.batch_rules.specs.Batches.{text_units, applied_from, StandFrom}
 use Rattle.model_core.specs.declared.change.Change.{Change}
 use Rattle.model_core.specs.declared.change.Way.TheVariants.{Back}
 use Rattle.model_core.specs.History.{text_back, op_count, unit_count}
+use Rattle.model_core.specs.Carrying.{carried_with, decorations_back}
+use Rattle.model_core.proofs.Carries.{decorations_back-cut}
 use Rattle.model_core.proofs.Turns.{turn_back, IsTurnBack}
 use Rattle.model_core.proofs.change.take_back.Goals as goal
 
@@ -12,7 +14,7 @@ pub loop-done-init : goal.loop-done-init
 loop-done-init c =
     let changes = c.args.changes.now in
     let none : drop (length changes - 0) changes ≡ [] = drop_all (length changes - 0) changes (omega arith) in
-    record { units = sym (ap (text_back c.args.text.now.units) none); edits = omega arith; room = omega arith }
+    record { units = sym (ap (text_back c.args.text.now.units) none); edits = omega arith; room = omega arith; carried = sym (ap (decorations_back c.args.decorations.now) none); inside = c.requires.inside }
 
 turn_now : (g : goal.After-ops) → IsTurnBack g.args.text.now.units g.args.changes.now g.loop-done.done g.index-changes-changes.result g.loop-done.text.units
 turn_now c = turn_back c.args.text.now.units c.args.changes.now c.loop-done.done c.index-changes-changes.result c.loop-done.text.units c.requires.lead c.loop-done-test.true c.index-changes-changes.is c.loop-done.invariant.units
@@ -38,14 +40,28 @@ apply-requires-clause-room c =
 pub loop-done-preserved : goal.loop-done-preserved
 loop-done-preserved c =
     let now = turn_back c.args.text.now.units c.args.changes.now c.loop-done.done c.index-changes-changes.result c.loop-done.text.units c.requires.lead c.loop-done-test.true c.index-changes-changes.is c.loop-done.invariant.units in
+    let changes = c.args.changes.now in
+    let here : length changes - (c.loop-done.done + 1) ≡ length changes - 1 - c.loop-done.done = omega arith in
+    let next : length changes - c.loop-done.done ≡ suc (length changes - 1 - c.loop-done.done) = omega arith in
+    let before = ap (λ (k : ℕ). decorations_back c.args.decorations.now (drop k changes)) next in
+    let cut = ap (λ (k : ℕ). decorations_back c.args.decorations.now (drop k changes)) here
+    ∙ decorations_back-cut c.args.decorations.now changes (length changes - 1 - c.loop-done.done) c.index-changes-changes.result (omega arith) c.index-changes-changes.is in
     record {
       units = c.apply.ensures.units ∙ ap (applied_from 0 c.loop-done.text.units) c.ops.ensures.ops ∙ sym now.leaves;
       edits = omega (arith, c.loop-done.invariant.edits, c.apply.ensures.edits, now.ops, ap length c.ops.ensures.ops);
       room = omega (arith, c.loop-done.invariant.room, c.apply.ensures.room, now.ops, now.units, ap length c.ops.ensures.ops, ap text_units c.ops.ensures.ops);
+      carried = c.apply.ensures.decorations ∙ ap (carried_with true c.loop-done.decorations) c.ops.ensures.ops ∙ ap (λ d. carried_with true d c.index-changes-changes.result.inverse) (c.loop-done.invariant.carried ∙ before) ∙ sym cut;
+      inside = c.apply.ensures.inside;
     }
 
-pub returns : goal.returns
-returns c =
+pub returns-clause-units : goal.returns-clause-units
+returns-clause-units c =
     let changes = c.args.changes.now in
     let all : length changes - c.loop-done.done ≡ 0 = omega arith in
     c.loop-done.invariant.units ∙ ap (λ (k : ℕ). text_back c.args.text.now.units (drop k changes)) all
+
+pub returns-clause-decorations : goal.returns-clause-decorations
+returns-clause-decorations c =
+    let changes = c.args.changes.now in
+    let all : length changes - c.loop-done.done ≡ 0 = omega arith in
+    c.loop-done.invariant.carried ∙ ap (λ (k : ℕ). decorations_back c.args.decorations.now (drop k changes)) all

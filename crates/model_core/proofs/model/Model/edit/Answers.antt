@@ -1,4 +1,4 @@
-use Rattle.std.proofs.Common.{◌≡◌, ◌+◌, ◌≤◌, length, ap, sym, subst, ◌∙◌, Ok, arith}
+use Rattle.std.proofs.Common.{◌≡◌, ◌+◌, ◌≤◌, length, true, ap, sym, subst, ◌∙◌, Ok, arith}
 use Rattle.std.proofs.lemmas.Grind.{common_steps}
 use Rattle.std.specs.List.{All}
 use Rattle.unit_text.specs.Units.{IsPaired}
@@ -8,6 +8,7 @@ use Rattle.edit_stack.specs.Stack.{pushed}
 use Rattle.document_rules.specs.Document.{greatest_version, flat_edit}
 use Rattle.model_core.specs.State.{ModelState}
 use Rattle.model_core.specs.History.{history_of, IsHistory}
+use Rattle.model_core.specs.Carrying.{carried_with}
 use Rattle.model_core.proofs.Editing.{edited_history, edited_document, edited_paired}
 use Rattle.model_core.proofs.model.Model.edit.Goals as goal
 
@@ -38,6 +39,7 @@ invariant_of-self-2 c =
       omega (arith, ok.fits, ap length text),
       version,
       rw (text, stack) (edited_history x c.args.ops.now sorted c.in_ok-inverse.inverse rule c.self.invariant.0 inverse c.self.inside.history.stack c.self.inside.alternative c.in_ok-version.version c.self.invariant.2),
+      c.apply.ensures.inside,
     )
 
 pub returns-clause-document : goal.returns-clause-document
@@ -50,8 +52,9 @@ returns-clause-document c =
     let stack : c.push.new.self.stack ≡ pushed c.self.inside.history.stack (record { batch = sorted; inverse = c.in_ok-inverse.inverse }) c.self.inside.alternative c.in_ok-version.version = grind (arith, common_steps) in
     let next : c.in_ok-version.version ≡ c.self.inside.version + 1 = grind (arith, common_steps) in
     let few : c.self.inside.version + 1 ≤ greatest_version = grind (arith, common_steps) in
-    let flat = edited_document x c.args.ops.now sorted c.in_ok-inverse.inverse rule c.self.invariant.0 inverse c.self.inside.history.stack c.self.inside.version c.self.inside.alternative few in
-    rw (text, stack, next) (sym (ap (λ (m : ModelState). flat_edit m.document c.args.ops.now) c.self.view_is) ∙ flat)
+    let flat = edited_document x c.args.ops.now sorted c.in_ok-inverse.inverse rule c.self.invariant.0 inverse c.self.inside.history.stack c.self.inside.decorations c.self.inside.version c.self.inside.alternative few in
+    let decorations : c.apply.new.decorations ≡ carried_with true c.self.inside.decorations sorted = c.apply.ensures.decorations ∙ ap (carried_with true c.self.inside.decorations) c.ops-2.ensures.ops in
+    rw (text, decorations, stack, next) (sym (ap (λ (m : ModelState). flat_edit m.document c.args.ops.now) c.self.view_is) ∙ flat)
 
 pub returns-clause-paired : goal.returns-clause-paired
 returns-clause-paired c =

@@ -9,6 +9,7 @@ use Rattle.model_core.specs.State.{ModelState}
 use Rattle.model_core.specs.declared.change.Change.{Change}
 use Rattle.model_core.specs.declared.change.Way.TheVariants.{Back}
 use Rattle.model_core.specs.History.{text_back, LeadBack, ops_by}
+use Rattle.model_core.specs.Carrying.{decorations_back}
 use Rattle.model_core.proofs.Turns.{few_back}
 use Rattle.model_core.proofs.Stepping.{undo_of, nothing_to_undo, fits_back, IsUndo}
 use Rattle.model_core.proofs.model.Model.undo.Goals as goal
@@ -17,13 +18,13 @@ pub returns-in_default : goal.returns-in_default
 returns-in_default c =
     let m = c.self.inside in
     let none : slice_get m.history.stack.undo 0 ≡ None = grind (arith, common_steps) in
-    (sym (ap (λ (s : ModelState). flat_undo s.document) c.self.view_is) ∙ nothing_to_undo m.text.units m.version m.alternative m.history.stack none, refl)
+    (sym (ap (λ (s : ModelState). flat_undo s.document) c.self.view_is) ∙ nothing_to_undo m.text.units m.version m.alternative m.decorations m.history.stack none, refl)
 
 pub returns-in_err-version : goal.returns-in_err-version
 returns-in_err-version c =
     let m = c.self.inside in
     let next : slice_get m.history.stack.undo 0 ≡ Some (step_of c.in-Some.step.now) = grind (arith, common_steps) in
-    let step = undo_of m.text.units m.version m.alternative m.history.stack (step_of c.in-Some.step.now) next c.self.invariant.2 in
+    let step = undo_of m.text.units m.version m.alternative m.decorations m.history.stack (step_of c.in-Some.step.now) next c.self.invariant.2 in
     let last : greatest_version < m.version + 1 = grind (arith, common_steps) in
     let refused : flat_undo c.args.self.now.document ≡ Err Limit = sym (ap (λ (s : ModelState). flat_undo s.document) c.self.view_is) ∙ step.refused last in
     grind (arith, common_steps)
@@ -32,14 +33,14 @@ pub reserve_for-requires : goal.reserve_for-requires
 reserve_for-requires c =
     let m = c.self.inside in
     let next : slice_get m.history.stack.undo 0 ≡ Some (step_of c.in-Some.step.now) = grind (arith, common_steps) in
-    let step = undo_of m.text.units m.version m.alternative m.history.stack (step_of c.in-Some.step.now) next c.self.invariant.2 in
+    let step = undo_of m.text.units m.version m.alternative m.decorations m.history.stack (step_of c.in-Some.step.now) next c.self.invariant.2 in
     rw c.changes-changes.ensures (few_back m.text.units (step_of c.in-Some.step.now).changes step.lead)
 
 pub take_back-requires-clause-lead : goal.take_back-requires-clause-lead
 take_back-requires-clause-lead c =
     let m = c.self.inside in
     let next : slice_get m.history.stack.undo 0 ≡ Some (step_of c.in-Some.step.now) = grind (arith, common_steps) in
-    let step = undo_of m.text.units m.version m.alternative m.history.stack (step_of c.in-Some.step.now) next c.self.invariant.2 in
+    let step = undo_of m.text.units m.version m.alternative m.decorations m.history.stack (step_of c.in-Some.step.now) next c.self.invariant.2 in
     rw (c.reserve_for.ensures.same, c.changes-changes.ensures) step.lead
 
 pub invariant_of-self-2 : goal.invariant_of-self-2
@@ -47,24 +48,29 @@ invariant_of-self-2 c =
     let m = c.self.inside in
     let shown = step_of c.in-Some.step.now in
     let next : slice_get m.history.stack.undo 0 ≡ Some shown = grind (arith, common_steps) in
-    let step = undo_of m.text.units m.version m.alternative m.history.stack shown next c.self.invariant.2 in
+    let step = undo_of m.text.units m.version m.alternative m.decorations m.history.stack shown next c.self.invariant.2 in
     let text : c.take_back.new.text.units ≡ text_back m.text.units shown.changes =
-    c.take_back.ensures ∙ ap (λ x. text_back x c.changes-changes.result.now) c.reserve_for.ensures.same ∙ ap (text_back m.text.units) c.changes-changes.ensures in
+    c.take_back.ensures.units ∙ ap (λ x. text_back x c.changes-changes.result.now) c.reserve_for.ensures.same ∙ ap (text_back m.text.units) c.changes-changes.ensures in
     let stack : c.undone.new.self.stack ≡ undone m.history.stack = grind (arith, common_steps) in
     let version : c.in_ok-version.version ≤ greatest_version = grind (arith, common_steps) in
-    let fits = fits_back m.text.units shown.changes c.self.invariant.0 step.lead in
-    (omega (arith, fits, ap length text), version, rw (text, stack) step.history)
+    let fits = fits_back m.text.units shown.changes c.self.invariant.0 step.lead in (
+      omega (arith, fits, ap length text),
+      version,
+      rw (text, stack) step.history,
+      c.take_back.ensures.inside,
+    )
 
 pub returns : goal.returns
 returns c =
     let m = c.self.inside in
     let shown = step_of c.in-Some.step.now in
     let next : slice_get m.history.stack.undo 0 ≡ Some shown = grind (arith, common_steps) in
-    let step = undo_of m.text.units m.version m.alternative m.history.stack shown next c.self.invariant.2 in
+    let step = undo_of m.text.units m.version m.alternative m.decorations m.history.stack shown next c.self.invariant.2 in
     let text : c.take_back.new.text.units ≡ text_back m.text.units shown.changes =
-    c.take_back.ensures ∙ ap (λ x. text_back x c.changes-changes.result.now) c.reserve_for.ensures.same ∙ ap (text_back m.text.units) c.changes-changes.ensures in
+    c.take_back.ensures.units ∙ ap (λ x. text_back x c.changes-changes.result.now) c.reserve_for.ensures.same ∙ ap (text_back m.text.units) c.changes-changes.ensures in
     let stack : c.undone.new.self.stack ≡ undone m.history.stack = grind (arith, common_steps) in
     let few : m.version + 1 ≤ greatest_version = grind (arith, common_steps) in
     let version : c.in_ok-version.version ≡ m.version + 1 = grind (arith, common_steps) in
     let alternative : c.alt_before-self-inside.result ≡ shown.alt_before = grind (arith, common_steps) in
-    rw (text, stack, version, alternative) (sym (ap (λ (s : ModelState). flat_undo s.document) c.self.view_is) ∙ step.accepted few)
+    let decorations : c.take_back.new.decorations ≡ decorations_back m.decorations shown.changes = c.take_back.ensures.decorations ∙ ap (decorations_back m.decorations) c.changes-changes.ensures in
+    rw (text, decorations, stack, version, alternative) (sym (ap (λ (s : ModelState). flat_undo s.document) c.self.view_is) ∙ step.accepted few)

@@ -1,0 +1,228 @@
+//! Decorations, as the text under them is edited.
+
+use crate::runs::{Stream, expect_run};
+use std::alloc::{AllocError, Global};
+use std::process::Abort;
+use std::test::Fail;
+
+const ALL: Stream<'static> = Stream {
+    each: 65_536,
+    plan: &[],
+};
+
+/// Runs the lines, each with its reply.
+fn expect<R: AllocGlobal + Abort>(
+    rt: &R,
+    lines: &[(&str, &str)],
+    status: u8,
+) -> Result<(), AllocError> {
+    let alloc: Global = rt.alloc();
+    let mut script = String::new(alloc);
+    let mut replies = String::new(alloc);
+    for (line, reply) in lines {
+        script.push_str(line)?;
+        script.push('\n')?;
+        replies.push_str(reply)?;
+        replies.push('\n')?;
+    }
+    expect_run(rt, script.as_bytes(), ALL, ALL, replies.as_bytes(), status)
+}
+
+#[test]
+fn each_mode_at_its_start(rt: HostRuntime) -> Result<(), Fail> {
+    let lines = [
+        ("{\"cmd\":\"open\",\"text\":\"abcdefgh\"}", "ok 1 8 1"),
+        (
+            "{\"cmd\":\"decorate\",\"owner\":1,\"remove\":[],\"add\":[{\"at\":[2,5],\"stick\":0}]}",
+            "ok 1 1",
+        ),
+        (
+            "{\"cmd\":\"decorate\",\"owner\":1,\"remove\":[],\"add\":[{\"at\":[2,5],\"stick\":1}]}",
+            "ok 2 1",
+        ),
+        (
+            "{\"cmd\":\"decorate\",\"owner\":1,\"remove\":[],\"add\":[{\"at\":[2,5],\"stick\":2}]}",
+            "ok 3 1",
+        ),
+        (
+            "{\"cmd\":\"decorate\",\"owner\":1,\"remove\":[],\"add\":[{\"at\":[2,5],\"stick\":3}]}",
+            "ok 4 1",
+        ),
+        (
+            "{\"cmd\":\"edit\",\"ops\":[{\"at\":[2,2],\"text\":\"xyz\"}]}",
+            "ok 2 11 1",
+        ),
+        ("{\"cmd\":\"deco\",\"id\":1}", "ok 2 8 0 1"),
+        ("{\"cmd\":\"deco\",\"id\":2}", "ok 5 8 1 1"),
+        ("{\"cmd\":\"deco\",\"id\":3}", "ok 2 8 2 1"),
+        ("{\"cmd\":\"deco\",\"id\":4}", "ok 5 8 3 1"),
+    ];
+    expect(&rt, &lines, 0)?;
+    Ok(())
+}
+
+#[test]
+fn each_mode_at_its_end(rt: HostRuntime) -> Result<(), Fail> {
+    let lines = [
+        ("{\"cmd\":\"open\",\"text\":\"abcdefgh\"}", "ok 1 8 1"),
+        (
+            "{\"cmd\":\"decorate\",\"owner\":1,\"remove\":[],\"add\":[{\"at\":[2,5],\"stick\":0}]}",
+            "ok 1 1",
+        ),
+        (
+            "{\"cmd\":\"decorate\",\"owner\":1,\"remove\":[],\"add\":[{\"at\":[2,5],\"stick\":1}]}",
+            "ok 2 1",
+        ),
+        (
+            "{\"cmd\":\"decorate\",\"owner\":1,\"remove\":[],\"add\":[{\"at\":[2,5],\"stick\":2}]}",
+            "ok 3 1",
+        ),
+        (
+            "{\"cmd\":\"decorate\",\"owner\":1,\"remove\":[],\"add\":[{\"at\":[2,5],\"stick\":3}]}",
+            "ok 4 1",
+        ),
+        (
+            "{\"cmd\":\"edit\",\"ops\":[{\"at\":[5,5],\"text\":\"xyz\"}]}",
+            "ok 2 11 1",
+        ),
+        ("{\"cmd\":\"deco\",\"id\":1}", "ok 2 8 0 1"),
+        ("{\"cmd\":\"deco\",\"id\":2}", "ok 2 5 1 1"),
+        ("{\"cmd\":\"deco\",\"id\":3}", "ok 2 5 2 1"),
+        ("{\"cmd\":\"deco\",\"id\":4}", "ok 2 8 3 1"),
+    ];
+    expect(&rt, &lines, 0)?;
+    Ok(())
+}
+
+#[test]
+fn an_undo_does_not_put_decorations_back(rt: HostRuntime) -> Result<(), Fail> {
+    let lines = [
+        ("{\"cmd\":\"open\",\"text\":\"abcdefgh\"}", "ok 1 8 1"),
+        (
+            "{\"cmd\":\"decorate\",\"owner\":1,\"remove\":[],\"add\":[{\"at\":[2,5],\"stick\":1}]}",
+            "ok 1 1",
+        ),
+        (
+            "{\"cmd\":\"edit\",\"ops\":[{\"at\":[0,8],\"text\":\"\"}]}",
+            "ok 2 0 1",
+        ),
+        ("{\"cmd\":\"deco\",\"id\":1}", "ok 0 0 1 1"),
+        ("{\"cmd\":\"undo\"}", "ok 3 8 1"),
+        ("{\"cmd\":\"deco\",\"id\":1}", "ok 8 8 1 1"),
+    ];
+    expect(&rt, &lines, 0)?;
+    Ok(())
+}
+
+#[test]
+fn refusals_of_decorations(rt: HostRuntime) -> Result<(), Fail> {
+    let lines = [
+        (
+            "{\"cmd\":\"decorate\",\"owner\":1,\"remove\":[],\"add\":[{\"at\":[0,0],\"stick\":0}]}",
+            "ok 1 1",
+        ),
+        (
+            "{\"cmd\":\"decorate\",\"owner\":1,\"remove\":[1,1],\"add\":[]}",
+            "! unknown",
+        ),
+        (
+            "{\"cmd\":\"decorate\",\"owner\":2,\"remove\":[1],\"add\":[]}",
+            "! unknown",
+        ),
+        ("{\"cmd\":\"deco\",\"id\":1}", "ok 0 0 0 1"),
+        (
+            "{\"cmd\":\"decorate\",\"owner\":1,\"remove\":[1],\"add\":[]}",
+            "ok 2 0",
+        ),
+        ("{\"cmd\":\"deco\",\"id\":1}", "! unknown"),
+        (
+            "{\"cmd\":\"decorate\",\"owner\":1,\"remove\":[],\"add\":[{\"at\":[0,0],\"stick\":4}]}",
+            "! range",
+        ),
+    ];
+    expect(&rt, &lines, 1)?;
+    Ok(())
+}
+
+#[test]
+fn one_collapses_and_one_does_not(rt: HostRuntime) -> Result<(), Fail> {
+    let lines = [
+        ("{\"cmd\":\"open\",\"text\":\"abcdefgh\"}", "ok 1 8 1"),
+        (
+            "{\"cmd\":\"decorate\",\"owner\":1,\"remove\":[],\"add\":[{\"at\":[2,5],\"stick\":0,\"collapse\":true},{\"at\":[2,5],\"stick\":0}]}",
+            "ok 1 2",
+        ),
+        (
+            "{\"cmd\":\"edit\",\"ops\":[{\"at\":[1,6],\"text\":\"XYZ\"}]}",
+            "ok 2 6 1",
+        ),
+        ("{\"cmd\":\"deco\",\"id\":1}", "ok 1 1 0 1"),
+        ("{\"cmd\":\"deco\",\"id\":2}", "ok 2 4 0 1"),
+    ];
+    expect(&rt, &lines, 0)?;
+    Ok(())
+}
+
+#[test]
+fn force_moves_what_stands_at_the_edit(rt: HostRuntime) -> Result<(), Fail> {
+    let lines = [
+        ("{\"cmd\":\"open\",\"text\":\"ab\"}", "ok 1 2 1"),
+        (
+            "{\"cmd\":\"decorate\",\"owner\":1,\"remove\":[],\"add\":[{\"at\":[1,1],\"stick\":0}]}",
+            "ok 1 1",
+        ),
+        (
+            "{\"cmd\":\"edit\",\"ops\":[{\"at\":[1,1],\"text\":\"x\",\"force\":true}]}",
+            "ok 2 3 1",
+        ),
+        ("{\"cmd\":\"deco\",\"id\":1}", "ok 2 2 0 1"),
+        ("{\"cmd\":\"undo\"}", "ok 3 2 1"),
+        ("{\"cmd\":\"deco\",\"id\":1}", "ok 1 1 0 1"),
+        ("{\"cmd\":\"redo\"}", "ok 4 3 1"),
+        ("{\"cmd\":\"deco\",\"id\":1}", "ok 1 2 0 1"),
+    ];
+    expect(&rt, &lines, 0)?;
+    Ok(())
+}
+
+#[test]
+fn without_force_it_grows(rt: HostRuntime) -> Result<(), Fail> {
+    let lines = [
+        ("{\"cmd\":\"open\",\"text\":\"ab\"}", "ok 1 2 1"),
+        (
+            "{\"cmd\":\"decorate\",\"owner\":1,\"remove\":[],\"add\":[{\"at\":[1,1],\"stick\":0}]}",
+            "ok 1 1",
+        ),
+        (
+            "{\"cmd\":\"edit\",\"ops\":[{\"at\":[1,1],\"text\":\"x\"}]}",
+            "ok 2 3 1",
+        ),
+        ("{\"cmd\":\"deco\",\"id\":1}", "ok 1 2 0 1"),
+    ];
+    expect(&rt, &lines, 0)?;
+    Ok(())
+}
+
+#[test]
+fn decorations_that_touch_a_span(rt: HostRuntime) -> Result<(), Fail> {
+    let lines = [
+        ("{\"cmd\":\"open\",\"text\":\"abcdefgh\"}", "ok 1 8 1"),
+        (
+            "{\"cmd\":\"decorate\",\"owner\":1,\"remove\":[],\"add\":[{\"at\":[2,5],\"stick\":0}]}",
+            "ok 1 1",
+        ),
+        (
+            "{\"cmd\":\"decorate\",\"owner\":1,\"remove\":[],\"add\":[{\"at\":[5,5],\"stick\":1}]}",
+            "ok 2 1",
+        ),
+        (
+            "{\"cmd\":\"decorate\",\"owner\":1,\"remove\":[],\"add\":[{\"at\":[6,8],\"stick\":0}]}",
+            "ok 3 1",
+        ),
+        ("{\"cmd\":\"decos\",\"at\":[5,5]}", "ok 1 2 5 2 5 5"),
+        ("{\"cmd\":\"decos\",\"at\":[5,5],\"owner\":9}", "ok"),
+        ("{\"cmd\":\"decos\",\"at\":[5,9]}", "! range"),
+    ];
+    expect(&rt, &lines, 1)?;
+    Ok(())
+}
