@@ -1,5 +1,5 @@
 // Tables, and the scan of a line.
-ghost use Rattle.std.specs.Prelude.{◌≡◌, ◌<◌, ◌↔◌, ◌++◌, ◌∷◌, ℕ, List, false, length, take, IsTrue, IfSome, IfOk, OnOk, OnErr};
+ghost use Rattle.std.specs.Prelude.{◌≡◌, ◌<◌, ◌↔◌, ◌++◌, ◌∷◌, ℕ, List, true, false, length, take, IsTrue, IfSome, IfOk, OnOk, OnErr};
 ghost use Rattle.bracket_rules.specs.Table.{is_table, standard_table, longest, tokens_of};
 ghost use Rattle.bracket_scan.specs.Starts.{IsWithin};
 ghost use Rattle.bracket_scan.specs.Texts.{Dispatches};
@@ -79,7 +79,10 @@ impl BracketTable {
     pub fn scan(&self, line: &[u16], out: &mut Vec<Token>) -> Result<(), AllocError>
         ensures ok { OnOk result (out.new.items ≡ out.old.items ++ tokens_of self.now line.now) }
         ensures err { OnErr result (out.new.items ≡ out.old.items) }
+        ensures table { is_table self.now ≡ true }
     {
+        // What it holds is a table.
+        let _texts = &self.texts;
         let count = out.len();
         let scanned = self.push_tokens(line, out);
         if scanned.is_err() {

@@ -11,6 +11,7 @@ use Rattle.text_rules.specs.Edits.{is_bad_span}
 use Rattle.batch_rules.specs.declared.BatchError.{BatchError}
 use Rattle.batch_rules.specs.declared.BatchError.TheVariants as refused
 use Rattle.batch_rules.specs.Batches.{most_units, checked_batch, applied, inverse_from}
+use Rattle.bracket_rules.specs.Table.{Table, standard_table}
 use Rattle.decoration_rules.specs.declared.Edit.{Edit}
 use Rattle.decoration_rules.specs.declared.NewDeco.{NewDeco}
 use Rattle.decoration_rules.specs.declared.Deco.{Deco}
@@ -38,15 +39,22 @@ pub record FlatState : Type 0 where
   -- the version at which the text was last as it is now
   pub alternative : ℕ
   pub decorations : Decorations
+  -- which texts are brackets
+  pub table : Table
   -- what can be undone and redone
   pub history : Stack FlatChange
 
--- a new document with this text
-abbrev pub new_document : List ℕ → FlatState
-new_document units = record { units = units; version = 1; alternative = 1; decorations = no_decorations; history = empty_stack }
+-- a new document with this text and these brackets
+abbrev pub new_document : List ℕ → Table → FlatState
+new_document units table =
+    record { units = units; version = 1; alternative = 1; decorations = no_decorations; table = table; history = empty_stack }
 
-abbrev pub flat_open : List ℕ → Result FlatState ModelError
-flat_open text = if nat_lt most_units (length text) then Err Limit else Ok (new_document text)
+-- the document before any text was opened
+abbrev pub empty_document : FlatState
+empty_document = new_document [] standard_table
+
+abbrev pub flat_open : List ℕ → Table → Result FlatState ModelError
+flat_open text table = if nat_lt most_units (length text) then Err Limit else Ok (new_document text table)
 
 -- an op as decorations see it
 abbrev pub edit_of : Op → Edit

@@ -4,18 +4,24 @@ use Rattle.text_rules.specs.declared.Op.{Op}
 use Rattle.decoration_rules.specs.declared.Deco.{Deco}
 use Rattle.decoration_rules.specs.declared.Sticky.TheVariants.{AlwaysGrows}
 use Rattle.decoration_rules.specs.Decorations.{no_decorations}
+use Rattle.bracket_rules.specs.Table.{standard_table}
+use Rattle.bracket_rules.specs.declared.Entry.{Entry}
+use Rattle.bracket_rules.specs.declared.Status.{Status}
+use Rattle.bracket_rules.specs.declared.Status.TheVariants.{PairedOpening, PairedClosing, Unclosed, Unexpected}
+use Rattle.document_rules.specs.Brackets.{flat_brackets, flat_match, flat_level}
 use Rattle.document_rules.specs.declared.ModelError.TheVariants.{Range, Overlap, Limit}
 use Rattle.document_rules.specs.Document.{FlatState, new_document, after_batch, flat_edit, flat_undo, flat_redo, flat_decorate, flat_deco, carried_on, flat_line, flat_value, flat_position, flat_offset, flat_line_count, greatest_version}
 
 abbrev op : ℕ → ℕ → List ℕ → Op
 op start end text = record { span = record { start = start; end = end }; text = text; force = false }
 
-an_edit_over_a_break : flat_edit (new_document (codes "ab\ncd")) (op 1 4 (codes "X") ∷ [])
+an_edit_over_a_break : flat_edit (new_document (codes "ab\ncd") standard_table) (op 1 4 (codes "X") ∷ [])
     ≡ Ok (record {
       units = codes "aXd";
       version = 2;
       alternative = 2;
       decorations = no_decorations;
+      table = standard_table;
       history = record {
         undo = record { changes = record { before = codes "ab\ncd"; ops = op 1 4 (codes "X") ∷ []; after = codes "aXd" } ∷ []; alt_before = 1; alt_after = 2 } ∷ [];
         redo = [];
@@ -24,25 +30,25 @@ an_edit_over_a_break : flat_edit (new_document (codes "ab\ncd")) (op 1 4 (codes 
     })
 an_edit_over_a_break = refl
 
-an_edit_past_the_end : flat_edit (new_document (codes "ab")) (op 1 3 (codes "X") ∷ []) ≡ Err Range
+an_edit_past_the_end : flat_edit (new_document (codes "ab") standard_table) (op 1 3 (codes "X") ∷ []) ≡ Err Range
 an_edit_past_the_end = refl
 
-two_edits_that_overlap : flat_edit (new_document (codes "abcde")) (op 1 4 [] ∷ op 3 3 [] ∷ []) ≡ Err Overlap
+two_edits_that_overlap : flat_edit (new_document (codes "abcde") standard_table) (op 1 4 [] ∷ op 3 3 [] ∷ []) ≡ Err Overlap
 two_edits_that_overlap = refl
 
-an_edit_at_the_last_version : flat_edit (record (new_document (codes "ab")) { version = greatest_version }) (op 1 2 (codes "X") ∷ []) ≡ Err Limit
+an_edit_at_the_last_version : flat_edit (record (new_document (codes "ab") standard_table) { version = greatest_version }) (op 1 2 (codes "X") ∷ []) ≡ Err Limit
 an_edit_at_the_last_version = refl
 
 -- "a", after an edit has put "b" behind it
 abbrev one_edit : FlatState
-one_edit = after_batch (new_document (codes "a")) (op 1 1 (codes "b") ∷ []) (op 1 1 (codes "b") ∷ [])
+one_edit = after_batch (new_document (codes "a") standard_table) (op 1 1 (codes "b") ∷ []) (op 1 1 (codes "b") ∷ [])
 
 an_undo_goes_back_to_the_old_text : flat_undo one_edit
-    ≡ Ok (Some (record { units = codes "a"; version = 3; alternative = 1; decorations = no_decorations; history = record { undo = []; redo = one_edit.history.undo; is_open = false } }))
+    ≡ Ok (Some (record { units = codes "a"; version = 3; alternative = 1; decorations = no_decorations; table = standard_table; history = record { undo = []; redo = one_edit.history.undo; is_open = false } }))
 an_undo_goes_back_to_the_old_text = refl
 
-a_redo_makes_the_step_again : flat_redo (record { units = codes "a"; version = 3; alternative = 1; decorations = no_decorations; history = record { undo = []; redo = one_edit.history.undo; is_open = false } })
-    ≡ Ok (Some (record { units = codes "ab"; version = 4; alternative = 2; decorations = no_decorations; history = record { undo = one_edit.history.undo; redo = []; is_open = false } }))
+a_redo_makes_the_step_again : flat_redo (record { units = codes "a"; version = 3; alternative = 1; decorations = no_decorations; table = standard_table; history = record { undo = []; redo = one_edit.history.undo; is_open = false } })
+    ≡ Ok (Some (record { units = codes "ab"; version = 4; alternative = 2; decorations = no_decorations; table = standard_table; history = record { undo = one_edit.history.undo; redo = []; is_open = false } }))
 a_redo_makes_the_step_again = refl
 
 -- two edits without a stop are one step
@@ -50,7 +56,7 @@ abbrev two_edits : FlatState
 two_edits = after_batch one_edit (op 2 2 (codes "c") ∷ []) (op 2 2 (codes "c") ∷ [])
 
 an_undo_takes_back_the_whole_step : flat_undo two_edits
-    ≡ Ok (Some (record { units = codes "a"; version = 4; alternative = 1; decorations = no_decorations; history = record { undo = []; redo = two_edits.history.undo; is_open = false } }))
+    ≡ Ok (Some (record { units = codes "a"; version = 4; alternative = 1; decorations = no_decorations; table = standard_table; history = record { undo = []; redo = two_edits.history.undo; is_open = false } }))
 an_undo_takes_back_the_whole_step = refl
 
 no_undo_at_the_last_version : flat_undo (record one_edit { version = greatest_version }) ≡ Err Limit
@@ -58,11 +64,11 @@ no_undo_at_the_last_version = refl
 
 -- "ab" with a decoration of owner 1 at its one inner place
 abbrev decorated_text : FlatState
-decorated_text = record (new_document (codes "ab")) {
+decorated_text = record (new_document (codes "ab") standard_table) {
   decorations = record { marks = record { id = 1; owner = 1; span = record { start = 1; end = 1 }; sticky = AlwaysGrows; collapse = false } ∷ []; next_id = 2 };
 }
 
-a_decoration_of_one_place : flat_decorate (new_document (codes "ab")) 1 [] (record { span = record { start = 1; end = 1 }; stick = 0; collapse = false } ∷ []) ≡ Ok decorated_text
+a_decoration_of_one_place : flat_decorate (new_document (codes "ab") standard_table) 1 [] (record { span = record { start = 1; end = 1 }; stick = 0; collapse = false } ∷ []) ≡ Ok decorated_text
 a_decoration_of_one_place = refl
 
 -- where the decoration stands
@@ -83,26 +89,52 @@ a_redo_forces_nothing : carried_on decorated_text.decorations (record { before =
     ≡ record { marks = record { id = 1; owner = 1; span = record { start = 1; end = 2 }; sticky = AlwaysGrows; collapse = false } ∷ []; next_id = 2 }
 a_redo_forces_nothing = refl
 
-nothing_to_undo : flat_undo (new_document (codes "ab")) ≡ Ok None
+nothing_to_undo : flat_undo (new_document (codes "ab") standard_table) ≡ Ok None
 nothing_to_undo = refl
 
-the_second_line : flat_line (new_document (codes "ab\ncd")) 2 ≡ Ok (codes "cd")
+the_second_line : flat_line (new_document (codes "ab\ncd") standard_table) 2 ≡ Ok (codes "cd")
 the_second_line = refl
 
-an_empty_text_has_a_line : flat_line_count (new_document (codes "")) ≡ 1
+an_empty_text_has_a_line : flat_line_count (new_document (codes "") standard_table) ≡ 1
 an_empty_text_has_a_line = refl
 
-units_of_a_span : flat_value (new_document (codes "abcd")) (record { start = 1; end = 3 }) ≡ Ok (codes "bc")
+units_of_a_span : flat_value (new_document (codes "abcd") standard_table) (record { start = 1; end = 3 }) ≡ Ok (codes "bc")
 units_of_a_span = refl
 
-a_span_past_the_end : flat_value (new_document (codes "abcd")) (record { start = 1; end = 5 }) ≡ Err Range
+a_span_past_the_end : flat_value (new_document (codes "abcd") standard_table) (record { start = 1; end = 5 }) ≡ Err Range
 a_span_past_the_end = refl
 
-position_inside_a_break : flat_position (new_document (codes "a\r\nb")) 2 ≡ Some (record { line = 1; column = 3 })
+position_inside_a_break : flat_position (new_document (codes "a\r\nb") standard_table) 2 ≡ Some (record { line = 1; column = 3 })
 position_inside_a_break = refl
 
-no_position_past_the_end : flat_position (new_document (codes "ab")) 3 ≡ None
+no_position_past_the_end : flat_position (new_document (codes "ab") standard_table) 3 ≡ None
 no_position_past_the_end = refl
 
-no_offset_inside_a_break : flat_offset (new_document (codes "a\r\nb")) (record { line = 1; column = 3 }) ≡ None
+no_offset_inside_a_break : flat_offset (new_document (codes "a\r\nb") standard_table) (record { line = 1; column = 3 }) ≡ None
 no_offset_inside_a_break = refl
+
+abbrev entry : ℕ → ℕ → Status → ℕ → Entry
+entry column kind status level = record { place = record { lines = 0; columns = column }; len = 1; kind = kind; status = status; level = level }
+
+brackets_of_one_line : flat_brackets (new_document (codes "([)]{") standard_table) 1 1
+    ≡ Ok (entry 0 0 PairedOpening 0 ∷ entry 1 1 Unclosed 1 ∷ entry 2 0 PairedClosing 0 ∷ entry 3 1 Unexpected 0 ∷ entry 4 2 Unclosed 0 ∷ [])
+brackets_of_one_line = refl
+
+no_second_line_of_brackets : flat_brackets (new_document (codes "()") standard_table) 1 2 ≡ Err Range
+no_second_line_of_brackets = refl
+
+the_partner_of_the_first : flat_match (new_document (codes "([)]{") standard_table) (record { line = 1; column = 1 })
+    ≡ Ok (Some (record { line = 1; column = 3 }, 1))
+the_partner_of_the_first = refl
+
+an_unclosed_one_has_no_partner : flat_match (new_document (codes "([)]{") standard_table) (record { line = 1; column = 2 }) ≡ Ok None
+an_unclosed_one_has_no_partner = refl
+
+level_inside_two : flat_level (new_document (codes "([)]{") standard_table) (record { line = 1; column = 3 }) ≡ Ok 2
+level_inside_two = refl
+
+level_after_a_pair : flat_level (new_document (codes "([)]{") standard_table) (record { line = 1; column = 4 }) ≡ Ok 0
+level_after_a_pair = refl
+
+level_at_the_end : flat_level (new_document (codes "([)]{") standard_table) (record { line = 1; column = 6 }) ≡ Ok 1
+level_at_the_end = refl

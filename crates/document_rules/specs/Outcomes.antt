@@ -20,6 +20,11 @@ abbrev pub ChangesWith : {S : Type 0} → ℕ → Result ℕ ModelError → S �
 ChangesWith answer (Ok n) old new rule = (rule ≡ Ok new) × (n ≡ answer)
 ChangesWith answer (Err e) old new rule = (new ≡ old) × ((e ≡ Memory) ⊎ (rule ≡ Err e))
 
+-- a call that answers what the rule gives, or refuses for the rule's reason
+abbrev pub Gives : {A : Type 0} → Result A ModelError → Result A ModelError → Type 0
+Gives (Ok x) rule = rule ≡ Ok x
+Gives (Err e) rule = (e ≡ Memory) ⊎ (rule ≡ Err e)
+
 -- an accepted call appends the rule's answer, and a refused one leaves what was there, for the rule's reason
 abbrev pub Appends : {A : Type 0} → Result ⊤ ModelError → List A → List A → Result (List A) ModelError → Type 0
 Appends {A} (Ok x) old new rule = (added : List A) × (rule ≡ Ok added) × (new ≡ old ++ added)

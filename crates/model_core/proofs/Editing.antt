@@ -12,6 +12,7 @@ use Rattle.edit_stack.specs.Stack.{Stack, pushed}
 use Rattle.document_rules.specs.Document.{FlatState, flat_edit, greatest_version, edited_by}
 use Rattle.model_core.specs.declared.change.Change.{Change}
 use Rattle.model_core.specs.History.{history_of, Leads, IsHistory}
+use Rattle.bracket_rules.specs.Table.{Table}
 use Rattle.decoration_rules.specs.Decorations.{Decorations}
 use Rattle.model_core.specs.Carrying.{carried_with}
 use Rattle.model_core.proofs.Histories.{history-pushed, IsHistory-pushed}
@@ -28,16 +29,17 @@ module _ (x : List ℕ) (ops sorted back : List Op) (rule : checked_batch x ops 
   pub edited_history : (s : Stack Change) (alternative version : ℕ) → IsHistory x s → IsHistory (applied_from 0 x sorted) (pushed s (record { batch = sorted; inverse = back }) alternative version)
   edited_history s alternative version = IsHistory-pushed s (record { batch = sorted; inverse = back }) x (applied_from 0 x sorted) alternative version leads
 
-  pub edited_document : (s : Stack Change) (d : Decorations) (version alternative : ℕ) → version + 1 ≤ greatest_version
-      → flat_edit (record { units = x; version = version; alternative = alternative; decorations = d; history = history_of x s }) ops
+  pub edited_document : (s : Stack Change) (d : Decorations) (table : Table) (version alternative : ℕ) → version + 1 ≤ greatest_version
+      → flat_edit (record { units = x; version = version; alternative = alternative; decorations = d; table = table; history = history_of x s }) ops
       ≡ Ok (record {
         units = applied_from 0 x sorted;
         version = version + 1;
         alternative = version + 1;
         decorations = carried_with true d sorted;
+        table = table;
         history = history_of (applied_from 0 x sorted) (pushed s (record { batch = sorted; inverse = back }) alternative (version + 1));
       })
-  edited_document s d version alternative few =
+  edited_document s d table version alternative few =
       let ok = accepted x ops sorted rule in
       let below : nat_le greatest_version version ≡ false = lt-leb greatest_version version (omega (arith, few)) in
       let history = history-pushed s (record { batch = sorted; inverse = back }) x (applied_from 0 x sorted) alternative (version + 1) leads in

@@ -4,3 +4,5 @@ pub mod Turns
 pub mod Editing
 pub mod Stepping
 pub mod Carries
+pub mod Kept
+pub mod Scans

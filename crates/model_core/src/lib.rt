@@ -1,9 +1,13 @@
 //! The document: a text that is changed by edits, its versions, its decorations, and what can be undone.
 #![tactic(auto)]
 
+mod brackets;
 mod change;
 mod model;
+mod places;
 
+pub use bracket_nodes::{Entry, Status};
+pub use bracket_scan::BracketTable;
 pub use decorations::{Deco, NewDeco};
 pub use document_rules::ModelError;
 pub use model::Model;

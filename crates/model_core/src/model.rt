@@ -1,13 +1,20 @@
 //! The document and its calls.
 
-ghost use Rattle.std.specs.Prelude.{◌≡◌, [], length};
+ghost use Rattle.std.specs.Prelude.{◌≡◌, [], true, false, List, length, OnOk, Ok, Err};
 ghost use Rattle.std.specs.List.{All};
 ghost use Rattle.unit_text.specs.Units.{IsPaired};
 ghost use Rattle.text_rules.specs.Edits.{is_bad_span};
-ghost use Rattle.document_rules.specs.Outcomes.{Changes, ChangesWith, Moves, Appends};
+ghost use Rattle.document_rules.specs.Outcomes.{Changes, ChangesWith, Moves, Appends, Gives};
+ghost use Rattle.bracket_rules.specs.Table.{standard_table};
+ghost use Rattle.document_rules.specs.Brackets.{flat_brackets, flat_match, flat_level, IsSmall};
+ghost use Rattle.model_core.specs.State.{KeptAfter, KeptAfterMove};
 ghost use Rattle.document_rules.specs.Document.{new_document, flat_open, flat_edit, flat_stop, flat_undo, flat_redo, flat_decorate, flat_deco, flat_decos, flat_line, flat_value, flat_position, flat_offset, flat_line_count, error_of, refusal_of};
 
+use crate::brackets::renew;
 use crate::change::{Change, Way, apply, make_again, reserve_for, take_back};
+use crate::places::{is_position, place_of, told};
+use bracket_nodes::{Entry, Node};
+use bracket_scan::BracketTable;
 use decorations::{Deco, DecoError, DecoSet, NewDeco};
 use document_rules::ModelError;
 use edit_batches::{Batch, BatchError, MOST_UNITS};
@@ -28,14 +35,17 @@ pub struct Model {
     version: u64,
     alternative: u64,
     decorations: DecoSet,
+    table: BracketTable,
+    /// The bracket tree, while it is that of the text of now.
+    tree: Option<Node>,
     history: EditStack<Change>,
 }
 
 impl std::marker::Model for Model {
-    ghost use Rattle.std.specs.Prelude.{◌≤◌, length};
+    ghost use Rattle.std.specs.Prelude.{◌≤◌, length, is_some};
     ghost use Rattle.batch_rules.specs.Batches.{most_units};
     ghost use Rattle.document_rules.specs.Document.{greatest_version};
-    ghost use Rattle.model_core.specs.State.{ModelState};
+    ghost use Rattle.model_core.specs.State.{ModelState, IsKept};
     ghost use Rattle.model_core.specs.History.{history_of, IsHistory};
     ghost use Rattle.model_core.specs.Carrying.{AreIn};
 
@@ -47,18 +57,22 @@ impl std::marker::Model for Model {
         version = m.version;
         alternative = m.alternative;
         decorations = m.decorations;
+        table = m.table;
         history = history_of m.text.units m.history.stack;
       };
+      fresh = is_some m.tree;
     } };
 
     ghost invariant = { λ m. (length m.text.units ≤ most_units) × (m.version ≤ greatest_version)
-        × IsHistory m.text.units m.history.stack × AreIn (length m.text.units) m.decorations };
+        × IsHistory m.text.units m.history.stack × AreIn (length m.text.units) m.decorations
+        × IsKept m.tree m.table m.text.units };
 }
 
 impl Model {
     /// An empty document, of version 1.
     pub fn new(alloc: Global) -> Model
-        ensures { result.document ≡ new_document [] }
+        ensures document { result.document ≡ new_document [] standard_table }
+        ensures fresh { result.fresh ≡ false }
     {
         Model {
             alloc,
@@ -66,13 +80,17 @@ impl Model {
             version: 1,
             alternative: 1,
             decorations: DecoSet::new(alloc),
+            table: BracketTable::standard(),
+            tree: None,
             history: EditStack::new(alloc),
         }
     }
 
-    /// Puts a new document with this text in place of the old one. A text above the limit is refused with `Limit`.
-    pub fn open_doc(&mut self, text: &[u16]) -> Result<(), ModelError>
-        ensures document { Changes result self.old.document self.new.document (flat_open text.now) }
+    /// Puts a new document with this text and these brackets in place of the old one. A text above the limit is refused
+    /// with `Limit`.
+    pub fn open_doc(&mut self, text: &[u16], table: BracketTable) -> Result<(), ModelError>
+        ensures document { Changes result self.old.document self.new.document (flat_open text.now table) }
+        ensures fresh { KeptAfter result self.old.fresh self.new.fresh }
     {
         if text.len() as u64 > MOST_UNITS {
             return Err(ModelError::Limit);
@@ -82,6 +100,8 @@ impl Model {
         self.version = 1;
         self.alternative = 1;
         self.decorations = DecoSet::new(self.alloc);
+        self.table = table;
+        self.tree = None;
         self.history = EditStack::new(self.alloc);
         Ok(())
     }
@@ -94,6 +114,7 @@ impl Model {
             (flat_edit self.old.document ops.now) }
         ensures paired { IsPaired self.old.document.units → All (λ op. IsPaired op.text) ops.now
             → IsPaired self.new.document.units }
+        ensures fresh { KeptAfter result self.old.fresh self.new.fresh }
     {
         let batch = Batch::checked(self.alloc, ops, &self.text).map_err(error_of)?;
         let version = raised(self.version, 1).ok_or(ModelError::Limit)?;
@@ -109,12 +130,14 @@ impl Model {
             .push(Change { batch, inverse }, self.alternative, version);
         self.version = version;
         self.alternative = version;
+        self.tree = None;
         Ok(())
     }
 
     /// The next edit begins a step of undo.
     pub fn stop(&mut self)
-        ensures { self.new.document ≡ flat_stop self.old.document }
+        ensures document { self.new.document ≡ flat_stop self.old.document }
+        ensures fresh { self.new.fresh ≡ self.old.fresh }
     {
         self.history.stop();
     }
@@ -122,7 +145,8 @@ impl Model {
     /// Goes back to the text before the last step, as the next version, and answers whether there was one. `Limit`
     /// where the version would pass its limit. All memory is taken before the first change.
     pub fn undo(&mut self) -> Result<bool, ModelError>
-        ensures { Moves result self.old.document self.new.document (flat_undo self.old.document) }
+        ensures document { Moves result self.old.document self.new.document (flat_undo self.old.document) }
+        ensures fresh { KeptAfterMove result self.old.fresh self.new.fresh }
     {
         let Some(step) = self.history.undo_next() else {
             return Ok(false);
@@ -133,6 +157,7 @@ impl Model {
         take_back(&mut self.text, &mut self.decorations, changes);
         self.version = version;
         self.alternative = step.alt_before();
+        self.tree = None;
         self.history.undone();
         Ok(true)
     }
@@ -140,7 +165,8 @@ impl Model {
     /// Goes on to the text after the step that was undone last, as the next version, and answers whether there was one.
     /// `Limit` where the version would pass its limit. All memory is taken before the first change.
     pub fn redo(&mut self) -> Result<bool, ModelError>
-        ensures { Moves result self.old.document self.new.document (flat_redo self.old.document) }
+        ensures document { Moves result self.old.document self.new.document (flat_redo self.old.document) }
+        ensures fresh { KeptAfterMove result self.old.fresh self.new.fresh }
     {
         let Some(step) = self.history.redo_next() else {
             return Ok(false);
@@ -151,6 +177,7 @@ impl Model {
         make_again(&mut self.text, &mut self.decorations, changes);
         self.version = version;
         self.alternative = step.alt_after();
+        self.tree = None;
         self.history.redone();
         Ok(true)
     }
@@ -165,8 +192,9 @@ impl Model {
         remove: &[u64],
         add: &[NewDeco],
     ) -> Result<u64, ModelError>
-        ensures { ChangesWith self.old.document.decorations.next_id result self.old.document self.new.document
+        ensures document { ChangesWith self.old.document.decorations.next_id result self.old.document self.new.document
             (flat_decorate self.old.document owner remove.now add.now) }
+        ensures fresh { self.new.fresh ≡ self.old.fresh }
     {
         self.decorations
             .delta(owner, remove, add, &self.text)
@@ -196,6 +224,75 @@ impl Model {
         self.decorations
             .in_range(span, owner, out)
             .map_err(|_| ModelError::Memory)
+    }
+
+    /// Whether the bracket tree of the text of now is kept.
+    pub fn is_fresh(&self) -> bool
+        ensures { result ≡ self.now.fresh }
+    {
+        self.tree.is_some()
+    }
+
+    /// Appends the brackets of the lines `from` to `to`, both counted from 1 and both included, in the order of the text.
+    /// `Range` where one of the lines is not there, or `from` is above `to`; after an error `out` is as it was.
+    pub fn brackets_in(
+        &mut self,
+        from: u64,
+        to: u64,
+        out: &mut Vec<Entry>,
+    ) -> Result<(), ModelError>
+        ensures entries { Appends result out.old.items out.new.items (flat_brackets self.old.document from to) }
+        ensures small { (entries : List Entry) → flat_brackets self.old.document from to ≡ Ok entries
+            → OnOk result (All (λ e. IsSmall e.place) entries) }
+        ensures document { self.new.document ≡ self.old.document }
+        ensures fresh { OnOk result (self.new.fresh ≡ true) }
+    {
+        if from == 0 || to < from || self.text.line_count() < to {
+            return Err(ModelError::Range);
+        }
+        renew(self.alloc, &mut self.tree, &self.table, &self.text).map_err(|_| ModelError::Memory)?;
+        match &self.tree {
+            Some(tree) => tree
+                .entries(from - 1, to - 1, out)
+                .map_err(|_| ModelError::Memory),
+            None => Err(ModelError::Memory),
+        }
+    }
+
+    /// Where the other bracket of a pair starts, and how many units it has, where one of the two starts at the position;
+    /// None where none does. `Range` where the position is none of the text. It takes no memory where a tree is kept.
+    pub fn match_at(&mut self, p: Position) -> Result<Option<(Position, u64)>, ModelError>
+        ensures partner { Gives result (flat_match self.old.document p) }
+        ensures document { self.new.document ≡ self.old.document }
+        ensures fresh { OnOk result (self.new.fresh ≡ true) }
+        ensures sure { self.old.fresh ≡ true → ¬ (result ≡ Err ModelError.Memory) }
+    {
+        if !is_position(&self.text, p) {
+            return Err(ModelError::Range);
+        }
+        renew(self.alloc, &mut self.tree, &self.table, &self.text).map_err(|_| ModelError::Memory)?;
+        match &self.tree {
+            Some(tree) => Ok(told(tree.partner_of(place_of(p)))),
+            None => Err(ModelError::Memory),
+        }
+    }
+
+    /// How many brackets are open after those that start before the position. `Range` where it is none of the text. It
+    /// takes no memory where a tree is kept.
+    pub fn level_at(&mut self, p: Position) -> Result<u64, ModelError>
+        ensures level { Gives result (flat_level self.old.document p) }
+        ensures document { self.new.document ≡ self.old.document }
+        ensures fresh { OnOk result (self.new.fresh ≡ true) }
+        ensures sure { self.old.fresh ≡ true → ¬ (result ≡ Err ModelError.Memory) }
+    {
+        if !is_position(&self.text, p) {
+            return Err(ModelError::Range);
+        }
+        renew(self.alloc, &mut self.tree, &self.table, &self.text).map_err(|_| ModelError::Memory)?;
+        match &self.tree {
+            Some(tree) => Ok(tree.level_at(place_of(p))),
+            None => Err(ModelError::Memory),
+        }
     }
 
     /// How many units the text has.

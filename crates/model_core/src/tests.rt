@@ -8,7 +8,7 @@ use unit_text::Units;
 #[test]
 fn open_edit_and_line(rt: HostRuntime) -> Result<(), Fail> {
     let mut model = Model::new(rt.alloc());
-    model.open_doc(&[97, 98, 10, 99, 100])?;
+    model.open_doc(&[97, 98, 10, 99, 100], BracketTable::standard())?;
     assert_eq!(rt; (model.len(), model.line_count()), (5, 2));
     let op = Op {
         span: Span { start: 1, end: 4 },
@@ -42,7 +42,7 @@ fn undo_and_redo(rt: HostRuntime) -> Result<(), Fail> {
 #[test]
 fn a_decoration_that_is_moved(rt: HostRuntime) -> Result<(), Fail> {
     let mut model = Model::new(rt.alloc());
-    model.open_doc(&[97, 98])?;
+    model.open_doc(&[97, 98], BracketTable::standard())?;
     let new = NewDeco {
         span: Span { start: 1, end: 2 },
         stick: 1,

@@ -9,6 +9,7 @@ use Rattle.serde_json.specs.Data.{Data, null, boolean, number, string, array, ob
 use Rattle.serde_json.specs.Find.{as_object}
 use Rattle.script_lines.specs.Fields.{keys_among, has_only, all_of, span_in, positions_in}
 use Rattle.script_lines.specs.Reading.{◌>>=◌}
+use Rattle.script_lines.specs.Brackets.{pair_of}
 use Rattle.script_lines.specs.Commands.{op_in, some_ops_in}
 
 pub keys_among-members_view : (names : List (List ℕ)) (es : List (String Global × Value))
@@ -100,3 +101,14 @@ positions_in_more (a ∷ b ∷ []) many = absurd (omega arith)
 positions_in_more (a ∷ b ∷ c ∷ []) many = absurd (omega arith)
 positions_in_more (a ∷ b ∷ c ∷ d ∷ []) many = absurd (omega arith)
 positions_in_more (a ∷ b ∷ c ∷ d ∷ e ∷ vs) many = refl
+
+pub pair_of_fewer : (vs : List Value) → length vs < 2 → pair_of (items_view vs) ≡ None
+pair_of_fewer [] few = refl
+pair_of_fewer (v ∷ []) few = refl
+pair_of_fewer (v ∷ w ∷ vs) few = absurd (omega arith)
+
+pub pair_of_more : (vs : List Value) → 3 ≤ length vs → pair_of (items_view vs) ≡ None
+pair_of_more [] many = absurd (omega arith)
+pair_of_more (v ∷ []) many = absurd (omega arith)
+pair_of_more (v ∷ w ∷ []) many = absurd (omega arith)
+pair_of_more (v ∷ w ∷ x ∷ vs) many = refl

@@ -10,12 +10,19 @@ use Rattle.script_lines.specs.declared.op.Place.TheVariants.{At, InRange}
 use Rattle.script_lines.specs.Reading.{◌>>=◌}
 use Rattle.script_lines.specs.Fields.{has_only, number_at, optional_number_at, all_of, ids_at, string_at, text_at, span_at, positions_at, position_in, flag_at}
 use Rattle.script_lines.specs.Decorations.{new_decos_at}
+use Rattle.script_lines.specs.Brackets.{optional_table_at}
 use Rattle.script_lines.specs.declared.command.Command.{Command}
-use Rattle.script_lines.specs.declared.command.Command.TheVariants.{Open, Edit, Decorate, Undo, Redo, Stop, Size, Version, Line, Value, Offset, Position, Deco, Decos}
+use Rattle.script_lines.specs.declared.command.Command.TheVariants.{Open, Edit, Decorate, Undo, Redo, Stop, Size, Version, Line, Value, Offset, Position, Deco, Decos, Brackets, Match, Level}
 
--- `{"cmd":"open","text":TEXT}`
+abbrev pub open_of : Data → Option Command
+open_of d = do
+  text ← text_at (codes "text") d
+  brackets ← optional_table_at (codes "brackets") d
+  Some (Open text brackets)
+
+-- `{"cmd":"open","text":TEXT}`, with `"brackets":[[OPENING,CLOSING],..]` if the brackets are not those of the standard table
 abbrev pub open_in : Data → Option Command
-open_in d = if has_only (codes "cmd" ∷ codes "text" ∷ []) d then option_map Open (text_at (codes "text") d) else None
+open_in d = if has_only (codes "cmd" ∷ codes "text" ∷ codes "brackets" ∷ []) d then open_of d else None
 
 -- where an op stands: at a span of offsets, or in a range of positions
 abbrev pub place_in : Data → Option Place
@@ -91,16 +98,40 @@ decos_of d = do
 abbrev pub decos_in : Data → Option Command
 decos_in d = if has_only (codes "cmd" ∷ codes "at" ∷ codes "owner" ∷ []) d then decos_of d else None
 
+abbrev pub brackets_of : Data → Option Command
+brackets_of d = do
+  from ← number_at (codes "from") d
+  to ← number_at (codes "to") d
+  Some (Brackets from to)
+
+-- `{"cmd":"brackets","from":NUMBER,"to":NUMBER}`
+abbrev pub brackets_in : Data → Option Command
+brackets_in d = if has_only (codes "cmd" ∷ codes "from" ∷ codes "to" ∷ []) d then brackets_of d else None
+
+-- `{"cmd":"match","line":NUMBER,"col":NUMBER}`
+abbrev pub match_in : Data → Option Command
+match_in d = if has_only (codes "cmd" ∷ codes "line" ∷ codes "col" ∷ []) d then option_map Match (position_in d) else None
+
+-- `{"cmd":"level","line":NUMBER,"col":NUMBER}`
+abbrev pub level_in : Data → Option Command
+level_in d = if has_only (codes "cmd" ∷ codes "line" ∷ codes "col" ∷ []) d then option_map Level (position_in d) else None
+
 abbrev pub history_named : List ℕ → Option Command
 history_named name =
     if bytes_eq name (codes "undo") then Some Undo else
     (if bytes_eq name (codes "redo") then Some Redo else
     (if bytes_eq name (codes "stop") then Some Stop else None))
 
+abbrev pub bracket_query_named : List ℕ → Data → Option Command
+bracket_query_named name d =
+    if bytes_eq name (codes "brackets") then brackets_in d else
+    (if bytes_eq name (codes "match") then match_in d else
+    (if bytes_eq name (codes "level") then level_in d else None))
+
 abbrev pub decoration_query_named : List ℕ → Data → Option Command
 decoration_query_named name d =
     if bytes_eq name (codes "deco") then deco_in d else
-    (if bytes_eq name (codes "decos") then decos_in d else None)
+    (if bytes_eq name (codes "decos") then decos_in d else bracket_query_named name d)
 
 abbrev pub query_named : List ℕ → Data → Option Command
 query_named name d =

@@ -1,11 +1,12 @@
 -- Worked examples of the definitions.
-use Rattle.std.specs.Prelude.{◌≡◌, ℕ, false, ◌∷◌, [], Some, None, codes, refl}
+use Rattle.std.specs.Prelude.{◌≡◌, ℕ, false, List, ◌∷◌, [], Some, None, codes, refl}
 use Rattle.std.specs.Fmt.{digits}
+use Rattle.std.specs.Str.{chars}
 use Rattle.serde_json.specs.Data.{Data, null, number, string, array, object, unsigned, Items, no_items, item, no_members, member}
 use Rattle.script_lines.specs.Replies.{ok_reply}
 use Rattle.script_lines.specs.Decorations.{new_deco_in}
 use Rattle.script_lines.specs.Commands.{command_in}
-use Rattle.script_lines.specs.declared.command.Command.TheVariants.{Decorate, Decos}
+use Rattle.script_lines.specs.declared.command.Command.TheVariants.{Open, Decorate, Decos, Match, Level}
 
 three_numbers : ok_reply (2 ∷ 3 ∷ 10 ∷ []) ≡ codes "ok 2 3 10\n"
 unfolding digits
@@ -65,3 +66,46 @@ of_owner_7 = refl
 
 of_owner_null : command_in (of_owner null) ≡ None
 of_owner_null = refl
+
+-- ---- brackets
+
+abbrev pair : List ℕ → List ℕ → Data
+pair opening closing = array (item (string opening) (item (string closing) no_items))
+
+-- `{"brackets":BRACKETS,"cmd":"open","text":""}`
+abbrev open_with : Data → Data
+open_with brackets = object (member (codes "brackets") brackets (member (codes "cmd") (string (codes "open")) (member (codes "text") (string []) no_members)))
+
+open_without_brackets : command_in (object (member (codes "cmd") (string (codes "open")) (member (codes "text") (string []) no_members)))
+    ≡ Some (Open [] None)
+unfolding chars
+open_without_brackets = refl
+
+pairs_in_their_order : command_in (open_with (array (item (pair (codes "<") (codes "<<")) (item (pair (codes "(") (codes ")")) no_items))))
+    ≡ Some (Open [] (Some ((60 ∷ [], 60 ∷ 60 ∷ []) ∷ (40 ∷ [], 41 ∷ []) ∷ [])))
+unfolding chars
+pairs_in_their_order = refl
+
+no_pairs : command_in (open_with (array no_items)) ≡ None
+no_pairs = refl
+
+equal_texts : command_in (open_with (array (item (pair (codes "(") (codes "(")) no_items))) ≡ None
+unfolding chars
+equal_texts = refl
+
+three_texts : command_in (open_with (array (item
+    (array (item (string (codes "(")) (item (string (codes ")")) (item (string (codes "]")) no_items)))) no_items))) ≡ None
+three_texts = refl
+
+null_table : command_in (open_with null) ≡ None
+null_table = refl
+
+-- `{"cmd":CMD,"col":3,"line":2}`
+abbrev at_position : List ℕ → Data
+at_position cmd = object (member (codes "cmd") (string cmd) (member (codes "col") (whole 3) (member (codes "line") (whole 2) no_members)))
+
+match_at_position : command_in (at_position (codes "match")) ≡ Some (Match (record { line = 2; column = 3 }))
+match_at_position = refl
+
+level_at_position : command_in (at_position (codes "level")) ≡ Some (Level (record { line = 2; column = 3 }))
+level_at_position = refl

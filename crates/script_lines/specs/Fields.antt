@@ -56,9 +56,12 @@ ids_at key d = option_and_then ids_in (option_and_then as_array (get key d))
 abbrev pub string_at : List ℕ → Data → Option (List ℕ)
 string_at key d = option_and_then as_str (get key d)
 
--- the units of a text
+-- the units of the text that the value is
+abbrev pub text_of : Data → Option (List ℕ)
+text_of d = option_map units_of (as_str d)
+
 abbrev pub text_at : List ℕ → Data → Option (List ℕ)
-text_at key d = option_map units_of (string_at key d)
+text_at key d = option_and_then text_of (get key d)
 
 abbrev pub span_of : Option ℕ → Option ℕ → Option Span
 span_of None end = None

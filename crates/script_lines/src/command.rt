@@ -5,8 +5,9 @@ ghost use Rattle.std.specs.Str.{is_utf8};
 ghost use Rattle.serde_json.specs.Read.{read};
 ghost use Rattle.serde_json.specs.View.{view, items_view};
 ghost use Rattle.script_lines.specs.Reading.{Reads};
-ghost use Rattle.script_lines.specs.Commands.{open_in, place_in, op_of, op_in, some_ops_in, edit_in, decorate_in, bare_in, line_in, value_in, offset_in, position_command_in, deco_in, decos_in, history_named, query_named, decoration_query_named, command_named, command_in, command_of};
+ghost use Rattle.script_lines.specs.Commands.{open_in, place_in, op_of, op_in, some_ops_in, edit_in, decorate_in, bare_in, line_in, value_in, offset_in, position_command_in, deco_in, decos_in, brackets_in, match_in, level_in, history_named, query_named, decoration_query_named, bracket_query_named, command_named, command_in, command_of};
 
+use crate::bracket::optional_table_at;
 use crate::decoration::new_decos_at;
 use crate::fields::{
     LineFault, flag_at, has_only, ids_at, number_at, optional_number_at, position_in, positions_at,
@@ -14,6 +15,7 @@ use crate::fields::{
 };
 use crate::lists::{Ids, NewDecos};
 use crate::op::{LineOp, LineOps, Place};
+use bracket_scan::BracketTable;
 use serde_json::Value;
 use serde_json::error::Category;
 use std::alloc::Global;
@@ -21,11 +23,13 @@ use text_lengths::{Position, Span};
 use unit_text::Units;
 
 /// One line of a script.
-#[derive(Drop, Debug)]
+#[derive(Drop)]
 pub enum Command {
-    /// Puts a new document in place of the old one.
+    /// Puts a new document in place of the old one. Its brackets are those of the table, or of
+    /// the standard table.
     Open {
         text: Units,
+        brackets: Option<BracketTable>,
     },
     /// Changes the text.
     Edit {
@@ -71,6 +75,19 @@ pub enum Command {
     Decos {
         at: Span,
         owner: Option<u64>,
+    },
+    /// Asks for the brackets of the lines from the first number to the second, counted from 1.
+    Brackets {
+        from: u64,
+        to: u64,
+    },
+    /// Asks for the partner of the bracket at the position.
+    Match {
+        p: Position,
+    },
+    /// Asks how many brackets are open at the position.
+    Level {
+        p: Position,
     },
 }
 
@@ -171,17 +188,33 @@ fn decoration_query_named(name: &str, value: &Value) -> Result<Command, LineFaul
     if name == "decos" {
         return decos_in(value);
     }
+    bracket_query_named(name, value)
+}
+
+fn bracket_query_named(name: &str, value: &Value) -> Result<Command, LineFault>
+    ensures { Reads result (bracket_query_named name.now (view value.now)) }
+{
+    if name == "brackets" {
+        return brackets_in(value);
+    }
+    if name == "match" {
+        return match_in(value);
+    }
+    if name == "level" {
+        return level_in(value);
+    }
     Err(LineFault::Syntax)
 }
 
 fn open_in(alloc: Global, value: &Value) -> Result<Command, LineFault>
     ensures { Reads result (open_in (view value.now)) }
 {
-    if !has_only(value, &["cmd", "text"]) {
+    if !has_only(value, &["cmd", "text", "brackets"]) {
         return Err(LineFault::Syntax);
     }
     let text = text_at(alloc, value, "text")?;
-    Ok(Command::Open { text })
+    let brackets = optional_table_at(alloc, value, "brackets")?;
+    Ok(Command::Open { text, brackets })
 }
 
 fn edit_in(alloc: Global, value: &Value) -> Result<Command, LineFault>
@@ -319,4 +352,35 @@ fn decos_in(value: &Value) -> Result<Command, LineFault>
     let at = span_at(value, "at")?;
     let owner = optional_number_at(value, "owner")?;
     Ok(Command::Decos { at, owner })
+}
+
+fn brackets_in(value: &Value) -> Result<Command, LineFault>
+    ensures { Reads result (brackets_in (view value.now)) }
+{
+    if !has_only(value, &["cmd", "from", "to"]) {
+        return Err(LineFault::Syntax);
+    }
+    let from = number_at(value, "from")?;
+    let to = number_at(value, "to")?;
+    Ok(Command::Brackets { from, to })
+}
+
+fn match_in(value: &Value) -> Result<Command, LineFault>
+    ensures { Reads result (match_in (view value.now)) }
+{
+    if !has_only(value, &["cmd", "line", "col"]) {
+        return Err(LineFault::Syntax);
+    }
+    let p = position_in(value)?;
+    Ok(Command::Match { p })
+}
+
+fn level_in(value: &Value) -> Result<Command, LineFault>
+    ensures { Reads result (level_in (view value.now)) }
+{
+    if !has_only(value, &["cmd", "line", "col"]) {
+        return Err(LineFault::Syntax);
+    }
+    let p = position_in(value)?;
+    Ok(Command::Level { p })
 }

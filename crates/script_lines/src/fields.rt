@@ -6,7 +6,7 @@ ghost use Rattle.std.specs.List.{list_any, list_all};
 ghost use Rattle.std.specs.Str.{bytes_eq};
 ghost use Rattle.serde_json.specs.View.{view, items_view};
 ghost use Rattle.script_lines.specs.Reading.{Reads};
-ghost use Rattle.script_lines.specs.Fields.{has_only, whole_number, number_at, optional_number_at, ids_in, ids_at, text_at, span_in, span_at, position_of, positions_in, positions_at, position_in, flag_at};
+ghost use Rattle.script_lines.specs.Fields.{has_only, whole_number, number_at, optional_number_at, ids_in, ids_at, text_of, text_at, span_in, span_at, position_of, positions_in, positions_at, position_in, flag_at};
 
 use crate::lists::Ids;
 use serde_json::{Map, Value};
@@ -99,7 +99,13 @@ pub(crate) fn text_at(alloc: Global, value: &Value, key: &str) -> Result<Units, 
     ensures { Reads result (text_at key.now (view value.now)) }
 {
     let field = value.get(key).ok_or(LineFault::Syntax)?;
-    let text = field.as_str().ok_or(LineFault::Syntax)?;
+    text_of(alloc, field)
+}
+
+pub(crate) fn text_of(alloc: Global, value: &Value) -> Result<Units, LineFault>
+    ensures { Reads result (text_of (view value.now)) }
+{
+    let text = value.as_str().ok_or(LineFault::Syntax)?;
     let mut units = Vec::new(alloc);
     units_of(text, &mut units).map_err(|_| LineFault::Memory)?;
     Ok(Units::from_vec(units))

@@ -1,6 +1,7 @@
 //! The script language: the command that a line spells, and the bytes of a reply.
 #![tactic(auto)]
 
+mod bracket;
 mod command;
 mod decoration;
 mod fields;

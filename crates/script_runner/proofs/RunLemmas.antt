@@ -4,7 +4,7 @@ use Rattle.std.specs.List.{list_any}
 use Rattle.std.proofs.lemmas.Bool.{lt-ltb}
 use Rattle.std.proofs.lemmas.List.{append-nil}
 use Rattle.std.proofs.lemmas.List.Sums.{sum_by-cons}
-use Rattle.document_rules.specs.Document.{FlatState, new_document}
+use Rattle.document_rules.specs.Document.{FlatState, empty_document}
 use Rattle.script_streams.specs.Streams.{SourceState, SinkState, Gave, NothingLeft, Took}
 use Rattle.script_runner.specs.declared.running.Status.TheVariants as status
 use Rattle.script_runner.specs.declared.serving.Served.{Served}
@@ -15,14 +15,14 @@ use Rattle.script_runner.specs.Serving.{Serves, ServedAll}
 use Rattle.script_runner.specs.Runs.{most_script_bytes, status_after, EndsWith, Runs, IsAnswered}
 
 module _ (src src' : SourceState) (out out' : SinkState) where
-  runs_after_end : (refused memory : ℕ) (end : FlatState) → ServedAll (new_document []) end src src' out out' refused memory
+  runs_after_end : (refused memory : ℕ) (end : FlatState) → ServedAll empty_document end src src' out out' refused memory
       → Runs (status_after (Ended refused memory)) src src' out out'
   runs_after_end zero memory end served = record { memory = memory; end = end; served = served }
   runs_after_end (suc more) memory end served =
       rw (lt-ltb 0 (suc more) (omega arith)) (more, record { memory = memory; end = end; served = served })
 
   -- the status after serving tells what stands
-  pub runs_after : (served : Served) (end : FlatState) → Serves served most_script_bytes (new_document []) end src src' out out'
+  pub runs_after : (served : Served) (end : FlatState) → Serves served most_script_bytes empty_document end src src' out out'
       → Runs (status_after served) src src' out out'
   runs_after (Ended refused memory) end served = runs_after_end refused memory end served
   runs_after ReadFault end served = (end, served)
@@ -47,14 +47,14 @@ whole_script (Some rest) script read gave none = sym (gave ∙ ap (λ x. read ++
 
 module _ (src src' : SourceState) (out out' : SinkState) (script before after : List ℕ) (told : src.left ≡ Some script) (took : out.taken ≡ Some before)
     (takes : out'.taken ≡ Some after) where
-  answered_is : (number refused memory : ℕ) (end : FlatState) → ServedAll (new_document []) end src src' out out' refused memory
+  answered_is : (number refused memory : ℕ) (end : FlatState) → ServedAll empty_document end src src' out out' refused memory
       → ((replies : List (List ℕ)) → refused ≡ refusals replies → number ≡ cond (list_any is_refused replies) 1 0) → IsAnswered script before after number
   answered_is number refused memory end served status =
       let whole = whole_script src'.left script served.script (subst (λ left. Gave left src'.left served.script) told served.gave) served.nothing_left in
       record {
         replies = served.replies;
         end = end;
-        transcript = subst (λ x. Transcript (new_document []) (all_lines x) served.replies end) whole served.transcript;
+        transcript = subst (λ x. Transcript empty_document (all_lines x) served.replies end) whole served.transcript;
         grown = subst (λ t. Took (Some before) t (written served.replies)) takes (subst (λ t. Took t out'.taken (written served.replies)) took served.took);
         status = status served.replies served.refused_is;
       }

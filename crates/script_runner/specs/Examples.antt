@@ -1,7 +1,8 @@
 -- Worked examples of the definitions.
-use Rattle.std.specs.Prelude.{◌≡◌, ◌∷◌, [], codes, refl, false}
-use Rattle.document_rules.specs.Document.{new_document}
-use Rattle.script_lines.specs.declared.command.Command.TheVariants.{Open, Edit, Undo, Version, Size, Line, Value, Offset}
+use Rattle.std.specs.Prelude.{◌≡◌, ◌∷◌, [], codes, refl, false, None}
+use Rattle.document_rules.specs.Document.{new_document, empty_document}
+use Rattle.bracket_rules.specs.Table.{standard_table}
+use Rattle.script_lines.specs.declared.command.Command.TheVariants.{Open, Edit, Undo, Version, Size, Line, Value, Offset, Brackets, Match, Level}
 use Rattle.script_lines.specs.declared.command.Command.TheVariants as command
 use Rattle.script_lines.specs.declared.op.Place.TheVariants.{At, InRange}
 use Rattle.std.specs.Fmt.{digits}
@@ -22,46 +23,58 @@ the_rest_is_no_whole_line = refl
 a_blank_line_has_no_reply : has_reply (codes " \t\r") ≡ false
 a_blank_line_has_no_reply = refl
 
-opened : step (new_document []) (Open (codes "ab\ncd")) ≡ (codes "ok 1 5 2\n", new_document (codes "ab\ncd"))
+opened : step empty_document (Open (codes "ab\ncd") None) ≡ (codes "ok 1 5 2\n", new_document (codes "ab\ncd") standard_table)
 unfolding digits
 opened = refl
 
-edited_over_a_break : (step (new_document (codes "ab\ncd")) (Edit (record { place = At (record { start = 1; end = 4 }); text = codes "X"; force = false } ∷ []))).0 ≡ codes "ok 2 3 1\n"
+edited_over_a_break : (step (new_document (codes "ab\ncd") standard_table) (Edit (record { place = At (record { start = 1; end = 4 }); text = codes "X"; force = false } ∷ []))).0 ≡ codes "ok 2 3 1\n"
 unfolding digits
 edited_over_a_break = refl
 
-two_edits_that_overlap : step (new_document (codes "abcde"))
+two_edits_that_overlap : step (new_document (codes "abcde") standard_table)
     (Edit (record { place = At (record { start = 1; end = 4 }); text = []; force = false } ∷ record { place = At (record { start = 3; end = 3 }); text = []; force = false } ∷ []))
-    ≡ (codes "! overlap\n", new_document (codes "abcde"))
+    ≡ (codes "! overlap\n", new_document (codes "abcde") standard_table)
 two_edits_that_overlap = refl
 
-nothing_to_undo : step (new_document (codes "ab")) Undo ≡ (codes "ok none\n", new_document (codes "ab"))
+nothing_to_undo : step (new_document (codes "ab") standard_table) Undo ≡ (codes "ok none\n", new_document (codes "ab") standard_table)
 nothing_to_undo = refl
 
-versions_of_a_new_document : step (new_document []) Version ≡ (codes "ok 1 1\n", new_document [])
+versions_of_a_new_document : step empty_document Version ≡ (codes "ok 1 1\n", empty_document)
 unfolding digits
 versions_of_a_new_document = refl
 
-the_first_line : step (new_document (codes "aXd")) (Line 1) ≡ (codes "ok \"aXd\"\n", new_document (codes "aXd"))
+the_first_line : step (new_document (codes "aXd") standard_table) (Line 1) ≡ (codes "ok \"aXd\"\n", new_document (codes "aXd") standard_table)
 unfolding utf16_chars encode
 the_first_line = refl
 
-size_of_a_new_document : step (new_document []) Size ≡ (codes "ok 0 1\n", new_document [])
+size_of_a_new_document : step empty_document Size ≡ (codes "ok 0 1\n", empty_document)
 unfolding digits
 size_of_a_new_document = refl
 
-edited_by_range : (step (new_document (codes "ab\ncd")) (Edit (record { place = InRange (record { line = 1; column = 2 }) (record { line = 2; column = 2 }); text = codes "X"; force = false } ∷ []))).0 ≡ codes "ok 2 3 1\n"
+edited_by_range : (step (new_document (codes "ab\ncd") standard_table) (Edit (record { place = InRange (record { line = 1; column = 2 }) (record { line = 2; column = 2 }); text = codes "X"; force = false } ∷ []))).0 ≡ codes "ok 2 3 1\n"
 unfolding digits
 edited_by_range = refl
 
-a_range_with_no_such_column : step (new_document (codes "ab\ncd")) (Edit (record { place = InRange (record { line = 1; column = 4 }) (record { line = 2; column = 1 }); text = []; force = false } ∷ []))
-    ≡ (codes "! range\n", new_document (codes "ab\ncd"))
+a_range_with_no_such_column : step (new_document (codes "ab\ncd") standard_table) (Edit (record { place = InRange (record { line = 1; column = 4 }) (record { line = 2; column = 1 }); text = []; force = false } ∷ []))
+    ≡ (codes "! range\n", new_document (codes "ab\ncd") standard_table)
 a_range_with_no_such_column = refl
 
-offset_after_a_break : step (new_document (codes "ab\r\ncd")) (Offset (record { line = 2; column = 1 })) ≡ (codes "ok 4\n", new_document (codes "ab\r\ncd"))
+offset_after_a_break : step (new_document (codes "ab\r\ncd") standard_table) (Offset (record { line = 2; column = 1 })) ≡ (codes "ok 4\n", new_document (codes "ab\r\ncd") standard_table)
 unfolding digits
 offset_after_a_break = refl
 
-position_inside_a_break : step (new_document (codes "ab\r\ncd")) (command.Position 3) ≡ (codes "ok 1 4\n", new_document (codes "ab\r\ncd"))
+position_inside_a_break : step (new_document (codes "ab\r\ncd") standard_table) (command.Position 3) ≡ (codes "ok 1 4\n", new_document (codes "ab\r\ncd") standard_table)
 unfolding digits
 position_inside_a_break = refl
+
+brackets_of_a_line : (step (new_document (codes "([)") standard_table) (Brackets 1 1)).0 ≡ codes "ok 1 1 1 0 o 0 1 2 1 1 u 1 1 3 1 0 c 0\n"
+unfolding digits
+brackets_of_a_line = refl
+
+the_partner_of_a_bracket : (step (new_document (codes "([)") standard_table) (Match (record { line = 1; column = 1 }))).0 ≡ codes "ok 1 3 1\n"
+unfolding digits
+the_partner_of_a_bracket = refl
+
+level_between_brackets : (step (new_document (codes "([)") standard_table) (Level (record { line = 1; column = 3 }))).0 ≡ codes "ok 2\n"
+unfolding digits
+level_between_brackets = refl

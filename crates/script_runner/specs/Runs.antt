@@ -2,7 +2,7 @@
 use Rattle.std.specs.Prelude.{◌≡◌, ℕ, suc, ◌+◌, ◌^◌, Bool, false, nat_lt, if◌then◌else◌, List, [], ◌∷◌, ◌++◌, codes}
 use Rattle.std.specs.Str.{bytes_eq}
 use Rattle.std.specs.List.{list_any}
-use Rattle.document_rules.specs.Document.{FlatState, new_document}
+use Rattle.document_rules.specs.Document.{FlatState, empty_document}
 use Rattle.script_streams.specs.Streams.{SourceState, SinkState, Took, Rose, StartsWith}
 use Rattle.script_runner.specs.declared.running.Status.{Status}
 use Rattle.script_runner.specs.declared.running.Status.TheVariants as status
@@ -60,7 +60,7 @@ ShowsUsage status.TooLong err err' = ⊥
 pub record IsAnswered (script before after : List ℕ) (number : ℕ) : Type 0 where
   pub replies : List (List ℕ)
   pub end : FlatState
-  pub transcript : Transcript (new_document []) (all_lines script) replies end
+  pub transcript : Transcript empty_document (all_lines script) replies end
   pub grown : after ≡ before ++ written replies
   pub status : number ≡ (if list_any is_refused replies then 1 else 0)
 
@@ -68,7 +68,7 @@ pub record IsAnswered (script before after : List ℕ) (number : ℕ) : Type 0 w
 pub record AnswersAll (src src' : SourceState) (out out' : SinkState) (refused : ℕ) : Type 0 where
   pub memory : ℕ
   pub end : FlatState
-  pub served : ServedAll (new_document []) end src src' out out' refused memory
+  pub served : ServedAll empty_document end src src' out out' refused memory
 
 abbrev pub Runs : Status → SourceState → SourceState → SinkState → SinkState → Type 0
 -- every line of the script was answered, and no reply begins with `!`
@@ -77,8 +77,8 @@ Runs status.Answered src src' out out' = AnswersAll src src' out out' 0
 Runs status.Refused src src' out out' = (more : ℕ) × AnswersAll src src' out out' (suc more)
 -- there was no memory to begin with, and nothing was read or written
 Runs status.Memory src src' out out' = (src' ≡ src) × (out' ≡ out)
-Runs status.ReadFault src src' out out' = (end : FlatState) × ServedToReadFault (new_document []) end src src' out out'
-Runs status.WriteFault src src' out out' = (end : FlatState) × ServedToWriteFault (new_document []) end src src' out out'
-Runs status.TooLong src src' out out' = (end : FlatState) × ServedToLimit most_script_bytes (new_document []) end src src' out out'
+Runs status.ReadFault src src' out out' = (end : FlatState) × ServedToReadFault empty_document end src src' out out'
+Runs status.WriteFault src src' out out' = (end : FlatState) × ServedToWriteFault empty_document end src src' out out'
+Runs status.TooLong src src' out out' = (end : FlatState) × ServedToLimit most_script_bytes empty_document end src src' out out'
 -- the words `run` are a command
 Runs status.Usage src src' out out' = ⊥

@@ -1,5 +1,5 @@
 -- One command on the flat document: its reply, and the document after it.
-use Rattle.std.specs.Prelude.{◌≡◌, ℕ, List, [], ◌∷◌, length, Option, Some, None, option_map, option_and_then, Result, Ok, Err}
+use Rattle.std.specs.Prelude.{◌≡◌, ℕ, ◌+◌, List, [], ◌∷◌, ◌++◌, codes, unwrap_or, length, Option, Some, None, option_map, option_and_then, Result, Ok, Err}
 use Rattle.text_lengths.specs.declared.Position.{Position}
 use Rattle.text_lengths.specs.declared.Span.{Span}
 use Rattle.text_rules.specs.declared.Op.{Op}
@@ -9,14 +9,19 @@ use Rattle.document_rules.specs.declared.ModelError.{ModelError}
 use Rattle.document_rules.specs.declared.ModelError.TheVariants as error
 use Rattle.document_rules.specs.Document.{FlatState, flat_open, flat_edit, flat_undo, flat_redo, flat_stop, flat_decorate, flat_deco, flat_decos, flat_line, flat_value, flat_position, flat_offset, flat_line_count}
 use Rattle.script_lines.specs.declared.command.Command.{Command}
-use Rattle.script_lines.specs.declared.command.Command.TheVariants.{Open, Edit, Decorate, Undo, Redo, Stop, Size, Version, Line, Value, Offset, Decos}
+use Rattle.script_lines.specs.declared.command.Command.TheVariants.{Open, Edit, Decorate, Undo, Redo, Stop, Size, Version, Line, Value, Offset, Decos, Brackets, Match, Level}
 use Rattle.script_lines.specs.declared.command.Command.TheVariants as command
 use Rattle.script_lines.specs.declared.op.LineOp.{LineOp}
 use Rattle.script_lines.specs.declared.op.Place.{Place}
 use Rattle.script_lines.specs.declared.op.Place.TheVariants.{At, InRange}
 use Rattle.script_lines.specs.declared.reason.Refusal.{Refusal}
 use Rattle.script_lines.specs.declared.reason.Refusal.TheVariants as refusal
-use Rattle.script_lines.specs.Replies.{ok_reply, none_reply, text_reply, refusal_reply}
+use Rattle.bracket_rules.specs.Table.{standard_table}
+use Rattle.bracket_rules.specs.declared.Entry.{Entry}
+use Rattle.bracket_rules.specs.declared.Status.{Status}
+use Rattle.bracket_rules.specs.declared.Status.TheVariants.{PairedOpening, PairedClosing, Unclosed, Unexpected}
+use Rattle.document_rules.specs.Brackets.{flat_brackets, flat_match, flat_level}
+use Rattle.script_lines.specs.Replies.{number_part, ok_reply, none_reply, text_reply, refusal_reply}
 
 abbrev pub refusal_of : ModelError → Refusal
 refusal_of error.Unknown = refusal.Unknown
@@ -77,6 +82,38 @@ abbrev pub decos_answer : Result (List Deco) ModelError → List ℕ
 decos_answer (Ok decos) = ok_reply (deco_numbers decos)
 decos_answer (Err e) = refusal_reply (refusal_of e)
 
+-- the letter of what a bracket is: `o` and `c` of a pair, `u` for one that none closes, `x` for one that closes none
+abbrev pub status_letter : Status → ℕ
+status_letter PairedOpening = 111
+status_letter PairedClosing = 99
+status_letter Unclosed = 117
+status_letter Unexpected = 120
+
+-- ` LINE COL LEN KIND STATUS LEVEL`
+abbrev pub entry_part : Entry → List ℕ
+entry_part e =
+    number_part (e.place.lines + 1) ++ number_part (e.place.columns + 1) ++ number_part e.len ++ number_part e.kind
+    ++ 32 ∷ status_letter e.status ∷ number_part e.level
+
+-- `ok` and each bracket
+abbrev pub entries_reply : List Entry → List ℕ
+entries_reply entries = codes "ok" ++ flat_map entry_part entries ++ codes "\n"
+
+abbrev pub brackets_answer : Result (List Entry) ModelError → List ℕ
+brackets_answer (Ok entries) = entries_reply entries
+brackets_answer (Err e) = refusal_reply (refusal_of e)
+
+-- `ok LINE COL LEN`, or `ok none`
+abbrev pub match_answer : Result (Option (Position × ℕ)) ModelError → List ℕ
+match_answer (Ok None) = none_reply
+match_answer (Ok (Some partner)) = ok_reply (partner.0.line ∷ partner.0.column ∷ partner.1 ∷ [])
+match_answer (Err e) = refusal_reply (refusal_of e)
+
+-- `ok LEVEL`
+abbrev pub level_answer : Result ℕ ModelError → List ℕ
+level_answer (Ok level) = ok_reply (level ∷ [])
+level_answer (Err e) = refusal_reply (refusal_of e)
+
 abbrev pub span_between : Option ℕ → Option ℕ → Option Span
 span_between None end = None
 span_between (Some start) None = None
@@ -101,7 +138,7 @@ edited_at f None = (refusal_reply refusal.Range, f)
 edited_at f (Some ops) = changed f (flat_edit f ops)
 
 abbrev pub step : FlatState → Command → List ℕ × FlatState
-step f (Open text) = changed f (flat_open text)
+step f (Open text brackets) = changed f (flat_open text (unwrap_or brackets standard_table))
 step f (Edit ops) = edited_at f (ops_at f ops)
 step f (Decorate owner remove add) = decorated f (length add) (flat_decorate f owner remove add)
 step f Undo = moved f (flat_undo f)
@@ -115,6 +152,9 @@ step f (Offset p) = (offset_answer (flat_offset f p), f)
 step f (command.Position offset) = (position_answer (flat_position f offset), f)
 step f (command.Deco id) = (deco_answer (flat_deco f id), f)
 step f (Decos span owner) = (decos_answer (flat_decos f span owner), f)
+step f (Brackets from to) = (brackets_answer (flat_brackets f from to), f)
+step f (Match p) = (match_answer (flat_match f p), f)
+step f (Level p) = (level_answer (flat_level f p), f)
 
 -- The reply is this one, and the document is as it says; or it is `! memory`, and the document is as before.
 pub data Answers (flat : List ℕ × FlatState) (old : FlatState) (reply : List ℕ) (new : FlatState) : Type 0 where

@@ -1,6 +1,7 @@
 //! Runs a script over a document: the program without its streams.
 #![tactic(auto)]
 
+mod bracket_replies;
 mod decoration_replies;
 mod line;
 mod look_up;

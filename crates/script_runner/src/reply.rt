@@ -1,6 +1,7 @@
 //! Commands carried out, and the replies to lines.
 
-ghost use Rattle.std.specs.Prelude.{◌≡◌, ℕ, List, [], IfOk};
+ghost use Rattle.std.specs.Prelude.{◌≡◌, ℕ, List, [], IfOk, unwrap_or};
+ghost use Rattle.bracket_rules.specs.Table.{standard_table};
 ghost use Rattle.document_rules.specs.Document.{flat_offset, flat_position};
 ghost use Rattle.script_lines.specs.Commands.{command_of};
 ghost use Rattle.script_lines.specs.Replies.{text_reply, refusal_reply};
@@ -9,11 +10,12 @@ ghost use Rattle.script_runner.specs.Script.{Turn, commanded};
 ghost use Rattle.script_runner.specs.Progress.{IsLineSoFar};
 ghost use Rattle.script_runner.specs.Bytes.{bytes_of, change_answer, move_answer, TextOrMemory};
 
+use crate::bracket_replies::{brackets_reply, level_reply, match_reply};
 use crate::decoration_replies::{deco_reply, decorate_reply, decos_reply};
 use crate::line::PartialLine;
 use crate::look_up::{offset_at, position_at};
 use crate::ops::ops_at;
-use model_core::{Model, ModelError};
+use model_core::{BracketTable, Model, ModelError};
 use script_lines::{
     Command, LineFault, LineOps, Refusal, Short, command_of, long_begin, long_end, long_text,
     refusal,
@@ -80,8 +82,8 @@ fn carry_out(alloc: Global, model: &mut Model, command: Command) -> Reply
     ensures { Answers (step model.old.document command) model.old.document (bytes_of result) model.new.document }
 {
     match command {
-        Command::Open { text } => {
-            let outcome = model.open_doc(text.as_slice());
+        Command::Open { text, brackets } => {
+            let outcome = model.open_doc(text.as_slice(), table_of(brackets));
             after_change(outcome, model)
         }
         Command::Edit { ops } => edit_reply(alloc, model, ops),
@@ -109,6 +111,19 @@ fn carry_out(alloc: Global, model: &mut Model, command: Command) -> Reply
         Command::Position { offset } => position_reply(model, offset),
         Command::Deco { id } => deco_reply(model, id),
         Command::Decos { at, owner } => decos_reply(alloc, model, at, owner),
+        Command::Brackets { from, to } => brackets_reply(alloc, model, from, to),
+        Command::Match { p } => match_reply(model, p),
+        Command::Level { p } => level_reply(model, p),
+    }
+}
+
+/// The brackets that are asked for, or the standard ones.
+fn table_of(brackets: Option<BracketTable>) -> BracketTable
+    ensures { result ≡ unwrap_or brackets standard_table }
+{
+    match brackets {
+        Some(table) => table,
+        None => BracketTable::standard(),
     }
 }
 

@@ -1,14 +1,9 @@
 //! Batches, undo and redo.
 
-use crate::runs::{Stream, expect_run};
+use crate::runs::{ALL, expect_run};
 use std::alloc::AllocError;
 use std::process::Abort;
 use std::test::Fail;
-
-const ALL: Stream<'static> = Stream {
-    each: 65_536,
-    plan: &[],
-};
 
 fn expect<R: AllocGlobal + Abort>(
     rt: &R,

@@ -1,32 +1,7 @@
 //! Decorations, as the text under them is edited.
 
-use crate::runs::{Stream, expect_run};
-use std::alloc::{AllocError, Global};
-use std::process::Abort;
+use crate::runs::expect_lines;
 use std::test::Fail;
-
-const ALL: Stream<'static> = Stream {
-    each: 65_536,
-    plan: &[],
-};
-
-/// Runs the lines, each with its reply.
-fn expect<R: AllocGlobal + Abort>(
-    rt: &R,
-    lines: &[(&str, &str)],
-    status: u8,
-) -> Result<(), AllocError> {
-    let alloc: Global = rt.alloc();
-    let mut script = String::new(alloc);
-    let mut replies = String::new(alloc);
-    for (line, reply) in lines {
-        script.push_str(line)?;
-        script.push('\n')?;
-        replies.push_str(reply)?;
-        replies.push('\n')?;
-    }
-    expect_run(rt, script.as_bytes(), ALL, ALL, replies.as_bytes(), status)
-}
 
 #[test]
 fn each_mode_at_its_start(rt: HostRuntime) -> Result<(), Fail> {
@@ -57,7 +32,7 @@ fn each_mode_at_its_start(rt: HostRuntime) -> Result<(), Fail> {
         ("{\"cmd\":\"deco\",\"id\":3}", "ok 2 8 2 1"),
         ("{\"cmd\":\"deco\",\"id\":4}", "ok 5 8 3 1"),
     ];
-    expect(&rt, &lines, 0)?;
+    expect_lines(&rt, &lines, 0)?;
     Ok(())
 }
 
@@ -90,7 +65,7 @@ fn each_mode_at_its_end(rt: HostRuntime) -> Result<(), Fail> {
         ("{\"cmd\":\"deco\",\"id\":3}", "ok 2 5 2 1"),
         ("{\"cmd\":\"deco\",\"id\":4}", "ok 2 8 3 1"),
     ];
-    expect(&rt, &lines, 0)?;
+    expect_lines(&rt, &lines, 0)?;
     Ok(())
 }
 
@@ -110,7 +85,7 @@ fn an_undo_does_not_put_decorations_back(rt: HostRuntime) -> Result<(), Fail> {
         ("{\"cmd\":\"undo\"}", "ok 3 8 1"),
         ("{\"cmd\":\"deco\",\"id\":1}", "ok 8 8 1 1"),
     ];
-    expect(&rt, &lines, 0)?;
+    expect_lines(&rt, &lines, 0)?;
     Ok(())
 }
 
@@ -140,7 +115,7 @@ fn refusals_of_decorations(rt: HostRuntime) -> Result<(), Fail> {
             "! range",
         ),
     ];
-    expect(&rt, &lines, 1)?;
+    expect_lines(&rt, &lines, 1)?;
     Ok(())
 }
 
@@ -159,7 +134,7 @@ fn one_collapses_and_one_does_not(rt: HostRuntime) -> Result<(), Fail> {
         ("{\"cmd\":\"deco\",\"id\":1}", "ok 1 1 0 1"),
         ("{\"cmd\":\"deco\",\"id\":2}", "ok 2 4 0 1"),
     ];
-    expect(&rt, &lines, 0)?;
+    expect_lines(&rt, &lines, 0)?;
     Ok(())
 }
 
@@ -181,7 +156,7 @@ fn force_moves_what_stands_at_the_edit(rt: HostRuntime) -> Result<(), Fail> {
         ("{\"cmd\":\"redo\"}", "ok 4 3 1"),
         ("{\"cmd\":\"deco\",\"id\":1}", "ok 1 2 0 1"),
     ];
-    expect(&rt, &lines, 0)?;
+    expect_lines(&rt, &lines, 0)?;
     Ok(())
 }
 
@@ -199,7 +174,7 @@ fn without_force_it_grows(rt: HostRuntime) -> Result<(), Fail> {
         ),
         ("{\"cmd\":\"deco\",\"id\":1}", "ok 1 2 0 1"),
     ];
-    expect(&rt, &lines, 0)?;
+    expect_lines(&rt, &lines, 0)?;
     Ok(())
 }
 
@@ -223,6 +198,6 @@ fn decorations_that_touch_a_span(rt: HostRuntime) -> Result<(), Fail> {
         ("{\"cmd\":\"decos\",\"at\":[5,5],\"owner\":9}", "ok"),
         ("{\"cmd\":\"decos\",\"at\":[5,9]}", "! range"),
     ];
-    expect(&rt, &lines, 1)?;
+    expect_lines(&rt, &lines, 1)?;
     Ok(())
 }

@@ -8,6 +8,8 @@ mod decorated;
 #[cfg(test)]
 mod faults;
 #[cfg(test)]
+mod nested;
+#[cfg(test)]
 mod one_list;
 #[cfg(test)]
 mod runs;

@@ -1,13 +1,8 @@
 //! The program beside a document that is kept as one list of units, on the same generated scripts.
 
-use crate::runs::{Stream, expect_run};
+use crate::runs::{ALL, expect_run};
 use std::alloc::{AllocError, Global};
 use std::test::Fail;
-
-const ALL: Stream<'static> = Stream {
-    each: 65_536,
-    plan: &[],
-};
 
 /// Texts as they are spelled in a script and in a reply, and their bytes.
 const TEXTS: [(&str, &[u8]); 8] = [

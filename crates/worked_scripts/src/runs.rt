@@ -4,7 +4,7 @@ ghost use Rattle.script_streams.specs.Plan.{GivesSomething};
 
 use script_runner::run_words;
 use script_streams::{MemSink, MemSource, SureSink, Turn};
-use std::alloc::AllocError;
+use std::alloc::{AllocError, Global};
 use std::process::Abort;
 
 /// How a stream in memory behaves.
@@ -14,6 +14,12 @@ pub struct Stream<'a> {
     pub each: usize,
     pub plan: &'a [Turn],
 }
+
+/// All at once, without a fault.
+pub const ALL: Stream<'static> = Stream {
+    each: 65_536,
+    plan: &[],
+};
 
 /// Runs the words `run` over the script, and expects what is written and the status.
 pub fn expect_run<R: AllocGlobal + Abort>(
@@ -39,4 +45,22 @@ pub fn expect_run<R: AllocGlobal + Abort>(
     assert_eq!(rt; ended, status);
     assert_eq!(rt; err.bytes(), Some(b"".as_slice()));
     Ok(())
+}
+
+/// Runs the lines, each with its reply.
+pub fn expect_lines<R: AllocGlobal + Abort>(
+    rt: &R,
+    lines: &[(&str, &str)],
+    status: u8,
+) -> Result<(), AllocError> {
+    let alloc: Global = rt.alloc();
+    let mut script = String::new(alloc);
+    let mut replies = String::new(alloc);
+    for (line, reply) in lines {
+        script.push_str(line)?;
+        script.push('\n')?;
+        replies.push_str(reply)?;
+        replies.push('\n')?;
+    }
+    expect_run(rt, script.as_bytes(), ALL, ALL, replies.as_bytes(), status)
 }

@@ -1,17 +1,12 @@
 //! Scripts with their replies.
 
-use crate::runs::{Stream, expect_run};
+use crate::runs::{ALL, expect_run};
 use script_lines::{Command, LineFault, command_of};
 use script_runner::run_words;
 use script_streams::{SureSink, SureSource};
 use std::alloc::AllocError;
 use std::process::Abort;
 use std::test::Fail;
-
-const ALL: Stream<'static> = Stream {
-    each: 65_536,
-    plan: &[],
-};
 
 fn expect<R: AllocGlobal + Abort>(
     rt: &R,

@@ -40,6 +40,7 @@ invariant_of-self-2 c =
       version,
       rw (text, stack) (edited_history x c.args.ops.now sorted c.in_ok-inverse.inverse rule c.self.invariant.0 inverse c.self.inside.history.stack c.self.inside.alternative c.in_ok-version.version c.self.invariant.2),
       c.apply.ensures.inside,
+      tt,
     )
 
 pub returns-clause-document : goal.returns-clause-document
@@ -52,7 +53,7 @@ returns-clause-document c =
     let stack : c.push.new.self.stack ≡ pushed c.self.inside.history.stack (record { batch = sorted; inverse = c.in_ok-inverse.inverse }) c.self.inside.alternative c.in_ok-version.version = grind (arith, common_steps) in
     let next : c.in_ok-version.version ≡ c.self.inside.version + 1 = grind (arith, common_steps) in
     let few : c.self.inside.version + 1 ≤ greatest_version = grind (arith, common_steps) in
-    let flat = edited_document x c.args.ops.now sorted c.in_ok-inverse.inverse rule c.self.invariant.0 inverse c.self.inside.history.stack c.self.inside.decorations c.self.inside.version c.self.inside.alternative few in
+    let flat = edited_document x c.args.ops.now sorted c.in_ok-inverse.inverse rule c.self.invariant.0 inverse c.self.inside.history.stack c.self.inside.decorations c.self.inside.table c.self.inside.version c.self.inside.alternative few in
     let decorations : c.apply.new.decorations ≡ carried_with true c.self.inside.decorations sorted = c.apply.ensures.decorations ∙ ap (carried_with true c.self.inside.decorations) c.ops-2.ensures.ops in
     rw (text, decorations, stack, next) (sym (ap (λ (m : ModelState). flat_edit m.document c.args.ops.now) c.self.view_is) ∙ flat)
 

@@ -18,13 +18,13 @@ pub returns-in_default : goal.returns-in_default
 returns-in_default c =
     let m = c.self.inside in
     let none : slice_get m.history.stack.undo 0 ≡ None = grind (arith, common_steps) in
-    (sym (ap (λ (s : ModelState). flat_undo s.document) c.self.view_is) ∙ nothing_to_undo m.text.units m.version m.alternative m.decorations m.history.stack none, refl)
+    record { document = (sym (ap (λ (s : ModelState). flat_undo s.document) c.self.view_is) ∙ nothing_to_undo m.text.units m.version m.alternative m.decorations m.table m.history.stack none, refl); fresh = refl }
 
 pub returns-in_err-version : goal.returns-in_err-version
 returns-in_err-version c =
     let m = c.self.inside in
     let next : slice_get m.history.stack.undo 0 ≡ Some (step_of c.in-Some.step.now) = grind (arith, common_steps) in
-    let step = undo_of m.text.units m.version m.alternative m.decorations m.history.stack (step_of c.in-Some.step.now) next c.self.invariant.2 in
+    let step = undo_of m.text.units m.version m.alternative m.decorations m.table m.history.stack (step_of c.in-Some.step.now) next c.self.invariant.2 in
     let last : greatest_version < m.version + 1 = grind (arith, common_steps) in
     let refused : flat_undo c.args.self.now.document ≡ Err Limit = sym (ap (λ (s : ModelState). flat_undo s.document) c.self.view_is) ∙ step.refused last in
     grind (arith, common_steps)
@@ -33,14 +33,14 @@ pub reserve_for-requires : goal.reserve_for-requires
 reserve_for-requires c =
     let m = c.self.inside in
     let next : slice_get m.history.stack.undo 0 ≡ Some (step_of c.in-Some.step.now) = grind (arith, common_steps) in
-    let step = undo_of m.text.units m.version m.alternative m.decorations m.history.stack (step_of c.in-Some.step.now) next c.self.invariant.2 in
+    let step = undo_of m.text.units m.version m.alternative m.decorations m.table m.history.stack (step_of c.in-Some.step.now) next c.self.invariant.2 in
     rw c.changes-changes.ensures (few_back m.text.units (step_of c.in-Some.step.now).changes step.lead)
 
 pub take_back-requires-clause-lead : goal.take_back-requires-clause-lead
 take_back-requires-clause-lead c =
     let m = c.self.inside in
     let next : slice_get m.history.stack.undo 0 ≡ Some (step_of c.in-Some.step.now) = grind (arith, common_steps) in
-    let step = undo_of m.text.units m.version m.alternative m.decorations m.history.stack (step_of c.in-Some.step.now) next c.self.invariant.2 in
+    let step = undo_of m.text.units m.version m.alternative m.decorations m.table m.history.stack (step_of c.in-Some.step.now) next c.self.invariant.2 in
     rw (c.reserve_for.ensures.same, c.changes-changes.ensures) step.lead
 
 pub invariant_of-self-2 : goal.invariant_of-self-2
@@ -48,7 +48,7 @@ invariant_of-self-2 c =
     let m = c.self.inside in
     let shown = step_of c.in-Some.step.now in
     let next : slice_get m.history.stack.undo 0 ≡ Some shown = grind (arith, common_steps) in
-    let step = undo_of m.text.units m.version m.alternative m.decorations m.history.stack shown next c.self.invariant.2 in
+    let step = undo_of m.text.units m.version m.alternative m.decorations m.table m.history.stack shown next c.self.invariant.2 in
     let text : c.take_back.new.text.units ≡ text_back m.text.units shown.changes =
     c.take_back.ensures.units ∙ ap (λ x. text_back x c.changes-changes.result.now) c.reserve_for.ensures.same ∙ ap (text_back m.text.units) c.changes-changes.ensures in
     let stack : c.undone.new.self.stack ≡ undone m.history.stack = grind (arith, common_steps) in
@@ -58,14 +58,15 @@ invariant_of-self-2 c =
       version,
       rw (text, stack) step.history,
       c.take_back.ensures.inside,
+      tt,
     )
 
-pub returns : goal.returns
-returns c =
+pub returns-clause-document : goal.returns-clause-document
+returns-clause-document c =
     let m = c.self.inside in
     let shown = step_of c.in-Some.step.now in
     let next : slice_get m.history.stack.undo 0 ≡ Some shown = grind (arith, common_steps) in
-    let step = undo_of m.text.units m.version m.alternative m.decorations m.history.stack shown next c.self.invariant.2 in
+    let step = undo_of m.text.units m.version m.alternative m.decorations m.table m.history.stack shown next c.self.invariant.2 in
     let text : c.take_back.new.text.units ≡ text_back m.text.units shown.changes =
     c.take_back.ensures.units ∙ ap (λ x. text_back x c.changes-changes.result.now) c.reserve_for.ensures.same ∙ ap (text_back m.text.units) c.changes-changes.ensures in
     let stack : c.undone.new.self.stack ≡ undone m.history.stack = grind (arith, common_steps) in

@@ -1,0 +1,26 @@
+use Rattle.std.proofs.Common.{List, subst}
+use Rattle.std.specs.Prelude.{IfOk}
+use Rattle.bracket_rules.specs.Rows.{Row}
+use Rattle.bracket_rules.specs.Told.{IsTreeOf}
+use Rattle.model_core.proofs.Scans.{AreScansOf, scans_of_text}
+use Rattle.model_core.proofs.brackets.parse_text.Goals as goal
+use Rattle.model_core.proofs.brackets.parse_text.Goals.{After-deref}
+
+scans : (c : After-deref) → AreScansOf c.args.table.now c.args.text.now.units c.deref.result.now
+scans c =
+    rw c.deref.ensures.value
+    (scans_of_text c.args.table.now c.args.text.now.units c.in_ok-lines.lines.items c.in_ok-lines.ensures.table c.requires c.in_ok-lines.ensures.scans)
+
+pub parse_lines-requires-clause-some : goal.parse_lines-requires-clause-some
+parse_lines-requires-clause-some c = (scans c).some
+
+pub parse_lines-requires-clause-lines : goal.parse_lines-requires-clause-lines
+parse_lines-requires-clause-lines c = (scans c).lines
+
+pub parse_lines-requires-clause-fits : goal.parse_lines-requires-clause-fits
+parse_lines-requires-clause-fits c = (scans c).fits
+
+pub returns-clause-tree : goal.returns-clause-tree
+returns-clause-tree c =
+    subst (λ (rows : List Row). IfOk c.parse_lines.result (IsTreeOf rows))
+    (scans (goal.at.returns-clause-tree c).After-deref).rows c.parse_lines.ensures

@@ -1,0 +1,52 @@
+//! Places of brackets as positions.
+
+ghost use Rattle.std.specs.Prelude.{◌≡◌, ◌<◌, IfSome};
+ghost use Rattle.std.specs.Option.{option_map};
+ghost use Rattle.text_rules.specs.Positions.{is_position};
+ghost use Rattle.document_rules.specs.Brackets.{place_of, position_at, IsSmall};
+
+use std::marker::Brand;
+use std::sync::ledger::{Blank, Ledger};
+use steps::Steps;
+use text_buffer::TextBuffer;
+use text_lengths::{Length, Position};
+
+/// The lines before the position, and the units before it in its line.
+pub(crate) fn place_of(p: Position) -> Length
+    ensures { result ≡ place_of p }
+{
+    Length {
+        lines: p.line.saturating_sub(1),
+        columns: p.column.saturating_sub(1),
+    }
+}
+
+/// The place as a position, beside its number of units.
+pub(crate) fn told(spot: Option<(Length, u64)>) -> Option<(Position, u64)>
+    requires { IfSome spot (λ s. IsSmall s.0) }
+    ensures { result ≡ option_map (λ s. (position_at s.0, s.1)) spot }
+{
+    let (place, len) = spot?;
+    let p = Position {
+        line: place.lines + 1,
+        column: place.columns + 1,
+    };
+    Some((p, len))
+}
+
+/// Whether the position is one of the text.
+pub(crate) fn is_position(text: &TextBuffer, p: Position) -> bool
+    ensures { result ≡ is_position text.now.units p }
+{
+    is_position_for::<Brand>(text, p, Blank::new(1))
+}
+
+fn is_position_for<L: Ledger>(text: &TextBuffer, p: Position, blank: Blank) -> bool
+    requires name { blank.name ≡ L.name }
+    requires parts { blank.parts ≡ L.parts }
+    requires some { 0 < L.parts }
+    ensures { result ≡ is_position text.now.units p }
+{
+    let mut steps = Steps::<L>::new(blank);
+    text.offset_at(p, &mut steps).is_some()
+}

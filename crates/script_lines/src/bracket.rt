@@ -1,0 +1,76 @@
+//! Bracket tables as a line spells them.
+
+ghost use Rattle.std.specs.Prelude.{◌≡◌, Some, None, IfOk, Err};
+ghost use Rattle.serde_json.specs.View.{view, items_view};
+ghost use Rattle.script_lines.specs.Reading.{Reads};
+ghost use Rattle.script_lines.specs.Brackets.{pair_of, pair_in, pairs_in, table_of, table_in, optional_table_at};
+
+use crate::fields::{LineFault, text_of};
+use bracket_scan::{BracketTable, TableError};
+use serde_json::Value;
+use std::alloc::Global;
+use unit_text::Units;
+
+pub(crate) fn optional_table_at(
+    alloc: Global,
+    value: &Value,
+    key: &str,
+) -> Result<Option<BracketTable>, LineFault>
+    ensures { Reads result (optional_table_at key.now (view value.now)) }
+{
+    match value.get(key) {
+        None => Ok(None),
+        Some(field) => {
+            let table = table_in(alloc, field)?;
+            Ok(Some(table))
+        }
+    }
+}
+
+fn table_in(alloc: Global, value: &Value) -> Result<BracketTable, LineFault>
+    ensures { Reads result (table_in (view value.now)) }
+{
+    let items = value.as_array().ok_or(LineFault::Syntax)?;
+    let pairs = pairs_in(alloc, items.as_slice())?;
+    table_of(alloc, pairs.as_slice())
+}
+
+fn table_of(alloc: Global, pairs: &[(Units, Units)]) -> Result<BracketTable, LineFault>
+    ensures { Reads result (table_of pairs.now) }
+{
+    match BracketTable::new(alloc, pairs) {
+        Ok(table) => Ok(table),
+        Err(TableError::BadTable) => Err(LineFault::Syntax),
+        Err(TableError::Memory) => Err(LineFault::Memory),
+    }
+}
+
+fn pairs_in(alloc: Global, values: &[Value]) -> Result<Vec<(Units, Units)>, LineFault>
+    ensures ok { IfOk result (λ pairs. pairs_in (items_view values.now) ≡ Some pairs.items) }
+    ensures syntax { result ≡ Err LineFault.Syntax → pairs_in (items_view values.now) ≡ None }
+{
+    let mut pairs = Vec::with_capacity(alloc, values.len()).map_err(|_| LineFault::Memory)?;
+    for value in values {
+        let pair = pair_in(alloc, value)?;
+        pairs.push(pair).map_err(|_| LineFault::Memory)?;
+    }
+    Ok(pairs)
+}
+
+fn pair_in(alloc: Global, value: &Value) -> Result<(Units, Units), LineFault>
+    ensures { Reads result (pair_in (view value.now)) }
+{
+    let items = value.as_array().ok_or(LineFault::Syntax)?;
+    pair_of(alloc, items.as_slice())
+}
+
+fn pair_of(alloc: Global, items: &[Value]) -> Result<(Units, Units), LineFault>
+    ensures { Reads result (pair_of (items_view items.now)) }
+{
+    let [opening, closing] = items else {
+        return Err(LineFault::Syntax);
+    };
+    let opening = text_of(alloc, opening)?;
+    let closing = text_of(alloc, closing)?;
+    Ok((opening, closing))
+}

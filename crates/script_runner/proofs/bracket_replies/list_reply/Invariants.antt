@@ -1,0 +1,7 @@
+use Rattle.std.proofs.Common.{◌≡◌, ◌++◌, take, codes}
+use Rattle.std.specs.List.{flat_map}
+use Rattle.script_runner.specs.Step.{entry_part}
+use Rattle.script_runner.proofs.bracket_replies.list_reply.Given as goal
+
+abbrev pub invariant-loop-entry : goal.invariant-loop-entry
+invariant-loop-entry l = l.reply.items ≡ codes "ok" ++ flat_map entry_part (take l.entry-index l.entries)
