@@ -1,0 +1,6 @@
+pub mod Arena
+pub mod Fields
+pub mod NodeLends
+pub mod PageLends
+pub mod SlotLends
+pub mod Slots

@@ -1,0 +1,43 @@
+-- How a red node stands to the nodes above it, read from the slots.
+use Rattle.std.proofs.Common.{◌≡◌, ℕ, Bool, true, false, cond, Option, Some, None, refl, sym, ap, ◌∙◌}
+use Rattle.std.proofs.lemmas.Option.{none-some}
+use Rattle.std.specs.Option.{unwrap_or}
+use Rattle.std.specs.Ordering.{nat_cmp}
+use Rattle.std.specs.FinMap as map
+use Rattle.rb_rules.specs.declared.slot.Side.{Side}
+use Rattle.rb_rules.specs.declared.slot.Slot.{Slot}
+use Rattle.rb_rules.specs.Tree.{Tree, tip, fork, Hole, on, other, plug, root_of, above}
+use Rattle.rb_rules.specs.Memory.{Makes, Made, child}
+use Rattle.rb_rules.proofs.Live.{child-sided}
+use Rattle.rb_rules.proofs.Ups.{slot_above, made_beside}
+use Rattle.rb_arena.specs.declared.mend.Case.TheVariants.{RedUncle}
+use Rattle.rb_arena.specs.Mending.{bent, by_uncle, red_in, red_child_in}
+
+module _ {D : Type 0} where
+  -- the name of a tree's topmost node, if that is red
+  abbrev pub red_name : Tree D → Option ℕ
+  red_name tip = None
+  red_name (fork true i d x y) = Some i
+  red_name (fork false i d x y) = None
+
+  pub uncle_red : (s : Side) (p : ℕ) (s2 : Side) (g : ℕ) (u : Tree D) (i : ℕ) → red_name u ≡ Some i → RedUncle p i g ≡ by_uncle s p s2 g u
+  uncle_red s p s2 g tip i e = absurd (none-some i e)
+  uncle_red s p s2 g (fork true j d x y) i e = ap (λ o. RedUncle p (unwrap_or o 0) g) (sym e)
+  uncle_red s p s2 g (fork false j d x y) i e = absurd (none-some i e)
+
+  pub uncle_black : (s : Side) (p : ℕ) (s2 : Side) (g : ℕ) (u : Tree D) → red_name u ≡ None → bent s s2 p g ≡ by_uncle s p s2 g u
+  uncle_black s p s2 g tip e = refl
+  uncle_black s p s2 g (fork true j d x y) e = absurd (none-some j (sym e))
+  uncle_black s p s2 g (fork false j d x y) e = refl
+
+  red_is : (m : map.FinMap nat_cmp (Slot D)) (p : Option ℕ) (u : Tree D) → Makes m p u → red_in m (root_of u) ≡ red_name u
+  red_is m p tip h = refl
+  red_is m p (fork true i d x y) (e, a, b) = ap (λ o. elim o [ None ↦ None | Some s ↦ cond s.red (Some i) None ]) e
+  red_is m p (fork false i d x y) (e, a, b) = ap (λ o. elim o [ None ↦ None | Some s ↦ cond s.red (Some i) None ]) e
+
+  -- the red sibling of a node's parent, by the links of the grandparent
+  pub red_child_is : (m : map.FinMap nat_cmp (Slot D)) (root : Option ℕ) (s : Side) (c : Bool) (g : ℕ) (d : D) (u : Tree D) (k : Hole D) (t : Tree D)
+      → Made m root (plug (on s c g d u k) t) → red_child_in m g (other s) ≡ red_name u
+  red_child_is m root s c g d u k t h =
+      ap (λ o. elim o [ None ↦ None | Some n ↦ red_in m (child (other s) n) ]) (slot_above m root s c g d u k t h)
+      ∙ ap (red_in m) (child-sided s (above k) (root_of t) (root_of u) c d).1 ∙ red_is m (Some g) u (made_beside m root s c g d u k t h)

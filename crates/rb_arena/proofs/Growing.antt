@@ -1,0 +1,78 @@
+-- The tree in a memory, its length and its height, and where its items stand.
+use Rattle.std.proofs.Common.{◌≡◌, ℕ, zero, suc, ◌+◌, ◌*◌, ◌^◌, ◌≤◌, ◌<◌, Bool, ◌∷◌, ◌++◌, length, Option, Some, None, refl, sym, ap, ◌∙◌, arith, append_assoc, inl, inr, lit<, length-append}
+use Rattle.std.proofs.Math.Nat.{mul-le-mul, pow-le-pow_right}
+use Rattle.std.proofs.lemmas.Bool.{cases_lt}
+use Rattle.std.proofs.lemmas.Option.{none-some}
+use Rattle.std.specs.Ordering.{nat_cmp}
+use Rattle.std.specs.FinMap as map
+use Rattle.rb_rules.specs.declared.slot.Data.{Data}
+use Rattle.rb_rules.specs.declared.slot.Side.{Side}
+use Rattle.rb_rules.specs.declared.slot.Side.TheVariants.{Left, Right}
+use Rattle.rb_rules.specs.declared.slot.Slot.{Slot}
+use Rattle.rb_rules.specs.Tree.{Tree, tip, fork, Hole, top, on, forked, plug, root_of, size, height, depth}
+use Rattle.rb_rules.specs.Colours.{Balanced}
+use Rattle.rb_rules.specs.Memory.{Makes}
+use Rattle.rb_rules.specs.Weaving.{Weaving}
+use Rattle.rb_rules.specs.Woven.{entries, lefts, rights, shift_at}
+use Rattle.rb_rules.proofs.Balance.{bound}
+use Rattle.rb_arena.specs.Value.{grown, first_hole}
+
+module _ {D : Type 0} where
+  pub grown_is : (m : map.FinMap nat_cmp (Slot D)) (n : ℕ) (p : Option ℕ) (t : Tree D) → Makes m p t → height t ≤ n → grown m n (root_of t) ≡ t
+  unfolding grown
+  grown_is m zero p tip h le = refl
+  grown_is m (suc n) p tip h le = refl
+  grown_is m zero p (fork c i d x y) h le = absurd (omega arith)
+  grown_is m (suc n) p (fork c i d x y) (e, a, b) le =
+      ap (λ o. elim o [ None ↦ tip | Some s ↦ fork s.red i s.«data» (grown m n s.left) (grown m n s.right) ]) e
+      ∙ (λ j. fork c i d (grown_is m n (Some i) x a (omega (arith, le)) j) (grown_is m n (Some i) y b (omega (arith, le)) j))
+
+  height-forked : (s : Side) (c : Bool) (i : ℕ) (d : D) (x y : Tree D) → 1 + height x ≤ height (forked s c i d x y)
+  height-forked Left c i d x y = omega arith
+  height-forked Right c i d x y = omega arith
+
+  pub depth_height : (k : Hole D) (t : Tree D) → depth k + height t ≤ height (plug k t)
+  depth_height top t = omega arith
+  depth_height (on s c i d x k) t = let more = depth_height k (forked s c i d t x) in let one = height-forked s c i d t x in omega (arith, more, one)
+
+  -- so many nodes make no long path
+  pub not_high : (t : Tree D) → Balanced t → size t < 2 ^ 63 → height t ≤ 126
+  not_high t b lt = elim (cases_lt 126 (height t)) [
+    | inl high ↦
+        let up : 2 ^ 127 ≤ 2 ^ height t = pow-le-pow_right {n = 2} (lit< tt) {i = 127} {j = height t} (omega (arith, high)) in let top_ = bound t b in
+        let square : (size t + 1) * (size t + 1) ≤ (2 ^ 63) * (2 ^ 63) = mul-le-mul {n₁ = size t + 1} {m₁ = size t + 1} {n₂ = 2 ^ 63} {m₂ = 2 ^ 63} (omega (arith, lt)) (omega (arith, lt)) in absurd (omega (arith, up, top_, square))
+    | inr low ↦ low
+  ]
+
+  pub first-plug : (k : Hole D) (t : Tree D) → plug (first_hole k t) tip ≡ plug k t
+  first-plug k tip = refl
+  first-plug k (fork c i d x y) = first-plug (on Left c i d y k) x
+
+module _ {X S B : Type 0} (w : Weaving X S B) where
+  pub length-entries : (acc : B) (t : Tree (Data X S B)) → length (entries w acc t) ≡ size t
+  length-entries acc tip = refl
+  length-entries acc (fork c i d x y) =
+      let l = length-entries acc x in let r = length-entries (w.plus acc d.delta) y in
+      let all = length-append (entries w acc x) ((i, w.shift acc d.item) ∷ entries w (w.plus acc d.delta) y) in omega (arith, l, r, all)
+
+  pub first-lefts : (k : Hole (Data X S B)) (t : Tree (Data X S B)) → lefts w (first_hole k t) ≡ lefts w k
+  first-lefts k tip = refl
+  first-lefts k (fork c i d x y) = first-lefts (on Left c i d y k) x
+
+  pub first-rights : (k : Hole (Data X S B)) (t : Tree (Data X S B)) → rights w (first_hole k t) ≡ entries w (shift_at w k) t ++ rights w k
+  first-rights k tip = refl
+  first-rights k (fork c i d x y) = first-rights (on Left c i d y k) x
+      ∙ sym (append_assoc (entries w (shift_at w k) x) ((i, w.shift (shift_at w k) d.item) ∷ entries w (w.plus (shift_at w k) d.delta) y) (rights w k))
+
+module _ {D : Type 0} where
+  pub no_root : (t : Tree D) → root_of t ≡ None → t ≡ tip
+  no_root tip e = refl
+  no_root (fork c i d x y) e = absurd (none-some i (sym e))
+
+  pub no_height : (t : Tree D) → height t ≤ 0 → t ≡ tip
+  no_height tip le = refl
+  no_height (fork c i d x y) le = absurd (omega arith)
+
+  pub hole_depth : (k : Hole D) → depth k ≤ 0 → k ≡ top
+  hole_depth top le = refl
+  hole_depth (on s c i d x k) le = absurd (omega arith)

@@ -1,0 +1,260 @@
+-- A leaf that takes the place of the node before it.
+use Rattle.std.proofs.Common.{◌≡◌, ℕ, suc, ◌+◌, ◌≤◌, Bool, true, false, cond, eqb, List, [], ◌∷◌, ◌++◌, length, Option, Some, None, refl, sym, ap, ◌∙◌, subst, arith, append_assoc, append-nil, length-append, inl, inr}
+use Rattle.std.proofs.lemmas.Bool.Decides.{eqb_tells}
+use Rattle.std.proofs.lemmas.Option.{none-some}
+use Rattle.std.specs.Ordering.{nat_cmp}
+use Rattle.std.specs.FinMap as map
+use Rattle.rb_rules.specs.declared.slot.Data.{Data}
+use Rattle.rb_rules.specs.declared.slot.Side.{Side}
+use Rattle.rb_rules.specs.declared.slot.Side.TheVariants.{Left, Right}
+use Rattle.rb_rules.specs.declared.slot.Slot.{Slot}
+use Rattle.rb_rules.specs.Tree.{Tree, tip, fork, Hole, top, on, plug, root_of, above, depth, height, count}
+use Rattle.rb_rules.specs.Colours.{Fits, Balanced}
+use Rattle.rb_rules.specs.Memory.{Made, Spot, here, place_of, hung, root_hung}
+use Rattle.rb_rules.specs.Weaving.{Weaving, Lawful, Sums}
+use Rattle.rb_rules.specs.Woven.{entries, Woven, Valued, lefts, rights, shift_at}
+use Rattle.rb_rules.specs.Sound.{Slack}
+use Rattle.rb_rules.proofs.Climbs.{slack_of}
+use Rattle.rb_rules.proofs.Colouring as C
+use Rattle.rb_rules.proofs.Detaching.{spliced, forgotten, gone}
+use Rattle.rb_rules.proofs.Holes.{count-forked, count-plug, count_self}
+use Rattle.rb_rules.proofs.Live.{slot_here}
+use Rattle.rb_rules.proofs.Weaves.{woven_at, near_of}
+use Rattle.rb_arena.specs.Leaving.{leaf_height, Emptied, NoChild, OneChild, Stores}
+use Rattle.rb_arena.specs.Placing.{StartsAt}
+use Rattle.rb_arena.specs.Value.{first_hole, with_item}
+use Rattle.rb_arena.proofs.Growing.{depth_height, first-plug, first-lefts, first-rights}
+use Rattle.rb_arena.proofs.Leaving.{Spotted, spotted, childless_spot, valued_without, fit_leaf}
+use Rattle.rb_arena.proofs.Locating.{cut, after_list}
+
+module _ {D : Type 0} where
+  -- the tree with another in its first place
+  abbrev pub first_put : Tree D → Tree D → Tree D
+  first_put tip u = u
+  first_put (fork c i d x y) u = fork c i d (first_put x u) y
+
+  pub first-put : (k : Hole D) (t u : Tree D) → plug (first_hole k t) u ≡ plug k (first_put t u)
+  first-put k tip u = refl
+  first-put k (fork c i d x y) u = first-put (on Left c i d y k) x u
+
+  grows : (k : Hole D) (a b : Tree D) → height a ≤ height b → height (plug k a) ≤ height (plug k b)
+  grows top a b le = le
+  grows (on Left c i d x k) a b le = grows k (fork c i d a x) (fork c i d b x) (omega (arith, le))
+  grows (on Right c i d x k) a b le = grows k (fork c i d x a) (fork c i d x b) (omega (arith, le))
+
+  -- what fits a first place does not know the name of a node above it
+  fits_on : (s : Side) (c : Bool) (i j : ℕ) (d e : D) (x : Tree D) (k : Hole D) (b : Bool) (n : ℕ) → Fits b n (on s c i d x k) → Fits b n (on s c j e x k)
+  fits_on s true i j d e x k b n h = h
+  fits_on s false i j d e x k b n h = h
+
+  fits_first : (k l : Hole D) (t : Tree D) → ((b : Bool) (n : ℕ) → Fits b n k → Fits b n l) → (b : Bool) (n : ℕ) → Fits b n (first_hole k t) → Fits b n (first_hole l t)
+  fits_first k l tip f b n h = f b n h
+  fits_first k l (fork true i d x y) f b n h = fits_first (on Left true i d y k) (on Left true i d y l) x (λ a m (q, r, g). (q, r, f true m g)) b n h
+  fits_first k l (fork false i d x y) f b n h = fits_first (on Left false i d y k) (on Left false i d y l) x (λ a m (q, g). (q, f false (suc m) g)) b n h
+
+  as_deep : (k l : Hole D) (t : Tree D) → depth k ≡ depth l → depth (first_hole k t) ≡ depth (first_hole l t)
+  as_deep k l tip e = e
+  as_deep k l (fork c i d x y) e = as_deep (on Left c i d y k) (on Left c i d y l) x (ap (λ n. 1 + n) e)
+
+  -- a name whose node gives way to another is not in the tree
+  left_out : (m : map.FinMap nat_cmp (Slot D)) (root : Option ℕ) (k : Hole D) (c : Bool) (i j : ℕ) (d e : D) (x y : Tree D) → Made m root (plug k (fork c i d x y))
+      → count j (plug k (fork c i d x y)) ≡ 0 → count i (plug k (fork c j e x y)) ≡ 0
+  left_out m root k c i j d e x y h fresh =
+      let one = h.once i in let old = count-plug i k (fork c i d x y) in let mine = count-forked i Left c i d x y in let me = count_self i (count i x + count i y) in
+      let new = count-plug i k (fork c j e x y) in let yours = count-forked i Left c j e x y in
+      elim (eqb_tells i j) as (λ _. count i (plug k (fork c j e x y)) ≡ 0) [
+        | inl (_, same) ↦ let bad = subst (λ q. count q (plug k (fork c i d x y)) ≡ 0) (sym same) fresh in absurd (omega (arith, bad, old, mine, me))
+        | inr (f, _) ↦ let none : cond (eqb i j) 1 0 + (count i x + count i y) ≡ 0 + (count i x + count i y) = ap (λ b. cond b 1 0 + (count i x + count i y)) f in
+            omega (arith, one, old, mine, me, new, yours, none)
+      ]
+
+module _ {A : Type 0} where
+  no_end : (q : List A) (a : A) (ys : List A) → [] ≡ q ++ a ∷ ys → ⊥
+  no_end q a ys e = let n = ap length e in let l = length-append q (a ∷ ys) in omega (arith, n, l)
+
+  last_same : (as_ us : List A) (e f : A) → as_ ++ e ∷ [] ≡ us ++ f ∷ [] → (as_ ≡ us) × (e ≡ f)
+  last_same as_ us e f h = elim (cut as_ e [] us f [] h) [
+    | inl (q, a, g) ↦ absurd (no_end q e [] g)
+    | inr rest ↦ elim rest [
+      | inl (a, b, _) ↦ (a, b)
+      | inr (q, a, g) ↦ absurd (no_end q f [] g)
+    ]
+  ]
+
+module _ {X S B : Type 0} (w : Weaving X S B) where
+  shift_first : (k : Hole (Data X S B)) (t : Tree (Data X S B)) → shift_at w (first_hole k t) ≡ shift_at w k
+  shift_first k tip = refl
+  shift_first k (fork c i d x y) = shift_first (on Left c i d y k) x
+
+  slack_first : (is_near : B → Type 0) (k l : Hole (Data X S B)) (t : Tree (Data X S B)) → shift_at w k ≡ shift_at w l → (Slack w is_near k → Slack w is_near l)
+      → Slack w is_near (first_hole k t) → Slack w is_near (first_hole l t)
+  slack_first is_near k l tip e f h = f h
+  slack_first is_near k l (fork c i d x y) e f h =
+      slack_first is_near (on Left c i d y k) (on Left c i d y l) x e (λ (a, b). (subst (λ z. Woven w is_near (w.plus z d.delta) y) e a, f b)) h
+
+  -- a hole right after a node is the first place right below it
+  abbrev Under : Hole (Data X S B) → List (ℕ × X) → ℕ → X → Type 0
+  Under h us id x =
+      (c : Bool) × ((d : Data X S B) × ((l : Tree (Data X S B)) × ((k : Hole (Data X S B)) × ((r : Tree (Data X S B)) × (h ≡ first_hole (on Right c id d l k) r)
+      × (us ≡ lefts w k ++ entries w (shift_at w k) l)))))
+
+  under : (k : Hole (Data X S B)) (t : Tree (Data X S B)) (us : List (ℕ × X)) (id : ℕ) (x : X) → lefts w k ≡ us ++ (id, x) ∷ [] → Under (first_hole k t) us id x
+  under top t us id x e = absurd (no_end us (id, x) [] e)
+  under (on Left c i d y k) t us id x e = under k (fork c i d t y) us id x e
+  under (on Right c i d y k) t us id x e =
+      let mine : ℕ × X = (i, w.shift (shift_at w k) d.item) in let es = entries w (shift_at w k) y in
+      let (f, g) = last_same (lefts w k ++ es) us mine (id, x) (append_assoc (lefts w k) es (mine ∷ []) ∙ e) in
+      subst (λ p. Under (first_hole (on Right c i d y k) t) us p.0 p.1) g (c, (d, (y, (k, (t, refl, sym f)))))
+
+module _ {X S B : Type 0} (w : Weaving X S B) (L : Lawful w) (is_near : B → Type 0) (is_item : X → Type 0) (is_sum is_value : S → Type 0)
+    (sums : Sums w is_item is_sum) (parts : (a b : S) → is_value (w.join a b) → is_value a × is_value b)
+    (thins : (a b c : S) → is_value (w.join a (w.join b c)) → is_value (w.join a c))
+    (m : map.FinMap nat_cmp (Slot (Data X S B))) (root : Option ℕ) (id heir : ℕ) (us : List (ℕ × X)) (x y : X) (vs : List (ℕ × X)) where
+  -- a leaf in the first place right below a node
+  pub record Heired : Type 0 where
+    pub hole : Hole (Data X S B)
+    pub red : Bool
+    pub datum : Data X S B
+    pub left : Tree (Data X S B)
+    pub right : Tree (Data X S B)
+    pub leaf_red : Bool
+    pub leaf : Data X S B
+    pub made : Made m root (plug (first_hole (on Right red id datum left hole) right) (fork leaf_red heir leaf tip tip))
+    pub woven : Woven w is_near w.still (plug (first_hole (on Right red id datum left hole) right) (fork leaf_red heir leaf tip tip))
+    pub balanced : Balanced (plug (first_hole (on Right red id datum left hole) right) (fork leaf_red heir leaf tip tip))
+    pub before : us ≡ lefts w hole ++ entries w (shift_at w hole) left
+    pub after : vs ≡ rights w (first_hole (on Right red id datum left hole) right)
+    pub value : y ≡ w.shift (shift_at w (first_hole (on Right red id datum left hole) right)) leaf.item
+    pub low : depth (first_hole (on Right red id datum left hole) right) ≤ 126
+    pub high : height (plug (first_hole (on Right red id datum left hole) right) (fork leaf_red heir leaf tip tip)) ≤ 126
+
+  pub heired : NoChild m heir → Stores w is_near is_item is_value m root (us ++ (id, x) ∷ (heir, y) ∷ vs) → Heired
+  heired nc st =
+      let st2 = subst (Stores w is_near is_item is_value m root) (sym (append_assoc us ((id, x) ∷ []) ((heir, y) ∷ vs))) st in
+      let (s, at) = spotted w L is_near is_item is_sum is_value sums parts thins m root heir (us ++ (id, x) ∷ []) y vs st2 in
+      let (tl, tr) = childless_spot w L is_near is_item is_sum is_value sums parts thins m root heir (us ++ (id, x) ∷ []) y vs s at.0 nc in
+      let bare : here s heir ≡ fork s.red heir s.datum tip tip = λ i. fork s.red heir s.datum (tl i) (tr i) in
+      let list : lefts w s.hole ≡ us ++ (id, x) ∷ [] = sym (at.4 ∙ ap (λ q. lefts w s.hole ++ entries w (shift_at w s.hole) q) tl ∙ append-nil (lefts w s.hole)) in
+      let (c, (d, (l, (k, (r, same, us_is))))) = under w s.hole tip us id x list in
+      let whole : plug s.hole (here s heir) ≡ plug (first_hole (on Right c id d l k) r) (fork s.red heir s.datum tip tip) = λ i. plug (same i) (bare i) in
+      let deep = at.6 in record {
+        hole = k;
+        red = c;
+        datum = d;
+        left = l;
+        right = r;
+        leaf_red = s.red;
+        leaf = s.datum;
+        made = subst (Made m root) whole at.0;
+        woven = subst (Woven w is_near w.still) whole at.1;
+        balanced = subst Balanced whole at.2;
+        before = us_is;
+        after = at.5 ∙ ap (λ q. entries w (w.plus (shift_at w s.hole) s.datum.delta) q ++ rights w s.hole) tr ∙ ap (rights w) same;
+        value = at.3 ∙ ap (λ q. w.shift (shift_at w q) s.datum.item) same;
+        low = subst (λ q. depth q ≤ 126) same (omega (arith, deep));
+        high = subst (λ t. height t ≤ 126) whole at.8;
+      }
+
+  module _ (h : Heired) where
+    abbrev up : Hole (Data X S B)
+    up = on Right h.red id h.datum h.left h.hole
+
+    abbrev low_leaf : Tree (Data X S B)
+    low_leaf = fork h.leaf_red heir h.leaf tip tip
+
+    abbrev pub heir_spot : Spot (Data X S B)
+    heir_spot = record { hole = first_hole (on Right h.red id h.datum h.left h.hole) h.right; red = h.leaf_red; datum = h.leaf; left = tip; right = tip }
+
+    abbrev pub id_spot : Spot (Data X S B)
+    id_spot = record { hole = h.hole; red = h.red; datum = h.datum; left = h.left; right = first_put h.right (fork h.leaf_red heir h.leaf tip tip) }
+
+    pub id_made : Made m root (plug h.hole (here id_spot id))
+    id_made = subst (Made m root) (first-put up h.right low_leaf) h.made
+
+    pub id_woven : Woven w is_near w.still (plug h.hole (here id_spot id))
+    id_woven = subst (Woven w is_near w.still) (first-put up h.right low_leaf) h.woven
+
+    pub id_low : depth h.hole ≤ 126
+    id_low =
+        let deep = depth_height h.hole (here id_spot id) in let high = subst (λ t. height t ≤ 126) (first-put up h.right low_leaf) h.high in omega (arith, deep, high)
+
+    right_low : height h.right ≤ 128
+    right_low =
+        let no : Tree (Data X S B) = tip in let le = grows (first_hole up h.right) no low_leaf (omega arith) in let high = h.high in let same = ap height (first-plug up h.right) in
+        let deep = depth_height h.hole (fork h.red id h.datum h.left h.right) in omega (arith, le, high, same, deep)
+
+    module _ (m1 : map.FinMap nat_cmp (Slot (Data X S B))) (root1 : Option ℕ) (at : Option (ℕ × Side)) (place : at ≡ place_of (first_hole (on Right h.red id h.datum h.left h.hole) h.right)) (e1 : m1 ≡ hung m at None) (er : root1 ≡ root_hung root at None) where
+      abbrev pub bare_spot : Spot (Data X S B)
+      bare_spot = record { hole = h.hole; red = h.red; datum = h.datum; left = h.left; right = h.right }
+
+      pub bare_made : Made m1 root1 (plug h.hole (fork h.red id h.datum h.left h.right))
+      bare_made =
+          let k = first_hole up h.right in let done = spliced m root k Left h.leaf_red heir h.leaf tip h.made in
+          let mem : m1 ≡ hung m (place_of k) None = e1 ∙ ap (λ o. hung m o None) place in let top_ : root1 ≡ root_hung root (place_of k) None = er ∙ ap (λ o. root_hung root o None) place in
+          subst (Made m1 root1) (first-plug up h.right) (subst (λ q. Made q root1 (plug k tip)) (sym mem) (subst (λ o. Made (hung m (place_of k) None) o (plug k tip)) (sym top_) done))
+
+      pub bare_fresh : count heir (plug h.hole (fork h.red id h.datum h.left h.right)) ≡ 0
+      bare_fresh = subst (λ t. count heir t ≡ 0) (first-plug up h.right) (gone m root (first_hole up h.right) Left h.leaf_red heir h.leaf tip h.made)
+
+      module _ (own : X) (is : w.shift (shift_at w h.hole) own ≡ y) (m2 : map.FinMap nat_cmp (Slot (Data X S B))) (root2 : Option ℕ)
+          (made2 : Made m2 root2 (plug h.hole (fork h.red heir (with_item h.datum own) h.left h.right))) (m3 : map.FinMap nat_cmp (Slot (Data X S B))) (e3 : m3 ≡ map.remove m2 id) where
+        abbrev new_up : Hole (Data X S B)
+        new_up = on Right h.red heir (with_item h.datum own) h.left h.hole
+
+        abbrev pub gap_hole : Hole (Data X S B)
+        gap_hole = first_hole (on Right h.red heir (with_item h.datum own) h.left h.hole) h.right
+
+        abbrev pub new_spot : Spot (Data X S B)
+        new_spot = record { hole = h.hole; red = h.red; datum = with_item h.datum own; left = h.left; right = h.right }
+
+        pub new_made : Made m3 root2 (plug h.hole (here new_spot heir))
+        new_made =
+            subst (λ q. Made q root2 (plug h.hole (here new_spot heir))) (sym e3)
+            (forgotten m2 id root2 (plug h.hole (here new_spot heir)) (left_out m1 root1 h.hole h.red id heir h.datum (with_item h.datum own) h.left h.right bare_made bare_fresh) made2)
+
+        pub starts : (below : Option ℕ) → below ≡ root_of h.right → StartsAt m3 root2 (Some (heir, Right)) below h.right (on Right h.red heir (with_item h.datum own) h.left h.hole)
+        starts below e = ((refl, new_made), e, right_low)
+
+        pub gap_list : lefts w gap_hole ++ rights w gap_hole ≡ us ++ (heir, y) ∷ vs
+        gap_list =
+            (λ i. first-lefts w new_up h.right i ++ rights w gap_hole) ∙ after_list w new_spot heir y us (rights w gap_hole) (sym is) h.before
+            ∙ ap (λ z. us ++ (heir, y) ∷ z) (first-rights w new_up h.right ∙ sym (first-rights w up h.right) ∙ sym h.after)
+
+        pub gap_emptied : Stores w is_near is_item is_value m root (us ++ (id, x) ∷ (heir, y) ∷ vs) → (gap : Option (ℕ × Side)) → gap ≡ place_of gap_hole → (red : Bool) → red ≡ h.leaf_red
+            → Emptied w is_near is_item is_value m3 root2 gap red gap_hole
+        gap_emptied st gap there red same =
+            let k = first_hole up h.right in let shift : shift_at w k ≡ shift_at w gap_hole = shift_first w up h.right ∙ sym (shift_first w new_up h.right) in
+            let deep = as_deep up new_up h.right refl in let le = h.low in
+            let (n, (b, r, f)) = C.unplugged k low_leaf h.balanced in let fit = fit_leaf h.leaf_red b n heir h.leaf k r f in (
+              there,
+              subst (Made m3 root2) (sym (first-plug new_up h.right)) new_made,
+              subst is_near shift (near_of w L is_near (shift_at w k) low_leaf (woven_at w L is_near k low_leaf h.woven)),
+              slack_first w is_near up new_up h.right refl (λ q. q) (slack_of w L is_near is_item is_sum is_value sums parts k low_leaf h.woven),
+              subst (Valued w is_item is_value) (sym gap_list) (valued_without w L is_near is_item is_sum is_value sums parts thins us (id, x) ((heir, y) ∷ vs) st.1),
+              omega (arith, deep, le),
+              subst (λ c. Fits c (leaf_height c) gap_hole) (sym same) (fits_first up new_up h.right (fits_on Right h.red id heir h.datum (with_item h.datum own) h.left h.hole) h.leaf_red (leaf_height h.leaf_red) fit),
+            )
+
+module _ {D : Type 0} where
+  -- a node has its first place under a node with no left child
+  first_node : (k : Hole D) (t : Tree D) → (root_of t ≡ None → ⊥) → (c : Bool) × ((j : ℕ) × ((d : D) × ((y : Tree D) × ((l : Hole D) × (first_hole k t ≡ on Left c j d y l)))))
+  first_node k tip some = absurd (some refl)
+  first_node k (fork c i d tip y) some = (c, (i, (d, (y, (k, refl)))))
+  first_node k (fork c i d (fork b j e p q) y) some = first_node (on Left c i d y k) (fork b j e p q) (λ f. none-some j (sym f))
+
+module _ {X S B : Type 0} (w : Weaving X S B) (L : Lawful w) (is_near : B → Type 0) (is_item : X → Type 0) (is_sum is_value : S → Type 0)
+    (sums : Sums w is_item is_sum) (parts : (a b : S) → is_value (w.join a b) → is_value a × is_value b)
+    (thins : (a b c : S) → is_value (w.join a (w.join b c)) → is_value (w.join a c))
+    (m : map.FinMap nat_cmp (Slot (Data X S B))) (root : Option ℕ) (id : ℕ) (us : List (ℕ × X)) (x : X) (vs : List (ℕ × X)) where
+  -- the node of that name is the next, and has one child at most
+  abbrev pub IsNext : ℕ → Type 0
+  IsNext heir = (y : X) × ((ws : List (ℕ × X)) × (vs ≡ (heir, y) ∷ ws) × OneChild m heir)
+
+  pub next_of : (s : Spot (Data X S B)) → Spotted w L is_near is_item is_sum is_value sums parts thins m root id us x vs s → (root_of s.right ≡ None → ⊥)
+      → (heir : ℕ) × ((above (first_hole (on Right s.red id s.datum s.left s.hole) s.right) ≡ Some heir) × IsNext heir)
+  next_of s at some =
+      let k0 = on Right s.red id s.datum s.left s.hole in let (c, (j, (d, (y, (k, same))))) = first_node k0 s.right some in
+      let list = at.5 ∙ sym (first-rights w k0 s.right) ∙ ap (rights w) same in let no : Tree (Data X S B) = tip in
+      let made = subst (Made m root) (sym (first-plug k0 s.right) ∙ ap (λ q. plug q no) same) at.0 in
+      let found = slot_here m root (record { hole = k; red = c; datum = d; left = tip; right = y }) j made in
+      (j, (ap above same, (w.shift (shift_at w k) d.item, (entries w (w.plus (shift_at w k) d.delta) y ++ rights w k, list, (_, found, inl refl)))))

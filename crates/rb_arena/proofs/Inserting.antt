@@ -1,0 +1,115 @@
+-- An item that comes to a hole of a tree.
+use Rattle.std.proofs.Common.{◌≡◌, ℕ, ◌≤◌, true, false, List, [], ◌∷◌, ◌++◌, Option, refl, sym, ap, ◌∙◌, subst, arith}
+use Rattle.std.specs.Ordering.{nat_cmp}
+use Rattle.std.specs.FinMap as map
+use Rattle.rb_rules.specs.declared.slot.Data.{Data}
+use Rattle.rb_rules.specs.declared.slot.Side.TheVariants.{Left}
+use Rattle.rb_rules.specs.declared.slot.Slot.{Slot}
+use Rattle.rb_rules.specs.Tree.{Tree, tip, fork, Hole, plug, above, root_of, depth}
+use Rattle.rb_rules.specs.Colours.{Fits, Balanced}
+use Rattle.rb_rules.specs.Memory.{Made}
+use Rattle.rb_rules.specs.Weaving.{Weaving, Lawful, Sums, HeldItem, HeldBy, CanSumUp, summed}
+use Rattle.rb_rules.specs.Woven.{entries, sum_of, Woven, AllItems, Valued, lefts, rights, shift_at}
+use Rattle.rb_rules.specs.Sound.{IsSlack, RenewedFrom}
+use Rattle.rb_rules.proofs.Colouring as C
+use Rattle.rb_rules.proofs.Climbs.{slack_of}
+use Rattle.rb_rules.proofs.Held.{can_sum_up, items_right, valued_left, valued_right}
+use Rattle.rb_rules.proofs.Shapes.{same_items}
+use Rattle.rb_rules.proofs.Unshaping as U
+use Rattle.rb_rules.proofs.Weaves.{woven_at, near_of, woven_summed, entries-plug}
+use Rattle.rb_arena.specs.Rising.{Rising}
+
+empty_fits : {D : Type 0} (k : Hole D) → Balanced (plug k tip) → Fits false 0 k
+empty_fits k bal = let (n, (c, (e, z), f)) = C.unplugged k tip bal in subst (λ b. Fits b 0 k) e (subst (λ l. Fits c l k) z f)
+
+module _ {X S B : Type 0} (w : Weaving X S B) (L : Lawful w) (is_near : B → Type 0) (is_item : X → Type 0) (is_sum is_value : S → Type 0)
+    (sums : Sums w is_item is_sum) (parts : (a b : S) → is_value (w.join a b) → is_value a × is_value b) (starts_near : is_near w.still) where
+  -- names do not matter to values
+  items_renamed : (xs ys : List (ℕ × X)) (i j : ℕ) (x : X) → AllItems w is_item (xs ++ (i, x) ∷ ys) → AllItems w is_item (xs ++ (j, x) ∷ ys)
+  items_renamed [] ys i j x h = h
+  items_renamed (e ∷ xs) ys i j x (h, hs) = (h, items_renamed xs ys i j x hs)
+
+  sum_renamed : (xs ys : List (ℕ × X)) (i j : ℕ) (x : X) → sum_of w (xs ++ (i, x) ∷ ys) ≡ sum_of w (xs ++ (j, x) ∷ ys)
+  sum_renamed [] ys i j x = refl
+  sum_renamed (e ∷ xs) ys i j x = ap (w.join (w.one e.1)) (sum_renamed xs ys i j x)
+
+  pub valued_renamed : (xs ys : List (ℕ × X)) (i j : ℕ) (x : X) → Valued w is_item is_value (xs ++ (i, x) ∷ ys) → Valued w is_item is_value (xs ++ (j, x) ∷ ys)
+  valued_renamed xs ys i j x (h, v) = (items_renamed xs ys i j x h, subst is_value (sum_renamed xs ys i j x) v)
+
+  module _ (k : Hole (Data X S B)) (x : X) (wv : Woven w is_near w.still (plug k tip)) (bal : Balanced (plug k tip)) (v : Valued w is_item is_value (lefts w k ++ (0, x) ∷ rights w k)) where
+    abbrev acc : B
+    acc = shift_at w k
+
+    abbrev own : X
+    own = w.shift (w.minus w.still (shift_at w k)) x
+
+    near : is_near (shift_at w k)
+    near = near_of w L is_near (shift_at w k) tip (woven_at w L is_near k tip wv)
+
+    still_near : is_near (w.plus (shift_at w k) w.still)
+    still_near = subst is_near (sym (L.plus_still (shift_at w k))) near
+
+    back : w.shift (shift_at w k) (w.shift (w.minus w.still (shift_at w k)) x) ≡ x
+    back = sym (L.shift_plus _ _ x) ∙ ap (λ b. w.shift b x) (L.plus_minus w.still (shift_at w k)) ∙ L.shift_still x
+
+    pub held_minus : HeldBy w is_near (w.minus w.still (shift_at w k))
+    held_minus = (shift_at w k, near, subst is_near (sym (L.plus_minus w.still (shift_at w k))) starts_near)
+
+    pub held_own : HeldItem w is_near is_item (w.shift (w.minus w.still (shift_at w k)) x)
+    held_own = (shift_at w k, near, subst is_item (sym back) (items_right w L is_near is_item is_sum is_value sums parts (lefts w k) ((0, x) ∷ rights w k) v.0).0)
+
+    pub can_sum_leaf : CanSumUp w is_near is_item is_sum is_value (w.shift (w.minus w.still (shift_at w k)) x) w.still w.none w.none
+    can_sum_leaf =
+        let one = valued_left w L is_near is_item is_sum is_value sums parts ((0, x) ∷ []) (rights w k)
+        (valued_right w L is_near is_item is_sum is_value sums parts (lefts w k) ((0, x) ∷ rights w k) v) in
+        can_sum_up w L is_near is_item is_sum is_value sums parts (shift_at w k) 0 (w.shift (w.minus w.still (shift_at w k)) x) w.still tip tip near still_near
+        (subst (λ z. Valued w is_item is_value ((0, z) ∷ [])) (sym back) one)
+
+    module _ (id : ℕ) where
+      abbrev leaf : Tree (Data X S B)
+      leaf = fork true id (summed w (w.shift (w.minus w.still (shift_at w k)) x) w.still w.none w.none) tip tip
+
+      abbrev es : List (ℕ × X)
+      es = lefts w k ++ (id, x) ∷ rights w k
+
+      items_are : entries w w.still (plug k (fork true id (summed w (w.shift (w.minus w.still (shift_at w k)) x) w.still w.none w.none) tip tip)) ≡ lefts w k ++ (id, x) ∷ rights w k
+      items_are = entries-plug w L is_near k leaf ∙ ap (λ z. lefts w k ++ (id, z) ∷ rights w k) back
+
+      pub valued_new : Valued w is_item is_value (lefts w k ++ (id, x) ∷ rights w k)
+      valued_new = valued_renamed (lefts w k) (rights w k) 0 id x v
+
+      pub slack_leaf : (m : map.FinMap nat_cmp (Slot (Data X S B))) (root at : Option ℕ) → at ≡ above k → depth k ≤ 128 → Made m root (plug k leaf)
+          → IsSlack w is_near is_item is_value m root at 128 (plug k leaf)
+      slack_leaf m root at e le made = (
+        k,
+        (
+          leaf,
+          refl,
+          made,
+          e,
+          woven_summed w L is_near (shift_at w k) true id (w.shift (w.minus w.still (shift_at w k)) x) w.still tip tip near still_near,
+          slack_of w L is_near is_item is_sum is_value sums parts k tip wv,
+          subst (Valued w is_item is_value) (sym items_are) valued_new,
+          le,
+        ),
+      )
+
+      pub rising_leaf : (m : map.FinMap nat_cmp (Slot (Data X S B))) (root : Option ℕ) → depth k ≤ 128 → RenewedFrom w is_near m root (plug k leaf) → Rising w is_near m root (lefts w k ++ (id, x) ∷ rights w k) id 128
+      rising_leaf m root le (u, made, wv2, alike) =
+          let f : Data X S B → X × B = λ d. (d.item, d.delta) in
+          let (k2, (t2, is, alike2, deep, fits)) = U.unplugged f k leaf u alike in
+          let (d2, (a, b, same, ea, eb)) = U.forked_back f Left t2 true id (own, w.still) tip tip alike2 in (
+            k2,
+            (
+              t2,
+              (
+                0,
+                subst (Made m root) is made,
+                (subst (Woven w is_near w.still) is wv2, ap (entries w w.still) (sym is) ∙ same_items w w.still u (plug k leaf) alike ∙ items_are),
+                ap root_of same,
+                U.rb_same f true 0 leaf t2 (sym alike2) (refl, (refl, refl), (refl, refl)),
+                fits false 0 (empty_fits k bal),
+                omega (arith, deep, le),
+              ),
+            ),
+          )

@@ -1,0 +1,253 @@
+-- A leaf that leaves a hole of a tree.
+use Rattle.std.proofs.Common.{◌≡◌, ℕ, suc, ◌+◌, ◌<◌, ◌≤◌, Bool, true, false, List, [], ◌∷◌, ◌++◌, length, Option, Some, None, refl, sym, ap, ◌∙◌, subst, arith, append-nil, inl, inr}
+use Rattle.std.specs.Prelude.{is_some, IsSome}
+use Rattle.std.specs.Option.{unwrap_or}
+use Rattle.std.proofs.lemmas.Bool.{cases_lt, false≢true}
+use Rattle.std.proofs.lemmas.Option.{none-some}
+use Rattle.std.specs.Ordering.{nat_cmp}
+use Rattle.std.specs.FinMap as map
+use Rattle.rb_rules.specs.declared.slot.Data.{Data}
+use Rattle.rb_rules.specs.declared.slot.Side.{Side}
+use Rattle.rb_rules.specs.declared.slot.Side.TheVariants.{Left, Right}
+use Rattle.rb_rules.specs.declared.slot.Slot.{Slot}
+use Rattle.rb_rules.specs.Tree.{Tree, tip, fork, Hole, top, on, other, forked, plug, root_of, above, depth, height}
+use Rattle.rb_rules.specs.Colours.{Rb, Fits, Balanced}
+use Rattle.rb_rules.specs.Memory.{Made, Spot, here, below, turned, AtSpot, place_of, hung, root_hung}
+use Rattle.rb_rules.specs.Shape.{each}
+use Rattle.rb_rules.specs.Weaving.{Weaving, Lawful, Sums}
+use Rattle.rb_rules.specs.Woven.{entries, sum_of, Woven, AllItems, Valued, lefts, rights, shift_at}
+use Rattle.rb_rules.specs.Sound.{Lists, IsSlack, RenewedFrom, CanTurnAt, TurnedAt}
+use Rattle.rb_rules.proofs.Climbs.{slack_of}
+use Rattle.rb_rules.proofs.Colouring as C
+use Rattle.rb_rules.proofs.Detaching.{spliced, forgotten, gone}
+use Rattle.rb_rules.proofs.Holes.{forked-other}
+use Rattle.rb_rules.proofs.Live.{here_forked, slot_here}
+use Rattle.rb_rules.proofs.Shapes.{same_items, each-forked}
+use Rattle.rb_rules.proofs.Spots.{upper_is}
+use Rattle.rb_rules.proofs.Unshaping as U
+use Rattle.rb_rules.proofs.Weaves.{sum-append, woven_at, near_of, entries-plug}
+use Rattle.rb_arena.specs.Closing.{Closing}
+use Rattle.rb_arena.specs.Leaving.{leaf_height, Emptied, NoChild, OneChild, Stores}
+use Rattle.rb_arena.specs.Rising.{Mended}
+use Rattle.rb_arena.proofs.Gaps.{few_steps, at_top}
+use Rattle.rb_arena.proofs.Growing.{depth_height, length-entries, no_root, not_high}
+use Rattle.rb_arena.proofs.Locating.{locate_in}
+
+module _ {D E : Type 0} (f : D → E) where
+  is_tip : Tree E → Type 0
+  is_tip tip = Unit {0}
+  is_tip (fork c i d x y) = ⊥
+
+  tip_back : (t : Tree D) → each f t ≡ tip → t ≡ tip
+  unfolding is_tip
+  tip_back tip e = refl
+  tip_back (fork c i d x y) e = absurd (subst is_tip (sym e) tt)
+
+  -- a tree of the shape of one with a hole has the hole at the same place
+  pub emptied_back : (k : Hole D) (u : Tree D) → each f u ≡ each f (plug k tip)
+      → (k2 : Hole D) × ((u ≡ plug k2 tip) × (place_of k2 ≡ place_of k) × (depth k2 ≡ depth k) × ((c : Bool) (n : ℕ) → Fits c n k → Fits c n k2))
+  emptied_back top u e = (top, (tip_back u e, refl, refl, λ c n q. q))
+  emptied_back (on s true i d x k) u e =
+      let (k1, (v, is, alike, deep, fits)) = U.unplugged f k (forked s true i d tip x) u e in
+      let (d2, (a, b, same, ea, eb)) = U.forked_back f s v true i (f d) tip (each f x) (alike ∙ each-forked f s true i d tip x) in
+      (on s true i d2 b k1, (is ∙ ap (plug k1) same ∙ ap (λ z. plug k1 (forked s true i d2 z b)) (tip_back a ea), refl, ap (λ n. 1 + n) deep, λ c n (q, r, g). (q, U.rb_same f false n x b (sym eb) r, fits true n g)))
+  emptied_back (on s false i d x k) u e =
+      let (k1, (v, is, alike, deep, fits)) = U.unplugged f k (forked s false i d tip x) u e in
+      let (d2, (a, b, same, ea, eb)) = U.forked_back f s v false i (f d) tip (each f x) (alike ∙ each-forked f s false i d tip x) in
+      (on s false i d2 b k1, (is ∙ ap (plug k1) same ∙ ap (λ z. plug k1 (forked s false i d2 z b)) (tip_back a ea), refl, ap (λ n. 1 + n) deep, λ c n ((q, r), g). ((q, U.rb_same f q n x b (sym eb) r), fits false (suc n) g)))
+
+-- a map with an entry is not empty
+pub some_left : {V : Type 0} (m : map.FinMap nat_cmp V) (i : ℕ) (x : V) → map.get m i ≡ Some x → 0 < map.len m
+some_left m i x e = elim (cases_lt 0 (map.len m)) [
+  | inl lt ↦ lt
+  | inr le ↦ absurd (none-some x (sym (map.get-empty nat_cmp i) ∙ ap (λ q. map.get q i) (sym (map.empty_of_len m (omega (arith, le)))) ∙ e))
+]
+
+pub fit_leaf : {D : Type 0} (c b : Bool) (n id : ℕ) (d : D) (k : Hole D) → Rb b n (fork c id d tip tip) → Fits b n k → Fits c (leaf_height c) k
+fit_leaf true b n id d k (e, (f, z), q) fit = subst (λ l. Fits true l k) z (subst (λ a. Fits a n k) e fit)
+fit_leaf false b n id d k (e, (l, z, (a, (f, g)), q)) fit = subst (λ r. Fits false r k) (z ∙ ap suc g) (subst (λ a. Fits a n k) e fit)
+
+zero_tip : {D : Type 0} (t : Tree D) → Rb false 0 t → t ≡ tip
+zero_tip tip r = refl
+zero_tip (fork true i d x y) (e, ra, rb) = absurd (false≢true e)
+zero_tip (fork false i d x y) (e, (l, z, ra, rb)) = absurd (omega (arith, z))
+
+-- a node with one child is black, and the child is a red leaf
+one_red : {D : Type 0} (s : Side) (c b : Bool) (n i j : ℕ) (d : D) (y : Tree D) → root_of y ≡ Some j → Rb b n (forked s c i d y tip)
+    → (c ≡ false) × (b ≡ false) × (n ≡ 1) × ((e : D) × (y ≡ fork true j e tip tip))
+one_red s true b n i j d y is r =
+    let (_, ry, (_, z)) = C.of_red s b n i d y tip r in absurd (none-some j (sym (ap root_of (zero_tip y (subst (λ l. Rb false l y) z ry))) ∙ is))
+one_red s false b n i j d tip is r = absurd (none-some j is)
+one_red s false b n i j d (fork false q e x y) is r =
+    let (_, (l, same, (a, (f1, (l2, z, r1, r2))), (a2, (f2, z2)))) = C.of_black s b n i d (fork false q e x y) tip r in absurd (omega (arith, z, z2))
+one_red s false b n i j d (fork true q e x y) is r =
+    let (f, (l, same, (a, (f1, rx, ry)), (a2, (f2, z)))) = C.of_black s b n i d (fork true q e x y) tip r in
+    let tx = zero_tip x (subst (λ h. Rb false h x) z rx) in let ty = zero_tip y (subst (λ h. Rb false h y) z ry) in
+    (refl, f, same ∙ ap suc z, (e, λ h. fork true (ap (λ o. unwrap_or o 0) is h) e (tx h) (ty h)))
+
+turn_is : {D : Type 0} (s : Side) (i j : ℕ) (d e low high : D) → turned s low high (forked s false i d (fork true j e tip tip) tip) ≡ forked s false j high tip (fork true i low tip tip)
+turn_is Left i j d e low high = refl
+turn_is Right i j d e low high = refl
+
+pub some_of : (o : Option ℕ) → is_some o ≡ true → (i : ℕ) × (o ≡ Some i)
+some_of None e = absurd (false≢true e)
+some_of (Some i) e = (i, refl)
+
+pub none_of : (o : Option ℕ) → is_some o ≡ false → o ≡ None
+none_of None e = refl
+none_of (Some i) e = absurd (false≢true (sym e))
+
+-- a node with one child at most that has a left one has no right one
+pub right_none : {D : Type 0} (m : map.FinMap nat_cmp (Slot D)) (root : Option ℕ) (s : Spot D) (id : ℕ) → Made m root (plug s.hole (here s id)) → OneChild m id → (j : ℕ) → root_of s.left ≡ Some j → root_of s.right ≡ None
+right_none m root s id made (n, found, inl e) j is = absurd (none-some j (sym (sym (ap (λ o. o.left) (upper_is m root s id made Left n found)) ∙ e) ∙ is))
+right_none m root s id made (n, found, inr e) j is = sym (ap (λ o. o.right) (upper_is m root s id made Left n found)) ∙ e
+
+module _ {X S B : Type 0} (w : Weaving X S B) (L : Lawful w) (is_near : B → Type 0) (is_item : X → Type 0) (is_sum is_value : S → Type 0)
+    (sums : Sums w is_item is_sum) (parts : (a b : S) → is_value (w.join a b) → is_value a × is_value b)
+    (thins : (a b c : S) → is_value (w.join a (w.join b c)) → is_value (w.join a c)) where
+  items_without : (us : List (ℕ × X)) (e : ℕ × X) (vs : List (ℕ × X)) → AllItems w is_item (us ++ e ∷ vs) → AllItems w is_item (us ++ vs)
+  items_without [] e vs (h, hs) = hs
+  items_without (u ∷ us) e vs (h, hs) = (h, items_without us e vs hs)
+
+  pub valued_without : (us : List (ℕ × X)) (e : ℕ × X) (vs : List (ℕ × X)) → Valued w is_item is_value (us ++ e ∷ vs) → Valued w is_item is_value (us ++ vs)
+  valued_without us e vs (h, v) =
+      (items_without us e vs h, subst is_value (sym (sum-append w L us vs)) (thins (sum_of w us) (w.one e.1) (sum_of w vs) (subst is_value (sum-append w L us (e ∷ vs)) v)))
+
+  module _ (m : map.FinMap nat_cmp (Slot (Data X S B))) (root : Option ℕ) (at : Option (ℕ × Side)) (red : Bool) (k : Hole (Data X S B)) (h : Emptied w is_near is_item is_value m root at red k) where
+    list_is : entries w w.still (plug k tip) ≡ lefts w k ++ rights w k
+    list_is = entries-plug w L is_near k tip
+
+    pub slack_empty : (from : Option ℕ) → from ≡ above k → IsSlack w is_near is_item is_value m root from 128 (plug k tip)
+    slack_empty from e = (k, (tip, refl, h.1, e, h.2, h.3, subst (Valued w is_item is_value) (sym list_is) h.4, h.5))
+
+    module _ (m2 : map.FinMap nat_cmp (Slot (Data X S B))) (root2 : Option ℕ) (done : RenewedFrom w is_near m2 root2 (plug k tip)) where
+      abbrev shaped : Data X S B → X × B
+      shaped d = (d.item, d.delta)
+
+      pub empty_mended : red ≡ true → Mended w is_near m2 root2 (lefts w k ++ rights w k)
+      empty_mended is_red =
+          let (u, made, wv, alike) = done in let (k2, (same, place, deep, fits)) = emptied_back shaped k u alike in
+          let fit = fits false 0 (C.fits_either false 0 k (subst (λ c. Fits c (leaf_height c) k) is_red h.6)) in
+          (u, made, (wv, same_items w w.still u (plug k tip) alike ∙ list_is), subst Balanced (sym same) (C.plugged false 0 k2 tip (refl, refl) fit))
+
+      pub empty_closing : red ≡ false → Closing w is_near m2 root2 (lefts w k ++ rights w k) at 129
+      empty_closing is_black =
+          let (u, made, wv, alike) = done in let (k2, (same, place, deep, fits)) = emptied_back shaped k u alike in
+          let fit = fits false 1 (subst (λ c. Fits c (leaf_height c) k) is_black h.6) in
+          let le = h.5 in let few = few_steps k2 in
+          at_top w L is_near is_item is_value m2 root2 (lefts w k ++ rights w k) at 129 (
+            k2,
+            (
+              tip,
+              (
+                0,
+                subst (Made m2 root2) same made,
+                (subst (Woven w is_near w.still) same wv, ap (entries w w.still) (sym same) ∙ same_items w w.still u (plug k tip) alike ∙ list_is),
+                h.0 ∙ sym place,
+                (refl, refl),
+                fit,
+                omega (arith, le, few, deep),
+              ),
+            ),
+          )
+
+  -- a leaf goes from a red-black tree
+  module _ (m : map.FinMap nat_cmp (Slot (Data X S B))) (root : Option ℕ) (k : Hole (Data X S B)) (c : Bool) (id : ℕ) (d : Data X S B)
+      (made : Made m root (plug k (fork c id d tip tip))) (wv : Woven w is_near w.still (plug k (fork c id d tip tip))) (bal : Balanced (plug k (fork c id d tip tip)))
+      (v : Valued w is_item is_value (lefts w k ++ rights w k)) (le : depth k ≤ 128) where
+    leaf_fits : Fits c (leaf_height c) k
+    leaf_fits = let (n, (b, r, f)) = C.unplugged k (fork c id d tip tip) bal in fit_leaf c b n id d k r f
+
+    pub left_empty : Emptied w is_near is_item is_value (map.remove (hung m (place_of k) None) id) (root_hung root (place_of k) None) (place_of k) c k
+    left_empty =
+        let leaf = fork c id d tip tip in let m1 = hung m (place_of k) None in let root1 = root_hung root (place_of k) None in (
+          refl,
+          forgotten m1 id root1 (plug k tip) (gone m root k Left c id d tip made) (spliced m root k Left c id d tip made),
+          near_of w L is_near (shift_at w k) leaf (woven_at w L is_near k leaf wv),
+          slack_of w L is_near is_item is_sum is_value sums parts k leaf wv,
+          v,
+          le,
+          leaf_fits,
+        )
+
+  -- a node with no child, by its item's place in the list
+  module _ (m : map.FinMap nat_cmp (Slot (Data X S B))) (root : Option ℕ) (id : ℕ) (us : List (ℕ × X)) (x : X) (vs : List (ℕ × X)) where
+    abbrev pub Spotted : Spot (Data X S B) → Type 0
+    Spotted s =
+        Made m root (plug s.hole (here s id)) × Woven w is_near w.still (plug s.hole (here s id)) × Balanced (plug s.hole (here s id))
+        × (x ≡ w.shift (shift_at w s.hole) s.datum.item) × (us ≡ lefts w s.hole ++ entries w (shift_at w s.hole) s.left)
+        × (vs ≡ entries w (w.plus (shift_at w s.hole) s.datum.delta) s.right ++ rights w s.hole) × (depth s.hole + height (here s id) ≤ 126)
+        × (entries w w.still (plug s.hole (here s id)) ≡ us ++ (id, x) ∷ vs) × (height (plug s.hole (here s id)) ≤ 126)
+
+    pub spotted : Stores w is_near is_item is_value m root (us ++ (id, x) ∷ vs) → (s : Spot (Data X S B)) × Spotted s
+    spotted ((t, made, (wv, e), bal), v, few) =
+        let (s, whole, val, l, r) = locate_in w t us id x vs e in let deep = depth_height s.hole (here s id) in let high = ap height whole in
+        let many = length-entries w w.still t in let long = ap length e in let low = not_high t bal (omega (arith, many, long, few)) in
+        (s, (subst (Made m root) (sym whole) made, subst (Woven w is_near w.still) (sym whole) wv, subst Balanced (sym whole) bal, val, l, r, omega (arith, deep, high, low), ap (entries w w.still) whole ∙ e, omega (arith, high, low)))
+
+    pub childless_spot : (s : Spot (Data X S B)) → Made m root (plug s.hole (here s id)) → NoChild m id → (s.left ≡ tip) × (s.right ≡ tip)
+    childless_spot s made (n, found, none, none2) =
+        let up = upper_is m root s id made Left n found in (no_root s.left (sym (ap (λ o. o.left) up) ∙ none), no_root s.right (sym (ap (λ o. o.right) up) ∙ none2))
+
+    pub leaf_gone : NoChild m id → Stores w is_near is_item is_value m root (us ++ (id, x) ∷ vs) → (n : Slot (Data X S B)) → map.get m id ≡ Some n
+        → (at copy : Option (ℕ × Side)) → AtSpot m root id (λ s. at ≡ place_of s.hole) → copy ≡ at
+        → (m1 m2 : map.FinMap nat_cmp (Slot (Data X S B))) (root1 : Option ℕ) → m1 ≡ hung m copy None → root1 ≡ root_hung root copy None → m2 ≡ map.remove m1 id
+        → (k : Hole (Data X S B)) × ((lefts w k ++ rights w k ≡ us ++ vs) × Emptied w is_near is_item is_value m2 root1 at n.red k)
+    leaf_gone nc st n found at copy there same m1 m2 root1 e1 er e2 =
+        let (s, (made, wv, bal, val, l, r, low, all, high)) = spotted st in let (tl, tr) = childless_spot s made nc in
+        let leaf : here s id ≡ fork s.red id s.datum tip tip = λ i. fork s.red id s.datum (tl i) (tr i) in
+        let place = there s made in let k = s.hole in
+        let us_is : us ≡ lefts w k = l ∙ ap (λ q. lefts w k ++ entries w (shift_at w k) q) tl ∙ append-nil (lefts w k) in
+        let vs_is : vs ≡ rights w k = r ∙ ap (λ q. entries w (w.plus (shift_at w k) s.datum.delta) q ++ rights w k) tr in
+        let list : lefts w k ++ rights w k ≡ us ++ vs = λ i. sym us_is i ++ sym vs_is i in
+        let v = subst (Valued w is_item is_value) (sym list) (valued_without us (id, x) vs st.1) in
+        let empty = left_empty m root k s.red id s.datum (subst (λ t. Made m root (plug k t)) leaf made) (subst (λ t. Woven w is_near w.still (plug k t)) leaf wv)
+        (subst (λ t. Balanced (plug k t)) leaf bal) v (omega (arith, low)) in
+        let red : s.red ≡ n.red = ap (λ o. o.red) (sym (upper_is m root s id made Left n found)) in
+        let mem : m2 ≡ map.remove (hung m (place_of k) None) id = e2 ∙ ap (λ q. map.remove q id) (e1 ∙ ap (λ o. hung m o None) (same ∙ place)) in
+        let top_ : root1 ≡ root_hung root (place_of k) None = er ∙ ap (λ o. root_hung root o None) (same ∙ place) in
+        let P : map.FinMap nat_cmp (Slot (Data X S B)) → Option ℕ → Option (ℕ × Side) → Bool → Type 0 = λ q o a b. Emptied w is_near is_item is_value q o a b k in (
+          k,
+          (
+            list,
+            subst (λ q. P q root1 at n.red) (sym mem) (subst (λ o. P (map.remove (hung m (place_of k) None) id) o at n.red) (sym top_)
+                (subst (λ a. P (map.remove (hung m (place_of k) None) id) (root_hung root (place_of k) None) a n.red) (sym place)
+                (subst (λ b. P (map.remove (hung m (place_of k) None) id) (root_hung root (place_of k) None) (place_of k) b) red empty))),
+          ),
+        )
+
+    -- a turn towards its one child's side makes a leaf of a node
+    module _ (s : Spot (Data X S B)) (at : Spotted s) (side : Side) (j : ℕ) (is : root_of (below side s) ≡ Some j) where
+      pub can_turn_down : Valued w is_item is_value (us ++ (id, x) ∷ vs) → CanTurnAt w is_near is_item is_value m root id side
+      can_turn_down v = (s, at.0, subst IsSome (sym is) refl, at.1, subst (Valued w is_item is_value) (sym at.7) v)
+
+      module _ (none : root_of (below (other side) s) ≡ None) (m2 : map.FinMap nat_cmp (Slot (Data X S B))) (root2 : Option ℕ) (done : TurnedAt w is_near m2 root2 id side s) where
+        lower_leaf : (low : Data X S B) × ((high : Data X S B) × Made m2 root2 (plug s.hole (forked side false j high tip (fork true id low tip tip)))
+            × Lists w is_near (plug s.hole (forked side false j high tip (fork true id low tip tip))) (us ++ (id, x) ∷ vs)
+            × Balanced (plug s.hole (forked side false j high tip (fork true id low tip tip))))
+        lower_leaf =
+            let bare : here s id ≡ forked side s.red id s.datum (below side s) tip =
+            here_forked side s id ∙ ap (forked side s.red id s.datum (below side s)) (no_root (below (other side) s) none) in
+            let (n, (b, r, f)) = C.unplugged s.hole (forked side s.red id s.datum (below side s) tip) (subst (λ t. Balanced (plug s.hole t)) bare at.2) in
+            let (black, bf, one, (e, leaf)) = one_red side s.red b n id j s.datum (below side s) is r in
+            let (low, (high, made2, (wv2, list2))) = done at.1 in
+            let now : turned side low high (here s id) ≡ forked side false j high tip (fork true id low tip tip) =
+            ap (turned side low high) (bare ∙ (λ h. forked side (black h) id s.datum (leaf h) tip)) ∙ turn_is side id j s.datum e low high in (
+              low,
+              (
+                high,
+                subst (λ t. Made m2 root2 (plug s.hole t)) now made2,
+                subst (λ t. Lists w is_near (plug s.hole t) (us ++ (id, x) ∷ vs)) now (wv2, list2 ∙ at.7),
+                C.plugged false 1 s.hole (forked side false j high tip (fork true id low tip tip)) (C.black_forked side 0 j high tip (fork true id low tip tip) (false, (refl, refl)) (true, (refl, (refl, refl), (refl, refl))))
+                    (subst (λ l. Fits false l s.hole) one (subst (λ a. Fits a n s.hole) bf f)),
+              ),
+            )
+
+        pub down_leaf : NoChild m2 id
+        down_leaf =
+            let (low, (high, made2, list2, bal2)) = lower_leaf in let leaf = fork true id low tip tip in
+            let up = subst (λ t. Made m2 root2 (plug s.hole t)) (sym (forked-other side false j high leaf tip)) made2 in
+            (_, slot_here m2 root2 (record { hole = on (other side) false j high tip s.hole; red = true; datum = low; left = tip; right = tip }) id up, refl, refl)
+
+        pub down_mended : Mended w is_near m2 root2 (us ++ (id, x) ∷ vs)
+        down_mended = let (low, (high, made2, list2, bal2)) = lower_leaf in (plug s.hole (forked side false j high tip (fork true id low tip tip)), made2, list2, bal2)

@@ -1,0 +1,12 @@
+pub mod Cases
+pub mod Gaps
+pub mod Growing
+pub mod Heirs
+pub mod Inserting
+pub mod Leaving
+pub mod Listing
+pub mod Locating
+pub mod Paths
+pub mod Searches
+pub mod Setting
+pub mod Steps

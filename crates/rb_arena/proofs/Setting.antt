@@ -1,0 +1,81 @@
+-- An item that takes the place of another.
+use Rattle.std.proofs.Common.{◌≡◌, ℕ, ◌≤◌, Bool, true, false, List, [], ◌∷◌, ◌++◌, Option, Some, refl, sym, ap, ◌∙◌, subst, arith, append_assoc}
+use Rattle.std.specs.Ordering.{nat_cmp}
+use Rattle.std.specs.FinMap as map
+use Rattle.rb_rules.specs.declared.slot.Data.{Data}
+use Rattle.rb_rules.specs.declared.slot.Side.TheVariants.{Left}
+use Rattle.rb_rules.specs.declared.slot.Slot.{Slot}
+use Rattle.rb_rules.specs.Tree.{Tree, fork, on, plug, depth}
+use Rattle.rb_rules.specs.Colours.{Rb, Balanced}
+use Rattle.rb_rules.specs.Memory.{Made, Spot, here}
+use Rattle.rb_rules.specs.Weaving.{Weaving, Lawful, Sums, HeldItem, HeldBy}
+use Rattle.rb_rules.specs.Woven.{entries, Woven, AllItems, Valued, lefts, rights, shift_at}
+use Rattle.rb_rules.specs.Sound.{IsSlack, RenewedFrom}
+use Rattle.rb_rules.proofs.Climbs.{slack_of}
+use Rattle.rb_rules.proofs.Colouring as C
+use Rattle.rb_rules.proofs.Shapes.{same_items, same_colours}
+use Rattle.rb_rules.proofs.Weaves.{woven_at, near_of, entries-plug}
+use Rattle.rb_arena.specs.Rising.{Mended}
+use Rattle.rb_arena.specs.Value.{with_item}
+
+rb_data : {D : Type 0} (b c : Bool) (n i : ℕ) (d e : D) (x y : Tree D) → Rb c n (fork b i d x y) → Rb c n (fork b i e x y)
+rb_data true c n i d e x y r = r
+rb_data false c n i d e x y r = r
+
+module _ {X S B : Type 0} (w : Weaving X S B) (L : Lawful w) (is_near : B → Type 0) (is_item : X → Type 0) (is_sum is_value : S → Type 0)
+    (sums : Sums w is_item is_sum) (parts : (a b : S) → is_value (w.join a b) → is_value a × is_value b) (starts_near : is_near w.still) where
+  pub items_with : (us : List (ℕ × X)) (i : ℕ) (x y : X) (vs : List (ℕ × X)) → is_item y → AllItems w is_item (us ++ (i, x) ∷ vs) → AllItems w is_item (us ++ (i, y) ∷ vs)
+  items_with [] i x y vs h (g, gs) = (h, gs)
+  items_with (u ∷ us) i x y vs h (g, gs) = (g, items_with us i x y vs h gs)
+
+  module _ (s : Spot (Data X S B)) (id : ℕ) (wv : Woven w is_near w.still (plug s.hole (here s id))) (x : X) where
+    woven_here : Woven w is_near (shift_at w s.hole) (here s id)
+    woven_here = woven_at w L is_near s.hole (here s id) wv
+
+    near : is_near (shift_at w s.hole)
+    near = near_of w L is_near (shift_at w s.hole) (here s id) woven_here
+
+    pub back : w.shift (shift_at w s.hole) (w.shift (w.minus w.still (shift_at w s.hole)) x) ≡ x
+    back = sym (L.shift_plus _ _ x) ∙ ap (λ b. w.shift b x) (L.plus_minus w.still (shift_at w s.hole)) ∙ L.shift_still x
+
+    pub held_back : HeldBy w is_near (w.minus w.still (shift_at w s.hole))
+    held_back = (shift_at w s.hole, near, subst is_near (sym (L.plus_minus w.still (shift_at w s.hole))) starts_near)
+
+    pub held_x : is_item x → HeldItem w is_near is_item (w.shift (w.minus w.still (shift_at w s.hole)) x)
+    held_x h = (shift_at w s.hole, near, subst is_item (sym back) h)
+
+    abbrev d2 : Data X S B
+    d2 = with_item s.datum (w.shift (w.minus w.still (shift_at w s.hole)) x)
+
+    module _ (us vs : List (ℕ × X)) (l : us ≡ lefts w s.hole ++ entries w (shift_at w s.hole) s.left) (r : vs ≡ entries w (w.plus (shift_at w s.hole) s.datum.delta) s.right ++ rights w s.hole) where
+      list_is : entries w w.still (plug s.hole (fork s.red id (with_item s.datum (w.shift (w.minus w.still (shift_at w s.hole)) x)) s.left s.right)) ≡ us ++ (id, x) ∷ vs
+      list_is =
+          let es = entries w (shift_at w s.hole) s.left in let fs = entries w (w.plus (shift_at w s.hole) s.datum.delta) s.right in
+          let e : ℕ × X = (id, w.shift (shift_at w s.hole) (w.shift (w.minus w.still (shift_at w s.hole)) x)) in
+          entries-plug w L is_near s.hole (fork s.red id d2 s.left s.right) ∙ ap (λ q. lefts w s.hole ++ q) (append_assoc es (e ∷ fs) (rights w s.hole))
+          ∙ sym (append_assoc (lefts w s.hole) es (e ∷ (fs ++ rights w s.hole))) ∙ (λ i. sym l i ++ (id, back i) ∷ sym r i)
+
+      pub slack_set : (m : map.FinMap nat_cmp (Slot (Data X S B))) (root : Option ℕ) → depth s.hole ≤ 127 → Valued w is_item is_value (us ++ (id, x) ∷ vs)
+          → Made m root (plug s.hole (fork s.red id (with_item s.datum (w.shift (w.minus w.still (shift_at w s.hole)) x)) s.left s.right))
+          → IsSlack w is_near is_item is_value m root (Some id) 128 (plug s.hole (fork s.red id (with_item s.datum (w.shift (w.minus w.still (shift_at w s.hole)) x)) s.left s.right))
+      slack_set m root le v made = (
+        on Left s.red id d2 s.right s.hole,
+        (
+          s.left,
+          refl,
+          made,
+          refl,
+          woven_here.2,
+          (woven_here.3, slack_of w L is_near is_item is_sum is_value sums parts s.hole (here s id) wv),
+          subst (Valued w is_item is_value) (sym list_is) v,
+          omega (arith, le),
+        ),
+      )
+
+      pub mended_set : (m : map.FinMap nat_cmp (Slot (Data X S B))) (root : Option ℕ) → Balanced (plug s.hole (here s id))
+          → RenewedFrom w is_near m root (plug s.hole (fork s.red id (with_item s.datum (w.shift (w.minus w.still (shift_at w s.hole)) x)) s.left s.right)) → Mended w is_near m root (us ++ (id, x) ∷ vs)
+      mended_set m root bal (u, made, wv2, alike) =
+          let whole = plug s.hole (fork s.red id d2 s.left s.right) in
+          let (n, (c, q, f)) = C.unplugged s.hole (here s id) bal in
+          let (n2, (c2, q2)) = C.plugged c n s.hole (fork s.red id d2 s.left s.right) (rb_data s.red c n id s.datum d2 s.left s.right q) f in
+          (u, made, (wv2, same_items w w.still u whole alike ∙ list_is), (n2, (c2, same_colours c2 n2 whole u (sym alike) q2)))

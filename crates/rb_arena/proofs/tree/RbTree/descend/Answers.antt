@@ -1,0 +1,33 @@
+use Rattle.std.proofs.Common.{◌≡◌, ℕ, ◌+◌, ◌-◌, ◌*◌, ◌^◌, length, sym, ◌∙◌, ap, subst, arith, lit<}
+use Rattle.std.proofs.Math.Nat.{pow-le-pow_right, pow-suc, pow-zero, one-mul}
+use Rattle.rb_rules.specs.Tree.{size, height}
+use Rattle.rb_rules.proofs.Balance.{bound}
+use Rattle.rb_arena.specs.Searching.{Found}
+use Rattle.rb_arena.proofs.Growing.{length-entries}
+use Rattle.rb_arena.proofs.Listing.{low, items_are}
+use Rattle.rb_arena.proofs.tree.RbTree.descend.Goals as goal
+
+square_is : (k : ℕ) → k ^ 2 ≡ k * k
+square_is k = pow-suc k 1 ∙ ap (λ z. z * k) (pow-suc k 0 ∙ ap (λ z. z * k) (pow-zero k) ∙ one-mul k)
+
+pub descend-requires : goal.descend-requires
+descend-requires g c =
+    let t = g.W.Weave in let K = c.self.invariant in
+    (K.tree, K.made, K.woven, K.values, low t.weaving t.is_near t.is_item t.is_value c.self.inside.links.nodes.live c.self.inside.links.root K)
+
+pub returns-clause-found : goal.returns-clause-found
+returns-clause-found g c =
+    let t = g.W.Weave in let K = c.self.invariant in let m = c.self.inside.links.nodes.live in let root = c.self.inside.links.root in
+    let same = sym (items_are t.weaving t.is_near t.is_item t.is_value m root K) ∙ ap (λ l. l.items) c.self.view_is in
+    subst (λ l. Found t.weaving t.turn c.args.key l c.descend.result) same (c.descend.ensures.found K.tree K.made K.woven (low t.weaving t.is_near t.is_item t.is_value m root K))
+
+pub returns-clause-cost : goal.returns-clause-cost
+returns-clause-cost g c =
+    let t = g.W.Weave in let K = c.self.invariant in let m = c.self.inside.links.nodes.live in let root = c.self.inside.links.root in
+    let same = sym (items_are t.weaving t.is_near t.is_item t.is_value m root K) ∙ ap (λ l. l.items) c.self.view_is in
+    let cost = c.descend.ensures.cost K.tree K.made K.woven (low t.weaving t.is_near t.is_item t.is_value m root K) in
+    let up = pow-le-pow_right {n = 2} (lit< tt) {i = c.descend.new.steps - c.args.steps.now} {j = height K.tree} cost in
+    let few = bound K.tree K.balanced in
+    let n : size K.tree ≡ length c.args.self.now.items = sym (length-entries t.weaving t.weaving.still K.tree) ∙ ap length same in
+    let square : (size K.tree + 1) * (size K.tree + 1) ≡ (length c.args.self.now.items + 1) ^ 2 = sym (square_is (size K.tree + 1)) ∙ ap (λ k. (k + 1) ^ 2) n in
+    omega (arith, up, few, square)

@@ -1,0 +1,47 @@
+use Rattle.std.proofs.Common.{refl, sym, ap, ◌∙◌, subst, arith}
+use Rattle.rb_rules.specs.Tree.{on, forked, plug, depth}
+use Rattle.rb_rules.specs.Memory.{Made, here, place_of}
+use Rattle.rb_rules.proofs.Ups.{hole_top, hole_on, spot_of, spot_hole, stands_above}
+use Rattle.rb_arena.specs.Value.{up_prev}
+use Rattle.rb_arena.proofs.Growing.{hole_depth}
+use Rattle.rb_arena.proofs.tree.prev_above.Goals as goal
+
+pub loop-turn-init : goal.loop-turn-init
+loop-turn-init g c = λ s made le. (s.hole, (here s c.args.id, c.place-at.ensures s made, made, refl, le))
+
+pub returns-in_default : goal.returns-in_default
+returns-in_default g c = λ s made le.
+    let (k, (t, e, made2, up, dep)) = c.loop-turn.invariant s made le in sym (ap up_prev (hole_top k (sym e ∙ c.in_default.is))) ∙ up
+
+pub returns-in-Right : goal.returns-in-Right
+returns-in-Right g c = λ s made le.
+    let (k, (t, e, made2, up, dep)) = c.loop-turn.invariant s made le in let above = c.in-Some.above in
+    let (b, (d, x, k2, is)) = hole_on k above.0 above.1 (sym e ∙ c.in-Some.is) in
+    sym (ap up_prev is ∙ ap (λ z. up_prev (on z b above.0 d x k2)) c.in-Right.is) ∙ up
+
+pub place-at-requires-in-Left : goal.place-at-requires-in-Left
+place-at-requires-in-Left g c =
+    let (s, made, le) = c.requires in let (k, (t, e, made2, up, dep)) = c.loop-turn.invariant s made le in let above = c.in-Some.above in
+    let m = c.args.tree.now.nodes.live in let root = c.args.tree.now.root in
+    let (b, (d, x, k2, is)) = hole_on k above.0 above.1 (sym e ∙ c.in-Some.is) in
+    (spot_of above.1 b d t x k2, stands_above m root above.1 b above.0 d x k2 t (subst (λ l. Made m root (plug l t)) is made2))
+
+pub loop-turn-preserved : goal.loop-turn-preserved
+loop-turn-preserved g c = λ s made le.
+    let (k, (t, e, made2, up, dep)) = c.loop-turn.invariant s made le in let above = c.in-Some.above in
+    let m = c.args.tree.now.nodes.live in let root = c.args.tree.now.root in
+    let (b, (d, x, k2, is)) = hole_on k above.0 above.1 (sym e ∙ c.in-Some.is) in
+    let here_ = subst (λ l. Made m root (plug l t)) is made2 in let deep = ap depth is in (
+      k2,
+      (
+        forked above.1 b above.0 d t x,
+        c.place-at-in-Left.ensures (spot_of above.1 b d t x k2) (stands_above m root above.1 b above.0 d x k2 t here_) ∙ ap place_of (spot_hole above.1 b d t x k2),
+        here_,
+        sym (ap up_prev is ∙ ap (λ z. up_prev (on z b above.0 d x k2)) c.in-Left.is) ∙ up,
+        omega (arith, dep, deep, c.loop-turn-test.true),
+      ),
+    )
+
+pub returns : goal.returns
+returns g c = λ s made le.
+    let (k, (t, e, made2, up, dep)) = c.loop-turn.invariant s made le in sym (ap up_prev (hole_depth k (omega (arith, dep, c.loop-turn-test.false)))) ∙ up

@@ -1,0 +1,7 @@
+pub mod Closing
+pub mod Leaving
+pub mod Mending
+pub mod Placing
+pub mod Rising
+pub mod Searching
+pub mod Value

@@ -1,0 +1,70 @@
+//! After a removal: at one place the tree may have one black node too few on each path.
+ghost use Rattle.std.specs.Prelude.{◌≡◌, ℕ, ◌-◌, List, Some};
+ghost use Rattle.std.specs.FinMap as map;
+ghost use Rattle.rb_rules.specs.Woven.{Valued};
+ghost use Rattle.rb_arena.specs.Rising.{Mended};
+ghost use Rattle.rb_arena.specs.Closing.{Short, Closing};
+
+use crate::links::{Links, Place, place, read};
+use crate::mend::{paint, red_child};
+use crate::sums::turn_node;
+use raw_arena::NodeId;
+use rb_rules::{Data, Side, Weave};
+
+/// One step at most for each node on a path, and one more below a red node.
+const MOST_STEPS: u32 = 129;
+
+/// Closes the gap on that side of a node, by the node's child on the other side, or moves it up: `None` where nothing is
+/// left to close, and else the place of the gap now.
+fn step<W: Weave>(
+    tree: &mut Links<Data<W::Item, W::Sum, W::By>>,
+    parent: NodeId,
+    side: Side,
+) -> Place
+    requires { (es : List (ℕ × W.Item)) × ((n : ℕ) × Short W.weaving W.is_near tree.old.nodes.live tree.old.root es (Some (parent, side)) n × Valued W.weaving W.is_item W.is_value es) }
+    ensures closing { (es : List (ℕ × W.Item)) (n : ℕ) → Short W.weaving W.is_near tree.old.nodes.live tree.old.root es (Some (parent, side)) n → Valued W.weaving W.is_item W.is_value es → Closing W.weaving W.is_near tree.new.nodes.live tree.new.root es result (n - 1) }
+    ensures spare { tree.new.nodes.spare ≡ tree.old.nodes.spare }
+    ensures as_many { map.len tree.new.nodes.live ≡ map.len tree.old.nodes.live }
+{
+    let away = side.other();
+    let Some(brother) = read(&tree.nodes, parent).child(away) else {
+        return None;
+    };
+    if read(&tree.nodes, brother).red {
+        turn_node::<W>(tree, parent, away);
+        return Some((parent, side));
+    }
+    if let Some(outer) = red_child(&tree.nodes, brother, away) {
+        turn_node::<W>(tree, parent, away);
+        paint(tree, outer, false);
+        return None;
+    }
+    if let Some(_inner) = red_child(&tree.nodes, brother, side) {
+        turn_node::<W>(tree, brother, side);
+        turn_node::<W>(tree, parent, away);
+        paint(tree, brother, false);
+        return None;
+    }
+    paint(tree, brother, true);
+    if read(&tree.nodes, parent).red {
+        paint(tree, parent, false);
+        return None;
+    }
+    place(tree, parent)
+}
+
+/// Makes the tree red-black again after a black node has gone.
+pub(crate) fn close<W: Weave>(tree: &mut Links<Data<W::Item, W::Sum, W::By>>, from: Place)
+    requires { (es : List (ℕ × W.Item)) × Closing W.weaving W.is_near tree.old.nodes.live tree.old.root es from 129 × Valued W.weaving W.is_item W.is_value es }
+    ensures mended { (es : List (ℕ × W.Item)) → Closing W.weaving W.is_near tree.old.nodes.live tree.old.root es from 129 → Valued W.weaving W.is_item W.is_value es → Mended W.weaving W.is_near tree.new.nodes.live tree.new.root es }
+    ensures spare { tree.new.nodes.spare ≡ tree.old.nodes.spare }
+    ensures as_many { map.len tree.new.nodes.live ≡ map.len tree.old.nodes.live }
+{
+    let mut at = from;
+    for _turn in 0..MOST_STEPS {
+        let Some(above) = at else {
+            return;
+        };
+        at = step::<W>(tree, above.0, above.1);
+    }
+}

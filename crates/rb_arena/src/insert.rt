@@ -1,0 +1,104 @@
+//! A new item at a place of the tree.
+ghost use Rattle.std.specs.Prelude.{◌≡◌, ◌+◌, ◌<◌, ◌^◌, true, None, ◌∷◌, ◌++◌};
+ghost use Rattle.std.specs.FinMap as map;
+ghost use Rattle.raw_arena.specs.Arena.{node};
+ghost use Rattle.rb_rules.specs.Tree.{Tree, Hole, tip, fork, plug};
+ghost use Rattle.rb_rules.specs.Memory.{Made};
+ghost use Rattle.rb_rules.specs.Woven.{shift_at, lefts, rights};
+ghost use Rattle.rb_rules.specs.Weaving.{HeldBy};
+ghost use Rattle.rb_arena.specs.Placing.{above_place, passed, HoleAt, WovenAt, CanTake};
+ghost use Rattle.rb_arena.specs.Rising.{Mended};
+
+use crate::climb::{LONGEST, renew_up};
+use crate::links::{Links, Place, hang, place, read};
+use crate::mend::mend;
+use crate::sums::summed;
+use raw_arena::NodeId;
+use rb_rules::{Data, Side, Slot, Weave};
+
+/// The node above a place.
+pub(crate) fn parent_at(at: &Place) -> Option<NodeId>
+    ensures { result ≡ above_place at.now }
+{
+    match at {
+        Some(above) => Some(above.0),
+        None => None,
+    }
+}
+
+/// Hangs a new red leaf at an empty place.
+fn attach<D: Copy>(tree: &mut Links<D>, at: Place, datum: D) -> NodeId
+    requires room { 0 < tree.old.nodes.spare }
+    requires hole { (k : Hole D) × HoleAt tree.old.nodes.live tree.old.root at tip k }
+    ensures new_name { node tree.old.nodes result ≡ None }
+    ensures made { (k : Hole D) → HoleAt tree.old.nodes.live tree.old.root at tip k → Made tree.new.nodes.live tree.new.root (plug k (fork true result datum tip tip)) }
+    ensures spare { tree.new.nodes.spare + 1 ≡ tree.old.nodes.spare }
+    ensures as_many { map.len tree.new.nodes.live ≡ map.len tree.old.nodes.live + 1 }
+    ensures few { map.len tree.new.nodes.live + tree.new.nodes.spare < 2 ^ 63 }
+{
+    let leaf = Slot::sided(Side::Left, parent_at(&at), None, None, true, datum);
+    let id = tree.nodes.put(leaf);
+    hang(tree, at, Some(id));
+    id
+}
+
+/// One node's part in the shift of a path that goes to that side of it.
+fn pass<W: Weave>(side: Side, delta: W::By, by: W::By) -> W::By
+    requires { HeldBy W.weaving W.is_near (passed W.weaving side delta by) }
+    ensures { result ≡ passed W.weaving side delta by }
+{
+    match side {
+        Side::Left => by,
+        Side::Right => W::plus(delta, by),
+    }
+}
+
+/// What the shifts on the path to a place come to.
+pub(crate) fn path_shift<W: Weave>(tree: &Links<Data<W::Item, W::Sum, W::By>>, from: Place) -> W::By
+    requires { (t : Tree (Data W.Item W.Sum W.By)) × ((k : Hole (Data W.Item W.Sum W.By)) × WovenAt W.weaving W.is_near tree.now.nodes.live tree.now.root from t k) }
+    ensures { (t : Tree (Data W.Item W.Sum W.By)) (k : Hole (Data W.Item W.Sum W.By)) → WovenAt W.weaving W.is_near tree.now.nodes.live tree.now.root from t k → result ≡ shift_at W.weaving k }
+{
+    let mut at = from;
+    let mut by = W::still();
+    for _turn in 0..LONGEST {
+        let Some(above) = at else {
+            return by;
+        };
+        let delta = read(&tree.nodes, above.0).data.delta;
+        by = pass::<W>(above.1, delta, by);
+        at = place(tree, above.0);
+    }
+    by
+}
+
+pub(crate) fn copy_of(at: &Place) -> Place
+    ensures { result ≡ at.now }
+{
+    match at {
+        Some(above) => Some((above.0, above.1)),
+        None => None,
+    }
+}
+
+/// Puts an item at an empty place.
+pub(crate) fn insert_at<W: Weave>(
+    tree: &mut Links<Data<W::Item, W::Sum, W::By>>,
+    at: Place,
+    item: W::Item,
+) -> NodeId
+    requires room { 0 < tree.old.nodes.spare }
+    requires hole { (k : Hole (Data W.Item W.Sum W.By)) × CanTake W.weaving W.is_near tree.old.nodes.live tree.old.root at W.is_item W.is_value item k }
+    ensures mended { (k : Hole (Data W.Item W.Sum W.By)) → CanTake W.weaving W.is_near tree.old.nodes.live tree.old.root at W.is_item W.is_value item k → Mended W.weaving W.is_near tree.new.nodes.live tree.new.root (lefts W.weaving k ++ (result, item) ∷ rights W.weaving k) }
+    ensures spare { tree.new.nodes.spare + 1 ≡ tree.old.nodes.spare }
+    ensures as_many { map.len tree.new.nodes.live ≡ map.len tree.old.nodes.live + 1 }
+    ensures few { map.len tree.new.nodes.live + tree.new.nodes.spare < 2 ^ 63 }
+{
+    let by = path_shift::<W>(tree, copy_of(&at));
+    let own = W::shift(W::minus(W::still(), by), item);
+    let leaf = summed::<W>(own, W::still(), W::none(), W::none());
+    let parent = parent_at(&at);
+    let id = attach(tree, at, leaf);
+    renew_up::<W>(tree, parent);
+    mend::<W>(tree, id);
+    id
+}

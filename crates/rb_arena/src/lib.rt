@@ -1,0 +1,14 @@
+//! A red-black tree over any weave.
+#![tactic(auto)]
+
+mod climb;
+mod close;
+mod descend;
+mod insert;
+mod leave;
+mod links;
+mod mend;
+mod sums;
+mod tree;
+
+pub use tree::RbTree;

@@ -1,0 +1,160 @@
+//! A tree's nodes and their links, whatever data the nodes have.
+ghost use Rattle.std.specs.Prelude.{◌≡◌, ◌<◌, Some, IfSome, IsSome};
+ghost use Rattle.std.specs.FinMap as map;
+ghost use Rattle.raw_arena.specs.Arena.{node, IsLive};
+ghost use Rattle.rb_rules.specs.Tree.{fork, plug, root_of, count};
+ghost use Rattle.rb_rules.specs.Memory.{Made, place_of, adopted, hung, root_hung, Spot, here, below, Stands, AtSpot, turned};
+
+use raw_arena::{Arena, NodeId};
+use rb_rules::{Side, Slot};
+use std::marker::Brand;
+use std::sync::ledger::{Blank, Ledger};
+use steps::Steps;
+
+/// A node's place: the node above it, and the side of that.
+pub(crate) type Place = Option<(NodeId, Side)>;
+
+/// The nodes of a tree, and the topmost.
+#[derive(Drop)]
+pub struct Links<D: Copy> {
+    pub(crate) nodes: Arena<Slot<D>>,
+    pub(crate) root: Option<NodeId>,
+}
+
+fn seen<D: Copy, L: Ledger>(nodes: &Arena<Slot<D>>, id: NodeId, blank: Blank) -> Slot<D>
+    requires live { IsLive nodes.now id }
+    requires name { blank.name ≡ L.name }
+    requires parts { blank.parts ≡ L.parts }
+    requires some { 0 < L.parts }
+    ensures { node nodes.now id ≡ Some result }
+{
+    let mut steps = Steps::<L>::new(blank);
+    *nodes.visit(id, &mut steps)
+}
+
+/// Reads a node, and counts no step.
+pub(crate) fn read<D: Copy>(nodes: &Arena<Slot<D>>, id: NodeId) -> Slot<D>
+    requires { IsLive nodes.now id }
+    ensures { node nodes.now id ≡ Some result }
+{
+    seen::<D, Brand>(nodes, id, Blank::new(1))
+}
+
+fn overwritten<D: Copy, L: Ledger>(
+    nodes: &mut Arena<Slot<D>>,
+    id: NodeId,
+    slot: Slot<D>,
+    blank: Blank,
+)
+    requires live { IsLive nodes.old id }
+    requires name { blank.name ≡ L.name }
+    requires parts { blank.parts ≡ L.parts }
+    requires some { 0 < L.parts }
+    ensures live { nodes.new.live ≡ map.insert nodes.old.live id slot }
+    ensures spare { nodes.new.spare ≡ nodes.old.spare }
+{
+    let mut steps = Steps::<L>::new(blank);
+    *nodes.visit_mut(id, &mut steps) = slot;
+}
+
+/// Writes a node, and counts no step.
+pub(crate) fn write<D: Copy>(nodes: &mut Arena<Slot<D>>, id: NodeId, slot: Slot<D>)
+    requires { IsLive nodes.old id }
+    ensures live { nodes.new.live ≡ map.insert nodes.old.live id slot }
+    ensures spare { nodes.new.spare ≡ nodes.old.spare }
+{
+    overwritten::<D, Brand>(nodes, id, slot, Blank::new(1))
+}
+
+/// The place of a node of the tree.
+pub(crate) fn place<D: Copy>(tree: &Links<D>, id: NodeId) -> Place
+    requires { Stands tree.now.nodes.live tree.now.root id }
+    ensures { AtSpot tree.now.nodes.live tree.now.root id (λ s. result ≡ place_of s.hole) }
+{
+    let above = read(&tree.nodes, id).parent?;
+    let side = read(&tree.nodes, above).side_of(id);
+    Some((above, side))
+}
+
+/// Gives a node, if there is one, another parent.
+fn adopt<D: Copy>(nodes: &mut Arena<Slot<D>>, id: Option<NodeId>, parent: Option<NodeId>)
+    requires { IfSome id (λ i. IsLive nodes.old i) }
+    ensures live { nodes.new.live ≡ adopted nodes.old.live id parent }
+    ensures spare { nodes.new.spare ≡ nodes.old.spare }
+{
+    if let Some(id) = id {
+        let mut slot = read(nodes, id);
+        slot.parent = parent;
+        write(nodes, id, slot);
+    }
+}
+
+/// Hangs another node, or none, at a place.
+pub(crate) fn hang<D: Copy>(tree: &mut Links<D>, place: Place, child: Option<NodeId>)
+    requires { IfSome place (λ at. IsLive tree.old.nodes at.0) }
+    ensures live { tree.new.nodes.live ≡ hung tree.old.nodes.live place child }
+    ensures root { tree.new.root ≡ root_hung tree.old.root place child }
+    ensures spare { tree.new.nodes.spare ≡ tree.old.nodes.spare }
+{
+    match place {
+        None => tree.root = child,
+        Some(at) => {
+            let slot = read(&tree.nodes, at.0).with_child(at.1, child);
+            write(&mut tree.nodes, at.0, slot);
+        }
+    }
+}
+
+/// Writes a node's colour and data.
+pub(crate) fn rewrite<D: Copy>(tree: &mut Links<D>, id: NodeId, red: bool, datum: D)
+    requires { Stands tree.old.nodes.live tree.old.root id }
+    ensures made { AtSpot tree.old.nodes.live tree.old.root id (λ s. Made tree.new.nodes.live tree.new.root (plug s.hole (fork red id datum s.left s.right))) }
+    ensures spare { tree.new.nodes.spare ≡ tree.old.nodes.spare }
+    ensures as_many { map.len tree.new.nodes.live ≡ map.len tree.old.nodes.live }
+{
+    let mut slot = read(&tree.nodes, id);
+    slot.red = red;
+    slot.data = datum;
+    write(&mut tree.nodes, id, slot);
+}
+
+/// Turns a node: its child on that side comes to stand above it. Each keeps the colour of its place.
+pub(crate) fn turn<D: Copy>(tree: &mut Links<D>, id: NodeId, side: Side, low: D, high: D)
+    requires { (s : Spot D) × Made tree.old.nodes.live tree.old.root (plug s.hole (here s id)) × IsSome (root_of (below side s)) }
+    ensures made { AtSpot tree.old.nodes.live tree.old.root id (λ s. Made tree.new.nodes.live tree.new.root (plug s.hole (turned side low high (here s id)))) }
+    ensures spare { tree.new.nodes.spare ≡ tree.old.nodes.spare }
+    ensures as_many { map.len tree.new.nodes.live ≡ map.len tree.old.nodes.live }
+{
+    let at = place(tree, id);
+    let upper = read(&tree.nodes, id);
+    let Some(child) = upper.child(side) else {
+        return;
+    };
+    let lower = read(&tree.nodes, child);
+    adopt(&mut tree.nodes, lower.child(side.other()), Some(id));
+    hang(tree, at, Some(child));
+    let (mid, far) = (lower.child(side.other()), upper.child(side.other()));
+    let down = Slot::sided(side, Some(child), mid, far, lower.red, low);
+    write(&mut tree.nodes, id, down);
+    let out = lower.child(side);
+    let up = Slot::sided(side, upper.parent, out, Some(id), upper.red, high);
+    write(&mut tree.nodes, child, up);
+}
+
+/// Puts another node in a node's place, with its links and its colour.
+pub(crate) fn replace<D: Copy>(tree: &mut Links<D>, id: NodeId, heir: NodeId, datum: D)
+    requires stands { Stands tree.old.nodes.live tree.old.root id }
+    requires heir { IsLive tree.old.nodes heir }
+    ensures made { AtSpot tree.old.nodes.live tree.old.root id (λ s. count heir (plug s.hole (here s id)) ≡ 0 → Made tree.new.nodes.live tree.new.root (plug s.hole (fork s.red heir datum s.left s.right))) }
+    ensures left { IsLive tree.new.nodes id }
+    ensures spare { tree.new.nodes.spare ≡ tree.old.nodes.spare }
+    ensures as_many { map.len tree.new.nodes.live ≡ map.len tree.old.nodes.live }
+{
+    let at = place(tree, id);
+    let old = read(&tree.nodes, id);
+    adopt(&mut tree.nodes, old.left, Some(heir));
+    adopt(&mut tree.nodes, old.right, Some(heir));
+    hang(tree, at, Some(heir));
+    let slot = Slot::sided(Side::Left, old.parent, old.left, old.right, old.red, datum);
+    write(&mut tree.nodes, heir, slot);
+}

@@ -1,0 +1,136 @@
+//! After an insertion: the new node is red, and its parent may be red too.
+ghost use Rattle.std.specs.Prelude.{◌≡◌, ℕ, ◌-◌, List};
+ghost use Rattle.std.specs.FinMap as map;
+ghost use Rattle.rb_rules.specs.Tree.{fork, plug};
+ghost use Rattle.rb_rules.specs.Memory.{Made, AtSpot, Stands};
+ghost use Rattle.rb_rules.specs.Woven.{Valued};
+ghost use Rattle.rb_arena.specs.Rising.{Mended, Rising, Risen};
+ghost use Rattle.rb_arena.specs.Mending.{case_of, bent, HasChild, red_child_in};
+
+use crate::climb::LONGEST;
+use crate::links::{Links, place, read, rewrite};
+use crate::sums::turn_node;
+use raw_arena::{Arena, NodeId};
+use rb_rules::{Data, Side, Slot, Weave};
+
+/// How a red node stands to the nodes above it.
+#[derive(Clone, Copy)]
+pub enum Case {
+    /// It may be red: there is no parent, or a black one.
+    Settled,
+    /// Its parent is red and the topmost node.
+    RedRoot(NodeId),
+    /// Its parent and its parent's sibling are red: parent, sibling, grandparent.
+    RedUncle(NodeId, NodeId, NodeId),
+    /// Its parent alone is red, and both are on the same side: grandparent.
+    Outer(NodeId, Side),
+    /// Its parent alone is red, and it is on the other side of it: parent, its side of that, grandparent.
+    Inner(NodeId, Side, NodeId),
+}
+
+/// Writes a node's colour.
+pub(crate) fn paint<D: Copy>(tree: &mut Links<D>, id: NodeId, red: bool)
+    requires { Stands tree.old.nodes.live tree.old.root id }
+    ensures made { AtSpot tree.old.nodes.live tree.old.root id (λ s. Made tree.new.nodes.live tree.new.root (plug s.hole (fork red id s.datum s.left s.right))) }
+    ensures spare { tree.new.nodes.spare ≡ tree.old.nodes.spare }
+    ensures as_many { map.len tree.new.nodes.live ≡ map.len tree.old.nodes.live }
+{
+    let datum = read(&tree.nodes, id).data;
+    rewrite(tree, id, red, datum);
+}
+
+/// The child on that side, if it is red.
+pub(crate) fn red_child<D: Copy>(nodes: &Arena<Slot<D>>, id: NodeId, side: Side) -> Option<NodeId>
+    requires { HasChild nodes.now.live id side }
+    ensures { result ≡ red_child_in nodes.now.live id side }
+{
+    let child = read(nodes, id).child(side)?;
+    if read(nodes, child).red {
+        Some(child)
+    } else {
+        None
+    }
+}
+
+/// The case of a red node with a red parent and no red uncle.
+fn bend(side: Side, parent_side: Side, parent: NodeId, grand: NodeId) -> Case
+    ensures { result ≡ bent side parent_side parent grand }
+{
+    match side {
+        Side::Left => match parent_side {
+            Side::Left => Case::Outer(grand, side),
+            Side::Right => Case::Inner(parent, side, grand),
+        },
+        Side::Right => match parent_side {
+            Side::Left => Case::Inner(parent, side, grand),
+            Side::Right => Case::Outer(grand, side),
+        },
+    }
+}
+
+/// How a node that is red stands to the nodes above it.
+fn find_case<D: Copy>(tree: &Links<D>, id: NodeId) -> Case
+    requires { Stands tree.now.nodes.live tree.now.root id }
+    ensures { AtSpot tree.now.nodes.live tree.now.root id (λ s. result ≡ case_of s.hole) }
+{
+    let Some(at) = place(tree, id) else {
+        return Case::Settled;
+    };
+    if !read(&tree.nodes, at.0).red {
+        return Case::Settled;
+    }
+    let Some(above) = place(tree, at.0) else {
+        return Case::RedRoot(at.0);
+    };
+    match red_child(&tree.nodes, above.0, above.1.other()) {
+        Some(uncle) => Case::RedUncle(at.0, uncle, above.0),
+        None => bend(at.1, above.1, at.0, above.0),
+    }
+}
+
+/// Mends one step: `None` where nothing is left to mend, and else the node that is red now.
+fn step<W: Weave>(tree: &mut Links<Data<W::Item, W::Sum, W::By>>, id: NodeId) -> Option<NodeId>
+    requires { (es : List (ℕ × W.Item)) × ((n : ℕ) × Rising W.weaving W.is_near tree.old.nodes.live tree.old.root es id n × Valued W.weaving W.is_item W.is_value es) }
+    ensures risen { (es : List (ℕ × W.Item)) (n : ℕ) → Rising W.weaving W.is_near tree.old.nodes.live tree.old.root es id n → Valued W.weaving W.is_item W.is_value es → Risen W.weaving W.is_near tree.new.nodes.live tree.new.root es result (n - 1) }
+    ensures spare { tree.new.nodes.spare ≡ tree.old.nodes.spare }
+    ensures as_many { map.len tree.new.nodes.live ≡ map.len tree.old.nodes.live }
+{
+    match find_case(tree, id) {
+        Case::Settled => None,
+        Case::RedRoot(parent) => {
+            paint(tree, parent, false);
+            None
+        }
+        Case::RedUncle(parent, uncle, grand) => {
+            paint(tree, parent, false);
+            paint(tree, uncle, false);
+            paint(tree, grand, true);
+            Some(grand)
+        }
+        Case::Outer(grand, side) => {
+            turn_node::<W>(tree, grand, side);
+            None
+        }
+        Case::Inner(parent, side, grand) => {
+            turn_node::<W>(tree, parent, side);
+            turn_node::<W>(tree, grand, side.other());
+            None
+        }
+    }
+}
+
+/// Makes the tree red-black again after a red leaf has come.
+pub(crate) fn mend<W: Weave>(tree: &mut Links<Data<W::Item, W::Sum, W::By>>, id: NodeId)
+    requires { (es : List (ℕ × W.Item)) × Rising W.weaving W.is_near tree.old.nodes.live tree.old.root es id 128 × Valued W.weaving W.is_item W.is_value es }
+    ensures mended { (es : List (ℕ × W.Item)) → Rising W.weaving W.is_near tree.old.nodes.live tree.old.root es id 128 → Valued W.weaving W.is_item W.is_value es → Mended W.weaving W.is_near tree.new.nodes.live tree.new.root es }
+    ensures spare { tree.new.nodes.spare ≡ tree.old.nodes.spare }
+    ensures as_many { map.len tree.new.nodes.live ≡ map.len tree.old.nodes.live }
+{
+    let mut at = Some(id);
+    for _turn in 0..LONGEST {
+        let Some(red) = at else {
+            return;
+        };
+        at = step::<W>(tree, red);
+    }
+}

@@ -1,0 +1,128 @@
+//! A node's data: its sums, and what a turn makes of them.
+ghost use Rattle.std.specs.Prelude.{◌≡◌, IfSome};
+ghost use Rattle.std.specs.FinMap as map;
+ghost use Rattle.raw_arena.specs.Arena.{IsLive};
+ghost use Rattle.rb_rules.specs.Memory.{Made, AtSpot, Stands};
+ghost use Rattle.rb_rules.specs.Tree.{fork, plug};
+ghost use Rattle.rb_arena.specs.Value.{with_item};
+ghost use Rattle.rb_rules.specs.Weaving as weaving;
+ghost use Rattle.rb_rules.specs.Woven.{whole_in};
+ghost use Rattle.rb_rules.specs.Sound.{CanTurnAt, TurnedAt};
+
+use crate::links::{Links, read, rewrite, turn};
+use raw_arena::{Arena, NodeId};
+use rb_rules::{Data, Side, Slot, Weave};
+
+/// The sum that the topmost node of a subtree keeps.
+pub(crate) fn whole<W: Weave>(
+    nodes: &Arena<Slot<Data<W::Item, W::Sum, W::By>>>,
+    id: Option<NodeId>,
+) -> W::Sum
+    requires { IfSome id (λ i. IsLive nodes.now i) }
+    ensures { result ≡ whole_in W.weaving nodes.now.live id }
+{
+    match id {
+        None => W::none(),
+        Some(id) => read(nodes, id).data.whole,
+    }
+}
+
+/// The data of a node over subtrees with the sums `left` and `right`.
+pub(crate) fn summed<W: Weave>(
+    item: W::Item,
+    delta: W::By,
+    left: W::Sum,
+    right: W::Sum,
+) -> Data<W::Item, W::Sum, W::By>
+    requires { weaving.CanSumUp W.weaving W.is_near W.is_item W.is_sum W.is_value item delta left right }
+    ensures { result ≡ weaving.summed W.weaving item delta left right }
+{
+    let right = W::shift_sum(delta, right);
+    let tail = W::join(W::one(item), right);
+    Data {
+        item,
+        delta,
+        before: left,
+        whole: W::join(left, tail),
+    }
+}
+
+/// A node's data, and its child's, after a turn to that side's other.
+fn turned_data<W: Weave>(
+    side: Side,
+    upper: &Data<W::Item, W::Sum, W::By>,
+    lower: &Data<W::Item, W::Sum, W::By>,
+    mid: W::Sum,
+    far: W::Sum,
+) -> (Data<W::Item, W::Sum, W::By>, Data<W::Item, W::Sum, W::By>)
+    requires { weaving.CanTurn W.weaving W.is_near W.is_item W.is_sum W.is_value side upper.now lower.now mid far }
+    ensures low { result.0 ≡ weaving.lowered W.weaving side upper.now lower.now mid far }
+    ensures high { result.1 ≡ weaving.raised W.weaving side upper.now lower.now mid far }
+{
+    match side {
+        Side::Left => {
+            let item = W::shift(W::minus(W::still(), lower.delta), upper.item);
+            let low = summed::<W>(item, W::minus(upper.delta, lower.delta), mid, far);
+            let high = Data {
+                item: lower.item,
+                delta: lower.delta,
+                before: lower.before,
+                whole: upper.whole,
+            };
+            (low, high)
+        }
+        Side::Right => {
+            let low = summed::<W>(upper.item, upper.delta, far, mid);
+            let high = Data {
+                item: W::shift(upper.delta, lower.item),
+                delta: W::plus(upper.delta, lower.delta),
+                before: low.whole,
+                whole: upper.whole,
+            };
+            (low, high)
+        }
+    }
+}
+
+/// Turns a node, and keeps the sums right.
+pub(crate) fn turn_node<W: Weave>(
+    tree: &mut Links<Data<W::Item, W::Sum, W::By>>,
+    id: NodeId,
+    side: Side,
+)
+    requires { CanTurnAt W.weaving W.is_near W.is_item W.is_value tree.old.nodes.live tree.old.root id side }
+    ensures turned { AtSpot tree.old.nodes.live tree.old.root id (λ s. TurnedAt W.weaving W.is_near tree.new.nodes.live tree.new.root id side s) }
+    ensures spare { tree.new.nodes.spare ≡ tree.old.nodes.spare }
+    ensures as_many { map.len tree.new.nodes.live ≡ map.len tree.old.nodes.live }
+{
+    let upper = read(&tree.nodes, id);
+    let Some(child) = upper.child(side) else {
+        return;
+    };
+    let lower = read(&tree.nodes, child);
+    let mid = whole::<W>(&tree.nodes, lower.child(side.other()));
+    let far = whole::<W>(&tree.nodes, upper.child(side.other()));
+    let (low, high) = turned_data::<W>(side, &upper.data, &lower.data, mid, far);
+    turn(tree, id, side, low, high);
+}
+
+/// Writes a node's item, and nothing else.
+pub(crate) fn replace_item<W: Weave>(
+    tree: &mut Links<Data<W::Item, W::Sum, W::By>>,
+    id: NodeId,
+    item: W::Item,
+)
+    requires { Stands tree.old.nodes.live tree.old.root id }
+    ensures made { AtSpot tree.old.nodes.live tree.old.root id (λ s. Made tree.new.nodes.live tree.new.root (plug s.hole (fork s.red id (with_item s.datum item) s.left s.right))) }
+    ensures spare { tree.new.nodes.spare ≡ tree.old.nodes.spare }
+    ensures as_many { map.len tree.new.nodes.live ≡ map.len tree.old.nodes.live }
+{
+    let slot = read(&tree.nodes, id);
+    let datum = Data {
+        item,
+        delta: slot.data.delta,
+        before: slot.data.before,
+        whole: slot.data.whole,
+    };
+    rewrite(tree, id, slot.red, datum);
+}

@@ -1,0 +1,239 @@
+//! The tree as its users see it.
+ghost use Rattle.std.specs.Prelude.{◌≡◌, ℕ, List, None, length, ◌-◌, ◌^◌, ◌+◌, ◌<◌, ◌≤◌, [], ◌∷◌, ◌++◌, OnOk};
+ghost use Rattle.rb_rules.specs.Tree.{Tree, Hole, plug, depth};
+ghost use Rattle.rb_rules.specs.Memory.{Made, Spot, here, AtSpot, place_of};
+ghost use Rattle.rb_rules.specs.Woven.{sum_of};
+ghost use Rattle.rb_arena.specs.Value.{listed, first_hole, first_or, last_hole, last_or, up_next, up_prev, IsItem, SplitsAt, SumsTo, SumsWith};
+ghost use Rattle.rb_arena.specs.Placing.{StartsAt};
+ghost use Rattle.rb_arena.specs.Searching.{Found};
+
+use crate::climb::{LONGEST, renew_up};
+use crate::descend::descend;
+use crate::insert::{insert_at, parent_at, path_shift};
+use crate::leave::leave;
+use crate::links::{Links, Place, place, read};
+use crate::sums::replace_item;
+use raw_arena::{Arena, NodeId};
+use rb_rules::{Data, Side, Weave};
+use std::alloc::{AllocError, Global};
+use std::marker::Model;
+use std::sync::ledger::Ledger;
+use steps::Steps;
+
+/// A list of items in a red-black tree that keeps sums of them.
+///
+/// A contract sees the items in order, each under its name, and for how many more there is room.
+#[derive(Drop)]
+pub struct RbTree<W: Weave> {
+    links: Links<Data<W::Item, W::Sum, W::By>>,
+}
+
+impl<W: Weave> Model for RbTree<W> {
+    ghost use Rattle.rb_arena.specs.Value.{Listed, listed, listed_code, items_in, Keeps};
+
+    ghost Value = { Listed W.Item };
+
+    ghost coded = { listed_code W.Item.code };
+
+    ghost view = { λ t. listed (items_in W.weaving W.is_near W.is_item W.is_value t.links.nodes.live t.links.root) t.links.nodes.spare };
+
+    ghost invariant = { λ t. Keeps W.weaving W.is_near W.is_item W.is_value t.links.nodes.live t.links.root };
+}
+
+/// The first place of a subtree that hangs at a place.
+pub(crate) fn first_place<D: Copy>(tree: &Links<D>, from: Place, below: Option<NodeId>) -> Place
+    requires { (t : Tree D) × ((k : Hole D) × StartsAt tree.now.nodes.live tree.now.root from below t k) }
+    ensures { (t : Tree D) (k : Hole D) → StartsAt tree.now.nodes.live tree.now.root from below t k → result ≡ place_of (first_hole k t) }
+{
+    let mut at = from;
+    let mut next = below;
+    for _turn in 0..LONGEST {
+        let Some(id) = next else {
+            return at;
+        };
+        at = Some((id, Side::Left));
+        next = read(&tree.nodes, id).left;
+    }
+    at
+}
+
+/// The nearest node above that one that stands after it.
+fn next_above<D: Copy>(tree: &Links<D>, id: NodeId) -> Option<NodeId>
+    requires { (s : Spot D) × Made tree.now.nodes.live tree.now.root (plug s.hole (here s id)) × (depth s.hole ≤ 128) }
+    ensures { AtSpot tree.now.nodes.live tree.now.root id (λ s. depth s.hole ≤ 128 → result ≡ up_next s.hole) }
+{
+    let mut at = place(tree, id);
+    for _turn in 0..LONGEST {
+        let Some(above) = at else {
+            return None;
+        };
+        match above.1 {
+            Side::Left => return Some(above.0),
+            Side::Right => at = place(tree, above.0),
+        }
+    }
+    None
+}
+
+/// The last place of a subtree that hangs at a place.
+fn last_place<D: Copy>(tree: &Links<D>, from: Place, below: Option<NodeId>) -> Place
+    requires { (t : Tree D) × ((k : Hole D) × StartsAt tree.now.nodes.live tree.now.root from below t k) }
+    ensures { (t : Tree D) (k : Hole D) → StartsAt tree.now.nodes.live tree.now.root from below t k → result ≡ place_of (last_hole k t) }
+{
+    let mut at = from;
+    let mut next = below;
+    for _turn in 0..LONGEST {
+        let Some(id) = next else {
+            return at;
+        };
+        at = Some((id, Side::Right));
+        next = read(&tree.nodes, id).right;
+    }
+    at
+}
+
+/// The nearest node above that one that stands before it.
+fn prev_above<D: Copy>(tree: &Links<D>, id: NodeId) -> Option<NodeId>
+    requires { (s : Spot D) × Made tree.now.nodes.live tree.now.root (plug s.hole (here s id)) × (depth s.hole ≤ 128) }
+    ensures { AtSpot tree.now.nodes.live tree.now.root id (λ s. depth s.hole ≤ 128 → result ≡ up_prev s.hole) }
+{
+    let mut at = place(tree, id);
+    for _turn in 0..LONGEST {
+        let Some(above) = at else {
+            return None;
+        };
+        match above.1 {
+            Side::Right => return Some(above.0),
+            Side::Left => at = place(tree, above.0),
+        }
+    }
+    None
+}
+
+impl<W: Weave> RbTree<W> {
+    /// A tree with no item.
+    pub fn new(alloc: Global) -> RbTree<W>
+        requires { W.is_value W.weaving.none }
+        ensures { result ≡ listed [] 0 }
+    {
+        RbTree {
+            links: Links {
+                nodes: Arena::new(alloc),
+                root: None,
+            },
+        }
+    }
+
+    /// Makes room for `count` more items. It fails where memory is short.
+    pub fn reserve(&mut self, count: u64) -> Result<(), AllocError>
+        ensures items { self.new.items ≡ self.old.items }
+        ensures room { OnOk result (count ≤ self.new.spare) }
+        ensures kept { self.old.spare ≤ self.new.spare }
+    {
+        self.links.nodes.reserve(count)
+    }
+
+    /// The first item's name.
+    pub fn first(&self) -> Option<NodeId>
+        ensures { result ≡ first_or None self.now.items }
+    {
+        parent_at(&first_place(&self.links, None, self.links.root))
+    }
+
+    /// The name of the item after that one.
+    pub fn next(&self, id: NodeId) -> Option<NodeId>
+        requires { IsItem self.now.items id }
+        ensures { (us : List (ℕ × W.Item)) (x : W.Item) (vs : List (ℕ × W.Item)) → SplitsAt self.now.items id us x vs → result ≡ first_or None vs }
+    {
+        let right = read(&self.links.nodes, id).right;
+        if right.is_none() {
+            return next_above(&self.links, id);
+        }
+        parent_at(&first_place(&self.links, Some((id, Side::Right)), right))
+    }
+
+    /// The name of the item before that one.
+    pub fn prev(&self, id: NodeId) -> Option<NodeId>
+        requires { IsItem self.now.items id }
+        ensures { (us : List (ℕ × W.Item)) (x : W.Item) (vs : List (ℕ × W.Item)) → SplitsAt self.now.items id us x vs → result ≡ last_or None us }
+    {
+        let left = read(&self.links.nodes, id).left;
+        if left.is_none() {
+            return prev_above(&self.links, id);
+        }
+        parent_at(&last_place(&self.links, Some((id, Side::Left)), left))
+    }
+
+    /// Searches for a key: an item at which the search ends, with its name and the sum of the items before it. The search ends
+    /// where `turn` says stop, or between two items that point at each other. Each node that is visited counts as a step.
+    pub fn descend<L: Ledger>(
+        &self,
+        key: W::Key,
+        steps: &mut Steps<L>,
+    ) -> Option<(NodeId, W::Item, W::Sum)>
+        ensures found { Found W.weaving W.turn key self.now.items result }
+        ensures cost { 2 ^ (steps.new - steps.old) ≤ (length self.now.items + 1) ^ 2 }
+    {
+        descend::<W, L>(&self.links, key, steps)
+    }
+
+    /// The item of that name.
+    pub fn get(&self, id: NodeId) -> W::Item
+        requires { IsItem self.now.items id }
+        ensures { (us : List (ℕ × W.Item)) (x : W.Item) (vs : List (ℕ × W.Item)) → SplitsAt self.now.items id us x vs → result ≡ x }
+    {
+        let at = place(&self.links, id);
+        let by = path_shift::<W>(&self.links, at);
+        W::shift(by, read(&self.links.nodes, id).data.item)
+    }
+
+    /// Puts another item in the place of that one, under its name.
+    pub fn set(&mut self, id: NodeId, item: W::Item)
+        requires named { IsItem self.old.items id }
+        requires value { W.is_item item }
+        requires sum { SumsWith W.weaving W.is_value self.old.items id item }
+        ensures items { (us : List (ℕ × W.Item)) (x : W.Item) (vs : List (ℕ × W.Item)) → SplitsAt self.old.items id us x vs → self.new.items ≡ us ++ (id, item) ∷ vs }
+        ensures spare { self.new.spare ≡ self.old.spare }
+    {
+        let at = place(&self.links, id);
+        let by = path_shift::<W>(&self.links, at);
+        let own = W::shift(W::minus(W::still(), by), item);
+        replace_item::<W>(&mut self.links, id, own);
+        renew_up::<W>(&mut self.links, Some(id));
+    }
+
+    /// Puts an item right after that one.
+    pub fn insert_after(&mut self, id: NodeId, item: W::Item) -> NodeId
+        requires room { 0 < self.old.spare }
+        requires named { IsItem self.old.items id }
+        requires value { W.is_item item }
+        requires sum { SumsTo W.weaving W.is_value self.old.items id item }
+        ensures items { (us : List (ℕ × W.Item)) (x : W.Item) (vs : List (ℕ × W.Item)) → SplitsAt self.old.items id us x vs → self.new.items ≡ us ++ (id, x) ∷ (result, item) ∷ vs }
+        ensures spare { self.new.spare + 1 ≡ self.old.spare }
+    {
+        let right = read(&self.links.nodes, id).right;
+        let at = first_place(&self.links, Some((id, Side::Right)), right);
+        insert_at::<W>(&mut self.links, at, item)
+    }
+
+    /// Puts an item before all others.
+    pub fn insert_first(&mut self, item: W::Item) -> NodeId
+        requires room { 0 < self.old.spare }
+        requires value { W.is_item item }
+        requires sum { W.is_value (sum_of W.weaving ((0, item) ∷ self.old.items)) }
+        ensures items { self.new.items ≡ (result, item) ∷ self.old.items }
+        ensures spare { self.new.spare + 1 ≡ self.old.spare }
+    {
+        let at = first_place(&self.links, None, self.links.root);
+        insert_at::<W>(&mut self.links, at, item)
+    }
+
+    /// Takes the item of that name out. Its name is free again.
+    pub fn remove(&mut self, id: NodeId)
+        requires { IsItem self.old.items id }
+        ensures items { (us : List (ℕ × W.Item)) (x : W.Item) (vs : List (ℕ × W.Item)) → SplitsAt self.old.items id us x vs → self.new.items ≡ us ++ vs }
+        ensures spare { self.new.spare ≡ self.old.spare + 1 }
+    {
+        leave::<W>(&mut self.links, id);
+    }
+}

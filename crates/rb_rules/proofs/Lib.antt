@@ -1,0 +1,16 @@
+pub mod Attaching
+pub mod Balance
+pub mod Climbs
+pub mod Colouring
+pub mod Detaching
+pub mod Held
+pub mod Holes
+pub mod Knots
+pub mod Live
+pub mod Memories
+pub mod Shapes
+pub mod Spots
+pub mod Turning
+pub mod Unshaping
+pub mod Ups
+pub mod Weaves

@@ -1,0 +1,113 @@
+//! A node of a tree.
+ghost use Rattle.std.specs.Prelude.{◌≡◌};
+
+use raw_arena::NodeId;
+
+/// One of the two sides of a node.
+#[derive(Clone, Copy, PartialEq, Eq, Debug)]
+pub enum Side {
+    Left,
+    Right,
+}
+
+/// What a node keeps: its item, a shift for its right subtree, and the sums of its left subtree and of its whole subtree.
+/// All are relative to the shifts on the path to the node.
+#[derive(Clone, Copy)]
+pub struct Data<X, S, B> {
+    pub item: X,
+    pub delta: B,
+    pub before: S,
+    pub whole: S,
+}
+
+/// A node: its links, its colour and its data.
+#[derive(Clone, Copy)]
+pub struct Slot<D> {
+    pub parent: Option<NodeId>,
+    pub left: Option<NodeId>,
+    pub right: Option<NodeId>,
+    pub red: bool,
+    pub data: D,
+}
+
+impl Side {
+    ghost use Rattle.rb_rules.specs.Tree.{other};
+
+    pub fn other(self) -> Side
+        ensures { result ≡ other self }
+    {
+        match self {
+            Side::Left => Side::Right,
+            Side::Right => Side::Left,
+        }
+    }
+}
+
+impl<D: Copy> Slot<D> {
+    ghost use Rattle.rb_rules.specs.Memory.{child, with_child, sided, side_by_name};
+
+    /// The node on that side.
+    pub fn child(&self, side: Side) -> Option<NodeId>
+        ensures { result ≡ child side self.now }
+    {
+        match side {
+            Side::Left => self.left,
+            Side::Right => self.right,
+        }
+    }
+
+    /// The side of the child of that name.
+    pub fn side_of(&self, id: NodeId) -> Side
+        ensures { result ≡ side_by_name self.now id }
+    {
+        match self.left {
+            Some(left) if left.is(id) => Side::Left,
+            _ => Side::Right,
+        }
+    }
+
+    /// The same with another node on that side.
+    pub fn with_child(&self, side: Side, child: Option<NodeId>) -> Slot<D>
+        ensures { result ≡ with_child side child self.now }
+    {
+        match side {
+            Side::Left => Slot {
+                left: child,
+                ..*self
+            },
+            Side::Right => Slot {
+                right: child,
+                ..*self
+            },
+        }
+    }
+
+    /// A node with `near` on that side and `far` on the other.
+    pub fn sided(
+        side: Side,
+        parent: Option<NodeId>,
+        near: Option<NodeId>,
+        far: Option<NodeId>,
+        red: bool,
+        datum: D,
+    ) -> Slot<D>
+        ensures { result ≡ sided side parent near far red datum }
+    {
+        match side {
+            Side::Left => Slot {
+                parent,
+                left: near,
+                right: far,
+                red,
+                data: datum,
+            },
+            Side::Right => Slot {
+                parent,
+                left: far,
+                right: near,
+                red,
+                data: datum,
+            },
+        }
+    }
+}

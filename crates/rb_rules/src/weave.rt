@@ -1,0 +1,91 @@
+//! What the nodes of a tree keep.
+ghost use Rattle.std.specs.Prelude.{◌≡◌};
+ghost use Rattle.rb_rules.specs.Weaving.{Weaving, Lawful, HeldItem, HeldSum, HeldBy, Sums};
+
+/// Where a search goes from a node.
+#[derive(Clone, Copy, PartialEq, Eq, Debug)]
+pub enum Turn {
+    Stop,
+    Left,
+    Right,
+}
+
+/// What a tree keeps of its items: a sum of each subtree, and shifts that move all items of a subtree at once.
+///
+/// The ghost members are the meaning, on numbers without bounds; each function computes one of them, where what it
+/// computes is the relative form of a value.
+pub trait Weave {
+    /// An item of the list.
+    type Item: Copy;
+
+    /// What is known of some items in order.
+    type Sum: Copy;
+
+    /// An amount by which items move.
+    type By: Copy;
+
+    /// What a search looks for.
+    type Key: Copy;
+
+    ghost weaving: { Weaving Self.Item Self.Sum Self.By };
+
+    /// Which items are values.
+    ghost is_item: { Self.Item → Type 0 };
+
+    /// Which sums are values. The parts of a value are values.
+    ghost is_value: { Self.Sum → Type 0 };
+
+    /// What every sum of items that are values meets.
+    ghost is_sum: { Self.Sum → Type 0 };
+
+    /// Which shifts a path may have.
+    ghost is_near: { Self.By → Type 0 };
+
+    /// Where a search for a key goes, by the sum of the items before an item and by that item.
+    ghost use Rattle.rb_rules.specs.declared.weave.Turn.{Turn};
+
+    ghost turn: { Self.Key → Self.Sum → Self.Item → Turn };
+
+    fn none() -> Self::Sum
+        ensures { result ≡ weaving.none };
+
+    fn one(item: Self::Item) -> Self::Sum
+        ensures { result ≡ weaving.one item };
+
+    fn join(first: Self::Sum, second: Self::Sum) -> Self::Sum
+        requires { HeldSum weaving is_near is_sum is_value (weaving.join first second) }
+        ensures { result ≡ weaving.join first second };
+
+    fn still() -> Self::By
+        ensures { result ≡ weaving.still };
+
+    fn plus(first: Self::By, second: Self::By) -> Self::By
+        requires { HeldBy weaving is_near (weaving.plus first second) }
+        ensures { result ≡ weaving.plus first second };
+
+    fn minus(whole: Self::By, part: Self::By) -> Self::By
+        requires { HeldBy weaving is_near (weaving.minus whole part) }
+        ensures { result ≡ weaving.minus whole part };
+
+    fn shift(by: Self::By, item: Self::Item) -> Self::Item
+        requires { HeldItem weaving is_near is_item (weaving.shift by item) }
+        ensures { result ≡ weaving.shift by item };
+
+    fn shift_sum(by: Self::By, sum: Self::Sum) -> Self::Sum
+        requires { HeldSum weaving is_near is_sum is_value (weaving.shift_sum by sum) }
+        ensures { result ≡ weaving.shift_sum by sum };
+
+    fn turn_at(key: Self::Key, before: Self::Sum, item: Self::Item) -> Turn
+        ensures { result ≡ turn key before item };
+
+    ghost laws: { Lawful weaving };
+
+    ghost sums: { Sums weaving is_item is_sum };
+
+    ghost starts_near: { is_near weaving.still };
+
+    ghost parts: { (a b : Self.Sum) → is_value (weaving.join a b) → is_value a × is_value b };
+
+    /// What is left of a value without a part in its middle is a value.
+    ghost thins: { (a b c : Self.Sum) → is_value (weaving.join a (weaving.join b c)) → is_value (weaving.join a c) };
+}
