@@ -4,7 +4,6 @@ use Rattle.std.specs.List.{All}
 use Rattle.std.specs.Option.{option_map}
 use Rattle.batch_rules.specs.Batches.{most_units}
 use Rattle.bracket_rules.specs.declared.Entry.{Entry}
-use Rattle.document_rules.specs.declared.ModelError.{ModelError}
 use Rattle.document_rules.specs.declared.ModelError.TheVariants.{Range}
 use Rattle.document_rules.specs.Document.{FlatState}
 use Rattle.document_rules.proofs.Places.{entries_small, partner_small}
@@ -40,9 +39,9 @@ pub kept_table : (o : Option Tree) (table : Table) (x : List ℕ) → is_some o 
 kept_table None table x some kept = absurd cc
 kept_table (Some tree) table x some kept = kept.0
 
-answered : (refused : Bool) (these entries : List Entry) → cond refused (Err Range) (Ok these) ≡ Ok entries → these ≡ entries
-answered true these entries is = absurd cc
-answered false these entries is = cc
+pub answered : {A : Type 0} (refused : Bool) (these all : A) → cond refused (Err Range) (Ok these) ≡ Ok all → these ≡ all
+answered true these all is = absurd cc
+answered false these all is = cc
 
 pub flat_small : (f : FlatState) (from to : ℕ) (entries : List Entry) → is_table f.table ≡ true → length f.units ≤ most_units → flat_brackets f from to ≡ Ok entries
     → All (λ (e : Entry). IsSmall e.place) entries

@@ -4,5 +4,6 @@ pub mod Turns
 pub mod Editing
 pub mod Stepping
 pub mod Carries
+pub mod Inside
 pub mod Kept
 pub mod Scans

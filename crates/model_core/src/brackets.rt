@@ -15,7 +15,7 @@ use bracket_scan::BracketTable;
 use std::alloc::{AllocError, Global};
 use text_buffer::TextBuffer;
 
-/// Parses the text, where no tree of it is kept. After an error no tree is kept.
+/// Parses the text, where no tree of it is kept. An error comes only there, and leaves it so.
 pub(crate) fn renew(
     alloc: Global,
     tree: &mut Option<Node>,
@@ -27,6 +27,7 @@ pub(crate) fn renew(
     ensures kept { IsKept tree.new table.now text.now.units }
     ensures fresh { OnOk result (is_some tree.new ≡ true) }
     ensures sure { OnErr result (is_some tree.old ≡ false) }
+    ensures none { OnErr result (is_some tree.new ≡ false) }
 {
     if tree.is_none() {
         *tree = Some(parse_text(alloc, table, text)?);

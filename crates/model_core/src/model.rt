@@ -1,8 +1,9 @@
 //! The document and its calls.
 
-ghost use Rattle.std.specs.Prelude.{◌≡◌, [], true, false, List, length, OnOk, Ok, Err};
+ghost use Rattle.std.specs.Prelude.{◌≡◌, [], true, false, List, length, IfSome, OnOk, OnErr, Ok, Err};
 ghost use Rattle.std.specs.List.{All};
 ghost use Rattle.unit_text.specs.Units.{IsPaired};
+ghost use Rattle.decoration_rules.specs.Moves.{IsSpanIn};
 ghost use Rattle.text_rules.specs.Edits.{is_bad_span};
 ghost use Rattle.document_rules.specs.Outcomes.{Changes, ChangesWith, Moves, Appends, Gives};
 ghost use Rattle.bracket_rules.specs.Table.{standard_table};
@@ -10,7 +11,7 @@ ghost use Rattle.document_rules.specs.Brackets.{flat_brackets, flat_match, flat_
 ghost use Rattle.model_core.specs.State.{KeptAfter, KeptAfterMove};
 ghost use Rattle.document_rules.specs.Document.{new_document, flat_open, flat_edit, flat_stop, flat_undo, flat_redo, flat_decorate, flat_deco, flat_decos, flat_line, flat_value, flat_position, flat_offset, flat_line_count, error_of, refusal_of};
 
-use crate::brackets::renew;
+use crate::brackets::{parse_text, renew};
 use crate::change::{Change, Way, apply, make_again, reserve_for, take_back};
 use crate::places::{is_position, place_of, told};
 use bracket_nodes::{Entry, Node};
@@ -201,22 +202,25 @@ impl Model {
             .map_err(refusal_of)
     }
 
-    /// The live decoration of this id.
+    /// The live decoration of this id. Its span lies in the text.
     pub fn get_deco(&self, id: u64) -> Option<Deco>
-        ensures { result ≡ flat_deco self.now.document id }
+        ensures deco { result ≡ flat_deco self.now.document id }
+        ensures inside { IfSome result (λ deco. IsSpanIn deco.span (length self.now.document.units)) }
     {
         self.decorations.get(id)
     }
 
-    /// Appends the decorations that share a unit with the span, or touch it: all of them, or those of one owner. `Range`
-    /// where the span is none of the text; after an error `out` is as it was.
+    /// Appends the decorations that share a unit with the span, or touch it: all of them, or those of one owner. Their
+    /// spans lie in the text. `Range` where the span is none of the text; after an error `out` is as it was.
     pub fn decos_in(
         &self,
         span: Span,
         owner: Option<u64>,
         out: &mut Vec<Deco>,
     ) -> Result<(), ModelError>
-        ensures { Appends result out.old.items out.new.items (flat_decos self.now.document span owner) }
+        ensures decos { Appends result out.old.items out.new.items (flat_decos self.now.document span owner) }
+        ensures inside { (decos : List Deco) → flat_decos self.now.document span owner ≡ Ok decos
+            → All (λ deco. IsSpanIn deco.span (length self.now.document.units)) decos }
     {
         if is_bad_span(&self.text, span) {
             return Err(ModelError::Range);
@@ -234,7 +238,8 @@ impl Model {
     }
 
     /// Appends the brackets of the lines `from` to `to`, both counted from 1 and both included, in the order of the text.
-    /// `Range` where one of the lines is not there, or `from` is above `to`; after an error `out` is as it was.
+    /// `Range` where one of the lines is not there, or `from` is above `to`; after an error `out` is as it was, and so is
+    /// the kept tree.
     pub fn brackets_in(
         &mut self,
         from: u64,
@@ -246,25 +251,35 @@ impl Model {
             → OnOk result (All (λ e. IsSmall e.place) entries) }
         ensures document { self.new.document ≡ self.old.document }
         ensures fresh { OnOk result (self.new.fresh ≡ true) }
+        ensures kept { OnErr result (self.new.fresh ≡ self.old.fresh) }
     {
         if from == 0 || to < from || self.text.line_count() < to {
             return Err(ModelError::Range);
         }
-        renew(self.alloc, &mut self.tree, &self.table, &self.text).map_err(|_| ModelError::Memory)?;
         match &self.tree {
             Some(tree) => tree
                 .entries(from - 1, to - 1, out)
                 .map_err(|_| ModelError::Memory),
-            None => Err(ModelError::Memory),
+            None => {
+                let tree = parse_text(self.alloc, &self.table, &self.text).map_err(
+                    |_| ModelError::Memory,
+                )?;
+                tree.entries(from - 1, to - 1, out)
+                    .map_err(|_| ModelError::Memory)?;
+                self.tree = Some(tree);
+                Ok(())
+            }
         }
     }
 
     /// Where the other bracket of a pair starts, and how many units it has, where one of the two starts at the position;
-    /// None where none does. `Range` where the position is none of the text. It takes no memory where a tree is kept.
+    /// None where none does. `Range` where the position is none of the text. It takes no memory where a tree is kept, and
+    /// an error leaves the kept tree as it was.
     pub fn match_at(&mut self, p: Position) -> Result<Option<(Position, u64)>, ModelError>
         ensures partner { Gives result (flat_match self.old.document p) }
         ensures document { self.new.document ≡ self.old.document }
         ensures fresh { OnOk result (self.new.fresh ≡ true) }
+        ensures kept { OnErr result (self.new.fresh ≡ self.old.fresh) }
         ensures sure { self.old.fresh ≡ true → ¬ (result ≡ Err ModelError.Memory) }
     {
         if !is_position(&self.text, p) {
@@ -278,11 +293,12 @@ impl Model {
     }
 
     /// How many brackets are open after those that start before the position. `Range` where it is none of the text. It
-    /// takes no memory where a tree is kept.
+    /// takes no memory where a tree is kept, and an error leaves the kept tree as it was.
     pub fn level_at(&mut self, p: Position) -> Result<u64, ModelError>
         ensures level { Gives result (flat_level self.old.document p) }
         ensures document { self.new.document ≡ self.old.document }
         ensures fresh { OnOk result (self.new.fresh ≡ true) }
+        ensures kept { OnErr result (self.new.fresh ≡ self.old.fresh) }
         ensures sure { self.old.fresh ≡ true → ¬ (result ≡ Err ModelError.Memory) }
     {
         if !is_position(&self.text, p) {

@@ -6,7 +6,11 @@ mod batches;
 #[cfg(test)]
 mod decorated;
 #[cfg(test)]
+mod draws;
+#[cfg(test)]
 mod faults;
+#[cfg(test)]
+mod first_body;
 #[cfg(test)]
 mod nested;
 #[cfg(test)]

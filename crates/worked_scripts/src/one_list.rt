@@ -1,5 +1,6 @@
 //! The program beside a document that is kept as one list of units, on the same generated scripts.
 
+use crate::draws::Draws;
 use crate::runs::{ALL, expect_run};
 use std::alloc::{AllocError, Global};
 use std::test::Fail;
@@ -15,22 +16,6 @@ const TEXTS: [(&str, &[u8]); 8] = [
     ("(x)\\n[y]", b"(x)\n[y]"),
     ("\\n\\r", b"\n\r"),
 ];
-
-/// Draws numbers, the same for the same seed.
-#[derive(Drop)]
-struct Draws {
-    state: u64,
-}
-
-impl Draws {
-    fn below(&mut self, bound: u64) -> u64 {
-        self.state = self
-            .state
-            .wrapping_mul(6_364_136_223_846_793_005)
-            .wrapping_add(1_442_695_040_888_963_407);
-        (self.state >> 33) % bound.max(1)
-    }
-}
 
 /// A script, and the replies of a document that is one list of bytes, each of which is one unit.
 #[derive(Drop)]
@@ -172,7 +157,7 @@ impl Told {
 #[test]
 fn generated_scripts(rt: HostRuntime) -> Result<(), Fail> {
     for seed in 0..4 {
-        let mut draws = Draws { state: seed };
+        let mut draws = Draws::new(seed);
         let mut told = Told::new(rt.alloc());
         for round in 0..60 {
             told.edit(&mut draws)?;

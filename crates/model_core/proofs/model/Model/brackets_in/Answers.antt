@@ -1,15 +1,31 @@
-use Rattle.std.proofs.Common.{◌≡◌, true, is_some, length, ap, sym, arith}
+use Rattle.std.proofs.Common.{◌≡◌, ℕ, true, List, Ok, ap, sym, is_some, arith}
 use Rattle.std.proofs.lemmas.Grind.{common_steps}
+use Rattle.bracket_rules.specs.declared.Entry.{Entry}
+use Rattle.bracket_rules.specs.Table.{is_table}
+use Rattle.document_rules.specs.Brackets.{flat_brackets, IsSmall}
+use Rattle.std.specs.List.{All}
 use Rattle.model_core.specs.State.{ModelState}
 use Rattle.model_core.proofs.Kept.{kept_table, flat_small, on_ok}
 use Rattle.model_core.proofs.model.Model.brackets_in.Goals as goal
+use Rattle.model_core.proofs.model.Model.brackets_in.Goals.{After-self}
 
-pub returns-clause-small : goal.returns-clause-small
-returns-clause-small c =
-    λ entries rule.
+-- by a table of brackets the places are small
+small : (c : After-self) → is_table c.self.inside.table ≡ true → (from to : ℕ) (entries : List Entry)
+    → flat_brackets c.args.self.now.document from to ≡ Ok entries → All (λ (e : Entry). IsSmall e.place) entries
+small c table from to entries rule =
     let m = c.self.inside in
-    let fresh : is_some c.renew.new.tree ≡ true = grind (arith, common_steps) in
-    let table = kept_table c.renew.new.tree m.table m.text.units fresh c.renew.ensures.kept in
     let tables : c.args.self.now.document.table ≡ m.table = sym (ap (λ (s : ModelState). s.document.table) c.self.view_is) in
     let units : c.args.self.now.document.units ≡ m.text.units = sym (ap (λ (s : ModelState). s.document.units) c.self.view_is) in
-    on_ok c.match-self.result _ (flat_small c.args.self.now.document c.args.from c.args.to entries (rw tables table) (rw units c.self.invariant.0) rule)
+    flat_small c.args.self.now.document from to entries (rw tables table) (rw units c.self.invariant.0) rule
+
+pub returns-in-Some-clause-small : goal.returns-in-Some-clause-small
+returns-in-Some-clause-small c = λ entries rule.
+    let m = c.self.inside in
+    let kept : is_some m.tree ≡ true = ap is_some c.in-Some.is in
+    let table = kept_table m.tree m.table m.text.units kept c.self.invariant.4 in
+    on_ok c.map_err.result _ (small (goal.at.returns-in-Some-clause-small c).After-self table c.args.from c.args.to entries rule)
+
+pub returns-in_ok-map_err-in-None-clause-small : goal.returns-in_ok-map_err-in-None-clause-small
+returns-in_ok-map_err-in-None-clause-small c = λ entries rule.
+    let table : is_table c.self.inside.table ≡ true = grind (arith, common_steps) in
+    small (goal.at.returns-in_ok-map_err-in-None-clause-small c).After-self table c.args.from c.args.to entries rule
