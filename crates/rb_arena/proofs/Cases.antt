@@ -37,7 +37,7 @@ module _ {D : Type 0} where
 
   -- the red sibling of a node's parent, by the links of the grandparent
   pub red_child_is : (m : map.FinMap nat_cmp (Slot D)) (root : Option ℕ) (s : Side) (c : Bool) (g : ℕ) (d : D) (u : Tree D) (k : Hole D) (t : Tree D)
-      → Made m root (plug (on s c g d u k) t) → red_child_in m g (other s) ≡ red_name u
+      → {beside : Tree D} → Made beside m root (plug (on s c g d u k) t) → red_child_in m g (other s) ≡ red_name u
   red_child_is m root s c g d u k t h =
       ap (λ o. elim o [ None ↦ None | Some n ↦ red_in m (child (other s) n) ]) (slot_above m root s c g d u k t h)
       ∙ ap (red_in m) (child-sided s (above k) (root_of t) (root_of u) c d).1 ∙ red_is m (Some g) u (made_beside m root s c g d u k t h)

@@ -68,14 +68,14 @@ module _ {D : Type 0} where
   childless s c p h d (fork b i d2 x y) k e f = none-some i (sym e)
 
 module _ {X S B : Type 0} (w : Weaving X S B) (L : Lawful w) (is_near : B → Type 0) (is_item : X → Type 0) (is_value : S → Type 0) where
-  module _ (m : map.FinMap nat_cmp (Slot (Data X S B))) (root : Option ℕ) (es : List (ℕ × X)) where
+  module _ (beside : Tree (Data X S B)) (m : map.FinMap nat_cmp (Slot (Data X S B))) (root : Option ℕ) (es : List (ℕ × X)) where
     -- nothing is left to do at the top
-    pub at_top : (at : Option (ℕ × Side)) (n : ℕ) → Short w is_near m root es at n → Closing w is_near m root es at n
+    pub at_top : (at : Option (ℕ × Side)) (n : ℕ) → Short w is_near beside m root es at n → Closing w is_near beside m root es at n
     at_top (Some at) n h = h
     at_top None n (top, (t, (h, made, lists, e, rt, f, le))) = (t, made, lists, (h, (false, rt)))
     at_top None n (on s c i d x k, (t, (h, made, lists, e, rt, f, le))) = absurd (none-some (i, s) e)
 
-    pub out_of_steps : (at : Option (ℕ × Side)) → Closing w is_near m root es at 0 → Mended w is_near m root es
+    pub out_of_steps : (at : Option (ℕ × Side)) → Closing w is_near beside m root es at 0 → Mended w is_near beside m root es
     out_of_steps None h = h
     out_of_steps (Some at) (top, (t, (h, made, lists, e, rt, f, le))) = absurd (none-some at (sym e))
     out_of_steps (Some at) (on s true i d x k, (t, (h, made, lists, e, rt, f, le))) = absurd (omega (arith, le))
@@ -89,17 +89,17 @@ module _ {X S B : Type 0} (w : Weaving X S B) (L : Lawful w) (is_near : B → Ty
       pub under : Tree (Data X S B)
       pub hole : Hole (Data X S B)
       pub black : ℕ
-      pub made : Made m root (plug hole (forked s red p datum under (forked (other s) b q brother out mid)))
+      pub made : Made beside m root (plug hole (forked s red p datum under (forked (other s) b q brother out mid)))
       pub lists : Lists w is_near (plug hole (forked s red p datum under (forked (other s) b q brother out mid))) es
       pub even : Rb false black under
       pub fits : Fits false (suc black) (on s red p datum (forked (other s) b q brother out mid) hole)
       pub few : steps_left (on s red p datum (forked (other s) b q brother out mid) hole) ≤ n
 
-    pub gap : (p : ℕ) (s : Side) (q n : ℕ) (sl : Slot (Data X S B)) → map.get m p ≡ Some sl → child (other s) sl ≡ Some q → Short w is_near m root es (Some (p, s)) n
+    pub gap : (p : ℕ) (s : Side) (q n : ℕ) (sl : Slot (Data X S B)) → map.get m p ≡ Some sl → child (other s) sl ≡ Some q → Short w is_near beside m root es (Some (p, s)) n
         → (b : Bool) × ((out : Tree (Data X S B)) × (mid : Tree (Data X S B)) × Gap p s q n b out mid)
     gap p s q n sl found is (k0, (t, (h, made, lists, e, rt, f, le))) =
         let (c, (d, x, k, same)) = hole_on k0 p s (sym e) in
-        let whole = subst (λ l. Made m root (plug l t)) same made in
+        let whole = subst (λ l. Made beside m root (plug l t)) same made in
         let link : root_of x ≡ Some q = sym (child-sided s (above k) (root_of t) (root_of x) c d).1
         ∙ ap (λ o. child (other s) (unwrap_or o sl)) (sym (slot_above m root s c p d x k t whole) ∙ found) ∙ is in
         let (b, (dq, out, mid, same2)) = forks_on (other s) x q link in (
@@ -114,7 +114,7 @@ module _ {X S B : Type 0} (w : Weaving X S B) (L : Lawful w) (is_near : B → Ty
               under = t;
               hole = k;
               black = h;
-              made = subst (λ y. Made m root (plug k (forked s c p d t y))) same2 whole;
+              made = subst (λ y. Made beside m root (plug k (forked s c p d t y))) same2 whole;
               lists = subst (λ y. Lists w is_near (plug k (forked s c p d t y)) es) same2 (subst (λ l. Lists w is_near (plug l t) es) same lists);
               even = rt;
               fits = subst (λ y. Fits false (suc h) (on s c p d y k)) same2 (subst (Fits false (suc h)) same f);
@@ -123,14 +123,14 @@ module _ {X S B : Type 0} (w : Weaving X S B) (L : Lawful w) (is_near : B → Ty
           ),
         )
 
-    pub has_slot : (p : ℕ) (s : Side) (n : ℕ) → Short w is_near m root es (Some (p, s)) n → Live m p
+    pub has_slot : (p : ℕ) (s : Side) (n : ℕ) → Short w is_near beside m root es (Some (p, s)) n → Live m p
     has_slot p s n (k0, (t, (h, made, lists, e, rt, f, le))) =
-        let (c, (d, x, k, same)) = hole_on k0 p s (sym e) in (_, slot_above m root s c p d x k t (subst (λ l. Made m root (plug l t)) same made))
+        let (c, (d, x, k, same)) = hole_on k0 p s (sym e) in (_, slot_above m root s c p d x k t (subst (λ l. Made beside m root (plug l t)) same made))
 
-    pub no_brother : (p : ℕ) (s : Side) (n : ℕ) (sl : Slot (Data X S B)) → map.get m p ≡ Some sl → child (other s) sl ≡ None → Short w is_near m root es (Some (p, s)) n → ⊥
+    pub no_brother : (p : ℕ) (s : Side) (n : ℕ) (sl : Slot (Data X S B)) → map.get m p ≡ Some sl → child (other s) sl ≡ None → Short w is_near beside m root es (Some (p, s)) n → ⊥
     no_brother p s n sl found is (k0, (t, (h, made, lists, e, rt, f, le))) =
         let (c, (d, x, k, same)) = hole_on k0 p s (sym e) in
-        let whole = subst (λ l. Made m root (plug l t)) same made in
+        let whole = subst (λ l. Made beside m root (plug l t)) same made in
         let link : root_of x ≡ None = sym (child-sided s (above k) (root_of t) (root_of x) c d).1
         ∙ ap (λ o. child (other s) (unwrap_or o sl)) (sym (slot_above m root s c p d x k t whole) ∙ found) ∙ is in
         childless s c p h d x k link (subst (Fits false (suc h)) same f)
@@ -140,8 +140,8 @@ module _ {X S B : Type 0} (w : Weaving X S B) (L : Lawful w) (is_near : B → Ty
       Around_it = on (other s) g.red p g.datum g.under g.hole
 
       -- the same tree, by the node's other side, and by the brother's
-      sideways : Made m root (plug g.hole (forked (other s) g.red p g.datum (forked (other s) b q g.brother out mid) g.under))
-      sideways = subst (λ t. Made m root (plug g.hole t)) (sym (forked-other s g.red p g.datum (forked (other s) b q g.brother out mid) g.under)) g.made
+      sideways : Made beside m root (plug g.hole (forked (other s) g.red p g.datum (forked (other s) b q g.brother out mid) g.under))
+      sideways = subst (λ t. Made beside m root (plug g.hole t)) (sym (forked-other s g.red p g.datum (forked (other s) b q g.brother out mid) g.under)) g.made
 
       lists_sideways : Lists w is_near (plug g.hole (forked (other s) g.red p g.datum (forked (other s) b q g.brother out mid) g.under)) es
       lists_sideways = subst (λ t. Lists w is_near (plug g.hole t) es) (sym (forked-other s g.red p g.datum (forked (other s) b q g.brother out mid) g.under)) g.lists
@@ -150,7 +150,7 @@ module _ {X S B : Type 0} (w : Weaving X S B) (L : Lawful w) (is_near : B → Ty
       stands_brother = stands m root Around_it (other s) b q g.brother out mid sideways
 
       pub can_turn_parent : Valued w is_item is_value es → CanTurnAt w is_near is_item is_value m root p (other s)
-      can_turn_parent v = can_turn_at w L is_near is_item is_value m root es g.hole g.red b p q g.datum g.brother out mid g.under (other s) sideways lists_sideways v
+      can_turn_parent v = can_turn_at w L is_near is_item is_value beside m root es g.hole g.red b p q g.datum g.brother out mid g.under (other s) sideways lists_sideways v
 
       -- the colour of the brother, and of its children, as they are read
       pub brother_slot : map.get m q ≡ Some (sided (other s) (Some p) (root_of out) (root_of mid) b g.brother)
@@ -158,7 +158,7 @@ module _ {X S B : Type 0} (w : Weaving X S B) (L : Lawful w) (is_near : B → Ty
 
       pub outer_is : red_child_in m q (other s) ≡ red_name out
       outer_is =
-          red_child_is m root s b q g.brother out Around_it mid (subst (λ t. Made m root (plug Around_it t)) (forked-other s b q g.brother out mid) sideways)
+          red_child_is m root s b q g.brother out Around_it mid (subst (λ t. Made beside m root (plug Around_it t)) (forked-other s b q g.brother out mid) sideways)
 
       pub inner_is : red_child_in m q s ≡ red_name mid
       inner_is = subst (λ side. red_child_in m q side ≡ red_name mid) (other-other s) (red_child_is m root (other s) b q g.brother mid Around_it out sideways)
@@ -168,7 +168,7 @@ module _ {X S B : Type 0} (w : Weaving X S B) (L : Lawful w) (is_near : B → Ty
           let own = child-sided (other s) (Some p) (root_of out) (root_of mid) b g.brother in
           let mids : IfSome (root_of mid) (Live m) = live_beside m root (other s) b q g.brother mid Around_it out sideways in
           let outs : IfSome (root_of out) (Live m) =
-          live_beside m root s b q g.brother out Around_it mid (subst (λ t. Made m root (plug Around_it t)) (forked-other s b q g.brother out mid) sideways) in
+          live_beside m root s b q g.brother out Around_it mid (subst (λ t. Made beside m root (plug Around_it t)) (forked-other s b q g.brother out mid) sideways) in
           let there : child s (sided (other s) (Some p) (root_of out) (root_of mid) b g.brother) ≡ root_of mid =
           ap (λ side. child side (sided (other s) (Some p) (root_of out) (root_of mid) b g.brother)) (sym (other-other s)) ∙ own.1 in (
             (_, brother_slot, subst (λ o. IfSome o (Live m)) (sym own.0) outs),
@@ -179,17 +179,17 @@ module _ {X S B : Type 0} (w : Weaving X S B) (L : Lawful w) (is_near : B → Ty
       module _ (m2 : map.FinMap nat_cmp (Slot (Data X S B))) (root2 : Option ℕ) (done : AtSpot m root p (λ sp. TurnedAt w is_near m2 root2 p (other s) sp)) where
         abbrev Turned_at : Type 0
         Turned_at = (low : Data X S B) × ((high : Data X S B)
-            × Made m2 root2 (plug g.hole (forked (other s) g.red q high out (forked s b p low g.under mid)))
+            × Made beside m2 root2 (plug g.hole (forked (other s) g.red q high out (forked s b p low g.under mid)))
             × Lists w is_near (plug g.hole (forked (other s) g.red q high out (forked s b p low g.under mid))) es)
 
         pub turned_parent : Turned_at
         turned_parent =
-            let (low, (high, made2, lists2)) = turned_at w L is_near is_item is_value m root es g.hole g.red b p q g.datum g.brother out mid g.under m2 root2 (other s) done sideways lists_sideways in
+            let (low, (high, made2, lists2)) = turned_at w L is_near is_item is_value beside m root es g.hole g.red b p q g.datum g.brother out mid g.under m2 root2 (other s) done sideways lists_sideways in
             let same = forked-other s b p low mid g.under in (
               low,
               (
                 high,
-                subst (λ t. Made m2 root2 (plug g.hole (forked (other s) g.red q high out t))) same made2,
+                subst (λ t. Made beside m2 root2 (plug g.hole (forked (other s) g.red q high out t))) same made2,
                 subst (λ t. Lists w is_near (plug g.hole (forked (other s) g.red q high out t)) es) same lists2,
               ),
             )
@@ -199,25 +199,25 @@ module _ {X S B : Type 0} (w : Weaving X S B) (L : Lawful w) (is_near : B → Ty
         inward : (t : Tree (Data X S B)) → t ≡ forked s true mi md a c → (b2 : Bool) → b2 ≡ false → forked (other s) b2 q g.brother out t ≡ forked s false q g.brother (forked s true mi md a c) out
         inward t e b2 f = (λ i. forked (other s) (f i) q g.brother out (e i)) ∙ forked-other s false q g.brother out (forked s true mi md a c)
 
-        made_inward : Made m root (plug Around_it (forked s false q g.brother (forked s true mi md a c) out))
-        made_inward = subst (λ t. Made m root (plug Around_it t)) (inward mid is b black) sideways
+        made_inward : Made beside m root (plug Around_it (forked s false q g.brother (forked s true mi md a c) out))
+        made_inward = subst (λ t. Made beside m root (plug Around_it t)) (inward mid is b black) sideways
 
         lists_inward : Lists w is_near (plug Around_it (forked s false q g.brother (forked s true mi md a c) out)) es
         lists_inward = subst (λ t. Lists w is_near (plug Around_it t) es) (inward mid is b black) lists_sideways
 
         pub can_turn_brother : Valued w is_item is_value es → CanTurnAt w is_near is_item is_value m root q s
-        can_turn_brother v = can_turn_at w L is_near is_item is_value m root es Around_it false true q mi g.brother md a c out s made_inward lists_inward v
+        can_turn_brother v = can_turn_at w L is_near is_item is_value beside m root es Around_it false true q mi g.brother md a c out s made_inward lists_inward v
 
   same_steps : {D : Type 0} (s : Side) (c : Bool) (p : ℕ) (d : D) (x y : Tree D) (k : Hole D) → steps_left (on s c p d x k) ≡ steps_left (on s c p d y k)
   same_steps s true p d x y k = refl
   same_steps s false p d x y k = refl
 
-  module _ (m : map.FinMap nat_cmp (Slot (Data X S B))) (root : Option ℕ) (es : List (ℕ × X)) (s : Side) (p q n : ℕ) where
+  module _ (beside : Tree (Data X S B)) (m : map.FinMap nat_cmp (Slot (Data X S B))) (root : Option ℕ) (es : List (ℕ × X)) (s : Side) (p q n : ℕ) where
     -- a red brother: its inner child becomes the brother, and the node is red
-    pub nearer : (out mid : Tree (Data X S B)) → Gap m root es p s q n true out mid → (m2 : map.FinMap nat_cmp (Slot (Data X S B))) (root2 : Option ℕ)
-        → AtSpot m root p (λ sp. TurnedAt w is_near m2 root2 p (other s) sp) → Short w is_near m2 root2 es (Some (p, s)) (n - 1)
+    pub nearer : (out mid : Tree (Data X S B)) → Gap beside m root es p s q n true out mid → (m2 : map.FinMap nat_cmp (Slot (Data X S B))) (root2 : Option ℕ)
+        → AtSpot m root p (λ sp. TurnedAt w is_near m2 root2 p (other s) sp) → Short w is_near beside m2 root2 es (Some (p, s)) (n - 1)
     nearer out mid g m2 root2 done =
-        let (low, (high, made2, lists2)) = turned_parent m root es s p q n true out mid g m2 root2 done in
+        let (low, (high, made2, lists2)) = turned_parent beside m root es s p q n true out mid g m2 root2 done in
         let (is_black, fit) = C.brother_red s g.black p g.datum g.hole g.red q g.brother low high out mid g.fits in
         let same : forked (other s) g.red q high out (forked s true p low g.under mid) ≡ forked s false q high (forked s true p low g.under mid) out =
         (λ i. forked (other s) (is_black i) q high out (forked s true p low g.under mid)) ∙ forked-other s false q high out (forked s true p low g.under mid) in
@@ -227,7 +227,7 @@ module _ {X S B : Type 0} (w : Weaving X S B) (L : Lawful w) (is_near : B → Ty
             g.under,
             (
               g.black,
-              subst (λ t. Made m2 root2 (plug g.hole t)) same made2,
+              subst (λ t. Made beside m2 root2 (plug g.hole t)) same made2,
               subst (λ t. Lists w is_near (plug g.hole t) es) same lists2,
               refl,
               g.even,
@@ -237,17 +237,17 @@ module _ {X S B : Type 0} (w : Weaving X S B) (L : Lawful w) (is_near : B → Ty
           ),
         )
 
-    module _ (oi : ℕ) (od : Data X S B) (ox oy mid : Tree (Data X S B)) (g : Gap m root es p s q n false (fork true oi od ox oy) mid)
+    module _ (oi : ℕ) (od : Data X S B) (ox oy mid : Tree (Data X S B)) (g : Gap beside m root es p s q n false (fork true oi od ox oy) mid)
         (m2 : map.FinMap nat_cmp (Slot (Data X S B))) (root2 : Option ℕ) (done : AtSpot m root p (λ sp. TurnedAt w is_near m2 root2 p (other s) sp)) where
       -- a red outer child comes to stand above the gap, and turns black
       pub stands_outer : Stands m2 root2 oi
       stands_outer =
-          let (low, (high, made2, lists2)) = turned_parent m root es s p q n false (fork true oi od ox oy) mid g m2 root2 done in
+          let (low, (high, made2, lists2)) = turned_parent beside m root es s p q n false (fork true oi od ox oy) mid g m2 root2 done in
           stands m2 root2 (on (other s) g.red q high (forked s false p low g.under mid) g.hole) Left true oi od ox oy made2
 
-      pub outer_closed : (m3 : map.FinMap nat_cmp (Slot (Data X S B))) (root3 : Option ℕ) → Painted m2 root2 m3 root3 oi false → Mended w is_near m3 root3 es
+      pub outer_closed : (m3 : map.FinMap nat_cmp (Slot (Data X S B))) (root3 : Option ℕ) → Painted m2 root2 m3 root3 oi false → Mended w is_near beside m3 root3 es
       outer_closed m3 root3 paint =
-          let (low, (high, made2, lists2)) = turned_parent m root es s p q n false (fork true oi od ox oy) mid g m2 root2 done in
+          let (low, (high, made2, lists2)) = turned_parent beside m root es s p q n false (fork true oi od ox oy) mid g m2 root2 done in
           let k = on (other s) g.red q high (forked s false p low g.under mid) g.hole in (
             plug k (fork false oi od ox oy),
             painted m2 root2 m3 root3 k Left true false oi od ox oy paint made2,
@@ -256,48 +256,48 @@ module _ {X S B : Type 0} (w : Weaving X S B) (L : Lawful w) (is_near : B → Ty
           )
 
     -- a red inner child becomes the brother, with a red outer child
-    pub inner_gap : (mi : ℕ) (md : Data X S B) (a c out : Tree (Data X S B)) (g : Gap m root es p s q n false out (forked s true mi md a c)) → Rb false g.black out
+    pub inner_gap : (mi : ℕ) (md : Data X S B) (a c out : Tree (Data X S B)) (g : Gap beside m root es p s q n false out (forked s true mi md a c)) → Rb false g.black out
         → (m2 : map.FinMap nat_cmp (Slot (Data X S B))) (root2 : Option ℕ) → AtSpot m root q (λ sp. TurnedAt w is_near m2 root2 q s sp)
-        → (d : Data X S B) × ((x : Tree (Data X S B)) × (y : Tree (Data X S B)) × Gap m2 root2 es p s mi n false (fork true q d x y) a)
+        → (d : Data X S B) × ((x : Tree (Data X S B)) × (y : Tree (Data X S B)) × Gap beside m2 root2 es p s mi n false (fork true q d x y) a)
     inner_gap mi md a c out g even m2 root2 done =
         let mid = forked s true mi md a c in
         let k = on (other s) g.red p g.datum g.under g.hole in
-        let (low, (high, made2, lists2)) = turned_at w L is_near is_item is_value m root es k false true q mi g.brother md a c out m2 root2 s done
-        (made_inward m root es s p q n false out mid g mi md a c refl refl) (lists_inward m root es s p q n false out mid g mi md a c refl refl) in
+        let (low, (high, made2, lists2)) = turned_at w L is_near is_item is_value beside m root es k false true q mi g.brother md a c out m2 root2 s done
+        (made_inward beside m root es s p q n false out mid g mi md a c refl refl) (lists_inward beside m root es s p q n false out mid g mi md a c refl refl) in
         let new = forked s true q low c out in
         let upright : forked (other s) g.red p g.datum (forked s false mi high a new) g.under ≡ forked s g.red p g.datum g.under (forked (other s) false mi high new a) =
         forked-other s g.red p g.datum (forked s false mi high a new) g.under ∙ ap (forked s g.red p g.datum g.under) (sym (forked-other s false mi high new a)) in
         let (x, (y, plain)) = unforked s true q low c out in
-        let found : Gap m2 root2 es p s mi n false new a = record {
+        let found : Gap beside m2 root2 es p s mi n false new a = record {
           red = g.red;
           datum = g.datum;
           brother = high;
           under = g.under;
           hole = g.hole;
           black = g.black;
-          made = subst (λ t. Made m2 root2 (plug g.hole t)) upright made2;
+          made = subst (λ t. Made beside m2 root2 (plug g.hole t)) upright made2;
           lists = subst (λ t. Lists w is_near (plug g.hole t) es) upright lists2;
           even = g.even;
           fits = C.inner_red s g.black p g.datum g.hole q mi g.brother md low high a c out g.red g.fits even;
           few = subst (λ l. l ≤ n) (same_steps s g.red p g.datum (forked (other s) false q g.brother out mid) (forked (other s) false mi high new a) g.hole) g.few;
-        } in (low, (x, y, subst (λ t. Gap m2 root2 es p s mi n false t a) plain found))
+        } in (low, (x, y, subst (λ t. Gap beside m2 root2 es p s mi n false t a) plain found))
 
     -- no red child: the brother turns red
-    module _ (out mid : Tree (Data X S B)) (g : Gap m root es p s q n false out mid) (m2 : map.FinMap nat_cmp (Slot (Data X S B))) (root2 : Option ℕ) (paint : Painted m root m2 root2 q true) where
+    module _ (out mid : Tree (Data X S B)) (g : Gap beside m root es p s q n false out mid) (m2 : map.FinMap nat_cmp (Slot (Data X S B))) (root2 : Option ℕ) (paint : Painted m root m2 root2 q true) where
       abbrev Redder : Tree (Data X S B)
       Redder = forked (other s) true q g.brother out mid
 
-      reddened : Made m2 root2 (plug g.hole (forked s g.red p g.datum g.under Redder))
+      reddened : Made beside m2 root2 (plug g.hole (forked s g.red p g.datum g.under Redder))
       reddened =
           let k = on (other s) g.red p g.datum g.under g.hole in
-          subst (λ t. Made m2 root2 (plug g.hole t)) (forked-other s g.red p g.datum Redder g.under)
-          (painted m root m2 root2 k (other s) false true q g.brother out mid paint (sideways m root es s p q n false out mid g))
+          subst (λ t. Made beside m2 root2 (plug g.hole t)) (forked-other s g.red p g.datum Redder g.under)
+          (painted m root m2 root2 k (other s) false true q g.brother out mid paint (sideways beside m root es s p q n false out mid g))
 
       lists_reddened : Lists w is_near (plug g.hole (forked s g.red p g.datum g.under Redder)) es
       lists_reddened =
           let k = on (other s) g.red p g.datum g.under g.hole in
           subst (λ t. Lists w is_near (plug g.hole t) es) (forked-other s g.red p g.datum Redder g.under)
-          (recoloured w L is_near k (other s) false true q g.brother out mid es (lists_sideways m root es s p q n false out mid g))
+          (recoloured w L is_near k (other s) false true q g.brother out mid es (lists_sideways beside m root es s p q n false out mid g))
 
       pub parent_slot : map.get m2 p ≡ Some (sided s (above g.hole) (root_of g.under) (root_of Redder) g.red g.datum)
       parent_slot = slot_above m2 root2 s g.red p g.datum Redder g.hole g.under reddened
@@ -307,10 +307,10 @@ module _ {X S B : Type 0} (w : Weaving X S B) (L : Lawful w) (is_near : B → Ty
 
       pub place_above : (at : Option (ℕ × Side)) → AtSpot m2 root2 p (λ sp. at ≡ place_of sp.hole) → at ≡ place_of g.hole
       place_above at here =
-          here (spot_of s g.red g.datum g.under Redder g.hole) (stands_above m2 root2 s g.red p g.datum Redder g.hole g.under reddened) ∙ ap place_of (spot_hole s g.red g.datum g.under Redder g.hole)
+          here (spot_of beside s g.red g.datum g.under Redder g.hole) (stands_above m2 root2 s g.red p g.datum Redder g.hole g.under reddened) ∙ ap place_of (spot_hole beside s g.red g.datum g.under Redder g.hole)
 
       -- the node was red, and turns black
-      pub parent_closed : g.red ≡ true → Rb false g.black out → Rb false g.black mid → (m3 : map.FinMap nat_cmp (Slot (Data X S B))) (root3 : Option ℕ) → Painted m2 root2 m3 root3 p false → Mended w is_near m3 root3 es
+      pub parent_closed : g.red ≡ true → Rb false g.black out → Rb false g.black mid → (m3 : map.FinMap nat_cmp (Slot (Data X S B))) (root3 : Option ℕ) → Painted m2 root2 m3 root3 p false → Mended w is_near beside m3 root3 es
       parent_closed red ro rm m3 root3 paint2 = (
         plug g.hole (forked s false p g.datum g.under Redder),
         painted m2 root2 m3 root3 g.hole s g.red false p g.datum g.under Redder paint2 reddened,
@@ -320,7 +320,7 @@ module _ {X S B : Type 0} (w : Weaving X S B) (L : Lawful w) (is_near : B → Ty
       )
 
       -- or it was black, and the gap is above it now
-      pub higher : g.red ≡ false → Rb false g.black out → Rb false g.black mid → Short w is_near m2 root2 es (place_of g.hole) (n - 1)
+      pub higher : g.red ≡ false → Rb false g.black out → Rb false g.black mid → Short w is_near beside m2 root2 es (place_of g.hole) (n - 1)
       higher black ro rm =
           let fit = subst (λ c. Fits false (suc g.black) (on s c p g.datum (forked (other s) false q g.brother out mid) g.hole)) black g.fits in
           let (even, fits2) = C.below_black s g.black p g.datum g.hole q g.brother out mid g.under fit g.even ro rm in
@@ -331,7 +331,7 @@ module _ {X S B : Type 0} (w : Weaving X S B) (L : Lawful w) (is_near : B → Ty
               forked s false p g.datum g.under Redder,
               (
                 suc g.black,
-                subst (λ c. Made m2 root2 (plug g.hole (forked s c p g.datum g.under Redder))) black reddened,
+                subst (λ c. Made beside m2 root2 (plug g.hole (forked s c p g.datum g.under Redder))) black reddened,
                 subst (λ c. Lists w is_near (plug g.hole (forked s c p g.datum g.under Redder)) es) black lists_reddened,
                 refl,
                 even,
@@ -342,46 +342,46 @@ module _ {X S B : Type 0} (w : Weaving X S B) (L : Lawful w) (is_near : B → Ty
           )
 
   -- What the reads of a step tell: the slot of the node, its link to the brother, and the brother's slot.
-  module _ (m : map.FinMap nat_cmp (Slot (Data X S B))) (root : Option ℕ) (es : List (ℕ × X)) (s away : Side) (p q n : ℕ) (sl sl2 : Slot (Data X S B))
-      (found : map.get m p ≡ Some sl) (is_away : away ≡ other s) (link : child away sl ≡ Some q) (found2 : map.get m q ≡ Some sl2) (short : Short w is_near m root es (Some (p, s)) n) where
-    coloured : (b : Bool) → sl2.red ≡ b → (out : Tree (Data X S B)) × ((mid : Tree (Data X S B)) × Gap m root es p s q n b out mid)
+  module _ (beside : Tree (Data X S B)) (m : map.FinMap nat_cmp (Slot (Data X S B))) (root : Option ℕ) (es : List (ℕ × X)) (s away : Side) (p q n : ℕ) (sl sl2 : Slot (Data X S B))
+      (found : map.get m p ≡ Some sl) (is_away : away ≡ other s) (link : child away sl ≡ Some q) (found2 : map.get m q ≡ Some sl2) (short : Short w is_near beside m root es (Some (p, s)) n) where
+    coloured : (b : Bool) → sl2.red ≡ b → (out : Tree (Data X S B)) × ((mid : Tree (Data X S B)) × Gap beside m root es p s q n b out mid)
     coloured b is =
-        let (b2, (out, mid, g)) = gap m root es p s q n sl found (ap (λ side. child side sl) (sym is_away) ∙ link) short in
+        let (b2, (out, mid, g)) = gap beside m root es p s q n sl found (ap (λ side. child side sl) (sym is_away) ∙ link) short in
         let same : b2 ≡ b = sym (red-sided (other s) (Some p) (root_of out) (root_of mid) b2 g.brother)
-        ∙ ap (λ o. (unwrap_or o sl2).red) (sym (brother_slot m root es s p q n b2 out mid g) ∙ found2) ∙ is in
-        (out, (mid, subst (λ c. Gap m root es p s q n c out mid) same g))
+        ∙ ap (λ o. (unwrap_or o sl2).red) (sym (brother_slot beside m root es s p q n b2 out mid g) ∙ found2) ∙ is in
+        (out, (mid, subst (λ c. Gap beside m root es p s q n c out mid) same g))
 
-    pub gap_red : sl2.red ≡ true → (out : Tree (Data X S B)) × ((mid : Tree (Data X S B)) × Gap m root es p s q n true out mid)
+    pub gap_red : sl2.red ≡ true → (out : Tree (Data X S B)) × ((mid : Tree (Data X S B)) × Gap beside m root es p s q n true out mid)
     gap_red = coloured true
 
-    pub gap_black : sl2.red ≡ false → (out : Tree (Data X S B)) × ((mid : Tree (Data X S B)) × Gap m root es p s q n false out mid)
+    pub gap_black : sl2.red ≡ false → (out : Tree (Data X S B)) × ((mid : Tree (Data X S B)) × Gap beside m root es p s q n false out mid)
     gap_black = coloured false
 
     module _ (black : sl2.red ≡ false) where
       pub gap_outer : (i : ℕ) → red_child_in m q away ≡ Some i
-          → (d : Data X S B) × ((x : Tree (Data X S B)) × (y : Tree (Data X S B)) × (mid : Tree (Data X S B)) × Gap m root es p s q n false (fork true i d x y) mid)
+          → (d : Data X S B) × ((x : Tree (Data X S B)) × (y : Tree (Data X S B)) × (mid : Tree (Data X S B)) × Gap beside m root es p s q n false (fork true i d x y) mid)
       gap_outer i e =
           let (out, (mid, g)) = gap_black black in
-          let (d, (x, y, is)) = red_fork out i (sym (outer_is m root es s p q n false out mid g) ∙ ap (red_child_in m q) (sym is_away) ∙ e) in
-          (d, (x, y, mid, subst (λ t. Gap m root es p s q n false t mid) is g))
+          let (d, (x, y, is)) = red_fork out i (sym (outer_is beside m root es s p q n false out mid g) ∙ ap (red_child_in m q) (sym is_away) ∙ e) in
+          (d, (x, y, mid, subst (λ t. Gap beside m root es p s q n false t mid) is g))
 
       module _ (none : red_child_in m q away ≡ None) where
-        outer_even : (out mid : Tree (Data X S B)) (g : Gap m root es p s q n false out mid) → Rb false g.black out
+        outer_even : (out mid : Tree (Data X S B)) (g : Gap beside m root es p s q n false out mid) → Rb false g.black out
         outer_even out mid g =
             let ((c, r), _) = nephews s g.red p q g.black g.datum g.brother out mid g.hole g.fits in
-            not_red c g.black out (sym (outer_is m root es s p q n false out mid g) ∙ ap (red_child_in m q) (sym is_away) ∙ none) r
+            not_red c g.black out (sym (outer_is beside m root es s p q n false out mid g) ∙ ap (red_child_in m q) (sym is_away) ∙ none) r
 
         pub gap_inner : (i : ℕ) → red_child_in m q s ≡ Some i
-            → (out : Tree (Data X S B)) × ((d : Data X S B) × (x : Tree (Data X S B)) × (y : Tree (Data X S B)) × (g : Gap m root es p s q n false out (forked s true i d x y)) × Rb false g.black out)
+            → (out : Tree (Data X S B)) × ((d : Data X S B) × (x : Tree (Data X S B)) × (y : Tree (Data X S B)) × (g : Gap beside m root es p s q n false out (forked s true i d x y)) × Rb false g.black out)
         gap_inner i e =
             let (out, (mid, g)) = gap_black black in
-            let (d, (x, y, is)) = red_fork mid i (sym (inner_is m root es s p q n false out mid g) ∙ e) in
+            let (d, (x, y, is)) = red_fork mid i (sym (inner_is beside m root es s p q n false out mid g) ∙ e) in
             let (a, (c, again)) = reforked s true i d x y in
-            let g2 = subst (λ t. Gap m root es p s q n false out t) (is ∙ again) g in
+            let g2 = subst (λ t. Gap beside m root es p s q n false out t) (is ∙ again) g in
             (out, (d, a, c, g2, outer_even out (forked s true i d a c) g2))
 
-        pub gap_plain : red_child_in m q s ≡ None → (out : Tree (Data X S B)) × ((mid : Tree (Data X S B)) × (g : Gap m root es p s q n false out mid) × Rb false g.black out × Rb false g.black mid)
+        pub gap_plain : red_child_in m q s ≡ None → (out : Tree (Data X S B)) × ((mid : Tree (Data X S B)) × (g : Gap beside m root es p s q n false out mid) × Rb false g.black out × Rb false g.black mid)
         gap_plain none2 =
             let (out, (mid, g)) = gap_black black in
             let (_, (c, r)) = nephews s g.red p q g.black g.datum g.brother out mid g.hole g.fits in
-            (out, (mid, g, outer_even out mid g, not_red c g.black mid (sym (inner_is m root es s p q n false out mid g) ∙ none2) r))
+            (out, (mid, g, outer_even out mid g, not_red c g.black mid (sym (inner_is beside m root es s p q n false out mid g) ∙ none2) r))

@@ -27,6 +27,11 @@ module _ {D : Type 0} where
       ap (λ o. elim o [ None ↦ tip | Some s ↦ fork s.red i s.«data» (grown m n s.left) (grown m n s.right) ]) e
       ∙ (λ j. fork c i d (grown_is m n (Some i) x a (omega (arith, le)) j) (grown_is m n (Some i) y b (omega (arith, le)) j))
 
+  pub grown_none : (m : map.FinMap nat_cmp (Slot D)) (n : ℕ) → grown m n None ≡ tip
+  unfolding grown
+  grown_none m zero = refl
+  grown_none m (suc n) = refl
+
   height-forked : (s : Side) (c : Bool) (i : ℕ) (d : D) (x y : Tree D) → 1 + height x ≤ height (forked s c i d x y)
   height-forked Left c i d x y = omega arith
   height-forked Right c i d x y = omega arith
@@ -34,6 +39,10 @@ module _ {D : Type 0} where
   pub depth_height : (k : Hole D) (t : Tree D) → depth k + height t ≤ height (plug k t)
   depth_height top t = omega arith
   depth_height (on s c i d x k) t = let more = depth_height k (forked s c i d t x) in let one = height-forked s c i d t x in omega (arith, more, one)
+
+  pub height_size : (t : Tree D) → height t ≤ size t
+  height_size tip = omega arith
+  height_size (fork c i d x y) = let l = height_size x in let r = height_size y in omega (arith, l, r)
 
   -- so many nodes make no long path
   pub not_high : (t : Tree D) → Balanced t → size t < 2 ^ 63 → height t ≤ 126

@@ -16,11 +16,11 @@ use Rattle.rb_rules.specs.Woven.{entries, Woven, Valued, lefts, rights, shift_at
 use Rattle.rb_rules.specs.Sound.{Slack}
 use Rattle.rb_rules.proofs.Climbs.{slack_of}
 use Rattle.rb_rules.proofs.Colouring as C
-use Rattle.rb_rules.proofs.Detaching.{spliced, forgotten, gone}
+use Rattle.rb_rules.proofs.Detaching.{spliced, gone}
 use Rattle.rb_rules.proofs.Holes.{count-forked, count-plug, count_self}
 use Rattle.rb_rules.proofs.Live.{slot_here}
 use Rattle.rb_rules.proofs.Weaves.{woven_at, near_of}
-use Rattle.rb_arena.specs.Leaving.{leaf_height, Emptied, NoChild, OneChild, Stores}
+use Rattle.rb_arena.specs.Leaving.{leaf_height, Emptied, Unlinked, NoChild, OneChild, Stores}
 use Rattle.rb_arena.specs.Placing.{StartsAt}
 use Rattle.rb_arena.specs.Value.{first_hole, with_item}
 use Rattle.rb_arena.proofs.Growing.{depth_height, first-plug, first-lefts, first-rights}
@@ -57,13 +57,13 @@ module _ {D : Type 0} where
   as_deep k l (fork c i d x y) e = as_deep (on Left c i d y k) (on Left c i d y l) x (ap (λ n. 1 + n) e)
 
   -- a name whose node gives way to another is not in the tree
-  left_out : (m : map.FinMap nat_cmp (Slot D)) (root : Option ℕ) (k : Hole D) (c : Bool) (i j : ℕ) (d e : D) (x y : Tree D) → Made m root (plug k (fork c i d x y))
-      → count j (plug k (fork c i d x y)) ≡ 0 → count i (plug k (fork c j e x y)) ≡ 0
-  left_out m root k c i j d e x y h fresh =
+  left_out : (m : map.FinMap nat_cmp (Slot D)) (root : Option ℕ) (k : Hole D) (c : Bool) (i j : ℕ) (d e : D) (x y : Tree D) → {beside : Tree D} → Made beside m root (plug k (fork c i d x y))
+      → count j (plug k (fork c i d x y)) + count j beside ≡ 0 → count i (plug k (fork c j e x y)) + count i beside ≡ 0
+  left_out m root k c i j d e x y {beside} h fresh =
       let one = h.once i in let old = count-plug i k (fork c i d x y) in let mine = count-forked i Left c i d x y in let me = count_self i (count i x + count i y) in
       let new = count-plug i k (fork c j e x y) in let yours = count-forked i Left c j e x y in
-      elim (eqb_tells i j) as (λ _. count i (plug k (fork c j e x y)) ≡ 0) [
-        | inl (_, same) ↦ let bad = subst (λ q. count q (plug k (fork c i d x y)) ≡ 0) (sym same) fresh in absurd (omega (arith, bad, old, mine, me))
+      elim (eqb_tells i j) as (λ _. count i (plug k (fork c j e x y)) + count i beside ≡ 0) [
+        | inl (_, same) ↦ let bad = subst (λ q. count q (plug k (fork c i d x y)) + count q beside ≡ 0) (sym same) fresh in absurd (omega (arith, bad, old, mine, me))
         | inr (f, _) ↦ let none : cond (eqb i j) 1 0 + (count i x + count i y) ≡ 0 + (count i x + count i y) = ap (λ b. cond b 1 0 + (count i x + count i y)) f in
             omega (arith, one, old, mine, me, new, yours, none)
       ]
@@ -109,7 +109,7 @@ module _ {X S B : Type 0} (w : Weaving X S B) where
 module _ {X S B : Type 0} (w : Weaving X S B) (L : Lawful w) (is_near : B → Type 0) (is_item : X → Type 0) (is_sum is_value : S → Type 0)
     (sums : Sums w is_item is_sum) (parts : (a b : S) → is_value (w.join a b) → is_value a × is_value b)
     (thins : (a b c : S) → is_value (w.join a (w.join b c)) → is_value (w.join a c))
-    (m : map.FinMap nat_cmp (Slot (Data X S B))) (root : Option ℕ) (id heir : ℕ) (us : List (ℕ × X)) (x y : X) (vs : List (ℕ × X)) where
+    (beside : Tree (Data X S B)) (m : map.FinMap nat_cmp (Slot (Data X S B))) (root : Option ℕ) (id heir : ℕ) (us : List (ℕ × X)) (x y : X) (vs : List (ℕ × X)) where
   -- a leaf in the first place right below a node
   pub record Heired : Type 0 where
     pub hole : Hole (Data X S B)
@@ -119,7 +119,7 @@ module _ {X S B : Type 0} (w : Weaving X S B) (L : Lawful w) (is_near : B → Ty
     pub right : Tree (Data X S B)
     pub leaf_red : Bool
     pub leaf : Data X S B
-    pub made : Made m root (plug (first_hole (on Right red id datum left hole) right) (fork leaf_red heir leaf tip tip))
+    pub made : Made beside m root (plug (first_hole (on Right red id datum left hole) right) (fork leaf_red heir leaf tip tip))
     pub woven : Woven w is_near w.still (plug (first_hole (on Right red id datum left hole) right) (fork leaf_red heir leaf tip tip))
     pub balanced : Balanced (plug (first_hole (on Right red id datum left hole) right) (fork leaf_red heir leaf tip tip))
     pub before : us ≡ lefts w hole ++ entries w (shift_at w hole) left
@@ -128,11 +128,11 @@ module _ {X S B : Type 0} (w : Weaving X S B) (L : Lawful w) (is_near : B → Ty
     pub low : depth (first_hole (on Right red id datum left hole) right) ≤ 126
     pub high : height (plug (first_hole (on Right red id datum left hole) right) (fork leaf_red heir leaf tip tip)) ≤ 126
 
-  pub heired : NoChild m heir → Stores w is_near is_item is_value m root (us ++ (id, x) ∷ (heir, y) ∷ vs) → Heired
+  pub heired : NoChild m heir → Stores w is_near is_item is_value beside m root (us ++ (id, x) ∷ (heir, y) ∷ vs) → Heired
   heired nc st =
-      let st2 = subst (Stores w is_near is_item is_value m root) (sym (append_assoc us ((id, x) ∷ []) ((heir, y) ∷ vs))) st in
-      let (s, at) = spotted w L is_near is_item is_sum is_value sums parts thins m root heir (us ++ (id, x) ∷ []) y vs st2 in
-      let (tl, tr) = childless_spot w L is_near is_item is_sum is_value sums parts thins m root heir (us ++ (id, x) ∷ []) y vs s at.0 nc in
+      let st2 = subst (Stores w is_near is_item is_value beside m root) (sym (append_assoc us ((id, x) ∷ []) ((heir, y) ∷ vs))) st in
+      let (s, at) = spotted w L is_near is_item is_sum is_value sums parts thins beside m root heir (us ++ (id, x) ∷ []) y vs st2 in
+      let (tl, tr) = childless_spot w L is_near is_item is_sum is_value sums parts thins beside m root heir (us ++ (id, x) ∷ []) y vs s at.0 nc in
       let bare : here s heir ≡ fork s.red heir s.datum tip tip = λ i. fork s.red heir s.datum (tl i) (tr i) in
       let list : lefts w s.hole ≡ us ++ (id, x) ∷ [] = sym (at.4 ∙ ap (λ q. lefts w s.hole ++ entries w (shift_at w s.hole) q) tl ∙ append-nil (lefts w s.hole)) in
       let (c, (d, (l, (k, (r, same, us_is))))) = under w s.hole tip us id x list in
@@ -145,7 +145,7 @@ module _ {X S B : Type 0} (w : Weaving X S B) (L : Lawful w) (is_near : B → Ty
         right = r;
         leaf_red = s.red;
         leaf = s.datum;
-        made = subst (Made m root) whole at.0;
+        made = subst (Made beside m root) whole at.0;
         woven = subst (Woven w is_near w.still) whole at.1;
         balanced = subst Balanced whole at.2;
         before = us_is;
@@ -163,13 +163,13 @@ module _ {X S B : Type 0} (w : Weaving X S B) (L : Lawful w) (is_near : B → Ty
     low_leaf = fork h.leaf_red heir h.leaf tip tip
 
     abbrev pub heir_spot : Spot (Data X S B)
-    heir_spot = record { hole = first_hole (on Right h.red id h.datum h.left h.hole) h.right; red = h.leaf_red; datum = h.leaf; left = tip; right = tip }
+    heir_spot = record { beside = beside; hole = first_hole (on Right h.red id h.datum h.left h.hole) h.right; red = h.leaf_red; datum = h.leaf; left = tip; right = tip }
 
     abbrev pub id_spot : Spot (Data X S B)
-    id_spot = record { hole = h.hole; red = h.red; datum = h.datum; left = h.left; right = first_put h.right (fork h.leaf_red heir h.leaf tip tip) }
+    id_spot = record { beside = beside; hole = h.hole; red = h.red; datum = h.datum; left = h.left; right = first_put h.right (fork h.leaf_red heir h.leaf tip tip) }
 
-    pub id_made : Made m root (plug h.hole (here id_spot id))
-    id_made = subst (Made m root) (first-put up h.right low_leaf) h.made
+    pub id_made : Made beside m root (plug h.hole (here id_spot id))
+    id_made = subst (Made beside m root) (first-put up h.right low_leaf) h.made
 
     pub id_woven : Woven w is_near w.still (plug h.hole (here id_spot id))
     id_woven = subst (Woven w is_near w.still) (first-put up h.right low_leaf) h.woven
@@ -185,19 +185,19 @@ module _ {X S B : Type 0} (w : Weaving X S B) (L : Lawful w) (is_near : B → Ty
 
     module _ (m1 : map.FinMap nat_cmp (Slot (Data X S B))) (root1 : Option ℕ) (at : Option (ℕ × Side)) (place : at ≡ place_of (first_hole (on Right h.red id h.datum h.left h.hole) h.right)) (e1 : m1 ≡ hung m at None) (er : root1 ≡ root_hung root at None) where
       abbrev pub bare_spot : Spot (Data X S B)
-      bare_spot = record { hole = h.hole; red = h.red; datum = h.datum; left = h.left; right = h.right }
+      bare_spot = record { beside = beside; hole = h.hole; red = h.red; datum = h.datum; left = h.left; right = h.right }
 
-      pub bare_made : Made m1 root1 (plug h.hole (fork h.red id h.datum h.left h.right))
+      pub bare_made : Made beside m1 root1 (plug h.hole (fork h.red id h.datum h.left h.right))
       bare_made =
           let k = first_hole up h.right in let done = spliced m root k Left h.leaf_red heir h.leaf tip h.made in
           let mem : m1 ≡ hung m (place_of k) None = e1 ∙ ap (λ o. hung m o None) place in let top_ : root1 ≡ root_hung root (place_of k) None = er ∙ ap (λ o. root_hung root o None) place in
-          subst (Made m1 root1) (first-plug up h.right) (subst (λ q. Made q root1 (plug k tip)) (sym mem) (subst (λ o. Made (hung m (place_of k) None) o (plug k tip)) (sym top_) done))
+          subst (Made beside m1 root1) (first-plug up h.right) (subst (λ q. Made beside q root1 (plug k tip)) (sym mem) (subst (λ o. Made beside (hung m (place_of k) None) o (plug k tip)) (sym top_) done))
 
-      pub bare_fresh : count heir (plug h.hole (fork h.red id h.datum h.left h.right)) ≡ 0
-      bare_fresh = subst (λ t. count heir t ≡ 0) (first-plug up h.right) (gone m root (first_hole up h.right) Left h.leaf_red heir h.leaf tip h.made)
+      pub bare_fresh : count heir (plug h.hole (fork h.red id h.datum h.left h.right)) + count heir beside ≡ 0
+      bare_fresh = subst (λ t. count heir t + count heir beside ≡ 0) (first-plug up h.right) (gone m root (first_hole up h.right) Left h.leaf_red heir h.leaf tip h.made)
 
       module _ (own : X) (is : w.shift (shift_at w h.hole) own ≡ y) (m2 : map.FinMap nat_cmp (Slot (Data X S B))) (root2 : Option ℕ)
-          (made2 : Made m2 root2 (plug h.hole (fork h.red heir (with_item h.datum own) h.left h.right))) (m3 : map.FinMap nat_cmp (Slot (Data X S B))) (e3 : m3 ≡ map.remove m2 id) where
+          (made2 : Made beside m2 root2 (plug h.hole (fork h.red heir (with_item h.datum own) h.left h.right))) where
         abbrev new_up : Hole (Data X S B)
         new_up = on Right h.red heir (with_item h.datum own) h.left h.hole
 
@@ -205,35 +205,40 @@ module _ {X S B : Type 0} (w : Weaving X S B) (L : Lawful w) (is_near : B → Ty
         gap_hole = first_hole (on Right h.red heir (with_item h.datum own) h.left h.hole) h.right
 
         abbrev pub new_spot : Spot (Data X S B)
-        new_spot = record { hole = h.hole; red = h.red; datum = with_item h.datum own; left = h.left; right = h.right }
+        new_spot = record { beside = beside; hole = h.hole; red = h.red; datum = with_item h.datum own; left = h.left; right = h.right }
 
-        pub new_made : Made m3 root2 (plug h.hole (here new_spot heir))
-        new_made =
-            subst (λ q. Made q root2 (plug h.hole (here new_spot heir))) (sym e3)
-            (forgotten m2 id root2 (plug h.hole (here new_spot heir)) (left_out m1 root1 h.hole h.red id heir h.datum (with_item h.datum own) h.left h.right bare_made bare_fresh) made2)
-
-        pub starts : (below : Option ℕ) → below ≡ root_of h.right → StartsAt m3 root2 (Some (heir, Right)) below h.right (on Right h.red heir (with_item h.datum own) h.left h.hole)
-        starts below e = ((refl, new_made), e, right_low)
+        pub starts : (below : Option ℕ) → below ≡ root_of h.right → StartsAt beside m2 root2 (Some (heir, Right)) below h.right (on Right h.red heir (with_item h.datum own) h.left h.hole)
+        starts below e = ((refl, made2), e, right_low)
 
         pub gap_list : lefts w gap_hole ++ rights w gap_hole ≡ us ++ (heir, y) ∷ vs
         gap_list =
             (λ i. first-lefts w new_up h.right i ++ rights w gap_hole) ∙ after_list w new_spot heir y us (rights w gap_hole) (sym is) h.before
             ∙ ap (λ z. us ++ (heir, y) ∷ z) (first-rights w new_up h.right ∙ sym (first-rights w up h.right) ∙ sym h.after)
 
-        pub gap_emptied : Stores w is_near is_item is_value m root (us ++ (id, x) ∷ (heir, y) ∷ vs) → (gap : Option (ℕ × Side)) → gap ≡ place_of gap_hole → (red : Bool) → red ≡ h.leaf_red
-            → Emptied w is_near is_item is_value m3 root2 gap red gap_hole
+        gap_emptied : Stores w is_near is_item is_value beside m root (us ++ (id, x) ∷ (heir, y) ∷ vs) → (gap : Option (ℕ × Side)) → gap ≡ place_of gap_hole → (red : Bool) → red ≡ h.leaf_red
+            → Emptied w is_near is_item is_value beside m2 root2 gap red gap_hole
         gap_emptied st gap there red same =
             let k = first_hole up h.right in let shift : shift_at w k ≡ shift_at w gap_hole = shift_first w up h.right ∙ sym (shift_first w new_up h.right) in
             let deep = as_deep up new_up h.right refl in let le = h.low in
             let (n, (b, r, f)) = C.unplugged k low_leaf h.balanced in let fit = fit_leaf h.leaf_red b n heir h.leaf k r f in (
               there,
-              subst (Made m3 root2) (sym (first-plug new_up h.right)) new_made,
+              subst (Made beside m2 root2) (sym (first-plug new_up h.right)) made2,
               subst is_near shift (near_of w L is_near (shift_at w k) low_leaf (woven_at w L is_near k low_leaf h.woven)),
               slack_first w is_near up new_up h.right refl (λ q. q) (slack_of w L is_near is_item is_sum is_value sums parts k low_leaf h.woven),
               subst (Valued w is_item is_value) (sym gap_list) (valued_without w L is_near is_item is_sum is_value sums parts thins us (id, x) ((heir, y) ∷ vs) st.1),
               omega (arith, deep, le),
               subst (λ c. Fits c (leaf_height c) gap_hole) (sym same) (fits_first up new_up h.right (fits_on Right h.red id heir h.datum (with_item h.datum own) h.left h.hole) h.leaf_red (leaf_height h.leaf_red) fit),
             )
+
+        pub gap_unlinked : Stores w is_near is_item is_value beside m root (us ++ (id, x) ∷ (heir, y) ∷ vs) → (gap : Option (ℕ × Side)) → gap ≡ place_of gap_hole → (red : Bool) → red ≡ h.leaf_red
+            → Unlinked w is_near is_item is_value beside m2 root2 gap red id (us ++ (heir, y) ∷ vs)
+        gap_unlinked st gap there red same = (
+          gap_hole,
+          gap_list,
+          gap_emptied st gap there red same,
+          subst (λ t. count id t + count id beside ≡ 0) (sym (first-plug new_up h.right))
+              (left_out m1 root1 h.hole h.red id heir h.datum (with_item h.datum own) h.left h.right bare_made bare_fresh),
+        )
 
 module _ {D : Type 0} where
   -- a node has its first place under a node with no left child
@@ -245,16 +250,16 @@ module _ {D : Type 0} where
 module _ {X S B : Type 0} (w : Weaving X S B) (L : Lawful w) (is_near : B → Type 0) (is_item : X → Type 0) (is_sum is_value : S → Type 0)
     (sums : Sums w is_item is_sum) (parts : (a b : S) → is_value (w.join a b) → is_value a × is_value b)
     (thins : (a b c : S) → is_value (w.join a (w.join b c)) → is_value (w.join a c))
-    (m : map.FinMap nat_cmp (Slot (Data X S B))) (root : Option ℕ) (id : ℕ) (us : List (ℕ × X)) (x : X) (vs : List (ℕ × X)) where
+    (beside : Tree (Data X S B)) (m : map.FinMap nat_cmp (Slot (Data X S B))) (root : Option ℕ) (id : ℕ) (us : List (ℕ × X)) (x : X) (vs : List (ℕ × X)) where
   -- the node of that name is the next, and has one child at most
   abbrev pub IsNext : ℕ → Type 0
   IsNext heir = (y : X) × ((ws : List (ℕ × X)) × (vs ≡ (heir, y) ∷ ws) × OneChild m heir)
 
-  pub next_of : (s : Spot (Data X S B)) → Spotted w L is_near is_item is_sum is_value sums parts thins m root id us x vs s → (root_of s.right ≡ None → ⊥)
+  pub next_of : (s : Spot (Data X S B)) → Spotted w L is_near is_item is_sum is_value sums parts thins beside m root id us x vs s → (root_of s.right ≡ None → ⊥)
       → (heir : ℕ) × ((above (first_hole (on Right s.red id s.datum s.left s.hole) s.right) ≡ Some heir) × IsNext heir)
   next_of s at some =
       let k0 = on Right s.red id s.datum s.left s.hole in let (c, (j, (d, (y, (k, same))))) = first_node k0 s.right some in
       let list = at.5 ∙ sym (first-rights w k0 s.right) ∙ ap (rights w) same in let no : Tree (Data X S B) = tip in
-      let made = subst (Made m root) (sym (first-plug k0 s.right) ∙ ap (λ q. plug q no) same) at.0 in
-      let found = slot_here m root (record { hole = k; red = c; datum = d; left = tip; right = y }) j made in
+      let made = subst (Made beside m root) (sym (first-plug k0 s.right) ∙ ap (λ q. plug q no) same) at.0 in
+      let found = slot_here m root (record { beside = beside; hole = k; red = c; datum = d; left = tip; right = y }) j made in
       (j, (ap above same, (w.shift (shift_at w k) d.item, (entries w (w.plus (shift_at w k) d.delta) y ++ rights w k, list, (_, found, inl refl)))))

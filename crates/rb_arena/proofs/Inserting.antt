@@ -1,29 +1,33 @@
 -- An item that comes to a hole of a tree.
-use Rattle.std.proofs.Common.{◌≡◌, ℕ, ◌≤◌, true, false, List, [], ◌∷◌, ◌++◌, Option, refl, sym, ap, ◌∙◌, subst, arith}
+use Rattle.std.proofs.Common.{◌≡◌, ℕ, ◌+◌, ◌≤◌, true, false, List, [], ◌∷◌, ◌++◌, Option, Some, None, refl, sym, ap, ◌∙◌, subst, arith}
 use Rattle.std.specs.Ordering.{nat_cmp}
 use Rattle.std.specs.FinMap as map
 use Rattle.rb_rules.specs.declared.slot.Data.{Data}
+use Rattle.raw_arena.proofs.Names.{get-insert_same}
+use Rattle.rb_rules.specs.declared.slot.Side.{Side}
 use Rattle.rb_rules.specs.declared.slot.Side.TheVariants.{Left}
 use Rattle.rb_rules.specs.declared.slot.Slot.{Slot}
-use Rattle.rb_rules.specs.Tree.{Tree, tip, fork, Hole, plug, above, root_of, depth}
+use Rattle.rb_rules.specs.Tree.{Tree, tip, fork, Hole, plug, above, root_of, depth, count}
 use Rattle.rb_rules.specs.Colours.{Fits, Balanced}
-use Rattle.rb_rules.specs.Memory.{Made}
+use Rattle.rb_rules.specs.Memory.{sided, Made}
 use Rattle.rb_rules.specs.Weaving.{Weaving, Lawful, Sums, HeldItem, HeldBy, CanSumUp, summed}
 use Rattle.rb_rules.specs.Woven.{entries, sum_of, Woven, AllItems, Valued, lefts, rights, shift_at}
 use Rattle.rb_rules.specs.Sound.{IsSlack, RenewedFrom}
+use Rattle.rb_rules.proofs.Attaching.{written_apart}
 use Rattle.rb_rules.proofs.Colouring as C
 use Rattle.rb_rules.proofs.Climbs.{slack_of}
 use Rattle.rb_rules.proofs.Held.{can_sum_up, items_right, valued_left, valued_right}
 use Rattle.rb_rules.proofs.Shapes.{same_items}
 use Rattle.rb_rules.proofs.Unshaping as U
 use Rattle.rb_rules.proofs.Weaves.{woven_at, near_of, woven_summed, entries-plug}
+use Rattle.rb_arena.specs.Placing.{CanTake, leaf_of, IsLeaf}
 use Rattle.rb_arena.specs.Rising.{Rising}
 
 empty_fits : {D : Type 0} (k : Hole D) → Balanced (plug k tip) → Fits false 0 k
 empty_fits k bal = let (n, (c, (e, z), f)) = C.unplugged k tip bal in subst (λ b. Fits b 0 k) e (subst (λ l. Fits c l k) z f)
 
 module _ {X S B : Type 0} (w : Weaving X S B) (L : Lawful w) (is_near : B → Type 0) (is_item : X → Type 0) (is_sum is_value : S → Type 0)
-    (sums : Sums w is_item is_sum) (parts : (a b : S) → is_value (w.join a b) → is_value a × is_value b) (starts_near : is_near w.still) where
+    (sums : Sums w is_item is_sum) (parts : (a b : S) → is_value (w.join a b) → is_value a × is_value b) where
   -- names do not matter to values
   items_renamed : (xs ys : List (ℕ × X)) (i j : ℕ) (x : X) → AllItems w is_item (xs ++ (i, x) ∷ ys) → AllItems w is_item (xs ++ (j, x) ∷ ys)
   items_renamed [] ys i j x h = h
@@ -53,7 +57,7 @@ module _ {X S B : Type 0} (w : Weaving X S B) (L : Lawful w) (is_near : B → Ty
     back = sym (L.shift_plus _ _ x) ∙ ap (λ b. w.shift b x) (L.plus_minus w.still (shift_at w k)) ∙ L.shift_still x
 
     pub held_minus : HeldBy w is_near (w.minus w.still (shift_at w k))
-    held_minus = (shift_at w k, near, subst is_near (sym (L.plus_minus w.still (shift_at w k))) starts_near)
+    held_minus = (shift_at w k, near, subst is_near (sym (L.plus_minus w.still (shift_at w k))) (near_of w L is_near w.still (plug k tip) wv))
 
     pub held_own : HeldItem w is_near is_item (w.shift (w.minus w.still (shift_at w k)) x)
     held_own = (shift_at w k, near, subst is_item (sym back) (items_right w L is_near is_item is_sum is_value sums parts (lefts w k) ((0, x) ∷ rights w k) v.0).0)
@@ -78,9 +82,9 @@ module _ {X S B : Type 0} (w : Weaving X S B) (L : Lawful w) (is_near : B → Ty
       pub valued_new : Valued w is_item is_value (lefts w k ++ (id, x) ∷ rights w k)
       valued_new = valued_renamed (lefts w k) (rights w k) 0 id x v
 
-      pub slack_leaf : (m : map.FinMap nat_cmp (Slot (Data X S B))) (root at : Option ℕ) → at ≡ above k → depth k ≤ 128 → Made m root (plug k leaf)
-          → IsSlack w is_near is_item is_value m root at 128 (plug k leaf)
-      slack_leaf m root at e le made = (
+      pub slack_leaf : (beside : Tree (Data X S B)) (m : map.FinMap nat_cmp (Slot (Data X S B))) (root at : Option ℕ) → at ≡ above k → depth k ≤ 128 → Made beside m root (plug k leaf)
+          → IsSlack w is_near is_item is_value beside m root at 128 (plug k leaf)
+      slack_leaf beside m root at e le made = (
         k,
         (
           leaf,
@@ -94,8 +98,9 @@ module _ {X S B : Type 0} (w : Weaving X S B) (L : Lawful w) (is_near : B → Ty
         ),
       )
 
-      pub rising_leaf : (m : map.FinMap nat_cmp (Slot (Data X S B))) (root : Option ℕ) → depth k ≤ 128 → RenewedFrom w is_near m root (plug k leaf) → Rising w is_near m root (lefts w k ++ (id, x) ∷ rights w k) id 128
-      rising_leaf m root le (u, made, wv2, alike) =
+      pub rising_leaf : (beside : Tree (Data X S B)) (m : map.FinMap nat_cmp (Slot (Data X S B))) (root : Option ℕ) → depth k ≤ 128 → RenewedFrom w is_near beside m root (plug k leaf)
+          → Rising w is_near beside m root (lefts w k ++ (id, x) ∷ rights w k) id 128
+      rising_leaf beside m root le (u, made, wv2, alike) =
           let f : Data X S B → X × B = λ d. (d.item, d.delta) in
           let (k2, (t2, is, alike2, deep, fits)) = U.unplugged f k leaf u alike in
           let (d2, (a, b, same, ea, eb)) = U.forked_back f Left t2 true id (own, w.still) tip tip alike2 in (
@@ -104,7 +109,7 @@ module _ {X S B : Type 0} (w : Weaving X S B) (L : Lawful w) (is_near : B → Ty
               t2,
               (
                 0,
-                subst (Made m root) is made,
+                subst (Made beside m root) is made,
                 (subst (Woven w is_near w.still) is wv2, ap (entries w w.still) (sym is) ∙ same_items w w.still u (plug k leaf) alike ∙ items_are),
                 ap root_of same,
                 U.rb_same f true 0 leaf t2 (sym alike2) (refl, (refl, refl), (refl, refl)),
@@ -113,3 +118,13 @@ module _ {X S B : Type 0} (w : Weaving X S B) (L : Lawful w) (is_near : B → Ty
               ),
             ),
           )
+
+-- a leaf for a hole is written under a name that stands in neither tree
+module _ {X S B : Type 0} (w : Weaving X S B) (is_near : B → Type 0) (is_item : X → Type 0) (is_value : S → Type 0) where
+  pub written_leaf : (beside : Tree (Data X S B)) (m m2 : map.FinMap nat_cmp (Slot (Data X S B))) (root : Option ℕ) (at : Option (ℕ × Side)) (id : ℕ) (x : X) (k : Hole (Data X S B)) (slot : Slot (Data X S B))
+      → CanTake w is_near beside m root at is_item is_value x k → count id (plug k tip) + count id beside ≡ 0 → slot ≡ sided Left (above k) None None true (leaf_of w k x) → m2 ≡ map.insert m id slot
+      → CanTake w is_near beside m2 root at is_item is_value x k × IsLeaf w beside m2 id x k
+  written_leaf beside m m2 root at id x k slot (((e, made), wv, le), bal, v) apart is new = (
+    (((e, subst (λ l. Made beside l root (plug k tip)) (sym new) (written_apart m id slot root (plug k tip) apart made)), wv, le), bal, v),
+    (ap (λ l. map.get l id) new ∙ get-insert_same m id slot ∙ ap Some is, apart),
+  )

@@ -12,11 +12,12 @@ use Rattle.rb_rules.specs.declared.slot.Side.TheVariants.{Left, Right}
 use Rattle.rb_rules.specs.declared.slot.Slot.{Slot}
 use Rattle.rb_rules.specs.Tree.{Tree, tip, fork, Hole, top, on, other, forked, plug, root_of, above, depth, height}
 use Rattle.rb_rules.specs.Colours.{Rb, Fits, Balanced}
-use Rattle.rb_rules.specs.Memory.{Made, Spot, here, below, turned, AtSpot, place_of, hung, root_hung}
+use Rattle.rb_rules.specs.Memory.{sided, Made, Spot, here, below, turned, AtSpot, place_of, adopted, hung, root_hung}
 use Rattle.rb_rules.specs.Shape.{each}
 use Rattle.rb_rules.specs.Weaving.{Weaving, Lawful, Sums}
 use Rattle.rb_rules.specs.Woven.{entries, sum_of, Woven, AllItems, Valued, lefts, rights, shift_at}
 use Rattle.rb_rules.specs.Sound.{Lists, IsSlack, RenewedFrom, CanTurnAt, TurnedAt}
+use Rattle.rb_rules.proofs.Chains.{strung}
 use Rattle.rb_rules.proofs.Climbs.{slack_of}
 use Rattle.rb_rules.proofs.Colouring as C
 use Rattle.rb_rules.proofs.Detaching.{spliced, forgotten, gone}
@@ -27,11 +28,11 @@ use Rattle.rb_rules.proofs.Spots.{upper_is}
 use Rattle.rb_rules.proofs.Unshaping as U
 use Rattle.rb_rules.proofs.Weaves.{sum-append, woven_at, near_of, entries-plug}
 use Rattle.rb_arena.specs.Closing.{Closing}
-use Rattle.rb_arena.specs.Leaving.{leaf_height, Emptied, NoChild, OneChild, Stores}
+use Rattle.rb_arena.specs.Leaving.{leaf_height, Emptied, Unlinked, NoChild, OneChild, Stores}
 use Rattle.rb_arena.specs.Rising.{Mended}
 use Rattle.rb_arena.proofs.Gaps.{few_steps, at_top}
 use Rattle.rb_arena.proofs.Growing.{depth_height, length-entries, no_root, not_high}
-use Rattle.rb_arena.proofs.Locating.{locate_in}
+use Rattle.rb_arena.proofs.Locating.{lying, below_lying, locate_in}
 
 module _ {D E : Type 0} (f : D → E) where
   is_tip : Tree E → Type 0
@@ -98,7 +99,7 @@ none_of None e = refl
 none_of (Some i) e = absurd (false≢true (sym e))
 
 -- a node with one child at most that has a left one has no right one
-pub right_none : {D : Type 0} (m : map.FinMap nat_cmp (Slot D)) (root : Option ℕ) (s : Spot D) (id : ℕ) → Made m root (plug s.hole (here s id)) → OneChild m id → (j : ℕ) → root_of s.left ≡ Some j → root_of s.right ≡ None
+pub right_none : {D : Type 0} (m : map.FinMap nat_cmp (Slot D)) (root : Option ℕ) (s : Spot D) (id : ℕ) → Made s.beside m root (plug s.hole (here s id)) → OneChild m id → (j : ℕ) → root_of s.left ≡ Some j → root_of s.right ≡ None
 right_none m root s id made (n, found, inl e) j is = absurd (none-some j (sym (sym (ap (λ o. o.left) (upper_is m root s id made Left n found)) ∙ e) ∙ is))
 right_none m root s id made (n, found, inr e) j is = sym (ap (λ o. o.right) (upper_is m root s id made Left n found)) ∙ e
 
@@ -113,35 +114,35 @@ module _ {X S B : Type 0} (w : Weaving X S B) (L : Lawful w) (is_near : B → Ty
   valued_without us e vs (h, v) =
       (items_without us e vs h, subst is_value (sym (sum-append w L us vs)) (thins (sum_of w us) (w.one e.1) (sum_of w vs) (subst is_value (sum-append w L us (e ∷ vs)) v)))
 
-  module _ (m : map.FinMap nat_cmp (Slot (Data X S B))) (root : Option ℕ) (at : Option (ℕ × Side)) (red : Bool) (k : Hole (Data X S B)) (h : Emptied w is_near is_item is_value m root at red k) where
+  module _ (beside : Tree (Data X S B)) (m : map.FinMap nat_cmp (Slot (Data X S B))) (root : Option ℕ) (at : Option (ℕ × Side)) (red : Bool) (k : Hole (Data X S B)) (h : Emptied w is_near is_item is_value beside m root at red k) where
     list_is : entries w w.still (plug k tip) ≡ lefts w k ++ rights w k
     list_is = entries-plug w L is_near k tip
 
-    pub slack_empty : (from : Option ℕ) → from ≡ above k → IsSlack w is_near is_item is_value m root from 128 (plug k tip)
+    pub slack_empty : (from : Option ℕ) → from ≡ above k → IsSlack w is_near is_item is_value beside m root from 128 (plug k tip)
     slack_empty from e = (k, (tip, refl, h.1, e, h.2, h.3, subst (Valued w is_item is_value) (sym list_is) h.4, h.5))
 
-    module _ (m2 : map.FinMap nat_cmp (Slot (Data X S B))) (root2 : Option ℕ) (done : RenewedFrom w is_near m2 root2 (plug k tip)) where
+    module _ (m2 : map.FinMap nat_cmp (Slot (Data X S B))) (root2 : Option ℕ) (done : RenewedFrom w is_near beside m2 root2 (plug k tip)) where
       abbrev shaped : Data X S B → X × B
       shaped d = (d.item, d.delta)
 
-      pub empty_mended : red ≡ true → Mended w is_near m2 root2 (lefts w k ++ rights w k)
+      pub empty_mended : red ≡ true → Mended w is_near beside m2 root2 (lefts w k ++ rights w k)
       empty_mended is_red =
           let (u, made, wv, alike) = done in let (k2, (same, place, deep, fits)) = emptied_back shaped k u alike in
           let fit = fits false 0 (C.fits_either false 0 k (subst (λ c. Fits c (leaf_height c) k) is_red h.6)) in
           (u, made, (wv, same_items w w.still u (plug k tip) alike ∙ list_is), subst Balanced (sym same) (C.plugged false 0 k2 tip (refl, refl) fit))
 
-      pub empty_closing : red ≡ false → Closing w is_near m2 root2 (lefts w k ++ rights w k) at 129
+      pub empty_closing : red ≡ false → Closing w is_near beside m2 root2 (lefts w k ++ rights w k) at 129
       empty_closing is_black =
           let (u, made, wv, alike) = done in let (k2, (same, place, deep, fits)) = emptied_back shaped k u alike in
           let fit = fits false 1 (subst (λ c. Fits c (leaf_height c) k) is_black h.6) in
           let le = h.5 in let few = few_steps k2 in
-          at_top w L is_near is_item is_value m2 root2 (lefts w k ++ rights w k) at 129 (
+          at_top w L is_near is_item is_value beside m2 root2 (lefts w k ++ rights w k) at 129 (
             k2,
             (
               tip,
               (
                 0,
-                subst (Made m2 root2) same made,
+                subst (Made beside m2 root2) same made,
                 (subst (Woven w is_near w.still) same wv, ap (entries w w.still) (sym same) ∙ same_items w w.still u (plug k tip) alike ∙ list_is),
                 h.0 ∙ sym place,
                 (refl, refl),
@@ -151,18 +152,35 @@ module _ {X S B : Type 0} (w : Weaving X S B) (L : Lawful w) (is_near : B → Ty
             ),
           )
 
+  -- The node that has left goes from the memory, or comes to the front of what lies beside.
+  module _ (beside : Tree (Data X S B)) (m m2 : map.FinMap nat_cmp (Slot (Data X S B))) (root : Option ℕ) (at : Option (ℕ × Side)) (red : Bool) (id : ℕ) (es : List (ℕ × X))
+      (h : Unlinked w is_near is_item is_value beside m root at red id es) where
+    abbrev EmptiedWith : Tree (Data X S B) → Type 0
+    EmptiedWith other_one = (k : Hole (Data X S B)) × (lefts w k ++ rights w k ≡ es) × Emptied w is_near is_item is_value other_one m2 root at red k
+
+    pub emptied_out : m2 ≡ map.remove m id → EmptiedWith beside
+    emptied_out new =
+        let (k, list, (e, made, near, slack, v, le, fit), apart) = h in
+        (k, list, (e, subst (λ l. Made beside l root (plug k tip)) (sym new) (forgotten m id root (plug k tip) apart made), near, slack, v, le, fit))
+
+    pub emptied_loose : (front : Option ℕ) (d : Data X S B) → front ≡ root_of beside → m2 ≡ map.insert (adopted m front (Some id)) id (sided Left None None front false d) → EmptiedWith (fork false id d tip beside)
+    emptied_loose front d first new =
+        let (k, list, (e, made, near, slack, v, le, fit), apart) = h in
+        let is = new ∙ ap (λ o. map.insert (adopted m o (Some id)) id (sided Left None None o false d)) first in
+        (k, list, (e, subst (λ l. Made (fork false id d tip beside) l root (plug k tip)) (sym is) (strung m root (plug k tip) id d apart made), near, slack, v, le, fit))
+
   -- a leaf goes from a red-black tree
-  module _ (m : map.FinMap nat_cmp (Slot (Data X S B))) (root : Option ℕ) (k : Hole (Data X S B)) (c : Bool) (id : ℕ) (d : Data X S B)
-      (made : Made m root (plug k (fork c id d tip tip))) (wv : Woven w is_near w.still (plug k (fork c id d tip tip))) (bal : Balanced (plug k (fork c id d tip tip)))
+  module _ (beside : Tree (Data X S B)) (m : map.FinMap nat_cmp (Slot (Data X S B))) (root : Option ℕ) (k : Hole (Data X S B)) (c : Bool) (id : ℕ) (d : Data X S B)
+      (made : Made beside m root (plug k (fork c id d tip tip))) (wv : Woven w is_near w.still (plug k (fork c id d tip tip))) (bal : Balanced (plug k (fork c id d tip tip)))
       (v : Valued w is_item is_value (lefts w k ++ rights w k)) (le : depth k ≤ 128) where
     leaf_fits : Fits c (leaf_height c) k
     leaf_fits = let (n, (b, r, f)) = C.unplugged k (fork c id d tip tip) bal in fit_leaf c b n id d k r f
 
-    pub left_empty : Emptied w is_near is_item is_value (map.remove (hung m (place_of k) None) id) (root_hung root (place_of k) None) (place_of k) c k
+    left_empty : Emptied w is_near is_item is_value beside (hung m (place_of k) None) (root_hung root (place_of k) None) (place_of k) c k
     left_empty =
-        let leaf = fork c id d tip tip in let m1 = hung m (place_of k) None in let root1 = root_hung root (place_of k) None in (
+        let leaf = fork c id d tip tip in (
           refl,
-          forgotten m1 id root1 (plug k tip) (gone m root k Left c id d tip made) (spliced m root k Left c id d tip made),
+          spliced m root k Left c id d tip made,
           near_of w L is_near (shift_at w k) leaf (woven_at w L is_near k leaf wv),
           slack_of w L is_near is_item is_sum is_value sums parts k leaf wv,
           v,
@@ -170,59 +188,56 @@ module _ {X S B : Type 0} (w : Weaving X S B) (L : Lawful w) (is_near : B → Ty
           leaf_fits,
         )
 
+    pub left_unlinked : (es : List (ℕ × X)) → lefts w k ++ rights w k ≡ es
+        → Unlinked w is_near is_item is_value beside (hung m (place_of k) None) (root_hung root (place_of k) None) (place_of k) c id es
+    left_unlinked es e = (k, e, left_empty, gone m root k Left c id d tip made)
+
   -- a node with no child, by its item's place in the list
-  module _ (m : map.FinMap nat_cmp (Slot (Data X S B))) (root : Option ℕ) (id : ℕ) (us : List (ℕ × X)) (x : X) (vs : List (ℕ × X)) where
+  module _ (beside : Tree (Data X S B)) (m : map.FinMap nat_cmp (Slot (Data X S B))) (root : Option ℕ) (id : ℕ) (us : List (ℕ × X)) (x : X) (vs : List (ℕ × X)) where
     abbrev pub Spotted : Spot (Data X S B) → Type 0
     Spotted s =
-        Made m root (plug s.hole (here s id)) × Woven w is_near w.still (plug s.hole (here s id)) × Balanced (plug s.hole (here s id))
+        Made beside m root (plug s.hole (here s id)) × Woven w is_near w.still (plug s.hole (here s id)) × Balanced (plug s.hole (here s id))
         × (x ≡ w.shift (shift_at w s.hole) s.datum.item) × (us ≡ lefts w s.hole ++ entries w (shift_at w s.hole) s.left)
         × (vs ≡ entries w (w.plus (shift_at w s.hole) s.datum.delta) s.right ++ rights w s.hole) × (depth s.hole + height (here s id) ≤ 126)
         × (entries w w.still (plug s.hole (here s id)) ≡ us ++ (id, x) ∷ vs) × (height (plug s.hole (here s id)) ≤ 126)
 
-    pub spotted : Stores w is_near is_item is_value m root (us ++ (id, x) ∷ vs) → (s : Spot (Data X S B)) × Spotted s
+    pub spotted : Stores w is_near is_item is_value beside m root (us ++ (id, x) ∷ vs) → (s : Spot (Data X S B)) × Spotted s
     spotted ((t, made, (wv, e), bal), v, few) =
         let (s, whole, val, l, r) = locate_in w t us id x vs e in let deep = depth_height s.hole (here s id) in let high = ap height whole in
         let many = length-entries w w.still t in let long = ap length e in let low = not_high t bal (omega (arith, many, long, few)) in
-        (s, (subst (Made m root) (sym whole) made, subst (Woven w is_near w.still) (sym whole) wv, subst Balanced (sym whole) bal, val, l, r, omega (arith, deep, high, low), ap (entries w w.still) whole ∙ e, omega (arith, high, low)))
+        (s, (subst (Made beside m root) (sym whole) made, subst (Woven w is_near w.still) (sym whole) wv, subst Balanced (sym whole) bal, val, l, r, omega (arith, deep, high, low), ap (entries w w.still) whole ∙ e, omega (arith, high, low)))
 
-    pub childless_spot : (s : Spot (Data X S B)) → Made m root (plug s.hole (here s id)) → NoChild m id → (s.left ≡ tip) × (s.right ≡ tip)
+    pub childless_spot : (s : Spot (Data X S B)) → Made beside m root (plug s.hole (here s id)) → NoChild m id → (s.left ≡ tip) × (s.right ≡ tip)
     childless_spot s made (n, found, none, none2) =
-        let up = upper_is m root s id made Left n found in (no_root s.left (sym (ap (λ o. o.left) up) ∙ none), no_root s.right (sym (ap (λ o. o.right) up) ∙ none2))
+        let up = upper_is m root (lying beside s) id made Left n found in (no_root s.left (sym (ap (λ o. o.left) up) ∙ none), no_root s.right (sym (ap (λ o. o.right) up) ∙ none2))
 
-    pub leaf_gone : NoChild m id → Stores w is_near is_item is_value m root (us ++ (id, x) ∷ vs) → (n : Slot (Data X S B)) → map.get m id ≡ Some n
+    pub leaf_gone : NoChild m id → Stores w is_near is_item is_value beside m root (us ++ (id, x) ∷ vs) → (n : Slot (Data X S B)) → map.get m id ≡ Some n
         → (at copy : Option (ℕ × Side)) → AtSpot m root id (λ s. at ≡ place_of s.hole) → copy ≡ at
-        → (m1 m2 : map.FinMap nat_cmp (Slot (Data X S B))) (root1 : Option ℕ) → m1 ≡ hung m copy None → root1 ≡ root_hung root copy None → m2 ≡ map.remove m1 id
-        → (k : Hole (Data X S B)) × ((lefts w k ++ rights w k ≡ us ++ vs) × Emptied w is_near is_item is_value m2 root1 at n.red k)
-    leaf_gone nc st n found at copy there same m1 m2 root1 e1 er e2 =
+        → (m1 : map.FinMap nat_cmp (Slot (Data X S B))) (root1 : Option ℕ) → m1 ≡ hung m copy None → root1 ≡ root_hung root copy None
+        → Unlinked w is_near is_item is_value beside m1 root1 at n.red id (us ++ vs)
+    leaf_gone nc st n found at copy there same m1 root1 e1 er =
         let (s, (made, wv, bal, val, l, r, low, all, high)) = spotted st in let (tl, tr) = childless_spot s made nc in
         let leaf : here s id ≡ fork s.red id s.datum tip tip = λ i. fork s.red id s.datum (tl i) (tr i) in
-        let place = there s made in let k = s.hole in
+        let place = there (lying beside s) made in let k = s.hole in
         let us_is : us ≡ lefts w k = l ∙ ap (λ q. lefts w k ++ entries w (shift_at w k) q) tl ∙ append-nil (lefts w k) in
         let vs_is : vs ≡ rights w k = r ∙ ap (λ q. entries w (w.plus (shift_at w k) s.datum.delta) q ++ rights w k) tr in
         let list : lefts w k ++ rights w k ≡ us ++ vs = λ i. sym us_is i ++ sym vs_is i in
         let v = subst (Valued w is_item is_value) (sym list) (valued_without us (id, x) vs st.1) in
-        let empty = left_empty m root k s.red id s.datum (subst (λ t. Made m root (plug k t)) leaf made) (subst (λ t. Woven w is_near w.still (plug k t)) leaf wv)
-        (subst (λ t. Balanced (plug k t)) leaf bal) v (omega (arith, low)) in
-        let red : s.red ≡ n.red = ap (λ o. o.red) (sym (upper_is m root s id made Left n found)) in
-        let mem : m2 ≡ map.remove (hung m (place_of k) None) id = e2 ∙ ap (λ q. map.remove q id) (e1 ∙ ap (λ o. hung m o None) (same ∙ place)) in
+        let unlinked = left_unlinked beside m root k s.red id s.datum (subst (λ t. Made beside m root (plug k t)) leaf made) (subst (λ t. Woven w is_near w.still (plug k t)) leaf wv)
+        (subst (λ t. Balanced (plug k t)) leaf bal) v (omega (arith, low)) (us ++ vs) list in
+        let red : s.red ≡ n.red = ap (λ o. o.red) (sym (upper_is m root (lying beside s) id made Left n found)) in
+        let mem : m1 ≡ hung m (place_of k) None = e1 ∙ ap (λ o. hung m o None) (same ∙ place) in
         let top_ : root1 ≡ root_hung root (place_of k) None = er ∙ ap (λ o. root_hung root o None) (same ∙ place) in
-        let P : map.FinMap nat_cmp (Slot (Data X S B)) → Option ℕ → Option (ℕ × Side) → Bool → Type 0 = λ q o a b. Emptied w is_near is_item is_value q o a b k in (
-          k,
-          (
-            list,
-            subst (λ q. P q root1 at n.red) (sym mem) (subst (λ o. P (map.remove (hung m (place_of k) None) id) o at n.red) (sym top_)
-                (subst (λ a. P (map.remove (hung m (place_of k) None) id) (root_hung root (place_of k) None) a n.red) (sym place)
-                (subst (λ b. P (map.remove (hung m (place_of k) None) id) (root_hung root (place_of k) None) (place_of k) b) red empty))),
-          ),
-        )
+        subst {A = map.FinMap nat_cmp (Slot (Data X S B)) × Option ℕ × Option (ℕ × Side) × Bool} (λ q. Unlinked w is_near is_item is_value beside q.0 q.1 q.2 q.3 id (us ++ vs))
+        (λ i. (sym mem i, sym top_ i, sym place i, red i)) unlinked
 
     -- a turn towards its one child's side makes a leaf of a node
     module _ (s : Spot (Data X S B)) (at : Spotted s) (side : Side) (j : ℕ) (is : root_of (below side s) ≡ Some j) where
       pub can_turn_down : Valued w is_item is_value (us ++ (id, x) ∷ vs) → CanTurnAt w is_near is_item is_value m root id side
-      can_turn_down v = (s, at.0, subst IsSome (sym is) refl, at.1, subst (Valued w is_item is_value) (sym at.7) v)
+      can_turn_down v = (lying beside s, at.0, subst IsSome (sym (ap root_of (below_lying beside side s) ∙ is)) refl, at.1, subst (Valued w is_item is_value) (sym at.7) v)
 
-      module _ (none : root_of (below (other side) s) ≡ None) (m2 : map.FinMap nat_cmp (Slot (Data X S B))) (root2 : Option ℕ) (done : TurnedAt w is_near m2 root2 id side s) where
-        lower_leaf : (low : Data X S B) × ((high : Data X S B) × Made m2 root2 (plug s.hole (forked side false j high tip (fork true id low tip tip)))
+      module _ (none : root_of (below (other side) s) ≡ None) (m2 : map.FinMap nat_cmp (Slot (Data X S B))) (root2 : Option ℕ) (done : TurnedAt w is_near m2 root2 id side (lying beside s)) where
+        lower_leaf : (low : Data X S B) × ((high : Data X S B) × Made beside m2 root2 (plug s.hole (forked side false j high tip (fork true id low tip tip)))
             × Lists w is_near (plug s.hole (forked side false j high tip (fork true id low tip tip))) (us ++ (id, x) ∷ vs)
             × Balanced (plug s.hole (forked side false j high tip (fork true id low tip tip))))
         lower_leaf =
@@ -236,7 +251,7 @@ module _ {X S B : Type 0} (w : Weaving X S B) (L : Lawful w) (is_near : B → Ty
               low,
               (
                 high,
-                subst (λ t. Made m2 root2 (plug s.hole t)) now made2,
+                subst (λ t. Made beside m2 root2 (plug s.hole t)) now made2,
                 subst (λ t. Lists w is_near (plug s.hole t) (us ++ (id, x) ∷ vs)) now (wv2, list2 ∙ at.7),
                 C.plugged false 1 s.hole (forked side false j high tip (fork true id low tip tip)) (C.black_forked side 0 j high tip (fork true id low tip tip) (false, (refl, refl)) (true, (refl, (refl, refl), (refl, refl))))
                     (subst (λ l. Fits false l s.hole) one (subst (λ a. Fits a n s.hole) bf f)),
@@ -246,8 +261,8 @@ module _ {X S B : Type 0} (w : Weaving X S B) (L : Lawful w) (is_near : B → Ty
         pub down_leaf : NoChild m2 id
         down_leaf =
             let (low, (high, made2, list2, bal2)) = lower_leaf in let leaf = fork true id low tip tip in
-            let up = subst (λ t. Made m2 root2 (plug s.hole t)) (sym (forked-other side false j high leaf tip)) made2 in
-            (_, slot_here m2 root2 (record { hole = on (other side) false j high tip s.hole; red = true; datum = low; left = tip; right = tip }) id up, refl, refl)
+            let up = subst (λ t. Made beside m2 root2 (plug s.hole t)) (sym (forked-other side false j high leaf tip)) made2 in
+            (_, slot_here m2 root2 (record { beside = beside; hole = on (other side) false j high tip s.hole; red = true; datum = low; left = tip; right = tip }) id up, refl, refl)
 
-        pub down_mended : Mended w is_near m2 root2 (us ++ (id, x) ∷ vs)
+        pub down_mended : Mended w is_near beside m2 root2 (us ++ (id, x) ∷ vs)
         down_mended = let (low, (high, made2, list2, bal2)) = lower_leaf in (plug s.hole (forked side false j high tip (fork true id low tip tip)), made2, list2, bal2)

@@ -3,10 +3,15 @@ pub mod Gaps
 pub mod Growing
 pub mod Heirs
 pub mod Inserting
+pub mod Landing
 pub mod Leaving
+pub mod Levelling
 pub mod Listing
 pub mod Locating
+pub mod Moving
 pub mod Paths
 pub mod Searches
 pub mod Setting
+pub mod Shifting
+pub mod Splitting
 pub mod Steps

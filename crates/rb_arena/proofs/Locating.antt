@@ -1,9 +1,10 @@
 -- The node of an item in the list.
 use Rattle.std.proofs.Common.{None, ◌≡◌, ℕ, List, [], ◌∷◌, ◌++◌, length, Option, Some, refl, sym, ap, ◌∙◌, subst, arith, append_assoc, append-nil, ◌⊎◌, inl, inr, length-append}
 use Rattle.rb_rules.specs.declared.slot.Data.{Data}
+use Rattle.rb_rules.specs.declared.slot.Side.{Side}
 use Rattle.rb_rules.specs.declared.slot.Side.TheVariants.{Left, Right}
 use Rattle.rb_rules.specs.Tree.{Tree, tip, fork, Hole, top, on, plug, above, root_of}
-use Rattle.rb_rules.specs.Memory.{Spot, here}
+use Rattle.rb_rules.specs.Memory.{Spot, here, below}
 use Rattle.rb_rules.specs.Weaving.{Weaving}
 use Rattle.rb_rules.specs.Woven.{entries, lefts, rights, shift_at, AllItems}
 use Rattle.rb_arena.specs.Value.{first_hole, first_or, up_next, last_hole, last_or, up_prev}
@@ -34,6 +35,14 @@ module _ {A : Type 0} where
   cut (p ∷ xs) a ys [] b vs e = inl (xs, (λ i. ap (head_or a) e i ∷ xs), sym (ap tail_of e))
   cut (p ∷ xs) a ys (u ∷ us) b vs e = longer p u xs a ys us b vs (ap (head_or a) e) (cut xs a ys us b vs (ap tail_of e))
 
+-- the same node with that tree beside
+abbrev pub lying : {D : Type 0} → Tree D → Spot D → Spot D
+lying beside s = record { beside = beside; hole = s.hole; red = s.red; datum = s.datum; left = s.left; right = s.right }
+
+pub below_lying : {D : Type 0} (beside : Tree D) (side : Side) (s : Spot D) → below side (lying beside s) ≡ below side s
+below_lying beside Left s = refl
+below_lying beside Right s = refl
+
 module _ {X S B : Type 0} (w : Weaving X S B) where
   -- a node that stands where the item does
   abbrev pub Located : Hole (Data X S B) → Tree (Data X S B) → List (ℕ × X) → ℕ → X → List (ℕ × X) → Type 0
@@ -50,7 +59,7 @@ module _ {X S B : Type 0} (w : Weaving X S B) where
             (s, whole, val, l, ap (λ z. z ++ rights w k) g ∙ append_assoc q (mine ∷ bs) (rights w k) ∙ r)
         | inr rest ↦ elim rest [
           | inl (f, g, h) ↦ let P : ℕ × X → Type 0 = λ p. Located k (fork c i d a b) us p.0 p.1 vs in
-              subst P g (record { hole = k; red = c; datum = d; left = a; right = b }, refl, refl, ap (λ z. lefts w k ++ z) (sym f), ap (λ z. z ++ rights w k) (sym h))
+              subst P g (record { beside = tip; hole = k; red = c; datum = d; left = a; right = b }, refl, refl, ap (λ z. lefts w k ++ z) (sym f), ap (λ z. z ++ rights w k) (sym h))
           | inr (q, f, g) ↦ let (s, whole, val, l, r) = locate (on Right c i d a k) b q id x vs g in
               (s, whole, val, ap (λ z. lefts w k ++ z) (f ∙ sym (append_assoc as_ (mine ∷ []) q)) ∙ sym (append_assoc (lefts w k) (as_ ++ mine ∷ []) q) ∙ l, r)
         ]

@@ -26,11 +26,11 @@ module _ {X S B : Type 0} (w : Weaving X S B) (L : Lawful w) where
   still_plus a = ap (w.plus w.still) (sym (L.plus_minus a w.still)) ∙ sym (L.plus_assoc w.still w.still (w.minus a w.still))
       ∙ ap (λ z. w.plus z (w.minus a w.still)) (L.plus_still w.still) ∙ L.plus_minus a w.still
 
-  module _ (is_near : B → Type 0) (m : map.FinMap nat_cmp (Slot (Data X S B))) (root : Option ℕ) where
+  module _ (is_near : B → Type 0) (beside : Tree (Data X S B)) (m : map.FinMap nat_cmp (Slot (Data X S B))) (root : Option ℕ) where
     -- what is left of the path from at up, where by is the shift so far
     abbrev pub Along : B → Option (ℕ × Side) → B → ℕ → Type 0
     Along all at by n =
-        (k : Hole (Data X S B)) × ((t : Tree (Data X S B)) × (at ≡ place_of k) × Made m root (plug k t) × Woven w is_near w.still (plug k t) × (all ≡ w.plus (shift_at w k) by) × (depth k ≤ n))
+        (k : Hole (Data X S B)) × ((t : Tree (Data X S B)) × (at ≡ place_of k) × Made beside m root (plug k t) × Woven w is_near w.still (plug k t) × (all ≡ w.plus (shift_at w k) by) × (depth k ≤ n))
 
     shift_step : (s : Side) (c : Bool) (p : ℕ) (d : Data X S B) (x : Tree (Data X S B)) (k : Hole (Data X S B)) (by : B)
         → w.plus (shift_at w (on s c p d x k)) by ≡ w.plus (shift_at w k) (passed w s d.delta by)
@@ -39,20 +39,20 @@ module _ {X S B : Type 0} (w : Weaving X S B) (L : Lawful w) where
 
     pub live_next : (all : B) (a : ℕ × Side) (by : B) (n : ℕ) → Along all (Some a) by n → Live m a.0
     live_next all a by n (k, (t, e, made, wv, sum, le)) =
-        let (c, (d, x, k2, is)) = hole_on k a.0 a.1 (sym e) in (_, slot_above m root a.1 c a.0 d x k2 t (subst (λ l. Made m root (plug l t)) is made))
+        let (c, (d, x, k2, is)) = hole_on k a.0 a.1 (sym e) in (_, slot_above m root a.1 c a.0 d x k2 t (subst (λ l. Made beside m root (plug l t)) is made))
 
     pub stands_next : (all : B) (a : ℕ × Side) (by : B) (n : ℕ) → Along all (Some a) by n → Stands m root a.0
     stands_next all a by n (k, (t, e, made, wv, sum, le)) =
-        let (c, (d, x, k2, is)) = hole_on k a.0 a.1 (sym e) in (spot_of a.1 c d t x k2, stands_above m root a.1 c a.0 d x k2 t (subst (λ l. Made m root (plug l t)) is made))
+        let (c, (d, x, k2, is)) = hole_on k a.0 a.1 (sym e) in (spot_of beside a.1 c d t x k2, stands_above m root a.1 c a.0 d x k2 t (subst (λ l. Made beside m root (plug l t)) is made))
 
     datum_next : (s : Side) (c : Bool) (p : ℕ) (d : Data X S B) (x : Tree (Data X S B)) (k : Hole (Data X S B)) (t : Tree (Data X S B)) (slot : Slot (Data X S B))
-        → Made m root (plug (on s c p d x k) t) → map.get m p ≡ Some slot → slot.«data» ≡ d
+        → Made beside m root (plug (on s c p d x k) t) → map.get m p ≡ Some slot → slot.«data» ≡ d
     datum_next s c p d x k t slot made f = ap (λ o. (unwrap_or o slot).«data») (sym f ∙ slot_above m root s c p d x k t made) ∙ data-sided s (above k) (root_of t) (root_of x) c d
 
     pub held_next : (all : B) (a : ℕ × Side) (by : B) (n : ℕ) (slot : Slot (Data X S B)) → is_near all → Along all (Some a) by n → map.get m a.0 ≡ Some slot
         → HeldBy w is_near (passed w a.1 slot.«data».delta by)
     held_next all a by n slot near (k, (t, e, made, wv, sum, le)) f =
-        let (c, (d, x, k2, is)) = hole_on k a.0 a.1 (sym e) in let here = subst (λ l. Made m root (plug l t)) is made in
+        let (c, (d, x, k2, is)) = hole_on k a.0 a.1 (sym e) in let here = subst (λ l. Made beside m root (plug l t)) is made in
         let wv2 = woven_at w L is_near k2 (forked a.1 c a.0 d t x) (subst (λ l. Woven w is_near w.still (plug l t)) is wv) in
         let same = datum_next a.1 c a.0 d x k2 t slot here f in
         let reach : all ≡ w.plus (shift_at w k2) (passed w a.1 slot.«data».delta by)
@@ -62,12 +62,12 @@ module _ {X S B : Type 0} (w : Weaving X S B) (L : Lawful w) where
     pub along_next : (all : B) (a : ℕ × Side) (by : B) (n : ℕ) (slot : Slot (Data X S B)) (at2 : Option (ℕ × Side)) → Along all (Some a) by (suc n) → map.get m a.0 ≡ Some slot
         → AtSpot m root a.0 (λ s. at2 ≡ place_of s.hole) → Along all at2 (passed w a.1 slot.«data».delta by) n
     along_next all a by n slot at2 (k, (t, e, made, wv, sum, le)) f next =
-        let (c, (d, x, k2, is)) = hole_on k a.0 a.1 (sym e) in let here = subst (λ l. Made m root (plug l t)) is made in
+        let (c, (d, x, k2, is)) = hole_on k a.0 a.1 (sym e) in let here = subst (λ l. Made beside m root (plug l t)) is made in
         let same = datum_next a.1 c a.0 d x k2 t slot here f in let deep : depth k ≡ suc (depth k2) = ap depth is ∙ omega arith in (
           k2,
           (
             forked a.1 c a.0 d t x,
-            next (spot_of a.1 c d t x k2) (stands_above m root a.1 c a.0 d x k2 t here) ∙ ap place_of (spot_hole a.1 c d t x k2),
+            next (spot_of beside a.1 c d t x k2) (stands_above m root a.1 c a.0 d x k2 t here) ∙ ap place_of (spot_hole beside a.1 c d t x k2),
             here,
             subst (λ l. Woven w is_near w.still (plug l t)) is wv,
             sum ∙ ap (λ l. w.plus (shift_at w l) by) is ∙ shift_step a.1 c a.0 d x k2 by ∙ ap (λ z. w.plus (shift_at w k2) (passed w a.1 z.delta by)) (sym same),
@@ -82,6 +82,6 @@ module _ {X S B : Type 0} (w : Weaving X S B) (L : Lawful w) where
     along_over all at by (top, (t, e, made, wv, sum, le)) = e
     along_over all at by (on s c i d x k, (t, e, made, wv, sum, le)) = absurd (omega arith)
 
-    pub along_start : (k : Hole (Data X S B)) (t : Tree (Data X S B)) (at : Option (ℕ × Side)) (n : ℕ) → at ≡ place_of k → Made m root (plug k t) → Woven w is_near w.still (plug k t) → depth k ≤ n
+    pub along_start : (k : Hole (Data X S B)) (t : Tree (Data X S B)) (at : Option (ℕ × Side)) (n : ℕ) → at ≡ place_of k → Made beside m root (plug k t) → Woven w is_near w.still (plug k t) → depth k ≤ n
         → Along (shift_at w k) at w.still n × is_near (shift_at w k)
     along_start k t at n e made wv le = ((k, (t, e, made, wv, sym (L.plus_still (shift_at w k)), le)), near_of w L is_near (shift_at w k) t (woven_at w L is_near k t wv))

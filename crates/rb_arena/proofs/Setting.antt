@@ -23,7 +23,7 @@ rb_data true c n i d e x y r = r
 rb_data false c n i d e x y r = r
 
 module _ {X S B : Type 0} (w : Weaving X S B) (L : Lawful w) (is_near : B → Type 0) (is_item : X → Type 0) (is_sum is_value : S → Type 0)
-    (sums : Sums w is_item is_sum) (parts : (a b : S) → is_value (w.join a b) → is_value a × is_value b) (starts_near : is_near w.still) where
+    (sums : Sums w is_item is_sum) (parts : (a b : S) → is_value (w.join a b) → is_value a × is_value b) where
   pub items_with : (us : List (ℕ × X)) (i : ℕ) (x y : X) (vs : List (ℕ × X)) → is_item y → AllItems w is_item (us ++ (i, x) ∷ vs) → AllItems w is_item (us ++ (i, y) ∷ vs)
   items_with [] i x y vs h (g, gs) = (h, gs)
   items_with (u ∷ us) i x y vs h (g, gs) = (g, items_with us i x y vs h gs)
@@ -39,27 +39,24 @@ module _ {X S B : Type 0} (w : Weaving X S B) (L : Lawful w) (is_near : B → Ty
     back = sym (L.shift_plus _ _ x) ∙ ap (λ b. w.shift b x) (L.plus_minus w.still (shift_at w s.hole)) ∙ L.shift_still x
 
     pub held_back : HeldBy w is_near (w.minus w.still (shift_at w s.hole))
-    held_back = (shift_at w s.hole, near, subst is_near (sym (L.plus_minus w.still (shift_at w s.hole))) starts_near)
+    held_back = (shift_at w s.hole, near, subst is_near (sym (L.plus_minus w.still (shift_at w s.hole))) (near_of w L is_near w.still (plug s.hole (here s id)) wv))
 
     pub held_x : is_item x → HeldItem w is_near is_item (w.shift (w.minus w.still (shift_at w s.hole)) x)
     held_x h = (shift_at w s.hole, near, subst is_item (sym back) h)
 
-    abbrev d2 : Data X S B
-    d2 = with_item s.datum (w.shift (w.minus w.still (shift_at w s.hole)) x)
-
-    module _ (us vs : List (ℕ × X)) (l : us ≡ lefts w s.hole ++ entries w (shift_at w s.hole) s.left) (r : vs ≡ entries w (w.plus (shift_at w s.hole) s.datum.delta) s.right ++ rights w s.hole) where
-      list_is : entries w w.still (plug s.hole (fork s.red id (with_item s.datum (w.shift (w.minus w.still (shift_at w s.hole)) x)) s.left s.right)) ≡ us ++ (id, x) ∷ vs
+    module _ (own : X) (is : w.shift (shift_at w s.hole) own ≡ x) (us vs : List (ℕ × X)) (l : us ≡ lefts w s.hole ++ entries w (shift_at w s.hole) s.left) (r : vs ≡ entries w (w.plus (shift_at w s.hole) s.datum.delta) s.right ++ rights w s.hole) where
+      list_is : entries w w.still (plug s.hole (fork s.red id (with_item s.datum own) s.left s.right)) ≡ us ++ (id, x) ∷ vs
       list_is =
           let es = entries w (shift_at w s.hole) s.left in let fs = entries w (w.plus (shift_at w s.hole) s.datum.delta) s.right in
-          let e : ℕ × X = (id, w.shift (shift_at w s.hole) (w.shift (w.minus w.still (shift_at w s.hole)) x)) in
-          entries-plug w L is_near s.hole (fork s.red id d2 s.left s.right) ∙ ap (λ q. lefts w s.hole ++ q) (append_assoc es (e ∷ fs) (rights w s.hole))
-          ∙ sym (append_assoc (lefts w s.hole) es (e ∷ (fs ++ rights w s.hole))) ∙ (λ i. sym l i ++ (id, back i) ∷ sym r i)
+          let e : ℕ × X = (id, w.shift (shift_at w s.hole) own) in
+          entries-plug w L is_near s.hole (fork s.red id (with_item s.datum own) s.left s.right) ∙ ap (λ q. lefts w s.hole ++ q) (append_assoc es (e ∷ fs) (rights w s.hole))
+          ∙ sym (append_assoc (lefts w s.hole) es (e ∷ (fs ++ rights w s.hole))) ∙ (λ i. sym l i ++ (id, is i) ∷ sym r i)
 
       pub slack_set : (m : map.FinMap nat_cmp (Slot (Data X S B))) (root : Option ℕ) → depth s.hole ≤ 127 → Valued w is_item is_value (us ++ (id, x) ∷ vs)
-          → Made m root (plug s.hole (fork s.red id (with_item s.datum (w.shift (w.minus w.still (shift_at w s.hole)) x)) s.left s.right))
-          → IsSlack w is_near is_item is_value m root (Some id) 128 (plug s.hole (fork s.red id (with_item s.datum (w.shift (w.minus w.still (shift_at w s.hole)) x)) s.left s.right))
+          → Made s.beside m root (plug s.hole (fork s.red id (with_item s.datum own) s.left s.right))
+          → IsSlack w is_near is_item is_value s.beside m root (Some id) 128 (plug s.hole (fork s.red id (with_item s.datum own) s.left s.right))
       slack_set m root le v made = (
-        on Left s.red id d2 s.right s.hole,
+        on Left s.red id (with_item s.datum own) s.right s.hole,
         (
           s.left,
           refl,
@@ -73,9 +70,9 @@ module _ {X S B : Type 0} (w : Weaving X S B) (L : Lawful w) (is_near : B → Ty
       )
 
       pub mended_set : (m : map.FinMap nat_cmp (Slot (Data X S B))) (root : Option ℕ) → Balanced (plug s.hole (here s id))
-          → RenewedFrom w is_near m root (plug s.hole (fork s.red id (with_item s.datum (w.shift (w.minus w.still (shift_at w s.hole)) x)) s.left s.right)) → Mended w is_near m root (us ++ (id, x) ∷ vs)
+          → RenewedFrom w is_near s.beside m root (plug s.hole (fork s.red id (with_item s.datum own) s.left s.right)) → Mended w is_near s.beside m root (us ++ (id, x) ∷ vs)
       mended_set m root bal (u, made, wv2, alike) =
-          let whole = plug s.hole (fork s.red id d2 s.left s.right) in
+          let whole = plug s.hole (fork s.red id (with_item s.datum own) s.left s.right) in
           let (n, (c, q, f)) = C.unplugged s.hole (here s id) bal in
-          let (n2, (c2, q2)) = C.plugged c n s.hole (fork s.red id d2 s.left s.right) (rb_data s.red c n id s.datum d2 s.left s.right q) f in
+          let (n2, (c2, q2)) = C.plugged c n s.hole (fork s.red id (with_item s.datum own) s.left s.right) (rb_data s.red c n id s.datum (with_item s.datum own) s.left s.right q) f in
           (u, made, (wv2, same_items w w.still u whole alike ∙ list_is), (n2, (c2, same_colours c2 n2 whole u (sym alike) q2)))

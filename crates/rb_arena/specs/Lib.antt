@@ -4,4 +4,5 @@ pub mod Mending
 pub mod Placing
 pub mod Rising
 pub mod Searching
+pub mod Shifting
 pub mod Value

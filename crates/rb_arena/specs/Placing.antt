@@ -1,16 +1,16 @@
 -- A place for an item in a tree in memory.
-use Rattle.std.specs.Prelude.{◌≡◌, ℕ, ◌≤◌, ◌∷◌, ◌++◌, Option, Some, None}
+use Rattle.std.specs.Prelude.{◌≡◌, ℕ, ◌+◌, ◌≤◌, true, ◌∷◌, ◌++◌, Option, Some, None}
 use Rattle.std.specs.Ordering.{nat_cmp}
 use Rattle.std.specs.FinMap as map
 use Rattle.rb_rules.specs.declared.slot.Data.{Data}
 use Rattle.rb_rules.specs.declared.slot.Side.{Side}
 use Rattle.rb_rules.specs.declared.slot.Side.TheVariants.{Left, Right}
 use Rattle.rb_rules.specs.declared.slot.Slot.{Slot}
-use Rattle.rb_rules.specs.Tree.{Tree, tip, Hole, plug, depth, root_of, height}
+use Rattle.rb_rules.specs.Tree.{Tree, tip, Hole, plug, above, depth, root_of, height, count}
 use Rattle.rb_rules.specs.Colours.{Balanced}
-use Rattle.rb_rules.specs.Memory.{Made, place_of}
-use Rattle.rb_rules.specs.Weaving.{Weaving}
-use Rattle.rb_rules.specs.Woven.{Woven, Valued, lefts, rights}
+use Rattle.rb_rules.specs.Memory.{sided, Made, place_of}
+use Rattle.rb_rules.specs.Weaving.{Weaving, summed}
+use Rattle.rb_rules.specs.Woven.{Woven, Valued, lefts, rights, shift_at}
 
 -- the shift of the subtree on that side of a node, from that of the node
 abbrev pub passed : {X S B : Type 0} → Weaving X S B → Side → B → B → B
@@ -21,21 +21,39 @@ abbrev pub above_place : Option (ℕ × Side) → Option ℕ
 above_place None = None
 above_place (Some at) = Some at.0
 
-module _ {D : Type 0} (m : map.FinMap nat_cmp (Slot D)) (root : Option ℕ) (place : Option (ℕ × Side)) where
+module _ {D : Type 0} (beside : Tree D) (m : map.FinMap nat_cmp (Slot D)) (root : Option ℕ) (place : Option (ℕ × Side)) where
   -- the place is that of a hole of the tree that lies in the memory
   abbrev pub HoleAt : Tree D → Hole D → Type 0
-  HoleAt t k = (place ≡ place_of k) × Made m root (plug k t)
+  HoleAt t k = (place ≡ place_of k) × Made beside m root (plug k t)
 
-module _ {X S B : Type 0} (w : Weaving X S B) (is_near : B → Type 0) (m : map.FinMap nat_cmp (Slot (Data X S B))) (root : Option ℕ) (place : Option (ℕ × Side)) where
+module _ {X S B : Type 0} (w : Weaving X S B) (is_near : B → Type 0) (beside : Tree (Data X S B)) (m : map.FinMap nat_cmp (Slot (Data X S B))) (root : Option ℕ) (place : Option (ℕ × Side)) where
   -- the same for a tree that keeps the right sums, with no more than 128 nodes above
   abbrev pub WovenAt : Tree (Data X S B) → Hole (Data X S B) → Type 0
-  WovenAt t k = HoleAt m root place t k × Woven w is_near w.still (plug k t) × (depth k ≤ 128)
+  WovenAt t k = HoleAt beside m root place t k × Woven w is_near w.still (plug k t) × (depth k ≤ 128)
 
   -- an item may come to the place: all are values afterwards
   abbrev pub CanTake : (X → Type 0) → (S → Type 0) → X → Hole (Data X S B) → Type 0
   CanTake is_item is_value x k =
       WovenAt tip k × Balanced (plug k tip) × Valued w is_item is_value (lefts w k ++ (0, x) ∷ rights w k)
 
+-- what a leaf in a hole keeps of an item
+abbrev pub leaf_of : {X S B : Type 0} → Weaving X S B → Hole (Data X S B) → X → Data X S B
+leaf_of w k x = summed w (w.shift (w.minus w.still (shift_at w k)) x) w.still w.none w.none
+
+-- the name is that of a leaf for the hole, which stands neither in the tree nor in the one beside
+abbrev pub IsLeaf : {X S B : Type 0} → Weaving X S B → Tree (Data X S B) → map.FinMap nat_cmp (Slot (Data X S B)) → ℕ → X → Hole (Data X S B) → Type 0
+IsLeaf w beside m id x k =
+    (map.get m id ≡ Some (sided Left (above k) None None true (leaf_of w k x))) × (count id (plug k tip) + count id beside ≡ 0)
+
 -- the tree hangs at the place, with no path longer than 128 nodes
-abbrev pub StartsAt : {D : Type 0} → map.FinMap nat_cmp (Slot D) → Option ℕ → Option (ℕ × Side) → Option ℕ → Tree D → Hole D → Type 0
-StartsAt m root from below t k = HoleAt m root from t k × (below ≡ root_of t) × (height t ≤ 128)
+abbrev pub StartsAt : {D : Type 0} → Tree D → map.FinMap nat_cmp (Slot D) → Option ℕ → Option (ℕ × Side) → Option ℕ → Tree D → Hole D → Type 0
+StartsAt beside m root from below t k = HoleAt beside m root from t k × (below ≡ root_of t) × (height t ≤ 128)
+
+-- the place on the right of the node of that name, or the topmost
+abbrev pub right_of : Option ℕ → Option (ℕ × Side)
+right_of None = None
+right_of (Some id) = Some (id, Right)
+
+-- the tree hangs there, with no path longer than 128 nodes
+abbrev pub HangsAfter : {D : Type 0} → Tree D → map.FinMap nat_cmp (Slot D) → Option ℕ → Option ℕ → Tree D → Hole D → Type 0
+HangsAfter beside m root id t k = HoleAt beside m root (right_of id) t k × (height t ≤ 128)

@@ -1,28 +1,31 @@
 -- What a contract sees of a tree: its items in order, each under its name.
-use Rattle.std.specs.Prelude.{◌≡◌, ℕ, zero, suc, ◌<◌, ◌^◌, List, [], length, ◌∷◌, ◌++◌, Option, Some, None, refl}
+use Rattle.std.specs.Prelude.{◌≡◌, ℕ, zero, suc, ◌+◌, ◌<◌, ◌^◌, List, [], length, ◌∷◌, ◌++◌, Option, Some, None, refl}
 use Rattle.std.specs.Coded.{Coded, code_by, coded×, coded_list, coded_ℕ}
 use Rattle.std.specs.Ordering.{nat_cmp}
 use Rattle.std.specs.FinMap as map
 use Rattle.rb_rules.specs.declared.slot.Data.{Data}
 use Rattle.rb_rules.specs.declared.slot.Side.TheVariants.{Left, Right}
 use Rattle.rb_rules.specs.declared.slot.Slot.{Slot}
-use Rattle.rb_rules.specs.Tree.{Tree, tip, fork, Hole, top, on}
+use Rattle.rb_rules.specs.Tree.{Tree, tip, fork, Hole, top, on, root_of}
 use Rattle.rb_rules.specs.Colours.{Balanced}
 use Rattle.rb_rules.specs.Memory.{Made}
 use Rattle.rb_rules.specs.Weaving.{Weaving}
 use Rattle.rb_rules.specs.Woven.{entries, sum_of, Woven, Valued}
 
--- the items in order, each with its name, and for how many more there is room
+-- the items in order, each with its name, those that were lifted out of the list, and for how many more there is room
 pub record Listed (X : Type 0) : Type 0 where
   pub items : List (ℕ × X)
+  pub loose : List (ℕ × X)
   pub spare : ℕ
 
 module _ {X : Type 0} where
-  abbrev pub listed : List (ℕ × X) → ℕ → Listed X
-  listed items spare = record { items = items; spare = spare }
+  abbrev pub listed : List (ℕ × X) → List (ℕ × X) → ℕ → Listed X
+  listed items loose spare = record { items = items; loose = loose; spare = spare }
 
   abbrev pub listed_code : Coded X → Coded (Listed X)
-  listed_code c = code_by (List (ℕ × X) × ℕ) (coded× (coded_list (coded× coded_ℕ c)) coded_ℕ) (λ l. (l.items, l.spare)) (λ p. listed p.0 p.1) (λ _. refl)
+  listed_code c =
+      let entries = coded_list (coded× coded_ℕ c) in
+      code_by (List (ℕ × X) × (List (ℕ × X) × ℕ)) (coded× entries (coded× entries coded_ℕ)) (λ l. (l.items, (l.loose, l.spare))) (λ p. listed p.0 p.1.0 p.1.1) (λ _. refl)
 
   -- the items are us, then x under that name, and then vs
   abbrev pub SplitsAt : List (ℕ × X) → ℕ → List (ℕ × X) → X → List (ℕ × X) → Type 0
@@ -31,6 +34,25 @@ module _ {X : Type 0} where
   -- the name is that of an item
   abbrev pub IsItem : List (ℕ × X) → ℕ → Type 0
   IsItem items id = (us : List (ℕ × X)) × ((x : X) × ((vs : List (ℕ × X)) × SplitsAt items id us x vs))
+
+  -- the place right after the item of that name, or before all items
+  abbrev pub PlaceAfter : List (ℕ × X) → Option ℕ → Type 0
+  PlaceAfter items None = Unit {0}
+  PlaceAfter items (Some id) = IsItem items id
+
+  -- the list ends with the item of that name, or is empty where there is no name
+  abbrev pub EndsWith : List (ℕ × X) → Option ℕ → Type 0
+  EndsWith us None = us ≡ []
+  EndsWith us (Some id) = (ws : List (ℕ × X)) × ((x : X) × (us ≡ ws ++ (id, x) ∷ []))
+
+  -- the items are us and then vs, which are those after the one of that name, or all of them
+  abbrev pub SplitsAfter : List (ℕ × X) → Option ℕ → List (ℕ × X) → List (ℕ × X) → Type 0
+  SplitsAfter items id us vs = (items ≡ us ++ vs) × EndsWith us id
+
+  -- the first, if any
+  abbrev pub front_of : List (ℕ × X) → Option (ℕ × X)
+  front_of [] = None
+  front_of (e ∷ es) = Some e
 
 module _ {D : Type 0} where
   -- the tree that lies in the memory below that name, cut off at a depth of n nodes
@@ -44,19 +66,33 @@ module _ {D : Type 0} where
   first_hole k tip = k
   first_hole k (fork c i d x y) = first_hole (on Left c i d y k) x
 
-module _ {X S B : Type 0} (w : Weaving X S B) (is_near : B → Type 0) (is_item : X → Type 0) (is_value : S → Type 0) where
+module _ {X S B : Type 0} (w : Weaving X S B) where
   -- no path is longer than 128 nodes
   abbrev pub items_in : map.FinMap nat_cmp (Slot (Data X S B)) → Option ℕ → List (ℕ × X)
   items_in m root = entries w w.still (grown m 128 root)
 
-  -- a red-black tree with the right sums lies in the memory, all of which are its nodes, over items that are values
-  pub record Keeps (m : map.FinMap nat_cmp (Slot (Data X S B))) (root : Option ℕ) : Type 0 where
+  -- no chain is longer than the memory
+  abbrev pub loose_in : map.FinMap nat_cmp (Slot (Data X S B)) → Option ℕ → List (ℕ × X)
+  loose_in m front = entries w w.still (grown m (map.len m) front)
+
+  -- no node has a subtree on the left, and none moves those on the right
+  abbrev pub Chain : Tree (Data X S B) → Type 0
+  Chain tip = Unit {0}
+  Chain (fork c i d x y) = (x ≡ tip) × (d.delta ≡ w.still) × Chain y
+
+module _ {X S B : Type 0} (w : Weaving X S B) (is_near : B → Type 0) (is_item : X → Type 0) (is_value : S → Type 0) where
+  -- A red-black tree with the right sums lies in the memory, over items that are values, and a chain of the loose nodes beside it.
+  -- All are nodes of one or the other.
+  pub record Keeps (m : map.FinMap nat_cmp (Slot (Data X S B))) (root front : Option ℕ) : Type 0 where
+    pub beside : Tree (Data X S B)
     pub tree : Tree (Data X S B)
-    pub made : Made m root tree
+    pub made : Made beside m root tree
+    pub first : front ≡ root_of beside
+    pub chain : Chain w beside
     pub woven : Woven w is_near w.still tree
     pub balanced : Balanced tree
     pub values : Valued w is_item is_value (entries w w.still tree)
-    pub all : length (entries w w.still tree) ≡ map.len m
+    pub all : length (entries w w.still tree) + length (entries w w.still beside) ≡ map.len m
     pub few : map.len m < 2 ^ 63
 
 -- the name of the first item, or o where there is none

@@ -16,7 +16,7 @@ pub(crate) const LONGEST: u32 = 128;
 /// Renews the sums of one node from those of its subtrees.
 fn renew<W: Weave>(tree: &mut Links<Data<W::Item, W::Sum, W::By>>, id: NodeId)
     requires { CanRenew W.weaving W.is_near W.is_item W.is_value tree.old.nodes.live tree.old.root id }
-    ensures made { AtSpot tree.old.nodes.live tree.old.root id (λ s. Made tree.new.nodes.live tree.new.root (plug s.hole (fork s.red id (renewed W.weaving W.is_near s) s.left s.right))) }
+    ensures made { AtSpot tree.old.nodes.live tree.old.root id (λ s. Made s.beside tree.new.nodes.live tree.new.root (plug s.hole (fork s.red id (renewed W.weaving s) s.left s.right))) }
     ensures spare { tree.new.nodes.spare ≡ tree.old.nodes.spare }
     ensures as_many { map.len tree.new.nodes.live ≡ map.len tree.old.nodes.live }
 {
@@ -32,8 +32,8 @@ pub(crate) fn renew_up<W: Weave>(
     tree: &mut Links<Data<W::Item, W::Sum, W::By>>,
     from: Option<NodeId>,
 )
-    requires { (t : Tree (Data W.Item W.Sum W.By)) × IsSlack W.weaving W.is_near W.is_item W.is_value tree.old.nodes.live tree.old.root from 128 t }
-    ensures made { (t : Tree (Data W.Item W.Sum W.By)) → IsSlack W.weaving W.is_near W.is_item W.is_value tree.old.nodes.live tree.old.root from 128 t → RenewedFrom W.weaving W.is_near tree.new.nodes.live tree.new.root t }
+    requires { (reach : W.By) × ((beside : Tree (Data W.Item W.Sum W.By)) × ((t : Tree (Data W.Item W.Sum W.By)) × IsSlack W.weaving (W.within reach) W.is_item W.is_value beside tree.old.nodes.live tree.old.root from 128 t)) }
+    ensures made { (reach : W.By) (beside t : Tree (Data W.Item W.Sum W.By)) → IsSlack W.weaving (W.within reach) W.is_item W.is_value beside tree.old.nodes.live tree.old.root from 128 t → RenewedFrom W.weaving (W.within reach) beside tree.new.nodes.live tree.new.root t }
     ensures spare { tree.new.nodes.spare ≡ tree.old.nodes.spare }
     ensures as_many { map.len tree.new.nodes.live ≡ map.len tree.old.nodes.live }
 {

@@ -36,9 +36,9 @@ pub(crate) fn descend<W: Weave, L: Ledger>(
     key: W::Key,
     steps: &mut Steps<L>,
 ) -> Option<(NodeId, W::Item, W::Sum)>
-    requires { (t : Tree (Data W.Item W.Sum W.By)) × Made tree.now.nodes.live tree.now.root t × Woven W.weaving W.is_near W.weaving.still t × Valued W.weaving W.is_item W.is_value (entries W.weaving W.weaving.still t) × (height t ≤ 126) }
-    ensures found { (t : Tree (Data W.Item W.Sum W.By)) → Made tree.now.nodes.live tree.now.root t → Woven W.weaving W.is_near W.weaving.still t → height t ≤ 126 → Found W.weaving W.turn key (entries W.weaving W.weaving.still t) result }
-    ensures cost { (t : Tree (Data W.Item W.Sum W.By)) → Made tree.now.nodes.live tree.now.root t → Woven W.weaving W.is_near W.weaving.still t → height t ≤ 126 → steps.new - steps.old ≤ height t }
+    requires { (beside : Tree (Data W.Item W.Sum W.By)) × ((t : Tree (Data W.Item W.Sum W.By)) × Made beside tree.now.nodes.live tree.now.root t × Woven W.weaving W.is_near W.weaving.still t × Valued W.weaving W.is_item W.is_value (entries W.weaving W.weaving.still t) × (height t ≤ 126)) }
+    ensures found { (beside t : Tree (Data W.Item W.Sum W.By)) → Made beside tree.now.nodes.live tree.now.root t → Woven W.weaving W.is_near W.weaving.still t → height t ≤ 126 → Found W.weaving W.turn key (entries W.weaving W.weaving.still t) result }
+    ensures cost { (beside t : Tree (Data W.Item W.Sum W.By)) → Made beside tree.now.nodes.live tree.now.root t → Woven W.weaving W.is_near W.weaving.still t → height t ≤ 126 → steps.new - steps.old ≤ height t }
 {
     let mut at = tree.root;
     let mut by = W::still();

@@ -1,16 +1,17 @@
 //! A new item at a place of the tree.
 ghost use Rattle.std.specs.Prelude.{◌≡◌, ◌+◌, ◌<◌, ◌^◌, true, None, ◌∷◌, ◌++◌};
 ghost use Rattle.std.specs.FinMap as map;
-ghost use Rattle.raw_arena.specs.Arena.{node};
-ghost use Rattle.rb_rules.specs.Tree.{Tree, Hole, tip, fork, plug};
-ghost use Rattle.rb_rules.specs.Memory.{Made};
+ghost use Rattle.raw_arena.specs.Arena.{IsLive};
+ghost use Rattle.rb_rules.specs.Tree.{Tree, Hole, tip, plug, above, count};
+ghost use Rattle.rb_rules.specs.declared.slot.Side.TheVariants.{Left};
+ghost use Rattle.rb_rules.specs.Memory.{sided};
 ghost use Rattle.rb_rules.specs.Woven.{shift_at, lefts, rights};
 ghost use Rattle.rb_rules.specs.Weaving.{HeldBy};
-ghost use Rattle.rb_arena.specs.Placing.{above_place, passed, HoleAt, WovenAt, CanTake};
+ghost use Rattle.rb_arena.specs.Placing.{above_place, passed, WovenAt, CanTake, leaf_of, IsLeaf};
 ghost use Rattle.rb_arena.specs.Rising.{Mended};
 
 use crate::climb::{LONGEST, renew_up};
-use crate::links::{Links, Place, hang, place, read};
+use crate::links::{Links, Place, hang, place, read, write};
 use crate::mend::mend;
 use crate::sums::summed;
 use raw_arena::NodeId;
@@ -26,22 +27,6 @@ pub(crate) fn parent_at(at: &Place) -> Option<NodeId>
     }
 }
 
-/// Hangs a new red leaf at an empty place.
-fn attach<D: Copy>(tree: &mut Links<D>, at: Place, datum: D) -> NodeId
-    requires room { 0 < tree.old.nodes.spare }
-    requires hole { (k : Hole D) × HoleAt tree.old.nodes.live tree.old.root at tip k }
-    ensures new_name { node tree.old.nodes result ≡ None }
-    ensures made { (k : Hole D) → HoleAt tree.old.nodes.live tree.old.root at tip k → Made tree.new.nodes.live tree.new.root (plug k (fork true result datum tip tip)) }
-    ensures spare { tree.new.nodes.spare + 1 ≡ tree.old.nodes.spare }
-    ensures as_many { map.len tree.new.nodes.live ≡ map.len tree.old.nodes.live + 1 }
-    ensures few { map.len tree.new.nodes.live + tree.new.nodes.spare < 2 ^ 63 }
-{
-    let leaf = Slot::sided(Side::Left, parent_at(&at), None, None, true, datum);
-    let id = tree.nodes.put(leaf);
-    hang(tree, at, Some(id));
-    id
-}
-
 /// One node's part in the shift of a path that goes to that side of it.
 fn pass<W: Weave>(side: Side, delta: W::By, by: W::By) -> W::By
     requires { HeldBy W.weaving W.is_near (passed W.weaving side delta by) }
@@ -55,8 +40,8 @@ fn pass<W: Weave>(side: Side, delta: W::By, by: W::By) -> W::By
 
 /// What the shifts on the path to a place come to.
 pub(crate) fn path_shift<W: Weave>(tree: &Links<Data<W::Item, W::Sum, W::By>>, from: Place) -> W::By
-    requires { (t : Tree (Data W.Item W.Sum W.By)) × ((k : Hole (Data W.Item W.Sum W.By)) × WovenAt W.weaving W.is_near tree.now.nodes.live tree.now.root from t k) }
-    ensures { (t : Tree (Data W.Item W.Sum W.By)) (k : Hole (Data W.Item W.Sum W.By)) → WovenAt W.weaving W.is_near tree.now.nodes.live tree.now.root from t k → result ≡ shift_at W.weaving k }
+    requires { (beside : Tree (Data W.Item W.Sum W.By)) × ((t : Tree (Data W.Item W.Sum W.By)) × ((k : Hole (Data W.Item W.Sum W.By)) × WovenAt W.weaving W.is_near beside tree.now.nodes.live tree.now.root from t k)) }
+    ensures { (beside t : Tree (Data W.Item W.Sum W.By)) (k : Hole (Data W.Item W.Sum W.By)) → WovenAt W.weaving W.is_near beside tree.now.nodes.live tree.now.root from t k → result ≡ shift_at W.weaving k }
 {
     let mut at = from;
     let mut by = W::still();
@@ -80,6 +65,34 @@ pub(crate) fn copy_of(at: &Place) -> Place
     }
 }
 
+/// A leaf for an empty place.
+fn leaf_at<W: Weave>(
+    tree: &Links<Data<W::Item, W::Sum, W::By>>,
+    at: &Place,
+    item: W::Item,
+) -> Slot<Data<W::Item, W::Sum, W::By>>
+    requires { (beside : Tree (Data W.Item W.Sum W.By)) × ((k : Hole (Data W.Item W.Sum W.By)) × CanTake W.weaving W.is_near beside tree.now.nodes.live tree.now.root at.now W.is_item W.is_value item k) }
+    ensures { (beside : Tree (Data W.Item W.Sum W.By)) (k : Hole (Data W.Item W.Sum W.By)) → CanTake W.weaving W.is_near beside tree.now.nodes.live tree.now.root at.now W.is_item W.is_value item k → result ≡ sided Left (above k) None None true (leaf_of W.weaving k item) }
+{
+    let by = path_shift::<W>(tree, copy_of(at));
+    let own = W::shift(W::minus(W::still(), by), item);
+    let datum = summed::<W>(own, W::still(), W::none(), W::none());
+    Slot::sided(Side::Left, parent_at(at), None, None, true, datum)
+}
+
+/// Hangs a leaf at an empty place.
+fn hang_leaf<W: Weave>(tree: &mut Links<Data<W::Item, W::Sum, W::By>>, at: Place, id: NodeId)
+    requires { (reach : W.By) × ((beside : Tree (Data W.Item W.Sum W.By)) × ((k : Hole (Data W.Item W.Sum W.By)) × ((x : W.Item) × CanTake W.weaving (W.within reach) beside tree.old.nodes.live tree.old.root at W.is_item W.is_value x k × IsLeaf W.weaving beside tree.old.nodes.live id x k))) }
+    ensures mended { (reach : W.By) (beside : Tree (Data W.Item W.Sum W.By)) (k : Hole (Data W.Item W.Sum W.By)) (x : W.Item) → CanTake W.weaving (W.within reach) beside tree.old.nodes.live tree.old.root at W.is_item W.is_value x k → IsLeaf W.weaving beside tree.old.nodes.live id x k → Mended W.weaving (W.within reach) beside tree.new.nodes.live tree.new.root (lefts W.weaving k ++ (id, x) ∷ rights W.weaving k) }
+    ensures spare { tree.new.nodes.spare ≡ tree.old.nodes.spare }
+    ensures as_many { map.len tree.new.nodes.live ≡ map.len tree.old.nodes.live }
+{
+    let parent = parent_at(&at);
+    hang(tree, at, Some(id));
+    renew_up::<W>(tree, parent);
+    mend::<W>(tree, id);
+}
+
 /// Puts an item at an empty place.
 pub(crate) fn insert_at<W: Weave>(
     tree: &mut Links<Data<W::Item, W::Sum, W::By>>,
@@ -87,18 +100,32 @@ pub(crate) fn insert_at<W: Weave>(
     item: W::Item,
 ) -> NodeId
     requires room { 0 < tree.old.nodes.spare }
-    requires hole { (k : Hole (Data W.Item W.Sum W.By)) × CanTake W.weaving W.is_near tree.old.nodes.live tree.old.root at W.is_item W.is_value item k }
-    ensures mended { (k : Hole (Data W.Item W.Sum W.By)) → CanTake W.weaving W.is_near tree.old.nodes.live tree.old.root at W.is_item W.is_value item k → Mended W.weaving W.is_near tree.new.nodes.live tree.new.root (lefts W.weaving k ++ (result, item) ∷ rights W.weaving k) }
+    requires hole { (reach : W.By) × ((beside : Tree (Data W.Item W.Sum W.By)) × ((k : Hole (Data W.Item W.Sum W.By)) × CanTake W.weaving (W.within reach) beside tree.old.nodes.live tree.old.root at W.is_item W.is_value item k)) }
+    ensures mended { (reach : W.By) (beside : Tree (Data W.Item W.Sum W.By)) (k : Hole (Data W.Item W.Sum W.By)) → CanTake W.weaving (W.within reach) beside tree.old.nodes.live tree.old.root at W.is_item W.is_value item k → Mended W.weaving (W.within reach) beside tree.new.nodes.live tree.new.root (lefts W.weaving k ++ (result, item) ∷ rights W.weaving k) }
     ensures spare { tree.new.nodes.spare + 1 ≡ tree.old.nodes.spare }
     ensures as_many { map.len tree.new.nodes.live ≡ map.len tree.old.nodes.live + 1 }
     ensures few { map.len tree.new.nodes.live + tree.new.nodes.spare < 2 ^ 63 }
 {
-    let by = path_shift::<W>(tree, copy_of(&at));
-    let own = W::shift(W::minus(W::still(), by), item);
-    let leaf = summed::<W>(own, W::still(), W::none(), W::none());
-    let parent = parent_at(&at);
-    let id = attach(tree, at, leaf);
-    renew_up::<W>(tree, parent);
-    mend::<W>(tree, id);
+    let leaf = leaf_at::<W>(tree, &at, item);
+    let id = tree.nodes.put(leaf);
+    hang_leaf::<W>(tree, at, id);
     id
+}
+
+/// Puts an item at an empty place, at a node that stands in no tree.
+pub(crate) fn land_at<W: Weave>(
+    tree: &mut Links<Data<W::Item, W::Sum, W::By>>,
+    at: Place,
+    id: NodeId,
+    item: W::Item,
+)
+    requires live { IsLive tree.old.nodes id }
+    requires hole { (reach : W.By) × ((beside : Tree (Data W.Item W.Sum W.By)) × ((k : Hole (Data W.Item W.Sum W.By)) × CanTake W.weaving (W.within reach) beside tree.old.nodes.live tree.old.root at W.is_item W.is_value item k × (count id (plug k tip) + count id beside ≡ 0))) }
+    ensures mended { (reach : W.By) (beside : Tree (Data W.Item W.Sum W.By)) (k : Hole (Data W.Item W.Sum W.By)) → CanTake W.weaving (W.within reach) beside tree.old.nodes.live tree.old.root at W.is_item W.is_value item k → count id (plug k tip) + count id beside ≡ 0 → Mended W.weaving (W.within reach) beside tree.new.nodes.live tree.new.root (lefts W.weaving k ++ (id, item) ∷ rights W.weaving k) }
+    ensures spare { tree.new.nodes.spare ≡ tree.old.nodes.spare }
+    ensures as_many { map.len tree.new.nodes.live ≡ map.len tree.old.nodes.live }
+{
+    let leaf = leaf_at::<W>(tree, &at, item);
+    write(&mut tree.nodes, id, leaf);
+    hang_leaf::<W>(tree, at, id);
 }

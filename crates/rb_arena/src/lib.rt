@@ -6,8 +6,10 @@ mod close;
 mod descend;
 mod insert;
 mod leave;
+mod level;
 mod links;
 mod mend;
+mod shift;
 mod sums;
 mod tree;
 

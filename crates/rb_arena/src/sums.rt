@@ -91,7 +91,7 @@ pub(crate) fn turn_node<W: Weave>(
     side: Side,
 )
     requires { CanTurnAt W.weaving W.is_near W.is_item W.is_value tree.old.nodes.live tree.old.root id side }
-    ensures turned { AtSpot tree.old.nodes.live tree.old.root id (λ s. TurnedAt W.weaving W.is_near tree.new.nodes.live tree.new.root id side s) }
+    ensures turned { AtSpot tree.old.nodes.live tree.old.root id (λ s. (reach : W.By) → TurnedAt W.weaving (W.within reach) tree.new.nodes.live tree.new.root id side s) }
     ensures spare { tree.new.nodes.spare ≡ tree.old.nodes.spare }
     ensures as_many { map.len tree.new.nodes.live ≡ map.len tree.old.nodes.live }
 {
@@ -113,7 +113,7 @@ pub(crate) fn replace_item<W: Weave>(
     item: W::Item,
 )
     requires { Stands tree.old.nodes.live tree.old.root id }
-    ensures made { AtSpot tree.old.nodes.live tree.old.root id (λ s. Made tree.new.nodes.live tree.new.root (plug s.hole (fork s.red id (with_item s.datum item) s.left s.right))) }
+    ensures made { AtSpot tree.old.nodes.live tree.old.root id (λ s. Made s.beside tree.new.nodes.live tree.new.root (plug s.hole (fork s.red id (with_item s.datum item) s.left s.right))) }
     ensures spare { tree.new.nodes.spare ≡ tree.old.nodes.spare }
     ensures as_many { map.len tree.new.nodes.live ≡ map.len tree.old.nodes.live }
 {

@@ -2,17 +2,19 @@
 ghost use Rattle.std.specs.Prelude.{◌≡◌, ℕ, List, None, length, ◌-◌, ◌^◌, ◌+◌, ◌<◌, ◌≤◌, [], ◌∷◌, ◌++◌, OnOk};
 ghost use Rattle.rb_rules.specs.Tree.{Tree, Hole, plug, depth};
 ghost use Rattle.rb_rules.specs.Memory.{Made, Spot, here, AtSpot, place_of};
-ghost use Rattle.rb_rules.specs.Woven.{sum_of};
-ghost use Rattle.rb_arena.specs.Value.{listed, first_hole, first_or, last_hole, last_or, up_next, up_prev, IsItem, SplitsAt, SumsTo, SumsWith};
-ghost use Rattle.rb_arena.specs.Placing.{StartsAt};
+ghost use Rattle.rb_rules.specs.Woven.{AllItems, sum_of};
+ghost use Rattle.rb_rules.specs.Shifts.{shifted};
+ghost use Rattle.rb_arena.specs.Value.{listed, first_hole, first_or, last_hole, last_or, up_next, up_prev, IsItem, SplitsAt, SplitsAfter, SumsTo, SumsWith, PlaceAfter, front_of};
+ghost use Rattle.rb_arena.specs.Placing.{StartsAt, HangsAfter};
 ghost use Rattle.rb_arena.specs.Searching.{Found};
 
 use crate::climb::{LONGEST, renew_up};
 use crate::descend::descend;
-use crate::insert::{insert_at, parent_at, path_shift};
-use crate::leave::leave;
-use crate::links::{Links, Place, place, read};
-use crate::sums::replace_item;
+use crate::insert::{insert_at, land_at, parent_at};
+use crate::leave::{item_at, item_for, leave, loosen};
+use crate::links::{Links, Place, place, read, unstring};
+use crate::shift::{reach_for, shift_from};
+use crate::sums::{replace_item, whole};
 use raw_arena::{Arena, NodeId};
 use rb_rules::{Data, Side, Weave};
 use std::alloc::{AllocError, Global};
@@ -22,28 +24,33 @@ use steps::Steps;
 
 /// A list of items in a red-black tree that keeps sums of them.
 ///
-/// A contract sees the items in order, each under its name, and for how many more there is room.
+/// A contract sees the items in order, each under its name, those that were lifted out of the list and keep their names, and for how
+/// many more there is room.
 #[derive(Drop)]
 pub struct RbTree<W: Weave> {
     links: Links<Data<W::Item, W::Sum, W::By>>,
+    /// A reach within which the shifts of all paths lie.
+    reach: W::By,
+    /// The first of the chain of loose nodes.
+    loose: Option<NodeId>,
 }
 
 impl<W: Weave> Model for RbTree<W> {
-    ghost use Rattle.rb_arena.specs.Value.{Listed, listed, listed_code, items_in, Keeps};
+    ghost use Rattle.rb_arena.specs.Value.{Listed, listed, listed_code, items_in, loose_in, Keeps};
 
     ghost Value = { Listed W.Item };
 
     ghost coded = { listed_code W.Item.code };
 
-    ghost view = { λ t. listed (items_in W.weaving W.is_near W.is_item W.is_value t.links.nodes.live t.links.root) t.links.nodes.spare };
+    ghost view = { λ t. listed (items_in W.weaving t.links.nodes.live t.links.root) (loose_in W.weaving t.links.nodes.live t.loose) t.links.nodes.spare };
 
-    ghost invariant = { λ t. Keeps W.weaving W.is_near W.is_item W.is_value t.links.nodes.live t.links.root };
+    ghost invariant = { λ t. Keeps W.weaving (W.within t.reach) W.is_item W.is_value t.links.nodes.live t.links.root t.loose };
 }
 
 /// The first place of a subtree that hangs at a place.
 pub(crate) fn first_place<D: Copy>(tree: &Links<D>, from: Place, below: Option<NodeId>) -> Place
-    requires { (t : Tree D) × ((k : Hole D) × StartsAt tree.now.nodes.live tree.now.root from below t k) }
-    ensures { (t : Tree D) (k : Hole D) → StartsAt tree.now.nodes.live tree.now.root from below t k → result ≡ place_of (first_hole k t) }
+    requires { (beside : Tree D) × ((t : Tree D) × ((k : Hole D) × StartsAt beside tree.now.nodes.live tree.now.root from below t k)) }
+    ensures { (beside t : Tree D) (k : Hole D) → StartsAt beside tree.now.nodes.live tree.now.root from below t k → result ≡ place_of (first_hole k t) }
 {
     let mut at = from;
     let mut next = below;
@@ -57,9 +64,20 @@ pub(crate) fn first_place<D: Copy>(tree: &Links<D>, from: Place, below: Option<N
     at
 }
 
+/// The place right after a node, or before all nodes.
+fn place_after<D: Copy>(tree: &Links<D>, id: Option<NodeId>) -> Place
+    requires { (beside : Tree D) × ((t : Tree D) × ((k : Hole D) × HangsAfter beside tree.now.nodes.live tree.now.root id t k)) }
+    ensures { (beside t : Tree D) (k : Hole D) → HangsAfter beside tree.now.nodes.live tree.now.root id t k → result ≡ place_of (first_hole k t) }
+{
+    match id {
+        None => first_place(tree, None, tree.root),
+        Some(id) => first_place(tree, Some((id, Side::Right)), read(&tree.nodes, id).right),
+    }
+}
+
 /// The nearest node above that one that stands after it.
 fn next_above<D: Copy>(tree: &Links<D>, id: NodeId) -> Option<NodeId>
-    requires { (s : Spot D) × Made tree.now.nodes.live tree.now.root (plug s.hole (here s id)) × (depth s.hole ≤ 128) }
+    requires { (s : Spot D) × Made s.beside tree.now.nodes.live tree.now.root (plug s.hole (here s id)) × (depth s.hole ≤ 128) }
     ensures { AtSpot tree.now.nodes.live tree.now.root id (λ s. depth s.hole ≤ 128 → result ≡ up_next s.hole) }
 {
     let mut at = place(tree, id);
@@ -77,8 +95,8 @@ fn next_above<D: Copy>(tree: &Links<D>, id: NodeId) -> Option<NodeId>
 
 /// The last place of a subtree that hangs at a place.
 fn last_place<D: Copy>(tree: &Links<D>, from: Place, below: Option<NodeId>) -> Place
-    requires { (t : Tree D) × ((k : Hole D) × StartsAt tree.now.nodes.live tree.now.root from below t k) }
-    ensures { (t : Tree D) (k : Hole D) → StartsAt tree.now.nodes.live tree.now.root from below t k → result ≡ place_of (last_hole k t) }
+    requires { (beside : Tree D) × ((t : Tree D) × ((k : Hole D) × StartsAt beside tree.now.nodes.live tree.now.root from below t k)) }
+    ensures { (beside t : Tree D) (k : Hole D) → StartsAt beside tree.now.nodes.live tree.now.root from below t k → result ≡ place_of (last_hole k t) }
 {
     let mut at = from;
     let mut next = below;
@@ -94,7 +112,7 @@ fn last_place<D: Copy>(tree: &Links<D>, from: Place, below: Option<NodeId>) -> P
 
 /// The nearest node above that one that stands before it.
 fn prev_above<D: Copy>(tree: &Links<D>, id: NodeId) -> Option<NodeId>
-    requires { (s : Spot D) × Made tree.now.nodes.live tree.now.root (plug s.hole (here s id)) × (depth s.hole ≤ 128) }
+    requires { (s : Spot D) × Made s.beside tree.now.nodes.live tree.now.root (plug s.hole (here s id)) × (depth s.hole ≤ 128) }
     ensures { AtSpot tree.now.nodes.live tree.now.root id (λ s. depth s.hole ≤ 128 → result ≡ up_prev s.hole) }
 {
     let mut at = place(tree, id);
@@ -114,19 +132,22 @@ impl<W: Weave> RbTree<W> {
     /// A tree with no item.
     pub fn new(alloc: Global) -> RbTree<W>
         requires { W.is_value W.weaving.none }
-        ensures { result ≡ listed [] 0 }
+        ensures { result ≡ listed [] [] 0 }
     {
         RbTree {
             links: Links {
                 nodes: Arena::new(alloc),
                 root: None,
             },
+            reach: W::still(),
+            loose: None,
         }
     }
 
     /// Makes room for `count` more items. It fails where memory is short.
     pub fn reserve(&mut self, count: u64) -> Result<(), AllocError>
         ensures items { self.new.items ≡ self.old.items }
+        ensures loose { self.new.loose ≡ self.old.loose }
         ensures room { OnOk result (count ≤ self.new.spare) }
         ensures kept { self.old.spare ≤ self.new.spare }
     {
@@ -138,6 +159,13 @@ impl<W: Weave> RbTree<W> {
         ensures { result ≡ first_or None self.now.items }
     {
         parent_at(&first_place(&self.links, None, self.links.root))
+    }
+
+    /// The sum of all items.
+    pub fn sum(&self) -> W::Sum
+        ensures { result ≡ sum_of W.weaving self.now.items }
+    {
+        whole::<W>(&self.links.nodes, self.links.root)
     }
 
     /// The name of the item after that one.
@@ -182,9 +210,7 @@ impl<W: Weave> RbTree<W> {
         requires { IsItem self.now.items id }
         ensures { (us : List (ℕ × W.Item)) (x : W.Item) (vs : List (ℕ × W.Item)) → SplitsAt self.now.items id us x vs → result ≡ x }
     {
-        let at = place(&self.links, id);
-        let by = path_shift::<W>(&self.links, at);
-        W::shift(by, read(&self.links.nodes, id).data.item)
+        item_at::<W>(&self.links, id)
     }
 
     /// Puts another item in the place of that one, under its name.
@@ -193,11 +219,10 @@ impl<W: Weave> RbTree<W> {
         requires value { W.is_item item }
         requires sum { SumsWith W.weaving W.is_value self.old.items id item }
         ensures items { (us : List (ℕ × W.Item)) (x : W.Item) (vs : List (ℕ × W.Item)) → SplitsAt self.old.items id us x vs → self.new.items ≡ us ++ (id, item) ∷ vs }
+        ensures loose { self.new.loose ≡ self.old.loose }
         ensures spare { self.new.spare ≡ self.old.spare }
     {
-        let at = place(&self.links, id);
-        let by = path_shift::<W>(&self.links, at);
-        let own = W::shift(W::minus(W::still(), by), item);
+        let own = item_for::<W>(&self.links, id, item);
         replace_item::<W>(&mut self.links, id, own);
         renew_up::<W>(&mut self.links, Some(id));
     }
@@ -209,10 +234,10 @@ impl<W: Weave> RbTree<W> {
         requires value { W.is_item item }
         requires sum { SumsTo W.weaving W.is_value self.old.items id item }
         ensures items { (us : List (ℕ × W.Item)) (x : W.Item) (vs : List (ℕ × W.Item)) → SplitsAt self.old.items id us x vs → self.new.items ≡ us ++ (id, x) ∷ (result, item) ∷ vs }
+        ensures loose { self.new.loose ≡ self.old.loose }
         ensures spare { self.new.spare + 1 ≡ self.old.spare }
     {
-        let right = read(&self.links.nodes, id).right;
-        let at = first_place(&self.links, Some((id, Side::Right)), right);
+        let at = place_after(&self.links, Some(id));
         insert_at::<W>(&mut self.links, at, item)
     }
 
@@ -222,9 +247,10 @@ impl<W: Weave> RbTree<W> {
         requires value { W.is_item item }
         requires sum { W.is_value (sum_of W.weaving ((0, item) ∷ self.old.items)) }
         ensures items { self.new.items ≡ (result, item) ∷ self.old.items }
+        ensures loose { self.new.loose ≡ self.old.loose }
         ensures spare { self.new.spare + 1 ≡ self.old.spare }
     {
-        let at = first_place(&self.links, None, self.links.root);
+        let at = place_after(&self.links, None);
         insert_at::<W>(&mut self.links, at, item)
     }
 
@@ -232,8 +258,63 @@ impl<W: Weave> RbTree<W> {
     pub fn remove(&mut self, id: NodeId)
         requires { IsItem self.old.items id }
         ensures items { (us : List (ℕ × W.Item)) (x : W.Item) (vs : List (ℕ × W.Item)) → SplitsAt self.old.items id us x vs → self.new.items ≡ us ++ vs }
+        ensures loose { self.new.loose ≡ self.old.loose }
         ensures spare { self.new.spare ≡ self.old.spare + 1 }
     {
         leave::<W>(&mut self.links, id);
+    }
+
+    /// Moves each item after that one, or every item where none is named.
+    pub fn shift_after(&mut self, id: Option<NodeId>, by: W::By)
+        requires named { PlaceAfter self.old.items id }
+        requires values { (us vs : List (ℕ × W.Item)) → SplitsAfter self.old.items id us vs → AllItems W.weaving W.is_item (shifted W.weaving by vs) }
+        requires sum { (us vs : List (ℕ × W.Item)) → SplitsAfter self.old.items id us vs → W.is_value (sum_of W.weaving (us ++ shifted W.weaving by vs)) }
+        ensures items { (us vs : List (ℕ × W.Item)) → SplitsAfter self.old.items id us vs → self.new.items ≡ us ++ shifted W.weaving by vs }
+        ensures loose { self.new.loose ≡ self.old.loose }
+        ensures spare { self.new.spare ≡ self.old.spare }
+    {
+        let Some(reach) = reach_for::<W>(&mut self.links, self.reach, by) else {
+            return;
+        };
+        let at = place_after(&self.links, id);
+        shift_from::<W>(&mut self.links, at, by);
+        self.reach = reach;
+    }
+
+    /// Takes the item of that name out of the list, to the front of the loose ones, under its name.
+    pub fn lift(&mut self, id: NodeId)
+        requires { IsItem self.old.items id }
+        ensures items { (us : List (ℕ × W.Item)) (x : W.Item) (vs : List (ℕ × W.Item)) → SplitsAt self.old.items id us x vs → self.new.items ≡ us ++ vs }
+        ensures loose { (us : List (ℕ × W.Item)) (x : W.Item) (vs : List (ℕ × W.Item)) → SplitsAt self.old.items id us x vs → self.new.loose ≡ (id, x) ∷ self.old.loose }
+        ensures spare { self.new.spare ≡ self.old.spare }
+    {
+        loosen::<W>(&mut self.links, id, self.loose);
+        self.loose = Some(id);
+    }
+
+    /// The front loose item, with its name.
+    pub fn loose(&self) -> Option<(NodeId, W::Item)>
+        ensures { result ≡ front_of self.now.loose }
+    {
+        let id = self.loose?;
+        Some((id, read(&self.links.nodes, id).data.item))
+    }
+
+    /// Puts an item right after that one, or before all others, under the name of the front loose one, which is not loose any more.
+    pub fn land_after(&mut self, id: Option<NodeId>, item: W::Item)
+        requires loose { (front : ℕ × W.Item) × ((rest : List (ℕ × W.Item)) × (self.old.loose ≡ front ∷ rest)) }
+        requires named { PlaceAfter self.old.items id }
+        requires value { W.is_item item }
+        requires sum { (us vs : List (ℕ × W.Item)) → SplitsAfter self.old.items id us vs → W.is_value (sum_of W.weaving (us ++ (0, item) ∷ vs)) }
+        ensures items { (front : ℕ × W.Item) (rest us vs : List (ℕ × W.Item)) → self.old.loose ≡ front ∷ rest → SplitsAfter self.old.items id us vs → self.new.items ≡ us ++ (front.0, item) ∷ vs }
+        ensures loose { (front : ℕ × W.Item) (rest : List (ℕ × W.Item)) → self.old.loose ≡ front ∷ rest → self.new.loose ≡ rest }
+        ensures spare { self.new.spare ≡ self.old.spare }
+    {
+        let Some(landing) = self.loose else {
+            return;
+        };
+        let at = place_after(&self.links, id);
+        self.loose = unstring(&mut self.links.nodes, landing);
+        land_at::<W>(&mut self.links, at, landing, item);
     }
 }

@@ -19,29 +19,31 @@ absent_from w i rest none = elim (eqb_tells w i) as (λ _. (i ≢ w) × (rest �
   | inr (e, ne) ↦ let nought : cond (eqb w i) 1 0 + rest ≡ 0 + rest = ap (λ b. cond b 1 0 + rest) e in (λ f. ne (sym f), omega (arith, nought, none))
 ]
 
-one_of : (b : Bool) (n : ℕ) → n ≤ 1 → (b ≡ true → n ≡ 0) → cond b 1 0 + n ≤ 1
+pub one_of : (b : Bool) (n : ℕ) → n ≤ 1 → (b ≡ true → n ≡ 0) → cond b 1 0 + n ≤ 1
 one_of true n le none = let z = none refl in omega (arith, z)
 one_of false n le none = omega arith
 
-same_name : (j i : ℕ) → eqb j i ≡ true → j ≡ i
+pub same_name : (j i : ℕ) → eqb j i ≡ true → j ≡ i
 same_name j i e = elim (eqb_tells j i) [ inl (_, same) ↦ same | inr (f, _) ↦ absurd (false≢true (sym f ∙ e)) ]
 
 module _ {D : Type 0} (m : map.FinMap nat_cmp (Slot D)) where
   -- the subtree takes the node's place
-  pub spliced : (root : Option ℕ) (k : Hole D) (s : Side) (c : Bool) (i : ℕ) (d : D) (x : Tree D) → Made m root (plug k (forked s c i d x tip))
-      → Made (hung (adopted m (root_of x) (above k)) (place_of k) (root_of x)) (root_hung root (place_of k) (root_of x)) (plug k x)
-  spliced root k s c i d x h =
+  pub spliced : (root : Option ℕ) (k : Hole D) (s : Side) (c : Bool) (i : ℕ) (d : D) (x : Tree D) → {beside : Tree D} → Made beside m root (plug k (forked s c i d x tip))
+      → Made beside (hung (adopted m (root_of x) (above k)) (place_of k) (root_of x)) (root_hung root (place_of k) (root_of x)) (plug k x)
+  spliced root k s c i d x {beside} h =
       let node = forked s c i d x tip in let root2 = root_hung root (place_of k) (root_of x) in
       let m1 = adopted m (root_of x) (above k) in let m2 = hung m1 (place_of k) (root_of x) in
       let (around, made) = opened m root k node h.from h.nodes in let (e, mx, _) = of_forked m s (above k) c i d x tip made in
       let parts = λ (j : ℕ). let a = h.once j in let b = count-plug j k node in let f = count-forked j s c i d x tip in
-      let both : count_round j k + count j x ≤ 1 = omega (arith, a, b, f) in both in
+      let both : count_round j k + (count j x + count j beside) ≤ 1 = omega (arith, a, b, f) in both in
       let x1 = adopted_made m (above k) (Some i) x mx (λ j. let p = parts j in omega (arith, p)) in
-      let round1 = round_adopted m (above k) (Some i) x root k (Some i) mx parts (subst (Around m root k) (root-forked s c i d x tip) around) in
-      let x2 = kept_hung m1 root (Some i) (root_of x) k x (above k) round1 parts x1 in
+      let round1 = round_adopted m (above k) (Some i) x root k (Some i) mx (λ j. let p = parts j in omega (arith, p)) (subst (Around m root k) (root-forked s c i d x tip) around) in
+      let x2 = kept_hung m1 root (Some i) (root_of x) k x (above k) round1 (λ j. let p = parts j in omega (arith, p)) x1 in
       let round2 = hung_round m1 root (Some i) (root_of x) k round1 (λ j. let p = parts j in omega (arith, p)) in
+      let aside1 = kept_adopted m (above k) (Some i) x beside None mx (λ j. let p = parts j in omega (arith, p)) h.aside in
+      let aside2 = kept_hung m1 root (Some i) (root_of x) k beside None round1 (λ j. let p = parts j in omega (arith, p)) aside1 in
       let (from, nodes) = closed m2 root2 k x round2 x2 in
-      record { from = from; nodes = nodes; once = λ j. let p = parts j in let b = count-plug j k x in omega (arith, p, b) }
+      record { from = from; nodes = nodes; aside = aside2; once = λ j. let p = parts j in let b = count-plug j k x in omega (arith, p, b) }
 
   -- a name that is not in the tree may go
   module _ (i : ℕ) where
@@ -51,12 +53,14 @@ module _ {D : Type 0} (m : map.FinMap nat_cmp (Slot D)) where
         let (ne, less) = absent_from i j (count i x + count i y) none in
         (get-remove_other m i j ne ∙ e, without (Some j) x (omega arith) a, without (Some j) y (omega arith) b)
 
-    pub forgotten : (root : Option ℕ) (t : Tree D) → count i t ≡ 0 → Made m root t → Made (map.remove m i) root t
-    forgotten root t none h = record { from = h.from; nodes = without None t none h.nodes; once = h.once }
+    pub forgotten : (root : Option ℕ) (t : Tree D) → {beside : Tree D} → count i t + count i beside ≡ 0 → Made beside m root t → Made beside (map.remove m i) root t
+    forgotten root t {beside} none h =
+        record { from = h.from; nodes = without None t (omega (arith, none)) h.nodes; aside = without None beside (omega (arith, none)) h.aside; once = h.once }
 
-  -- the node that left is not in the tree any more
-  pub gone : (root : Option ℕ) (k : Hole D) (s : Side) (c : Bool) (i : ℕ) (d : D) (x : Tree D) → Made m root (plug k (forked s c i d x tip)) → count i (plug k x) ≡ 0
-  gone root k s c i d x h =
+  -- the node that left is not in the tree any more, nor in the one beside
+  pub gone : (root : Option ℕ) (k : Hole D) (s : Side) (c : Bool) (i : ℕ) (d : D) (x : Tree D) → {beside : Tree D} → Made beside m root (plug k (forked s c i d x tip))
+      → count i (plug k x) + count i beside ≡ 0
+  gone root k s c i d x {beside} h =
       let a = h.once i in let b = count-plug i k (forked s c i d x tip) in let f = count-forked i s c i d x tip in let g = count_self i (count i x + 0) in let q = count-plug i k x in
       omega (arith, a, b, f, g, q)
 
@@ -74,14 +78,15 @@ module _ {D : Type 0} (m : map.FinMap nat_cmp (Slot D)) where
     abbrev pub replaced_memory : map.FinMap nat_cmp (Slot D)
     replaced_memory = map.insert r3 j (sided Left (above k) (root_of x) (root_of y) c e)
 
-    pub replaced : Made m root (plug k (fork c i d x y)) → count j (plug k (fork c i d x y)) ≡ 0 → Made replaced_memory (root_hung root (place_of k) (Some j)) (plug k (fork c j e x y))
-    replaced h fresh =
+    pub replaced : {beside : Tree D} → Made beside m root (plug k (fork c i d x y)) → count j (plug k (fork c i d x y)) + count j beside ≡ 0
+        → Made beside replaced_memory (root_hung root (place_of k) (Some j)) (plug k (fork c j e x y))
+    replaced {beside} h fresh =
         let old = fork c i d x y in let new = fork c j e x y in let root2 = root_hung root (place_of k) (Some j) in let slot = sided Left (above k) (root_of x) (root_of y) c e in
         let (around, (_, mx, my)) = opened m root k old h.from h.nodes in
         let parts = λ (q : ℕ). let a = h.once q in let b = count-plug q k old in
-        let all : count_round q k + (count q x + count q y) ≤ 1 = omega (arith, a, b) in all in
+        let all : count_round q k + (count q x + (count q y + count q beside)) ≤ 1 = omega (arith, a, b) in all in
         let b = count-plug j k old in
-        let clear : count_round j k + (count j x + count j y) ≡ 0 = omega (arith, b, fresh) in
+        let clear : count_round j k + (count j x + (count j y + count j beside)) ≡ 0 = omega (arith, b, fresh) in
         let x1 = adopted_made m (Some j) (Some i) x mx (λ q. let p = parts q in omega (arith, p)) in
         let y1 = kept_adopted m (Some j) (Some i) x y (Some i) mx (λ q. let p = parts q in omega (arith, p)) my in
         let round1 = round_adopted m (Some j) (Some i) x root k (Some i) mx (λ q. let p = parts q in omega (arith, p)) around in
@@ -93,10 +98,16 @@ module _ {D : Type 0} (m : map.FinMap nat_cmp (Slot D)) where
         let round3 = hung_round r2 root (Some i) (Some j) k round2 (λ q. let p = parts q in omega (arith, p)) in
         let x4 = kept r3 j slot (Some j) x (omega (arith, clear)) x3 in let y4 = kept r3 j slot (Some j) y (omega (arith, clear)) y3 in
         let round4 = kept_round r3 j slot root2 k (Some j) (omega (arith, clear)) round3 in
+        let aside1 = kept_adopted m (Some j) (Some i) x beside None mx (λ q. let p = parts q in omega (arith, p)) h.aside in
+        let aside2 = kept_adopted r1 (Some j) (Some i) y beside None y1 (λ q. let p = parts q in omega (arith, p)) aside1 in
+        let aside3 = kept_hung r2 root (Some i) (Some j) k beside None round2 (λ q. let p = parts q in omega (arith, p)) aside2 in
+        let aside4 = kept r3 j slot None beside (omega (arith, clear)) aside3 in
         let (from, nodes) = closed replaced_memory root2 k new round4 (get-insert_same r3 j slot, x4, y4) in
         record {
           from = from;
           nodes = nodes;
+          aside = aside4;
           once = λ q. let p = parts q in let z = count-plug q k new in
-              let le = one_of (eqb q j) (count_round q k + (count q x + count q y)) p (λ same. ap (λ l. count_round l k + (count l x + count l y)) (same_name q j same) ∙ clear) in omega (arith, z, le);
+              let le = one_of (eqb q j) (count_round q k + (count q x + (count q y + count q beside))) p
+              (λ same. ap (λ l. count_round l k + (count l x + (count l y + count l beside))) (same_name q j same) ∙ clear) in omega (arith, z, le);
         }

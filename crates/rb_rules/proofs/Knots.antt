@@ -36,7 +36,7 @@ module _ {X S B : Type 0} (w : Weaving X S B) (L : Lawful w) (is_near : B → Ty
       valued_left w L is_near is_item is_sum is_value sums parts (entries w (shift_at w k) t) (rights w k)
       (valued_right w L is_near is_item is_sum is_value sums parts (lefts w k) (entries w (shift_at w k) t ++ rights w k) all)
 
-  module _ (m : map.FinMap nat_cmp (Slot (Data X S B))) (root : Option ℕ) (sp : Spot (Data X S B)) (i : ℕ) (h : Made m root (plug sp.hole (here sp i)))
+  module _ (m : map.FinMap nat_cmp (Slot (Data X S B))) (root : Option ℕ) (sp : Spot (Data X S B)) (i : ℕ) (h : Made sp.beside m root (plug sp.hole (here sp i)))
       (wv : Woven w is_near w.still (plug sp.hole (here sp i))) (s : Side) (j : ℕ) (n l : Slot (Data X S B))
       (e : map.get m i ≡ Some n) (f : map.get m j ≡ Some l) (c : child s n ≡ Some j) where
     abbrev mid_sum : S

@@ -92,7 +92,7 @@ module _ {D : Type 0} where
   side_sided Right p i x c d none = by_left i (root_of x) (λ e. not_root x i e none)
 
   module _ (m : map.FinMap nat_cmp (Slot D)) (root : Option ℕ) where
-    pub slot_here : (sp : Spot D) (i : ℕ) → Made m root (plug sp.hole (here sp i)) → map.get m i ≡ Some (sided Left (above sp.hole) (root_of sp.left) (root_of sp.right) sp.red sp.datum)
+    pub slot_here : (sp : Spot D) (i : ℕ) → Made sp.beside m root (plug sp.hole (here sp i)) → map.get m i ≡ Some (sided Left (above sp.hole) (root_of sp.left) (root_of sp.right) sp.red sp.datum)
     slot_here sp i h = (opened m root sp.hole (here sp i) h.from h.nodes).1.0
 
     pub live_root : (p : Option ℕ) (t : Tree D) → Makes m p t → IfSome (root_of t) (Live m)
@@ -104,7 +104,7 @@ module _ {D : Type 0} where
     live_place (on s c i d x k) o (e, a, b) = (_, e)
 
     -- which side a node is on, by its parent's left link
-    pub side_is : (sp : Spot D) (i : ℕ) → Made m root (plug sp.hole (here sp i)) → (j : ℕ) → above sp.hole ≡ Some j → (n : Slot D) → map.get m j ≡ Some n
+    pub side_is : (sp : Spot D) (i : ℕ) → Made sp.beside m root (plug sp.hole (here sp i)) → (j : ℕ) → above sp.hole ≡ Some j → (n : Slot D) → map.get m j ≡ Some n
         → Some (j, side_by_name n i) ≡ place_of sp.hole
     side_is sp i h j e n f =
         let t = here sp i in
@@ -119,7 +119,7 @@ module _ {D : Type 0} where
               ))
         ] (opened m root sp.hole t h.from h.nodes).0 e (omega (arith, counted, parts, own))
 
-    pub live_above : (sp : Spot D) (i : ℕ) → Made m root (plug sp.hole (here sp i)) → (j : ℕ) → above sp.hole ≡ Some j → Live m j
+    pub live_above : (sp : Spot D) (i : ℕ) → Made sp.beside m root (plug sp.hole (here sp i)) → (j : ℕ) → above sp.hole ≡ Some j → Live m j
     live_above sp i h j e =
         elim sp.hole as (λ k. Around m root k (Some i) → above k ≡ Some j → Live m j) [
           | top ↦ λ a none. absurd (none-some j none)

@@ -22,7 +22,7 @@ module _ {D : Type 0} where
   far_child Right p x y c d n e = ap (λ l. l.left) e
 
 module _ {D : Type 0} (m : map.FinMap nat_cmp (Slot D)) (root : Option ℕ) where
-  module _ (sp : Spot D) (i : ℕ) (h : Made m root (plug sp.hole (here sp i))) where
+  module _ (sp : Spot D) (i : ℕ) (h : Made sp.beside m root (plug sp.hole (here sp i))) where
     pub upper_is : (s : Side) (n : Slot D) → map.get m i ≡ Some n → n ≡ sided s (above sp.hole) (root_of (below s sp)) (root_of (below (other s) sp)) sp.red sp.datum
     upper_is Left n e = ap (λ o. unwrap_or o n) (sym e ∙ (opened m root sp.hole (here sp i) h.from h.nodes).1.0)
     upper_is Right n e = ap (λ o. unwrap_or o n) (sym e ∙ (opened m root sp.hole (here sp i) h.from h.nodes).1.0)
@@ -52,24 +52,24 @@ module _ {D : Type 0} (m : map.FinMap nat_cmp (Slot D)) (root : Option ℕ) wher
         j (sided s n.parent (child s l) (Some i) n.red high)
 
     pub turn_made : (s : Side) (j : ℕ) (n l : Slot D) (low high : D) → map.get m i ≡ Some n → map.get m j ≡ Some l → child s n ≡ Some j
-        → Made (after_turn s j n l low high) (root_hung root (place_of sp.hole) (Some j)) (plug sp.hole (turned s low high (here sp i)))
+        → Made sp.beside (after_turn s j n l low high) (root_hung root (place_of sp.hole) (Some j)) (plug sp.hole (turned s low high (here sp i)))
     turn_made Left j n l low high e f c =
         let up = upper_is Left n e in let is_root : root_of sp.left ≡ Some j = sym (ap (λ o. o.left) up) ∙ c in
         let (b, (d, x, y, is)) = forks_on Left sp.left j is_root in
-        let whole = subst (λ t. Made m root (plug sp.hole (fork sp.red i sp.datum t sp.right))) is h in
+        let whole = subst (λ t. Made sp.beside m root (plug sp.hole (fork sp.red i sp.datum t sp.right))) is h in
         let low_is : l ≡ sided Left (Some i) (root_of x) (root_of y) b d =
         ap (λ o. unwrap_or o l) (sym f ∙ (of_forked m Left (Some i) b j d x y (subst (Makes m (Some i)) is (makes_below Left))).0) in
-        let P : Slot D → Slot D → Tree D → Type 0 = λ n_ l_ t. Made (after_turn Left j n_ l_ low high) (root_hung root (place_of sp.hole) (Some j)) (plug sp.hole (turned Left low high (fork sp.red i sp.datum t sp.right))) in
+        let P : Slot D → Slot D → Tree D → Type 0 = λ n_ l_ t. Made sp.beside (after_turn Left j n_ l_ low high) (root_hung root (place_of sp.hole) (Some j)) (plug sp.hole (turned Left low high (fork sp.red i sp.datum t sp.right))) in
         subst (λ n_. P n_ l sp.left) (sym up) (subst (λ l_. P (sided Left (above sp.hole) (root_of sp.left) (root_of sp.right) sp.red sp.datum) l_ sp.left) (sym low_is)
         (subst (λ t. P (sided Left (above sp.hole) (root_of t) (root_of sp.right) sp.red sp.datum) (sided Left (Some i) (root_of x) (root_of y) b d) t) (sym is)
         (T.turned m root sp.hole Left sp.red b i j sp.datum d low high x y sp.right whole)))
     turn_made Right j n l low high e f c =
         let up = upper_is Right n e in let is_root : root_of sp.right ≡ Some j = sym (ap (λ o. o.right) up) ∙ c in
         let (b, (d, x, y, is)) = forks_on Right sp.right j is_root in
-        let whole = subst (λ t. Made m root (plug sp.hole (fork sp.red i sp.datum sp.left t))) is h in
+        let whole = subst (λ t. Made sp.beside m root (plug sp.hole (fork sp.red i sp.datum sp.left t))) is h in
         let low_is : l ≡ sided Right (Some i) (root_of x) (root_of y) b d =
         ap (λ o. unwrap_or o l) (sym f ∙ (of_forked m Right (Some i) b j d x y (subst (Makes m (Some i)) is (makes_below Right))).0) in
-        let P : Slot D → Slot D → Tree D → Type 0 = λ n_ l_ t. Made (after_turn Right j n_ l_ low high) (root_hung root (place_of sp.hole) (Some j)) (plug sp.hole (turned Right low high (fork sp.red i sp.datum sp.left t))) in
+        let P : Slot D → Slot D → Tree D → Type 0 = λ n_ l_ t. Made sp.beside (after_turn Right j n_ l_ low high) (root_hung root (place_of sp.hole) (Some j)) (plug sp.hole (turned Right low high (fork sp.red i sp.datum sp.left t))) in
         subst (λ n_. P n_ l sp.right) (sym up) (subst (λ l_. P (sided Right (above sp.hole) (root_of sp.right) (root_of sp.left) sp.red sp.datum) l_ sp.right) (sym low_is)
         (subst (λ t. P (sided Right (above sp.hole) (root_of t) (root_of sp.left) sp.red sp.datum) (sided Right (Some i) (root_of x) (root_of y) b d) t) (sym is)
         (T.turned m root sp.hole Right sp.red b i j sp.datum d low high x y sp.left whole)))

@@ -14,20 +14,16 @@ use Rattle.rb_rules.proofs.Memories.{opened}
 use Rattle.rb_rules.proofs.Live.{Live, live_root}
 
 module _ {D : Type 0} where
-  -- the node that has the subtrees x on that side and y on the other, in the hole k
-  unfoldable pub spot_of : Side → Bool → D → Tree D → Tree D → Hole D → Spot D
-  spot_of Left c d x y k = record { hole = k; red = c; datum = d; left = x; right = y }
-  spot_of Right c d x y k = record { hole = k; red = c; datum = d; left = y; right = x }
+  module _ (beside : Tree D) where
+    -- the node that has the subtrees x on that side and y on the other, in the hole k
+    unfoldable pub spot_of : Side → Bool → D → Tree D → Tree D → Hole D → Spot D
+    spot_of Left c d x y k = record { beside = beside; hole = k; red = c; datum = d; left = x; right = y }
+    spot_of Right c d x y k = record { beside = beside; hole = k; red = c; datum = d; left = y; right = x }
 
-  pub spot_tree : (s : Side) (c : Bool) (i : ℕ) (d : D) (x y : Tree D) (k : Hole D) → plug (spot_of s c d x y k).hole (here (spot_of s c d x y k) i) ≡ plug k (forked s c i d x y)
-  unfolding spot_of
-  spot_tree Left c i d x y k = refl
-  spot_tree Right c i d x y k = refl
-
-  pub spot_hole : (s : Side) (c : Bool) (d : D) (x y : Tree D) (k : Hole D) → (spot_of s c d x y k).hole ≡ k
-  unfolding spot_of
-  spot_hole Left c d x y k = refl
-  spot_hole Right c d x y k = refl
+    pub spot_hole : (s : Side) (c : Bool) (d : D) (x y : Tree D) (k : Hole D) → (spot_of s c d x y k).hole ≡ k
+    unfolding spot_of
+    spot_hole Left c d x y k = refl
+    spot_hole Right c d x y k = refl
 
   pub hole_top : (k : Hole D) → place_of k ≡ None → k ≡ top
   hole_top top e = refl
@@ -40,18 +36,26 @@ module _ {D : Type 0} where
       subst P (ap (λ o. unwrap_or o (i, s2)) e) (c, (d, x, k, refl))
 
   module _ (m : map.FinMap nat_cmp (Slot D)) (root : Option ℕ) where
-    pub stands_above : (s : Side) (c : Bool) (p : ℕ) (d : D) (x : Tree D) (k : Hole D) (t : Tree D) → Made m root (plug (on s c p d x k) t)
-        → Made m root (plug (spot_of s c d t x k).hole (here (spot_of s c d t x k) p))
-    stands_above s c p d x k t h = subst (Made m root) (sym (spot_tree s c p d t x k)) h
+    -- the tree lies in the memory round a node just as round its spot
+    module _ (beside : Tree D) where
+      pub as_spot : (s : Side) (c : Bool) (p : ℕ) (d : D) (x y : Tree D) (k : Hole D) → Made beside m root (plug k (forked s c p d x y))
+          → let sp = spot_of beside s c d x y k in Made sp.beside m root (plug sp.hole (here sp p))
+      unfolding spot_of
+      as_spot Left c p d x y k h = h
+      as_spot Right c p d x y k h = h
 
-    pub slot_above : (s : Side) (c : Bool) (p : ℕ) (d : D) (x : Tree D) (k : Hole D) (t : Tree D) → Made m root (plug (on s c p d x k) t)
+    pub stands_above : (s : Side) (c : Bool) (p : ℕ) (d : D) (x : Tree D) (k : Hole D) (t : Tree D) → {beside : Tree D} → Made beside m root (plug (on s c p d x k) t)
+        → let sp = spot_of beside s c d t x k in Made sp.beside m root (plug sp.hole (here sp p))
+    stands_above s c p d x k t {beside} h = as_spot beside s c p d t x k h
+
+    pub slot_above : (s : Side) (c : Bool) (p : ℕ) (d : D) (x : Tree D) (k : Hole D) (t : Tree D) → {beside : Tree D} → Made beside m root (plug (on s c p d x k) t)
         → map.get m p ≡ Some (sided s (above k) (root_of t) (root_of x) c d)
     slot_above s c p d x k t h = (opened m root (on s c p d x k) t h.from h.nodes).0.0
 
-    pub live_beside : (s : Side) (c : Bool) (p : ℕ) (d : D) (x : Tree D) (k : Hole D) (t : Tree D) → Made m root (plug (on s c p d x k) t) → IfSome (root_of x) (Live m)
+    pub live_beside : (s : Side) (c : Bool) (p : ℕ) (d : D) (x : Tree D) (k : Hole D) (t : Tree D) → {beside : Tree D} → Made beside m root (plug (on s c p d x k) t) → IfSome (root_of x) (Live m)
     live_beside s c p d x k t h = live_root m root (Some p) x (opened m root (on s c p d x k) t h.from h.nodes).0.1
 
-    pub made_beside : (s : Side) (c : Bool) (p : ℕ) (d : D) (x : Tree D) (k : Hole D) (t : Tree D) → Made m root (plug (on s c p d x k) t) → Makes m (Some p) x
+    pub made_beside : (s : Side) (c : Bool) (p : ℕ) (d : D) (x : Tree D) (k : Hole D) (t : Tree D) → {beside : Tree D} → Made beside m root (plug (on s c p d x k) t) → Makes m (Some p) x
     made_beside s c p d x k t h = (opened m root (on s c p d x k) t h.from h.nodes).0.1
 
   pub red-sided : (s : Side) (p x y : Option ℕ) (c : Bool) (d : D) → (sided s p x y c d).red ≡ c

@@ -1,5 +1,5 @@
 -- Which trees lie in a memory of slots.
-use Rattle.std.specs.Prelude.{cond, ◌==◌, ◌≡◌, ℕ, ◌≤◌, Bool, Option, Some, None}
+use Rattle.std.specs.Prelude.{cond, ◌==◌, ◌≡◌, ℕ, ◌+◌, ◌≤◌, Bool, Option, Some, None}
 use Rattle.std.specs.Ordering.{nat_cmp}
 use Rattle.std.specs.FinMap as map
 use Rattle.rb_rules.specs.declared.slot.Side.{Side}
@@ -24,11 +24,12 @@ module _ {D : Type 0} (m : map.FinMap nat_cmp (Slot D)) where
   Around root top o = root ≡ o
   Around root (on s c i d x k) o = (map.get m i ≡ Some (sided s (above k) o (root_of x) c d)) × Makes (Some i) x × Around root k (Some i)
 
--- the tree lies in the memory from root on, each name once
-pub record Made {D : Type 0} (m : map.FinMap nat_cmp (Slot D)) (root : Option ℕ) (t : Tree D) : Type 0 where
+-- the tree lies in the memory from root on, and another beside it; each name stands once in both
+pub record Made {D : Type 0} (beside : Tree D) (m : map.FinMap nat_cmp (Slot D)) (root : Option ℕ) (t : Tree D) : Type 0 where
   pub from : root ≡ root_of t
   pub nodes : Makes m None t
-  pub once : (j : ℕ) → count j t ≤ 1
+  pub aside : Makes m None beside
+  pub once : (j : ℕ) → count j t + count j beside ≤ 1
 
 module _ {D : Type 0} where
   -- the link on that side
@@ -68,8 +69,9 @@ abbrev pub root_hung : Option ℕ → Option (ℕ × Side) → Option ℕ → Op
 root_hung root None o = o
 root_hung root (Some at) o = root
 
--- a node of a tree, by what stands round it and below it
+-- a node of a tree, by what stands round it and below it, and the tree that lies beside
 pub record Spot (D : Type 0) : Type 0 where
+  pub beside : Tree D
   pub hole : Hole D
   pub red : Bool
   pub datum : D
@@ -87,11 +89,11 @@ module _ {D : Type 0} where
   module _ (m : map.FinMap nat_cmp (Slot D)) (root : Option ℕ) (i : ℕ) where
     -- the name is that of a node of the tree that lies in the memory
     abbrev pub Stands : Type 0
-    Stands = (s : Spot D) × Made m root (plug s.hole (here s i))
+    Stands = (s : Spot D) × Made s.beside m root (plug s.hole (here s i))
 
     -- wherever it stands, this holds
     abbrev pub AtSpot : (Spot D → Type 0) → Type 0
-    AtSpot P = (s : Spot D) → Made m root (plug s.hole (here s i)) → P s
+    AtSpot P = (s : Spot D) → Made s.beside m root (plug s.hole (here s i)) → P s
 
   -- A turn: the child on that side comes to stand above the node. Colours keep their places.
   abbrev pub turned : Side → D → D → Tree D → Tree D

@@ -21,6 +21,7 @@ pub record Lawful {X S B : Type 0} (w : Weaving X S B) : Type 0 where
   pub none_join : (a : S) → w.join w.none a ≡ a
   pub join_assoc : (a b c : S) → w.join (w.join a b) c ≡ w.join a (w.join b c)
   pub plus_still : (a : B) → w.plus a w.still ≡ a
+  pub plus_comm : (a b : B) → w.plus a b ≡ w.plus b a
   pub plus_assoc : (a b c : B) → w.plus (w.plus a b) c ≡ w.plus a (w.plus b c)
   pub plus_minus : (a b : B) → w.plus b (w.minus a b) ≡ a
   pub shift_still : (x : X) → w.shift w.still x ≡ x

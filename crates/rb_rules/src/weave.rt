@@ -1,5 +1,5 @@
 //! What the nodes of a tree keep.
-ghost use Rattle.std.specs.Prelude.{◌≡◌};
+ghost use Rattle.std.specs.Prelude.{◌≡◌, Option, Some, IsSome};
 ghost use Rattle.rb_rules.specs.Weaving.{Weaving, Lawful, HeldItem, HeldSum, HeldBy, Sums};
 
 /// Where a search goes from a node.
@@ -41,6 +41,12 @@ pub trait Weave {
     /// Which shifts a path may have.
     ghost is_near: { Self.By → Type 0 };
 
+    /// Which shifts lie within a reach: a reach, a shift.
+    ghost within: { Self.By → Self.By → Type 0 };
+
+    /// A reach within which lie the shifts within one reach, and the same moved by a shift, unless it is too great.
+    ghost widened: { Self.By → Self.By → Option Self.By };
+
     /// Where a search for a key goes, by the sum of the items before an item and by that item.
     ghost use Rattle.rb_rules.specs.declared.weave.Turn.{Turn};
 
@@ -75,6 +81,9 @@ pub trait Weave {
         requires { HeldSum weaving is_near is_sum is_value (weaving.shift_sum by sum) }
         ensures { result ≡ weaving.shift_sum by sum };
 
+    fn widen(reach: Self::By, by: Self::By) -> Option<Self::By>
+        ensures { result ≡ widened reach by };
+
     fn turn_at(key: Self::Key, before: Self::Sum, item: Self::Item) -> Turn
         ensures { result ≡ turn key before item };
 
@@ -83,6 +92,15 @@ pub trait Weave {
     ghost sums: { Sums weaving is_item is_sum };
 
     ghost starts_near: { is_near weaving.still };
+
+    ghost within_near: { (reach by : Self.By) → within reach by → is_near by };
+
+    ghost starts_within: { within weaving.still weaving.still };
+
+    ghost widens: { (reach by wider b : Self.By) → widened reach by ≡ Some wider → within reach b → within wider b × within wider (weaving.plus by b) };
+
+    /// A shift that takes one value to another is itself no reach too great.
+    ghost fits: { (by : Self.By) (x : Self.Item) → is_item x → is_item (weaving.shift by x) → IsSome (widened weaving.still by) };
 
     ghost parts: { (a b : Self.Sum) → is_value (weaving.join a b) → is_value a × is_value b };
 

@@ -30,6 +30,7 @@ lawful = record {
   none_join = λ a j. (zero-add a.0 j, zero-add a.1 j);
   join_assoc = λ a b c j. (add_assoc a.0 b.0 c.0 j, add_assoc a.1 b.1 c.1 j);
   plus_still = λ a. refl;
+  plus_comm = λ a b. refl;
   plus_assoc = λ a b c. refl;
   plus_minus = λ a b. refl;
   shift_still = λ x. refl;

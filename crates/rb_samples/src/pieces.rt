@@ -1,5 +1,5 @@
 //! A weave in small: pieces of a text, with the sums of their units and of their breaks, and no shift.
-ghost use Rattle.std.specs.Prelude.{◌≡◌, ℕ, ⊤};
+ghost use Rattle.std.specs.Prelude.{◌≡◌, ℕ, ⊤, Some, refl};
 
 use rb_rules::{Turn, Weave};
 
@@ -32,6 +32,10 @@ impl Weave for Pieces {
 
     ghost is_near = { λ _. ⊤ };
 
+    ghost within = { λ _ _. ⊤ };
+
+    ghost widened = { λ _ _. Some tt };
+
     ghost turn = { piece_turn };
 
     fn none() -> (u64, u64) {
@@ -60,6 +64,10 @@ impl Weave for Pieces {
         sum
     }
 
+    fn widen(reach: (), by: ()) -> Option<()> {
+        Some(())
+    }
+
     fn turn_at(key: u64, before: (u64, u64), item: Piece) -> Turn {
         if key < before.0 {
             Turn::Left
@@ -75,6 +83,14 @@ impl Weave for Pieces {
     ghost sums = { sums };
 
     ghost starts_near = { tt };
+
+    ghost within_near = { λ reach by h. tt };
+
+    ghost starts_within = { tt };
+
+    ghost widens = { λ reach by wider b e h. (tt, tt) };
+
+    ghost fits = { λ by x h k. refl };
 
     ghost parts = { parts };
 

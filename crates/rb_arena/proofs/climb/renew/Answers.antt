@@ -46,4 +46,4 @@ returns-clause-made g c = λ s h.
     let right = c.whole-right.ensures ∙ ap (λ n. whole_in t.weaving m n.right) up ∙ whole_in_is t.weaving m (Some c.args.id) s.right (makes_below m root s c.args.id h Right) in
     let datum = c.summed-datum.ensures ∙ (λ i. summed t.weaving (up i).«data».item (up i).«data».delta (left i) (right i)) in
     subst {A = Bool × Data g.row.W-Item.Denot g.row.W-Sum.Denot g.row.W-By.Denot}
-    (λ p. Made c.rewrite.new.tree.nodes.live c.rewrite.new.tree.root (plug s.hole (fork p.0 c.args.id p.1 s.left s.right))) (λ i. ((up i).red, datum i)) (c.rewrite.ensures.made s h)
+    (λ p. Made s.beside c.rewrite.new.tree.nodes.live c.rewrite.new.tree.root (plug s.hole (fork p.0 c.args.id p.1 s.left s.right))) (λ i. ((up i).red, datum i)) (c.rewrite.ensures.made s h)

@@ -9,6 +9,6 @@ use Rattle.rb_arena.proofs.climb.renew_up.Given as goal
 abbrev pub invariant-loop-turn : goal.invariant-loop-turn
 invariant-loop-turn g l =
     let t = g.W.Weave in
-    ((whole : Tree (Data g.row.W-Item.Denot g.row.W-Sum.Denot g.row.W-By.Denot)) → IsSlack t.weaving t.is_near t.is_item t.is_value l.initial.tree.nodes.live l.initial.tree.root l.initial.at 128 whole
-    → (now : Tree (Data g.row.W-Item.Denot g.row.W-Sum.Denot g.row.W-By.Denot)) × IsSlack t.weaving t.is_near t.is_item t.is_value l.tree.nodes.live l.tree.root l.at (128 - l._turn) now × (shape now ≡ shape whole))
+    ((reach : g.row.W-By.Denot) (beside whole : Tree (Data g.row.W-Item.Denot g.row.W-Sum.Denot g.row.W-By.Denot)) → IsSlack t.weaving (t.within reach) t.is_item t.is_value beside l.initial.tree.nodes.live l.initial.tree.root l.initial.at 128 whole
+    → (now : Tree (Data g.row.W-Item.Denot g.row.W-Sum.Denot g.row.W-By.Denot)) × IsSlack t.weaving (t.within reach) t.is_item t.is_value beside l.tree.nodes.live l.tree.root l.at (128 - l._turn) now × (shape now ≡ shape whole))
     × (l.tree.nodes.spare ≡ l.initial.tree.nodes.spare) × (map.len l.tree.nodes.live ≡ map.len l.initial.tree.nodes.live)

@@ -9,5 +9,5 @@ use Rattle.rb_arena.proofs.descend.descend.Given as goal
 abbrev pub invariant-loop-turn : goal.invariant-loop-turn
 invariant-loop-turn g l =
     let t = g.W.Weave in
-    ((whole : Tree (Data g.row.W-Item.Denot g.row.W-Sum.Denot g.row.W-By.Denot)) → Made l.initial.tree.nodes.live l.initial.tree.root whole → Woven t.weaving t.is_near t.weaving.still whole → height whole ≤ 126
+    ((beside whole : Tree (Data g.row.W-Item.Denot g.row.W-Sum.Denot g.row.W-By.Denot)) → Made beside l.initial.tree.nodes.live l.initial.tree.root whole → Woven t.weaving t.is_near t.weaving.still whole → height whole ≤ 126
     → Walk t.weaving g.met.W.Weave.laws t.is_near t.turn l.key whole l.at l.by l.before l.last l._turn (128 - l._turn)) × (l.steps ≡ l.initial.steps + l._turn) × (l.key ≡ l.initial.key)

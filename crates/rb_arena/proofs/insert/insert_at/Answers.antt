@@ -1,80 +1,37 @@
-use Rattle.std.proofs.Common.{◌∷◌, ◌++◌, true, sym, ap, ◌∙◌, subst}
-use Rattle.rb_rules.specs.Tree.{tip, fork, plug}
-use Rattle.rb_rules.specs.Memory.{Made}
-use Rattle.rb_rules.specs.Weaving.{HeldItem, HeldBy, CanSumUp, summed}
-use Rattle.rb_rules.specs.Woven.{lefts, rights}
-use Rattle.rb_arena.specs.Placing.{above_place, WovenAt}
-use Rattle.rb_arena.proofs.Paths.{above-place}
-use Rattle.rb_arena.proofs.Inserting.{held_minus, held_own, can_sum_leaf, slack_leaf, rising_leaf, valued_new}
+use Rattle.std.proofs.Common.{refl, ap, ◌∙◌}
+use Rattle.std.specs.FinMap as map
+use Rattle.std.proofs.lemmas.Cmp.{nat_cmp_total}
+use Rattle.rb_rules.specs.Tree.{tip, plug}
+use Rattle.rb_rules.proofs.Attaching.{absent_both}
+use Rattle.rb_rules.proofs.Wider.{woven_wider}
+use Rattle.rb_arena.proofs.Inserting.{written_leaf}
 use Rattle.rb_arena.proofs.insert.insert_at.Goals as goal
 
-pub path_shift-by-requires : goal.path_shift-by-requires
-path_shift-by-requires g c =
-    let t = g.W.Weave in let (k, (h, bal, v)) = c.requires.hole in
-    (tip, (k, subst (λ o. WovenAt t.weaving t.is_near c.args.tree.now.nodes.live c.args.tree.now.root o tip k) (sym c.copy_of.ensures) h))
+pub leaf_at-leaf-requires : goal.leaf_at-leaf-requires
+leaf_at-leaf-requires g c =
+    let t = g.W.Weave in let laws = g.met.W.Weave in let w = t.weaving in let (reach, (beside, (k, (h, bal, v)))) = c.requires.hole in
+    (beside, (k, ((h.0, woven_wider w (t.within reach) t.is_near (laws.within_near reach) w.still (plug k tip) h.1, h.2), bal, v)))
 
-pub minus-requires : goal.minus-requires
-minus-requires g c =
-    let t = g.W.Weave in let laws = g.met.W.Weave in let w = t.weaving in let (k, (h, bal, v)) = c.requires.hole in
-    let woven = subst (λ o. WovenAt w t.is_near c.args.tree.now.nodes.live c.args.tree.now.root o tip k) (sym c.copy_of.ensures) h in
-    let by = c.path_shift-by.ensures tip k woven in
-    subst (λ b. HeldBy w t.is_near b) (sym (λ i. w.minus (c.still.ensures i) (by i))) (held_minus w laws.laws t.is_near t.is_item t.is_sum t.is_value laws.sums laws.parts laws.starts_near k c.args.item h.1 bal v)
-
-pub shift-own-requires : goal.shift-own-requires
-shift-own-requires g c =
-    let t = g.W.Weave in let laws = g.met.W.Weave in let w = t.weaving in let (k, (h, bal, v)) = c.requires.hole in
-    let woven = subst (λ o. WovenAt w t.is_near c.args.tree.now.nodes.live c.args.tree.now.root o tip k) (sym c.copy_of.ensures) h in
-    let by = c.path_shift-by.ensures tip k woven in
-    let first = c.minus.ensures ∙ (λ i. w.minus (c.still.ensures i) (by i)) in
-    subst (λ b. HeldItem w t.is_near t.is_item (w.shift b c.args.item)) (sym first) (held_own w laws.laws t.is_near t.is_item t.is_sum t.is_value laws.sums laws.parts laws.starts_near k c.args.item h.1 bal v)
-
-pub summed-leaf-requires : goal.summed-leaf-requires
-summed-leaf-requires g c =
-    let t = g.W.Weave in let laws = g.met.W.Weave in let w = t.weaving in let (k, (h, bal, v)) = c.requires.hole in
-    let woven = subst (λ o. WovenAt w t.is_near c.args.tree.now.nodes.live c.args.tree.now.root o tip k) (sym c.copy_of.ensures) h in
-    let by = c.path_shift-by.ensures tip k woven in
-    let first = c.minus.ensures ∙ (λ i. w.minus (c.still.ensures i) (by i)) in
-    let item = c.shift-own.ensures ∙ ap (λ b. w.shift b c.args.item) first in
-    subst {A = g.row.W-Item.Denot × g.row.W-By.Denot × g.row.W-Sum.Denot × g.row.W-Sum.Denot} (λ p. CanSumUp w t.is_near t.is_item t.is_sum t.is_value p.0 p.1 p.2 p.3)
-    (sym (λ i. (item i, c.still-2.ensures i, c.none.ensures i, c.none-2.ensures i))) (can_sum_leaf w laws.laws t.is_near t.is_item t.is_sum t.is_value laws.sums laws.parts laws.starts_near k c.args.item h.1 bal v)
-
-pub renew_up-requires : goal.renew_up-requires
-renew_up-requires g c =
-    let t = g.W.Weave in let laws = g.met.W.Weave in let w = t.weaving in let (k, (h, bal, v)) = c.requires.hole in
-    let woven = subst (λ o. WovenAt w t.is_near c.args.tree.now.nodes.live c.args.tree.now.root o tip k) (sym c.copy_of.ensures) h in
-    let by = c.path_shift-by.ensures tip k woven in
-    let first = c.minus.ensures ∙ (λ i. w.minus (c.still.ensures i) (by i)) in
-    let item = c.shift-own.ensures ∙ ap (λ b. w.shift b c.args.item) first in
-    let leaf = c.summed-leaf.ensures ∙ (λ i. summed w (item i) (c.still-2.ensures i) (c.none.ensures i) (c.none-2.ensures i)) in
-    let made = subst (λ d. Made c.attach-id.new.tree.nodes.live c.attach-id.new.tree.root (plug k (fork true c.attach-id.result d tip tip))) leaf (c.attach-id.ensures.made k h.0) in
-    let above_is = c.parent_at-parent.ensures ∙ ap above_place h.0.0 ∙ above-place k in
-    let slack = slack_leaf w laws.laws t.is_near t.is_item t.is_sum t.is_value laws.sums laws.parts laws.starts_near k c.args.item h.1 bal v c.attach-id.result c.attach-id.new.tree.nodes.live c.attach-id.new.tree.root c.parent_at-parent.result above_is h.2 made in
-    (_, slack)
-
-pub mend-requires : goal.mend-requires
-mend-requires g c =
-    let t = g.W.Weave in let laws = g.met.W.Weave in let w = t.weaving in let (k, (h, bal, v)) = c.requires.hole in
-    let woven = subst (λ o. WovenAt w t.is_near c.args.tree.now.nodes.live c.args.tree.now.root o tip k) (sym c.copy_of.ensures) h in
-    let by = c.path_shift-by.ensures tip k woven in
-    let first = c.minus.ensures ∙ (λ i. w.minus (c.still.ensures i) (by i)) in
-    let item = c.shift-own.ensures ∙ ap (λ b. w.shift b c.args.item) first in
-    let leaf = c.summed-leaf.ensures ∙ (λ i. summed w (item i) (c.still-2.ensures i) (c.none.ensures i) (c.none-2.ensures i)) in
-    let made = subst (λ d. Made c.attach-id.new.tree.nodes.live c.attach-id.new.tree.root (plug k (fork true c.attach-id.result d tip tip))) leaf (c.attach-id.ensures.made k h.0) in
-    let above_is = c.parent_at-parent.ensures ∙ ap above_place h.0.0 ∙ above-place k in
-    let slack = slack_leaf w laws.laws t.is_near t.is_item t.is_sum t.is_value laws.sums laws.parts laws.starts_near k c.args.item h.1 bal v c.attach-id.result c.attach-id.new.tree.nodes.live c.attach-id.new.tree.root c.parent_at-parent.result above_is h.2 made in
-    let renewed = c.renew_up.ensures.made _ slack in
-    (lefts w k ++ (c.attach-id.result, c.args.item) ∷ rights w k, rising_leaf w laws.laws t.is_near t.is_item t.is_sum t.is_value laws.sums laws.parts laws.starts_near k c.args.item h.1 bal v c.attach-id.result c.renew_up.new.tree.nodes.live c.renew_up.new.tree.root h.2 renewed, valued_new w laws.laws t.is_near t.is_item t.is_sum t.is_value laws.sums laws.parts laws.starts_near k c.args.item h.1 bal v c.attach-id.result)
+pub hang_leaf-requires : goal.hang_leaf-requires
+hang_leaf-requires g c =
+    let t = g.W.Weave in let laws = g.met.W.Weave in let w = t.weaving in let m = c.args.tree.now.nodes.live in let root = c.args.tree.now.root in
+    let (reach, (beside, (k, (h, bal, v)))) = c.requires.hole in let id = c.put-id.result in
+    let apart = absent_both m id c.put-id.ensures.new_name root (plug k tip) h.0.1 in
+    let leaf = c.leaf_at-leaf.ensures beside k ((h.0, woven_wider w (t.within reach) t.is_near (laws.within_near reach) w.still (plug k tip) h.1, h.2), bal, v) in
+    let (take, is) = written_leaf w (t.within reach) t.is_item t.is_value beside m c.put-id.new.self.live root c.args.at id c.args.item k c.leaf_at-leaf.result (h, bal, v) apart leaf c.put-id.ensures.live in
+    (reach, (beside, (k, (c.args.item, take, is))))
 
 pub returns-clause-mended : goal.returns-clause-mended
-returns-clause-mended g c = λ k (h, bal, v).
-    let t = g.W.Weave in let laws = g.met.W.Weave in let w = t.weaving in
-    let woven = subst (λ o. WovenAt w t.is_near c.args.tree.now.nodes.live c.args.tree.now.root o tip k) (sym c.copy_of.ensures) h in
-    let by = c.path_shift-by.ensures tip k woven in
-    let first = c.minus.ensures ∙ (λ i. w.minus (c.still.ensures i) (by i)) in
-    let item = c.shift-own.ensures ∙ ap (λ b. w.shift b c.args.item) first in
-    let leaf = c.summed-leaf.ensures ∙ (λ i. summed w (item i) (c.still-2.ensures i) (c.none.ensures i) (c.none-2.ensures i)) in
-    let made = subst (λ d. Made c.attach-id.new.tree.nodes.live c.attach-id.new.tree.root (plug k (fork true c.attach-id.result d tip tip))) leaf (c.attach-id.ensures.made k h.0) in
-    let above_is = c.parent_at-parent.ensures ∙ ap above_place h.0.0 ∙ above-place k in
-    let slack = slack_leaf w laws.laws t.is_near t.is_item t.is_sum t.is_value laws.sums laws.parts laws.starts_near k c.args.item h.1 bal v c.attach-id.result c.attach-id.new.tree.nodes.live c.attach-id.new.tree.root c.parent_at-parent.result above_is h.2 made in
-    let renewed = c.renew_up.ensures.made _ slack in
-    c.mend.ensures.mended (lefts w k ++ (c.attach-id.result, c.args.item) ∷ rights w k) (rising_leaf w laws.laws t.is_near t.is_item t.is_sum t.is_value laws.sums laws.parts laws.starts_near k c.args.item h.1 bal v c.attach-id.result c.renew_up.new.tree.nodes.live c.renew_up.new.tree.root h.2 renewed) (valued_new w laws.laws t.is_near t.is_item t.is_sum t.is_value laws.sums laws.parts laws.starts_near k c.args.item h.1 bal v c.attach-id.result)
+returns-clause-mended g c = λ reach beside k (h, bal, v).
+    let t = g.W.Weave in let laws = g.met.W.Weave in let w = t.weaving in let m = c.args.tree.now.nodes.live in let root = c.args.tree.now.root in let id = c.put-id.result in
+    let apart = absent_both m id c.put-id.ensures.new_name root (plug k tip) h.0.1 in
+    let leaf = c.leaf_at-leaf.ensures beside k ((h.0, woven_wider w (t.within reach) t.is_near (laws.within_near reach) w.still (plug k tip) h.1, h.2), bal, v) in
+    let (take, is) = written_leaf w (t.within reach) t.is_item t.is_value beside m c.put-id.new.self.live root c.args.at id c.args.item k c.leaf_at-leaf.result (h, bal, v) apart leaf c.put-id.ensures.live in
+    c.hang_leaf.ensures.mended reach beside k c.args.item take is
+
+pub returns-clause-as_many : goal.returns-clause-as_many
+returns-clause-as_many g c =
+    c.hang_leaf.ensures.as_many ∙ ap map.len c.put-id.ensures.live ∙ map.len-insert nat_cmp_total c.args.tree.now.nodes.live c.put-id.result c.leaf_at-leaf.result ∙ rw c.put-id.ensures.new_name refl
+
+pub returns-clause-few : goal.returns-clause-few
+returns-clause-few g c = rw c.hang_leaf.ensures.as_many (rw c.hang_leaf.ensures.spare c.put-id.ensures.few)

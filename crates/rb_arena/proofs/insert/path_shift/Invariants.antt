@@ -9,6 +9,6 @@ use Rattle.rb_arena.proofs.insert.path_shift.Given as goal
 abbrev pub invariant-loop-turn : goal.invariant-loop-turn
 invariant-loop-turn g l =
     let t = g.W.Weave in
-    (tree : Tree (Data g.row.W-Item.Denot g.row.W-Sum.Denot g.row.W-By.Denot)) (k : Hole (Data g.row.W-Item.Denot g.row.W-Sum.Denot g.row.W-By.Denot))
-    → WovenAt t.weaving t.is_near l.initial.tree.nodes.live l.initial.tree.root l.initial.at tree k
-    → Along t.weaving g.met.W.Weave.laws t.is_near l.initial.tree.nodes.live l.initial.tree.root (shift_at t.weaving k) l.at l.by (128 - l._turn) × t.is_near (shift_at t.weaving k)
+    (beside tree : Tree (Data g.row.W-Item.Denot g.row.W-Sum.Denot g.row.W-By.Denot)) (k : Hole (Data g.row.W-Item.Denot g.row.W-Sum.Denot g.row.W-By.Denot))
+    → WovenAt t.weaving t.is_near beside l.initial.tree.nodes.live l.initial.tree.root l.initial.at tree k
+    → Along t.weaving g.met.W.Weave.laws t.is_near beside l.initial.tree.nodes.live l.initial.tree.root (shift_at t.weaving k) l.at l.by (128 - l._turn) × t.is_near (shift_at t.weaving k)

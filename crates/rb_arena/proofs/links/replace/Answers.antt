@@ -1,4 +1,4 @@
-use Rattle.std.proofs.Common.{◌≡◌, ℕ, Option, Some, None, sym, ◌∙◌, ap, subst}
+use Rattle.std.proofs.Common.{◌≡◌, ℕ, ◌+◌, Option, Some, None, sym, ◌∙◌, ap, subst}
 use Rattle.std.specs.Prelude.{IfSome}
 use Rattle.std.specs.FinMap as map
 use Rattle.std.specs.Ordering.{nat_cmp}
@@ -16,7 +16,7 @@ carried : {X : Type 0} (P Q : X → Type 0) → ((x : X) → P x → Q x) → (o
 carried P Q f None h = tt
 carried P Q f (Some x) h = f x h
 
-module _ {D : Type 0} (m : map.FinMap nat_cmp (Slot D)) (root : Option ℕ) (s : Spot D) (id : ℕ) (h : Made m root (plug s.hole (here s id))) (n : Slot D) (found : map.get m id ≡ Some n) where
+module _ {D : Type 0} (m : map.FinMap nat_cmp (Slot D)) (root : Option ℕ) (s : Spot D) (id : ℕ) (h : Made s.beside m root (plug s.hole (here s id))) (n : Slot D) (found : map.get m id ≡ Some n) where
   slot_is : n ≡ sided Left (above s.hole) (root_of s.left) (root_of s.right) s.red s.datum
   slot_is = upper_is m root s id h Left n found
 
@@ -45,12 +45,12 @@ module _ {D : Type 0} (m : map.FinMap nat_cmp (Slot D)) (root : Option ℕ) (s :
     place_live : IfSome at (λ p. Live r2 p.0)
     place_live = carried (λ p. Live m p.0) (λ p. Live r2 p.0) (λ p. live_2 p.0) at (subst (λ o. IfSome o (λ p. Live m p.0)) (sym place) (at_place m root s id h))
 
-    in_place : count j (plug s.hole (here s id)) ≡ 0
-        → Made (map.insert r3 j (sided Left n.parent n.left n.right n.red e)) (root_hung root at (Some j)) (plug s.hole (fork s.red j e s.left s.right))
+    in_place : count j (plug s.hole (here s id)) + count j s.beside ≡ 0
+        → Made s.beside (map.insert r3 j (sided Left n.parent n.left n.right n.red e)) (root_hung root at (Some j)) (plug s.hole (fork s.red j e s.left s.right))
     in_place fresh =
         let made = replaced m root s.hole s.red id j s.datum e s.left s.right h fresh in
         let left = ap (λ o. o.left) slot_is in let right = ap (λ o. o.right) slot_is in let up = ap (λ o. o.parent) slot_is in let red = ap (λ o. o.red) slot_is in
-        subst {A = map.FinMap nat_cmp (Slot D) × Option ℕ} (λ t. Made t.0 t.1 (plug s.hole (fork s.red j e s.left s.right)))
+        subst {A = map.FinMap nat_cmp (Slot D) × Option ℕ} (λ t. Made s.beside t.0 t.1 (plug s.hole (fork s.red j e s.left s.right)))
         (sym (λ i. (map.insert (hung (adopted (adopted m (left i) (Some j)) (right i) (Some j)) (place i) (Some j)) j (sided Left (up i) (left i) (right i) (red i) e), root_hung root (place i) (Some j)))) made
 
     same_many : Live m j → map.len (map.insert r3 j (sided Left n.parent n.left n.right n.red e)) ≡ map.len m
@@ -86,7 +86,7 @@ returns-clause-made g c = λ s h fresh.
     let live = c.hang.ensures.live ∙ ap (λ l. hung l c.place-at.result (Some j)) (c.adopt-2.ensures.live ∙ ap (λ l. adopted l n.right (Some j)) c.adopt.ensures.live) in
     let all = c.write.ensures.live ∙ (λ i. map.insert (live i) j (c.sided-slot.ensures i)) in
     let made = in_place m c.args.tree.now.root s c.args.id h n c.read-old.ensures j c.args.datum c.place-at.result (c.place-at.ensures s h) fresh in
-    subst {A = map.FinMap nat_cmp (Slot g.row.D.Denot) × Option ℕ} (λ t. Made t.0 t.1 (plug s.hole (fork s.red j c.args.datum s.left s.right))) (sym (λ i. (all i, c.hang.ensures.root i))) made
+    subst {A = map.FinMap nat_cmp (Slot g.row.D.Denot) × Option ℕ} (λ t. Made s.beside t.0 t.1 (plug s.hole (fork s.red j c.args.datum s.left s.right))) (sym (λ i. (all i, c.hang.ensures.root i))) made
 
 pub returns-clause-left : goal.returns-clause-left
 returns-clause-left g c =

@@ -15,7 +15,7 @@ pub returns-clause-made : goal.returns-clause-made
 returns-clause-made g c = λ s h.
     let m = c.args.tree.now.nodes.live in let root = c.args.tree.now.root in let id = c.args.id in
     let is = ap (λ o. unwrap_or o c.read-slot.result) (sym c.read-slot.ensures ∙ slot_here m root s id h) in
-    subst (λ l. Made l root (plug s.hole (fork c.args.red id c.args.datum s.left s.right)))
+    subst (λ l. Made s.beside l root (plug s.hole (fork c.args.red id c.args.datum s.left s.right)))
     (sym (c.write.ensures.live ∙ ap (λ n. map.insert m id (record n { red = c.args.red; «data» = c.args.datum })) is))
     (rewritten m root s.hole Left s.red id s.datum s.left s.right c.args.red c.args.datum h)
 

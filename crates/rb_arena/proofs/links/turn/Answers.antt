@@ -73,7 +73,7 @@ returns-clause-made g c = λ s h.
     let top = c.hang.ensures.root ∙ ap (λ o. root_hung root o (Some j)) at in
     let linked : child sd n ≡ Some j = sym c.child.ensures ∙ c.in-Some.is in
     let made = turn_made m root s id h sd j n l c.args.low c.args.high c.read-upper.ensures c.read-lower.ensures linked in
-    subst {A = map.FinMap nat_cmp (Slot g.row.D.Denot) × Option ℕ} (λ t. Made t.0 t.1 (plug s.hole (turned sd c.args.low c.args.high (here s id)))) (sym (λ i. (all i, top i))) made
+    subst {A = map.FinMap nat_cmp (Slot g.row.D.Denot) × Option ℕ} (λ t. Made s.beside t.0 t.1 (plug s.hole (turned sd c.args.low c.args.high (here s id)))) (sym (λ i. (all i, top i))) made
 
 pub returns-clause-as_many : goal.returns-clause-as_many
 returns-clause-as_many g c =

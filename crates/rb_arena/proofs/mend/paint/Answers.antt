@@ -12,4 +12,4 @@ read-datum-requires g c = let (s, h) = c.requires in (_, slot_here c.args.tree.n
 pub returns-clause-made : goal.returns-clause-made
 returns-clause-made g c = λ s h.
     let up = upper_is c.args.tree.now.nodes.live c.args.tree.now.root s c.args.id h Left c.read-datum.result c.read-datum.ensures in
-    subst (λ d. Made c.rewrite.new.tree.nodes.live c.rewrite.new.tree.root (plug s.hole (fork c.args.red c.args.id d s.left s.right))) (ap (λ n. n.«data») up) (c.rewrite.ensures.made s h)
+    subst (λ d. Made s.beside c.rewrite.new.tree.nodes.live c.rewrite.new.tree.root (plug s.hole (fork c.args.red c.args.id d s.left s.right))) (ap (λ n. n.«data») up) (c.rewrite.ensures.made s h)

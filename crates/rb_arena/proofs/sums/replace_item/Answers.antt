@@ -15,4 +15,4 @@ pub returns-clause-made : goal.returns-clause-made
 returns-clause-made g c = λ s h.
     let up = upper_is c.args.tree.now.nodes.live c.args.tree.now.root s c.args.id h Left c.read-slot.result c.read-slot.ensures in
     subst {A = Bool × Data g.row.W-Item.Denot g.row.W-Sum.Denot g.row.W-By.Denot}
-    (λ p. Made c.rewrite.new.tree.nodes.live c.rewrite.new.tree.root (plug s.hole (fork p.0 c.args.id (with_item p.1 c.args.item) s.left s.right))) (λ i. ((up i).red, (up i).«data»)) (c.rewrite.ensures.made s h)
+    (λ p. Made s.beside c.rewrite.new.tree.nodes.live c.rewrite.new.tree.root (plug s.hole (fork p.0 c.args.id (with_item p.1 c.args.item) s.left s.right))) (λ i. ((up i).red, (up i).«data»)) (c.rewrite.ensures.made s h)

@@ -16,7 +16,7 @@ pub read-upper-requires : goal.read-upper-requires
 read-upper-requires g c = let (s, h, f, wv, v) = c.requires in (_, slot_here c.args.tree.now.nodes.live c.args.tree.now.root s c.args.id h)
 
 pub returns-in_default-clause-turned : goal.returns-in_default-clause-turned
-returns-in_default-clause-turned g c = λ s2 h2 wv2.
+returns-in_default-clause-turned g c = λ s2 h2 reach wv2.
     let (s, h, f, wv, v) = c.requires in let m = c.args.tree.now.nodes.live in let root = c.args.tree.now.root in
     let up = upper_is m root s c.args.id h c.args.side c.read-upper.result c.read-upper.ensures in
     let none = sym (ap (child c.args.side) up ∙ (child-sided c.args.side _ _ _ _ _).0) ∙ sym c.child.ensures ∙ c.in_default.is in
@@ -56,7 +56,7 @@ turned_data-low-requires g c =
     c.read-upper.ensures c.read-lower.ensures (sym c.child.ensures ∙ c.in-Some.is) v))
 
 pub returns-clause-turned : goal.returns-clause-turned
-returns-clause-turned g c = λ s h wv.
+returns-clause-turned g c = λ s h reach wv.
     let m = c.args.tree.now.nodes.live in let root = c.args.tree.now.root in
     let t = g.W.Weave in let laws = g.met.W.Weave in let n = c.read-upper.result in let l = c.read-lower.result in
     let mid = c.whole-mid.ensures ∙ ap (whole_in t.weaving m) (c.child-2.ensures ∙ ap (λ e. child e l) c.other.ensures) in
@@ -64,13 +64,13 @@ returns-clause-turned g c = λ s h wv.
     let low = c.turned_data-low.ensures.low ∙ (λ i. lowered t.weaving c.args.side n.«data» l.«data» (mid i) (far i)) in
     let high = c.turned_data-low.ensures.high ∙ (λ i. raised t.weaving c.args.side n.«data» l.«data» (mid i) (far i)) in
     let es = entries t.weaving t.weaving.still (plug s.hole (here s c.args.id)) in
-    let lists = turn_lists t.weaving laws.laws t.is_near t.is_item t.is_sum t.is_value laws.sums laws.parts m root s c.args.id h wv c.args.side c.in-Some.child n l
+    let lists = turn_lists t.weaving laws.laws (t.within reach) t.is_item t.is_sum t.is_value laws.sums laws.parts m root s c.args.id h wv c.args.side c.in-Some.child n l
     c.read-upper.ensures c.read-lower.ensures (sym c.child.ensures ∙ c.in-Some.is) in (
       c.turned_data-low.result.0,
       (
         c.turned_data-low.result.1,
         c.turn.ensures.made s h,
         subst {A = Data g.row.W-Item.Denot g.row.W-Sum.Denot g.row.W-By.Denot × Data g.row.W-Item.Denot g.row.W-Sum.Denot g.row.W-By.Denot}
-            (λ p. Lists t.weaving t.is_near (plug s.hole (turned c.args.side p.0 p.1 (here s c.args.id))) es) (sym (λ i. (low i, high i))) lists,
+            (λ p. Lists t.weaving (t.within reach) (plug s.hole (turned c.args.side p.0 p.1 (here s c.args.id))) es) (sym (λ i. (low i, high i))) lists,
       ),
     )

@@ -6,5 +6,5 @@ use Rattle.rb_arena.proofs.tree.last_place.Given as goal
 
 abbrev pub invariant-loop-turn : goal.invariant-loop-turn
 invariant-loop-turn g l =
-    (t : Tree g.row.D.Denot) (k : Hole g.row.D.Denot) → StartsAt l.initial.tree.nodes.live l.initial.tree.root l.initial.at l.initial.next t k
-    → (t2 : Tree g.row.D.Denot) × ((k2 : Hole g.row.D.Denot) × HoleAt l.initial.tree.nodes.live l.initial.tree.root l.at t2 k2 × (l.next ≡ root_of t2) × (height t2 ≤ 128 - l._turn) × (last_hole k2 t2 ≡ last_hole k t))
+    (beside t : Tree g.row.D.Denot) (k : Hole g.row.D.Denot) → StartsAt beside l.initial.tree.nodes.live l.initial.tree.root l.initial.at l.initial.next t k
+    → (t2 : Tree g.row.D.Denot) × ((k2 : Hole g.row.D.Denot) × HoleAt beside l.initial.tree.nodes.live l.initial.tree.root l.at t2 k2 × (l.next ≡ root_of t2) × (height t2 ≤ 128 - l._turn) × (last_hole k2 t2 ≡ last_hole k t))

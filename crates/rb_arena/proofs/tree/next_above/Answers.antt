@@ -24,18 +24,18 @@ place-at-requires-in-Right g c =
     let (s, made, le) = c.requires in let (k, (t, e, made2, up, dep)) = c.loop-turn.invariant s made le in let above = c.in-Some.above in
     let m = c.args.tree.now.nodes.live in let root = c.args.tree.now.root in
     let (b, (d, x, k2, is)) = hole_on k above.0 above.1 (sym e ∙ c.in-Some.is) in
-    (spot_of above.1 b d t x k2, stands_above m root above.1 b above.0 d x k2 t (subst (λ l. Made m root (plug l t)) is made2))
+    (spot_of s.beside above.1 b d t x k2, stands_above m root above.1 b above.0 d x k2 t (subst (λ l. Made s.beside m root (plug l t)) is made2))
 
 pub loop-turn-preserved : goal.loop-turn-preserved
 loop-turn-preserved g c = λ s made le.
     let (k, (t, e, made2, up, dep)) = c.loop-turn.invariant s made le in let above = c.in-Some.above in
     let m = c.args.tree.now.nodes.live in let root = c.args.tree.now.root in
     let (b, (d, x, k2, is)) = hole_on k above.0 above.1 (sym e ∙ c.in-Some.is) in
-    let here_ = subst (λ l. Made m root (plug l t)) is made2 in let deep = ap depth is in (
+    let here_ = subst (λ l. Made s.beside m root (plug l t)) is made2 in let deep = ap depth is in (
       k2,
       (
         forked above.1 b above.0 d t x,
-        c.place-at-in-Right.ensures (spot_of above.1 b d t x k2) (stands_above m root above.1 b above.0 d x k2 t here_) ∙ ap place_of (spot_hole above.1 b d t x k2),
+        c.place-at-in-Right.ensures (spot_of s.beside above.1 b d t x k2) (stands_above m root above.1 b above.0 d x k2 t here_) ∙ ap place_of (spot_hole s.beside above.1 b d t x k2),
         here_,
         sym (ap up_next is ∙ ap (λ z. up_next (on z b above.0 d x k2)) c.in-Right.is) ∙ up,
         omega (arith, dep, deep, c.loop-turn-test.true),

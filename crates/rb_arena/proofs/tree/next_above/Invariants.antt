@@ -7,4 +7,4 @@ use Rattle.rb_arena.proofs.tree.next_above.Given as goal
 abbrev pub invariant-loop-turn : goal.invariant-loop-turn
 invariant-loop-turn g l =
     AtSpot l.fn.tree.nodes.live l.fn.tree.root l.fn.id (λ s. depth s.hole ≤ 128
-    → (k : Hole g.row.D.Denot) × ((t : Tree g.row.D.Denot) × (l.at ≡ place_of k) × Made l.fn.tree.nodes.live l.fn.tree.root (plug k t) × (up_next k ≡ up_next s.hole) × (depth k ≤ 128 - l._turn)))
+    → (k : Hole g.row.D.Denot) × ((t : Tree g.row.D.Denot) × (l.at ≡ place_of k) × Made s.beside l.fn.tree.nodes.live l.fn.tree.root (plug k t) × (up_next k ≡ up_next s.hole) × (depth k ≤ 128 - l._turn)))

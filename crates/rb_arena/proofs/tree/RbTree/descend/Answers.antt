@@ -2,6 +2,7 @@ use Rattle.std.proofs.Common.{◌≡◌, ℕ, ◌+◌, ◌-◌, ◌*◌, ◌^◌
 use Rattle.std.proofs.Math.Nat.{pow-le-pow_right, pow-suc, pow-zero, one-mul}
 use Rattle.rb_rules.specs.Tree.{size, height}
 use Rattle.rb_rules.proofs.Balance.{bound}
+use Rattle.rb_rules.proofs.Wider.{woven_wider}
 use Rattle.rb_arena.specs.Searching.{Found}
 use Rattle.rb_arena.proofs.Growing.{length-entries}
 use Rattle.rb_arena.proofs.Listing.{low, items_are}
@@ -12,20 +13,20 @@ square_is k = pow-suc k 1 ∙ ap (λ z. z * k) (pow-suc k 0 ∙ ap (λ z. z * k)
 
 pub descend-requires : goal.descend-requires
 descend-requires g c =
-    let t = g.W.Weave in let K = c.self.invariant in
-    (K.tree, K.made, K.woven, K.values, low t.weaving t.is_near t.is_item t.is_value c.self.inside.links.nodes.live c.self.inside.links.root K)
+    let t = g.W.Weave in let laws = g.met.W.Weave in let K = c.self.invariant in let reach = c.self.inside.reach in let front = c.self.inside.loose in
+    (K.beside, (K.tree, K.made, woven_wider t.weaving (t.within reach) t.is_near (laws.within_near reach) t.weaving.still K.tree K.woven, K.values, low t.weaving (t.within reach) t.is_item t.is_value c.self.inside.links.nodes.live c.self.inside.links.root front K))
 
 pub returns-clause-found : goal.returns-clause-found
 returns-clause-found g c =
-    let t = g.W.Weave in let K = c.self.invariant in let m = c.self.inside.links.nodes.live in let root = c.self.inside.links.root in
-    let same = sym (items_are t.weaving t.is_near t.is_item t.is_value m root K) ∙ ap (λ l. l.items) c.self.view_is in
-    subst (λ l. Found t.weaving t.turn c.args.key l c.descend.result) same (c.descend.ensures.found K.tree K.made K.woven (low t.weaving t.is_near t.is_item t.is_value m root K))
+    let t = g.W.Weave in let laws = g.met.W.Weave in let K = c.self.invariant in let reach = c.self.inside.reach in let front = c.self.inside.loose in let m = c.self.inside.links.nodes.live in let root = c.self.inside.links.root in
+    let same = sym (items_are t.weaving (t.within reach) t.is_item t.is_value m root front K) ∙ ap (λ l. l.items) c.self.view_is in
+    subst (λ l. Found t.weaving t.turn c.args.key l c.descend.result) same (c.descend.ensures.found K.beside K.tree K.made (woven_wider t.weaving (t.within reach) t.is_near (laws.within_near reach) t.weaving.still K.tree K.woven) (low t.weaving (t.within reach) t.is_item t.is_value m root front K))
 
 pub returns-clause-cost : goal.returns-clause-cost
 returns-clause-cost g c =
-    let t = g.W.Weave in let K = c.self.invariant in let m = c.self.inside.links.nodes.live in let root = c.self.inside.links.root in
-    let same = sym (items_are t.weaving t.is_near t.is_item t.is_value m root K) ∙ ap (λ l. l.items) c.self.view_is in
-    let cost = c.descend.ensures.cost K.tree K.made K.woven (low t.weaving t.is_near t.is_item t.is_value m root K) in
+    let t = g.W.Weave in let laws = g.met.W.Weave in let K = c.self.invariant in let reach = c.self.inside.reach in let front = c.self.inside.loose in let m = c.self.inside.links.nodes.live in let root = c.self.inside.links.root in
+    let same = sym (items_are t.weaving (t.within reach) t.is_item t.is_value m root front K) ∙ ap (λ l. l.items) c.self.view_is in
+    let cost = c.descend.ensures.cost K.beside K.tree K.made (woven_wider t.weaving (t.within reach) t.is_near (laws.within_near reach) t.weaving.still K.tree K.woven) (low t.weaving (t.within reach) t.is_item t.is_value m root front K) in
     let up = pow-le-pow_right {n = 2} (lit< tt) {i = c.descend.new.steps - c.args.steps.now} {j = height K.tree} cost in
     let few = bound K.tree K.balanced in
     let n : size K.tree ≡ length c.args.self.now.items = sym (length-entries t.weaving t.weaving.still K.tree) ∙ ap length same in

@@ -10,12 +10,12 @@ use Rattle.rb_arena.proofs.tree.RbTree.first.Goals as goal
 
 pub first_place-requires : goal.first_place-requires
 first_place-requires g c =
-    let t = g.W.Weave in let laws = g.met.W.Weave in let w = t.weaving in let K = c.self.invariant in let m = c.self.inside.links.nodes.live in let root = c.self.inside.links.root in
-    (K.tree, (top, starts_top w t.is_near t.is_item t.is_value m root K))
+    let t = g.W.Weave in let laws = g.met.W.Weave in let w = t.weaving in let K = c.self.invariant in let reach = c.self.inside.reach in let front = c.self.inside.loose in let m = c.self.inside.links.nodes.live in let root = c.self.inside.links.root in
+    (K.beside, (K.tree, (top, starts_top w (t.within reach) t.is_item t.is_value m root front K)))
 
 pub returns : goal.returns
 returns g c =
-    let t = g.W.Weave in let laws = g.met.W.Weave in let w = t.weaving in let K = c.self.invariant in let m = c.self.inside.links.nodes.live in let root = c.self.inside.links.root in
-    let same : c.args.self.now.items ≡ entries w w.still K.tree = sym (ap (λ l. l.items) c.self.view_is) ∙ items_are w t.is_near t.is_item t.is_value m root K in
-    c.parent_at.ensures ∙ ap above_place (c.first_place.ensures K.tree top (starts_top w t.is_near t.is_item t.is_value m root K)) ∙ above-place (first_hole top K.tree)
+    let t = g.W.Weave in let laws = g.met.W.Weave in let w = t.weaving in let K = c.self.invariant in let reach = c.self.inside.reach in let front = c.self.inside.loose in let m = c.self.inside.links.nodes.live in let root = c.self.inside.links.root in
+    let same : c.args.self.now.items ≡ entries w w.still K.tree = sym (ap (λ l. l.items) c.self.view_is) ∙ items_are w (t.within reach) t.is_item t.is_value m root front K in
+    c.parent_at.ensures ∙ ap above_place (c.first_place.ensures K.beside K.tree top (starts_top w (t.within reach) t.is_item t.is_value m root front K)) ∙ above-place (first_hole top K.tree)
     ∙ above_first w top K.tree ∙ ap (first_or None) (sym same)

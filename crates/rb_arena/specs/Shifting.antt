@@ -1,0 +1,44 @@
+-- Shifts in a tree in memory: those of a subtree that is to be levelled, and the one that the items after a place are to take.
+use Rattle.std.specs.Prelude.{◌≡◌, ℕ, ◌≤◌, List, ◌++◌, Option, Some, None}
+use Rattle.std.specs.Ordering.{nat_cmp}
+use Rattle.std.specs.FinMap as map
+use Rattle.rb_rules.specs.declared.slot.Data.{Data}
+use Rattle.rb_rules.specs.declared.slot.Side.{Side}
+use Rattle.rb_rules.specs.declared.slot.Slot.{Slot}
+use Rattle.rb_rules.specs.Colours.{Balanced}
+use Rattle.rb_rules.specs.Tree.{Tree, Hole, tip, plug, root_of, height, depth}
+use Rattle.rb_rules.specs.Memory.{Made, Spot, here}
+use Rattle.rb_rules.specs.Weaving.{Weaving, HeldItem, HeldBy}
+use Rattle.rb_rules.specs.Woven.{entries, Woven, AllItems, Valued, shift_at, lefts, rights}
+use Rattle.rb_rules.specs.Sound.{Slack}
+use Rattle.rb_rules.specs.Shifts.{shifted, moved}
+use Rattle.rb_arena.specs.Placing.{HoleAt, WovenAt}
+use Rattle.rb_arena.specs.Rising.{Mended}
+
+module _ {X S B : Type 0} (w : Weaving X S B) (is_near : B → Type 0) (is_item : X → Type 0) where
+  module _ (is_value : S → Type 0) (beside : Tree (Data X S B)) (m : map.FinMap nat_cmp (Slot (Data X S B))) (root : Option ℕ) where
+    -- the tree hangs at that name, below a path whose shifts come to acc; it keeps the right sums of values, and none of its paths is longer than n nodes
+    abbrev pub CanLevel : Option ℕ → B → ℕ → Hole (Data X S B) → Tree (Data X S B) → Type 0
+    CanLevel at acc n k t = Made beside m root (plug k t) × (at ≡ root_of t) × Woven w is_near acc t × Valued w is_item is_value (entries w acc t) × (height t ≤ n)
+
+  module _ (m : map.FinMap nat_cmp (Slot (Data X S B))) (root : Option ℕ) where
+    -- the node's item and its right subtree may move
+    abbrev pub CanMove : B → ℕ → Type 0
+    CanMove by i = (s : Spot (Data X S B)) × Made s.beside m root (plug s.hole (here s i)) × HeldItem w is_near is_item (w.shift by s.datum.item) × HeldBy w is_near (w.plus by s.datum.delta)
+
+    -- each item after the place is a value once moved, and no path's shift is too great then; there are no more than n nodes above
+    abbrev pub CanShift : Tree (Data X S B) → Option (ℕ × Side) → B → ℕ → Tree (Data X S B) → Hole (Data X S B) → Type 0
+    CanShift beside at by n t k =
+        HoleAt beside m root at t k × is_near (shift_at w k) × Slack w is_near (moved w by k) × AllItems w is_item (shifted w by (rights w k)) × (depth k ≤ n)
+
+module _ {X S B : Type 0} (w : Weaving X S B) (beside : Tree (Data X S B)) (m : map.FinMap nat_cmp (Slot (Data X S B))) (root : Option ℕ) where
+  -- the items after the place may move: all are values then
+  abbrev pub CanShiftFrom : (B → Type 0) → (X → Type 0) → (S → Type 0) → Option (ℕ × Side) → B → Hole (Data X S B) → Type 0
+  CanShiftFrom is_near is_item is_value at by k =
+      WovenAt w is_near beside m root at tip k × Balanced (plug k tip) × Valued w is_item is_value (lefts w k ++ shifted w by (rights w k))
+
+  -- a tree with the items es lies in the memory, whose paths' shifts lie within a reach that the shift widens to the one found;
+  -- where none is found, the shift is too great for any tree, and the tree is within the old one
+  abbrev pub Reaches : (B → B → Type 0) → (B → B → Option B) → List (ℕ × X) → B → B → Option B → Type 0
+  Reaches within widened es old by None = Mended w (within old) beside m root es × (widened w.still by ≡ None)
+  Reaches within widened es old by (Some found) = (reach : B) × Mended w (within reach) beside m root es × (widened reach by ≡ Some found)

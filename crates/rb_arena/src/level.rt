@@ -1,0 +1,53 @@
+//! The shifts in a tree are applied, and none is left in it.
+ghost use Rattle.std.specs.Prelude.{◌≡◌};
+ghost use Rattle.std.specs.FinMap as map;
+ghost use Rattle.rb_rules.specs.Tree.{Tree, Hole, plug};
+ghost use Rattle.rb_rules.specs.Memory.{Made};
+ghost use Rattle.rb_rules.specs.Shifts as shifts;
+ghost use Rattle.rb_rules.specs.Weaving.{HeldItem, HeldSum};
+ghost use Rattle.rb_arena.specs.Shifting.{CanLevel};
+
+use crate::links::{Links, read, rewrite};
+use raw_arena::NodeId;
+use rb_rules::{Data, Weave};
+
+/// A node's data with the shift of its path applied, and with none for its right subtree.
+fn level_datum<W: Weave>(
+    by: W::By,
+    datum: &Data<W::Item, W::Sum, W::By>,
+) -> Data<W::Item, W::Sum, W::By>
+    requires item { HeldItem W.weaving W.is_near W.is_item (W.weaving.shift by datum.now.item) }
+    requires before { HeldSum W.weaving W.is_near W.is_sum W.is_value (W.weaving.shift_sum by datum.now.before) }
+    requires whole { HeldSum W.weaving W.is_near W.is_sum W.is_value (W.weaving.shift_sum by datum.now.whole) }
+    ensures { result ≡ shifts.level_datum W.weaving by datum.now }
+{
+    Data {
+        item: W::shift(by, datum.item),
+        delta: W::still(),
+        before: W::shift_sum(by, datum.before),
+        whole: W::shift_sum(by, datum.whole),
+    }
+}
+
+/// Levels a subtree below a path whose shifts come to `by`. It has no more than so many levels.
+pub(crate) fn level<W: Weave>(
+    tree: &mut Links<Data<W::Item, W::Sum, W::By>>,
+    at: Option<NodeId>,
+    by: W::By,
+    levels: u32,
+)
+    requires { (beside : Tree (Data W.Item W.Sum W.By)) × ((t : Tree (Data W.Item W.Sum W.By)) × ((k : Hole (Data W.Item W.Sum W.By)) × CanLevel W.weaving W.is_near W.is_item W.is_value beside tree.old.nodes.live tree.old.root at by levels k t)) }
+    ensures made { (beside t : Tree (Data W.Item W.Sum W.By)) (k : Hole (Data W.Item W.Sum W.By)) → CanLevel W.weaving W.is_near W.is_item W.is_value beside tree.old.nodes.live tree.old.root at by levels k t → Made beside tree.new.nodes.live tree.new.root (plug k (shifts.levelled W.weaving by t)) }
+    ensures spare { tree.new.nodes.spare ≡ tree.old.nodes.spare }
+    ensures as_many { map.len tree.new.nodes.live ≡ map.len tree.old.nodes.live }
+{
+    let Some(id) = at else {
+        return;
+    };
+    let slot = read(&tree.nodes, id);
+    let datum = level_datum::<W>(by, &slot.data);
+    rewrite(tree, id, slot.red, datum);
+    level::<W>(tree, slot.left, by, levels - 1);
+    let right = W::plus(by, slot.data.delta);
+    level::<W>(tree, slot.right, right, levels - 1);
+}

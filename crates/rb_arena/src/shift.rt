@@ -1,0 +1,89 @@
+//! The items after a place move.
+ghost use Rattle.std.specs.Prelude.{◌≡◌, ℕ, List, ◌++◌, Some};
+ghost use Rattle.std.specs.FinMap as map;
+ghost use Rattle.rb_rules.specs.Tree.{Tree, Hole, plug, fork};
+ghost use Rattle.rb_rules.specs.Memory.{Made, AtSpot};
+ghost use Rattle.rb_rules.specs.Shifts.{moved, moved_datum, shifted};
+ghost use Rattle.rb_rules.specs.Woven.{lefts, rights};
+ghost use Rattle.rb_arena.specs.Leaving.{Stores};
+ghost use Rattle.rb_arena.specs.Rising.{Mended};
+ghost use Rattle.rb_arena.specs.Shifting.{CanMove, CanShift, CanShiftFrom, Reaches};
+
+use crate::climb::{LONGEST, renew_up};
+use crate::insert::parent_at;
+use crate::level::level;
+use crate::links::{Links, Place, place, read, rewrite};
+use raw_arena::NodeId;
+use rb_rules::{Data, Side, Weave};
+
+/// Moves a node's item and its right subtree, and leaves its sums as they are.
+fn move_node<W: Weave>(tree: &mut Links<Data<W::Item, W::Sum, W::By>>, id: NodeId, by: W::By)
+    requires { CanMove W.weaving W.is_near W.is_item tree.old.nodes.live tree.old.root by id }
+    ensures made { AtSpot tree.old.nodes.live tree.old.root id (λ s. Made s.beside tree.new.nodes.live tree.new.root (plug s.hole (fork s.red id (moved_datum W.weaving by s.datum) s.left s.right))) }
+    ensures spare { tree.new.nodes.spare ≡ tree.old.nodes.spare }
+    ensures as_many { map.len tree.new.nodes.live ≡ map.len tree.old.nodes.live }
+{
+    let slot = read(&tree.nodes, id);
+    let datum = Data {
+        item: W::shift(by, slot.data.item),
+        delta: W::plus(by, slot.data.delta),
+        before: slot.data.before,
+        whole: slot.data.whole,
+    };
+    rewrite(tree, id, slot.red, datum);
+}
+
+/// Moves the items after a place: at each node that the path leaves to the left, its item and its right subtree.
+fn shift_up<W: Weave>(tree: &mut Links<Data<W::Item, W::Sum, W::By>>, from: Place, by: W::By)
+    requires { (beside : Tree (Data W.Item W.Sum W.By)) × ((t : Tree (Data W.Item W.Sum W.By)) × ((k : Hole (Data W.Item W.Sum W.By)) × CanShift W.weaving W.is_near W.is_item tree.old.nodes.live tree.old.root beside from by 128 t k)) }
+    ensures made { (beside t : Tree (Data W.Item W.Sum W.By)) (k : Hole (Data W.Item W.Sum W.By)) → CanShift W.weaving W.is_near W.is_item tree.old.nodes.live tree.old.root beside from by 128 t k → Made beside tree.new.nodes.live tree.new.root (plug (moved W.weaving by k) t) }
+    ensures spare { tree.new.nodes.spare ≡ tree.old.nodes.spare }
+    ensures as_many { map.len tree.new.nodes.live ≡ map.len tree.old.nodes.live }
+{
+    let mut at = from;
+    for _turn in 0..LONGEST {
+        let Some(above) = at else {
+            return;
+        };
+        at = place(tree, above.0);
+        match above.1 {
+            Side::Left => move_node::<W>(tree, above.0, by),
+            Side::Right => {}
+        }
+    }
+}
+
+/// Moves the items after an empty place, and renews the sums above it.
+pub(crate) fn shift_from<W: Weave>(
+    tree: &mut Links<Data<W::Item, W::Sum, W::By>>,
+    at: Place,
+    by: W::By,
+)
+    requires { (from : W.By) × ((reach : W.By) × ((beside : Tree (Data W.Item W.Sum W.By)) × ((k : Hole (Data W.Item W.Sum W.By)) × (W.widened from by ≡ Some reach) × CanShiftFrom W.weaving beside tree.old.nodes.live tree.old.root (W.within from) W.is_item W.is_value at by k))) }
+    ensures mended { (from reach : W.By) (beside : Tree (Data W.Item W.Sum W.By)) (k : Hole (Data W.Item W.Sum W.By)) → W.widened from by ≡ Some reach → CanShiftFrom W.weaving beside tree.old.nodes.live tree.old.root (W.within from) W.is_item W.is_value at by k → Mended W.weaving (W.within reach) beside tree.new.nodes.live tree.new.root (lefts W.weaving k ++ shifted W.weaving by (rights W.weaving k)) }
+    ensures spare { tree.new.nodes.spare ≡ tree.old.nodes.spare }
+    ensures as_many { map.len tree.new.nodes.live ≡ map.len tree.old.nodes.live }
+{
+    let parent = parent_at(&at);
+    shift_up::<W>(tree, at, by);
+    renew_up::<W>(tree, parent);
+}
+
+/// A reach for a tree some of whose items move. Where the tree's own would grow too great, the tree is levelled first.
+pub(crate) fn reach_for<W: Weave>(
+    tree: &mut Links<Data<W::Item, W::Sum, W::By>>,
+    reach: W::By,
+    by: W::By,
+) -> Option<W::By>
+    requires { (beside : Tree (Data W.Item W.Sum W.By)) × ((es : List (ℕ × W.Item)) × Stores W.weaving (W.within reach) W.is_item W.is_value beside tree.old.nodes.live tree.old.root es) }
+    ensures reaches { (beside : Tree (Data W.Item W.Sum W.By)) (es : List (ℕ × W.Item)) → Stores W.weaving (W.within reach) W.is_item W.is_value beside tree.old.nodes.live tree.old.root es → Reaches W.weaving beside tree.new.nodes.live tree.new.root W.within W.widened es reach by result }
+    ensures spare { tree.new.nodes.spare ≡ tree.old.nodes.spare }
+    ensures as_many { map.len tree.new.nodes.live ≡ map.len tree.old.nodes.live }
+{
+    if let Some(wide) = W::widen(reach, by) {
+        return Some(wide);
+    }
+    let root = tree.root;
+    level::<W>(tree, root, W::still(), LONGEST);
+    W::widen(W::still(), by)
+}
