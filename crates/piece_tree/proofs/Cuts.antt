@@ -1,18 +1,18 @@
 -- Cutting a list of pieces, and what the parts have.
-use Rattle.std.proofs.Common.{◌≡◌, ℕ, zero, suc, ◌+◌, ◌-◌, ◌<◌, ◌≤◌, ◌==◌, leb, Bool, true, false, cond, Option, Some, None, List, [], ◌∷◌, ◌++◌, length, take, drop, set, get_or, map, refl, ap, sym, subst, ◌∙◌, inl, inr, add-zero, zero-add, append_assoc, arith}
-use Rattle.std.specs.List.{All, insert}
-use Rattle.std.proofs.lemmas.Bool.{lt-leb, le-leb, cases_lt, cases_eq, eq-eqb, ne_eqb}
-use Rattle.std.proofs.lemmas.List.{append-nil, take_all, drop_all, take-append-drop, take_at, drop_at, drop_more, take_more, take_more_set, drop-set-lt, length-append, length-take, length-take-le}
+use Rattle.std.proofs.Common.{◌≡◌, ℕ, ◌+◌, ◌-◌, ◌<◌, ◌≤◌, Option, Some, None, List, [], ◌∷◌, ◌++◌, drop, refl, ap, sym, subst, ◌∙◌, inl, inr, zero-add, arith}
+use Rattle.std.specs.List.{All}
+use Rattle.std.proofs.lemmas.Bool.{lt-leb, le-leb, cases_lt, cases_eq, ne_eqb}
+use Rattle.std.proofs.lemmas.List.{length-take}
 use Rattle.std.proofs.lemmas.List.Elements.{All-head, All-tail, All-cons, All-nil, All-append, All-weaker}
 use Rattle.std.proofs.lemmas.List.Sums.{sum_by-append}
 use Rattle.chunk_buffers.specs.declared.span.ChunkSpan.{ChunkSpan}
 use Rattle.chunk_buffers.specs.Chunks.{units_at, LiesIn, part_of, buffer_at}
 use Rattle.std.specs.Option.{ForSome}
-use Rattle.line_starts.specs.Starts.{break_count}
 use Rattle.line_starts.proofs.Starts.{break_count_is}
 use Rattle.text_rules.proofs.Breaks.{break_ends_few}
 use Rattle.piece_tree.specs.declared.piece.Piece.{Piece}
 use Rattle.piece_tree.specs.Pieces.{unit_count, piece_of, piece_list, IsPieceOf, front, back, spliced}
+use Rattle.piece_tree.specs.Searches.{few_breaks}
 use Rattle.piece_tree.proofs.Sums.{units-cons}
 
 module _ (b : List (List ℕ)) where
@@ -33,20 +33,6 @@ module _ (b : List (List ℕ)) where
 
   pub back_part : (n : ℕ) (p : Piece) (ps : List Piece) → 0 < n → n < p.span.units → back b n (p ∷ ps) ≡ piece_of b (part_of p.span n p.span.units) ∷ ps
   back_part n p ps some h = let other : n ≡ 0 → ⊥ = λ e. absurd (omega arith) in rw (lt-leb p.span.units n h, ne_eqb n 0 other)
-
-  module _ (ps : List Piece) (i rest units : ℕ) (d : Piece) (inside : i < length ps) where
-    pub front_more : (get_or ps i d).span.units ≤ rest → front b units ps ≡ take i ps ++ front b rest (drop i ps)
-        → front b units ps ≡ take (i + 1) ps ++ front b (rest - (get_or ps i d).span.units) (drop (i + 1) ps)
-    front_more past so_far =
-        so_far ∙ ap (λ qs. take i ps ++ front b rest qs) (drop_more ps i d inside)
-        ∙ ap (λ qs. take i ps ++ qs) (front_past rest (get_or ps i d) (drop (i + 1) ps) past)
-        ∙ sym (append_assoc (take i ps) (get_or ps i d ∷ []) (front b (rest - (get_or ps i d).span.units) (drop (i + 1) ps)))
-        ∙ ap (λ qs. qs ++ front b (rest - (get_or ps i d).span.units) (drop (i + 1) ps)) (sym (take_more ps i d inside))
-
-    pub back_more : (get_or ps i d).span.units ≤ rest → back b units ps ≡ back b rest (drop i ps)
-        → back b units ps ≡ back b (rest - (get_or ps i d).span.units) (drop (i + 1) ps)
-    back_more past so_far =
-        so_far ∙ ap (back b rest) (drop_more ps i d inside) ∙ back_past rest (get_or ps i d) (drop (i + 1) ps) past
 
   pub units-front : (n : ℕ) (ps : List Piece) → n ≤ unit_count ps → unit_count (front b n ps) ≡ n
   units-front n [] h = omega arith
@@ -149,75 +135,25 @@ module _ (b : List (List ℕ)) where
         ]
       ]
 
-  -- the piece at a place is cut into two
-  pub cut_at : (ps : List Piece) (i rest units : ℕ) (d left right : Piece) → i < length ps → 0 < rest → rest < (get_or ps i d).span.units
-      → left ≡ piece_of b (part_of (get_or ps i d).span 0 rest) → right ≡ piece_of b (part_of (get_or ps i d).span rest (get_or ps i d).span.units)
-      → front b units ps ≡ take i ps ++ front b rest (drop i ps) → back b units ps ≡ back b rest (drop i ps)
-      → (insert (set ps i left) (i + 1) right ≡ front b units ps ++ back b units ps) × (i + 1 ≡ length (front b units ps))
-  cut_at ps i rest units d left right inside some within left_is right_is front_is back_is =
-      let here = drop_more ps i d inside in
-      let first : front b units ps ≡ take i ps ++ left ∷ [] =
-      front_is ∙ ap (λ qs. take i ps ++ front b rest qs) here ∙ ap (λ qs. take i ps ++ qs) (front_part rest (get_or ps i d) (drop (i + 1) ps) some within)
-      ∙ ap (λ q. take i ps ++ q ∷ []) (sym left_is) in
-      let second : back b units ps ≡ right ∷ drop (i + 1) ps =
-      back_is ∙ ap (back b rest) here ∙ back_part rest (get_or ps i d) (drop (i + 1) ps) some within ∙ ap (λ q. q ∷ drop (i + 1) ps) (sym right_is) in (
-        ap (λ qs. qs ++ right ∷ drop (i + 1) (set ps i left)) (take_more_set ps i left inside)
-            ∙ ap (λ qs. (take i ps ++ left ∷ []) ++ right ∷ qs) (drop-set-lt (i + 1) ps i left (omega arith))
-            ∙ sym (ap (λ qs. qs ++ back b units ps) first ∙ ap (λ qs. (take i ps ++ left ∷ []) ++ qs) second),
-        omega (arith, ap length first, length-append (take i ps) (left ∷ []), length-take-le i ps (omega arith)),
-      )
-
-  -- no piece goes on past the cut
-  pub cut_none : (ps : List Piece) (i units : ℕ) → i ≤ length ps → ((d : Piece) → i < length ps → 0 < (get_or ps i d).span.units)
-      → front b units ps ≡ take i ps ++ front b 0 (drop i ps) → back b units ps ≡ back b 0 (drop i ps)
-      → (ps ≡ front b units ps ++ back b units ps) × (i ≡ length (front b units ps))
-  cut_none ps i units inside some front_is back_is =
-      let d : Piece = record { span = record { buffer = 0; start = 0; units = 0 }; breaks = 0 } in
-      let parts : (front b 0 (drop i ps) ≡ []) × (back b 0 (drop i ps) ≡ drop i ps) =
-      elim (cases_lt i (length ps)) [
-        | inl there ↦ (
-          ap (front b 0) (drop_more ps i d there) ∙ front_none (get_or ps i d) (drop (i + 1) ps) (some d there),
-          ap (back b 0) (drop_more ps i d there) ∙ back_none (get_or ps i d) (drop (i + 1) ps) (some d there) ∙ sym (drop_more ps i d there),
-        )
-        | inr past ↦ (ap (front b 0) (drop_all i ps past), ap (back b 0) (drop_all i ps past) ∙ sym (drop_all i ps past))
-      ] in
-      let first : front b units ps ≡ take i ps = front_is ∙ ap (λ qs. take i ps ++ qs) parts.0 ∙ append-nil (take i ps) in (
-        sym (ap (λ qs. qs ++ back b units ps) first ∙ ap (λ qs. take i ps ++ qs) (back_is ∙ parts.1) ∙ take-append-drop i ps),
-        sym (ap length first ∙ length-take-le i ps inside),
-      )
-
-  -- what two cuts and a removal leave
-  pub removed : (ps once twice : List Piece) (start end deleted first last : ℕ) → start ≤ unit_count ps → end ≡ start + deleted
-      → once ≡ front b start ps ++ back b start ps → first ≡ length (front b start ps)
-      → twice ≡ front b end once ++ back b end once → last ≡ length (front b end once)
-      → (take first twice ++ drop last twice ≡ front b start ps ++ back b end ps) × ((first ≤ last) × (last ≤ length twice))
-  removed ps once twice start end deleted first last within end_is once_is first_is twice_is last_is =
-      let size = units-front start ps within in
-      let fronts : front b end once ≡ front b start ps ++ front b deleted (back b start ps) =
-      ap (front b end) once_is ∙ front-append (front b start ps) (back b start ps) end deleted (omega arith) in
-      let backs : back b end once ≡ back b end ps =
-      ap (back b end) once_is ∙ back-append (front b start ps) (back b start ps) end deleted (omega arith) ∙ back-back deleted start end ps end_is in
-      let whole : twice ≡ front b start ps ++ (front b deleted (back b start ps) ++ back b end ps) =
-      twice_is ∙ ap (λ qs. qs ++ back b end once) fronts ∙ ap (λ qs. (front b start ps ++ front b deleted (back b start ps)) ++ qs) backs
-      ∙ append_assoc (front b start ps) (front b deleted (back b start ps)) (back b end ps) in
-      let count = ap length fronts ∙ length-append (front b start ps) (front b deleted (back b start ps)) in (
-        ap (λ qs. qs ++ drop last twice) (ap (take first) whole ∙ take_at (front b start ps) _ first (sym first_is))
-            ∙ ap (λ qs. front b start ps ++ qs) (ap (drop last) twice_is ∙ drop_at (front b end once) (back b end once) last (sym last_is) ∙ backs),
-        (omega arith, omega (arith, ap length twice_is, length-append (front b end once) (back b end once))),
-      )
-
-  pub units-once : (n : ℕ) (ps : List Piece) → n ≤ unit_count ps → unit_count (front b n ps ++ back b n ps) ≡ unit_count ps
-  units-once n ps h =
+  -- the pieces with a cut
+  pub units-cut : (n : ℕ) (ps : List Piece) → n ≤ unit_count ps → unit_count (front b n ps ++ back b n ps) ≡ unit_count ps
+  units-cut n ps h =
       let parts = sum_by-append (λ (q : Piece). q.span.units) (front b n ps) (back b n ps) in
       omega (arith, parts, units-front n ps h, units-back n ps)
 
-  pub piece_few : (p : Piece) → IsPieceOf b p → p.breaks ≤ p.span.units
+  pub pieces-cut : (n : ℕ) (ps : List Piece) → All (IsPieceOf b) ps → All (IsPieceOf b) (front b n ps ++ back b n ps)
+  pieces-cut n ps all = All-append (IsPieceOf b) (front b n ps) (back b n ps) (pieces-front n ps all) (pieces-back n ps all)
+
+  pub piece_few : (p : Piece) → IsPieceOf b p → few_breaks p
   piece_few p is =
       let shown = units_at b p.span in
       omega (arith, is.breaks, break_count_is shown, break_ends_few 0 shown, length-take p.span.units (drop p.span.start (buffer_at b p.span.buffer)))
 
-  pub pieces_few : (ps : List Piece) → All (IsPieceOf b) ps → All (λ (p : Piece). p.breaks ≤ p.span.units) ps
-  pieces_few ps all = All-weaker (IsPieceOf b) (λ (p : Piece). p.breaks ≤ p.span.units) piece_few ps all
+  pub span_few : (p : Piece) (span : ChunkSpan) → LiesIn b span → p ≡ piece_of b span → few_breaks p
+  span_few p span lies e = subst few_breaks (sym e) (piece_few (piece_of b span) (record { inside = lies; breaks = refl }))
+
+  pub pieces_few : (ps : List Piece) → All (IsPieceOf b) ps → All few_breaks ps
+  pieces_few ps all = All-weaker (IsPieceOf b) few_breaks piece_few ps all
 
   pieces_listed : (span : Option ChunkSpan) → ForSome span (LiesIn b) → All (IsPieceOf b) (piece_list b span)
   pieces_listed None lies = All-nil (IsPieceOf b)
@@ -229,6 +165,12 @@ module _ (b : List (List ℕ)) where
       (All-append (IsPieceOf b) (front b start ps) (piece_list b span) (pieces-front start ps all) (pieces_listed span lies))
       (pieces-back end ps all)
 
+  -- what a cut and a removal leave
+  pub units-removed : (start end : ℕ) (ps : List Piece) → start ≤ unit_count ps → unit_count (front b start ps ++ back b end ps) ≡ start + (unit_count ps - end)
+  units-removed start end ps h =
+      let parts = sum_by-append (λ (q : Piece). q.span.units) (front b start ps) (back b end ps) in
+      omega (arith, parts, units-front start ps h, units-back end ps)
+
   pub units-spliced : (start end : ℕ) (span : Option ChunkSpan) (ps : List Piece) → start ≤ unit_count ps
       → unit_count (spliced b start end span ps) ≡ start + unit_count (piece_list b span) + (unit_count ps - end)
   units-spliced start end span ps h =
@@ -239,8 +181,3 @@ module _ (b : List (List ℕ)) where
         units-front start ps h,
         units-back end ps,
       )
-
-pub put_in : (ps front back added : List Piece) (n : ℕ) → ps ≡ front ++ back → n ≡ length front → take n ps ++ added ++ drop n ps ≡ front ++ added ++ back
-put_in ps front back added n is size =
-    ap (λ qs. qs ++ added ++ drop n ps) (ap (take n) is ∙ take_at front back n (sym size))
-    ∙ ap (λ qs. front ++ added ++ qs) (ap (drop n) is ∙ drop_at front back n (sym size))

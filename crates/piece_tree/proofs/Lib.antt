@@ -1,2 +1,4 @@
 pub mod Sums
 pub mod Cuts
+pub mod Looking
+pub mod Places

@@ -1,17 +1,32 @@
--- How the list of pieces lies in a vector.
-use Rattle.std.specs.Prelude.{ℕ, ◌≡◌, ◌+◌, ◌*◌, ◌<◌, ◌≤◌, ◌^◌, List, [], ◌∷◌, length}
+-- How the list of pieces lies in a tree.
+use Rattle.std.specs.Prelude.{ℕ, ◌≡◌, ◌*◌, ◌<◌, ◌≤◌, ◌^◌, Option, List, map}
 use Rattle.std.specs.List.{All}
+use Rattle.rb_arena.specs.Value.{SplitsAfter, SplitsAt}
 use Rattle.piece_tree.specs.declared.piece.Piece.{Piece}
-use Rattle.piece_tree.specs.declared.piece.PieceSum.{PieceSum}
-use Rattle.piece_tree.specs.Pieces.{Entry, unit_count, sum_of}
+use Rattle.piece_tree.specs.Pieces.{Entry, pieces_of, unit_count}
+use Rattle.piece_tree.specs.Searches.{few_breaks}
 
--- each piece with its place as its name, the first of them at a place
-abbrev pub numbered : ℕ → List Piece → List Entry
-numbered place [] = []
-numbered place (p ∷ ps) = record { id = record { index = place }; piece = p } ∷ numbered (place + 1) ps
+abbrev pub entry_of : ℕ × Piece → Entry
+entry_of item = record { id = item.0; piece = item.1 }
 
-pub record IsTree (pieces : List Piece) (capacity : ℕ) (total : PieceSum) (spare : ℕ) : Type 0 where
-  pub sum : total ≡ sum_of pieces
+abbrev pub entries_of : List (ℕ × Piece) → List Entry
+entries_of items = map entry_of items
+
+-- the pieces without their names
+abbrev pub in_order : List (ℕ × Piece) → List Piece
+in_order items = pieces_of (entries_of items)
+
+-- the tree has room for two more pieces a splice
+pub record IsTree (pieces : List Piece) (free spare : ℕ) : Type 0 where
   pub small : unit_count pieces < 2 ^ 62
-  pub few : All (λ (p : Piece). p.breaks ≤ p.span.units) pieces
-  pub room : length pieces + 3 * spare ≤ capacity
+  pub few : All few_breaks pieces
+  pub room : 2 * spare ≤ free
+
+-- up to the item of that name, or where there is none before the first, the pieces are those of `front`, and then those of `back`
+abbrev pub Parted : List (ℕ × Piece) → Option ℕ → List Piece → List Piece → Type 0
+Parted items id front back =
+    (us : List (ℕ × Piece)) × ((vs : List (ℕ × Piece)) × SplitsAfter items id us vs × (in_order us ≡ front) × (in_order vs ≡ back))
+
+-- the piece of that name has at least n units
+abbrev pub HasUnits : List (ℕ × Piece) → ℕ → ℕ → Type 0
+HasUnits items id n = (us : List (ℕ × Piece)) × ((x : Piece) × ((vs : List (ℕ × Piece)) × SplitsAt items id us x vs × (n ≤ x.span.units)))

@@ -1,2 +1,4 @@
 pub mod Pieces
+pub mod Searches
+pub mod Adding
 pub mod Inside

@@ -1,15 +1,14 @@
 -- The pieces of a text, as a list that is cut and inserted into.
-use Rattle.std.specs.Prelude.{ℕ, ◌≡◌, ◌+◌, ◌-◌, ◌==◌, ◌<◌, ◌≤◌, Option, Some, None, nat_le, if◌then◌else◌, List, [], ◌∷◌, ◌++◌, length, map, sum_by, slice_get}
+use Rattle.std.specs.Prelude.{ℕ, ◌≡◌, ◌-◌, ◌==◌, Option, Some, None, nat_le, if◌then◌else◌, List, [], ◌∷◌, ◌++◌, map, sum_by}
 use Rattle.chunk_buffers.specs.declared.span.ChunkSpan.{ChunkSpan}
 use Rattle.chunk_buffers.specs.Chunks.{units_at, LiesIn, part_of}
 use Rattle.line_starts.specs.Starts.{break_count}
 use Rattle.piece_tree.specs.declared.piece.Piece.{Piece}
-use Rattle.piece_tree.specs.declared.piece.PieceId.{PieceId}
 use Rattle.piece_tree.specs.declared.piece.PieceSum.{PieceSum}
 use Rattle.piece_tree.specs.declared.piece.Found.{Found}
 
 pub record Entry : Type 0 where
-  pub id : PieceId
+  pub id : ℕ
   pub piece : Piece
 
 -- what contracts see of a piece tree
@@ -70,13 +69,13 @@ pub record IsFound (entries : List Entry) (found : Found) : Type 0 where
   pub before : found.before ≡ sum_of (pieces_of earlier)
 
 -- the entry has this name
-pub record IsAmong (entries : List Entry) (id : PieceId) : Type 0 where
+pub record IsAmong (entries : List Entry) (id : ℕ) : Type 0 where
   pub earlier : List Entry
   pub later : List Entry
   pub piece : Piece
   pub place : entries ≡ earlier ++ record { id = id; piece = piece } ∷ later
 
 -- the name and the span of the first of these
-abbrev pub first_of : List Entry → Option (PieceId × ChunkSpan)
+abbrev pub first_of : List Entry → Option (ℕ × ChunkSpan)
 first_of [] = None
 first_of (e ∷ entries) = Some (e.id, e.piece.span)

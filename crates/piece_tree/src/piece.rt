@@ -1,12 +1,10 @@
 //! Pieces, their names and their sums.
 
 use chunk_buffers::ChunkSpan;
+use raw_arena::NodeId;
 
 /// The name of a piece in its tree. A splice may change it.
-#[derive(Clone, Copy, PartialEq, Eq, Debug)]
-pub struct PieceId {
-    pub(crate) index: u64,
-}
+pub type PieceId = NodeId;
 
 /// A part of the text.
 #[derive(Clone, Copy, PartialEq, Eq, Debug)]

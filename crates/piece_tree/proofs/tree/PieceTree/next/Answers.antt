@@ -1,22 +1,27 @@
-use Rattle.std.proofs.Common.{◌≡◌, ◌+◌, ◌<◌, ◌≤◌, ◌++◌, ◌∷◌, [], ℕ, List, suc, length, drop, get_or, sym, ap, refl, ◌∙◌, arith, Some, None}
-use Rattle.std.proofs.lemmas.List.{length-append, drop_more, drop_all}
-use Rattle.piece_tree.specs.declared.piece.Piece.{Piece}
-use Rattle.piece_tree.specs.Pieces.{Entry, first_of}
-use Rattle.piece_tree.specs.Inside.{numbered}
-use Rattle.piece_tree.proofs.Sums.{after_numbered, named_inside, next_some, next_none}
+use Rattle.std.proofs.Common.{Some, ◌∷◌, ◌++◌, [], ap, sym, ◌∙◌}
+use Rattle.piece_tree.specs.Pieces.{first_of}
+use Rattle.piece_tree.specs.Inside.{entries_of}
+use Rattle.piece_tree.proofs.Places.{split_entries, named_entry, item_after, first_none}
 use Rattle.piece_tree.proofs.tree.PieceTree.next.Goals as goal
 
-pub overflow_add-index : goal.overflow_add-index
-overflow_add-index c =
-    let entries = ap (λ v. v.entries) c.self.view_is ∙ c.requires.place in
-    let inside = named_inside c.self.inside.pieces.items c.requires.earlier c.requires.later _ entries in
-    omega (arith, inside)
+pub next-requires : goal.next-requires
+next-requires c = named_entry c.self.inside.tree.items c.args.self.now.entries c.args.id (ap (λ v. v.entries) c.self.view_is) c.requires
 
-pub returns-then-index-pieces : goal.returns-then-index-pieces
-returns-then-index-pieces c = λ earlier later piece place.
-    rw c.as_slice-pieces.ensures.value
-    (next_some c.self.inside.pieces.items earlier later _ (c.args.id.index + 1) _ (ap (λ v. v.entries) c.self.view_is ∙ place) refl (rw c.as_slice-pieces.ensures.value at c.if-index-pieces.true))
+pub returns-in_err-next : goal.returns-in_err-next
+returns-in_err-next c = λ earlier later p h.
+    let (us, (vs, e, after)) = split_entries c.self.inside.tree.items earlier later c.args.id p (ap (λ v. v.entries) c.self.view_is ∙ h) in
+    let none = first_none vs (sym (c.in_err-next.was) ∙ c.next.ensures us p vs e) in
+    c.from_residual.ensures ∙ ap (λ l. first_of (entries_of l)) (sym none) ∙ ap first_of after
 
-pub returns-else-index-pieces : goal.returns-else-index-pieces
-returns-else-index-pieces c = λ earlier later piece place.
-    next_none c.self.inside.pieces.items earlier later _ (c.args.id.index + 1) (ap (λ v. v.entries) c.self.view_is ∙ place) refl (rw c.as_slice-pieces.ensures.value at c.if-index-pieces.false)
+pub get-requires : goal.get-requires
+get-requires c =
+    let is = c.requires in
+    let (us, (vs, e, after)) = split_entries c.self.inside.tree.items is.earlier is.later c.args.id is.piece (ap (λ v. v.entries) c.self.view_is ∙ is.place) in
+    let (y, (ws, at, split)) = item_after c.self.inside.tree.items us c.args.id is.piece vs c.in_ok-next.next c.next.result e c.in_ok-next.was (c.next.ensures us is.piece vs e) in
+    (us ++ (c.args.id, is.piece) ∷ [], (y, (ws, at)))
+
+pub returns : goal.returns
+returns c = λ earlier later p h.
+    let (us, (vs, e, after)) = split_entries c.self.inside.tree.items earlier later c.args.id p (ap (λ v. v.entries) c.self.view_is ∙ h) in
+    let (y, (ws, at, split)) = item_after c.self.inside.tree.items us c.args.id p vs c.in_ok-next.next c.next.result e c.in_ok-next.was (c.next.ensures us p vs e) in
+    ap (λ q. Some (c.in_ok-next.next, q.span)) (c.get.ensures (us ++ (c.args.id, p) ∷ []) y ws at) ∙ ap (λ l. first_of (entries_of l)) (sym split) ∙ ap first_of after

@@ -1,8 +1,13 @@
-use Rattle.std.proofs.Common.{◌≡◌, ◌+◌, ◌-◌, ◌≤◌, ◌++◌, length, take, map, vec_len, vec_capacity}
+use Rattle.std.proofs.Common.{◌≡◌, ℕ, ◌+◌, ◌-◌, ◌++◌, None, List, length, map}
+use Rattle.rb_arena.specs.Value.{first_or}
+use Rattle.piece_tree.specs.declared.piece.Piece.{Piece}
+use Rattle.piece_tree.specs.Inside.{in_order}
 use Rattle.piece_tree.proofs.tree.PieceTree.spans.Given as goal
 
-abbrev pub invariant-loop-piece : goal.invariant-loop-piece
-invariant-loop-piece l = record {
-  spans : l.out.items ≡ l.fn.out.items ++ map (λ p. p.span) (take l.piece-index l.piece-items);
-  room : vec_len l.out + (length l.piece-items - l.piece-index) ≤ vec_capacity l.out;
-}
+abbrev pub invariant-loop-next : goal.invariant-loop-next
+invariant-loop-next l =
+    (us : List (ℕ × Piece)) × ((vs : List (ℕ × Piece)) × (l.self-inside.tree.items ≡ us ++ vs) × (l.next ≡ first_or None vs) × (l.out.items ≡ l.fn.out.items ++ map (λ p. p.span) (in_order us)))
+
+-- how many spans are not there yet
+abbrev pub decreases-loop-next : goal.decreases-loop-next
+decreases-loop-next l = length l.self-inside.tree.items + length l.fn.out.items - length l.out.items

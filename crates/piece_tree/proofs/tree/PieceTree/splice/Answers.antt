@@ -1,61 +1,50 @@
-use Rattle.std.proofs.Common.{◌≡◌, ◌+◌, ◌*◌, ◌<◌, ◌≤◌, ◌^◌, List, length, sym, ap, ◌∙◌, subst, arith}
+use Rattle.std.proofs.Common.{◌≡◌, ◌+◌, ◌++◌, refl, sym, ap, ◌∙◌, subst, arith}
 use Rattle.std.specs.List.{All}
-use Rattle.piece_tree.specs.declared.piece.Piece.{Piece}
-use Rattle.piece_tree.specs.Pieces.{pieces_of, unit_count, sum_of, IsPieceOf, spliced, piece_list}
-use Rattle.piece_tree.specs.Inside.{numbered}
-use Rattle.piece_tree.proofs.Sums.{pieces_of-numbered}
-use Rattle.piece_tree.proofs.Cuts.{pieces-spliced, pieces_few, units-spliced}
+use Rattle.piece_tree.specs.Pieces.{pieces_of, unit_count, IsPieceOf, spliced, piece_list, front, back}
+use Rattle.piece_tree.specs.Searches.{few_breaks}
+use Rattle.piece_tree.specs.Inside.{in_order}
+use Rattle.piece_tree.proofs.Cuts.{back-back, units-cut, units-removed, units-spliced, pieces-cut, pieces-spliced, pieces_few}
+use Rattle.piece_tree.proofs.Places.{parted_place, parted_order}
 use Rattle.piece_tree.proofs.tree.PieceTree.splice.Goals as goal
 
-pub splice_pieces-requires-clause-range : goal.splice_pieces-requires-clause-range
-splice_pieces-requires-clause-range c =
-    let items_are = sym (ap (λ v. pieces_of v.entries) c.self.view_is) ∙ pieces_of-numbered 0 c.self.inside.pieces.items in
-    omega (arith, ap unit_count items_are)
+pub remove_units-requires-clause-small : goal.remove_units-requires-clause-small
+remove_units-requires-clause-small c =
+    let b = c.args.chunks.now.buffers in let ps = in_order c.self.inside.tree.items in let shown = ap (λ v. unit_count (pieces_of v.entries)) c.self.view_is in
+    let order = ap unit_count (parted_order c.cut-at.new.tree.items c.cut-at.result (front b c.args.offset ps) (back b c.args.offset ps) c.cut-at.ensures.parted) in
+    omega (arith, order, units-cut b c.args.offset ps (omega (arith, shown, c.requires.range)), c.self.invariant.small)
 
-pub splice_pieces-requires-clause-fits : goal.splice_pieces-requires-clause-fits
-splice_pieces-requires-clause-fits c =
-    let items_are = sym (ap (λ v. pieces_of v.entries) c.self.view_is) ∙ pieces_of-numbered 0 c.self.inside.pieces.items in
-    omega (arith, ap unit_count items_are)
+pub remove_units-requires-clause-pieces : goal.remove_units-requires-clause-pieces
+remove_units-requires-clause-pieces c =
+    let b = c.args.chunks.now.buffers in let ps = in_order c.self.inside.tree.items in
+    let all = subst (All (IsPieceOf b)) (sym (ap (λ v. pieces_of v.entries) c.self.view_is)) c.requires.pieces in
+    subst (All (IsPieceOf b)) (sym (parted_order c.cut-at.new.tree.items c.cut-at.result (front b c.args.offset ps) (back b c.args.offset ps) c.cut-at.ensures.parted)) (pieces-cut b c.args.offset ps all)
 
-pub splice_pieces-requires-clause-pieces : goal.splice_pieces-requires-clause-pieces
-splice_pieces-requires-clause-pieces c =
-    let items_are = sym (ap (λ v. pieces_of v.entries) c.self.view_is) ∙ pieces_of-numbered 0 c.self.inside.pieces.items in
-    subst (All (IsPieceOf c.args.chunks.now.buffers)) items_are c.requires.pieces
+pub insert_span-requires-clause-place : goal.insert_span-requires-clause-place
+insert_span-requires-clause-place c =
+    parted_place c.remove_units.new.tree.items c.cut-at.result _ _ (c.remove_units.ensures.parted _ _ c.cut-at.ensures.parted)
 
-pub sum_of-self-inside-requires-clause-small : goal.sum_of-self-inside-requires-clause-small
-sum_of-self-inside-requires-clause-small c =
-    let ps = c.self.inside.pieces.items in
-    let items_are = sym (ap (λ v. pieces_of v.entries) c.self.view_is) ∙ pieces_of-numbered 0 ps in
-    let units = ap unit_count items_are in
-    let new = ap unit_count (c.as_slice.ensures.value ∙ c.splice_pieces.ensures.spliced) in
-    omega (arith, new, units, units-spliced c.args.chunks.now.buffers c.args.offset (c.args.offset + c.args.deleted) c.args.span ps (omega (arith, units)))
-
-pub sum_of-self-inside-requires-clause-few : goal.sum_of-self-inside-requires-clause-few
-sum_of-self-inside-requires-clause-few c =
-    let b = c.args.chunks.now.buffers in
-    let ps = c.self.inside.pieces.items in
-    let items_are = sym (ap (λ v. pieces_of v.entries) c.self.view_is) ∙ pieces_of-numbered 0 ps in
-    subst (All (λ (p : Piece). p.breaks ≤ p.span.units)) (sym (c.as_slice.ensures.value ∙ c.splice_pieces.ensures.spliced))
-    (pieces_few b _ (pieces-spliced b c.args.offset (c.args.offset + c.args.deleted) c.args.span ps c.requires.inside (subst (All (IsPieceOf b)) items_are c.requires.pieces)))
+pub insert_span-requires-clause-small : goal.insert_span-requires-clause-small
+insert_span-requires-clause-small c =
+    let b = c.args.chunks.now.buffers in let ps = in_order c.self.inside.tree.items in let end = c.args.offset + c.args.deleted in
+    let shown = ap (λ v. unit_count (pieces_of v.entries)) c.self.view_is in
+    let order = parted_order c.remove_units.new.tree.items c.cut-at.result _ _ (c.remove_units.ensures.parted _ _ c.cut-at.ensures.parted) ∙ ap (λ qs. front b c.args.offset ps ++ qs) (back-back b c.args.deleted c.args.offset end ps refl) in
+    omega (arith, ap unit_count order, units-removed b c.args.offset end ps (omega (arith, shown, c.requires.range)), shown, c.requires.range, c.requires.small)
 
 pub invariant_of-self : goal.invariant_of-self
 invariant_of-self c =
-    let b = c.args.chunks.now.buffers in
-    let ps = c.self.inside.pieces.items in
-    let items_are = sym (ap (λ v. pieces_of v.entries) c.self.view_is) ∙ pieces_of-numbered 0 ps in
-    let units = ap unit_count items_are in
-    let new = ap unit_count c.splice_pieces.ensures.spliced in
-    record {
-      sum = c.sum_of-self-inside.ensures ∙ ap sum_of c.as_slice.ensures.value;
-      small = omega (arith, new, units, units-spliced b c.args.offset (c.args.offset + c.args.deleted) c.args.span ps (omega (arith, units)));
-      few = subst (All (λ (p : Piece). p.breaks ≤ p.span.units)) (sym c.splice_pieces.ensures.spliced)
-          (pieces_few b _ (pieces-spliced b c.args.offset (c.args.offset + c.args.deleted) c.args.span ps c.requires.inside (subst (All (IsPieceOf b)) items_are c.requires.pieces)));
-      room = omega arith;
+    let b = c.args.chunks.now.buffers in let ps = in_order c.self.inside.tree.items in let end = c.args.offset + c.args.deleted in
+    let shown = ap (λ v. unit_count (pieces_of v.entries)) c.self.view_is in let all = subst (All (IsPieceOf b)) (sym (ap (λ v. pieces_of v.entries) c.self.view_is)) c.requires.pieces in
+    let order : in_order c.insert_span.new.tree.items ≡ spliced b c.args.offset end c.args.span ps
+    = c.insert_span.ensures.items _ _ (c.remove_units.ensures.parted _ _ c.cut-at.ensures.parted)
+    ∙ ap (λ qs. front b c.args.offset ps ++ piece_list b c.args.span ++ qs) (back-back b c.args.deleted c.args.offset end ps refl) in record {
+      small = omega (arith, ap unit_count order, units-spliced b c.args.offset end c.args.span ps (omega (arith, shown, c.requires.range)), shown, c.requires.range, c.requires.small);
+      few = subst (All few_breaks) (sym order) (pieces_few b _ (pieces-spliced b c.args.offset end c.args.span ps c.requires.inside all));
+      room = omega (arith, c.self.invariant.room, c.cut-at.ensures.room, c.remove_units.ensures.room, c.insert_span.ensures.room);
     }
 
 pub returns-clause-spliced : goal.returns-clause-spliced
 returns-clause-spliced c =
-    let ps = c.self.inside.pieces.items in
-    let items_are = sym (ap (λ v. pieces_of v.entries) c.self.view_is) ∙ pieces_of-numbered 0 ps in
-    pieces_of-numbered 0 c.splice_pieces.new.pieces.items ∙ c.splice_pieces.ensures.spliced
-    ∙ ap (spliced c.args.chunks.now.buffers c.args.offset (c.args.offset + c.args.deleted) c.args.span) (sym items_are)
+    let b = c.args.chunks.now.buffers in let ps = in_order c.self.inside.tree.items in let end = c.args.offset + c.args.deleted in
+    c.insert_span.ensures.items _ _ (c.remove_units.ensures.parted _ _ c.cut-at.ensures.parted)
+    ∙ ap (λ qs. front b c.args.offset ps ++ piece_list b c.args.span ++ qs) (back-back b c.args.deleted c.args.offset end ps refl)
+    ∙ ap (λ v. spliced b c.args.offset end c.args.span (pieces_of v.entries)) c.self.view_is

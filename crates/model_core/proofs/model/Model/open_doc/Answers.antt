@@ -1,0 +1,24 @@
+use Rattle.std.proofs.Common.{◌≡◌, ◌≤◌, length, sym, subst, arith}
+use Rattle.std.proofs.lemmas.Grind.{common_steps}
+use Rattle.std.proofs.lemmas.List.Elements.{All-nil}
+use Rattle.batch_rules.specs.Batches.{most_units}
+use Rattle.decoration_rules.specs.declared.Mark.{Mark}
+use Rattle.decoration_rules.specs.Decorations.{Decorations}
+use Rattle.decoration_rules.specs.Moves.{IsSpanIn, LieIn}
+use Rattle.model_core.specs.History.{IsHistory}
+use Rattle.model_core.proofs.model.Model.open_doc.Goals as goal
+
+pub invariant_of-self : goal.invariant_of-self
+invariant_of-self c =
+    let len = length c.in_ok-text.text.units in
+    let units : c.in_ok-text.text.units ≡ c.args.text.now = grind (arith, common_steps) in
+    let small : length c.args.text.now ≤ most_units = grind (arith, common_steps) in (
+      rw units small,
+      omega arith,
+      subst (IsHistory c.in_ok-text.text.units) (sym c.new-2.ensures) (record { back = tt; on = tt }),
+      record {
+        sound = c.new.ensures.sound;
+        inside = subst (λ (d : Decorations). LieIn len d.marks) (sym c.new.ensures.value) (All-nil (λ (mark : Mark). IsSpanIn mark.span len));
+      },
+      tt,
+    )
