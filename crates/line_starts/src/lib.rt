@@ -83,26 +83,3 @@ fn is_break_end(units: &[u16], at: usize) -> bool
         _ => false,
     }
 }
-
-#[cfg(test)]
-mod tests {
-    use super::*;
-    use std::test::Fail;
-
-    fn units(text: &[u8; 8]) -> [u16; 8] {
-        text.map(|byte| byte as u16)
-    }
-
-    #[test]
-    fn starts_of_four_lines(rt: HostRuntime) -> Result<(), Fail> {
-        let text = units(b"a\r\nb\rc\nd");
-        let mut starts = Vec::new(rt.alloc());
-        find_starts(&text, &mut starts)?;
-        assert_eq!(rt; starts.as_slice(), [0, 3, 5, 7].as_slice());
-        assert_eq!(rt; count_breaks(&text), 3);
-
-        find_break_ends(&text, 10, &mut starts)?;
-        assert_eq!(rt; starts.as_slice(), [0, 3, 5, 7, 13, 15, 17].as_slice());
-        Ok(())
-    }
-}

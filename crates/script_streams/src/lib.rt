@@ -42,6 +42,3 @@ pub trait Sink {
     fn write(&mut self, piece: &[u8]) -> Result<usize, Failed>
         ensures { Writes result (state self.old) (state self.new) piece.now };
 }
-
-#[cfg(test)]
-mod tests;

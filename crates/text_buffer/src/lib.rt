@@ -5,6 +5,3 @@ mod look_up;
 mod text;
 
 pub use text::TextBuffer;
-
-#[cfg(test)]
-mod tests;

@@ -1,0 +1,7 @@
+//! Tests of bracket tables and bracket trees.
+#![tactic(auto)]
+
+#[cfg(test)]
+mod tokens;
+#[cfg(test)]
+mod trees;

@@ -1,0 +1,7 @@
+//! Tests of decorations.
+#![tactic(auto)]
+
+#[cfg(test)]
+mod changes;
+#[cfg(test)]
+mod moves;

@@ -1,0 +1,164 @@
+//! What no clause says: that the makers and the calls succeed, what a plan does, signals and flushes.
+ghost use Rattle.std.specs.Prelude.{◌≡◌, ◌≤◌, IfOk};
+
+use script_streams::{
+    Failed, MemSink, MemSource, Sink, Source, StdSink, StdSource, SureSink, SureSource, Turn,
+};
+use std::io;
+use std::io::{Error, ErrorKind, Read, Write};
+use std::process::Abort;
+use std::test::Fail;
+
+/// Reads once for each of the pieces, with a buffer of four bytes. `!` stands for a read that fails.
+fn expect_reads<S: Source>(rt: &impl Abort, source: &mut S, pieces: &[&str]) {
+    let mut buf = [0; 4];
+    for piece in pieces {
+        match source.read(&mut buf) {
+            Ok(count) => assert_eq!(rt; &buf[..count], piece.as_bytes()),
+            Err(Failed) => assert_eq!(rt; *piece, "!"),
+        }
+    }
+}
+
+/// Writes the rest of the text once for each of the answers. `None` stands for a write that fails.
+fn expect_writes<K: Sink>(rt: &impl Abort, sink: &mut K, text: &str, answers: &[Option<usize>]) {
+    let mut rest = text.as_bytes();
+    for answer in answers {
+        let written = sink.write(rest);
+        if let Ok(count) = written {
+            rest = &rest[count..];
+        }
+        assert_eq!(rt; written.ok(), *answer, "of {text}");
+    }
+}
+
+#[test]
+fn sources_in_memory(rt: HostRuntime) -> Result<(), Fail> {
+    let mut source = SureSource::new(rt.alloc(), b"abcdef", 3)?;
+    expect_reads(&rt, &mut source, &["abc", "def", "", ""]);
+
+    let mut source = MemSource::new(rt.alloc(), b"abc", 1, &[])?;
+    expect_reads(&rt, &mut source, &["a", "b", "c", ""]);
+    assert_eq!(rt; source.faults(), 0);
+
+    let mut source = MemSource::new(rt.alloc(), b"abcdefg", 9, &[Turn::Fails { call: 1 }])?;
+    expect_reads(&rt, &mut source, &["!", "abcd", "efg", ""]);
+    assert_eq!(rt; source.faults(), 1);
+
+    let plan = [Turn::Short { call: 2, most: 2 }, Turn::Fails { call: 3 }];
+    let mut source = MemSource::new(rt.alloc(), b"abcdefg", 3, &plan)?;
+    expect_reads(&rt, &mut source, &["abc", "de", "!"]);
+    assert_eq!(rt; source.left(), b"fg".as_slice());
+    expect_reads(&rt, &mut source, &["fg", ""]);
+    Ok(())
+}
+
+#[test]
+fn sinks_in_memory(rt: HostRuntime) -> Result<(), Fail> {
+    let mut sink = SureSink::new(rt.alloc(), 4, 3)?;
+    expect_writes(&rt, &mut sink, "abcd", &[Some(3), Some(1)]);
+    assert_eq!(rt; sink.bytes().ok_or("told")?, b"abcd".as_slice());
+    expect_writes(&rt, &mut sink, "e", &[Some(1)]);
+    assert!(rt; sink.bytes().is_none());
+
+    let mut sink = MemSink::new(rt.alloc(), 9, 1, &[])?;
+    expect_writes(&rt, &mut sink, "abc", &[Some(1), Some(1), Some(1), Some(0)]);
+    assert_eq!(rt; sink.bytes().ok_or("told")?, b"abc".as_slice());
+    assert_eq!(rt; sink.faults(), 0);
+
+    let plan = [Turn::Fails { call: 1 }, Turn::Short { call: 2, most: 2 }];
+    let mut sink = MemSink::new(rt.alloc(), 9, 4, &plan)?;
+    expect_writes(
+        &rt,
+        &mut sink,
+        "abcdefg",
+        &[None, Some(2), Some(4), Some(1)],
+    );
+    assert_eq!(rt; sink.bytes().ok_or("told")?, b"abcdefg".as_slice());
+    assert_eq!(rt; sink.faults(), 1);
+
+    let mut sink = MemSink::new(rt.alloc(), 9, 4, &[Turn::Short { call: 2, most: 0 }])?;
+    expect_writes(&rt, &mut sink, "abcdef", &[Some(4), Some(0), Some(2)]);
+    assert_eq!(rt; sink.faults(), 1);
+    Ok(())
+}
+
+/// Takes only what never fails.
+fn expect_sure<S: Source, K: Sink>(_source: &S, _sink: &K)
+    requires source { (s : S) → (S.state s).faults ≡ 0 }
+    requires sink { (s : K) → (K.state s).faults ≡ 0 }
+{}
+
+#[test]
+fn sure_ones_meet_what_a_generic_caller_asks(rt: HostRuntime) -> Result<(), Fail> {
+    let source = SureSource::new(rt.alloc(), b"", 1)?;
+    let sink = SureSink::new(rt.alloc(), 0, 1)?;
+    expect_sure(&source, &sink);
+    Ok(())
+}
+
+/// Is interrupted by a signal, then reads and writes two bytes, and fails from then on.
+#[derive(Drop)]
+struct Faulty {
+    calls: u8,
+    flushes: u8,
+}
+
+impl Faulty {
+    fn turn(&mut self, len: usize) -> io::Result<usize>
+        ensures { IfOk result (λ n. n ≤ len) }
+    {
+        self.calls = self.calls.saturating_add(1);
+        match self.calls {
+            1 => Err(Error::from(ErrorKind::Interrupted)),
+            2 => Ok(len.min(2)),
+            _ => Err(Error::from(ErrorKind::BrokenPipe)),
+        }
+    }
+}
+
+impl Read for Faulty {
+    fn read(&mut self, buf: &mut [u8]) -> io::Result<usize> {
+        self.turn(buf.len())
+    }
+}
+
+impl Write for Faulty {
+    fn write(&mut self, buf: &[u8]) -> io::Result<usize> {
+        self.turn(buf.len())
+    }
+
+    fn flush(&mut self) -> io::Result<()> {
+        self.flushes = self.flushes.saturating_add(1);
+        Ok(())
+    }
+}
+
+#[test]
+fn sources_over_readers(rt: HostRuntime) {
+    let mut source = StdSource::new(b"abcdef".as_slice());
+    expect_reads(&rt, &mut source, &["abcd", "ef", "", ""]);
+
+    let mut source = StdSource::new(Faulty {
+        calls: 0,
+        flushes: 0,
+    });
+    expect_reads(&rt, &mut source, &["\0\0", "!", "!"]);
+}
+
+#[test]
+fn sinks_over_writers(rt: HostRuntime) {
+    let mut sink = StdSink::new(Vec::new(rt.alloc()));
+    expect_writes(&rt, &mut sink, "abc", &[Some(3), Some(0)]);
+    assert_eq!(rt; sink.into_inner().as_slice(), b"abc".as_slice());
+
+    let mut sink = StdSink::new(Faulty {
+        calls: 0,
+        flushes: 0,
+    });
+    expect_writes(&rt, &mut sink, "abcdef", &[Some(2), None, None]);
+    assert_eq!(rt; sink.into_inner().flushes, 1);
+
+    let mut sink = StdSink::new(rt.stdout());
+    expect_writes(&rt, &mut sink, "", &[Some(0)]);
+}
