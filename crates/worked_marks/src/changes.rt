@@ -1,4 +1,4 @@
-//! The calls that can want memory, on their happy path; each refusal; the greatest number of decorations.
+//! The calls that can want memory, on their happy path, and each refusal.
 
 ghost use Rattle.std.specs.Prelude.{◌≡◌, length, IfOk};
 
@@ -66,23 +66,4 @@ fn refusals_and_a_removal(rt: HostRuntime) -> Result<(), Fail> {
         Err(DecoError::Unknown)
     );
     Ok(())
-}
-
-#[test]
-fn the_most_decorations(rt: HostRuntime) -> Result<(), Fail> {
-    let text = empty_text(rt.alloc())?;
-    let most = many(rt.alloc())?;
-    let mut set = DecoSet::new(rt.alloc());
-    assert_eq!(rt; set.delta(1, &[], most.as_slice(), &text), Ok(1));
-    assert_eq!(rt;
-        set.delta(1, &[], &[new(0, 0)], &text),
-        Err(DecoError::Limit)
-    );
-    assert_eq!(rt; set.delta(1, &[1], &[new(0, 0)], &text), Ok(1048577));
-    assert_eq!(rt; set.get(1048577), Some(deco(1048577)));
-    Ok(())
-}
-
-fn many(alloc: Global) -> Result<Vec<NewDeco>, AllocError> {
-    Ok(vec![in alloc; new(0, 0); 1 << 20]?)
 }

@@ -1,6 +1,6 @@
 //! Scripts under reads and writes that fail or come short.
 
-use crate::runs::{Stream, expect_run};
+use crate::runs::{ALL, Stream, expect_run};
 use model_core::Model;
 use script_runner::{Served, serve};
 use script_streams::{SureSink, SureSource, Turn};
@@ -16,11 +16,6 @@ const ONE_REPLY: &[u8] = b"ok 0 1\n";
 
 const THREE_REPLIES: &[u8] = b"ok 0 1\nok 0 1\nok 0 1\n";
 
-const ALL: Stream<'static> = Stream {
-    each: 65_536,
-    plan: &[],
-};
-
 /// One line a case: what the source gives, what the sink takes, what is written, and the status.
 #[test]
 fn faults_and_cuts(rt: HostRuntime) -> Result<(), Fail> {
@@ -33,7 +28,7 @@ fn faults_and_cuts(rt: HostRuntime) -> Result<(), Fail> {
 
 fn byte_by_byte<R: AllocGlobal + Abort>(rt: &R) -> Result<(), AllocError> {
     let one = Stream { each: 1, plan: &[] };
-    expect_run(rt, SIZES, one, one, THREE_REPLIES, 0)
+    expect_run(rt, "byte by byte", SIZES, one, one, THREE_REPLIES, 0)
 }
 
 fn reads_that_fail<R: AllocGlobal + Abort>(rt: &R) -> Result<(), AllocError> {
@@ -41,28 +36,68 @@ fn reads_that_fail<R: AllocGlobal + Abort>(rt: &R) -> Result<(), AllocError> {
         each: 65_536,
         plan: &[Turn::Fails { call: 1 }],
     };
-    expect_run(rt, SIZES, at_once, ALL, b"", 4)?;
+    expect_run(rt, "a read that fails at once", SIZES, at_once, ALL, b"", 4)?;
 
     let after_a_line = Stream {
         each: 15,
         plan: &[Turn::Fails { call: 2 }],
     };
-    expect_run(rt, SIZES, after_a_line, ALL, ONE_REPLY, 4)?;
+    expect_run(
+        rt,
+        "a read that fails after a line",
+        SIZES,
+        after_a_line,
+        ALL,
+        ONE_REPLY,
+        4,
+    )?;
 
     // The second line lacks its LF, and the end was not seen.
     let inside_a_line = Stream {
         each: 29,
         plan: &[Turn::Fails { call: 2 }],
     };
-    expect_run(rt, SIZES, inside_a_line, ALL, ONE_REPLY, 4)?;
-    expect_run(rt, b"{\"cmd\":\"edit\"", inside_a_line, ALL, b"", 4)?;
+    expect_run(
+        rt,
+        "a read that fails inside a line",
+        SIZES,
+        inside_a_line,
+        ALL,
+        ONE_REPLY,
+        4,
+    )?;
+    expect_run(
+        rt,
+        "a read that fails inside the first line",
+        b"{\"cmd\":\"edit\"",
+        inside_a_line,
+        ALL,
+        b"",
+        4,
+    )?;
     Ok(())
 }
 
 fn a_last_line_without_its_break<R: AllocGlobal + Abort>(rt: &R) -> Result<(), AllocError> {
-    expect_run(rt, &SIZES[..29], ALL, ALL, b"ok 0 1\nok 0 1\n", 0)?;
-    expect_run(rt, b"{\"cmd\":\"edit\"", ALL, ALL, b"! syntax\n", 1)?;
-    expect_run(rt, SIZE, ALL, ALL, ONE_REPLY, 0)?;
+    expect_run(
+        rt,
+        "a last line without its break",
+        &SIZES[..29],
+        ALL,
+        ALL,
+        b"ok 0 1\nok 0 1\n",
+        0,
+    )?;
+    expect_run(
+        rt,
+        "a broken line at the end",
+        b"{\"cmd\":\"edit\"",
+        ALL,
+        ALL,
+        b"! syntax\n",
+        1,
+    )?;
+    expect_run(rt, "a script of one line", SIZE, ALL, ALL, ONE_REPLY, 0)?;
     Ok(())
 }
 
@@ -71,25 +106,57 @@ fn writes_that_fail<R: AllocGlobal + Abort>(rt: &R) -> Result<(), AllocError> {
         each: 65_536,
         plan: &[Turn::Fails { call: 1 }],
     };
-    expect_run(rt, SIZES, ALL, at_once, b"", 5)?;
+    expect_run(
+        rt,
+        "a write that fails at once",
+        SIZES,
+        ALL,
+        at_once,
+        b"",
+        5,
+    )?;
 
     let inside_a_reply = Stream {
         each: 65_536,
         plan: &[Turn::Short { call: 1, most: 3 }, Turn::Fails { call: 2 }],
     };
-    expect_run(rt, SIZES, ALL, inside_a_reply, b"ok ", 5)?;
+    expect_run(
+        rt,
+        "a write that fails inside a reply",
+        SIZES,
+        ALL,
+        inside_a_reply,
+        b"ok ",
+        5,
+    )?;
 
     let takes_nothing = Stream {
         each: 65_536,
         plan: &[Turn::Short { call: 2, most: 0 }],
     };
-    expect_run(rt, SIZES, ALL, takes_nothing, ONE_REPLY, 5)?;
+    expect_run(
+        rt,
+        "a write that takes nothing",
+        SIZES,
+        ALL,
+        takes_nothing,
+        ONE_REPLY,
+        5,
+    )?;
 
     let second = Stream {
         each: 65_536,
         plan: &[Turn::Fails { call: 2 }],
     };
-    expect_run(rt, SIZES, ALL, second, ONE_REPLY, 5)?;
+    expect_run(
+        rt,
+        "the second write fails",
+        SIZES,
+        ALL,
+        second,
+        ONE_REPLY,
+        5,
+    )?;
     Ok(())
 }
 

@@ -205,7 +205,15 @@ fn one_list_answers_the_same(rt: HostRuntime) -> Result<(), Fail> {
             script.push_str(round.as_str())?;
         }
         let status = if document.was_refused { 1 } else { 0 };
-        expect_run(&rt, script.as_bytes(), ALL, ALL, replies.as_slice(), status)?;
+        expect_run(
+            &rt,
+            "a generated script",
+            script.as_bytes(),
+            ALL,
+            ALL,
+            replies.as_slice(),
+            status,
+        )?;
     }
     Ok(())
 }

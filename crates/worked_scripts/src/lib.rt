@@ -2,20 +2,16 @@
 #![tactic(auto)]
 
 #[cfg(test)]
-mod batches;
-#[cfg(test)]
-mod decorated;
-#[cfg(test)]
 mod draws;
 #[cfg(test)]
 mod faults;
 #[cfg(test)]
 mod first_body;
 #[cfg(test)]
-mod nested;
-#[cfg(test)]
 mod one_list;
 #[cfg(test)]
 mod runs;
 #[cfg(test)]
-mod scripts;
+mod transcripts;
+#[cfg(test)]
+mod usage;

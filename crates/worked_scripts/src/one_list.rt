@@ -173,7 +173,15 @@ fn generated_scripts(rt: HostRuntime) -> Result<(), Fail> {
             0
         };
         let script = told.script.as_bytes();
-        expect_run(&rt, script, ALL, ALL, told.replies.as_bytes(), status)?;
+        expect_run(
+            &rt,
+            "a generated script",
+            script,
+            ALL,
+            ALL,
+            told.replies.as_bytes(),
+            status,
+        )?;
     }
     Ok(())
 }

@@ -4,7 +4,7 @@ ghost use Rattle.script_streams.specs.Plan.{GivesSomething};
 
 use script_runner::run_words;
 use script_streams::{MemSink, MemSource, SureSink, Turn};
-use std::alloc::{AllocError, Global};
+use std::alloc::AllocError;
 use std::process::Abort;
 
 /// How a stream in memory behaves.
@@ -24,6 +24,7 @@ pub const ALL: Stream<'static> = Stream {
 /// Runs the words `run` over the script, and expects what is written and the status.
 pub fn expect_run<R: AllocGlobal + Abort>(
     rt: &R,
+    name: &str,
     script: &[u8],
     source: Stream<'_>,
     sink: Stream<'_>,
@@ -41,26 +42,8 @@ pub fn expect_run<R: AllocGlobal + Abort>(
     let mut out = MemSink::new(alloc, 0x1_0000, sink.each, sink.plan)?;
     let mut err = SureSink::new(alloc, 4096, 1)?;
     let ended = run_words(alloc, words.as_slice(), &mut src, &mut out, &mut err);
-    assert_eq!(rt; out.bytes(), Some(written));
-    assert_eq!(rt; ended, status);
-    assert_eq!(rt; err.bytes(), Some(b"".as_slice()));
+    assert_eq!(rt; out.bytes(), Some(written), "{name}");
+    assert_eq!(rt; ended, status, "{name}");
+    assert_eq!(rt; err.bytes(), Some(b"".as_slice()), "{name}");
     Ok(())
-}
-
-/// Runs the lines, each with its reply.
-pub fn expect_lines<R: AllocGlobal + Abort>(
-    rt: &R,
-    lines: &[(&str, &str)],
-    status: u8,
-) -> Result<(), AllocError> {
-    let alloc: Global = rt.alloc();
-    let mut script = String::new(alloc);
-    let mut replies = String::new(alloc);
-    for (line, reply) in lines {
-        script.push_str(line)?;
-        script.push('\n')?;
-        replies.push_str(reply)?;
-        replies.push('\n')?;
-    }
-    expect_run(rt, script.as_bytes(), ALL, ALL, replies.as_bytes(), status)
 }

@@ -64,8 +64,8 @@ module _ (low high : ℤ) (least : pos 0 ≤ℤ low) (most : high ≤ℤ limit) 
       (after, sum_low (us ++ shifted marks by vs) (both (pos 0) limit us (shifted marks by vs) (further low high (pos 0) limit us least most (first_half low high us vs all)) after))
 
 -- a mark at one place, as its number is kept
-pub mark_at : (start : ℤ) (i : ℕ) → FitsSigned w64 start → pos 0 ≤ℤ start → start <ℤ pos 100000
-    → IsBetween (pos 0) (pos 100000) ((i, record { start = to_z w64 (of_z w64 start); end = to_z w64 (of_z w64 start); id = 0 }) ∷ [])
+pub mark_at : (start : ℤ) (i : ℕ) → FitsSigned w64 start → pos 0 ≤ℤ start → start <ℤ pos 10000
+    → IsBetween (pos 0) (pos 10000) ((i, record { start = to_z w64 (of_z w64 start); end = to_z w64 (of_z w64 start); id = 0 }) ∷ [])
 mark_at start i fits le lt = ((omega (arith, ints, fits, le), omega (arith, ints), omega (arith, ints, fits, lt)), tt)
 
 -- the first of some items, the next after one, and the last of those before one

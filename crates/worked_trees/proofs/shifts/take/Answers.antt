@@ -6,4 +6,4 @@ use Rattle.worked_trees.proofs.shifts.take.Goals as goal
 pub returns : goal.returns
 returns g c =
     let (us, (vs, is, sum, ends)) = c.in-Some.ensures.found in
-    subst (IsBetween (pos 0) (pos 100000)) (sym (c.remove.ensures.items us _ vs is)) (one_less (pos 0) (pos 100000) us _ vs (subst (IsBetween (pos 0) (pos 100000)) is c.requires))
+    subst (IsBetween (pos 0) (pos 10000)) (sym (c.remove.ensures.items us _ vs is)) (one_less (pos 0) (pos 10000) us _ vs (subst (IsBetween (pos 0) (pos 10000)) is c.requires))
