@@ -8,6 +8,8 @@ mod faults;
 #[cfg(test)]
 mod first_body;
 #[cfg(test)]
+mod library;
+#[cfg(test)]
 mod one_list;
 #[cfg(test)]
 mod runs;
