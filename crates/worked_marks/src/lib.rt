@@ -1,7 +1,0 @@
-//! Tests of decorations.
-#![tactic(auto)]
-
-#[cfg(test)]
-mod changes;
-#[cfg(test)]
-mod moves;
