@@ -1,5 +1,5 @@
 -- What contracts see of the sources and sinks in memory, and what a call does to them.
-use Rattle.std.specs.Prelude.{◌≡◌, ℕ, ◌+◌, min, List, [], ◌++◌, length, take, Bool, true, ◌&&◌, ◌==◌, nat_lt, nat_le, if◌then◌else◌, Option, Some, None, Result, Ok, Err, IfOk, OnErr}
+use Rattle.std.specs.Prelude.{◌≡◌, ℕ, ◌+◌, min, List, [], ◌++◌, length, Bool, true, ◌&&◌, ◌==◌, nat_lt, nat_le, if◌then◌else◌, Option, Some, None, Result, Ok, Err, is_ok}
 use Rattle.script_streams.specs.declared.Failed.{Failed}
 use Rattle.script_streams.specs.Streams.{SourceState, SinkState}
 use Rattle.script_streams.specs.Fresh.{fresh_source, fresh_sink}
@@ -30,12 +30,15 @@ abbrev pub available : Option (List ℕ) → List ℕ → ℕ
 available None buf = 0
 available (Some left) buf = min (length left) (length buf)
 
--- a read does what the plan says of it, and is counted
+-- a read does what the plan says of its number, and is counted
 pub record ReadsByPlan (answer : Result ℕ Failed) (old new : PlannedSource) (buf : List ℕ) : Type 0 where
-  pub planned : AnswersByPlan (next_allowance old.plan old.calls old.each) (available old.state.left buf) answer
-  pub fault : OnErr answer (new.state.faults ≡ counted old.state.faults)
+  pub planned :
+      AnswersByPlan (next_allowance old.plan old.calls old.each) (available old.state.left buf) answer
+  pub faults :
+      new.state.faults ≡ (if is_ok answer then old.state.faults else counted old.state.faults)
   pub calls : new.calls ≡ counted old.calls
-  pub reads_past_end : new.reads_past_end ≡ (if old.state.ended then counted old.reads_past_end else old.reads_past_end)
+  pub reads_past_end :
+      new.reads_past_end ≡ (if old.state.ended then counted old.reads_past_end else old.reads_past_end)
   pub each : new.each ≡ old.each
   pub plan : new.plan ≡ old.plan
 
@@ -69,12 +72,11 @@ abbrev pub is_fault : Result ℕ Failed → List ℕ → Bool
 is_fault (Err failed) piece = true
 is_fault (Ok count) piece = count == 0 && nat_lt 0 (length piece)
 
--- a write does what the plan says of it, and is counted
+-- a write does what the plan says of its number, and is counted
 pub record WritesByPlan (answer : Result ℕ Failed) (old new : PlannedSink) (piece : List ℕ) : Type 0 where
   pub planned : AnswersByPlan (next_allowance old.plan old.calls old.each) (length piece) answer
-  pub told : IfOk answer (λ count. new.state.taken ≡ told_with old.room old.state.taken (take count piece))
-  pub untouched : OnErr answer (new.state.taken ≡ old.state.taken)
-  pub faults : new.state.faults ≡ (if is_fault answer piece then counted old.state.faults else old.state.faults)
+  pub faults :
+      new.state.faults ≡ (if is_fault answer piece then counted old.state.faults else old.state.faults)
   pub calls : new.calls ≡ counted old.calls
   pub room : new.room ≡ old.room
   pub each : new.each ≡ old.each

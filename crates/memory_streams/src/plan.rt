@@ -59,6 +59,9 @@ impl Plan {
     fn fault_at(&self, call: u64) -> Option<Fault>
         ensures { result ≡ fault_at self.now.faults.items call }
     {
-        self.faults.iter().copied().find(|fault| fault.call() == call)
+        self.faults
+            .iter()
+            .copied()
+            .find(|fault| fault.call() == call)
     }
 }

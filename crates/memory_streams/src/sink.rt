@@ -1,8 +1,8 @@
 //! Sinks in memory.
-ghost use Rattle.std.specs.Prelude.{◌≡◌, ◌<◌, IfOk, IsOk, []};
+ghost use Rattle.std.specs.Prelude.{◌≡◌, ◌<◌, take, IfOk, OnErr, IsOk, []};
 ghost use Rattle.std.specs.Option.{option_copied};
 ghost use Rattle.script_streams.specs.Streams.{Writes};
-ghost use Rattle.memory_streams.specs.Planned.{new_sink, WritesByPlan};
+ghost use Rattle.memory_streams.specs.Planned.{new_sink, told_with, WritesByPlan};
 
 use crate::Fault;
 use crate::plan::Plan;
@@ -27,11 +27,11 @@ impl Model for MemSink {
     ghost Value = { PlannedSink };
 
     ghost view = { λ s. record {
-        state = record { taken = bytes_told s.tray; faults = s.faults };
-        room = s.tray.room;
-        each = s.each;
-        plan = s.plan.faults.items;
-        calls = s.plan.calls;
+      state = record { taken = bytes_told s.tray; faults = s.faults };
+      room = s.tray.room;
+      each = s.each;
+      plan = s.plan.faults.items;
+      calls = s.plan.calls;
     } };
 }
 
@@ -82,6 +82,9 @@ impl Sink for MemSink {
 
     fn write(&mut self, piece: &[u8]) -> Result<usize, Failed>
         ensures writes { Writes result self.old.state self.new.state piece.now }
+        ensures told { IfOk result (λ count. self.new.state.taken
+            ≡ told_with self.old.room self.old.state.taken (take count piece.now)) }
+        ensures failed { OnErr result (self.new.state.taken ≡ self.old.state.taken) }
         ensures planned { WritesByPlan result self.old self.new piece.now }
     {
         let Some(most) = self.plan.next_allowance(self.each) else {
@@ -139,6 +142,8 @@ impl Sink for SureSink {
         ensures writes { Writes result (record self.old.state { faults = 0 })
             (record self.new.state { faults = 0 }) piece.now }
         ensures sure { IsOk result }
+        ensures told { IfOk result (λ count. self.new.state.taken
+            ≡ told_with self.old.room self.old.state.taken (take count piece.now)) }
         ensures planned { WritesByPlan result self.old self.new piece.now }
     {
         self.sink.write(piece)

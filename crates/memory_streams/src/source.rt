@@ -29,11 +29,11 @@ impl Model for MemSource {
     ghost Value = { PlannedSource };
 
     ghost view = { λ s. record {
-        state = record s.supply { faults = s.faults };
-        each = s.each;
-        plan = s.plan.faults.items;
-        calls = s.plan.calls;
-        reads_past_end = s.reads_past_end;
+      state = record s.supply { faults = s.faults };
+      each = s.each;
+      plan = s.plan.faults.items;
+      calls = s.plan.calls;
+      reads_past_end = s.reads_past_end;
     } };
 
     ghost invariant = { λ s. (0 < s.each) × All GivesSomething s.plan.faults.items };
