@@ -1,9 +1,9 @@
 //! Scripts under reads and writes that fail or come short.
 
 use crate::runs::{ALL, Stream, expect_run};
+use memory_streams::{Fault, MemSink, MemSource, SureSink};
 use model_core::Model;
 use script_runner::{Served, serve};
-use script_streams::{SureSink, SureSource, Turn};
 use std::alloc::AllocError;
 use std::process::Abort;
 use std::test::Fail;
@@ -15,6 +15,11 @@ const SIZES: &[u8] = b"{\"cmd\":\"size\"}\n{\"cmd\":\"size\"}\n{\"cmd\":\"size\"
 const ONE_REPLY: &[u8] = b"ok 0 1\n";
 
 const THREE_REPLIES: &[u8] = b"ok 0 1\nok 0 1\nok 0 1\n";
+
+const ENDED: Served = Served::Ended {
+    refused: 0,
+    memory: 0,
+};
 
 /// One line a case: what the source gives, what the sink takes, what is written, and the status.
 #[test]
@@ -34,13 +39,13 @@ fn byte_by_byte<R: AllocGlobal + Abort>(rt: &R) -> Result<(), AllocError> {
 fn reads_that_fail<R: AllocGlobal + Abort>(rt: &R) -> Result<(), AllocError> {
     let at_once = Stream {
         each: 65_536,
-        plan: &[Turn::Fails { call: 1 }],
+        plan: &[Fault::Fails { call: 1 }],
     };
     expect_run(rt, "a read that fails at once", SIZES, at_once, ALL, b"", 4)?;
 
     let after_a_line = Stream {
         each: 15,
-        plan: &[Turn::Fails { call: 2 }],
+        plan: &[Fault::Fails { call: 2 }],
     };
     expect_run(
         rt,
@@ -55,7 +60,7 @@ fn reads_that_fail<R: AllocGlobal + Abort>(rt: &R) -> Result<(), AllocError> {
     // The second line lacks its LF, and the end was not seen.
     let inside_a_line = Stream {
         each: 29,
-        plan: &[Turn::Fails { call: 2 }],
+        plan: &[Fault::Fails { call: 2 }],
     };
     expect_run(
         rt,
@@ -104,7 +109,7 @@ fn a_last_line_without_its_break<R: AllocGlobal + Abort>(rt: &R) -> Result<(), A
 fn writes_that_fail<R: AllocGlobal + Abort>(rt: &R) -> Result<(), AllocError> {
     let at_once = Stream {
         each: 65_536,
-        plan: &[Turn::Fails { call: 1 }],
+        plan: &[Fault::Fails { call: 1 }],
     };
     expect_run(
         rt,
@@ -118,7 +123,7 @@ fn writes_that_fail<R: AllocGlobal + Abort>(rt: &R) -> Result<(), AllocError> {
 
     let inside_a_reply = Stream {
         each: 65_536,
-        plan: &[Turn::Short { call: 1, most: 3 }, Turn::Fails { call: 2 }],
+        plan: &[Fault::Short { call: 1, most: 3 }, Fault::Fails { call: 2 }],
     };
     expect_run(
         rt,
@@ -132,7 +137,7 @@ fn writes_that_fail<R: AllocGlobal + Abort>(rt: &R) -> Result<(), AllocError> {
 
     let takes_nothing = Stream {
         each: 65_536,
-        plan: &[Turn::Short { call: 2, most: 0 }],
+        plan: &[Fault::Short { call: 2, most: 0 }],
     };
     expect_run(
         rt,
@@ -146,7 +151,7 @@ fn writes_that_fail<R: AllocGlobal + Abort>(rt: &R) -> Result<(), AllocError> {
 
     let second = Stream {
         each: 65_536,
-        plan: &[Turn::Fails { call: 2 }],
+        plan: &[Fault::Fails { call: 2 }],
     };
     expect_run(
         rt,
@@ -160,29 +165,41 @@ fn writes_that_fail<R: AllocGlobal + Abort>(rt: &R) -> Result<(), AllocError> {
     Ok(())
 }
 
+/// One write comes after a short one: it is offered all that is left of the reply.
+#[test]
+fn a_write_after_a_short_one(rt: HostRuntime) -> Result<(), Fail> {
+    let mut model = Model::new(rt.alloc());
+    let mut src = MemSource::new(rt.alloc(), SIZE, 64, &[])?;
+    let mut out = MemSink::new(rt.alloc(), 64, 64, &[Fault::Short { call: 1, most: 3 }])?;
+    let mut buf = [0; 8];
+    let served = serve(rt.alloc(), &mut model, &mut src, &mut out, &mut buf, 64);
+    assert_eq!(rt; served, ENDED);
+    assert_eq!(rt; out.bytes(), Some(ONE_REPLY));
+    assert_eq!(rt; out.calls(), 2);
+    Ok(())
+}
+
+/// One line a case: the budget, how many reads of at most seven bytes are made, what is written, and the end. No read
+/// comes after the budget, and none after the end.
 #[test]
 fn a_budget_of_bytes(rt: HostRuntime) -> Result<(), Fail> {
-    let cases: [(u64, &[u8], Served); 4] = [
-        (0, b"", Served::TooLong),
-        (10, b"", Served::TooLong),
-        (15, ONE_REPLY, Served::TooLong),
-        (
-            16,
-            ONE_REPLY,
-            Served::Ended {
-                refused: 0,
-                memory: 0,
-            },
-        ),
+    let cases: [(u64, u64, &[u8], Served); 5] = [
+        (0, 0, b"", Served::TooLong),
+        (10, 2, b"", Served::TooLong),
+        (15, 3, ONE_REPLY, Served::TooLong),
+        (16, 4, ONE_REPLY, ENDED),
+        (64, 4, ONE_REPLY, ENDED),
     ];
-    for (most, written, ended) in cases {
+    for (most, reads, written, ended) in cases {
         let mut model = Model::new(rt.alloc());
-        let mut src = SureSource::new(rt.alloc(), SIZE, 7)?;
+        let mut src = MemSource::new(rt.alloc(), SIZE, 7, &[])?;
         let mut out = SureSink::new(rt.alloc(), 64, 7)?;
         let mut buf = [0; 8];
         let served = serve(rt.alloc(), &mut model, &mut src, &mut out, &mut buf, most);
         assert_eq!(rt; served, ended, "with {most} bytes");
         assert_eq!(rt; out.bytes(), Some(written), "with {most} bytes");
+        assert_eq!(rt; src.calls(), reads, "with {most} bytes");
+        assert_eq!(rt; src.reads_past_end(), 0, "with {most} bytes");
     }
     Ok(())
 }

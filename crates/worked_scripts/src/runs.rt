@@ -1,9 +1,9 @@
 //! Runs of the program over memory.
 ghost use Rattle.std.specs.Prelude.{◌<◌, All};
-ghost use Rattle.script_streams.specs.Plan.{GivesSomething};
+ghost use Rattle.memory_streams.specs.Plan.{GivesSomething};
 
+use memory_streams::{Fault, MemSink, MemSource, SureSink};
 use script_runner::run_words;
-use script_streams::{MemSink, MemSource, SureSink, Turn};
 use std::alloc::AllocError;
 use std::process::Abort;
 
@@ -12,7 +12,7 @@ use std::process::Abort;
 pub struct Stream<'a> {
     /// The most bytes that one call gives or takes.
     pub each: usize,
-    pub plan: &'a [Turn],
+    pub plan: &'a [Fault],
 }
 
 /// All at once, without a fault.

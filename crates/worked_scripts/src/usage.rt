@@ -1,7 +1,7 @@
 //! Words that are no command.
 
+use memory_streams::{SureSink, SureSource};
 use script_runner::run_words;
-use script_streams::{SureSink, SureSource};
 use std::test::Fail;
 
 #[test]

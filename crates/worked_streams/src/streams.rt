@@ -1,9 +1,9 @@
-//! What no clause says: that the makers and the calls succeed, what a plan does, signals and flushes.
-ghost use Rattle.std.specs.Prelude.{◌≡◌, ◌≤◌, IfOk};
+//! What no clause says: that there is memory for the makers, signals and flushes. And what callers learn by contract.
+ghost use Rattle.std.specs.Prelude.{◌≡◌, ◌+◌, ◌^◌, ◌<◌, ◌≤◌, length, ◌++◌, Some, IfOk};
 
-use script_streams::{
-    Failed, MemSink, MemSource, Sink, Source, StdSink, StdSource, SureSink, SureSource, Turn,
-};
+use memory_streams::{Fault, MemSink, MemSource, SureSink, SureSource};
+use script_streams::{Failed, Sink, Source, StdSink, StdSource};
+use std::alloc::{AllocError, Global};
 use std::io;
 use std::io::{Error, ErrorKind, Read, Write};
 use std::process::Abort;
@@ -37,19 +37,12 @@ fn sources_in_memory(rt: HostRuntime) -> Result<(), Fail> {
     let mut source = SureSource::new(rt.alloc(), b"abcdef", 3)?;
     expect_reads(&rt, &mut source, &["abc", "def", "", ""]);
 
-    let mut source = MemSource::new(rt.alloc(), b"abc", 1, &[])?;
-    expect_reads(&rt, &mut source, &["a", "b", "c", ""]);
-    assert_eq!(rt; source.faults(), 0);
-
-    let mut source = MemSource::new(rt.alloc(), b"abcdefg", 9, &[Turn::Fails { call: 1 }])?;
-    expect_reads(&rt, &mut source, &["!", "abcd", "efg", ""]);
-    assert_eq!(rt; source.faults(), 1);
-
-    let plan = [Turn::Short { call: 2, most: 2 }, Turn::Fails { call: 3 }];
+    let plan = [Fault::Short { call: 2, most: 2 }, Fault::Fails { call: 3 }];
     let mut source = MemSource::new(rt.alloc(), b"abcdefg", 3, &plan)?;
     expect_reads(&rt, &mut source, &["abc", "de", "!"]);
     assert_eq!(rt; source.left(), b"fg".as_slice());
     expect_reads(&rt, &mut source, &["fg", ""]);
+    assert_eq!(rt; source.faults(), 1);
     Ok(())
 }
 
@@ -61,12 +54,7 @@ fn sinks_in_memory(rt: HostRuntime) -> Result<(), Fail> {
     expect_writes(&rt, &mut sink, "e", &[Some(1)]);
     assert!(rt; sink.bytes().is_none());
 
-    let mut sink = MemSink::new(rt.alloc(), 9, 1, &[])?;
-    expect_writes(&rt, &mut sink, "abc", &[Some(1), Some(1), Some(1), Some(0)]);
-    assert_eq!(rt; sink.bytes().ok_or("told")?, b"abc".as_slice());
-    assert_eq!(rt; sink.faults(), 0);
-
-    let plan = [Turn::Fails { call: 1 }, Turn::Short { call: 2, most: 2 }];
+    let plan = [Fault::Fails { call: 1 }, Fault::Short { call: 2, most: 2 }];
     let mut sink = MemSink::new(rt.alloc(), 9, 4, &plan)?;
     expect_writes(
         &rt,
@@ -76,10 +64,27 @@ fn sinks_in_memory(rt: HostRuntime) -> Result<(), Fail> {
     );
     assert_eq!(rt; sink.bytes().ok_or("told")?, b"abcdefg".as_slice());
     assert_eq!(rt; sink.faults(), 1);
+    Ok(())
+}
 
-    let mut sink = MemSink::new(rt.alloc(), 9, 4, &[Turn::Short { call: 2, most: 0 }])?;
-    expect_writes(&rt, &mut sink, "abcdef", &[Some(4), Some(0), Some(2)]);
-    assert_eq!(rt; sink.faults(), 1);
+/// Writes two pieces into a sink with just enough room for both. That it tells both then is said by contract, with no
+/// look at its bytes.
+fn sink_of_both(alloc: Global, first: &[u8], second: &[u8]) -> Result<SureSink, AllocError>
+    requires some { 0 < length first.now }
+    requires room { length first.now + length second.now < 2 ^ 64 }
+    ensures told { IfOk result (λ sink. sink.state.taken ≡ Some (first.now ++ second.now)) }
+{
+    let room = first.len() + second.len();
+    let mut sink = SureSink::new(alloc, room, room)?;
+    let _ = sink.write(first);
+    let _ = sink.write(second);
+    Ok(sink)
+}
+
+#[test]
+fn a_sink_with_room_tells_all(rt: HostRuntime) -> Result<(), Fail> {
+    let sink = sink_of_both(rt.alloc(), b"ab", b"cde")?;
+    assert_eq!(rt; sink.bytes(), Some(b"abcde".as_slice()));
     Ok(())
 }
 

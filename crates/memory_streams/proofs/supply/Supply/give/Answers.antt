@@ -1,9 +1,9 @@
 use Rattle.std.proofs.Common.{arith, ◌≡◌, ◌+◌, subst, drop, ap}
 use Rattle.std.proofs.lemmas.Grind.{common_steps}
 use Rattle.script_streams.specs.Streams.{SourceState, Given}
-use Rattle.script_streams.proofs.SupplyLemmas.{Given-front, shown}
-use Rattle.script_streams.proofs.supply.Supply.give.Goals as goal
-use Rattle.script_streams.proofs.supply.Supply.give.Goals.{then-count-eq0, else-count-eq0}
+use Rattle.memory_streams.proofs.SupplyLemmas.{Given-front, shown}
+use Rattle.memory_streams.proofs.supply.Supply.give.Goals as goal
+use Rattle.memory_streams.proofs.supply.Supply.give.Goals.{then-count-eq0, else-count-eq0}
 
 pub returns-clause-given : goal.returns-clause-given
 returns-clause-given c =

@@ -1,7 +1,7 @@
 //! Room for a number of bytes.
-ghost use Rattle.std.specs.Prelude.{◌≡◌, ◌+◌, ◌≤◌, ◌<◌, length, IfOk, [], true, vec_len, vec_capacity};
+ghost use Rattle.std.specs.Prelude.{◌≡◌, ◌≤◌, IfOk, [], Some, vec_len, vec_capacity};
 ghost use Rattle.std.specs.Option.{option_copied};
-ghost use Rattle.script_streams.specs.Streams.{Took};
+ghost use Rattle.memory_streams.specs.Planned.{told_with};
 
 use std::alloc::{AllocError, Global};
 
@@ -16,7 +16,7 @@ pub(crate) struct Tray {
 }
 
 impl Tray {
-    ghost use Rattle.script_streams.specs.Tray.{bytes_told};
+    ghost use Rattle.memory_streams.specs.Tray.{bytes_told};
 
     pub(crate) fn with_room(alloc: Global, room: usize) -> Result<Tray, AllocError>
         ensures empty { IfOk result (λ tray. bytes_told tray ≡ Some []) }
@@ -31,12 +31,8 @@ impl Tray {
 
     /// Puts the piece behind what is there. It takes no memory.
     pub(crate) fn put(&mut self, piece: &[u8])
-        ensures took { Took (bytes_told self.old) (bytes_told self.new) piece.now }
+        ensures told { bytes_told self.new ≡ told_with self.old.room (bytes_told self.old) piece.now }
         ensures room { self.new.room ≡ self.old.room }
-        ensures fits { vec_len self.old.bytes + length piece.now ≤ self.old.room
-            → self.new.overflowed ≡ self.old.overflowed }
-        ensures overflows { self.old.room < vec_len self.old.bytes + length piece.now
-            → self.new.overflowed ≡ true }
     {
         let fits = piece.len() <= self.room - self.bytes.len();
         let kept = fits && self.bytes.extend_from_slice(piece).is_ok();

@@ -1,6 +1,6 @@
 -- What a tray tells.
 use Rattle.std.specs.Prelude.{ℕ, List, Option, Some, None, if◌then◌else◌}
-use Rattle.script_streams.specs.declared.tray.Tray.{Tray}
+use Rattle.memory_streams.specs.declared.tray.Tray.{Tray}
 
 -- all the bytes that were put on the tray, or nothing once they were more than its room
 abbrev pub bytes_told : Tray → Option (List ℕ)

@@ -1,7 +1,8 @@
 //! Bytes that are given piece by piece.
-ghost use Rattle.std.specs.Prelude.{◌≡◌, ◌+◌, ◌-◌, ◌<◌, ◌≤◌, min, length, take, IfOk, IfSome, Some, false};
+ghost use Rattle.std.specs.Prelude.{◌≡◌, ◌<◌, min, length, take, IfOk, Some, false};
 ghost use Rattle.script_streams.specs.Streams.{Given};
 ghost use Rattle.script_streams.specs.Fresh.{fresh_source};
+ghost use Rattle.memory_streams.specs.Planned.{available};
 
 use std::alloc::{AllocError, Global};
 use std::marker::Model;
@@ -40,7 +41,7 @@ impl Supply {
     pub(crate) fn give(&mut self, buf: &mut [u8], most: usize) -> usize
         requires { 0 < most }
         ensures given { Given result self.old self.new buf.new }
-        ensures count { IfSome self.old.left (λ left. result ≡ min most (min (length left) (length buf.old))) }
+        ensures count { result ≡ min most (available self.old.left buf.old) }
     {
         let left = self.left();
         let count = copy_front(&left[..most.min(left.len())], buf);
@@ -60,6 +61,13 @@ impl Supply {
         ensures { self.now.left ≡ Some result.now }
     {
         &self.bytes[self.given..]
+    }
+
+    /// Whether the last read answered the end.
+    pub(crate) fn has_ended(&self) -> bool
+        ensures { result ≡ self.now.ended }
+    {
+        self.ended
     }
 }
 
