@@ -53,6 +53,7 @@ impl PieceTree {
     pub fn reserve(&mut self, edits: u64) -> Result<(), AllocError>
         ensures ok { OnOk result (edits ≤ self.new.spare) }
         ensures same { self.new.entries ≡ self.old.entries }
+        ensures kept { self.old.spare ≤ self.new.spare }
         ensures err { OnErr result (self.new ≡ self.old) }
     {
         if edits <= self.spare {

@@ -76,6 +76,8 @@ impl TextBuffer {
     pub fn reserve(&mut self, edits: u64, units: u64) -> Result<(), AllocError>
         ensures edits { OnOk result (edits ≤ self.new.spare_edits) }
         ensures room { OnOk result (units + 3 * edits ≤ self.new.spare_units) }
+        ensures kept_edits { self.old.spare_edits ≤ self.new.spare_edits }
+        ensures kept_room { self.old.spare_units ≤ self.new.spare_units }
         ensures same { self.new.units ≡ self.old.units }
         ensures spans { self.new.spans ≡ self.old.spans }
         ensures grown { Extends self.old.buffers self.new.buffers }
