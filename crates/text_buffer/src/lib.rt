@@ -3,5 +3,6 @@
 
 mod look_up;
 mod text;
+mod walk;
 
 pub use text::TextBuffer;
