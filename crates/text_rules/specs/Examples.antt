@@ -57,6 +57,10 @@ inside_a_break = refl
 no_position_inside_a_break : is_position (codes "a\r\nb") (record { line = 1; column = 3 }) ≡ false
 no_position_inside_a_break = refl
 
+-- a pair of surrogates has a position before it and one behind it
+positions_beside_a_pair : map (λ column. is_position (0xD83D ∷ 0xDE00 ∷ []) (record { line = 1; column = column })) (1 ∷ 2 ∷ 3 ∷ []) ≡ true ∷ false ∷ true ∷ []
+positions_beside_a_pair = refl
+
 the_end_of_the_last_line : offset_of (codes "a\r\nb\rc\nd") (record { line = 4; column = 2 }) ≡ 8
 the_end_of_the_last_line = refl
 
