@@ -1,5 +1,5 @@
 -- Worked examples of the rules.
-use Rattle.std.specs.Prelude.{◌≡◌, ℕ, List, [], ◌∷◌, Ok, Err, Option, Some, None, codes, false, true, refl}
+use Rattle.std.specs.Prelude.{◌≡◌, ℕ, List, [], ◌∷◌, Result, Ok, Err, Option, Some, None, codes, false, true, refl}
 use Rattle.text_rules.specs.declared.Op.{Op}
 use Rattle.decoration_rules.specs.declared.Deco.{Deco}
 use Rattle.decoration_rules.specs.declared.Sticky.TheVariants.{AlwaysGrows}
@@ -9,8 +9,9 @@ use Rattle.bracket_rules.specs.declared.Entry.{Entry}
 use Rattle.bracket_rules.specs.declared.Status.{Status}
 use Rattle.bracket_rules.specs.declared.Status.TheVariants.{PairedOpening, PairedClosing, Unclosed, Unexpected}
 use Rattle.document_rules.specs.Brackets.{flat_brackets, flat_match, flat_level}
+use Rattle.document_rules.specs.declared.ModelError.{ModelError}
 use Rattle.document_rules.specs.declared.ModelError.TheVariants.{Range, Overlap, Limit}
-use Rattle.document_rules.specs.Document.{FlatState, new_document, after_batch, flat_edit, flat_undo, flat_redo, flat_decorate, flat_deco, carried_on, flat_line, flat_value, flat_position, flat_offset, flat_line_count, greatest_version}
+use Rattle.document_rules.specs.Document.{FlatState, new_document, after_batch, flat_edit, flat_undo, flat_redo, flat_decorate, flat_deco, flat_decos, carried_on, flat_line, flat_value, flat_position, flat_offset, flat_line_count, greatest_version}
 
 abbrev op : ℕ → ℕ → List ℕ → Op
 op start end text = record { span = record { start = start; end = end }; text = text; force = false }
@@ -83,6 +84,28 @@ forced_insert = after_batch decorated_text (record (op 1 1 (codes "x")) { force 
 
 a_forced_insert_moves_it : stands_at forced_insert ≡ Some (deco 2 2)
 a_forced_insert_moves_it = refl
+
+-- where the decoration stands after an undo
+abbrev stands_back_at : Result (Option FlatState) ModelError → Option Deco
+stands_back_at (Ok (Some f)) = stands_at f
+stands_back_at (Ok None) = None
+stands_back_at (Err e) = None
+
+an_undo_moves_it_back : stands_back_at (flat_undo forced_insert) ≡ Some (deco 1 1)
+an_undo_moves_it_back = refl
+
+-- ... and after a second insert in the same step, before it
+abbrev second_insert : FlatState
+second_insert = after_batch forced_insert (op 0 0 (codes "yy") ∷ []) (op 0 0 (codes "yy") ∷ [])
+
+a_second_insert_moves_it_on : stands_at second_insert ≡ Some (deco 4 4)
+a_second_insert_moves_it_on = refl
+
+an_undo_moves_it_back_over_both : stands_back_at (flat_undo second_insert) ≡ Some (deco 1 1)
+an_undo_moves_it_back_over_both = refl
+
+it_touches_the_unit_before_it : flat_decos decorated_text (record { start = 0; end = 1 }) None ≡ Ok (deco 1 1 ∷ [])
+it_touches_the_unit_before_it = refl
 
 -- a redo forces nothing: the decoration grows, which it did not at first
 a_redo_forces_nothing : carried_on decorated_text.decorations (record { before = codes "ab"; ops = record (op 1 1 (codes "x")) { force = true } ∷ []; after = codes "axb" } ∷ [])

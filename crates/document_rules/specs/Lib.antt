@@ -1,4 +1,5 @@
 pub mod Outcomes
 pub mod Document
+pub mod Paired
 pub mod Brackets
 mod Examples

@@ -1,11 +1,14 @@
 //! Where the lines of a text start.
 #![tactic(auto)]
 
-ghost use Rattle.std.specs.Prelude.{◌≡◌, ◌+◌, ◌<◌, ◌≤◌, ◌^◌, ◌++◌, List, length, drop, get_or, OnOk, OnErr, IsOk, vec_len, vec_capacity, take};
+ghost use Rattle.std.specs.Prelude.{◌≡◌, ℕ, ◌+◌, ◌<◌, ◌≤◌, ◌^◌, ◌++◌, false, List, length, drop, get_or, OnOk, OnErr, IsOk, vec_len, vec_capacity, take};
 ghost use Rattle.line_starts.specs.Starts.{starts_of, break_count, break_ends_at};
-ghost use Rattle.text_rules.proofs.Breaks.{ends_break};
+ghost use Rattle.text_lengths.specs.Length.{length_plus};
+ghost use Rattle.text_rules.proofs.Breaks.{ends_break, joins_pair};
+ghost use Rattle.text_rules.specs.Lines.{text_length};
 
 use std::alloc::AllocError;
+use text_lengths::Length;
 
 const LINE_FEED: u16 = 10;
 
@@ -70,6 +73,25 @@ pub fn count_breaks(units: &[u16]) -> u64
         }
     }
     breaks
+}
+
+/// How long the units are. Cut in two anywhere but inside a CR LF, they are as long as the two parts together.
+pub fn text_length(units: &[u16]) -> Length
+    ensures length { result ≡ text_length units.now }
+    ensures parts { (x y : List ℕ) → x ++ y ≡ units.now → joins_pair x y ≡ false
+        → result ≡ length_plus (text_length x) (text_length y) }
+{
+    let mut lines = 0;
+    let mut columns = 0;
+    for at in 0..units.len() {
+        if is_break_end(units, at) {
+            lines += 1;
+            columns = 0;
+        } else {
+            columns += 1;
+        }
+    }
+    Length { lines, columns }
 }
 
 // Whether a break ends with the unit at this place: an LF, or a CR with no LF after it.

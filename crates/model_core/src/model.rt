@@ -8,6 +8,7 @@ ghost use Rattle.text_rules.specs.Edits.{is_bad_span};
 ghost use Rattle.document_rules.specs.Outcomes.{Changes, ChangesWith, Moves, Appends, Gives};
 ghost use Rattle.bracket_rules.specs.Table.{standard_table};
 ghost use Rattle.document_rules.specs.Brackets.{flat_brackets, flat_match, flat_level, IsSmall};
+ghost use Rattle.document_rules.specs.Paired.{IsPairedState};
 ghost use Rattle.model_core.specs.State.{KeptAfter, KeptAfterMove};
 ghost use Rattle.document_rules.specs.Document.{new_document, flat_open, flat_edit, flat_stop, flat_undo, flat_redo, flat_decorate, flat_deco, flat_decos, flat_line, flat_value, flat_position, flat_offset, flat_line_count, error_of, refusal_of};
 
@@ -91,6 +92,8 @@ impl Model {
     /// with `Limit`.
     pub fn open_doc(&mut self, text: &[u16], table: BracketTable) -> Result<(), ModelError>
         ensures document { Changes result self.old.document self.new.document (flat_open text.now table) }
+        ensures paired_state { IsPaired text.now → IsPairedState self.old.document
+            → IsPairedState self.new.document }
         ensures fresh { KeptAfter result self.old.fresh self.new.fresh }
     {
         if text.len() as u64 > MOST_UNITS {
@@ -115,6 +118,8 @@ impl Model {
             (flat_edit self.old.document ops.now) }
         ensures paired { IsPaired self.old.document.units → All (λ op. IsPaired op.text) ops.now
             → IsPaired self.new.document.units }
+        ensures paired_state { All (λ op. IsPaired op.text) ops.now → IsPairedState self.old.document
+            → IsPairedState self.new.document }
         ensures fresh { KeptAfter result self.old.fresh self.new.fresh }
     {
         let batch = Batch::checked(self.alloc, ops, &self.text).map_err(error_of)?;
@@ -138,6 +143,7 @@ impl Model {
     /// The next edit begins a step of undo.
     pub fn stop(&mut self)
         ensures document { self.new.document ≡ flat_stop self.old.document }
+        ensures paired_state { IsPairedState self.old.document → IsPairedState self.new.document }
         ensures fresh { self.new.fresh ≡ self.old.fresh }
     {
         self.history.stop();
@@ -147,6 +153,7 @@ impl Model {
     /// where the version would pass its limit. All memory is taken before the first change.
     pub fn undo(&mut self) -> Result<bool, ModelError>
         ensures document { Moves result self.old.document self.new.document (flat_undo self.old.document) }
+        ensures paired_state { IsPairedState self.old.document → IsPairedState self.new.document }
         ensures fresh { KeptAfterMove result self.old.fresh self.new.fresh }
     {
         let Some(step) = self.history.undo_next() else {
@@ -167,6 +174,7 @@ impl Model {
     /// `Limit` where the version would pass its limit. All memory is taken before the first change.
     pub fn redo(&mut self) -> Result<bool, ModelError>
         ensures document { Moves result self.old.document self.new.document (flat_redo self.old.document) }
+        ensures paired_state { IsPairedState self.old.document → IsPairedState self.new.document }
         ensures fresh { KeptAfterMove result self.old.fresh self.new.fresh }
     {
         let Some(step) = self.history.redo_next() else {
@@ -195,6 +203,7 @@ impl Model {
     ) -> Result<u64, ModelError>
         ensures document { ChangesWith self.old.document.decorations.next_id result self.old.document self.new.document
             (flat_decorate self.old.document owner remove.now add.now) }
+        ensures paired_state { IsPairedState self.old.document → IsPairedState self.new.document }
         ensures fresh { self.new.fresh ≡ self.old.fresh }
     {
         self.decorations
