@@ -15,7 +15,7 @@ use Rattle.decoration_rules.specs.declared.NewDeco.{NewDeco}
 use Rattle.decoration_rules.specs.Decorations.{Decorations, decorated}
 use Rattle.edit_stack.specs.Stack.{Step, Stack, joined, new_step, undone_lists, redone_lists, undone, redone}
 use Rattle.document_rules.specs.declared.ModelError.{ModelError}
-use Rattle.document_rules.specs.declared.ModelError.TheVariants.{Limit}
+use Rattle.document_rules.specs.Refusals.{FlatRefusal, limit}
 use Rattle.document_rules.specs.Document.{greatest_version, FlatChange, FlatState, new_document, flat_open, after_batch, edited_by, flat_edit, text_before, text_after, carried_back, carried_on, returned, undone_step, flat_undo, redone_step, flat_redo, with_decorations, flat_decorate}
 use Rattle.document_rules.specs.Outcomes.{Changes, ChangesWith, Moves}
 use Rattle.document_rules.specs.Paired.{IsPairedChange, ArePairedSteps, IsPairedState}
@@ -63,17 +63,17 @@ paired_after now (change ∷ changes) h kept =
 
 -- ---- the rules
 
-accepted_value : (refused : Bool) (new f : FlatState) (e : ModelError) → (if refused then Err e else Ok new) ≡ Ok f → IsPairedState new → IsPairedState f
+accepted_value : (refused : Bool) (new f : FlatState) (e : FlatRefusal) → (if refused then Err e else Ok new) ≡ Ok f → IsPairedState new → IsPairedState f
 accepted_value true new f e same h = absurd cc
 accepted_value false new f e same h = let is : new ≡ f = cc in subst IsPairedState is h
 
-accepted_move : (refused : Bool) (new f : FlatState) (e : ModelError) → (if refused then Err e else Ok (Some new)) ≡ Ok (Some f) → IsPairedState new → IsPairedState f
+accepted_move : (refused : Bool) (new f : FlatState) (e : FlatRefusal) → (if refused then Err e else Ok (Some new)) ≡ Ok (Some f) → IsPairedState new → IsPairedState f
 accepted_move true new f e same h = absurd cc
 accepted_move false new f e same h = let is : new ≡ f = cc in subst IsPairedState is h
 
 pub opened_paired : (text : List ℕ) (table : Table) (f : FlatState) → flat_open text table ≡ Ok f → IsPaired text → IsPairedState f
 opened_paired text table f e h =
-    accepted_value (nat_lt most_units (length text)) (new_document text table) f Limit e
+    accepted_value (nat_lt most_units (length text)) (new_document text table) f limit e
     (record { units = h; undo = All-nil IsPairedStep; redo = All-nil IsPairedStep })
 
 after_batch_paired : (f : FlatState) (ops sorted : List Op) → checked_batch f.units ops ≡ Ok sorted → IsPairedState f → All HasPairedText ops → IsPairedState (after_batch f ops sorted)
@@ -93,7 +93,7 @@ edited_by_paired : (f g : FlatState) (ops : List Op) (r : Result (List Op) Batch
     → IsPairedState f → All HasPairedText ops → IsPairedState g
 edited_by_paired f g ops (Err e) rule done h texts = absurd cc
 edited_by_paired f g ops (Ok sorted) rule done h texts =
-    accepted_value (nat_le greatest_version f.version) (after_batch f ops sorted) g Limit done (after_batch_paired f ops sorted rule h texts)
+    accepted_value (nat_le greatest_version f.version) (after_batch f ops sorted) g limit done (after_batch_paired f ops sorted rule h texts)
 
 pub edited_paired : (f g : FlatState) (ops : List Op) → flat_edit f ops ≡ Ok g → IsPairedState f → All HasPairedText ops → IsPairedState g
 edited_paired f g ops done h texts = edited_by_paired f g ops (checked_batch f.units ops) refl done h texts
@@ -103,7 +103,7 @@ undone_step_paired f g [] kept done h = absurd cc
 undone_step_paired f g (step ∷ steps) kept done h =
     let lists = paired_undone f.history.undo f.history.redo h.undo h.redo in
     accepted_move (nat_le greatest_version f.version)
-    (returned f (text_before f.units step.changes) step.alt_before (carried_back f.decorations step.changes) (undone f.history)) g Limit done
+    (returned f (text_before f.units step.changes) step.alt_before (carried_back f.decorations step.changes) (undone f.history)) g limit done
     (record { units = paired_before f.units step.changes h.units (All-head IsPairedStep step steps kept); undo = lists.undo; redo = lists.redo })
 
 pub undone_paired : (f g : FlatState) → flat_undo f ≡ Ok (Some g) → IsPairedState f → IsPairedState g
@@ -114,7 +114,7 @@ redone_step_paired f g [] kept done h = absurd cc
 redone_step_paired f g (step ∷ steps) kept done h =
     let lists = paired_redone f.history.undo f.history.redo f.history.is_open h.undo h.redo in
     accepted_move (nat_le greatest_version f.version)
-    (returned f (text_after f.units step.changes) step.alt_after (carried_on f.decorations step.changes) (redone f.history)) g Limit done
+    (returned f (text_after f.units step.changes) step.alt_after (carried_on f.decorations step.changes) (redone f.history)) g limit done
     (record { units = paired_after f.units step.changes h.units (All-head IsPairedStep step steps kept); undo = lists.undo; redo = lists.redo })
 
 pub redone_paired : (f g : FlatState) → flat_redo f ≡ Ok (Some g) → IsPairedState f → IsPairedState g
@@ -122,12 +122,12 @@ redone_paired f g done h = redone_step_paired f g f.history.redo h.redo done h
 
 -- ---- calls that follow the rules
 
-changed_paired : (result : Result ⊤ ModelError) (old new : FlatState) (rule : Result FlatState ModelError) → Changes result old new rule
+changed_paired : (result : Result ⊤ ModelError) (old new : FlatState) (rule : Result FlatState FlatRefusal) → Changes result old new rule
     → ((f : FlatState) → rule ≡ Ok f → IsPairedState f) → IsPairedState old → IsPairedState new
 changed_paired (Ok x) old new rule done by_rule h = by_rule new done
 changed_paired (Err e) old new rule done by_rule h = subst IsPairedState (sym done.0) h
 
-moved_paired : (result : Result Bool ModelError) (old new : FlatState) (rule : Result (Option FlatState) ModelError) → Moves result old new rule
+moved_paired : (result : Result Bool ModelError) (old new : FlatState) (rule : Result (Option FlatState) FlatRefusal) → Moves result old new rule
     → ((f : FlatState) → rule ≡ Ok (Some f) → IsPairedState f) → IsPairedState old → IsPairedState new
 moved_paired (Ok true) old new rule done by_rule h = by_rule new done
 moved_paired (Ok false) old new rule done by_rule h = subst IsPairedState (sym done.1) h

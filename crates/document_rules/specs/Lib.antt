@@ -1,3 +1,4 @@
+pub mod Refusals
 pub mod Outcomes
 pub mod Document
 pub mod Paired

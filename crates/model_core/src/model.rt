@@ -10,7 +10,8 @@ ghost use Rattle.bracket_rules.specs.Table.{standard_table};
 ghost use Rattle.document_rules.specs.Brackets.{flat_brackets, flat_match, flat_level, IsSmall};
 ghost use Rattle.document_rules.specs.Paired.{IsPairedState};
 ghost use Rattle.model_core.specs.State.{KeptAfter, KeptAfterMove};
-ghost use Rattle.document_rules.specs.Document.{new_document, flat_open, flat_edit, flat_stop, flat_undo, flat_redo, flat_decorate, flat_deco, flat_decos, flat_line, flat_value, flat_position, flat_offset, flat_line_count, error_of, refusal_of};
+ghost use Rattle.document_rules.specs.Document.{new_document, flat_open, flat_edit, flat_stop, flat_undo, flat_redo, flat_decorate, flat_deco, flat_decos, flat_line, flat_value, flat_position, flat_offset, flat_line_count};
+ghost use Rattle.model_core.specs.Errors.{error_of, refusal_of};
 
 use crate::brackets::{parse_text, renew};
 use crate::change::{Change, Way, apply, make_again, reserve_for, take_back};

@@ -3,7 +3,7 @@ use Rattle.std.proofs.lemmas.Grind.{common_steps}
 use Rattle.batch_rules.specs.Batches.{most_units, text_units}
 use Rattle.edit_stack.specs.Stack.{Step, undone}
 use Rattle.edit_stack.specs.Element.{step_of}
-use Rattle.document_rules.specs.declared.ModelError.TheVariants.{Limit}
+use Rattle.document_rules.specs.Refusals.{limit}
 use Rattle.document_rules.specs.Document.{greatest_version, flat_undo}
 use Rattle.document_rules.proofs.PairedStates.{IsPairedState-undo}
 use Rattle.model_core.specs.State.{ModelState}
@@ -27,7 +27,7 @@ returns-in_err-version c =
     let next : slice_get m.history.stack.undo 0 ≡ Some (step_of c.in-Some.step.now) = grind (arith, common_steps) in
     let step = undo_of m.text.units m.version m.alternative m.decorations m.table m.history.stack (step_of c.in-Some.step.now) next c.self.invariant.2 in
     let last : greatest_version < m.version + 1 = grind (arith, common_steps) in
-    let refused : flat_undo c.args.self.now.document ≡ Err Limit = sym (ap (λ (s : ModelState). flat_undo s.document) c.self.view_is) ∙ step.refused last in
+    let refused : flat_undo c.args.self.now.document ≡ Err limit = sym (ap (λ (s : ModelState). flat_undo s.document) c.self.view_is) ∙ step.refused last in
     grind (arith, common_steps)
 
 pub reserve_for-requires : goal.reserve_for-requires
