@@ -1,7 +1,8 @@
 //! The document and its calls.
 
-ghost use Rattle.std.specs.Prelude.{◌≡◌, [], true, false, List, length, IfSome, OnOk, OnErr, Ok, Err};
+ghost use Rattle.std.specs.Prelude.{◌≡◌, ◌-◌, [], true, false, List, length, IfSome, OnOk, OnErr, Ok, Err};
 ghost use Rattle.std.specs.List.{All};
+ghost use Rattle.text_buffer.specs.Costs.{WithinLookUps};
 ghost use Rattle.unit_text.specs.Units.{IsPaired};
 ghost use Rattle.decoration_rules.specs.Moves.{IsSpanIn};
 ghost use Rattle.text_rules.specs.Edits.{is_bad_span};
@@ -64,6 +65,7 @@ impl std::marker::Model for Model {
         history = history_of m.text.units m.history.stack;
       };
       fresh = is_some m.tree;
+      pieces = length m.text.spans;
     } };
 
     ghost invariant = { λ m. (length m.text.units ≤ most_units) × (m.version ≤ greatest_version)
@@ -356,16 +358,18 @@ impl Model {
         self.text.value(span, out).map_err(|_| ModelError::Memory)
     }
 
-    /// The position of the offset, or None where it is no place of the text. Each piece that is looked at is a step.
+    /// The position of the offset, or None where it is no place of the text. Each node that is visited is a step.
     pub fn position_at<L: Ledger>(&self, offset: u64, steps: &mut Steps<L>) -> Option<Position>
-        ensures { result ≡ flat_position self.now.document offset }
+        ensures position { result ≡ flat_position self.now.document offset }
+        ensures cost { WithinLookUps 3 self.now.pieces (steps.new - steps.old) }
     {
         self.text.position_at(offset, steps)
     }
 
-    /// The offset of the position, or None where it is none of the text. Each piece that is looked at is a step.
+    /// The offset of the position, or None where it is none of the text. Each node that is visited is a step.
     pub fn offset_at<L: Ledger>(&self, p: Position, steps: &mut Steps<L>) -> Option<u64>
-        ensures { result ≡ flat_offset self.now.document p }
+        ensures offset { result ≡ flat_offset self.now.document p }
+        ensures cost { WithinLookUps 4 self.now.pieces (steps.new - steps.old) }
     {
         self.text.offset_at(p, steps)
     }

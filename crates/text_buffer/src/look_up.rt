@@ -6,7 +6,7 @@ ghost use Rattle.piece_tree.specs.Pieces.{pieces_of, unit_count, break_count_of,
 ghost use Rattle.piece_tree.specs.Costs.{WithinLookUps};
 ghost use Rattle.unit_text.specs.Units.{cuts_pair};
 ghost use Rattle.text_rules.specs.Lines.{line_start};
-ghost use Rattle.text_buffer.specs.Text.{spelled, IsText};
+ghost use Rattle.text_buffer.specs.Text.{text_of, IsText};
 
 use chunk_buffers::Chunks;
 use piece_tree::{Found, PieceTree};
@@ -38,8 +38,8 @@ fn piece_at_for<L: Ledger>(pieces: &PieceTree, offset: u64, blank: Blank) -> Fou
     pieces.find_offset(offset, &mut steps)
 }
 
-/// Whether the offset, whose unit the piece has, stands inside a pair of surrogates. The unit before it is looked up only
-/// where it lies in another piece.
+/// Whether the offset, whose unit the piece has, stands inside a pair of surrogates. The unit before
+/// it is looked up only where it lies in another piece.
 pub(crate) fn cuts_pair_at<L: Ledger>(
     pieces: &PieceTree,
     chunks: &Chunks,
@@ -51,7 +51,7 @@ pub(crate) fn cuts_pair_at<L: Ledger>(
     requires piece { IsFound pieces.now.entries found.now }
     requires start { found.now.before.units ≤ offset }
     requires end { offset < found.now.before.units + found.now.span.units }
-    ensures pair { result ≡ cuts_pair (spelled chunks.now.buffers (pieces_of pieces.now.entries)) offset }
+    ensures pair { result ≡ cuts_pair (text_of pieces.now chunks.now).units offset }
     ensures cost { WithinLookUps 1 (length pieces.now.entries) (steps.new - steps.old) }
 {
     if offset == 0 {
@@ -74,7 +74,7 @@ fn unit_before<L: Ledger>(
     requires some { 0 < offset }
     requires start { found.now.before.units ≤ offset }
     requires end { offset < found.now.before.units + found.now.span.units }
-    ensures unit { result ≡ slice_index (spelled chunks.now.buffers (pieces_of pieces.now.entries)) (offset - 1) }
+    ensures unit { result ≡ slice_index (text_of pieces.now chunks.now).units (offset - 1) }
     ensures cost { WithinLookUps 1 (length pieces.now.entries) (steps.new - steps.old) }
 {
     if found.before.units < offset {
@@ -89,12 +89,14 @@ fn unit_in(chunks: &Chunks, found: &Found, offset: u64) -> u16
     requires inside { LiesIn chunks.now.buffers found.now.span }
     requires start { found.now.before.units ≤ offset }
     requires end { offset < found.now.before.units + found.now.span.units }
-    ensures { result ≡ slice_index (units_at chunks.now.buffers found.now.span) (offset - found.now.before.units) }
+    ensures { result
+        ≡ slice_index (units_at chunks.now.buffers found.now.span) (offset - found.now.before.units) }
 {
     chunks.units(found.span)[(offset - found.before.units) as usize]
 }
 
-/// The piece that has the `n`-th break, and how many of its units stand up to the end of that break. Breaks count from 1.
+/// The piece that has the `n`-th break, and how many of its units stand up to the end of that break.
+/// Breaks count from 1.
 pub(crate) fn break_at<L: Ledger>(
     pieces: &PieceTree,
     chunks: &Chunks,
@@ -105,7 +107,7 @@ pub(crate) fn break_at<L: Ledger>(
     requires first { 0 < n }
     requires there { n ≤ break_count_of (pieces_of pieces.now.entries) }
     ensures piece { IsFound pieces.now.entries result.0 }
-    ensures line { line_start (spelled chunks.now.buffers (pieces_of pieces.now.entries)) (n + 1)
+    ensures line { line_start (text_of pieces.now chunks.now).units (n + 1)
         ≡ result.0.before.units + result.1 }
     ensures some { 0 < result.1 }
     ensures within { result.1 ≤ result.0.span.units }

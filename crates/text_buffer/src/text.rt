@@ -181,7 +181,8 @@ impl TextBuffer {
 
     /// The position of the offset; None where the offset is no place of the text. Each node that is visited is a step.
     pub fn position_at<L: Ledger>(&self, offset: u64, steps: &mut Steps<L>) -> Option<Position>
-        ensures position { result ≡ (if is_place self.now.units offset then Some (position_of self.now.units offset) else None) }
+        ensures position { result ≡ (if is_place self.now.units offset
+            then Some (position_of self.now.units offset) else None) }
         ensures cost { WithinLookUps 3 (length self.now.spans) (steps.new - steps.old) }
     {
         let Some(breaks) = self.breaks_at(offset, steps) else {
@@ -196,7 +197,8 @@ impl TextBuffer {
 
     /// The offset of the position; None where it is no position of the text. Each node that is visited is a step.
     pub fn offset_at<L: Ledger>(&self, position: Position, steps: &mut Steps<L>) -> Option<u64>
-        ensures offset { result ≡ (if is_position self.now.units position then Some (offset_of self.now.units position) else None) }
+        ensures offset { result ≡ (if is_position self.now.units position
+            then Some (offset_of self.now.units position) else None) }
         ensures cost { WithinLookUps 4 (length self.now.spans) (steps.new - steps.old) }
     {
         if position.line == 0 {
@@ -249,7 +251,8 @@ impl TextBuffer {
 
     // How many breaks end at the offset or before it; None where the offset is no place of the text.
     fn breaks_at<L: Ledger>(&self, offset: u64, steps: &mut Steps<L>) -> Option<u64>
-        ensures breaks { result ≡ (if is_place self.now.units offset then Some (count_to offset (break_ends 0 self.now.units)) else None) }
+        ensures breaks { result ≡ (if is_place self.now.units offset
+            then Some (count_to offset (break_ends 0 self.now.units)) else None) }
         ensures few { IfSome result (λ breaks. breaks < 2 ^ 62) }
         ensures small { IfSome result (λ breaks. offset < 2 ^ 62) }
         ensures cost { WithinLookUps 2 (length self.now.spans) (steps.new - steps.old) }

@@ -2,22 +2,22 @@
 
 ghost use Rattle.std.specs.Prelude.{◌≡◌, ◌+◌, ◌-◌, ◌<◌, ◌≤◌, ◌++◌, length, take, drop, min, vec_len, vec_capacity};
 ghost use Rattle.piece_tree.specs.Pieces.{pieces_of, unit_count};
-ghost use Rattle.text_buffer.specs.Text.{spelled, IsText};
+ghost use Rattle.text_buffer.specs.Text.{text_of, IsText};
 
 use crate::look_up::piece_at;
 use chunk_buffers::Chunks;
 use piece_tree::PieceTree;
 use text_lengths::Span;
 
-/// Appends the units of the span, for which there is room. From the piece where the span starts it goes on from each piece to the
-/// next one.
+/// Appends the units of the span, for which there is room. From the piece where the span starts it
+/// goes on from each piece to the next one.
 pub(crate) fn push_span(pieces: &PieceTree, chunks: &Chunks, span: Span, out: &mut Vec<u16>)
     requires text { IsText pieces.now chunks.now }
     requires ordered { span.start ≤ span.end }
     requires within { span.end ≤ unit_count (pieces_of pieces.now.entries) }
     requires room { vec_len out.old + (span.end - span.start) ≤ vec_capacity out.old }
     ensures { out.new.items ≡ out.old.items
-        ++ take (span.end - span.start) (drop span.start (spelled chunks.now.buffers (pieces_of pieces.now.entries))) }
+        ++ take (span.end - span.start) (drop span.start (text_of pieces.now chunks.now).units) }
 {
     if span.start == span.end {
         return;

@@ -7,7 +7,7 @@ use Rattle.text_buffer.proofs.walk.push_span.Given as goal
 abbrev pub invariant-loop-left : goal.invariant-loop-left
 invariant-loop-left l = record {
   walked : Walked l.chunks.buffers l.pieces.entries l.id l.left l.out.items
-  (l.fn.out.items ++ take (l.fn.span.end - l.fn.span.start) (drop l.fn.span.start (spelled l.chunks.buffers (pieces_of l.pieces.entries))));
+      (l.fn.out.items ++ take (l.fn.span.end - l.fn.span.start) (drop l.fn.span.start (spelled l.chunks.buffers (pieces_of l.pieces.entries))));
   room : vec_len l.out + l.left ≤ vec_capacity l.out;
 }
 
