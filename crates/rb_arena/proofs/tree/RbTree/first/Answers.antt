@@ -1,7 +1,6 @@
-use Rattle.std.proofs.Common.{◌≡◌, ℕ, List, None, sym, ap, ◌∙◌, subst}
+use Rattle.std.proofs.Common.{◌≡◌, None, sym, ap, ◌∙◌}
 use Rattle.rb_rules.specs.Tree.{top}
 use Rattle.rb_rules.specs.Woven.{entries}
-use Rattle.rb_arena.specs.Names.{HaveOwnNames}
 use Rattle.rb_arena.specs.Placing.{above_place}
 use Rattle.rb_arena.specs.Value.{first_hole, first_or}
 use Rattle.rb_arena.proofs.Listing.{starts_top, items_are, loose_are}
