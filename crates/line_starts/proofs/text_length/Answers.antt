@@ -1,5 +1,4 @@
-use Rattle.std.proofs.Common.{◌≡◌, ◌<◌, ◌++◌, length, sym, ap, ◌∙◌, List, ℕ, arith}
-use Rattle.text_lengths.specs.Length.{length_of}
+use Rattle.std.proofs.Common.{◌<◌, length, sym, ap, ◌∙◌, arith}
 use Rattle.text_rules.specs.Lines.{text_length}
 use Rattle.text_rules.proofs.TextLengths.{text_length-append}
 use Rattle.line_starts.proofs.Starts.{length_at_end, length_at_other, length_of_all}

@@ -5,7 +5,7 @@ use Rattle.worked_trees.proofs.Marking.{first_is, next_is}
 use Rattle.worked_trees.proofs.shifts.walks.Goals as goal
 
 pub loop-turn-init : goal.loop-turn-init
-loop-turn-init c = subst (λ o. IfSome o (λ id. IsItem c.args.tree.now.items id)) (sym c.first-at.ensures) (first_is c.args.tree.now.items)
+loop-turn-init c = subst (λ o. IfSome o (λ id. IsItem c.args.tree.now.items id)) (sym c.first-at.ensures.first) (first_is c.args.tree.now.items)
 
 pub loop-turn-preserved : goal.loop-turn-preserved
 loop-turn-preserved c =
