@@ -1,2 +1,2 @@
 pub mod FieldLemmas
-mod ReadExamples
+pub mod ReadExamples

@@ -1,17 +1,31 @@
 -- Worked examples of lines as they stand in a script, byte by byte.
-use Rattle.std.specs.Prelude.{◌≡◌, [], ◌∷◌, Some, None, codes, refl}
+use Rattle.std.specs.Prelude.{◌≡◌, false, [], ◌∷◌, Some, None, codes, refl}
 use Rattle.std.specs.Str.{is_utf8, chars}
 use Rattle.serde_json.proofs.OnLiterals.{serde_json_on_literals}
-use Rattle.script_lines.specs.declared.command.Command.TheVariants.{Size, Line}
+use Rattle.script_lines.specs.declared.command.Command.TheVariants.{Open, Edit, Line, Size}
+use Rattle.script_lines.specs.declared.op.Place.TheVariants.{At}
 use Rattle.script_lines.specs.Commands.{command_of}
 
-a_command_without_fields : command_of (codes "{\"cmd\":\"size\"}") ≡ Some Size
+pub an_opening : command_of (codes "{\"cmd\":\"open\",\"text\":\"ab\\ncd\"}") ≡ Some (Open (codes "ab\ncd") None)
 unfolding command_of is_utf8 chars serde_json_on_literals
-a_command_without_fields = refl
+an_opening = refl
 
-a_command_with_a_number : command_of (codes "{\"cmd\":\"line\",\"n\":12}") ≡ Some (Line 12)
+pub an_edit : command_of (codes "{\"cmd\":\"edit\",\"ops\":[{\"at\":[1,4],\"text\":\"X\"}]}")
+    ≡ Some (Edit (record { place = At (record { start = 1; end = 4 }); text = codes "X"; force = false } ∷ []))
 unfolding command_of is_utf8 chars serde_json_on_literals
-a_command_with_a_number = refl
+an_edit = refl
+
+pub a_line : command_of (codes "{\"cmd\":\"line\",\"n\":1}") ≡ Some (Line 1)
+unfolding command_of is_utf8 chars serde_json_on_literals
+a_line = refl
+
+pub a_size : command_of (codes "{\"cmd\":\"size\"}") ≡ Some Size
+unfolding command_of is_utf8 chars serde_json_on_literals
+a_size = refl
+
+pub a_word_is_no_command : command_of (codes "size") ≡ None
+unfolding command_of is_utf8 chars serde_json_on_literals
+a_word_is_no_command = refl
 
 an_object_without_fields : command_of (codes "{}") ≡ None
 unfolding command_of is_utf8 chars serde_json_on_literals
