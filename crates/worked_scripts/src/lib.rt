@@ -12,8 +12,6 @@ mod first_body;
 #[cfg(test)]
 mod library;
 #[cfg(test)]
-mod one_list;
-#[cfg(test)]
 mod runs;
 #[cfg(test)]
 mod transcripts;
