@@ -18,7 +18,8 @@ pub fn concat(alloc: Global, nodes: Vec<Node>) -> Result<Node, AllocError>
     ensures in_order { IfOk result (λ list. items list ≡ all_items nodes.items) }
     ensures weighs { IfOk result (λ list. weight list ≡ all_weight nodes.items) }
     ensures length { IfOk result (λ list. tree_length list ≡ all_length nodes.items) }
-    ensures tokens { IfOk result (λ list. (p : Length) → tree_tokens p list ≡ all_tokens p nodes.items) }
+    ensures tokens { IfOk result (λ list. (p : Length)
+        → tree_tokens p list ≡ all_tokens p nodes.items) }
     ensures entries { IfOk result (λ list. (p : Length) (level : ℕ)
         → tree_entries p level list ≡ all_entries p level nodes.items) }
 {

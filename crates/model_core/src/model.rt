@@ -121,8 +121,8 @@ impl Model {
             (flat_edit self.old.document ops.now) }
         ensures paired { IsPaired self.old.document.units → All (λ op. IsPaired op.text) ops.now
             → IsPaired self.new.document.units }
-        ensures paired_state { All (λ op. IsPaired op.text) ops.now → IsPairedState self.old.document
-            → IsPairedState self.new.document }
+        ensures paired_state { All (λ op. IsPaired op.text) ops.now
+            → IsPairedState self.old.document → IsPairedState self.new.document }
         ensures fresh { KeptAfter result self.old.fresh self.new.fresh }
     {
         let batch = Batch::checked(self.alloc, ops, &self.text).map_err(error_of)?;
