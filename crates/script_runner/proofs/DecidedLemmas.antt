@@ -1,12 +1,12 @@
 -- What was written for some lines tells the replies, and with them the document.
-use Rattle.std.proofs.Common.{◌≡◌, ◌⊎◌, inl, inr, ℕ, Bool, true, false, List, [], ◌∷◌, ◌++◌, codes, append_assoc, refl, ap, sym, ◌∙◌, subst}
+use Rattle.std.proofs.Common.{◌≡◌, ◌⊎◌, inl, inr, ℕ, true, false, List, [], ◌∷◌, ◌++◌, codes, append_assoc, refl, ap, sym, ◌∙◌, subst}
 use Rattle.std.specs.Prelude.{MatchBool}
 use Rattle.std.specs.List.{All}
 use Rattle.std.proofs.lemmas.List.{append_cancel_left}
 use Rattle.std.proofs.lemmas.List.Elements.{All-nil, All-cons}
 use Rattle.document_rules.specs.Document.{FlatState}
 use Rattle.script_runner.specs.Step.{memory_reply, Answers, answered, out_of_memory}
-use Rattle.script_runner.specs.Script.{Lines, cut, IsInOneLine, IsOneLine, IsDecided, has_reply, turn, written, Turn, Transcript}
+use Rattle.script_runner.specs.Script.{cut, IsInOneLine, IsOneLine, IsDecided, has_reply, turn, written, Turn, Transcript}
 use Rattle.script_runner.proofs.CutLemmas.{cut-append_break}
 use Rattle.script_runner.proofs.ReplyLemmas.{IsFlatReply, flat_turn}
 

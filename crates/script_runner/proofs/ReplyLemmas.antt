@@ -1,13 +1,12 @@
 -- Each flat reply is one line, and none is `! memory`.
-use Rattle.std.proofs.Common.{◌≡◌, ℕ, zero, suc, ◌+◌, ◌/◌, ◌%◌, ◌<◌, ◌≤◌, Bool, true, false, cond, ltb, eqb, ◌||◌, List, [], ◌∷◌, ◌++◌, length, unwrap_or, Option, Some, None, Result, Ok, Err, codes, refl, ap, sym, ◌∙◌, subst, arith}
+use Rattle.std.proofs.Common.{◌≡◌, ℕ, zero, suc, ◌+◌, ◌/◌, ◌%◌, ◌≤◌, Bool, true, false, cond, ltb, eqb, List, [], ◌∷◌, ◌++◌, length, unwrap_or, Option, Some, None, Result, Ok, Err, codes, refl, ap, ◌∙◌, arith}
 use Rattle.std.specs.List.{flat_map}
-use Rattle.std.specs.Fmt.{decimal, digits, digits_onto, digit_glyph}
+use Rattle.std.specs.Fmt.{digits, digits_onto, digit_glyph}
 use Rattle.std.specs.Char.{digit_char}
 use Rattle.std.specs.Char.Utf16.{utf16_lossy_chars}
 use Rattle.std.specs.Str.{bytes_eq, encode_utf8_all}
 use lib.Utf8.{encode}
 use Rattle.std.proofs.lemmas.Bool.{ne_eqb, ltb-false, both_ways}
-use Rattle.std.proofs.lemmas.List.{append-nil}
 use Rattle.text_lengths.specs.declared.Position.{Position}
 use Rattle.unit_text.specs.Text.{quoted_char, quoted}
 use Rattle.decoration_rules.specs.declared.Deco.{Deco}
@@ -25,7 +24,7 @@ use Rattle.script_lines.specs.Commands.{command_of}
 use Rattle.script_lines.specs.Replies.{number_part, text_part, ok_reply, none_reply, text_reply, refusal_reply}
 use Rattle.text_rules.specs.declared.Op.{Op}
 use Rattle.script_runner.specs.Step.{reason_of, memory_reply, ops_at, deco_numbers, changed, moved, decorated, edited_at, text_answer, offset_answer, position_answer, deco_answer, decos_answer, status_letter, entry_part, entries_reply, brackets_answer, match_answer, level_answer, step}
-use Rattle.script_runner.specs.Script.{cut, after_byte, IsInOneLine, IsOneLine, commanded, is_too_long, turn}
+use Rattle.script_runner.specs.Script.{after_byte, IsInOneLine, IsOneLine, commanded, is_too_long, turn}
 use Rattle.script_runner.proofs.CutLemmas.{cut-append_line}
 
 -- ---- bytes with no LF among them

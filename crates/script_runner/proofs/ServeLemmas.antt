@@ -1,5 +1,5 @@
 -- How a whole script is served.
-use Rattle.std.proofs.Common.{◌≡◌, ℕ, ◌+◌, ◌-◌, ◌≤◌, ◌<◌, ◌^◌, min, true, false, List, [], ◌∷◌, ◌++◌, length, take, append_assoc, length-append, refl, ap, sym, ◌∙◌, subst, arith, inl, inr, Result, Ok, Err, is_err}
+use Rattle.std.proofs.Common.{◌≡◌, ℕ, ◌+◌, ◌-◌, ◌≤◌, ◌<◌, ◌^◌, min, true, false, List, [], ◌∷◌, ◌++◌, length, take, length-append, refl, ap, sym, ◌∙◌, subst, arith, inl, inr, Result, Ok, Err, is_err}
 use Rattle.std.specs.Bool.{⊤}
 use Rattle.std.proofs.lemmas.Bool.{cases_lt, and_left, and_from, ne_eqb, eq-eqb, lt-ltb}
 use Rattle.std.proofs.lemmas.List.{append-nil, nil_from_length, length-take-le}
@@ -10,8 +10,8 @@ use Rattle.script_streams.specs.declared.Failed.{Failed}
 use Rattle.script_streams.specs.Streams.{SourceState, SinkState, Took, Gave, Given, NotGiven, Rose, greatest_count}
 use Rattle.script_streams.proofs.StreamLaws.{Took-append, Took-nothing, Gave-append, Gave-nothing}
 use Rattle.script_runner.specs.declared.serving.Progress.{Progress}
-use Rattle.script_runner.specs.Script.{cut, most_line_bytes, whole_lines, last_line, all_lines, written}
-use Rattle.script_runner.specs.Progress.{IsLineSoFar, refusals, memory_refusals, Led, Broken, LineAnswered, LineBroken, PieceAnswered, PieceBroken, AnswersPiece}
+use Rattle.script_runner.specs.Script.{cut, most_line_bytes, whole_lines, last_line, written}
+use Rattle.script_runner.specs.Progress.{IsLineSoFar, refusals, memory_refusals, Led, LineAnswered, LineBroken, PieceAnswered, PieceBroken, AnswersPiece}
 use Rattle.script_runner.specs.declared.serving.Served.{Served}
 use Rattle.script_runner.specs.declared.serving.Served.TheVariants.{Ended, ReadFault, WriteFault, TooLong}
 use Rattle.script_runner.specs.Serving.{Serves, Finishes, RoseBy, Finished, FinishBroken, ServedAll, ServedToReadFault, ServedToWriteFault, ServedToLimit}

@@ -1,12 +1,12 @@
 -- A script, line by line, and the replies that may answer it.
-use Rattle.std.specs.Prelude.{◌≡◌, ◌⊎◌, ℕ, codes, ◌^◌, ◌||◌, ◌==◌, nat_lt, not, Bool, true, false, MatchBool, if◌then◌else◌, List, [], ◌∷◌, ◌++◌, length, Option, Some, None}
+use Rattle.std.specs.Prelude.{◌≡◌, ◌⊎◌, ℕ, codes, ◌^◌, ◌||◌, ◌==◌, nat_lt, not, Bool, false, MatchBool, if◌then◌else◌, List, [], ◌∷◌, ◌++◌, length, Option, Some, None}
 use Rattle.std.specs.List.{All, list_all, flat_map}
 use Rattle.document_rules.specs.Document.{FlatState}
 use Rattle.script_lines.specs.declared.reason.Refusal.TheVariants.{Syntax, Limit}
 use Rattle.script_lines.specs.declared.command.Command.{Command}
 use Rattle.script_lines.specs.Commands.{command_of}
 use Rattle.script_lines.specs.Replies.{refusal_reply}
-use Rattle.script_runner.specs.Step.{step, memory_reply, Answers}
+use Rattle.script_runner.specs.Step.{step, Answers}
 
 -- the lines that LF ends, and what comes after the last LF
 pub record Lines : Type 0 where
