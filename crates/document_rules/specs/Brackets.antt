@@ -1,11 +1,11 @@
 -- The brackets of the flat document: its whole text is parsed for each question.
-use Rattle.std.specs.Prelude.{ℕ, ◌+◌, ◌-◌, ◌^◌, ◌<◌, ◌==◌, ◌||◌, nat_lt, if◌then◌else◌, List, length, map, Option, option_map, Result, Ok, Err}
+use Rattle.std.specs.Prelude.{ℕ, ◌+◌, ◌-◌, ◌^◌, ◌<◌, ◌==◌, ◌||◌, nat_lt, if◌then◌else◌, List, map, Option, option_map, Result, Ok, Err}
 use Rattle.text_lengths.specs.declared.Length.{Length}
 use Rattle.text_lengths.specs.declared.Position.{Position}
 use Rattle.text_rules.specs.Lines.{lines_of}
 use Rattle.text_rules.specs.Positions.{is_position}
 use Rattle.bracket_rules.specs.declared.Entry.{Entry}
-use Rattle.bracket_rules.specs.Parse.{Bracket, Spot, bracket_entries, entries_between, bracket_partner, bracket_level}
+use Rattle.bracket_rules.specs.Parse.{Bracket, bracket_entries, entries_between, bracket_partner, bracket_level}
 use Rattle.bracket_rules.specs.Rows.{text_brackets}
 use Rattle.document_rules.specs.Refusals.{FlatRefusal, range}
 use Rattle.document_rules.specs.Document.{FlatState, flat_line_count}
