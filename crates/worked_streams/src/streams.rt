@@ -1,7 +1,7 @@
 //! What no clause says: that there is memory for the makers, signals and flushes. And what callers learn by contract.
 ghost use Rattle.std.specs.Prelude.{◌≡◌, ◌+◌, ◌^◌, ◌<◌, ◌≤◌, length, ◌++◌, Some, IfOk};
 
-use memory_streams::{Fault, MemSink, MemSource, SureSink, SureSource};
+use memory_streams::{SureSink, SureSource};
 use script_streams::{Failed, Sink, Source, StdSink, StdSource};
 use std::alloc::{AllocError, Global};
 use std::io;
@@ -30,41 +30,6 @@ fn expect_writes<K: Sink>(rt: &impl Abort, sink: &mut K, text: &str, answers: &[
         }
         assert_eq!(rt; written.ok(), *answer, "of {text}");
     }
-}
-
-#[test]
-fn sources_in_memory(rt: HostRuntime) -> Result<(), Fail> {
-    let mut source = SureSource::new(rt.alloc(), b"abcdef", 3)?;
-    expect_reads(&rt, &mut source, &["abc", "def", "", ""]);
-
-    let plan = [Fault::Short { call: 2, most: 2 }, Fault::Fails { call: 3 }];
-    let mut source = MemSource::new(rt.alloc(), b"abcdefg", 3, &plan)?;
-    expect_reads(&rt, &mut source, &["abc", "de", "!"]);
-    assert_eq!(rt; source.left(), b"fg".as_slice());
-    expect_reads(&rt, &mut source, &["fg", ""]);
-    assert_eq!(rt; source.faults(), 1);
-    Ok(())
-}
-
-#[test]
-fn sinks_in_memory(rt: HostRuntime) -> Result<(), Fail> {
-    let mut sink = SureSink::new(rt.alloc(), 4, 3)?;
-    expect_writes(&rt, &mut sink, "abcd", &[Some(3), Some(1)]);
-    assert_eq!(rt; sink.bytes().ok_or("told")?, b"abcd".as_slice());
-    expect_writes(&rt, &mut sink, "e", &[Some(1)]);
-    assert!(rt; sink.bytes().is_none());
-
-    let plan = [Fault::Fails { call: 1 }, Fault::Short { call: 2, most: 2 }];
-    let mut sink = MemSink::new(rt.alloc(), 9, 4, &plan)?;
-    expect_writes(
-        &rt,
-        &mut sink,
-        "abcdefg",
-        &[None, Some(2), Some(4), Some(1)],
-    );
-    assert_eq!(rt; sink.bytes().ok_or("told")?, b"abcdefg".as_slice());
-    assert_eq!(rt; sink.faults(), 1);
-    Ok(())
 }
 
 /// Writes two pieces into a sink with just enough room for both. That it tells both then is said by contract, with no
