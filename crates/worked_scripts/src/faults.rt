@@ -1,10 +1,10 @@
 //! Scripts under reads and writes that fail or come short.
 
 use crate::runs::{ALL, Stream, expect_run};
-use memory_streams::{Fault, MemSink, MemSource, SureSink};
+use memory_streams::{Fault, MemSink, MemSource};
 use model_core::Model;
 use script_runner::{Served, serve};
-use std::alloc::AllocError;
+use std::alloc::{AllocError, Global};
 use std::process::Abort;
 use std::test::Fail;
 
@@ -165,15 +165,19 @@ fn writes_that_fail<R: AllocGlobal + Abort>(rt: &R) -> Result<(), AllocError> {
     Ok(())
 }
 
+/// Serves the script within the budget.
+fn served(alloc: Global, src: &mut MemSource, out: &mut MemSink, most: u64) -> Served {
+    let mut buf = [0; 8];
+    serve(alloc, &mut Model::new(alloc), src, out, &mut buf, most)
+}
+
 /// One write comes after a short one: it is offered all that is left of the reply.
 #[test]
 fn a_write_after_a_short_one(rt: HostRuntime) -> Result<(), Fail> {
-    let mut model = Model::new(rt.alloc());
     let mut src = MemSource::new(rt.alloc(), SIZE, 64, &[])?;
     let mut out = MemSink::new(rt.alloc(), 64, 64, &[Fault::Short { call: 1, most: 3 }])?;
-    let mut buf = [0; 8];
-    let served = serve(rt.alloc(), &mut model, &mut src, &mut out, &mut buf, 64);
-    assert_eq!(rt; served, ENDED);
+    let ended = served(rt.alloc(), &mut src, &mut out, 64);
+    assert_eq!(rt; ended, ENDED);
     assert_eq!(rt; out.bytes(), Some(ONE_REPLY));
     assert_eq!(rt; out.calls(), 2);
     Ok(())
@@ -191,12 +195,13 @@ fn a_budget_of_bytes(rt: HostRuntime) -> Result<(), Fail> {
         (64, 4, ONE_REPLY, ENDED),
     ];
     for (most, reads, written, ended) in cases {
-        let mut model = Model::new(rt.alloc());
         let mut src = MemSource::new(rt.alloc(), SIZE, 7, &[])?;
-        let mut out = SureSink::new(rt.alloc(), 64, 7)?;
-        let mut buf = [0; 8];
-        let served = serve(rt.alloc(), &mut model, &mut src, &mut out, &mut buf, most);
-        assert_eq!(rt; served, ended, "with {most} bytes");
+        let mut out = MemSink::new(rt.alloc(), 64, 7, &[])?;
+        assert_eq!(rt;
+            served(rt.alloc(), &mut src, &mut out, most),
+            ended,
+            "with {most} bytes"
+        );
         assert_eq!(rt; out.bytes(), Some(written), "with {most} bytes");
         assert_eq!(rt; src.calls(), reads, "with {most} bytes");
         assert_eq!(rt; src.reads_past_end(), 0, "with {most} bytes");

@@ -4,7 +4,7 @@ ghost use Rattle.memory_streams.specs.Plan.{GivesSomething};
 
 use memory_streams::{Fault, MemSink, MemSource, SureSink};
 use script_runner::run_words;
-use std::alloc::AllocError;
+use std::alloc::{AllocError, Global};
 use std::process::Abort;
 
 /// How a stream in memory behaves.
@@ -21,6 +21,21 @@ pub const ALL: Stream<'static> = Stream {
     plan: &[],
 };
 
+/// Runs the program with the words of the line.
+pub fn run_line(
+    alloc: Global,
+    line: &str,
+    src: &mut MemSource,
+    out: &mut MemSink,
+    err: &mut SureSink,
+) -> Result<u8, AllocError> {
+    let mut words = Vec::new(alloc);
+    for word in line.split_whitespace() {
+        words.push(String::from_str(alloc, word)?)?;
+    }
+    Ok(run_words(alloc, words.as_slice(), src, out, err))
+}
+
 /// Runs the words `run` over the script, and expects what is written and the status.
 pub fn expect_run<R: AllocGlobal + Abort>(
     rt: &R,
@@ -36,12 +51,10 @@ pub fn expect_run<R: AllocGlobal + Abort>(
     requires plan { All GivesSomething source.plan.now }
 {
     let alloc = rt.alloc();
-    let mut words = Vec::new(alloc);
-    words.push(String::from_str(alloc, "run")?)?;
     let mut src = MemSource::new(alloc, script, source.each, source.plan)?;
     let mut out = MemSink::new(alloc, 0x1_0000, sink.each, sink.plan)?;
     let mut err = SureSink::new(alloc, 4096, 1)?;
-    let ended = run_words(alloc, words.as_slice(), &mut src, &mut out, &mut err);
+    let ended = run_line(alloc, "run", &mut src, &mut out, &mut err)?;
     assert_eq!(rt; out.bytes(), Some(written), "{name}");
     assert_eq!(rt; ended, status, "{name}");
     assert_eq!(rt; err.bytes(), Some(b"".as_slice()), "{name}");
