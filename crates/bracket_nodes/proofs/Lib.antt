@@ -6,3 +6,4 @@ pub mod EntryWalk
 pub mod Parsing
 pub mod ScannedSteps
 pub mod Scans
+pub mod JoinedLists

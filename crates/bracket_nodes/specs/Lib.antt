@@ -7,5 +7,4 @@ pub mod Lists
 pub mod SharedLists
 pub mod Walks
 pub mod Source
-pub mod Openings
 pub mod ScannedLines

@@ -1,6 +1,8 @@
 // Many nodes joined to one list.
-ghost use Rattle.std.specs.Prelude.{◌≡◌, ◌+◌, ◌<◌, ◌^◌, ◌++◌, [], IfOk, OnOk};
-ghost use Rattle.bracket_rules.specs.Tree.{weight, items, all_items, all_weight};
+ghost use Rattle.std.specs.Prelude.{◌≡◌, ℕ, ◌+◌, ◌<◌, ◌^◌, ◌++◌, [], IfOk, OnOk};
+ghost use Rattle.bracket_rules.specs.Items.{all_length, all_tokens, all_entries};
+ghost use Rattle.bracket_rules.specs.Tree.{weight, items, tree_length, tree_tokens, tree_entries, all_items, all_weight};
+ghost use Rattle.text_lengths.specs.declared.Length.{Length};
 ghost use Rattle.bracket_nodes.specs.SharedLists.{Takes, shared_items, shared_weight};
 
 use crate::lists::{Shared, join};
@@ -9,11 +11,17 @@ use crate::node::Node;
 use std::alloc::{AllocError, Global};
 use std::rc::Rc;
 
-/// The list of the nodes, in order, as a (2,3)-tree. Of no nodes it is the empty list.
+/// The list of the nodes, in order, as a (2,3)-tree. Of no nodes it is the empty list. Wherever it stands, it shows what
+/// the nodes show there one after another.
 pub fn concat(alloc: Global, nodes: Vec<Node>) -> Result<Node, AllocError>
     requires fits { all_weight nodes.items < 2 ^ 64 }
     ensures in_order { IfOk result (λ list. items list ≡ all_items nodes.items) }
     ensures weighs { IfOk result (λ list. weight list ≡ all_weight nodes.items) }
+    ensures length { IfOk result (λ list. tree_length list ≡ all_length nodes.items) }
+    ensures tokens { IfOk result (λ list. (p : Length)
+        → tree_tokens p list ≡ all_tokens p nodes.items) }
+    ensures entries { IfOk result (λ list. (p : Length) (level : ℕ)
+        → tree_entries p level list ≡ all_entries p level nodes.items) }
 {
     let mut joiner = Joiner::new(alloc);
     for node in nodes {

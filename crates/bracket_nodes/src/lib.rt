@@ -20,6 +20,3 @@ pub use makers::{capped_node, pair_node, stray_node, text_node};
 pub use node::Node;
 pub use parser::{Next, Source, parse};
 pub use scanned::{ScannedLine, parse_lines};
-
-#[cfg(test)]
-mod tests;

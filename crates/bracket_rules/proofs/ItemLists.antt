@@ -271,3 +271,41 @@ pub all_items-append : (xs ys : List Tree) → all_items (xs ++ ys) ≡ all_item
 all_items-append [] ys = refl
 all_items-append (x ∷ xs) ys =
     ap (λ (z : List Tree). items x ++ z) (all_items-append xs ys) ∙ sym (append_assoc (items x) (all_items xs) (all_items ys))
+
+-- ---- many trees, by their items together
+
+pub all_length-all_items : (ts : List Tree) → all_length (all_items ts) ≡ all_length ts
+all_length-all_items [] = refl
+all_length-all_items (t ∷ ts) =
+    all_length-append (items t) (all_items ts)
+    ∙ ap (λ (l : Length). length_plus l (all_length (all_items ts))) (all_length-items t)
+    ∙ ap (length_plus (tree_length t)) (all_length-all_items ts)
+
+pub all_tokens-all_items : (p : Length) (ts : List Tree) → all_tokens p (all_items ts) ≡ all_tokens p ts
+all_tokens-all_items p [] = refl
+all_tokens-all_items p (t ∷ ts) =
+    let both = spread-append tree_tokens p (items t) (all_items ts) in
+    let first = all_tokens-items p t in
+    let rest = all_tokens-all_items (length_plus p (tree_length t)) ts in
+    let t_length = all_length-items t in
+    cc
+
+pub all_entries-all_items : (p : Length) (level : ℕ) (ts : List Tree) → all_entries p level (all_items ts) ≡ all_entries p level ts
+all_entries-all_items p level [] = refl
+all_entries-all_items p level (t ∷ ts) =
+    let both = spread-append (entries_at level) p (items t) (all_items ts) in
+    let first = all_entries-items p level t in
+    let rest = all_entries-all_items (length_plus p (tree_length t)) level ts in
+    let t_length = all_length-items t in
+    cc
+
+-- a list shows what the trees whose items it has show, one after another
+module _ (list : Tree) (ts : List Tree) (in_order : items list ≡ all_items ts) where
+  pub list_length : tree_length list ≡ all_length ts
+  list_length = sym (all_length-items list) ∙ ap all_length in_order ∙ all_length-all_items ts
+
+  pub list_tokens : (p : Length) → tree_tokens p list ≡ all_tokens p ts
+  list_tokens p = sym (all_tokens-items p list) ∙ ap (all_tokens p) in_order ∙ all_tokens-all_items p ts
+
+  pub list_entries : (p : Length) (level : ℕ) → tree_entries p level list ≡ all_entries p level ts
+  list_entries p level = sym (all_entries-items p level list) ∙ ap (all_entries p level) in_order ∙ all_entries-all_items p level ts

@@ -30,6 +30,19 @@ closed_from_the_line_above :
     ≡ entry 0 0 1 0 PairedOpening 0 ∷ entry 1 0 1 0 PairedClosing 0 ∷ []
 closed_from_the_line_above = refl
 
+-- `(x` and `)`
+abbrev pair_over_lines : List (List ℕ)
+pair_over_lines = (40 ∷ 120 ∷ []) ∷ (41 ∷ []) ∷ []
+
+partner_on_the_line_above : bracket_partner (text_brackets standard_table pair_over_lines) (length_of 1 0) ≡ Some (spot no_length 1)
+partner_on_the_line_above = refl
+
+level_on_a_later_line : bracket_level (text_brackets standard_table pair_over_lines) (length_of 1 0) ≡ 1
+level_on_a_later_line = refl
+
+level_behind_a_later_line : bracket_level (text_brackets standard_table pair_over_lines) (length_of 1 1) ≡ 0
+level_behind_a_later_line = refl
+
 -- `([)]{`
 abbrev crossed : List (List ℕ)
 crossed = (40 ∷ 91 ∷ 41 ∷ 93 ∷ 123 ∷ []) ∷ []
@@ -42,6 +55,9 @@ entries_of_crossed = refl
 
 partner_of_first : bracket_partner (text_brackets standard_table crossed) no_length ≡ Some (spot (length_of 0 2) 1)
 partner_of_first = refl
+
+partner_of_closing : bracket_partner (text_brackets standard_table crossed) (length_of 0 2) ≡ Some (spot no_length 1)
+partner_of_closing = refl
 
 unclosed_has_no_partner : bracket_partner (text_brackets standard_table crossed) (length_of 0 1) ≡ None
 unclosed_has_no_partner = refl

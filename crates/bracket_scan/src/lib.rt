@@ -8,6 +8,3 @@ mod table;
 
 pub use bracket_rules::Token;
 pub use table::{BracketTable, TableError};
-
-#[cfg(test)]
-mod tests;

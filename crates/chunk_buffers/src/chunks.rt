@@ -51,6 +51,7 @@ impl Chunks {
         ensures ok { OnOk result (texts + units ≤ self.new.spare) }
         ensures same { Extends self.old.buffers self.new.buffers }
         ensures units { unit_count self.new.buffers ≡ unit_count self.old.buffers }
+        ensures kept { self.old.spare ≤ self.new.spare }
         ensures err { OnErr result (self.new ≡ self.old) }
     {
         let room = texts.checked_add(units).ok_or(AllocError)? as usize;

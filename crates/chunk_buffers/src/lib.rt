@@ -7,6 +7,3 @@ mod span;
 
 pub use chunks::Chunks;
 pub use span::ChunkSpan;
-
-#[cfg(test)]
-mod tests;

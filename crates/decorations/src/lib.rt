@@ -6,6 +6,3 @@ mod set;
 
 pub use decoration_rules::{Deco, DecoError, Edit, NewDeco};
 pub use set::DecoSet;
-
-#[cfg(test)]
-mod tests;

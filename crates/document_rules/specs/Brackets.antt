@@ -1,14 +1,13 @@
 -- The brackets of the flat document: its whole text is parsed for each question.
-use Rattle.std.specs.Prelude.{ℕ, ◌+◌, ◌-◌, ◌^◌, ◌<◌, ◌==◌, ◌||◌, nat_lt, if◌then◌else◌, List, length, map, Option, option_map, Result, Ok, Err}
+use Rattle.std.specs.Prelude.{ℕ, ◌+◌, ◌-◌, ◌^◌, ◌<◌, ◌==◌, ◌||◌, nat_lt, if◌then◌else◌, List, map, Option, option_map, Result, Ok, Err}
 use Rattle.text_lengths.specs.declared.Length.{Length}
 use Rattle.text_lengths.specs.declared.Position.{Position}
 use Rattle.text_rules.specs.Lines.{lines_of}
 use Rattle.text_rules.specs.Positions.{is_position}
 use Rattle.bracket_rules.specs.declared.Entry.{Entry}
-use Rattle.bracket_rules.specs.Parse.{Bracket, Spot, bracket_entries, entries_between, bracket_partner, bracket_level}
+use Rattle.bracket_rules.specs.Parse.{Bracket, bracket_entries, entries_between, bracket_partner, bracket_level}
 use Rattle.bracket_rules.specs.Rows.{text_brackets}
-use Rattle.document_rules.specs.declared.ModelError.{ModelError}
-use Rattle.document_rules.specs.declared.ModelError.TheVariants.{Range}
+use Rattle.document_rules.specs.Refusals.{FlatRefusal, range}
 use Rattle.document_rules.specs.Document.{FlatState, flat_line_count}
 
 -- what stands in each line
@@ -29,20 +28,20 @@ abbrev pub place_of : Position → Length
 place_of p = record { lines = p.line - 1; columns = p.column - 1 }
 
 -- the entries of the lines from one to another
-abbrev pub flat_brackets : FlatState → ℕ → ℕ → Result (List Entry) ModelError
+abbrev pub flat_brackets : FlatState → ℕ → ℕ → Result (List Entry) FlatRefusal
 flat_brackets f from to =
-    if from == 0 || nat_lt to from || nat_lt (flat_line_count f) to then Err Range
+    if from == 0 || nat_lt to from || nat_lt (flat_line_count f) to then Err range
     else Ok (entries_between (from - 1) (to - 1) (bracket_entries (brackets_of f)))
 
 abbrev pub position_at : Length → Position
 position_at place = record { line = place.lines + 1; column = place.columns + 1 }
 
 -- where the other bracket of the pair of which one starts at this position starts, and how many units it has
-abbrev pub flat_match : FlatState → Position → Result (Option (Position × ℕ)) ModelError
+abbrev pub flat_match : FlatState → Position → Result (Option (Position × ℕ)) FlatRefusal
 flat_match f p =
     if is_position f.units p then Ok (option_map (λ spot. (position_at spot.place, spot.len)) (bracket_partner (brackets_of f) (place_of p)))
-    else Err Range
+    else Err range
 
 -- how many brackets are open after those that start before this position
-abbrev pub flat_level : FlatState → Position → Result ℕ ModelError
-flat_level f p = if is_position f.units p then Ok (bracket_level (brackets_of f) (place_of p)) else Err Range
+abbrev pub flat_level : FlatState → Position → Result ℕ FlatRefusal
+flat_level f p = if is_position f.units p then Ok (bracket_level (brackets_of f) (place_of p)) else Err range

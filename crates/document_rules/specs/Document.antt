@@ -1,6 +1,6 @@
 -- The flat document: one list of units and one of decorations, changed by the rule of each call. What can be undone is
 -- kept as whole texts.
-use Rattle.std.specs.Prelude.{ℕ, ◌+◌, ◌-◌, ◌^◌, Bool, false, nat_lt, nat_le, if◌then◌else◌, List, [], ◌∷◌, length, map, take, drop, Option, Some, None, Result, Ok, Err}
+use Rattle.std.specs.Prelude.{ℕ, ◌+◌, ◌-◌, ◌^◌, false, nat_lt, nat_le, if◌then◌else◌, List, [], ◌∷◌, length, map, take, drop, Option, Some, None, Result, Ok, Err}
 use Rattle.text_lengths.specs.declared.Position.{Position}
 use Rattle.text_lengths.specs.declared.Span.{Span}
 use Rattle.unit_text.specs.Units.{is_place}
@@ -20,8 +20,7 @@ use Rattle.decoration_rules.specs.declared.DecoError.TheVariants as undecorated
 use Rattle.decoration_rules.specs.Marks.{carried}
 use Rattle.decoration_rules.specs.Decorations.{Decorations, no_decorations, decorated, deco_at, decos_in}
 use Rattle.edit_stack.specs.Stack.{Step, Stack, empty_stack, pushed, stopped, undone, redone}
-use Rattle.document_rules.specs.declared.ModelError.{ModelError}
-use Rattle.document_rules.specs.declared.ModelError.TheVariants.{Unknown, Range, Overlap, Limit, Memory}
+use Rattle.document_rules.specs.Refusals.{FlatRefusal, unknown, range, overlap, limit}
 
 abbrev pub greatest_version : ℕ
 greatest_version = 2 ^ 63 - 1
@@ -53,8 +52,8 @@ new_document units table =
 abbrev pub empty_document : FlatState
 empty_document = new_document [] standard_table
 
-abbrev pub flat_open : List ℕ → Table → Result FlatState ModelError
-flat_open text table = if nat_lt most_units (length text) then Err Limit else Ok (new_document text table)
+abbrev pub flat_open : List ℕ → Table → Result FlatState FlatRefusal
+flat_open text table = if nat_lt most_units (length text) then Err limit else Ok (new_document text table)
 
 -- an op as decorations see it
 abbrev pub edit_of : Op → Edit
@@ -74,18 +73,19 @@ after_batch f ops sorted = record f {
   history = pushed f.history (record { before = f.units; ops = sorted; after = applied f.units ops }) f.alternative (f.version + 1);
 }
 
-abbrev pub error_of : BatchError → ModelError
-error_of refused.Range = Range
-error_of refused.Overlap = Overlap
-error_of refused.Limit = Limit
-error_of refused.Memory = Memory
+-- why a batch is refused; its rule never wants memory
+abbrev pub batch_refusal : BatchError → FlatRefusal
+batch_refusal refused.Range = range
+batch_refusal refused.Overlap = overlap
+batch_refusal refused.Limit = limit
+batch_refusal refused.Memory = limit
 
-abbrev pub edited_by : FlatState → List Op → Result (List Op) BatchError → Result FlatState ModelError
-edited_by f ops (Err e) = Err (error_of e)
-edited_by f ops (Ok sorted) = if nat_le greatest_version f.version then Err Limit else Ok (after_batch f ops sorted)
+abbrev pub edited_by : FlatState → List Op → Result (List Op) BatchError → Result FlatState FlatRefusal
+edited_by f ops (Err e) = Err (batch_refusal e)
+edited_by f ops (Ok sorted) = if nat_le greatest_version f.version then Err limit else Ok (after_batch f ops sorted)
 
 -- a batch of edits at once
-abbrev pub flat_edit : FlatState → List Op → Result FlatState ModelError
+abbrev pub flat_edit : FlatState → List Op → Result FlatState FlatRefusal
 flat_edit f ops = edited_by f ops (checked_batch f.units ops)
 
 -- the next edit begins a step of undo
@@ -120,37 +120,38 @@ abbrev pub returned : FlatState → List ℕ → ℕ → Decorations → Stack F
 returned f units alternative decorations history =
     record f { units = units; version = f.version + 1; alternative = alternative; decorations = decorations; history = history }
 
-abbrev pub unless_last_version : FlatState → FlatState → Result (Option FlatState) ModelError
-unless_last_version f new = if nat_le greatest_version f.version then Err Limit else Ok (Some new)
+abbrev pub unless_last_version : FlatState → FlatState → Result (Option FlatState) FlatRefusal
+unless_last_version f new = if nat_le greatest_version f.version then Err limit else Ok (Some new)
 
-abbrev pub undone_step : FlatState → List (Step FlatChange) → Result (Option FlatState) ModelError
+abbrev pub undone_step : FlatState → List (Step FlatChange) → Result (Option FlatState) FlatRefusal
 undone_step f [] = Ok None
 undone_step f (step ∷ steps) = unless_last_version f (returned f (text_before f.units step.changes) step.alt_before (carried_back f.decorations step.changes) (undone f.history))
 
 -- back to the text before the last step; nothing where there is none
-abbrev pub flat_undo : FlatState → Result (Option FlatState) ModelError
+abbrev pub flat_undo : FlatState → Result (Option FlatState) FlatRefusal
 flat_undo f = undone_step f f.history.undo
 
-abbrev pub redone_step : FlatState → List (Step FlatChange) → Result (Option FlatState) ModelError
+abbrev pub redone_step : FlatState → List (Step FlatChange) → Result (Option FlatState) FlatRefusal
 redone_step f [] = Ok None
 redone_step f (step ∷ steps) = unless_last_version f (returned f (text_after f.units step.changes) step.alt_after (carried_on f.decorations step.changes) (redone f.history))
 
 -- on to the text after the step that was undone last; nothing where there is none
-abbrev pub flat_redo : FlatState → Result (Option FlatState) ModelError
+abbrev pub flat_redo : FlatState → Result (Option FlatState) FlatRefusal
 flat_redo f = redone_step f f.history.redo
 
-abbrev pub refusal_of : DecoError → ModelError
-refusal_of undecorated.Unknown = Unknown
-refusal_of undecorated.Range = Range
-refusal_of undecorated.Limit = Limit
-refusal_of undecorated.Memory = Memory
+-- why decorations are not changed; their rule never wants memory
+abbrev pub decoration_refusal : DecoError → FlatRefusal
+decoration_refusal undecorated.Unknown = unknown
+decoration_refusal undecorated.Range = range
+decoration_refusal undecorated.Limit = limit
+decoration_refusal undecorated.Memory = limit
 
-abbrev pub with_decorations : FlatState → Result Decorations DecoError → Result FlatState ModelError
-with_decorations f (Err e) = Err (refusal_of e)
+abbrev pub with_decorations : FlatState → Result Decorations DecoError → Result FlatState FlatRefusal
+with_decorations f (Err e) = Err (decoration_refusal e)
 with_decorations f (Ok d) = Ok (record f { decorations = d })
 
 -- decorations of one owner go, and new ones come
-abbrev pub flat_decorate : FlatState → ℕ → List ℕ → List NewDeco → Result FlatState ModelError
+abbrev pub flat_decorate : FlatState → ℕ → List ℕ → List NewDeco → Result FlatState FlatRefusal
 flat_decorate f owner remove add = with_decorations f (decorated f.decorations owner remove add f.units)
 
 -- the live decoration of this id
@@ -158,20 +159,20 @@ abbrev pub flat_deco : FlatState → ℕ → Option Deco
 flat_deco f id = deco_at f.decorations id
 
 -- those that touch the span, of all owners or of one
-abbrev pub flat_decos : FlatState → Span → Option ℕ → Result (List Deco) ModelError
-flat_decos f span owner = if is_bad_span f.units span then Err Range else Ok (decos_in f.decorations span owner)
+abbrev pub flat_decos : FlatState → Span → Option ℕ → Result (List Deco) FlatRefusal
+flat_decos f span owner = if is_bad_span f.units span then Err range else Ok (decos_in f.decorations span owner)
 
-abbrev pub content_of : Option Line → Result (List ℕ) ModelError
-content_of None = Err Range
+abbrev pub content_of : Option Line → Result (List ℕ) FlatRefusal
+content_of None = Err range
 content_of (Some line) = Ok line.content
 
 -- the content of the line of this number
-abbrev pub flat_line : FlatState → ℕ → Result (List ℕ) ModelError
+abbrev pub flat_line : FlatState → ℕ → Result (List ℕ) FlatRefusal
 flat_line f n = content_of (line_at f.units n)
 
 -- the units of a span
-abbrev pub flat_value : FlatState → Span → Result (List ℕ) ModelError
-flat_value f span = if is_bad_span f.units span then Err Range else Ok (take (span.end - span.start) (drop span.start f.units))
+abbrev pub flat_value : FlatState → Span → Result (List ℕ) FlatRefusal
+flat_value f span = if is_bad_span f.units span then Err range else Ok (take (span.end - span.start) (drop span.start f.units))
 
 -- where the offset is, by line and column; none where it is no place
 abbrev pub flat_position : FlatState → ℕ → Option Position

@@ -1,5 +1,5 @@
 -- Worked examples of the rules.
-use Rattle.std.specs.Prelude.{◌≡◌, ℕ, List, [], ◌∷◌, Ok, Err, Option, Some, None, codes, false, true, refl}
+use Rattle.std.specs.Prelude.{◌≡◌, ℕ, List, [], ◌∷◌, Result, Ok, Err, Option, Some, None, codes, false, true, refl}
 use Rattle.text_rules.specs.declared.Op.{Op}
 use Rattle.decoration_rules.specs.declared.Deco.{Deco}
 use Rattle.decoration_rules.specs.declared.Sticky.TheVariants.{AlwaysGrows}
@@ -9,8 +9,8 @@ use Rattle.bracket_rules.specs.declared.Entry.{Entry}
 use Rattle.bracket_rules.specs.declared.Status.{Status}
 use Rattle.bracket_rules.specs.declared.Status.TheVariants.{PairedOpening, PairedClosing, Unclosed, Unexpected}
 use Rattle.document_rules.specs.Brackets.{flat_brackets, flat_match, flat_level}
-use Rattle.document_rules.specs.declared.ModelError.TheVariants.{Range, Overlap, Limit}
-use Rattle.document_rules.specs.Document.{FlatState, new_document, after_batch, flat_edit, flat_undo, flat_redo, flat_decorate, flat_deco, carried_on, flat_line, flat_value, flat_position, flat_offset, flat_line_count, greatest_version}
+use Rattle.document_rules.specs.Refusals.{FlatRefusal, range, overlap, limit}
+use Rattle.document_rules.specs.Document.{FlatState, new_document, after_batch, flat_edit, flat_undo, flat_redo, flat_decorate, flat_deco, flat_decos, carried_on, flat_line, flat_value, flat_position, flat_offset, flat_line_count, greatest_version}
 
 abbrev op : ℕ → ℕ → List ℕ → Op
 op start end text = record { span = record { start = start; end = end }; text = text; force = false }
@@ -30,13 +30,13 @@ an_edit_over_a_break : flat_edit (new_document (codes "ab\ncd") standard_table) 
     })
 an_edit_over_a_break = refl
 
-an_edit_past_the_end : flat_edit (new_document (codes "ab") standard_table) (op 1 3 (codes "X") ∷ []) ≡ Err Range
+an_edit_past_the_end : flat_edit (new_document (codes "ab") standard_table) (op 1 3 (codes "X") ∷ []) ≡ Err range
 an_edit_past_the_end = refl
 
-two_edits_that_overlap : flat_edit (new_document (codes "abcde") standard_table) (op 1 4 [] ∷ op 3 3 [] ∷ []) ≡ Err Overlap
+two_edits_that_overlap : flat_edit (new_document (codes "abcde") standard_table) (op 1 4 [] ∷ op 3 3 [] ∷ []) ≡ Err overlap
 two_edits_that_overlap = refl
 
-an_edit_at_the_last_version : flat_edit (record (new_document (codes "ab") standard_table) { version = greatest_version }) (op 1 2 (codes "X") ∷ []) ≡ Err Limit
+an_edit_at_the_last_version : flat_edit (record (new_document (codes "ab") standard_table) { version = greatest_version }) (op 1 2 (codes "X") ∷ []) ≡ Err limit
 an_edit_at_the_last_version = refl
 
 -- "a", after an edit has put "b" behind it
@@ -59,7 +59,7 @@ an_undo_takes_back_the_whole_step : flat_undo two_edits
     ≡ Ok (Some (record { units = codes "a"; version = 4; alternative = 1; decorations = no_decorations; table = standard_table; history = record { undo = []; redo = two_edits.history.undo; is_open = false } }))
 an_undo_takes_back_the_whole_step = refl
 
-no_undo_at_the_last_version : flat_undo (record one_edit { version = greatest_version }) ≡ Err Limit
+no_undo_at_the_last_version : flat_undo (record one_edit { version = greatest_version }) ≡ Err limit
 no_undo_at_the_last_version = refl
 
 -- "ab" with a decoration of owner 1 at its one inner place
@@ -84,6 +84,28 @@ forced_insert = after_batch decorated_text (record (op 1 1 (codes "x")) { force 
 a_forced_insert_moves_it : stands_at forced_insert ≡ Some (deco 2 2)
 a_forced_insert_moves_it = refl
 
+-- where the decoration stands after an undo
+abbrev stands_back_at : Result (Option FlatState) FlatRefusal → Option Deco
+stands_back_at (Ok (Some f)) = stands_at f
+stands_back_at (Ok None) = None
+stands_back_at (Err e) = None
+
+an_undo_moves_it_back : stands_back_at (flat_undo forced_insert) ≡ Some (deco 1 1)
+an_undo_moves_it_back = refl
+
+-- ... and after a second insert in the same step, before it
+abbrev second_insert : FlatState
+second_insert = after_batch forced_insert (op 0 0 (codes "yy") ∷ []) (op 0 0 (codes "yy") ∷ [])
+
+a_second_insert_moves_it_on : stands_at second_insert ≡ Some (deco 4 4)
+a_second_insert_moves_it_on = refl
+
+an_undo_moves_it_back_over_both : stands_back_at (flat_undo second_insert) ≡ Some (deco 1 1)
+an_undo_moves_it_back_over_both = refl
+
+it_touches_the_unit_before_it : flat_decos decorated_text (record { start = 0; end = 1 }) None ≡ Ok (deco 1 1 ∷ [])
+it_touches_the_unit_before_it = refl
+
 -- a redo forces nothing: the decoration grows, which it did not at first
 a_redo_forces_nothing : carried_on decorated_text.decorations (record { before = codes "ab"; ops = record (op 1 1 (codes "x")) { force = true } ∷ []; after = codes "axb" } ∷ [])
     ≡ record { marks = record { id = 1; owner = 1; span = record { start = 1; end = 2 }; sticky = AlwaysGrows; collapse = false } ∷ []; next_id = 2 }
@@ -101,7 +123,7 @@ an_empty_text_has_a_line = refl
 units_of_a_span : flat_value (new_document (codes "abcd") standard_table) (record { start = 1; end = 3 }) ≡ Ok (codes "bc")
 units_of_a_span = refl
 
-a_span_past_the_end : flat_value (new_document (codes "abcd") standard_table) (record { start = 1; end = 5 }) ≡ Err Range
+a_span_past_the_end : flat_value (new_document (codes "abcd") standard_table) (record { start = 1; end = 5 }) ≡ Err range
 a_span_past_the_end = refl
 
 position_inside_a_break : flat_position (new_document (codes "a\r\nb") standard_table) 2 ≡ Some (record { line = 1; column = 3 })
@@ -120,7 +142,7 @@ brackets_of_one_line : flat_brackets (new_document (codes "([)]{") standard_tabl
     ≡ Ok (entry 0 0 PairedOpening 0 ∷ entry 1 1 Unclosed 1 ∷ entry 2 0 PairedClosing 0 ∷ entry 3 1 Unexpected 0 ∷ entry 4 2 Unclosed 0 ∷ [])
 brackets_of_one_line = refl
 
-no_second_line_of_brackets : flat_brackets (new_document (codes "()") standard_table) 1 2 ≡ Err Range
+no_second_line_of_brackets : flat_brackets (new_document (codes "()") standard_table) 1 2 ≡ Err range
 no_second_line_of_brackets = refl
 
 the_partner_of_the_first : flat_match (new_document (codes "([)]{") standard_table) (record { line = 1; column = 1 })

@@ -10,6 +10,3 @@ pub use batch::Batch;
 pub use batch_rules::BatchError;
 pub use checks::MOST_UNITS;
 pub use text_rules::Op;
-
-#[cfg(test)]
-mod tests;

@@ -6,6 +6,3 @@ mod stack;
 
 pub use element::Element;
 pub use stack::EditStack;
-
-#[cfg(test)]
-mod tests;

@@ -1,6 +1,6 @@
 //! The two lists.
 
-ghost use Rattle.std.specs.Prelude.{◌≡◌, ◌<◌, length, slice_get, OnOk, option_map};
+ghost use Rattle.std.specs.Prelude.{◌≡◌, ◌<◌, ◌≤◌, length, slice_get, OnOk, option_map};
 ghost use Rattle.std.specs.Option.{option_copied};
 ghost use Rattle.edit_stack.specs.Element.{step_of};
 ghost use Rattle.edit_stack.specs.Stack.{empty_stack, pushed, stopped, undone, redone};
@@ -50,10 +50,11 @@ impl<C: Drop> EditStack<C> {
         }
     }
 
-    /// Makes room for one push. An error leaves the lists as they were.
+    /// Makes room for one push. An error leaves the lists as they were, and room that was there stays.
     pub fn reserve(&mut self) -> Result<(), AllocError>
         ensures room { OnOk result (0 < self.new.spare) }
         ensures stack { self.new.stack ≡ self.old.stack }
+        ensures kept { self.old.spare ≤ self.new.spare }
     {
         self.done.reserve(self.taken_back.len() + 2)?;
         self.taken_back.reserve(self.done.len() + 2)?;

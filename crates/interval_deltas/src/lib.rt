@@ -8,6 +8,3 @@ mod tree;
 pub use decoration_rules::{Edit, Mark, Sticky};
 pub use moves::moved;
 pub use tree::IntervalTree;
-
-#[cfg(test)]
-mod tests;

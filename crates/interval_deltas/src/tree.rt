@@ -53,10 +53,11 @@ impl IntervalTree {
         self.marks.len() as u64
     }
 
-    /// Makes room for `n` more decorations. An error leaves the list as it was.
+    /// Makes room for `n` more decorations. An error leaves the list as it was, and room that was there stays.
     pub fn reserve(&mut self, n: u64) -> Result<(), AllocError>
         ensures room { OnOk result (n ≤ self.new.spare) }
         ensures marks { self.new.marks ≡ self.old.marks }
+        ensures kept { self.old.spare ≤ self.new.spare }
     {
         self.marks.reserve(n as usize)?;
         self.by_id.reserve(n as usize)

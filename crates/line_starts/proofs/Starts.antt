@@ -1,6 +1,11 @@
 -- The definitions of starts by the places at which breaks end.
-use Rattle.std.proofs.Common.{◌≡◌, ℕ, ◌+◌, ◌<◌, true, false, List, [], ◌∷◌, ◌++◌, length, drop, get_or, ap, sym, ◌∙◌, add-zero, add_assoc, append_assoc, arith}
-use Rattle.std.proofs.lemmas.List.{drop_more}
+use Rattle.std.proofs.Common.{◌≡◌, ℕ, ◌+◌, ◌<◌, ◌≤◌, true, false, List, [], ◌∷◌, ◌++◌, length, drop, get_or, ap, sym, ◌∙◌, add-zero, add_assoc, append_assoc, arith}
+use Rattle.std.proofs.lemmas.List.{drop_more, drop_all}
+use Rattle.text_lengths.specs.declared.Length.{Length}
+use Rattle.text_lengths.specs.Length.{length_of, length_plus}
+use Rattle.text_lengths.proofs.Lengths.{plus_none}
+use Rattle.text_rules.specs.Lines.{text_length}
+use Rattle.text_rules.proofs.TextLengths.{counted_break, counted_column}
 use Rattle.line_starts.specs.Starts.{starts_of, break_count, break_ends_at}
 use Rattle.text_rules.proofs.Breaks.{break_ends, ends_break, starts_are, break_ends_moved, line_count_is}
 
@@ -37,3 +42,26 @@ module _ (out whole : List ℕ) (start i : ℕ) (x : List ℕ) (inside : i < len
 -- 0, and then the place after each break
 pub starts_after_0 : (new pushed old x : List ℕ) → pushed ≡ old ++ 0 ∷ [] → new ≡ pushed ++ break_ends_at 0 x → new ≡ old ++ starts_of x
 starts_after_0 new pushed old x first rest = rw (rest, first, break_ends_at_is 0 x, starts_of_is x) (simp append_assoc)
+
+-- ---- the length, counted up to a unit
+
+module _ (lines columns i : ℕ) (x : List ℕ) (total : Length) (inside : i < length x)
+    (so_far : length_plus (length_of lines columns) (text_length (drop i x)) ≡ total) where
+  pub length_at_end : ends_break (get_or x i 0) (drop (i + 1) x) ≡ true
+      → length_plus (length_of (lines + 1) 0) (text_length (drop (i + 1) x)) ≡ total
+  length_at_end e =
+      sym (counted_break lines columns (get_or x i 0) (drop (i + 1) x) e)
+      ∙ ap (λ (s : List ℕ). length_plus (length_of lines columns) (text_length s)) (sym (drop_more x i 0 inside)) ∙ so_far
+
+  pub length_at_other : ends_break (get_or x i 0) (drop (i + 1) x) ≡ false
+      → length_plus (length_of lines (columns + 1)) (text_length (drop (i + 1) x)) ≡ total
+  length_at_other e =
+      sym (counted_column lines columns (get_or x i 0) (drop (i + 1) x) e)
+      ∙ ap (λ (s : List ℕ). length_plus (length_of lines columns) (text_length s)) (sym (drop_more x i 0 inside)) ∙ so_far
+
+-- ... up to the end
+pub length_of_all : (lines columns i : ℕ) (x : List ℕ) → length x ≤ i
+    → length_plus (length_of lines columns) (text_length (drop i x)) ≡ text_length x → length_of lines columns ≡ text_length x
+length_of_all lines columns i x past so_far =
+    sym (plus_none (length_of lines columns))
+    ∙ ap (λ (s : List ℕ). length_plus (length_of lines columns) (text_length s)) (sym (drop_all i x past)) ∙ so_far

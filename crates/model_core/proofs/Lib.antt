@@ -7,3 +7,4 @@ pub mod Carries
 pub mod Inside
 pub mod Kept
 pub mod Scans
+pub mod TreeLength

@@ -3,7 +3,7 @@ use Rattle.std.proofs.Common.{◌≡◌, ℕ, zero, ◌+◌, ◌<◌, ◌≤◌,
 use Rattle.std.proofs.lemmas.Bool.{lt-leb, le-leb}
 use Rattle.batch_rules.specs.Batches.{most_units, applied_from}
 use Rattle.edit_stack.specs.Stack.{Step, Stack, undone, undone_lists, redone, redone_lists}
-use Rattle.document_rules.specs.declared.ModelError.TheVariants.{Limit}
+use Rattle.document_rules.specs.Refusals.{limit}
 use Rattle.document_rules.specs.Document.{FlatState, flat_undo, flat_redo, greatest_version}
 use Rattle.model_core.specs.declared.change.Change.{Change}
 use Rattle.model_core.specs.History.{text_back, text_on, history_of, Leads, LeadBack, LeadOn, StepsLeadBack, StepsLeadOn, IsHistory}
@@ -42,7 +42,7 @@ pub record IsUndo (now : List ℕ) (version alternative : ℕ) (d : Decorations)
   pub history : IsHistory (text_back now step.changes) (undone s)
   pub accepted : version + 1 ≤ greatest_version
       → flat_undo (document_of now version alternative d table s) ≡ Ok (Some (document_of (text_back now step.changes) (version + 1) step.alt_before (decorations_back d step.changes) table (undone s)))
-  pub refused : greatest_version < version + 1 → flat_undo (document_of now version alternative d table s) ≡ Err Limit
+  pub refused : greatest_version < version + 1 → flat_undo (document_of now version alternative d table s) ≡ Err limit
   pub some : 0 < length s.undo
 
 undo_first : (now : List ℕ) (version alternative : ℕ) (d : Decorations) (table : Table) (step : Step Change) (rest redo : List (Step Change)) (is_open : Bool)
@@ -72,7 +72,7 @@ pub record IsRedo (now : List ℕ) (version alternative : ℕ) (d : Decorations)
   pub history : IsHistory (text_on now step.changes) (redone s)
   pub accepted : version + 1 ≤ greatest_version
       → flat_redo (document_of now version alternative d table s) ≡ Ok (Some (document_of (text_on now step.changes) (version + 1) step.alt_after (decorations_on d step.changes) table (redone s)))
-  pub refused : greatest_version < version + 1 → flat_redo (document_of now version alternative d table s) ≡ Err Limit
+  pub refused : greatest_version < version + 1 → flat_redo (document_of now version alternative d table s) ≡ Err limit
   pub some : 0 < length s.redo
 
 redo_first : (now : List ℕ) (version alternative : ℕ) (d : Decorations) (table : Table) (step : Step Change) (undo rest : List (Step Change)) (is_open : Bool)

@@ -1,3 +1,4 @@
+pub mod Errors
 pub mod State
 pub mod History
 pub mod Carrying

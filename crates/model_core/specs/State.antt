@@ -13,6 +13,8 @@ pub record ModelState : Type 0 where
   pub document : FlatState
   -- whether the bracket tree of the text of now is kept
   pub fresh : Bool
+  -- in how many pieces the text lies
+  pub pieces : ℕ
 
 -- a kept tree is that of the text of now
 abbrev pub IsKept : Option Tree → Table → List ℕ → Type 0

@@ -2,10 +2,11 @@
 
 ghost use Rattle.std.specs.Prelude.{◌≡◌, ◌<◌, ◌≤◌, true, false, Some, is_some, length, IfOk, OnOk, OnErr};
 ghost use Rattle.batch_rules.specs.Batches.{most_units};
-ghost use Rattle.text_rules.specs.Lines.{Line, lines_of, line_at};
+ghost use Rattle.text_rules.specs.Lines.{Line, lines_of, line_at, text_length};
 ghost use Rattle.bracket_rules.specs.Rows.{text_rows};
 ghost use Rattle.bracket_rules.specs.Table.{is_table, tokens_of};
 ghost use Rattle.bracket_rules.specs.Told.{IsTreeOf};
+ghost use Rattle.bracket_rules.specs.Tree.{tree_length};
 ghost use Rattle.bracket_nodes.specs.ScannedLines.{AreScans};
 ghost use Rattle.document_rules.specs.Brackets.{line_contents};
 ghost use Rattle.model_core.specs.State.{IsKept};
@@ -43,6 +44,7 @@ pub(crate) fn parse_text(
 ) -> Result<Node, AllocError>
     requires { length text.now.units ≤ most_units }
     ensures tree { IfOk result (IsTreeOf (text_rows table.now (line_contents text.now.units))) }
+    ensures length { IfOk result (λ tree. tree_length tree ≡ text_length text.now.units) }
     ensures table { OnOk result (is_table table.now ≡ true) }
 {
     let lines = scanned_lines(alloc, table, text)?;

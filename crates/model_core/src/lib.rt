@@ -12,6 +12,3 @@ pub use decorations::{Deco, NewDeco};
 pub use document_rules::ModelError;
 pub use model::Model;
 pub use text_rules::Op;
-
-#[cfg(test)]
-mod tests;

@@ -1,15 +1,18 @@
 //! The document and its calls.
 
-ghost use Rattle.std.specs.Prelude.{◌≡◌, [], true, false, List, length, IfSome, OnOk, OnErr, Ok, Err};
+ghost use Rattle.std.specs.Prelude.{◌≡◌, ◌-◌, [], true, false, List, length, IfSome, OnOk, OnErr, Ok, Err};
 ghost use Rattle.std.specs.List.{All};
+ghost use Rattle.text_buffer.specs.Costs.{WithinLookUps};
 ghost use Rattle.unit_text.specs.Units.{IsPaired};
 ghost use Rattle.decoration_rules.specs.Moves.{IsSpanIn};
 ghost use Rattle.text_rules.specs.Edits.{is_bad_span};
 ghost use Rattle.document_rules.specs.Outcomes.{Changes, ChangesWith, Moves, Appends, Gives};
 ghost use Rattle.bracket_rules.specs.Table.{standard_table};
 ghost use Rattle.document_rules.specs.Brackets.{flat_brackets, flat_match, flat_level, IsSmall};
+ghost use Rattle.document_rules.specs.Paired.{IsPairedState};
 ghost use Rattle.model_core.specs.State.{KeptAfter, KeptAfterMove};
-ghost use Rattle.document_rules.specs.Document.{new_document, flat_open, flat_edit, flat_stop, flat_undo, flat_redo, flat_decorate, flat_deco, flat_decos, flat_line, flat_value, flat_position, flat_offset, flat_line_count, error_of, refusal_of};
+ghost use Rattle.document_rules.specs.Document.{new_document, flat_open, flat_edit, flat_stop, flat_undo, flat_redo, flat_decorate, flat_deco, flat_decos, flat_line, flat_value, flat_position, flat_offset, flat_line_count};
+ghost use Rattle.model_core.specs.Errors.{error_of, refusal_of};
 
 use crate::brackets::{parse_text, renew};
 use crate::change::{Change, Way, apply, make_again, reserve_for, take_back};
@@ -62,6 +65,7 @@ impl std::marker::Model for Model {
         history = history_of m.text.units m.history.stack;
       };
       fresh = is_some m.tree;
+      pieces = length m.text.spans;
     } };
 
     ghost invariant = { λ m. (length m.text.units ≤ most_units) × (m.version ≤ greatest_version)
@@ -91,6 +95,8 @@ impl Model {
     /// with `Limit`.
     pub fn open_doc(&mut self, text: &[u16], table: BracketTable) -> Result<(), ModelError>
         ensures document { Changes result self.old.document self.new.document (flat_open text.now table) }
+        ensures paired_state { IsPaired text.now → IsPairedState self.old.document
+            → IsPairedState self.new.document }
         ensures fresh { KeptAfter result self.old.fresh self.new.fresh }
     {
         if text.len() as u64 > MOST_UNITS {
@@ -115,6 +121,8 @@ impl Model {
             (flat_edit self.old.document ops.now) }
         ensures paired { IsPaired self.old.document.units → All (λ op. IsPaired op.text) ops.now
             → IsPaired self.new.document.units }
+        ensures paired_state { All (λ op. IsPaired op.text) ops.now
+            → IsPairedState self.old.document → IsPairedState self.new.document }
         ensures fresh { KeptAfter result self.old.fresh self.new.fresh }
     {
         let batch = Batch::checked(self.alloc, ops, &self.text).map_err(error_of)?;
@@ -138,6 +146,7 @@ impl Model {
     /// The next edit begins a step of undo.
     pub fn stop(&mut self)
         ensures document { self.new.document ≡ flat_stop self.old.document }
+        ensures paired_state { IsPairedState self.old.document → IsPairedState self.new.document }
         ensures fresh { self.new.fresh ≡ self.old.fresh }
     {
         self.history.stop();
@@ -147,6 +156,7 @@ impl Model {
     /// where the version would pass its limit. All memory is taken before the first change.
     pub fn undo(&mut self) -> Result<bool, ModelError>
         ensures document { Moves result self.old.document self.new.document (flat_undo self.old.document) }
+        ensures paired_state { IsPairedState self.old.document → IsPairedState self.new.document }
         ensures fresh { KeptAfterMove result self.old.fresh self.new.fresh }
     {
         let Some(step) = self.history.undo_next() else {
@@ -167,6 +177,7 @@ impl Model {
     /// `Limit` where the version would pass its limit. All memory is taken before the first change.
     pub fn redo(&mut self) -> Result<bool, ModelError>
         ensures document { Moves result self.old.document self.new.document (flat_redo self.old.document) }
+        ensures paired_state { IsPairedState self.old.document → IsPairedState self.new.document }
         ensures fresh { KeptAfterMove result self.old.fresh self.new.fresh }
     {
         let Some(step) = self.history.redo_next() else {
@@ -195,6 +206,7 @@ impl Model {
     ) -> Result<u64, ModelError>
         ensures document { ChangesWith self.old.document.decorations.next_id result self.old.document self.new.document
             (flat_decorate self.old.document owner remove.now add.now) }
+        ensures paired_state { IsPairedState self.old.document → IsPairedState self.new.document }
         ensures fresh { self.new.fresh ≡ self.old.fresh }
     {
         self.decorations
@@ -346,16 +358,18 @@ impl Model {
         self.text.value(span, out).map_err(|_| ModelError::Memory)
     }
 
-    /// The position of the offset, or None where it is no place of the text. Each piece that is looked at is a step.
+    /// The position of the offset, or None where it is no place of the text. Each node that is visited is a step.
     pub fn position_at<L: Ledger>(&self, offset: u64, steps: &mut Steps<L>) -> Option<Position>
-        ensures { result ≡ flat_position self.now.document offset }
+        ensures position { result ≡ flat_position self.now.document offset }
+        ensures cost { WithinLookUps 3 self.now.pieces (steps.new - steps.old) }
     {
         self.text.position_at(offset, steps)
     }
 
-    /// The offset of the position, or None where it is none of the text. Each piece that is looked at is a step.
+    /// The offset of the position, or None where it is none of the text. Each node that is visited is a step.
     pub fn offset_at<L: Ledger>(&self, p: Position, steps: &mut Steps<L>) -> Option<u64>
-        ensures { result ≡ flat_offset self.now.document p }
+        ensures offset { result ≡ flat_offset self.now.document p }
+        ensures cost { WithinLookUps 4 self.now.pieces (steps.new - steps.old) }
     {
         self.text.offset_at(p, steps)
     }

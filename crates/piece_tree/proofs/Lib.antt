@@ -2,3 +2,4 @@ pub mod Sums
 pub mod Cuts
 pub mod Looking
 pub mod Places
+pub mod Costs

@@ -2,3 +2,4 @@ pub mod Pieces
 pub mod Searches
 pub mod Adding
 pub mod Inside
+pub mod Costs

@@ -8,6 +8,3 @@ mod weave;
 
 pub use piece::{Found, Piece, PieceId, PieceSum};
 pub use tree::PieceTree;
-
-#[cfg(test)]
-mod tests;

@@ -5,6 +5,7 @@ ghost use Rattle.std.specs.List.{All};
 ghost use Rattle.std.specs.Option.{ForSome};
 ghost use Rattle.chunk_buffers.specs.Chunks.{LiesIn};
 ghost use Rattle.piece_tree.specs.Pieces.{pieces_of, unit_count, break_count_of, piece_list, IsPieceOf, spliced, IsFound, IsAmong, Entry, first_of};
+ghost use Rattle.piece_tree.specs.Costs.{WithinLookUps};
 
 use crate::edits::{cut, insert_span, remove_units};
 use crate::piece::{Found, Piece, PieceId, PieceSum};
@@ -53,6 +54,7 @@ impl PieceTree {
     pub fn reserve(&mut self, edits: u64) -> Result<(), AllocError>
         ensures ok { OnOk result (edits ≤ self.new.spare) }
         ensures same { self.new.entries ≡ self.old.entries }
+        ensures kept { self.old.spare ≤ self.new.spare }
         ensures err { OnErr result (self.new ≡ self.old) }
     {
         if edits <= self.spare {
@@ -86,7 +88,7 @@ impl PieceTree {
         ensures piece { IsFound self.now.entries result }
         ensures start { result.before.units ≤ offset }
         ensures end { offset < result.before.units + result.span.units }
-        ensures cost { 2 ^ (steps.new - steps.old) ≤ (length self.now.entries + 1) ^ 2 }
+        ensures cost { WithinLookUps 1 (length self.now.entries) (steps.new - steps.old) }
     {
         let Some(at) = self.tree.descend(Sought::Offset(offset), steps) else {
             unreachable!();
@@ -102,7 +104,7 @@ impl PieceTree {
         ensures start { result.before.breaks < n }
         ensures end { n ≤ result.before.breaks + result.breaks }
         ensures small { result.before.units + result.span.units < 2 ^ 62 }
-        ensures cost { 2 ^ (steps.new - steps.old) ≤ (length self.now.entries + 1) ^ 2 }
+        ensures cost { WithinLookUps 1 (length self.now.entries) (steps.new - steps.old) }
     {
         let Some(at) = self.tree.descend(Sought::Break(n - 1), steps) else {
             unreachable!();

@@ -13,6 +13,3 @@ pub use name::NodeId;
 pub use block::Block;
 #[doc(hidden)]
 pub use page::Page;
-
-#[cfg(test)]
-mod tests;

@@ -15,3 +15,4 @@ pub mod Setting
 pub mod Shifting
 pub mod Splitting
 pub mod Steps
+pub mod OwnNames

@@ -6,3 +6,4 @@ pub mod Rising
 pub mod Searching
 pub mod Shifting
 pub mod Value
+pub mod Names

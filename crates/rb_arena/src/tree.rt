@@ -5,6 +5,7 @@ ghost use Rattle.rb_rules.specs.Memory.{Made, Spot, here, AtSpot, place_of};
 ghost use Rattle.rb_rules.specs.Woven.{AllItems, sum_of};
 ghost use Rattle.rb_rules.specs.Shifts.{shifted};
 ghost use Rattle.rb_arena.specs.Value.{listed, first_hole, first_or, last_hole, last_or, up_next, up_prev, IsItem, SplitsAt, SplitsAfter, SumsTo, SumsWith, PlaceAfter, front_of};
+ghost use Rattle.rb_arena.specs.Names.{HaveOwnNames};
 ghost use Rattle.rb_arena.specs.Placing.{StartsAt, HangsAfter};
 ghost use Rattle.rb_arena.specs.Searching.{Found};
 
@@ -154,9 +155,10 @@ impl<W: Weave> RbTree<W> {
         self.links.nodes.reserve(count)
     }
 
-    /// The first item's name.
+    /// The first item's name. No name stands twice, among the items and the loose ones.
     pub fn first(&self) -> Option<NodeId>
-        ensures { result ≡ first_or None self.now.items }
+        ensures first { result ≡ first_or None self.now.items }
+        ensures names { HaveOwnNames self.now.items self.now.loose }
     {
         parent_at(&first_place(&self.links, None, self.links.root))
     }

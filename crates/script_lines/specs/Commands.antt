@@ -116,45 +116,44 @@ match_in d = if has_only (codes "cmd" ∷ codes "line" ∷ codes "col" ∷ []) d
 abbrev pub level_in : Data → Option Command
 level_in d = if has_only (codes "cmd" ∷ codes "line" ∷ codes "col" ∷ []) d then option_map Level (position_in d) else None
 
-abbrev pub history_named : List ℕ → Option Command
-history_named name =
-    if bytes_eq name (codes "undo") then Some Undo else
-    (if bytes_eq name (codes "redo") then Some Redo else
-    (if bytes_eq name (codes "stop") then Some Stop else None))
+-- the name of a command, and what reads its fields
+pub record Row : Type 0 where
+  pub name : List ℕ
+  pub reads : Data → Option Command
 
-abbrev pub bracket_query_named : List ℕ → Data → Option Command
-bracket_query_named name d =
-    if bytes_eq name (codes "brackets") then brackets_in d else
-    (if bytes_eq name (codes "match") then match_in d else
-    (if bytes_eq name (codes "level") then level_in d else None))
+abbrev pub row : List ℕ → (Data → Option Command) → Row
+row name reads = record { name = name; reads = reads }
 
-abbrev pub decoration_query_named : List ℕ → Data → Option Command
-decoration_query_named name d =
-    if bytes_eq name (codes "deco") then deco_in d else
-    (if bytes_eq name (codes "decos") then decos_in d else bracket_query_named name d)
+-- every command there is
+abbrev pub commands : List Row
+commands =
+    row (codes "open") open_in
+    ∷ row (codes "edit") edit_in
+    ∷ row (codes "decorate") decorate_in
+    ∷ row (codes "undo") (bare_in Undo)
+    ∷ row (codes "redo") (bare_in Redo)
+    ∷ row (codes "stop") (bare_in Stop)
+    ∷ row (codes "size") (bare_in Size)
+    ∷ row (codes "version") (bare_in Version)
+    ∷ row (codes "line") line_in
+    ∷ row (codes "value") value_in
+    ∷ row (codes "offset") offset_in
+    ∷ row (codes "position") position_command_in
+    ∷ row (codes "deco") deco_in
+    ∷ row (codes "decos") decos_in
+    ∷ row (codes "brackets") brackets_in
+    ∷ row (codes "match") match_in
+    ∷ row (codes "level") level_in
+    ∷ []
 
-abbrev pub query_named : List ℕ → Data → Option Command
-query_named name d =
-    if bytes_eq name (codes "size") then bare_in Size d else
-    (if bytes_eq name (codes "version") then bare_in Version d else
-    (if bytes_eq name (codes "line") then line_in d else
-    (if bytes_eq name (codes "value") then value_in d else
-    (if bytes_eq name (codes "offset") then offset_in d else
-    (if bytes_eq name (codes "position") then position_command_in d else decoration_query_named name d)))))
+-- what the row of this name reads; nothing where there is none
+abbrev pub read_by : List Row → List ℕ → Data → Option Command
+read_by [] name d = None
+read_by (r ∷ rows) name d = if bytes_eq name r.name then r.reads d else read_by rows name d
 
--- the command without fields, or else a query
-abbrev pub bare_or_query : Option Command → List ℕ → Data → Option Command
-bare_or_query (Some command) name d = bare_in command d
-bare_or_query None name d = query_named name d
-
-abbrev pub command_named : List ℕ → Data → Option Command
-command_named name d =
-    if bytes_eq name (codes "open") then open_in d else
-    (if bytes_eq name (codes "edit") then edit_in d else
-    (if bytes_eq name (codes "decorate") then decorate_in d else bare_or_query (history_named name) name d))
-
+-- the field `cmd` names the command
 abbrev pub command_in : Data → Option Command
-command_in d = option_and_then (λ name. command_named name d) (string_at (codes "cmd") d)
+command_in d = option_and_then (λ name. read_by commands name d) (string_at (codes "cmd") d)
 
 -- a line is a command where it is JSON in UTF-8, and its value is that of a command
 unfoldable pub command_of : List ℕ → Option Command

@@ -1,11 +1,11 @@
 //! Commands, and the lines that spell them.
 
-ghost use Rattle.std.specs.Prelude.{◌≡◌, true, Some, None, IfOk, OnOk, Err};
+ghost use Rattle.std.specs.Prelude.{◌≡◌, true, Some, None, IfOk, OnOk, Err, drop};
 ghost use Rattle.std.specs.Str.{is_utf8};
 ghost use Rattle.serde_json.specs.Read.{read};
 ghost use Rattle.serde_json.specs.View.{view, items_view};
 ghost use Rattle.script_lines.specs.Reading.{Reads};
-ghost use Rattle.script_lines.specs.Commands.{open_in, place_in, op_of, op_in, some_ops_in, edit_in, decorate_in, bare_in, line_in, value_in, offset_in, position_command_in, deco_in, decos_in, brackets_in, match_in, level_in, history_named, query_named, decoration_query_named, bracket_query_named, command_named, command_in, command_of};
+ghost use Rattle.script_lines.specs.Commands.{open_in, place_in, op_of, op_in, some_ops_in, edit_in, decorate_in, bare_in, line_in, value_in, offset_in, position_command_in, deco_in, decos_in, brackets_in, match_in, level_in, commands, read_by, command_in, command_of};
 
 use crate::bracket::optional_table_at;
 use crate::decoration::new_decos_at;
@@ -123,7 +123,7 @@ fn command_in(alloc: Global, value: &Value) -> Result<Command, LineFault>
 }
 
 fn command_named(alloc: Global, name: &str, value: &Value) -> Result<Command, LineFault>
-    ensures { Reads result (command_named name.now (view value.now)) }
+    ensures { Reads result (read_by commands name.now (view value.now)) }
 {
     if name == "open" {
         return open_in(alloc, value);
@@ -134,29 +134,20 @@ fn command_named(alloc: Global, name: &str, value: &Value) -> Result<Command, Li
     if name == "decorate" {
         return decorate_in(alloc, value);
     }
-    match history_named(name) {
-        Some(command) => bare_in(value, command),
-        None => query_named(name, value),
-    }
-}
-
-fn history_named(name: &str) -> Option<Command>
-    ensures { result ≡ history_named name.now }
-{
     if name == "undo" {
-        return Some(Command::Undo);
+        return bare_in(value, Command::Undo);
     }
     if name == "redo" {
-        return Some(Command::Redo);
+        return bare_in(value, Command::Redo);
     }
     if name == "stop" {
-        return Some(Command::Stop);
+        return bare_in(value, Command::Stop);
     }
-    None
+    text_query_named(name, value)
 }
 
-fn query_named(name: &str, value: &Value) -> Result<Command, LineFault>
-    ensures { Reads result (query_named name.now (view value.now)) }
+fn text_query_named(name: &str, value: &Value) -> Result<Command, LineFault>
+    ensures { Reads result (read_by (drop 6 commands) name.now (view value.now)) }
 {
     if name == "size" {
         return bare_in(value, Command::Size);
@@ -176,11 +167,11 @@ fn query_named(name: &str, value: &Value) -> Result<Command, LineFault>
     if name == "position" {
         return position_command_in(value);
     }
-    decoration_query_named(name, value)
+    other_query_named(name, value)
 }
 
-fn decoration_query_named(name: &str, value: &Value) -> Result<Command, LineFault>
-    ensures { Reads result (decoration_query_named name.now (view value.now)) }
+fn other_query_named(name: &str, value: &Value) -> Result<Command, LineFault>
+    ensures { Reads result (read_by (drop 12 commands) name.now (view value.now)) }
 {
     if name == "deco" {
         return deco_in(value);
@@ -188,12 +179,6 @@ fn decoration_query_named(name: &str, value: &Value) -> Result<Command, LineFaul
     if name == "decos" {
         return decos_in(value);
     }
-    bracket_query_named(name, value)
-}
-
-fn bracket_query_named(name: &str, value: &Value) -> Result<Command, LineFault>
-    ensures { Reads result (bracket_query_named name.now (view value.now)) }
-{
     if name == "brackets" {
         return brackets_in(value);
     }

@@ -3,3 +3,6 @@ pub mod LedLemmas
 pub mod ServeLemmas
 pub mod RunLemmas
 pub mod OpLemmas
+pub mod ReplyLemmas
+pub mod DecidedLemmas
+mod ScriptExamples

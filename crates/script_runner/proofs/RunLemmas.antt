@@ -15,7 +15,7 @@ use Rattle.script_runner.specs.Serving.{Serves, ServedAll}
 use Rattle.script_runner.specs.Runs.{most_script_bytes, status_after, EndsWith, Runs, IsAnswered}
 
 module _ (src src' : SourceState) (out out' : SinkState) where
-  runs_after_end : (refused memory : ℕ) (end : FlatState) → ServedAll empty_document end src src' out out' refused memory
+  runs_after_end : (refused memory : ℕ) (end : FlatState) → ServedAll most_script_bytes empty_document end src src' out out' refused memory
       → Runs (status_after (Ended refused memory)) src src' out out'
   runs_after_end zero memory end served = record { memory = memory; end = end; served = served }
   runs_after_end (suc more) memory end served =
@@ -47,7 +47,7 @@ whole_script (Some rest) script read gave none = sym (gave ∙ ap (λ x. read ++
 
 module _ (src src' : SourceState) (out out' : SinkState) (script before after : List ℕ) (told : src.left ≡ Some script) (took : out.taken ≡ Some before)
     (takes : out'.taken ≡ Some after) where
-  answered_is : (number refused memory : ℕ) (end : FlatState) → ServedAll empty_document end src src' out out' refused memory
+  answered_is : (number refused memory : ℕ) (end : FlatState) → ServedAll most_script_bytes empty_document end src src' out out' refused memory
       → ((replies : List (List ℕ)) → refused ≡ refusals replies → number ≡ cond (list_any is_refused replies) 1 0) → IsAnswered script before after number
   answered_is number refused memory end served status =
       let whole = whole_script src'.left script served.script (subst (λ left. Gave left src'.left served.script) told served.gave) served.nothing_left in

@@ -1,5 +1,5 @@
 -- How a whole script is served.
-use Rattle.std.proofs.Common.{◌≡◌, ℕ, ◌+◌, ◌-◌, ◌≤◌, ◌<◌, ◌^◌, min, true, false, List, [], ◌∷◌, ◌++◌, length, take, append_assoc, length-append, refl, ap, sym, ◌∙◌, subst, arith, inl, inr, Result, Ok, Err, is_err}
+use Rattle.std.proofs.Common.{◌≡◌, ℕ, ◌+◌, ◌-◌, ◌≤◌, ◌<◌, ◌^◌, min, true, false, List, [], ◌∷◌, ◌++◌, length, take, length-append, refl, ap, sym, ◌∙◌, subst, arith, inl, inr, Result, Ok, Err, is_err}
 use Rattle.std.specs.Bool.{⊤}
 use Rattle.std.proofs.lemmas.Bool.{cases_lt, and_left, and_from, ne_eqb, eq-eqb, lt-ltb}
 use Rattle.std.proofs.lemmas.List.{append-nil, nil_from_length, length-take-le}
@@ -10,8 +10,8 @@ use Rattle.script_streams.specs.declared.Failed.{Failed}
 use Rattle.script_streams.specs.Streams.{SourceState, SinkState, Took, Gave, Given, NotGiven, Rose, greatest_count}
 use Rattle.script_streams.proofs.StreamLaws.{Took-append, Took-nothing, Gave-append, Gave-nothing}
 use Rattle.script_runner.specs.declared.serving.Progress.{Progress}
-use Rattle.script_runner.specs.Script.{cut, most_line_bytes, whole_lines, last_line, all_lines, written}
-use Rattle.script_runner.specs.Progress.{IsLineSoFar, refusals, memory_refusals, Led, Broken, LineAnswered, LineBroken, PieceAnswered, PieceBroken, AnswersPiece}
+use Rattle.script_runner.specs.Script.{cut, most_line_bytes, whole_lines, last_line, written}
+use Rattle.script_runner.specs.Progress.{IsLineSoFar, refusals, memory_refusals, Led, LineAnswered, LineBroken, PieceAnswered, PieceBroken, AnswersPiece}
 use Rattle.script_runner.specs.declared.serving.Served.{Served}
 use Rattle.script_runner.specs.declared.serving.Served.TheVariants.{Ended, ReadFault, WriteFault, TooLong}
 use Rattle.script_runner.specs.Serving.{Serves, Finishes, RoseBy, Finished, FinishBroken, ServedAll, ServedToReadFault, ServedToWriteFault, ServedToLimit}
@@ -85,23 +85,6 @@ module _ (doc : FlatState) (progress : Progress) (doc' : FlatState) (progress' :
 
 -- ---- the loop over the source
 
--- the lines that were answered are the first of all lines, too
-broken_in_all : (start : FlatState) (script out : List ℕ) (now : FlatState) → Broken start (whole_lines script) out now → Broken start (all_lines script) out now
-broken_in_all start script out now broken = record {
-  done = broken.done;
-  line = broken.line;
-  others = broken.others ++ last_line (cut script).rest;
-  lines_are = ap (λ x. x ++ last_line (cut script).rest) broken.lines_are ∙ append_assoc broken.done (broken.line ∷ broken.others) (last_line (cut script).rest);
-  replies = broken.replies;
-  mid = broken.mid;
-  transcript = broken.transcript;
-  reply = broken.reply;
-  turn = broken.turn;
-  front = broken.front;
-  starts = broken.starts;
-  out_is = broken.out_is;
-}
-
 counted_exactly : (n : ℕ) → n ≤ greatest_count → min n greatest_count ≡ n
 counted_exactly n within = omega arith
 
@@ -144,10 +127,13 @@ rose_more a n b m c (inr top) is = inr (omega arith)
 module _ (most left : ℕ) (start now : FlatState) (progress : Progress) (src src' : SourceState) (out out' : SinkState)
     (before : IsServedTo most left start now progress src src' out out') (src'' : SourceState) where
   -- a read failed
-  pub served_to_read_fault : NotGiven src' src'' → ServedToReadFault start now src src'' out out'
-  served_to_read_fault failed = record {
+  pub served_to_read_fault : 0 < left → NotGiven src' src'' → ServedToReadFault most start now src src'' out out'
+  served_to_read_fault more failed = record {
     script = before.script;
     gave = rw failed.left before.gave;
+    budget = omega (arith, before.read);
+    given = rw failed.given before.given;
+    not_ended = failed.ended;
     replies = before.led.replies;
     transcript = before.led.transcript;
     took = rw (← before.led.out_is) before.took;
@@ -162,6 +148,10 @@ module _ (most left : ℕ) (start now : FlatState) (progress : Progress) (src sr
     length_given : length (take n buf) ≡ n
     length_given = length-take-le n buf given.within
 
+    given_more : RoseBy src.given (length (before.script ++ take n buf)) src''.given
+    given_more = subst (λ k. RoseBy src.given k src''.given) (sym (length-append before.script (take n buf) ∙ ap (λ k. length before.script + k) length_given))
+        (rose_more src.given (length before.script) src'.given n src''.given before.given given.given)
+
     -- some bytes came, and the lines that they complete are answered
     pub served_to_more : 0 < n → n ≤ left → (now' : FlatState) (progress' : Progress) (out'' : SinkState)
         → PieceAnswered (take n buf) now progress now' progress' out' out''
@@ -173,21 +163,22 @@ module _ (most left : ℕ) (start now : FlatState) (progress : Progress) (src sr
       took = Took-append _ _ _ _ _ before.took answered.sink.bytes;
       led = answered.went start before.script before.added before.led;
       read = omega (arith, before.read, length_given, length-append before.script (take n buf));
-      given = subst (λ k. RoseBy src.given k src''.given) (sym (length-append before.script (take n buf) ∙ ap (λ k. length before.script + k) length_given))
-          (rose_more src.given (length before.script) src'.given n src''.given before.given given.given);
+      given = given_more;
       not_ended = λ less. given.ended ∙ and_left _ _ (ne_eqb n 0 (λ none. omega arith));
       source_faults = given.faults ∙ before.source_faults;
       sink_faults = answered.sink.faults ∙ before.sink_faults;
     }
 
     -- some bytes came, and a reply was not written whole
-    pub served_to_write_fault : (now' : FlatState) (out'' : SinkState) → PieceBroken (take n buf) now progress now' out' out''
-        → ServedToWriteFault start now' src src'' out out''
-    served_to_write_fault now' out'' broken = record {
+    pub served_to_write_fault : 0 < n → n ≤ left → (now' : FlatState) (out'' : SinkState) → PieceBroken (take n buf) now progress now' out' out''
+        → ServedToWriteFault most start now' src src'' out out''
+    served_to_write_fault some within now' out'' broken = record {
       script = before.script ++ take n buf;
       gave = gave_more;
+      budget = omega (arith, before.read, length_given, length-append before.script (take n buf));
+      given = given_more;
       added = before.added ++ broken.added;
-      broken = broken_in_all _ (before.script ++ take n buf) _ _ (broken.broke start before.script before.added before.led);
+      broken = rw (given.ended ∙ and_left _ _ (ne_eqb n 0 (λ none. omega arith))) (broken.broke start before.script before.added before.led);
       took = Took-append _ _ _ _ _ before.took broken.bytes;
       source_faults = given.faults ∙ before.source_faults;
       sink_faults = subst (λ k. Rose k out''.faults) before.sink_faults broken.faults;
@@ -197,10 +188,16 @@ module _ (most left : ℕ) (start now : FlatState) (progress : Progress) (src sr
       gave_all : Gave src.left src''.left before.script
       gave_all = subst (λ x. Gave src.left src''.left x) (rw (none, append-nil before.script) refl) gave_more
 
+      given_all : RoseBy src.given (length before.script) src''.given
+      given_all = subst (λ x. RoseBy src.given (length x) src''.given) (rw (none, append-nil before.script) refl) given_more
+
+      end_seen : src''.ended ≡ true
+      end_seen = given.ended ∙ and_from _ _ (eq-eqb n 0 none) (lt-ltb 0 (length buf) room)
+
       -- the end came, and the last line is answered
-      pub served_to_end : most < 2 ^ 64 → (now' : FlatState) (out'' : SinkState) (refused memory : ℕ)
-          → Finished now progress now' out' out'' refused memory → ServedAll start now' src src'' out out'' refused memory
-      served_to_end small now' out'' refused memory finished =
+      pub served_to_end : most < 2 ^ 64 → 0 < left → (now' : FlatState) (out'' : SinkState) (refused memory : ℕ)
+          → Finished now progress now' out' out'' refused memory → ServedAll most start now' src src'' out out'' refused memory
+      served_to_end small more now' out'' refused memory finished =
           let answered = finished.answered start before.script before.added before.led in
           let few = few_refusals start before.script answered.replies now' answered.transcript in
           let few_memory = few_memory_refusals start before.script answered.replies now' answered.transcript in
@@ -208,8 +205,10 @@ module _ (most left : ℕ) (start now : FlatState) (progress : Progress) (src sr
           record {
             script = before.script;
             gave = gave_all;
+            budget = omega (arith, before.read);
+            given = given_all;
             nothing_left = given.nothing_left none room;
-            ended = given.ended ∙ and_from _ _ (eq-eqb n 0 none) (lt-ltb 0 (length buf) room);
+            ended = end_seen;
             replies = answered.replies;
             transcript = answered.transcript;
             took = rw (← answered.out_is) (Took-append _ _ _ _ _ before.took finished.took);
@@ -221,12 +220,14 @@ module _ (most left : ℕ) (start now : FlatState) (progress : Progress) (src sr
 
       -- the end came, and the reply to the last line was not written whole
       pub served_to_broken_end : (now' : FlatState) (out'' : SinkState) → FinishBroken now progress now' out' out''
-          → ServedToWriteFault start now' src src'' out out''
+          → ServedToWriteFault most start now' src src'' out out''
       served_to_broken_end now' out'' broken = record {
         script = before.script;
         gave = gave_all;
+        budget = omega (arith, before.read);
+        given = given_all;
         added = before.added ++ broken.added;
-        broken = broken.broke start before.script before.added before.led;
+        broken = rw end_seen (broken.broke start before.script before.added before.led);
         took = Took-append _ _ _ _ _ before.took broken.took;
         source_faults = given.faults ∙ before.source_faults;
         sink_faults = subst (λ k. Rose k out''.faults) before.sink_faults broken.faults;
@@ -250,14 +251,14 @@ served_to_limit most left start now progress src src' out out' none before = rec
 
 -- how the script ended, where nothing more was given
 pub serves_end : (served : Served) (most left : ℕ) (start now now' : FlatState) (progress : Progress) (src src' src'' : SourceState) (out out' out'' : SinkState)
-    → IsServedTo most left start now progress src src' out out' → (n : ℕ) (buf : List ℕ) → Given n src' src'' buf → n ≡ 0 → 0 < length buf → most < 2 ^ 64
+    → IsServedTo most left start now progress src src' out out' → (n : ℕ) (buf : List ℕ) → Given n src' src'' buf → n ≡ 0 → 0 < length buf → most < 2 ^ 64 → 0 < left
     → Finishes served now progress now' out' out'' → Serves served most start now' src src'' out out''
-serves_end (Ended refused memory) most left start now now' progress src src' src'' out out' out'' before n buf given none room small finished =
-    served_to_end _ _ _ _ _ _ _ _ _ before src'' n buf given none room small now' out'' refused memory finished
-serves_end WriteFault most left start now now' progress src src' src'' out out' out'' before n buf given none room small broken =
+serves_end (Ended refused memory) most left start now now' progress src src' src'' out out' out'' before n buf given none room small more finished =
+    served_to_end _ _ _ _ _ _ _ _ _ before src'' n buf given none room small more now' out'' refused memory finished
+serves_end WriteFault most left start now now' progress src src' src'' out out' out'' before n buf given none room small more broken =
     served_to_broken_end _ _ _ _ _ _ _ _ _ before src'' n buf given none room now' out'' broken
-serves_end ReadFault most left start now now' progress src src' src'' out out' out'' before n buf given none room small never = absurd never
-serves_end TooLong most left start now now' progress src src' src'' out out' out'' before n buf given none room small never = absurd never
+serves_end ReadFault most left start now now' progress src src' src'' out out' out'' before n buf given none room small more never = absurd never
+serves_end TooLong most left start now now' progress src src' src'' out out' out'' before n buf given none room small more never = absurd never
 
 -- how a piece was answered, by the test of its result
 module _ (r : Result ⊤ Failed) (piece : List ℕ) (doc : FlatState) (progress : Progress) (doc' : FlatState) (progress' : Progress) (out out' : SinkState) where

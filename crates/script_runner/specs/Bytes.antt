@@ -4,12 +4,22 @@ use Rattle.text_rules.specs.declared.Op.{Op}
 use Rattle.std.specs.declared.vec.Vec.{Vec}
 use Rattle.std.specs.declared.alloc.Global.{Global}
 use Rattle.document_rules.specs.declared.ModelError.{ModelError}
-use Rattle.document_rules.specs.declared.ModelError.TheVariants.{Range, Memory}
+use Rattle.document_rules.specs.declared.ModelError.TheVariants as error
 use Rattle.document_rules.specs.Document.{FlatState}
+use Rattle.script_lines.specs.declared.reason.Refusal.{Refusal}
+use Rattle.script_lines.specs.declared.reason.Refusal.TheVariants as refusal
 use Rattle.script_lines.specs.Replies.{none_reply, text_reply, refusal_reply}
 use Rattle.script_runner.specs.declared.reply.Reply.{Reply}
 use Rattle.script_runner.specs.declared.reply.Reply.TheVariants.{Nothing, Short, Long}
-use Rattle.script_runner.specs.Step.{refusal_of, change_reply, memory_reply}
+use Rattle.script_runner.specs.Step.{change_reply, memory_reply}
+
+-- how a reply names the error of a call
+abbrev pub refusal_of : ModelError → Refusal
+refusal_of error.Unknown = refusal.Unknown
+refusal_of error.Range = refusal.Range
+refusal_of error.Overlap = refusal.Overlap
+refusal_of error.Limit = refusal.Limit
+refusal_of error.Memory = refusal.Memory
 
 abbrev pub bytes_of : Reply → List ℕ
 bytes_of Nothing = []
@@ -30,7 +40,7 @@ move_answer (Err e) f = refusal_reply (refusal_of e)
 -- these are the ops, or they are refused for the range of one of them; or memory is wanting
 abbrev pub AreFound : Result (Vec Op Global) ModelError → Option (List Op) → Type 0
 AreFound (Ok ops) rule = rule ≡ Some ops.items
-AreFound (Err e) rule = (e ≡ Memory) ⊎ ((e ≡ Range) × (rule ≡ None))
+AreFound (Err e) rule = (e ≡ error.Memory) ⊎ ((e ≡ error.Range) × (rule ≡ None))
 
 -- the reply is this one, or `! memory`
 abbrev pub ThisOrMemory : List ℕ → List ℕ → Type 0

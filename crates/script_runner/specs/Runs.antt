@@ -1,5 +1,5 @@
 -- What a run of the program does, by the status that it ends with.
-use Rattle.std.specs.Prelude.{◌≡◌, ℕ, suc, ◌+◌, ◌^◌, Bool, false, nat_lt, if◌then◌else◌, List, [], ◌∷◌, ◌++◌, codes}
+use Rattle.std.specs.Prelude.{◌≡◌, ℕ, suc, ◌^◌, Bool, false, nat_lt, if◌then◌else◌, List, [], ◌∷◌, ◌++◌, codes}
 use Rattle.std.specs.Str.{bytes_eq}
 use Rattle.std.specs.List.{list_any}
 use Rattle.document_rules.specs.Document.{FlatState, empty_document}
@@ -68,7 +68,7 @@ pub record IsAnswered (script before after : List ℕ) (number : ℕ) : Type 0 w
 pub record AnswersAll (src src' : SourceState) (out out' : SinkState) (refused : ℕ) : Type 0 where
   pub memory : ℕ
   pub end : FlatState
-  pub served : ServedAll empty_document end src src' out out' refused memory
+  pub served : ServedAll most_script_bytes empty_document end src src' out out' refused memory
 
 abbrev pub Runs : Status → SourceState → SourceState → SinkState → SinkState → Type 0
 -- every line of the script was answered, and no reply begins with `!`
@@ -77,8 +77,8 @@ Runs status.Answered src src' out out' = AnswersAll src src' out out' 0
 Runs status.Refused src src' out out' = (more : ℕ) × AnswersAll src src' out out' (suc more)
 -- there was no memory to begin with, and nothing was read or written
 Runs status.Memory src src' out out' = (src' ≡ src) × (out' ≡ out)
-Runs status.ReadFault src src' out out' = (end : FlatState) × ServedToReadFault empty_document end src src' out out'
-Runs status.WriteFault src src' out out' = (end : FlatState) × ServedToWriteFault empty_document end src src' out out'
+Runs status.ReadFault src src' out out' = (end : FlatState) × ServedToReadFault most_script_bytes empty_document end src src' out out'
+Runs status.WriteFault src src' out out' = (end : FlatState) × ServedToWriteFault most_script_bytes empty_document end src src' out out'
 Runs status.TooLong src src' out out' = (end : FlatState) × ServedToLimit most_script_bytes empty_document end src src' out out'
 -- the words `run` are a command
 Runs status.Usage src src' out out' = ⊥

@@ -1,12 +1,12 @@
 -- A script, line by line, and the replies that may answer it.
-use Rattle.std.specs.Prelude.{◌≡◌, ℕ, ◌^◌, ◌||◌, ◌==◌, nat_lt, not, Bool, true, false, if◌then◌else◌, List, [], ◌∷◌, ◌++◌, length, Option, Some, None}
-use Rattle.std.specs.List.{list_all, flat_map}
+use Rattle.std.specs.Prelude.{◌≡◌, ◌⊎◌, ℕ, codes, ◌^◌, ◌||◌, ◌==◌, nat_lt, not, Bool, false, MatchBool, if◌then◌else◌, List, [], ◌∷◌, ◌++◌, length, Option, Some, None}
+use Rattle.std.specs.List.{All, list_all, flat_map}
 use Rattle.document_rules.specs.Document.{FlatState}
 use Rattle.script_lines.specs.declared.reason.Refusal.TheVariants.{Syntax, Limit}
 use Rattle.script_lines.specs.declared.command.Command.{Command}
 use Rattle.script_lines.specs.Commands.{command_of}
 use Rattle.script_lines.specs.Replies.{refusal_reply}
-use Rattle.script_runner.specs.Step.{step, memory_reply, Answers}
+use Rattle.script_runner.specs.Step.{step, Answers}
 
 -- the lines that LF ends, and what comes after the last LF
 pub record Lines : Type 0 where
@@ -58,18 +58,17 @@ abbrev pub commanded : FlatState → Option Command → List ℕ × FlatState
 commanded f None = (refusal_reply Syntax, f)
 commanded f (Some command) = step f command
 
--- the flat reply to a line, and the document after it; a blank line has no reply
+-- the flat reply to a line that has one, and the document after it
 abbrev pub turn : FlatState → List ℕ → List ℕ × FlatState
-turn f line =
-    if is_too_long line then (refusal_reply Limit, f) else
-    (if is_blank line then ([], f) else commanded f (command_of line))
+turn f line = if is_too_long line then (refusal_reply Limit, f) else commanded f (command_of line)
 
+-- a blank line has no reply, unless it is too long
 abbrev pub has_reply : List ℕ → Bool
 has_reply line = is_too_long line || not (is_blank line)
 
--- the flat reply answers the line, or `! memory` does, where the line has a reply
+-- a line is answered by the flat reply, or by `! memory` with the document as before; one that has no reply changes nothing
 abbrev pub Turn : FlatState → List ℕ → List ℕ → FlatState → Type 0
-Turn old line reply new = Answers (turn old line) old reply new × (reply ≡ memory_reply → has_reply line ≡ true)
+Turn old line reply new = MatchBool (has_reply line) (Answers (turn old line) old reply new) ((reply ≡ []) × (new ≡ old))
 
 -- these replies answer these lines, one by one
 abbrev pub Transcript : FlatState → List (List ℕ) → List (List ℕ) → FlatState → Type 0
@@ -82,6 +81,17 @@ Transcript old (line ∷ lines) [] new = ⊥
 -- the replies one after another
 abbrev pub written : List (List ℕ) → List ℕ
 written replies = flat_map (λ reply. reply) replies
+
+-- LF ends the reply, and there is no other LF in it
+abbrev pub IsOneLine : List ℕ → Type 0
+IsOneLine reply = (text : List ℕ) × IsInOneLine text × (reply ≡ text ++ codes "\n")
+
+-- What was written leaves no choice: each reply is one line, or nothing; and where other replies answer the same lines
+-- from the same document, and the same bytes are written, they are the same replies, with the same document at the end.
+pub record IsDecided (start : FlatState) (lines replies : List (List ℕ)) (end : FlatState) : Type 0 where
+  pub one_line : All (λ reply. (reply ≡ []) ⊎ IsOneLine reply) replies
+  pub only : (others : List (List ℕ)) (other : FlatState) → Transcript start lines others other → written others ≡ written replies
+      → (others ≡ replies) × (other ≡ end)
 
 -- the reply begins with `!`
 abbrev pub is_refused : List ℕ → Bool

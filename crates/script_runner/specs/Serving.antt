@@ -1,5 +1,5 @@
 -- What serving a script did, by how it ended.
-use Rattle.std.specs.Prelude.{◌≡◌, ℕ, ◌+◌, ◌<◌, ◌⊎◌, min, true, false, List, ◌++◌, length}
+use Rattle.std.specs.Prelude.{◌≡◌, ℕ, ◌+◌, ◌<◌, ◌≤◌, ◌⊎◌, min, Bool, true, false, if◌then◌else◌, List, ◌++◌, length}
 use Rattle.document_rules.specs.Document.{FlatState}
 use Rattle.script_streams.specs.Streams.{SourceState, SinkState, greatest_count, Gave, NothingLeft, Took, Rose}
 use Rattle.script_runner.specs.declared.serving.Served.{Served}
@@ -12,10 +12,16 @@ use Rattle.script_runner.specs.declared.serving.Progress.{Progress}
 abbrev pub RoseBy : ℕ → ℕ → ℕ → Type 0
 RoseBy old by new = (new ≡ old + by) ⊎ (new ≡ greatest_count)
 
+-- the lines of what was read: an unfinished last one is a line where the end was seen
+abbrev pub lines_read : Bool → List ℕ → List (List ℕ)
+lines_read ended script = if ended then all_lines script else whole_lines script
+
 -- The script was read to its end, and every line of it answered: the replies written are those of the flat document.
-pub record ServedAll (start end : FlatState) (src src' : SourceState) (out out' : SinkState) (refused memory : ℕ) : Type 0 where
+pub record ServedAll (most : ℕ) (start end : FlatState) (src src' : SourceState) (out out' : SinkState) (refused memory : ℕ) : Type 0 where
   pub script : List ℕ
   pub gave : Gave src.left src'.left script
+  pub budget : length script < most
+  pub given : RoseBy src.given (length script) src'.given
   pub nothing_left : NothingLeft src'.left
   pub ended : src'.ended ≡ true
   pub replies : List (List ℕ)
@@ -27,9 +33,12 @@ pub record ServedAll (start end : FlatState) (src src' : SourceState) (out out' 
   pub sink_faults : out'.faults ≡ out.faults
 
 -- A read failed; the whole lines read before were answered.
-pub record ServedToReadFault (start end : FlatState) (src src' : SourceState) (out out' : SinkState) : Type 0 where
+pub record ServedToReadFault (most : ℕ) (start end : FlatState) (src src' : SourceState) (out out' : SinkState) : Type 0 where
   pub script : List ℕ
   pub gave : Gave src.left src'.left script
+  pub budget : length script < most
+  pub given : RoseBy src.given (length script) src'.given
+  pub not_ended : src'.ended ≡ false
   pub replies : List (List ℕ)
   pub transcript : Transcript start (whole_lines script) replies end
   pub took : Took out.taken out'.taken (written replies)
@@ -37,11 +46,13 @@ pub record ServedToReadFault (start end : FlatState) (src src' : SourceState) (o
   pub sink_faults : out'.faults ≡ out.faults
 
 -- A write failed; whole replies were written, and then a front of the next one.
-pub record ServedToWriteFault (start end : FlatState) (src src' : SourceState) (out out' : SinkState) : Type 0 where
+pub record ServedToWriteFault (most : ℕ) (start end : FlatState) (src src' : SourceState) (out out' : SinkState) : Type 0 where
   pub script : List ℕ
   pub gave : Gave src.left src'.left script
+  pub budget : length script ≤ most
+  pub given : RoseBy src.given (length script) src'.given
   pub added : List ℕ
-  pub broken : Broken start (all_lines script) added end
+  pub broken : Broken start (lines_read src'.ended script) added end
   pub took : Took out.taken out'.taken added
   pub source_faults : src'.faults ≡ src.faults
   pub sink_faults : Rose out.faults out'.faults
@@ -60,9 +71,9 @@ pub record ServedToLimit (most : ℕ) (start end : FlatState) (src src' : Source
   pub sink_faults : out'.faults ≡ out.faults
 
 abbrev pub Serves : Served → ℕ → FlatState → FlatState → SourceState → SourceState → SinkState → SinkState → Type 0
-Serves (Ended refused memory) most start end src src' out out' = ServedAll start end src src' out out' refused memory
-Serves ReadFault most start end src src' out out' = ServedToReadFault start end src src' out out'
-Serves WriteFault most start end src src' out out' = ServedToWriteFault start end src src' out out'
+Serves (Ended refused memory) most start end src src' out out' = ServedAll most start end src src' out out' refused memory
+Serves ReadFault most start end src src' out out' = ServedToReadFault most start end src src' out out'
+Serves WriteFault most start end src src' out out' = ServedToWriteFault most start end src src' out out'
 Serves TooLong most start end src src' out out' = ServedToLimit most start end src src' out out'
 
 -- ---- the end of the script

@@ -5,8 +5,7 @@ use Rattle.text_lengths.specs.declared.Span.{Span}
 use Rattle.text_rules.specs.declared.Op.{Op}
 use Rattle.decoration_rules.specs.declared.Deco.{Deco}
 use Rattle.std.specs.List.{flat_map}
-use Rattle.document_rules.specs.declared.ModelError.{ModelError}
-use Rattle.document_rules.specs.declared.ModelError.TheVariants as error
+use Rattle.document_rules.specs.Refusals.{FlatRefusal, unknown, range, overlap, limit}
 use Rattle.document_rules.specs.Document.{FlatState, flat_open, flat_edit, flat_undo, flat_redo, flat_stop, flat_decorate, flat_deco, flat_decos, flat_line, flat_value, flat_position, flat_offset, flat_line_count}
 use Rattle.script_lines.specs.declared.command.Command.{Command}
 use Rattle.script_lines.specs.declared.command.Command.TheVariants.{Open, Edit, Decorate, Undo, Redo, Stop, Size, Version, Line, Value, Offset, Decos, Brackets, Match, Level}
@@ -23,12 +22,12 @@ use Rattle.bracket_rules.specs.declared.Status.TheVariants.{PairedOpening, Paire
 use Rattle.document_rules.specs.Brackets.{flat_brackets, flat_match, flat_level}
 use Rattle.script_lines.specs.Replies.{number_part, ok_reply, none_reply, text_reply, refusal_reply}
 
-abbrev pub refusal_of : ModelError → Refusal
-refusal_of error.Unknown = refusal.Unknown
-refusal_of error.Range = refusal.Range
-refusal_of error.Overlap = refusal.Overlap
-refusal_of error.Limit = refusal.Limit
-refusal_of error.Memory = refusal.Memory
+-- how a reply names the refusal of a rule
+abbrev pub reason_of : FlatRefusal → Refusal
+reason_of unknown = refusal.Unknown
+reason_of range = refusal.Range
+reason_of overlap = refusal.Overlap
+reason_of limit = refusal.Limit
 
 abbrev pub memory_reply : List ℕ
 memory_reply = refusal_reply refusal.Memory
@@ -38,20 +37,20 @@ abbrev pub change_reply : FlatState → List ℕ
 change_reply f = ok_reply (f.version ∷ length f.units ∷ flat_line_count f ∷ [])
 
 -- a change that the rule accepts or refuses
-abbrev pub changed : FlatState → Result FlatState ModelError → List ℕ × FlatState
+abbrev pub changed : FlatState → Result FlatState FlatRefusal → List ℕ × FlatState
 changed old (Ok new) = (change_reply new, new)
-changed old (Err e) = (refusal_reply (refusal_of e), old)
+changed old (Err why) = (refusal_reply (reason_of why), old)
 
 -- a change that the rule accepts or refuses, or finds nothing to do for: `ok none` then
-abbrev pub moved : FlatState → Result (Option FlatState) ModelError → List ℕ × FlatState
+abbrev pub moved : FlatState → Result (Option FlatState) FlatRefusal → List ℕ × FlatState
 moved old (Ok None) = (none_reply, old)
 moved old (Ok (Some new)) = (change_reply new, new)
-moved old (Err e) = (refusal_reply (refusal_of e), old)
+moved old (Err why) = (refusal_reply (reason_of why), old)
 
 -- `ok "TEXT"`, or why there is none
-abbrev pub text_answer : Result (List ℕ) ModelError → List ℕ
+abbrev pub text_answer : Result (List ℕ) FlatRefusal → List ℕ
 text_answer (Ok units) = text_reply units
-text_answer (Err e) = refusal_reply (refusal_of e)
+text_answer (Err why) = refusal_reply (reason_of why)
 
 -- `ok` and the number, or `! range`
 abbrev pub offset_answer : Option ℕ → List ℕ
@@ -64,9 +63,9 @@ position_answer None = refusal_reply refusal.Range
 position_answer (Some p) = ok_reply (p.line ∷ p.column ∷ [])
 
 -- `ok FIRSTID COUNT`, or why nothing was changed
-abbrev pub decorated : FlatState → ℕ → Result FlatState ModelError → List ℕ × FlatState
+abbrev pub decorated : FlatState → ℕ → Result FlatState FlatRefusal → List ℕ × FlatState
 decorated old count (Ok new) = (ok_reply (old.decorations.next_id ∷ count ∷ []), new)
-decorated old count (Err e) = (refusal_reply (refusal_of e), old)
+decorated old count (Err why) = (refusal_reply (reason_of why), old)
 
 -- `ok START END STICK OWNER`, or `! unknown`
 abbrev pub deco_answer : Option Deco → List ℕ
@@ -78,9 +77,9 @@ abbrev pub deco_numbers : List Deco → List ℕ
 deco_numbers decos = flat_map (λ d. d.id ∷ d.span.start ∷ d.span.end ∷ []) decos
 
 -- `ok` and for each decoration ` ID START END`, or why there are none
-abbrev pub decos_answer : Result (List Deco) ModelError → List ℕ
+abbrev pub decos_answer : Result (List Deco) FlatRefusal → List ℕ
 decos_answer (Ok decos) = ok_reply (deco_numbers decos)
-decos_answer (Err e) = refusal_reply (refusal_of e)
+decos_answer (Err why) = refusal_reply (reason_of why)
 
 -- the letter of what a bracket is: `o` and `c` of a pair, `u` for one that none closes, `x` for one that closes none
 abbrev pub status_letter : Status → ℕ
@@ -99,20 +98,20 @@ entry_part e =
 abbrev pub entries_reply : List Entry → List ℕ
 entries_reply entries = codes "ok" ++ flat_map entry_part entries ++ codes "\n"
 
-abbrev pub brackets_answer : Result (List Entry) ModelError → List ℕ
+abbrev pub brackets_answer : Result (List Entry) FlatRefusal → List ℕ
 brackets_answer (Ok entries) = entries_reply entries
-brackets_answer (Err e) = refusal_reply (refusal_of e)
+brackets_answer (Err why) = refusal_reply (reason_of why)
 
 -- `ok LINE COL LEN`, or `ok none`
-abbrev pub match_answer : Result (Option (Position × ℕ)) ModelError → List ℕ
+abbrev pub match_answer : Result (Option (Position × ℕ)) FlatRefusal → List ℕ
 match_answer (Ok None) = none_reply
 match_answer (Ok (Some partner)) = ok_reply (partner.0.line ∷ partner.0.column ∷ partner.1 ∷ [])
-match_answer (Err e) = refusal_reply (refusal_of e)
+match_answer (Err why) = refusal_reply (reason_of why)
 
 -- `ok LEVEL`
-abbrev pub level_answer : Result ℕ ModelError → List ℕ
+abbrev pub level_answer : Result ℕ FlatRefusal → List ℕ
 level_answer (Ok level) = ok_reply (level ∷ [])
-level_answer (Err e) = refusal_reply (refusal_of e)
+level_answer (Err why) = refusal_reply (reason_of why)
 
 abbrev pub span_between : Option ℕ → Option ℕ → Option Span
 span_between None end = None

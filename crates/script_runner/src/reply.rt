@@ -5,10 +5,10 @@ ghost use Rattle.bracket_rules.specs.Table.{standard_table};
 ghost use Rattle.document_rules.specs.Document.{flat_offset, flat_position};
 ghost use Rattle.script_lines.specs.Commands.{command_of};
 ghost use Rattle.script_lines.specs.Replies.{text_reply, refusal_reply};
-ghost use Rattle.script_runner.specs.Step.{refusal_of, offset_answer, position_answer, step, Answers};
+ghost use Rattle.script_runner.specs.Step.{offset_answer, position_answer, step, Answers};
 ghost use Rattle.script_runner.specs.Script.{Turn, commanded};
 ghost use Rattle.script_runner.specs.Progress.{IsLineSoFar};
-ghost use Rattle.script_runner.specs.Bytes.{bytes_of, change_answer, move_answer, TextOrMemory};
+ghost use Rattle.script_runner.specs.Bytes.{bytes_of, refusal_of, change_answer, move_answer, TextOrMemory};
 
 use crate::bracket_replies::{brackets_reply, level_reply, match_reply};
 use crate::decoration_replies::{deco_reply, decorate_reply, decos_reply};

@@ -1,6 +1,9 @@
 //! The program's words, and what each run of it does.
 
-ghost use Rattle.std.specs.Prelude.{◌≡◌, ◌≤◌, ◌<◌, ◌⊎◌, ℕ, List, true, false, Some, map, string_bytes, vec_len, IfOk, length};
+ghost use Rattle.std.specs.Prelude.{◌≡◌, ◌≢◌, ◌≤◌, ◌<◌, ◌⊎◌, ℕ, List, true, false, Some, map, string_bytes, vec_len, IfOk, length};
+ghost use Rattle.document_rules.specs.Document.{FlatState};
+ghost use Rattle.script_runner.specs.Step.{memory_reply};
+ghost use Rattle.script_runner.specs.Script.{turn, Transcript, IsDecided};
 ghost use Rattle.script_runner.specs.Runs.{is_run, most_script_bytes, number_of, status_after, EndsWith, ShowsUsage, Runs, IsAnswered};
 
 use crate::serving::{Served, serve};
@@ -49,6 +52,11 @@ pub fn run_words<S: Source, K: Sink, E: Sink>(
     ensures headline { is_run (map string_bytes words.now) ≡ true → result ≤ 1 → (script before after : List ℕ)
         → (S.state src.old).left ≡ Some script → (K.state out.old).taken ≡ Some before
         → (K.state out.new).taken ≡ Some after → IsAnswered script before after result }
+
+    // What was written leaves no choice. A flat reply is never `! memory`, so the replies tell where memory was wanting.
+    ensures flat { (f : FlatState) (line : List ℕ) → (turn f line).0 ≢ memory_reply }
+    ensures decided { (start : FlatState) (lines replies : List (List ℕ)) (end : FlatState)
+        → Transcript start lines replies end → IsDecided start lines replies end }
 
     // What stands at each status, for streams that tell and for others.
     ensures run { is_run (map string_bytes words.now) ≡ true → EndsWith result (λ status.

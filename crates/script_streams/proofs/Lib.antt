@@ -1,4 +1,2 @@
-pub mod PlanLemmas
 pub mod StreamLaws
-pub mod SupplyLemmas
 pub mod WriterLemmas

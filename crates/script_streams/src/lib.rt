@@ -1,21 +1,13 @@
-//! Where a script comes from and where its replies go: the traits, and what stands for them in tests.
+//! Where a script comes from and where its replies go: the traits, and streams over std's readers and writers.
 #![tactic(auto)]
 
-mod memory;
 mod standard;
-mod supply;
-mod sure;
-mod tray;
-mod turn;
 mod whole;
 
 ghost use Rattle.script_streams.specs.Streams.{SourceState, SinkState, Reads, Writes};
 
-pub use memory::{MemSink, MemSource};
 pub use standard::{StdSink, StdSource};
-pub use sure::{SureSink, SureSource};
 use thiserror::Error;
-pub use turn::Turn;
 pub use whole::write_whole;
 
 /// A read or a write failed.
@@ -42,6 +34,3 @@ pub trait Sink {
     fn write(&mut self, piece: &[u8]) -> Result<usize, Failed>
         ensures { Writes result (state self.old) (state self.new) piece.now };
 }
-
-#[cfg(test)]
-mod tests;

@@ -29,7 +29,7 @@ ends_with-drop unit (suc n) [] h = absurd (omega arith)
 ends_with-drop unit (suc n) (u ∷ []) h = absurd (omega arith)
 ends_with-drop unit (suc n) (u ∷ v ∷ x) h = ends_with-drop unit n (v ∷ x) (omega arith)
 
-begins_with-take : (n : ℕ) (x y : List ℕ) → joins_pair x y ≡ false → joins_pair x (take n y) ≡ false
+pub begins_with-take : (n : ℕ) (x y : List ℕ) → joins_pair x y ≡ false → joins_pair x (take n y) ≡ false
 begins_with-take zero x y e = and_false (ends_with carriage_return x)
 begins_with-take (suc n) x [] e = e
 begins_with-take (suc n) x (u ∷ y) e = e

@@ -231,10 +231,11 @@ pub no_pair_before : (x : List ℕ) (start end : ℕ) → end < start + 2 → en
 no_pair_before x start end short =
     ends_with_pair_short (take (end - start) (drop start x)) (omega (arith, length-take (end - start) (drop start x)))
 
-pub pair_before_by : (x : List ℕ) (start end : ℕ) (first second : Bool) → start + 2 ≤ end → end ≤ length x
-    → (get_or x (end - 2) 0 == 13) ≡ first → (get_or x (end - 1) 0 == 10) ≡ second → ends_with_pair (take (end - start) (drop start x)) ≡ (first && second)
-pair_before_by x start end first second long within a b =
-    pair_before x start end long within ∙ ap (λ f. f && (get_or x (end - 1) 0 == 10)) a ∙ ap (λ s. first && s) b
+-- a pair at the end of a line is one at the end of the text up to there
+pub pair_of_line : (x : List ℕ) (start end : ℕ) → start + 2 ≤ end → end ≤ length x → ends_with_pair (take (end - start) (drop start x)) ≡ ends_with_pair (take end x)
+pair_of_line x start end long within =
+    let all : end - 0 ≡ end = omega arith in
+    pair_before x start end long within ∙ sym (pair_before x 0 end (omega arith) within) ∙ ap (λ (n : ℕ). ends_with_pair (take n x)) all
 
 -- where the content of a line ends
 pub content_end_by : (x : List ℕ) (line start end : ℕ) (d : Line) (pair : Bool) → 0 < line → line < length (lines_of x) → start ≡ line_start x line → end ≡ line_start x (line + 1)

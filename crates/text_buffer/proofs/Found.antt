@@ -1,20 +1,36 @@
 -- What a looked-up piece says of the text.
-use Rattle.std.proofs.Common.{◌≡◌, ℕ, ◌+◌, ◌-◌, ◌<◌, ◌≤◌, false, List, [], ◌∷◌, ◌++◌, length, take, drop, get_or, map, add-zero, zero-add, refl, ap, sym, subst, ◌∙◌, arith}
+use Rattle.std.proofs.Common.{◌≡◌, ℕ, zero, suc, ◌+◌, ◌-◌, ◌<◌, ◌≤◌, true, false, cond, List, [], ◌∷◌, ◌++◌, length, take, drop, get_or, map, add-zero, zero-add, refl, ap, sym, subst, ◌∙◌, arith}
 use Rattle.std.specs.List.{All}
-use Rattle.std.proofs.lemmas.List.{map-append, length-map, take_at, drop_at, drop-append-le, length-append, get_or_append_left, get_or-append_right, get_or-map}
+use Rattle.std.proofs.lemmas.List.{map-append, length-map, length-take-le, take_at, drop_at, take-append-le, drop-append-le, length-append, get_or_append_left, get_or-append_right, get_or-map}
 use Rattle.std.proofs.lemmas.List.Elements.{All-head, All-tail, All-take, All-drop, All-same}
-use Rattle.chunk_buffers.specs.Chunks.{units_at, LiesIn}
+use Rattle.chunk_buffers.specs.Chunks.{Shown, units_at, LiesIn}
 use Rattle.line_starts.specs.Starts.{break_count}
 use Rattle.line_starts.proofs.Starts.{break_count_is}
 use Rattle.piece_tree.specs.declared.piece.Piece.{Piece}
 use Rattle.piece_tree.specs.declared.piece.Found.{Found}
-use Rattle.piece_tree.specs.Pieces.{Entry, pieces_of, unit_count, break_count_of, IsPieceOf, IsFound}
+use Rattle.piece_tree.specs.Costs.{WithinLookUps}
+use Rattle.piece_tree.specs.Pieces.{Pieces, Entry, pieces_of, unit_count, break_count_of, IsPieceOf, IsFound}
 use Rattle.piece_tree.proofs.Sums.{units-cons, breaks-cons}
 use Rattle.text_rules.specs.Lines.{lines_of, line_start}
-use Rattle.text_rules.proofs.Breaks.{break_ends, break_ends-append, break_ends_moved, joins_pair, line_count_is, line_start_is, count_to, count_to_all, count_to_none, count_to-append, count_to-later, count_to-moved}
-use Rattle.text_buffer.specs.Text.{spelled, IsUnsplit}
-use Rattle.text_buffer.proofs.Spelling.{spelled-append, length-spelled, length-units_at, drop-past}
-use Rattle.text_buffer.proofs.Borders.{unsplit-parts}
+use Rattle.text_rules.proofs.Breaks.{ends_break, break_ends, break_ends-append, break_ends_moved, joins_pair, line_count_is, line_start_is, count_to, count_to_all, count_to_none, count_to-append, count_to-later, count_to-moved}
+use Rattle.text_buffer.specs.Text.{Text, text_of, spelled, IsUnsplit, ends_with_pair}
+use Rattle.text_buffer.proofs.Spelling.{spelled-append, length-spelled, length-units_at, take-past, drop-past}
+use Rattle.text_buffer.proofs.Borders.{unsplit-parts, begins_with-take}
+use Rattle.text_buffer.proofs.Contents.{pair_of_line}
+
+after_cons : (at e : ℕ) (ends : List ℕ) → at < e → ((k d : ℕ) → k < length ends → at < get_or ends k d) → (k d : ℕ) → k < length (e ∷ ends) → at < get_or (e ∷ ends) k d
+after_cons at e ends first later zero d inside = first
+after_cons at e ends first later (suc k) d inside = later k d (omega arith)
+
+-- each break ends after the place where the text stands
+pub break_ends_after : (at place : ℕ) (x : List ℕ) → at ≤ place → (k d : ℕ) → k < length (break_ends place x) → at < get_or (break_ends place x) k d
+break_ends_after at place [] h = λ k d inside. absurd (omega arith)
+break_ends_after at place (u ∷ x) h =
+    let ends : List ℕ = break_ends (place + 1) x in
+    elim (ends_break u x) as (λ b. (k d : ℕ) → k < length (cond b ((place + 1) ∷ ends) ends) → at < get_or (cond b ((place + 1) ∷ ends) ends) k d) [
+      | true ↦ after_cons at (place + 1) ends (omega arith) (break_ends_after at (place + 1) x (omega arith))
+      | false ↦ break_ends_after at (place + 1) x (omega arith)
+    ]
 
 ends_count : (at : ℕ) (x : List ℕ) → length (break_ends at x) ≡ length (break_ends 0 x)
 ends_count at x =
@@ -41,6 +57,23 @@ breaks_of_pieces b (p ∷ ps) all a =
 
 pub line_count_of_pieces : (b : List (List ℕ)) (ps : List Piece) → All (IsPieceOf b) ps → IsUnsplit b ps → break_count_of ps + 1 ≡ length (lines_of (spelled b ps))
 line_count_of_pieces b ps all a = omega (arith, breaks_of_pieces b ps all a, line_count_is (spelled b ps))
+
+-- a look-up among the pieces is one among the spans that contracts see
+pub among_spans : (tree : Pieces) (chunks : Shown) (seen : Text) (look_ups nodes : ℕ) → text_of tree chunks ≡ seen
+    → WithinLookUps look_ups (length tree.entries) nodes → WithinLookUps look_ups (length seen.spans) nodes
+among_spans tree chunks seen look_ups nodes shown cost =
+    let count : length tree.entries ≡ length (map (λ (p : Piece). p.span) (pieces_of tree.entries)) =
+    sym (length-map (pieces_of tree.entries) (λ p. p.span) ∙ length-map tree.entries (λ e. e.piece)) in
+    subst (λ (n : ℕ). WithinLookUps look_ups n nodes) (count ∙ ap (λ (t : Text). length t.spans) shown) cost
+
+-- whether a text ends with a pair that its second part has whole
+pair_after : (x w : List ℕ) → 0 < length w → joins_pair x w ≡ false → ends_with_pair (x ++ w) ≡ ends_with_pair w
+pair_after x [] some apart = absurd (omega arith)
+pair_after [] (v ∷ w) some apart = refl
+pair_after (u ∷ []) (v ∷ []) some apart = apart
+pair_after (u ∷ []) (v ∷ w ∷ ws) some apart = refl
+pair_after (u ∷ t ∷ []) (v ∷ w) some apart = pair_after (t ∷ []) (v ∷ w) some apart
+pair_after (u ∷ t ∷ s ∷ x) (v ∷ w) some apart = pair_after (t ∷ s ∷ x) (v ∷ w) some apart
 
 module _ (b : List (List ℕ)) (entries : List Entry) (found : Found) (is : IsFound entries found) (all : All (IsPieceOf b) (pieces_of entries)) where
   abbrev pub earlier_text : List ℕ
@@ -95,15 +128,19 @@ module _ (b : List (List ℕ)) (entries : List Entry) (found : Found) (is : IsFo
       ∙ get_or-append_right earlier_text (own_text ++ later_text) found.before.units offset 0 found_start start
       ∙ get_or_append_left own_text later_text 0 (offset - found.before.units) (omega (arith, found_size))
 
+  -- from a place in the piece the text goes on with the rest of the piece
+  pub found_rest : (offset : ℕ) → found.before.units ≤ offset → offset < found.before.units + found.span.units
+      → drop offset (spelled b (pieces_of entries)) ≡ drop (offset - found.before.units) own_text ++ later_text
+  found_rest offset start end =
+      ap (drop offset) found_text ∙ drop-past offset found.before.units earlier_text (own_text ++ later_text) (sym found_start) start
+      ∙ drop-append-le (offset - found.before.units) own_text later_text (omega (arith, found_size))
+
   -- the units from a place in the piece to its end are the next ones of the text
   pub found_run : (offset : ℕ) → found.before.units ≤ offset → offset < found.before.units + found.span.units
       → drop (offset - found.before.units) own_text ≡ take (length (drop (offset - found.before.units) own_text)) (drop offset (spelled b (pieces_of entries)))
   found_run offset start end =
       let run : List ℕ = drop (offset - found.before.units) own_text in
-      let rest : drop offset (spelled b (pieces_of entries)) ≡ run ++ later_text =
-      ap (drop offset) found_text ∙ drop-past offset found.before.units earlier_text (own_text ++ later_text) (sym found_start) start
-      ∙ drop-append-le (offset - found.before.units) own_text later_text (omega (arith, found_size)) in
-      sym (ap (take (length run)) rest ∙ take_at run later_text (length run) refl)
+      sym (ap (take (length run)) (found_rest offset start end) ∙ take_at run later_text (length run) refl)
 
   module _ (full : All (λ (p : Piece). 0 < p.span.units) (pieces_of entries)) (unsplit : IsUnsplit b (pieces_of entries)) where
     full_earlier : All (λ (p : Piece). 0 < p.span.units) (pieces_of is.earlier)
@@ -115,6 +152,30 @@ module _ (b : List (List ℕ)) (entries : List Entry) (found : Found) (is : IsFo
 
     parts : (joins_pair earlier_text (own_text ++ later_text) ≡ false) × (IsUnsplit b (pieces_of is.earlier) × IsUnsplit b (own ∷ pieces_of is.later))
     parts = unsplit-parts b (pieces_of is.earlier) (own ∷ pieces_of is.later) all_earlier full_earlier (subst (IsUnsplit b) pieces_are unsplit)
+
+    -- a CR LF at the end of a front of the piece lies in the piece
+    pub found_pair : (own : ℕ) → 0 < own → own ≤ found.span.units
+        → ends_with_pair (take (found.before.units + own) (spelled b (pieces_of entries))) ≡ ends_with_pair (take own own_text)
+    found_pair own some within =
+        let rest : found.before.units + own - found.before.units ≡ own = omega arith in
+        let front : take own (own_text ++ later_text) ≡ take own own_text = take-append-le own own_text later_text (omega (arith, found_size)) in
+        let size : 0 < length (take own own_text) = omega (arith, length-take-le own own_text (omega (arith, found_size))) in
+        ap (λ s. ends_with_pair (take (found.before.units + own) s)) found_text
+        ∙ ap ends_with_pair
+        (take-past (found.before.units + own) found.before.units earlier_text (own_text ++ later_text) (sym found_start) (omega arith)
+        ∙ ap (λ (n : ℕ). earlier_text ++ take n (own_text ++ later_text)) rest)
+        ∙ ap (λ s. ends_with_pair (earlier_text ++ s)) front
+        ∙ pair_after earlier_text (take own own_text) size
+        (ap (joins_pair earlier_text) (sym front) ∙ begins_with-take own earlier_text (own_text ++ later_text) parts.0)
+
+    -- whether a line ends with CR LF, where the piece has its break
+    pub found_line_pair : (start end own : ℕ) → found.before.units + own ≡ end → 0 < own → own ≤ found.span.units → start + 2 ≤ end
+        → ends_with_pair (take (end - start) (drop start (spelled b (pieces_of entries)))) ≡ ends_with_pair (take own own_text)
+    found_line_pair start end own end_is some within long =
+        let x : List ℕ = spelled b (pieces_of entries) in
+        let reach : end ≤ length x =
+        omega (arith, ap length found_text, length-append earlier_text (own_text ++ later_text), length-append own_text later_text, found_start, found_size) in
+        pair_of_line x start end long reach ∙ ap (λ (n : ℕ). ends_with_pair (take n x)) (sym end_is) ∙ found_pair own some within
 
     pub earlier_breaks : length (break_ends 0 earlier_text) ≡ found.before.breaks
     earlier_breaks = sym (breaks_of_pieces b (pieces_of is.earlier) all_earlier parts.1.0) ∙ ap (λ s. s.breaks) (sym is.before)

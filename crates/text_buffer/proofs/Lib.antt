@@ -2,9 +2,9 @@ pub mod Spelling
 pub mod Borders
 pub mod Extended
 pub mod Replacing
+pub mod Contents
 pub mod Found
+pub mod Walks
 pub mod Edited
 pub mod Lasts
-pub mod Runs
-pub mod Contents
 pub mod Positions

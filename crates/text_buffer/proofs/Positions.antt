@@ -1,11 +1,37 @@
 -- Positions that are there, and positions that are not.
-use Rattle.std.proofs.Common.{◌≡◌, ℕ, ◌+◌, ◌-◌, ◌<◌, ◌≤◌, ◌&&◌, leb, Bool, true, false, if◌then◌else◌, Option, Some, None, List, length, get_or, refl, ap, sym, ◌∙◌, arith}
+use Rattle.std.proofs.Common.{◌≡◌, ℕ, ◌+◌, ◌-◌, ◌<◌, ◌≤◌, ◌&&◌, leb, ltb, not, Bool, true, false, if◌then◌else◌, Option, Some, None, List, length, get_or, refl, ap, sym, ◌∙◌, arith}
+use Rattle.std.specs.Option.{unwrap_or}
+use Rattle.std.specs.Char.Utf16.{is_high_surrogate, is_low_surrogate}
 use Rattle.std.proofs.lemmas.Bool.{le-leb, lt-leb}
+use Rattle.std.proofs.lemmas.List.{get_or_past}
+use Rattle.std.proofs.lemmas.Option.{none-some}
 use Rattle.text_lengths.specs.declared.Position.{Position}
-use Rattle.unit_text.specs.Units.{is_place}
+use Rattle.unit_text.specs.Units.{cuts_pair, is_place}
 use Rattle.text_rules.specs.Lines.{Line, lines_of, line_at, line_start}
 use Rattle.text_rules.specs.Positions.{is_position, offset_of, has_column}
 use Rattle.text_buffer.proofs.Contents.{line_at_is, no_line_at}
+
+none_cut : (some high : Bool) → not (some && high && false) ≡ true
+none_cut true true = refl
+none_cut true false = refl
+none_cut false high = refl
+
+-- the end of the text is a place
+pub place_at_end : (x : List ℕ) (offset : ℕ) → offset ≡ length x → is_place x offset ≡ true
+place_at_end x offset at_end =
+    let past : get_or x offset 0 ≡ 0 = get_or_past x offset 0 (omega arith) in
+    ap (λ b. b && not (cuts_pair x offset)) (le-leb offset (length x) (omega arith))
+    ∙ ap (λ u. not (ltb 0 offset && is_high_surrogate (get_or x (offset - 1) 0) && is_low_surrogate u)) past
+    ∙ none_cut (ltb 0 offset) (is_high_surrogate (get_or x (offset - 1) 0))
+
+-- a place where no pair is cut
+pub place_inside : (x : List ℕ) (offset : ℕ) → offset ≤ length x → cuts_pair x offset ≡ false → is_place x offset ≡ true
+place_inside x offset within whole = ap (λ b. b && not (cuts_pair x offset)) (le-leb offset (length x) within) ∙ ap not whole
+
+-- what is answered only at a place
+pub some_at_place : (place : Bool) (n m : ℕ) → Some m ≡ (if place then Some n else None) → (place ≡ true) × (m ≡ n)
+some_at_place true n m e = (refl, ap (λ o. unwrap_or o m) e)
+some_at_place false n m e = absurd (none-some m (sym e))
 
 abbrev answer : List ℕ → Position → Option ℕ
 answer x p = if is_position x p then Some (offset_of x p) else None

@@ -1,1 +1,2 @@
 pub mod Text
+pub use Rattle.piece_tree.specs.Costs

@@ -3,8 +3,6 @@
 
 mod look_up;
 mod text;
+mod walk;
 
 pub use text::TextBuffer;
-
-#[cfg(test)]
-mod tests;

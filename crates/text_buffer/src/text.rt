@@ -1,8 +1,9 @@
 //! The text, with its edits.
 
-ghost use Rattle.std.specs.Prelude.{◌≡◌, ℕ, ◌+◌, ◌-◌, ◌*◌, ◌<◌, ◌≤◌, ◌^◌, ◌&&◌, ◌++◌, ◌∷◌, List, [], true, false, if◌then◌else◌, length, map, take, drop, slice_index, slice_index_or, OnOk, OnErr, IfOk, vec_len, vec_capacity};
+ghost use Rattle.std.specs.Prelude.{◌≡◌, ℕ, ◌+◌, ◌-◌, ◌*◌, ◌<◌, ◌≤◌, ◌^◌, ◌&&◌, ◌++◌, ◌∷◌, List, [], true, false, if◌then◌else◌, length, map, take, drop, slice_index, slice_index_or, OnOk, OnErr, IfOk, IfSome};
 ghost use Rattle.std.specs.List.{All, flat_map};
 ghost use Rattle.chunk_buffers.specs.Chunks.{units_at, unit_count, LiesIn, Extends};
+ghost use Rattle.piece_tree.specs.Costs.{WithinLookUps};
 ghost use Rattle.unit_text.specs.Units.{is_place};
 ghost use Rattle.text_rules.specs.Positions.{position_of, is_position, offset_of};
 ghost use Rattle.text_rules.specs.Edits.{edited};
@@ -10,7 +11,8 @@ ghost use Rattle.text_rules.specs.Lines.{Line, lines_of, line_at, line_start, li
 ghost use Rattle.text_rules.proofs.Breaks.{ends_with, joins_pair, count_to, break_ends};
 ghost use Rattle.text_buffer.specs.Text.{unit_if, one_if, IsAdded, ends_with_pair};
 
-use crate::look_up::piece_at;
+use crate::look_up::{break_at, cuts_pair_at, piece_at};
+use crate::walk::push_span;
 use chunk_buffers::{ChunkSpan, Chunks};
 use piece_tree::PieceTree;
 use std::alloc::{AllocError, Global};
@@ -18,7 +20,7 @@ use std::marker::{Brand, Model};
 use std::sync::ledger::{Blank, Ledger};
 use steps::Steps;
 use text_lengths::{Position, Span};
-use unit_text::{Flat, cuts_pair};
+use unit_text::Flat;
 
 const LINE_FEED: u16 = 10;
 
@@ -76,6 +78,8 @@ impl TextBuffer {
     pub fn reserve(&mut self, edits: u64, units: u64) -> Result<(), AllocError>
         ensures edits { OnOk result (edits ≤ self.new.spare_edits) }
         ensures room { OnOk result (units + 3 * edits ≤ self.new.spare_units) }
+        ensures kept_edits { self.old.spare_edits ≤ self.new.spare_edits }
+        ensures kept_room { self.old.spare_units ≤ self.new.spare_units }
         ensures same { self.new.units ≡ self.old.units }
         ensures spans { self.new.spans ≡ self.old.spans }
         ensures grown { Extends self.old.buffers self.new.buffers }
@@ -175,14 +179,15 @@ impl TextBuffer {
         Span { start, end }
     }
 
-    /// The position of the offset; None where the offset is no place of the text.
+    /// The position of the offset; None where the offset is no place of the text. Each node that is visited is a step.
     pub fn position_at<L: Ledger>(&self, offset: u64, steps: &mut Steps<L>) -> Option<Position>
-        ensures { result ≡ (if is_place self.now.units offset then Some (position_of self.now.units offset) else None) }
+        ensures position { result ≡ (if is_place self.now.units offset
+            then Some (position_of self.now.units offset) else None) }
+        ensures cost { WithinLookUps 3 (length self.now.spans) (steps.new - steps.old) }
     {
-        if !self.is_place_counted(offset, steps) {
+        let Some(breaks) = self.breaks_at(offset, steps) else {
             return None;
-        }
-        let breaks = self.breaks_to(offset, steps);
+        };
         let start = self.line_start(breaks, steps);
         Some(Position {
             line: breaks + 1,
@@ -190,9 +195,11 @@ impl TextBuffer {
         })
     }
 
-    /// The offset of the position; None where it is no position of the text.
+    /// The offset of the position; None where it is no position of the text. Each node that is visited is a step.
     pub fn offset_at<L: Ledger>(&self, position: Position, steps: &mut Steps<L>) -> Option<u64>
-        ensures { result ≡ (if is_position self.now.units position then Some (offset_of self.now.units position) else None) }
+        ensures offset { result ≡ (if is_position self.now.units position
+            then Some (offset_of self.now.units position) else None) }
+        ensures cost { WithinLookUps 4 (length self.now.spans) (steps.new - steps.old) }
     {
         if position.line == 0 {
             return None;
@@ -221,89 +228,86 @@ impl TextBuffer {
         requires first { 0 < line }
         requires there { line ≤ length (lines_of self.now.units) }
         requires start { start ≡ line_start self.now.units line }
+        requires small { start < 2 ^ 62 }
         ensures content { (d : Line) → result ≡ start + length (slice_index_or (lines_of self.now.units) (line - 1) d).content }
         ensures within { result ≤ length self.now.units }
+        ensures cost { WithinLookUps 1 (length self.now.spans) (steps.new - steps.old) }
     {
         if line == self.line_count() {
             return self.len();
         }
-        let end = self.line_start(line, steps);
-        if self.is_pair_before(start, end, steps) {
+        let (found, own) = break_at(&self.pieces, &self.chunks, line, steps);
+        let end = found.before.units + own;
+        if end < start + 2 {
+            return end - 1;
+        }
+        // A CR LF lies in one piece.
+        if ends_with_pair(&self.chunks.units(found.span)[..own as usize]) {
             end - 2
         } else {
             end - 1
         }
     }
 
-    // Whether the units from one place to another end with CR LF.
-    fn is_pair_before<L: Ledger>(&self, start: u64, end: u64, steps: &mut Steps<L>) -> bool
-        requires { end ≤ length self.now.units }
-        ensures { result ≡ ends_with_pair (take (end - start) (drop start self.now.units)) }
+    // How many breaks end at the offset or before it; None where the offset is no place of the text.
+    fn breaks_at<L: Ledger>(&self, offset: u64, steps: &mut Steps<L>) -> Option<u64>
+        ensures breaks { result ≡ (if is_place self.now.units offset
+            then Some (count_to offset (break_ends 0 self.now.units)) else None) }
+        ensures few { IfSome result (λ breaks. breaks < 2 ^ 62) }
+        ensures small { IfSome result (λ breaks. offset < 2 ^ 62) }
+        ensures cost { WithinLookUps 2 (length self.now.spans) (steps.new - steps.old) }
     {
-        if end < 2 || end - 2 < start {
-            return false;
+        if offset > self.len() {
+            return None;
         }
-        if self.unit_counted(end - 2, steps) != CARRIAGE_RETURN {
-            return false;
-        }
-        self.unit_counted(end - 1, steps) == LINE_FEED
-    }
-
-    // How many breaks end at the offset or before it.
-    fn breaks_to<L: Ledger>(&self, offset: u64, steps: &mut Steps<L>) -> u64
-        requires { offset ≤ length self.now.units }
-        ensures breaks { result ≡ count_to offset (break_ends 0 self.now.units) }
-        ensures small { result < 2 ^ 62 }
-    {
-        if offset >= self.pieces.len() {
-            return self.pieces.breaks();
+        if offset == self.len() {
+            return Some(self.pieces.breaks());
         }
         let found = self.pieces.find_offset(offset, steps);
+        if cuts_pair_at(&self.pieces, &self.chunks, &found, offset, steps) {
+            return None;
+        }
         let own = self
             .chunks
             .breaks_to(found.span, offset - found.before.units);
-        found.before.breaks + own
+        Some(found.before.breaks + own)
     }
 
     // The start of the line after so many breaks.
     fn line_start<L: Ledger>(&self, breaks: u64, steps: &mut Steps<L>) -> u64
         requires { breaks < length (lines_of self.now.units) }
-        ensures { result ≡ line_start self.now.units (breaks + 1) }
+        ensures start { result ≡ line_start self.now.units (breaks + 1) }
+        ensures small { result < 2 ^ 62 }
+        ensures cost { WithinLookUps 1 (length self.now.spans) (steps.new - steps.old) }
     {
         if breaks == 0 {
             return 0;
         }
-        let found = self.pieces.find_line(breaks, steps);
-        let own = self
-            .chunks
-            .nth_break(found.span, breaks - found.before.breaks);
+        let (found, own) = break_at(&self.pieces, &self.chunks, breaks, steps);
         found.before.units + own
     }
 
     // `is_place`, with its look-ups counted.
     fn is_place_counted<L: Ledger>(&self, offset: u64, steps: &mut Steps<L>) -> bool
         ensures place { result ≡ is_place self.now.units offset }
-        ensures inside { result ≡ true → offset ≤ length self.now.units }
-        ensures small { result ≡ true → offset < 2 ^ 62 }
+        ensures cost { WithinLookUps 2 (length self.now.spans) (steps.new - steps.old) }
     {
-        if offset > self.len() {
-            return false;
+        if offset >= self.len() {
+            return offset == self.len();
         }
-        if offset == 0 || offset == self.len() {
-            return true;
-        }
-        let high = self.unit_counted(offset - 1, steps);
-        !cuts_pair(&[high, self.unit_counted(offset, steps)], 1)
+        let found = self.pieces.find_offset(offset, steps);
+        !cuts_pair_at(&self.pieces, &self.chunks, &found, offset, steps)
     }
 
-    // `unit`, with its look-up counted.
-    fn unit_counted<L: Ledger>(&self, offset: u64, steps: &mut Steps<L>) -> u16
-        requires { offset < length self.now.units }
-        ensures { result ≡ slice_index self.now.units offset }
+    // `is_place`, with look-ups that nobody counts.
+    fn is_place_for<L: Ledger>(&self, offset: u64, blank: Blank) -> bool
+        requires name { blank.name ≡ L.name }
+        requires parts { blank.parts ≡ L.parts }
+        requires some { 0 < L.parts }
+        ensures { result ≡ is_place self.now.units offset }
     {
-        let found = self.pieces.find_offset(offset, steps);
-        let at = offset - found.before.units;
-        self.chunks.units(found.span)[at as usize]
+        let mut steps = Steps::<L>::new(blank);
+        self.is_place_counted(offset, &mut steps)
     }
 
     /// Appends the units of the span. An error leaves `out` as it was.
@@ -314,24 +318,8 @@ impl TextBuffer {
         ensures err { OnErr result (out.new.items ≡ out.old.items) }
     {
         out.reserve((span.end - span.start) as usize)?;
-        self.push_units(span, out);
+        push_span(&self.pieces, &self.chunks, span, out);
         Ok(())
-    }
-
-    // Appends the units of the span, for which there is room.
-    fn push_units(&self, span: Span, out: &mut Vec<u16>)
-        requires ordered { span.start ≤ span.end }
-        requires within { span.end ≤ length self.now.units }
-        requires room { vec_len out.old + (span.end - span.start) ≤ vec_capacity out.old }
-        ensures { out.new.items ≡ out.old.items ++ take (span.end - span.start) (drop span.start self.now.units) }
-    {
-        let mut at = span.start;
-        while at < span.end {
-            let run = self.run_at(at);
-            let units = (run.len() as u64).min(span.end - at);
-            let _ = out.extend_from_slice(&run[..units as usize]);
-            at += units;
-        }
     }
 
     // The units from a place on, up to the end of their piece.
@@ -344,19 +332,6 @@ impl TextBuffer {
         let units = self.chunks.units(found.span);
         let (_, run) = units.split_at((at - found.before.units) as usize);
         run
-    }
-
-    // Whether the offset is at most the length, and does not stand inside a pair of surrogates.
-    fn is_place_at(&self, offset: u64) -> bool
-        ensures { result ≡ is_place self.now.units offset }
-    {
-        if offset > self.len() {
-            return false;
-        }
-        if offset == 0 || offset == self.len() {
-            return true;
-        }
-        !cuts_pair(&[self.unit(offset - 1), self.unit(offset)], 1)
     }
 
     // Whether a CR before the span and an LF at the start of what comes after it make a pair.
@@ -427,7 +402,7 @@ impl Flat for TextBuffer {
     }
 
     fn is_place(&self, offset: u64) -> bool {
-        self.is_place_at(offset)
+        self.is_place_for::<Brand>(offset, Blank::new(1))
     }
 
     fn run(&self, at: u64) -> &[u16] {
@@ -451,6 +426,18 @@ fn line_feed_if(test: bool) -> &'static [u16]
     ensures { result.now ≡ unit_if test line_feed }
 {
     if test { &[LINE_FEED] } else { &[] }
+}
+
+// Whether the units end with CR LF.
+fn ends_with_pair(units: &[u16]) -> bool
+    ensures { result ≡ ends_with_pair units.now }
+{
+    if units.len() < 2 {
+        return false;
+    }
+    let before = units[units.len() - 2];
+    let last = units[units.len() - 1];
+    before == CARRIAGE_RETURN && last == LINE_FEED
 }
 
 // Appends the three texts as one, if they have any unit.

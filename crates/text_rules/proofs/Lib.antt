@@ -1,3 +1,4 @@
 pub mod EditLemmas
 pub mod Breaks
 pub mod Places
+pub mod TextLengths

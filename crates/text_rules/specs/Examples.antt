@@ -1,6 +1,7 @@
 -- Worked examples of the definitions.
 use Rattle.std.specs.Prelude.{◌≡◌, [], ◌∷◌, None, map, codes, false, true, refl}
-use Rattle.text_rules.specs.Lines.{lines_of, line_at, line_start}
+use Rattle.text_lengths.specs.Length.{length_of, no_length, length_plus}
+use Rattle.text_rules.specs.Lines.{lines_of, line_at, line_start, text_length}
 use Rattle.text_rules.specs.Positions.{position_of, offset_of, is_position}
 use Rattle.text_rules.specs.Edits.{edited, is_bad_span}
 
@@ -24,6 +25,25 @@ no_fifth_line = refl
 no_line_0 : line_at (codes "a") 0 ≡ None
 no_line_0 = refl
 
+length_of_four_lines : text_length (codes "a\r\nb\rc\nde") ≡ length_of 3 2
+length_of_four_lines = refl
+
+length_of_no_text : text_length [] ≡ no_length
+length_of_no_text = refl
+
+a_break_begins_a_line : text_length (codes "ab\n") ≡ length_of 1 0
+a_break_begins_a_line = refl
+
+-- lengths add up, save where a CR LF is cut in two
+lengths_of_two_texts : length_plus (text_length (codes "a\nb")) (text_length (codes "cd")) ≡ text_length (codes "a\nbcd")
+lengths_of_two_texts = refl
+
+length_of_cr_lf : text_length (codes "\r\n") ≡ length_of 1 0
+length_of_cr_lf = refl
+
+lengths_of_cr_and_lf : length_plus (text_length (codes "\r")) (text_length (codes "\n")) ≡ length_of 2 0
+lengths_of_cr_and_lf = refl
+
 over_a_break : edited (codes "ab\ncd") (record { span = record { start = 1; end = 4 }; text = codes "X"; force = false }) ≡ codes "aXd"
 over_a_break = refl
 
@@ -36,6 +56,10 @@ inside_a_break = refl
 
 no_position_inside_a_break : is_position (codes "a\r\nb") (record { line = 1; column = 3 }) ≡ false
 no_position_inside_a_break = refl
+
+-- a pair of surrogates has a position before it and one behind it
+positions_beside_a_pair : map (λ column. is_position (0xD83D ∷ 0xDE00 ∷ []) (record { line = 1; column = column })) (1 ∷ 2 ∷ 3 ∷ []) ≡ true ∷ false ∷ true ∷ []
+positions_beside_a_pair = refl
 
 the_end_of_the_last_line : offset_of (codes "a\r\nb\rc\nd") (record { line = 4; column = 2 }) ≡ 8
 the_end_of_the_last_line = refl

@@ -1,5 +1,7 @@
 -- Cutting a text into lines, as the text buffer of VS Code does: CR LF ends a line, and so does a lone CR or a lone LF.
 use Rattle.std.specs.Prelude.{ℕ, ◌+◌, ◌-◌, ◌==◌, Bool, false, ◌&&◌, ◌||◌, if◌then◌else◌, List, [], ◌∷◌, length, take, sum_by, Option, None, slice_get}
+use Rattle.text_lengths.specs.declared.Length.{Length}
+use Rattle.text_lengths.specs.Length.{length_of}
 
 pub record Line : Type 0 where
   pub content : List ℕ
@@ -50,3 +52,16 @@ line_at x n = if n == 0 then None else slice_get (lines_of x) (n - 1)
 -- how many units stand before the line of this number
 abbrev pub line_start : List ℕ → ℕ → ℕ
 line_start x n = sum_by line_length (take (n - 1) (lines_of x))
+
+-- what stands in the last line
+abbrev pub last_content : List Line → List ℕ
+last_content [] = []
+last_content (line ∷ []) = line.content
+last_content (line ∷ next ∷ lines) = last_content (next ∷ lines)
+
+-- how long these lines are together: the breaks between them, and the units after the last break
+abbrev pub length_of_lines : List Line → Length
+length_of_lines lines = length_of (length lines - 1) (length (last_content lines))
+
+abbrev pub text_length : List ℕ → Length
+text_length x = length_of_lines (lines_of x)

@@ -23,6 +23,15 @@ control_characters_are_escaped : quoted (0x61 ∷ 0x22 ∷ 0x01 ∷ 0x0A ∷ [])
 unfolding utf16_chars encode
 control_characters_are_escaped = refl
 
+-- a form feed and the last control character, in lower case
+escapes_are_hexadecimal : quoted (12 ∷ 31 ∷ []) ≡ codes "\"\\u000c\\u001f\""
+unfolding utf16_chars encode
+escapes_are_hexadecimal = refl
+
+a_delete_is_not_escaped : quoted (127 ∷ []) ≡ 34 ∷ 127 ∷ 34 ∷ []
+unfolding utf16_chars encode
+a_delete_is_not_escaped = refl
+
 inside_a_pair : cuts_pair (0xD83D ∷ 0xDE00 ∷ []) 1 ≡ true
 inside_a_pair = refl
 

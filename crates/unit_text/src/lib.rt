@@ -10,6 +10,3 @@ pub use flat::Flat;
 pub use quote::quoted;
 pub use units::{Units, cuts_pair};
 pub use utf8::{units_of, utf8_of};
-
-#[cfg(test)]
-mod tests;

@@ -2,9 +2,7 @@
 #![tactic(auto)]
 
 #[cfg(test)]
-mod batches;
-#[cfg(test)]
-mod decorated;
+mod deep;
 #[cfg(test)]
 mod draws;
 #[cfg(test)]
@@ -12,10 +10,10 @@ mod faults;
 #[cfg(test)]
 mod first_body;
 #[cfg(test)]
-mod nested;
-#[cfg(test)]
-mod one_list;
+mod library;
 #[cfg(test)]
 mod runs;
 #[cfg(test)]
-mod scripts;
+mod transcripts;
+#[cfg(test)]
+mod usage;

@@ -1,9 +1,9 @@
 //! Runs of the program over memory.
 ghost use Rattle.std.specs.Prelude.{◌<◌, All};
-ghost use Rattle.script_streams.specs.Plan.{GivesSomething};
+ghost use Rattle.memory_streams.specs.Plan.{GivesSomething};
 
+use memory_streams::{Fault, MemSink, MemSource, SureSink};
 use script_runner::run_words;
-use script_streams::{MemSink, MemSource, SureSink, Turn};
 use std::alloc::{AllocError, Global};
 use std::process::Abort;
 
@@ -12,7 +12,7 @@ use std::process::Abort;
 pub struct Stream<'a> {
     /// The most bytes that one call gives or takes.
     pub each: usize,
-    pub plan: &'a [Turn],
+    pub plan: &'a [Fault],
 }
 
 /// All at once, without a fault.
@@ -21,9 +21,25 @@ pub const ALL: Stream<'static> = Stream {
     plan: &[],
 };
 
+/// Runs the program with the words of the line.
+pub fn run_line(
+    alloc: Global,
+    line: &str,
+    src: &mut MemSource,
+    out: &mut MemSink,
+    err: &mut SureSink,
+) -> Result<u8, AllocError> {
+    let mut words = Vec::new(alloc);
+    for word in line.split_whitespace() {
+        words.push(String::from_str(alloc, word)?)?;
+    }
+    Ok(run_words(alloc, words.as_slice(), src, out, err))
+}
+
 /// Runs the words `run` over the script, and expects what is written and the status.
 pub fn expect_run<R: AllocGlobal + Abort>(
     rt: &R,
+    name: &str,
     script: &[u8],
     source: Stream<'_>,
     sink: Stream<'_>,
@@ -35,32 +51,15 @@ pub fn expect_run<R: AllocGlobal + Abort>(
     requires plan { All GivesSomething source.plan.now }
 {
     let alloc = rt.alloc();
-    let mut words = Vec::new(alloc);
-    words.push(String::from_str(alloc, "run")?)?;
     let mut src = MemSource::new(alloc, script, source.each, source.plan)?;
     let mut out = MemSink::new(alloc, 0x1_0000, sink.each, sink.plan)?;
     let mut err = SureSink::new(alloc, 4096, 1)?;
-    let ended = run_words(alloc, words.as_slice(), &mut src, &mut out, &mut err);
-    assert_eq!(rt; out.bytes(), Some(written));
-    assert_eq!(rt; ended, status);
-    assert_eq!(rt; err.bytes(), Some(b"".as_slice()));
+    let ended = run_line(alloc, "run", &mut src, &mut out, &mut err)?;
+    assert_eq!(rt; ended, status, "{name}");
+    assert_eq!(rt; out.bytes(), Some(written), "{name}");
+    assert!(rt;
+        err.bytes().is_some_and(|complaint| complaint.is_empty()),
+        "{name}"
+    );
     Ok(())
-}
-
-/// Runs the lines, each with its reply.
-pub fn expect_lines<R: AllocGlobal + Abort>(
-    rt: &R,
-    lines: &[(&str, &str)],
-    status: u8,
-) -> Result<(), AllocError> {
-    let alloc: Global = rt.alloc();
-    let mut script = String::new(alloc);
-    let mut replies = String::new(alloc);
-    for (line, reply) in lines {
-        script.push_str(line)?;
-        script.push('\n')?;
-        replies.push_str(reply)?;
-        replies.push('\n')?;
-    }
-    expect_run(rt, script.as_bytes(), ALL, ALL, replies.as_bytes(), status)
 }

@@ -1,4 +1,5 @@
 use Rattle.script_runner.proofs.RunLemmas.{answered_from_run}
+use Rattle.script_runner.proofs.DecidedLemmas.{decided, never_memory}
 use Rattle.script_runner.proofs.running.run_words.Goals as goal
 
 pub returns-clause-headline : goal.returns-clause-headline
@@ -6,3 +7,15 @@ returns-clause-headline g c =
     λ command few script before after told took takes.
     answered_from_run _ _ _ _ script before after told took takes _ few
     (c.run.result, c.number_of-2.ensures, c.run.ensures)
+
+pub returns-then-not-is_run-clause-flat : goal.returns-then-not-is_run-clause-flat
+returns-then-not-is_run-clause-flat g c = never_memory
+
+pub returns-then-not-is_run-clause-decided : goal.returns-then-not-is_run-clause-decided
+returns-then-not-is_run-clause-decided g c = decided
+
+pub returns-clause-flat : goal.returns-clause-flat
+returns-clause-flat g c = never_memory
+
+pub returns-clause-decided : goal.returns-clause-decided
+returns-clause-decided g c = decided

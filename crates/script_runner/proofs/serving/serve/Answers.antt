@@ -12,14 +12,15 @@ returns-then-given-eq0 g c =
     let offered = room c.loop-left.buf c.read.new.buf _ _ c.min-room.ensures c.read.auto.buf in
     let kept = c.loop-left.auto.buf in
     serves_end _ _ _ _ _ _ _ _ _ _ _ _ _ c.loop-left.invariant c.in-Ok.given c.read.new.buf c.in-Ok.ensures c.if-given-eq0.true
-    (omega (arith, c.requires)) c.ranges.most.fits c.finish.ensures
+    (omega (arith, c.requires)) c.ranges.most.fits (omega arith) c.finish.ensures
 
 pub returns-then-is_err : goal.returns-then-is_err
 returns-then-is_err g c =
     let n = c.in-Ok.given in
     let given = c.in-Ok.ensures in
+    let offered = room c.loop-left.buf c.read.new.buf _ _ c.min-room.ensures c.read.auto.buf in
     let piece = rw (take-append-le n c.read.new.buf (drop c.min-room.result c.loop-left.buf) given.within) at c.answer_piece.ensures in
-    served_to_write_fault _ _ _ _ _ _ _ _ _ c.loop-left.invariant _ n c.read.new.buf given _ _
+    served_to_write_fault _ _ _ _ _ _ _ _ _ c.loop-left.invariant _ n c.read.new.buf given (omega arith) (omega (arith, given.within)) _ _
     (piece_broken_at_err _ _ _ _ _ c.answer_piece.new.progress _ _ (sym c.is_err.ensures.value ∙ c.if-is_err.true) piece)
 
 pub loop-left-preserved : goal.loop-left-preserved

@@ -6,6 +6,7 @@ use Rattle.batch_rules.specs.Batches.{most_units, checked_batch, applied_from, i
 use Rattle.batch_rules.proofs.Standing.{accepted, text_units_applied}
 use Rattle.edit_stack.specs.Stack.{pushed}
 use Rattle.document_rules.specs.Document.{greatest_version, flat_edit}
+use Rattle.document_rules.proofs.PairedStates.{IsPairedState-edit}
 use Rattle.model_core.specs.State.{ModelState}
 use Rattle.model_core.specs.History.{history_of, IsHistory}
 use Rattle.model_core.specs.Carrying.{carried_with}
@@ -65,3 +66,7 @@ returns-clause-paired c =
     let text : c.apply.new.text.units ≡ applied_from 0 x c.in_ok-batch.batch = grind (arith, common_steps) in
     let same : c.args.self.now.document.units ≡ x = sym (ap (λ (m : ModelState). m.document.units) c.self.view_is) in
     rw text (edited_paired x c.args.ops.now c.in_ok-batch.batch rule (subst IsPaired same paired) texts)
+
+pub returns-clause-paired_state : goal.returns-clause-paired_state
+returns-clause-paired_state c =
+    λ texts paired. IsPairedState-edit (Ok tt) c.args.self.now.document _ c.args.ops.now (returns-clause-document c) texts paired

@@ -5,7 +5,11 @@ use Rattle.batch_rules.specs.Batches.{most_units}
 use Rattle.decoration_rules.specs.declared.Mark.{Mark}
 use Rattle.decoration_rules.specs.Decorations.{Decorations}
 use Rattle.decoration_rules.specs.Moves.{IsSpanIn, LieIn}
-use Rattle.model_core.specs.History.{IsHistory}
+use Rattle.edit_stack.specs.Stack.{Stack}
+use Rattle.document_rules.specs.Paired.{ArePairedSteps}
+use Rattle.document_rules.proofs.PairedStates.{no_steps}
+use Rattle.model_core.specs.declared.change.Change.{Change}
+use Rattle.model_core.specs.History.{IsHistory, undo_steps, redo_steps}
 use Rattle.model_core.proofs.model.Model.open_doc.Goals as goal
 
 pub invariant_of-self : goal.invariant_of-self
@@ -22,3 +26,14 @@ invariant_of-self c =
       },
       tt,
     )
+
+pub returns-clause-paired_state : goal.returns-clause-paired_state
+returns-clause-paired_state c =
+    λ paired old.
+    let x = c.in_ok-text.text.units in
+    let units : x ≡ c.args.text.now = grind (arith, common_steps) in
+    record {
+      units = rw units paired;
+      undo = subst (λ (s : Stack Change). ArePairedSteps (undo_steps x s.undo)) (sym c.new-2.ensures) no_steps;
+      redo = subst (λ (s : Stack Change). ArePairedSteps (redo_steps x s.redo)) (sym c.new-2.ensures) no_steps;
+    }

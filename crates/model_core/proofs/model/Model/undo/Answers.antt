@@ -1,10 +1,11 @@
-use Rattle.std.proofs.Common.{◌≡◌, refl, ◌+◌, ◌<◌, ◌≤◌, length, slice_get, Option, Some, None, Ok, Err, ap, sym, subst, ◌∙◌, arith, inl, inr}
+use Rattle.std.proofs.Common.{◌≡◌, refl, true, ◌+◌, ◌<◌, ◌≤◌, length, slice_get, Option, Some, None, Ok, Err, ap, sym, subst, ◌∙◌, arith, inl, inr}
 use Rattle.std.proofs.lemmas.Grind.{common_steps}
 use Rattle.batch_rules.specs.Batches.{most_units, text_units}
 use Rattle.edit_stack.specs.Stack.{Step, undone}
 use Rattle.edit_stack.specs.Element.{step_of}
-use Rattle.document_rules.specs.declared.ModelError.TheVariants.{Limit}
+use Rattle.document_rules.specs.Refusals.{limit}
 use Rattle.document_rules.specs.Document.{greatest_version, flat_undo}
+use Rattle.document_rules.proofs.PairedStates.{IsPairedState-undo}
 use Rattle.model_core.specs.State.{ModelState}
 use Rattle.model_core.specs.declared.change.Change.{Change}
 use Rattle.model_core.specs.declared.change.Way.TheVariants.{Back}
@@ -18,7 +19,7 @@ pub returns-in_default : goal.returns-in_default
 returns-in_default c =
     let m = c.self.inside in
     let none : slice_get m.history.stack.undo 0 ≡ None = grind (arith, common_steps) in
-    record { document = (sym (ap (λ (s : ModelState). flat_undo s.document) c.self.view_is) ∙ nothing_to_undo m.text.units m.version m.alternative m.decorations m.table m.history.stack none, refl); fresh = refl }
+    record { document = (sym (ap (λ (s : ModelState). flat_undo s.document) c.self.view_is) ∙ nothing_to_undo m.text.units m.version m.alternative m.decorations m.table m.history.stack none, refl); paired_state = λ paired. paired; fresh = refl }
 
 pub returns-in_err-version : goal.returns-in_err-version
 returns-in_err-version c =
@@ -26,7 +27,7 @@ returns-in_err-version c =
     let next : slice_get m.history.stack.undo 0 ≡ Some (step_of c.in-Some.step.now) = grind (arith, common_steps) in
     let step = undo_of m.text.units m.version m.alternative m.decorations m.table m.history.stack (step_of c.in-Some.step.now) next c.self.invariant.2 in
     let last : greatest_version < m.version + 1 = grind (arith, common_steps) in
-    let refused : flat_undo c.args.self.now.document ≡ Err Limit = sym (ap (λ (s : ModelState). flat_undo s.document) c.self.view_is) ∙ step.refused last in
+    let refused : flat_undo c.args.self.now.document ≡ Err limit = sym (ap (λ (s : ModelState). flat_undo s.document) c.self.view_is) ∙ step.refused last in
     grind (arith, common_steps)
 
 pub reserve_for-requires : goal.reserve_for-requires
@@ -75,3 +76,7 @@ returns-clause-document c =
     let alternative : c.alt_before-self-inside.result ≡ shown.alt_before = grind (arith, common_steps) in
     let decorations : c.take_back.new.decorations ≡ decorations_back m.decorations shown.changes = c.take_back.ensures.decorations ∙ ap (decorations_back m.decorations) c.changes-changes.ensures in
     rw (text, decorations, stack, version, alternative) (sym (ap (λ (s : ModelState). flat_undo s.document) c.self.view_is) ∙ step.accepted few)
+
+pub returns-clause-paired_state : goal.returns-clause-paired_state
+returns-clause-paired_state c =
+    λ paired. IsPairedState-undo (Ok true) c.args.self.now.document _ (returns-clause-document c) paired

@@ -1,6 +1,0 @@
-use Rattle.std.proofs.Common.{◌≡◌}
-use Rattle.bracket_rules.specs.Tree.{all_weight}
-use Rattle.bracket_nodes.proofs.tests.texts.Given as goal
-
-abbrev pub invariant-loop-i : goal.invariant-loop-i
-invariant-loop-i l = all_weight l.nodes.items ≡ l._i

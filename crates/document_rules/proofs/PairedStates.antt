@@ -1,0 +1,162 @@
+-- No call brings a lone surrogate into a document that has none, where the texts that it is given have none.
+use Rattle.std.proofs.Common.{◌≡◌, ℕ, ◌+◌, Bool, true, false, nat_lt, nat_le, if◌then◌else◌, List, [], ◌∷◌, ◌++◌, length, Option, Some, Result, Ok, Err, refl, sym, subst}
+use Rattle.std.specs.Prelude.{⊤, All}
+use Rattle.std.proofs.lemmas.List.Elements.{All-nil, All-cons, All-head, All-tail, All-push}
+use Rattle.unit_text.specs.Units.{IsPaired}
+use Rattle.text_rules.specs.declared.Op.{Op}
+use Rattle.batch_rules.specs.declared.BatchError.{BatchError}
+use Rattle.batch_rules.specs.Batches.{most_units, checked_batch, applied, applied_from}
+use Rattle.batch_rules.proofs.Order.{All-sorted_ops}
+use Rattle.batch_rules.proofs.Pairs.{HasPairedText, IsPaired-applied}
+use Rattle.batch_rules.proofs.Standing.{accepted}
+use Rattle.bracket_rules.specs.Table.{Table}
+use Rattle.decoration_rules.specs.declared.DecoError.{DecoError}
+use Rattle.decoration_rules.specs.declared.NewDeco.{NewDeco}
+use Rattle.decoration_rules.specs.Decorations.{Decorations, decorated}
+use Rattle.edit_stack.specs.Stack.{Step, Stack, joined, new_step, undone_lists, redone_lists, undone, redone}
+use Rattle.document_rules.specs.declared.ModelError.{ModelError}
+use Rattle.document_rules.specs.Refusals.{FlatRefusal, limit}
+use Rattle.document_rules.specs.Document.{greatest_version, FlatChange, FlatState, new_document, flat_open, after_batch, edited_by, flat_edit, text_before, text_after, carried_back, carried_on, returned, undone_step, flat_undo, redone_step, flat_redo, with_decorations, flat_decorate}
+use Rattle.document_rules.specs.Outcomes.{Changes, ChangesWith, Moves}
+use Rattle.document_rules.specs.Paired.{IsPairedChange, ArePairedSteps, IsPairedState}
+
+abbrev IsPairedStep : Step FlatChange → Type 0
+IsPairedStep step = All IsPairedChange step.changes
+
+-- ---- lists of steps
+
+pub no_steps : ArePairedSteps []
+no_steps = All-nil IsPairedStep
+
+paired_joined : (is_open : Bool) (steps : List (Step FlatChange)) (change : FlatChange) (before after : ℕ) → ArePairedSteps steps → IsPairedChange change
+    → ArePairedSteps (joined is_open steps change before after)
+paired_joined true (step ∷ steps) change before after kept h =
+    All-cons IsPairedStep (record { changes = step.changes ++ change ∷ []; alt_before = step.alt_before; alt_after = after }) steps
+    (All-push IsPairedChange step.changes change (All-head IsPairedStep step steps kept) h) (All-tail IsPairedStep step steps kept)
+paired_joined true [] change before after kept h =
+    All-cons IsPairedStep (new_step change before after) [] (All-cons IsPairedChange change [] h (All-nil IsPairedChange)) (All-nil IsPairedStep)
+paired_joined false steps change before after kept h =
+    All-cons IsPairedStep (new_step change before after) steps (All-cons IsPairedChange change [] h (All-nil IsPairedChange)) kept
+
+pub record IsPairedHistory (s : Stack FlatChange) : Type 0 where
+  pub undo : ArePairedSteps s.undo
+  pub redo : ArePairedSteps s.redo
+
+paired_undone : (undo redo : List (Step FlatChange)) → ArePairedSteps undo → ArePairedSteps redo → IsPairedHistory (undone_lists undo redo)
+paired_undone [] redo h k = record { undo = h; redo = k }
+paired_undone (step ∷ steps) redo h k =
+    record { undo = All-tail IsPairedStep step steps h; redo = All-cons IsPairedStep step redo (All-head IsPairedStep step steps h) k }
+
+paired_redone : (undo redo : List (Step FlatChange)) (is_open : Bool) → ArePairedSteps undo → ArePairedSteps redo → IsPairedHistory (redone_lists undo redo is_open)
+paired_redone undo [] is_open h k = record { undo = h; redo = k }
+paired_redone undo (step ∷ steps) is_open h k =
+    record { undo = All-cons IsPairedStep step undo (All-head IsPairedStep step steps k) h; redo = All-tail IsPairedStep step steps k }
+
+paired_before : (now : List ℕ) (changes : List FlatChange) → IsPaired now → All IsPairedChange changes → IsPaired (text_before now changes)
+paired_before now [] h kept = h
+paired_before now (change ∷ changes) h kept = (All-head IsPairedChange change changes kept).before
+
+paired_after : (now : List ℕ) (changes : List FlatChange) → IsPaired now → All IsPairedChange changes → IsPaired (text_after now changes)
+paired_after now [] h kept = h
+paired_after now (change ∷ changes) h kept =
+    paired_after change.after changes (All-head IsPairedChange change changes kept).after (All-tail IsPairedChange change changes kept)
+
+-- ---- the rules
+
+accepted_value : (refused : Bool) (new f : FlatState) (e : FlatRefusal) → (if refused then Err e else Ok new) ≡ Ok f → IsPairedState new → IsPairedState f
+accepted_value true new f e same h = absurd cc
+accepted_value false new f e same h = let is : new ≡ f = cc in subst IsPairedState is h
+
+accepted_move : (refused : Bool) (new f : FlatState) (e : FlatRefusal) → (if refused then Err e else Ok (Some new)) ≡ Ok (Some f) → IsPairedState new → IsPairedState f
+accepted_move true new f e same h = absurd cc
+accepted_move false new f e same h = let is : new ≡ f = cc in subst IsPairedState is h
+
+pub opened_paired : (text : List ℕ) (table : Table) (f : FlatState) → flat_open text table ≡ Ok f → IsPaired text → IsPairedState f
+opened_paired text table f e h =
+    accepted_value (nat_lt most_units (length text)) (new_document text table) f limit e
+    (record { units = h; undo = All-nil IsPairedStep; redo = All-nil IsPairedStep })
+
+after_batch_paired : (f : FlatState) (ops sorted : List Op) → checked_batch f.units ops ≡ Ok sorted → IsPairedState f → All HasPairedText ops → IsPairedState (after_batch f ops sorted)
+after_batch_paired f ops sorted rule h texts =
+    let ok = accepted f.units ops sorted rule in
+    let in_order : All HasPairedText sorted = rw ok.in_order (All-sorted_ops HasPairedText ops texts) in
+    let from_sorted : IsPaired (applied_from 0 f.units sorted) = IsPaired-applied f.units sorted ok.standing ok.good in_order h.units in
+    let after : IsPaired (applied f.units ops) = subst (λ (s : List Op). IsPaired (applied_from 0 f.units s)) ok.in_order from_sorted in
+    record {
+      units = after;
+      undo = paired_joined f.history.is_open f.history.undo (record { before = f.units; ops = sorted; after = applied f.units ops }) f.alternative (f.version + 1)
+          h.undo (record { before = h.units; texts = in_order; after = after });
+      redo = All-nil IsPairedStep;
+    }
+
+edited_by_paired : (f g : FlatState) (ops : List Op) (r : Result (List Op) BatchError) → checked_batch f.units ops ≡ r → edited_by f ops r ≡ Ok g
+    → IsPairedState f → All HasPairedText ops → IsPairedState g
+edited_by_paired f g ops (Err e) rule done h texts = absurd cc
+edited_by_paired f g ops (Ok sorted) rule done h texts =
+    accepted_value (nat_le greatest_version f.version) (after_batch f ops sorted) g limit done (after_batch_paired f ops sorted rule h texts)
+
+pub edited_paired : (f g : FlatState) (ops : List Op) → flat_edit f ops ≡ Ok g → IsPairedState f → All HasPairedText ops → IsPairedState g
+edited_paired f g ops done h texts = edited_by_paired f g ops (checked_batch f.units ops) refl done h texts
+
+undone_step_paired : (f g : FlatState) (steps : List (Step FlatChange)) → ArePairedSteps steps → undone_step f steps ≡ Ok (Some g) → IsPairedState f → IsPairedState g
+undone_step_paired f g [] kept done h = absurd cc
+undone_step_paired f g (step ∷ steps) kept done h =
+    let lists = paired_undone f.history.undo f.history.redo h.undo h.redo in
+    accepted_move (nat_le greatest_version f.version)
+    (returned f (text_before f.units step.changes) step.alt_before (carried_back f.decorations step.changes) (undone f.history)) g limit done
+    (record { units = paired_before f.units step.changes h.units (All-head IsPairedStep step steps kept); undo = lists.undo; redo = lists.redo })
+
+pub undone_paired : (f g : FlatState) → flat_undo f ≡ Ok (Some g) → IsPairedState f → IsPairedState g
+undone_paired f g done h = undone_step_paired f g f.history.undo h.undo done h
+
+redone_step_paired : (f g : FlatState) (steps : List (Step FlatChange)) → ArePairedSteps steps → redone_step f steps ≡ Ok (Some g) → IsPairedState f → IsPairedState g
+redone_step_paired f g [] kept done h = absurd cc
+redone_step_paired f g (step ∷ steps) kept done h =
+    let lists = paired_redone f.history.undo f.history.redo f.history.is_open h.undo h.redo in
+    accepted_move (nat_le greatest_version f.version)
+    (returned f (text_after f.units step.changes) step.alt_after (carried_on f.decorations step.changes) (redone f.history)) g limit done
+    (record { units = paired_after f.units step.changes h.units (All-head IsPairedStep step steps kept); undo = lists.undo; redo = lists.redo })
+
+pub redone_paired : (f g : FlatState) → flat_redo f ≡ Ok (Some g) → IsPairedState f → IsPairedState g
+redone_paired f g done h = redone_step_paired f g f.history.redo h.redo done h
+
+-- ---- calls that follow the rules
+
+changed_paired : (result : Result ⊤ ModelError) (old new : FlatState) (rule : Result FlatState FlatRefusal) → Changes result old new rule
+    → ((f : FlatState) → rule ≡ Ok f → IsPairedState f) → IsPairedState old → IsPairedState new
+changed_paired (Ok x) old new rule done by_rule h = by_rule new done
+changed_paired (Err e) old new rule done by_rule h = subst IsPairedState (sym done.0) h
+
+moved_paired : (result : Result Bool ModelError) (old new : FlatState) (rule : Result (Option FlatState) FlatRefusal) → Moves result old new rule
+    → ((f : FlatState) → rule ≡ Ok (Some f) → IsPairedState f) → IsPairedState old → IsPairedState new
+moved_paired (Ok true) old new rule done by_rule h = by_rule new done
+moved_paired (Ok false) old new rule done by_rule h = subst IsPairedState (sym done.1) h
+moved_paired (Err e) old new rule done by_rule h = subst IsPairedState (sym done.0) h
+
+pub IsPairedState-open : (result : Result ⊤ ModelError) (old new : FlatState) (text : List ℕ) (table : Table) → Changes result old new (flat_open text table)
+    → IsPaired text → IsPairedState old → IsPairedState new
+IsPairedState-open result old new text table done text_paired =
+    changed_paired result old new (flat_open text table) done (λ f e. opened_paired text table f e text_paired)
+
+pub IsPairedState-edit : (result : Result ⊤ ModelError) (old new : FlatState) (ops : List Op) → Changes result old new (flat_edit old ops)
+    → All HasPairedText ops → IsPairedState old → IsPairedState new
+IsPairedState-edit result old new ops done texts h =
+    changed_paired result old new (flat_edit old ops) done (λ f e. edited_paired old f ops e h texts) h
+
+pub IsPairedState-undo : (result : Result Bool ModelError) (old new : FlatState) → Moves result old new (flat_undo old) → IsPairedState old → IsPairedState new
+IsPairedState-undo result old new done h = moved_paired result old new (flat_undo old) done (λ f e. undone_paired old f e h) h
+
+pub IsPairedState-redo : (result : Result Bool ModelError) (old new : FlatState) → Moves result old new (flat_redo old) → IsPairedState old → IsPairedState new
+IsPairedState-redo result old new done h = moved_paired result old new (flat_redo old) done (λ f e. redone_paired old f e h) h
+
+with_decorations_paired : (f g : FlatState) (d : Result Decorations DecoError) → with_decorations f d ≡ Ok g → IsPairedState f → IsPairedState g
+with_decorations_paired f g (Err e) done h = absurd cc
+with_decorations_paired f g (Ok d) done h =
+    let same : record f { decorations = d } ≡ g = cc in
+    subst IsPairedState same (record { units = h.units; undo = h.undo; redo = h.redo })
+
+pub IsPairedState-decorate : (answer : ℕ) (result : Result ℕ ModelError) (old new : FlatState) (owner : ℕ) (remove : List ℕ) (add : List NewDeco)
+    → ChangesWith answer result old new (flat_decorate old owner remove add) → IsPairedState old → IsPairedState new
+IsPairedState-decorate answer (Ok n) old new owner remove add done h =
+    with_decorations_paired old new (decorated old.decorations owner remove add old.units) done.0 h
+IsPairedState-decorate answer (Err e) old new owner remove add done h = subst IsPairedState (sym done.0) h

@@ -1,0 +1,22 @@
+-- Documents in which each surrogate stands in a pair.
+use Rattle.std.specs.Prelude.{List, All}
+use Rattle.unit_text.specs.Units.{IsPaired}
+use Rattle.text_rules.specs.declared.Op.{Op}
+use Rattle.edit_stack.specs.Stack.{Step}
+use Rattle.document_rules.specs.Document.{FlatChange, FlatState}
+
+-- a batch whose new texts, and the whole texts before and after it, have no lone surrogate
+pub record IsPairedChange (change : FlatChange) : Type 0 where
+  pub before : IsPaired change.before
+  pub texts : All (λ (op : Op). IsPaired op.text) change.ops
+  pub after : IsPaired change.after
+
+-- steps that keep no lone surrogate
+abbrev pub ArePairedSteps : List (Step FlatChange) → Type 0
+ArePairedSteps steps = All (λ (step : Step FlatChange). All IsPairedChange step.changes) steps
+
+-- no text of the document has a lone surrogate: neither that of now, nor one that can be undone or redone
+pub record IsPairedState (f : FlatState) : Type 0 where
+  pub units : IsPaired f.units
+  pub undo : ArePairedSteps f.history.undo
+  pub redo : ArePairedSteps f.history.redo

@@ -1,0 +1,19 @@
+-- How the errors of the document's parts are told.
+use Rattle.batch_rules.specs.declared.BatchError.{BatchError}
+use Rattle.batch_rules.specs.declared.BatchError.TheVariants as batch
+use Rattle.decoration_rules.specs.declared.DecoError.{DecoError}
+use Rattle.decoration_rules.specs.declared.DecoError.TheVariants as decoration
+use Rattle.document_rules.specs.declared.ModelError.{ModelError}
+use Rattle.document_rules.specs.declared.ModelError.TheVariants.{Unknown, Range, Overlap, Limit, Memory}
+
+abbrev pub error_of : BatchError → ModelError
+error_of batch.Range = Range
+error_of batch.Overlap = Overlap
+error_of batch.Limit = Limit
+error_of batch.Memory = Memory
+
+abbrev pub refusal_of : DecoError → ModelError
+refusal_of decoration.Unknown = Unknown
+refusal_of decoration.Range = Range
+refusal_of decoration.Limit = Limit
+refusal_of decoration.Memory = Memory

@@ -1,0 +1,220 @@
+-- Each flat reply is one line, and none is `! memory`.
+use Rattle.std.proofs.Common.{◌≡◌, ℕ, zero, suc, ◌+◌, ◌/◌, ◌%◌, ◌≤◌, Bool, true, false, cond, ltb, eqb, List, [], ◌∷◌, ◌++◌, length, unwrap_or, Option, Some, None, Result, Ok, Err, codes, refl, ap, ◌∙◌, arith}
+use Rattle.std.specs.List.{flat_map}
+use Rattle.std.specs.Fmt.{digits, digits_onto, digit_glyph}
+use Rattle.std.specs.Char.{digit_char}
+use Rattle.std.specs.Char.Utf16.{utf16_lossy_chars}
+use Rattle.std.specs.Str.{bytes_eq, encode_utf8_all}
+use lib.Utf8.{encode}
+use Rattle.std.proofs.lemmas.Bool.{ne_eqb, ltb-false, both_ways}
+use Rattle.text_lengths.specs.declared.Position.{Position}
+use Rattle.unit_text.specs.Text.{quoted_char, quoted}
+use Rattle.decoration_rules.specs.declared.Deco.{Deco}
+use Rattle.bracket_rules.specs.declared.Entry.{Entry}
+use Rattle.bracket_rules.specs.declared.Status.{Status}
+use Rattle.bracket_rules.specs.declared.Status.TheVariants.{PairedOpening, PairedClosing, Unclosed, Unexpected}
+use Rattle.document_rules.specs.Refusals.{FlatRefusal, unknown, range, overlap, limit}
+use Rattle.bracket_rules.specs.Table.{standard_table}
+use Rattle.document_rules.specs.Document.{FlatState, flat_open, flat_edit, flat_undo, flat_redo, flat_decorate, flat_deco, flat_decos, flat_line, flat_value, flat_position, flat_offset, flat_line_count}
+use Rattle.document_rules.specs.Brackets.{flat_brackets, flat_match, flat_level}
+use Rattle.script_lines.specs.declared.command.Command.{Command}
+use Rattle.script_lines.specs.declared.command.Command.TheVariants as command
+use Rattle.script_lines.specs.declared.reason.Refusal.TheVariants as refusal
+use Rattle.script_lines.specs.Commands.{command_of}
+use Rattle.script_lines.specs.Replies.{number_part, text_part, ok_reply, none_reply, text_reply, refusal_reply}
+use Rattle.text_rules.specs.declared.Op.{Op}
+use Rattle.script_runner.specs.Step.{reason_of, memory_reply, ops_at, deco_numbers, changed, moved, decorated, edited_at, text_answer, offset_answer, position_answer, deco_answer, decos_answer, status_letter, entry_part, entries_reply, brackets_answer, match_answer, level_answer, step}
+use Rattle.script_runner.specs.Script.{after_byte, IsInOneLine, IsOneLine, commanded, is_too_long, turn}
+use Rattle.script_runner.proofs.CutLemmas.{cut-append_line}
+
+-- ---- bytes with no LF among them
+
+pub one-append : (x y : List ℕ) → IsInOneLine x → IsInOneLine y → IsInOneLine (x ++ y)
+one-append x y first second = cut-append_line x y second ∙ ap (λ c. record { ended = c.ended; rest = c.rest ++ y }) first
+
+one-cons : (byte : ℕ) (x : List ℕ) → (byte ≡ 10 → ⊥) → IsInOneLine x → IsInOneLine (byte ∷ x)
+one-cons byte x other rest = ap (after_byte byte) rest ∙ rw (ne_eqb byte 10 other) refl
+
+one-either : (b : Bool) (x y : List ℕ) → (b ≡ true → IsInOneLine x) → (b ≡ false → IsInOneLine y) → IsInOneLine (cond b x y)
+one-either true x y first second = first refl
+one-either false x y first second = second refl
+
+one-flat_map : {X : Type 0} (f : X → List ℕ) → ((x : X) → IsInOneLine (f x)) → (xs : List X) → IsInOneLine (flat_map f xs)
+one-flat_map f each [] = refl
+one-flat_map f each (x ∷ xs) = one-append (f x) (flat_map f xs) (each x) (one-flat_map f each xs)
+
+glyph-other : (d : ℕ) → digit_glyph false d ≡ 10 → ⊥
+glyph-other d is = elim (ltb d 10) as (λ b. cond b (48 + d) (87 + d) ≡ 10 → ⊥) [ true ↦ λ e. omega arith | false ↦ λ e. omega arith ] is
+
+one-digits_onto : (k n : ℕ) (x : List ℕ) → IsInOneLine x → IsInOneLine (digits_onto k 10 false n x)
+one-digits_onto zero n x one = one
+one-digits_onto (suc k) n x one =
+    let d = digit_glyph false (n % 10) in
+    let more : IsInOneLine (d ∷ x) = one-cons d x (glyph-other (n % 10)) one in
+    one-either (eqb (n / 10) 0) (d ∷ x) (digits_onto k 10 false (n / 10) (d ∷ x)) (λ e. more) (λ e. one-digits_onto k (n / 10) (d ∷ x) more)
+
+one-number_part : (n : ℕ) → IsInOneLine (number_part n)
+unfolding digits
+one-number_part n = one-cons 32 (digits_onto 64 10 false n []) (λ e. omega arith) (one-digits_onto 64 n [] refl)
+
+hex-other : (d : ℕ) → digit_char d ≡ 10 → ⊥
+hex-other d is = elim (ltb d 10) as (λ b. cond b (48 + d) (87 + d) ≡ 10 → ⊥) [ true ↦ λ e. omega arith | false ↦ λ e. omega arith ] is
+
+one-encode : (c : ℕ) → (c ≡ 10 → ⊥) → IsInOneLine (encode c)
+unfolding encode
+one-encode c other =
+    one-either (ltb c 128) (c ∷ []) _ (λ e. one-cons c [] other refl)
+    (λ e. one-either (ltb c 2048) ((192 + c / 64) ∷ (128 + c % 64) ∷ []) _
+    (λ e. one-cons _ _ (λ e. omega arith) (one-cons _ _ (λ e. omega arith) refl))
+    (λ e. one-either (ltb c 65536) ((224 + c / 4096) ∷ (128 + (c / 64) % 64) ∷ (128 + c % 64) ∷ []) ((240 + c / 262144) ∷ (128 + (c / 4096) % 64) ∷ (128 + (c / 64) % 64) ∷ (128 + c % 64) ∷ [])
+    (λ e. one-cons _ _ (λ e. omega arith) (one-cons _ _ (λ e. omega arith) (one-cons _ _ (λ e. omega arith) refl)))
+    (λ e. one-cons _ _ (λ e. omega arith) (one-cons _ _ (λ e. omega arith) (one-cons _ _ (λ e. omega arith) (one-cons _ _ (λ e. omega arith) refl))))))
+
+one-quoted_char : (c : ℕ) → IsInOneLine (quoted_char c)
+one-quoted_char c =
+    one-either (eqb c 34) (codes "\\\"") _ (λ e. refl)
+    (λ e. one-either (eqb c 92) (codes "\\\\") _ (λ e. refl)
+    (λ e. one-either (eqb c 10) (codes "\\n") _ (λ e. refl)
+    (λ e. one-either (eqb c 13) (codes "\\r") _ (λ e. refl)
+    (λ e. one-either (eqb c 9) (codes "\\t") _ (λ e. refl)
+    (λ e. one-either (ltb c 32) (codes "\\u00" ++ digit_char (c / 16) ∷ digit_char (c % 16) ∷ []) (encode_utf8_all (c ∷ []))
+    (λ e. one-append (codes "\\u00") (digit_char (c / 16) ∷ digit_char (c % 16) ∷ []) refl
+    (one-cons (digit_char (c / 16)) (digit_char (c % 16) ∷ []) (hex-other (c / 16)) (one-cons (digit_char (c % 16)) [] (hex-other (c % 16)) refl)))
+    (λ e. let high : 32 ≤ c = ltb-false c 32 e in one-append (encode c) [] (one-encode c (λ e. omega arith)) refl))))))
+
+one-quoted : (units : List ℕ) → IsInOneLine (quoted units)
+one-quoted units =
+    one-append (codes "\"" ++ flat_map quoted_char (utf16_lossy_chars units)) (codes "\"")
+    (one-append (codes "\"") (flat_map quoted_char (utf16_lossy_chars units)) refl (one-flat_map quoted_char one-quoted_char (utf16_lossy_chars units))) refl
+
+letter-other : (s : Status) → status_letter s ≡ 10 → ⊥
+letter-other PairedOpening is = omega arith
+letter-other PairedClosing is = omega arith
+letter-other Unclosed is = omega arith
+letter-other Unexpected is = omega arith
+
+one-entry_part : (e : Entry) → IsInOneLine (entry_part e)
+one-entry_part e =
+    let a = number_part (e.place.lines + 1) in
+    let b = number_part (e.place.columns + 1) in
+    let c = number_part e.len in
+    let d = number_part e.kind in
+    one-append (((a ++ b) ++ c) ++ d) (32 ∷ status_letter e.status ∷ number_part e.level)
+    (one-append ((a ++ b) ++ c) d (one-append (a ++ b) c (one-append a b (one-number_part _) (one-number_part _)) (one-number_part _)) (one-number_part _))
+    (one-cons 32 _ (λ e. omega arith) (one-cons (status_letter e.status) _ (letter-other e.status) (one-number_part e.level)))
+
+-- ---- replies
+
+-- what is promised of a flat reply
+pub record IsFlatReply (reply : List ℕ) : Type 0 where
+  pub line : IsOneLine reply
+  pub sure : reply ≡ memory_reply → ⊥
+
+-- a test that tells the reply from `! memory`
+sure_by : (reply : List ℕ) → bytes_eq reply memory_reply ≡ false → reply ≡ memory_reply → ⊥
+sure_by reply other is = both_ways _ other (ap (λ x. bytes_eq x memory_reply) is)
+
+flat_ok : (parts : List ℕ) → IsInOneLine parts → IsFlatReply (codes "ok" ++ parts ++ codes "\n")
+flat_ok parts one = record { line = (codes "ok" ++ parts, one-append (codes "ok") parts refl one, refl); sure = sure_by _ refl }
+
+flat_numbers : (numbers : List ℕ) → IsFlatReply (ok_reply numbers)
+flat_numbers numbers = flat_ok (flat_map number_part numbers) (one-flat_map number_part one-number_part numbers)
+
+flat_none : IsFlatReply none_reply
+flat_none = record { line = (codes "ok none", refl, refl); sure = sure_by _ refl }
+
+flat_text : (units : List ℕ) → IsFlatReply (text_reply units)
+flat_text units = flat_ok (text_part units) (one-cons 32 (quoted units) (λ e. omega arith) (one-quoted units))
+
+flat_entries : (entries : List Entry) → IsFlatReply (entries_reply entries)
+flat_entries entries = flat_ok (flat_map entry_part entries) (one-flat_map entry_part one-entry_part entries)
+
+flat_syntax : IsFlatReply (refusal_reply refusal.Syntax)
+flat_syntax = record { line = (codes "! syntax", refl, refl); sure = sure_by _ refl }
+
+flat_refusal : (why : FlatRefusal) → IsFlatReply (refusal_reply (reason_of why))
+flat_refusal unknown = record { line = (codes "! unknown", refl, refl); sure = sure_by _ refl }
+flat_refusal range = record { line = (codes "! range", refl, refl); sure = sure_by _ refl }
+flat_refusal overlap = record { line = (codes "! overlap", refl, refl); sure = sure_by _ refl }
+flat_refusal limit = record { line = (codes "! limit", refl, refl); sure = sure_by _ refl }
+
+flat_changed : (f : FlatState) (rule : Result FlatState FlatRefusal) → IsFlatReply (changed f rule).0
+flat_changed f (Ok new) = flat_numbers (new.version ∷ length new.units ∷ flat_line_count new ∷ [])
+flat_changed f (Err why) = flat_refusal why
+
+flat_moved : (f : FlatState) (rule : Result (Option FlatState) FlatRefusal) → IsFlatReply (moved f rule).0
+flat_moved f (Ok None) = flat_none
+flat_moved f (Ok (Some new)) = flat_numbers (new.version ∷ length new.units ∷ flat_line_count new ∷ [])
+flat_moved f (Err why) = flat_refusal why
+
+flat_edited : (f : FlatState) (ops : Option (List Op)) → IsFlatReply (edited_at f ops).0
+flat_edited f None = flat_refusal range
+flat_edited f (Some ops) = flat_changed f (flat_edit f ops)
+
+flat_decorated : (f : FlatState) (count : ℕ) (rule : Result FlatState FlatRefusal) → IsFlatReply (decorated f count rule).0
+flat_decorated f count (Ok new) = flat_numbers (f.decorations.next_id ∷ count ∷ [])
+flat_decorated f count (Err why) = flat_refusal why
+
+flat_text_answer : (rule : Result (List ℕ) FlatRefusal) → IsFlatReply (text_answer rule)
+flat_text_answer (Ok units) = flat_text units
+flat_text_answer (Err why) = flat_refusal why
+
+flat_offset_answer : (offset : Option ℕ) → IsFlatReply (offset_answer offset)
+flat_offset_answer None = flat_refusal range
+flat_offset_answer (Some offset) = flat_numbers (offset ∷ [])
+
+flat_position_answer : (p : Option Position) → IsFlatReply (position_answer p)
+flat_position_answer None = flat_refusal range
+flat_position_answer (Some p) = flat_numbers (p.line ∷ p.column ∷ [])
+
+flat_deco_answer : (deco : Option Deco) → IsFlatReply (deco_answer deco)
+flat_deco_answer None = flat_refusal unknown
+flat_deco_answer (Some deco) = flat_numbers (deco.span.start ∷ deco.span.end ∷ deco.stick ∷ deco.owner ∷ [])
+
+flat_decos_answer : (rule : Result (List Deco) FlatRefusal) → IsFlatReply (decos_answer rule)
+flat_decos_answer (Ok decos) = flat_numbers (deco_numbers decos)
+flat_decos_answer (Err why) = flat_refusal why
+
+flat_brackets_answer : (rule : Result (List Entry) FlatRefusal) → IsFlatReply (brackets_answer rule)
+flat_brackets_answer (Ok entries) = flat_entries entries
+flat_brackets_answer (Err why) = flat_refusal why
+
+flat_match_answer : (rule : Result (Option (Position × ℕ)) FlatRefusal) → IsFlatReply (match_answer rule)
+flat_match_answer (Ok None) = flat_none
+flat_match_answer (Ok (Some partner)) = flat_numbers (partner.0.line ∷ partner.0.column ∷ partner.1 ∷ [])
+flat_match_answer (Err why) = flat_refusal why
+
+flat_level_answer : (rule : Result ℕ FlatRefusal) → IsFlatReply (level_answer rule)
+flat_level_answer (Ok level) = flat_numbers (level ∷ [])
+flat_level_answer (Err why) = flat_refusal why
+
+flat_step : (f : FlatState) (c : Command) → IsFlatReply (step f c).0
+flat_step f (command.Open text brackets) = flat_changed f (flat_open text (unwrap_or brackets standard_table))
+flat_step f (command.Edit ops) = flat_edited f (ops_at f ops)
+flat_step f (command.Decorate owner remove add) = flat_decorated f (length add) (flat_decorate f owner remove add)
+flat_step f command.Undo = flat_moved f (flat_undo f)
+flat_step f command.Redo = flat_moved f (flat_redo f)
+flat_step f command.Stop = flat_numbers []
+flat_step f command.Version = flat_numbers (f.version ∷ f.alternative ∷ [])
+flat_step f command.Size = flat_numbers (length f.units ∷ flat_line_count f ∷ [])
+flat_step f (command.Line n) = flat_text_answer (flat_line f n)
+flat_step f (command.Value span) = flat_text_answer (flat_value f span)
+flat_step f (command.Offset p) = flat_offset_answer (flat_offset f p)
+flat_step f (command.Position offset) = flat_position_answer (flat_position f offset)
+flat_step f (command.Deco id) = flat_deco_answer (flat_deco f id)
+flat_step f (command.Decos span owner) = flat_decos_answer (flat_decos f span owner)
+flat_step f (command.Brackets from to) = flat_brackets_answer (flat_brackets f from to)
+flat_step f (command.Match p) = flat_match_answer (flat_match f p)
+flat_step f (command.Level p) = flat_level_answer (flat_level f p)
+
+flat_commanded : (f : FlatState) (c : Option Command) → IsFlatReply (commanded f c).0
+flat_commanded f None = flat_syntax
+flat_commanded f (Some c) = flat_step f c
+
+flat_either : (b : Bool) (x y : List ℕ × FlatState) → IsFlatReply x.0 → IsFlatReply y.0 → IsFlatReply (cond b x y).0
+flat_either true x y first second = first
+flat_either false x y first second = second
+
+-- the flat reply to any line
+pub flat_turn : (f : FlatState) (line : List ℕ) → IsFlatReply (turn f line).0
+flat_turn f line = flat_either (is_too_long line) (refusal_reply refusal.Limit, f) (commanded f (command_of line)) (flat_refusal limit) (flat_commanded f (command_of line))

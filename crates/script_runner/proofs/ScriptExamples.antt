@@ -1,0 +1,106 @@
+-- Worked examples of whole scripts, from their bytes to the bytes of their replies.
+use Rattle.std.specs.Prelude.{◌≡◌, ℕ, ◌<◌, true, false, List, [], ◌∷◌, length, codes, refl}
+use Rattle.std.specs.Fmt.{digits}
+use Rattle.std.specs.Char.Utf16.{utf16_chars}
+use lib.Utf8.{encode}
+use Rattle.std.proofs.lemmas.Bool.{lt-ltb}
+use Rattle.script_lines.proofs.ReadExamples.{an_opening, an_edit, a_line, a_size, a_word_is_no_command}
+use Rattle.text_rules.specs.declared.Op.{Op}
+use Rattle.bracket_rules.specs.Table.{standard_table}
+use Rattle.document_rules.specs.Document.{FlatState, empty_document, new_document, after_batch}
+use Rattle.script_runner.specs.Step.{answered, out_of_memory}
+use Rattle.script_runner.specs.Script.{most_line_bytes, whole_lines, all_lines, Turn, Transcript}
+use Rattle.script_runner.specs.Progress.{Broken}
+use Rattle.script_runner.specs.Serving.{lines_read}
+
+-- ---- lines
+
+a_blank_line_gets_nothing : Turn empty_document (codes " \t\r") [] empty_document
+a_blank_line_gets_nothing = (refl, refl)
+
+abbrev size_line : List ℕ
+size_line = codes "{\"cmd\":\"size\"}"
+
+size_is_told : Turn empty_document size_line (codes "ok 0 1\n") empty_document
+unfolding digits
+size_is_told = rw a_size (answered refl refl)
+
+memory_may_be_wanting : Turn empty_document size_line (codes "! memory\n") empty_document
+memory_may_be_wanting = out_of_memory refl refl
+
+no_command_is_told : Turn empty_document (codes "size") (codes "! syntax\n") empty_document
+no_command_is_told = rw a_word_is_no_command (answered refl refl)
+
+-- whatever its bytes are
+a_line_that_is_too_long : (f : FlatState) (line : List ℕ) → most_line_bytes < length line → Turn f line (codes "! limit\n") f
+a_line_that_is_too_long f line long = rw (lt-ltb most_line_bytes (length line) long) (answered refl refl)
+
+-- ---- the first example of the readme
+
+abbrev open_line : List ℕ
+open_line = codes "{\"cmd\":\"open\",\"text\":\"ab\\ncd\"}"
+
+abbrev edit_line : List ℕ
+edit_line = codes "{\"cmd\":\"edit\",\"ops\":[{\"at\":[1,4],\"text\":\"X\"}]}"
+
+abbrev line_line : List ℕ
+line_line = codes "{\"cmd\":\"line\",\"n\":1}"
+
+abbrev opened : FlatState
+opened = new_document (codes "ab\ncd") standard_table
+
+abbrev edited : FlatState
+edited =
+    let op : Op = record { span = record { start = 1; end = 4 }; text = codes "X"; force = false } in
+    after_batch opened (op ∷ []) (op ∷ [])
+
+opened_turn : Turn empty_document open_line (codes "ok 1 5 2\n") opened
+unfolding digits
+opened_turn = rw an_opening (answered refl refl)
+
+edited_turn : Turn opened edit_line (codes "ok 2 3 1\n") edited
+unfolding digits
+edited_turn = rw an_edit (answered refl refl)
+
+line_turn : Turn edited line_line (codes "ok \"aXd\"\n") edited
+unfolding utf16_chars encode
+line_turn = rw a_line (answered refl refl)
+
+size_turn : Turn edited size_line (codes "ok 3 1\n") edited
+unfolding digits
+size_turn = rw a_size (answered refl refl)
+
+four_lines : all_lines (codes "{\"cmd\":\"open\",\"text\":\"ab\\ncd\"}\n{\"cmd\":\"edit\",\"ops\":[{\"at\":[1,4],\"text\":\"X\"}]}\n{\"cmd\":\"line\",\"n\":1}\n{\"cmd\":\"size\"}\n")
+    ≡ open_line ∷ edit_line ∷ line_line ∷ size_line ∷ []
+four_lines = refl
+
+-- its four lines are answered by these four replies
+the_first_example : Transcript empty_document (open_line ∷ edit_line ∷ line_line ∷ size_line ∷ [])
+    (codes "ok 1 5 2\n" ∷ codes "ok 2 3 1\n" ∷ codes "ok \"aXd\"\n" ∷ codes "ok 3 1\n" ∷ []) edited
+the_first_example = (opened, opened_turn, (edited, edited_turn, (edited, line_turn, (edited, size_turn, refl))))
+
+-- ---- after a failed write
+
+-- the first of two lines was answered, and of the second reply two bytes were written
+a_reply_is_cut : Broken empty_document (whole_lines (codes "{\"cmd\":\"size\"}\n{\"cmd\":\"size\"}\n")) (codes "ok 0 1\nok") empty_document
+a_reply_is_cut = record {
+  done = size_line ∷ [];
+  line = size_line;
+  others = [];
+  lines_are = refl;
+  replies = codes "ok 0 1\n" ∷ [];
+  mid = empty_document;
+  transcript = (empty_document, size_is_told, refl);
+  reply = codes "ok 0 1\n";
+  turn = size_is_told;
+  front = codes "ok";
+  starts = (codes " 0 1\n", refl);
+  out_is = refl;
+}
+
+-- an unfinished line is a line where the end was seen
+a_line_may_go_on : lines_read false (codes "ab\nc") ≡ codes "ab" ∷ []
+a_line_may_go_on = refl
+
+the_end_ends_a_line : lines_read true (codes "ab\nc") ≡ codes "ab" ∷ codes "c" ∷ []
+the_end_ends_a_line = refl

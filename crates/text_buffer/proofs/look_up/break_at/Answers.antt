@@ -1,0 +1,55 @@
+use Rattle.std.proofs.Common.{◌≡◌, ◌+◌, ◌-◌, ◌<◌, ◌≤◌, ℕ, length, get_or, ap, sym, ◌∙◌, arith}
+use Rattle.chunk_buffers.specs.Chunks.{units_at}
+use Rattle.line_starts.proofs.Starts.{break_count_is}
+use Rattle.text_rules.proofs.Breaks.{break_ends, line_start_is}
+use Rattle.text_rules.proofs.Places.{line_start_within}
+use Rattle.text_buffer.proofs.Found.{break_ends_after, found_inside, found_size, found_line_start, own_breaks}
+use Rattle.text_buffer.proofs.look_up.break_at.Goals as goal
+
+pub nth_break-own-requires-clause-inside : goal.nth_break-own-requires-clause-inside
+nth_break-own-requires-clause-inside g c =
+    found_inside c.args.chunks.now.buffers c.args.pieces.now.entries c.find_line-found.result c.find_line-found.ensures.piece c.requires.text.pieces
+
+pub nth_break-own-requires-clause-there : goal.nth_break-own-requires-clause-there
+nth_break-own-requires-clause-there g c =
+    let b = c.args.chunks.now.buffers in
+    let found = c.find_line-found.result in
+    omega (
+      arith,
+      break_count_is (units_at b found.span),
+      own_breaks b c.args.pieces.now.entries found c.find_line-found.ensures.piece c.requires.text.pieces c.requires.text.full c.requires.text.unsplit,
+    )
+
+pub returns-clause-line : goal.returns-clause-line
+returns-clause-line g c =
+    found_line_start c.args.chunks.now.buffers c.args.pieces.now.entries c.find_line-found.result c.find_line-found.ensures.piece
+    c.requires.text.pieces c.requires.text.full c.requires.text.unsplit c.args.n c.find_line-found.ensures.start c.find_line-found.ensures.end
+    ∙ ap (λ n. c.find_line-found.result.before.units + n) (sym c.nth_break-own.ensures)
+
+pub returns-clause-some : goal.returns-clause-some
+returns-clause-some g c =
+    let b = c.args.chunks.now.buffers in
+    let found = c.find_line-found.result in
+    let own = units_at b found.span in
+    let k : ℕ = c.args.n - found.before.breaks in
+    let breaks = own_breaks b c.args.pieces.now.entries found c.find_line-found.ensures.piece c.requires.text.pieces c.requires.text.full c.requires.text.unsplit in
+    let inside : k - 1 < length (break_ends 0 own) = omega (arith, breaks) in
+    omega (arith, c.nth_break-own.ensures, line_start_is own (k - 1) (k + 1) inside (omega arith), break_ends_after 0 0 own (omega arith) (k - 1) 0 inside)
+
+pub returns-clause-within : goal.returns-clause-within
+returns-clause-within g c =
+    let b = c.args.chunks.now.buffers in
+    let found = c.find_line-found.result in
+    let own = units_at b found.span in
+    let k : ℕ = c.args.n - found.before.breaks in
+    let breaks = own_breaks b c.args.pieces.now.entries found c.find_line-found.ensures.piece c.requires.text.pieces c.requires.text.full c.requires.text.unsplit in
+    let inside : k - 1 < length (break_ends 0 own) = omega (arith, breaks) in
+    omega (
+      arith,
+      c.nth_break-own.ensures,
+      line_start_within own (k - 1) (k + 1) inside (omega arith),
+      found_size b c.args.pieces.now.entries found c.find_line-found.ensures.piece c.requires.text.pieces,
+    )
+
+pub returns-clause-small : goal.returns-clause-small
+returns-clause-small g c = let within = returns-clause-within g c in omega (arith, within, c.find_line-found.ensures.small)

@@ -1,0 +1,23 @@
+use Rattle.std.proofs.Common.{◌-◌, length, ap, arith, refl}
+use Rattle.piece_tree.specs.Pieces.{pieces_of}
+use Rattle.piece_tree.proofs.Costs.{no_look_up, look_ups-add}
+use Rattle.text_buffer.proofs.Spelling.{length-spelled}
+use Rattle.text_buffer.proofs.Found.{among_spans}
+use Rattle.text_buffer.proofs.text.TextBuffer.is_place_counted.Goals as goal
+
+pub returns-then-offset-len-clause-cost : goal.returns-then-offset-len-clause-cost
+returns-then-offset-len-clause-cost g c = no_look_up 2 (length c.args.self.now.spans) c.args.steps.now c.args.steps.now refl
+
+pub find_offset-found-requires : goal.find_offset-found-requires
+find_offset-found-requires g c =
+    omega (
+      arith,
+      length-spelled c.self.inside.chunks.buffers (pieces_of c.self.inside.pieces.entries) c.self.invariant.pieces,
+      ap (λ v. length v.units) c.self.view_is,
+    )
+
+pub returns-clause-cost : goal.returns-clause-cost
+returns-clause-cost g c =
+    among_spans c.self.inside.pieces c.self.inside.chunks c.args.self.now 2 (c.cuts_pair_at.new.steps - c.args.steps.now) c.self.view_is
+    (look_ups-add 1 1 (length c.self.inside.pieces.entries) c.args.steps.now c.find_offset-found.new.steps c.cuts_pair_at.new.steps
+    c.find_offset-found.ensures.cost c.cuts_pair_at.ensures.cost)

@@ -1,0 +1,7 @@
+//! Tests of calls that the program does not make yet.
+#![tactic(auto)]
+
+#[cfg(test)]
+mod nodes;
+#[cfg(test)]
+mod texts;

@@ -1,0 +1,27 @@
+//! The spans of an edited text.
+
+use std::test::Fail;
+use text_buffer::TextBuffer;
+use text_lengths::Span;
+
+const A: u16 = 0x61;
+
+const B: u16 = 0x62;
+
+const X: u16 = 0x58;
+
+/// An edit brings a CR and an LF together.
+#[test]
+fn spans_of_an_edited_text(rt: HostRuntime) -> Result<(), Fail> {
+    let mut text = TextBuffer::of_units(rt.alloc(), &[A, 13, X, 10, B])?;
+    text.reserve(1, 0)?;
+    text.replace(Span { start: 2, end: 3 }, &[]);
+    let mut spans = Vec::new(rt.alloc());
+    text.spans(&mut spans)?;
+    let mut units = Vec::new(rt.alloc());
+    for span in spans.iter() {
+        units.extend_from_slice(text.chunks().units(*span))?;
+    }
+    assert_eq!(rt; units.as_slice(), [A, 13, 10, B].as_slice());
+    Ok(())
+}

@@ -1,0 +1,19 @@
+//! Words that are no command.
+
+use crate::runs::run_line;
+use memory_streams::{MemSink, MemSource, SureSink};
+use std::test::Fail;
+
+#[test]
+fn words_that_are_no_command(rt: HostRuntime) -> Result<(), Fail> {
+    let usage = b"usage: textmodel run | textmodel play COUNT SEED\n".as_slice();
+    for line in ["run x", "", "walk", "play 10000001 0"] {
+        let mut src = MemSource::new(rt.alloc(), b"", 1, &[])?;
+        let mut out = MemSink::new(rt.alloc(), 64, 64, &[])?;
+        let mut err = SureSink::new(rt.alloc(), 64, 64)?;
+        let ended = run_line(rt.alloc(), line, &mut src, &mut out, &mut err)?;
+        assert_eq!(rt; ended, 2, "{line}");
+        assert_eq!(rt; err.bytes(), Some(usage), "{line}");
+    }
+    Ok(())
+}

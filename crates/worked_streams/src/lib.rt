@@ -1,0 +1,5 @@
+//! Tests of sources and sinks: what plans do, signals and flushes.
+#![tactic(auto)]
+
+#[cfg(test)]
+mod streams;
