@@ -8,7 +8,7 @@ use Rattle.text_lengths.specs.declared.Length.{Length}
 use Rattle.text_lengths.specs.Length.{length_plus}
 use Rattle.bracket_rules.specs.declared.Entry.{Entry}
 use Rattle.bracket_rules.specs.Parse.{bracket, Spot, spot, Judged, judged_opening, entries_of, is_between}
-use Rattle.bracket_rules.specs.Tree.{Tree, text, pair, stray, capped, nothing, two, three, tree_length, inside_start, inside_end, closing_spot, closing_entries, tree_entries}
+use Rattle.bracket_trees.specs.Tree.{Tree, text, pair, stray, capped, nothing, two, three, tree_length, inside_start, inside_end, closing_spot, closing_entries, tree_entries}
 use Rattle.bracket_nodes.specs.Walks.{chosen, entry_if}
 
 entries_of-append : (xs ys : List Judged) → entries_of (xs ++ ys) ≡ entries_of xs ++ entries_of ys

@@ -3,12 +3,12 @@ use Rattle.std.proofs.Common.{◌≡◌, ℕ, suc, ◌+◌, ◌<◌, ◌≤◌, 
 use Rattle.std.proofs.lemmas.Bool.Decides.{eqb_tells}
 use Rattle.bracket_rules.specs.declared.TheConstants.{MOST_OPEN}
 use Rattle.bracket_rules.specs.Rows.{Row, HasRow, empty_row, glue}
-use Rattle.bracket_rules.specs.Tree.{Tree, pair, stray, capped, bracket_row, tree_rows, weight, is_missing, IsLone, items}
-use Rattle.bracket_rules.specs.Told.{has_kind, with_kind, Tells, IsTreeOf}
-use Rattle.bracket_rules.proofs.Weights.{weight_pos}
-use Rattle.bracket_rules.proofs.KindSets.{has_kind-none, has_kind-with_other}
-use Rattle.bracket_rules.proofs.Telling.{Tells-none, Tells-append, Tells-fitting, Tells-stray, Tells-capped, Tells-paired, Tells-unclosed_end, Tells-unclosed_below, not_missing_inside}
-use Rattle.bracket_rules.proofs.Whole.{IsTreeOf-from_Tells}
+use Rattle.bracket_trees.specs.Tree.{Tree, pair, stray, capped, bracket_row, tree_rows, weight, is_missing, IsLone, items}
+use Rattle.bracket_trees.specs.Told.{has_kind, with_kind, Tells, IsTreeOf}
+use Rattle.bracket_trees.proofs.Weights.{weight_pos}
+use Rattle.bracket_trees.proofs.KindSets.{has_kind-none, has_kind-with_other}
+use Rattle.bracket_trees.proofs.Telling.{Tells-none, Tells-append, Tells-fitting, Tells-stray, Tells-capped, Tells-paired, Tells-unclosed_end, Tells-unclosed_below, not_missing_inside}
+use Rattle.bracket_trees.proofs.Whole.{IsTreeOf-from_Tells}
 use Rattle.bracket_nodes.specs.declared.parser.Stop.{Stop}
 use Rattle.bracket_nodes.specs.declared.parser.Stop.TheVariants.{AtEnd, AtClosing}
 use Rattle.bracket_nodes.specs.declared.parser.Taken.TheVariants.{One, Last, Nothing}

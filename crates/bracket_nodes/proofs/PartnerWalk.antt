@@ -6,7 +6,7 @@ use Rattle.text_lengths.specs.declared.Length.{Length}
 use Rattle.text_lengths.specs.Length.{length_plus, is_before}
 use Rattle.text_lengths.proofs.Lengths.{length_plus_assoc}
 use Rattle.bracket_rules.specs.Parse.{bracket, Spot, spot, Judged, judged_opening, same_place, partner_at}
-use Rattle.bracket_rules.specs.Tree.{Tree, text, pair, stray, capped, nothing, two, three, wide, width_of, is_some_width, tree_length, inside_start, inside_end, closing_spot, closing_entries, tree_entries, IsWidth, IsTree}
+use Rattle.bracket_trees.specs.Tree.{Tree, text, pair, stray, capped, nothing, two, three, wide, width_of, is_some_width, tree_length, inside_start, inside_end, closing_spot, closing_entries, tree_entries, IsWidth, IsTree}
 
 -- no entry starts at the place
 NoneAt : Length → List Judged → Type 0

@@ -1,7 +1,7 @@
 // The entries of some lines: a walk down to the parts that reach these lines.
 ghost use Rattle.std.specs.Prelude.{◌≡◌, ◌+◌, ◌<◌, ◌^◌, ◌++◌, ◌∷◌, [], length, take, true, OnOk, OnErr, IfOk};
 ghost use Rattle.bracket_rules.specs.Parse.{bracket, spot, Spot, is_between, entries_between, entries_of, judged_opening};
-ghost use Rattle.bracket_rules.specs.Tree.{tree_entries, tree_story, closing_entries, closing_spot};
+ghost use Rattle.bracket_trees.specs.Tree.{tree_entries, tree_story, closing_entries, closing_spot};
 ghost use Rattle.bracket_nodes.specs.Walks.{HasRoom, chosen, entry_if};
 
 use crate::makers::wide;

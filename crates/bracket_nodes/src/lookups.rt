@@ -3,7 +3,7 @@ ghost use Rattle.std.specs.Prelude.{◌≡◌, ◌+◌, ◌<◌, ◌^◌, ◌&&�
 ghost use Rattle.std.specs.Option.{option_map};
 ghost use Rattle.text_lengths.specs.Length.{is_before};
 ghost use Rattle.bracket_rules.specs.Parse.{same_place, partner_at};
-ghost use Rattle.bracket_rules.specs.Tree.{weight, is_some_width, closing_spot, tree_entries, level_before, tree_level, tree_partner};
+ghost use Rattle.bracket_trees.specs.Tree.{weight, is_some_width, closing_spot, tree_entries, level_before, tree_level, tree_partner};
 ghost use Rattle.bracket_nodes.specs.Walks.{HasRoom, level_from, place_and_len};
 
 use crate::makers::wide;

@@ -1,8 +1,8 @@
 // The parser: it makes a tree of what a source gives.
 ghost use Rattle.std.specs.Prelude.{◌≡◌, ◌+◌, ◌<◌, ◌≤◌, ◌^◌, false, IfOk};
 ghost use Rattle.bracket_rules.specs.Rows.{HasRow};
-ghost use Rattle.bracket_rules.specs.Told.{IsTreeOf};
-ghost use Rattle.bracket_rules.specs.Tree.{IsLone, is_missing, weight};
+ghost use Rattle.bracket_trees.specs.Told.{IsTreeOf};
+ghost use Rattle.bracket_trees.specs.Tree.{IsLone, is_missing, weight};
 ghost use Rattle.bracket_nodes.specs.Source.{Listed, Takes, HasWidth, stop_width, closing_taken, pair_taken};
 
 use crate::joiner::Joiner;

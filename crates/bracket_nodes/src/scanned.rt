@@ -1,6 +1,6 @@
 // A whole text as a source, from the scans of its lines.
 ghost use Rattle.std.specs.Prelude.{◌≡◌, ◌<◌, ◌^◌, [], length, IfOk};
-ghost use Rattle.bracket_rules.specs.Told.{IsTreeOf};
+ghost use Rattle.bracket_trees.specs.Told.{IsTreeOf};
 ghost use Rattle.bracket_nodes.specs.ScannedLines.{AreLines, scanned_rows, scanned_bound};
 
 use crate::kinds::Kinds;

@@ -5,7 +5,7 @@ ghost use Rattle.std.specs.List.Sorted.{IsNonDecreasingBy};
 ghost use Rattle.chunk_buffers.specs.Buffer.{Filled, padding, padded, cut, breaks_to};
 ghost use Rattle.line_starts.specs.Starts.{break_count, break_ends_at};
 ghost use Rattle.text_rules.specs.Lines.{line_start, line_feed, carriage_return, begins_with};
-ghost use Rattle.text_rules.proofs.Breaks.{joins_pair, count_to, break_ends, ends_with};
+ghost use Rattle.text_rules.specs.Breaks.{joins_pair, count_to, break_ends, ends_with};
 
 use line_starts::{count_breaks, find_break_ends};
 use std::alloc::{AllocError, Global};
@@ -28,7 +28,7 @@ pub(crate) struct Buffer {
 impl Model for Buffer {
     ghost use Rattle.std.specs.Prelude.{◌≡◌, ◌-◌, min, vec_len, vec_capacity};
     ghost use Rattle.chunk_buffers.specs.Buffer.{Filled};
-    ghost use Rattle.text_rules.proofs.Breaks.{break_ends};
+    ghost use Rattle.text_rules.specs.Breaks.{break_ends};
 
     ghost Value = { Filled };
 

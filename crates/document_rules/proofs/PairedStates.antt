@@ -13,7 +13,7 @@ use Rattle.bracket_rules.specs.Table.{Table}
 use Rattle.decoration_rules.specs.declared.DecoError.{DecoError}
 use Rattle.decoration_rules.specs.declared.NewDeco.{NewDeco}
 use Rattle.decoration_rules.specs.Decorations.{Decorations, decorated}
-use Rattle.edit_stack.specs.Stack.{Step, Stack, joined, new_step, undone_lists, redone_lists, undone, redone}
+use Rattle.undo_rules.specs.Stack.{Step, Stack, joined, new_step, undone_lists, redone_lists, undone, redone}
 use Rattle.document_rules.specs.declared.ModelError.{ModelError}
 use Rattle.document_rules.specs.Refusals.{FlatRefusal, limit}
 use Rattle.document_rules.specs.Document.{greatest_version, FlatChange, FlatState, new_document, flat_open, after_batch, edited_by, flat_edit, text_before, text_after, carried_back, carried_on, returned, undone_step, flat_undo, redone_step, flat_redo, with_decorations, flat_decorate}

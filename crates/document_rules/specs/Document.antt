@@ -19,7 +19,7 @@ use Rattle.decoration_rules.specs.declared.DecoError.{DecoError}
 use Rattle.decoration_rules.specs.declared.DecoError.TheVariants as undecorated
 use Rattle.decoration_rules.specs.Marks.{carried}
 use Rattle.decoration_rules.specs.Decorations.{Decorations, no_decorations, decorated, deco_at, decos_in}
-use Rattle.edit_stack.specs.Stack.{Step, Stack, empty_stack, pushed, stopped, undone, redone}
+use Rattle.undo_rules.specs.Stack.{Step, Stack, empty_stack, pushed, stopped, undone, redone}
 use Rattle.document_rules.specs.Refusals.{FlatRefusal, unknown, range, overlap, limit}
 
 abbrev pub greatest_version : ℕ

@@ -4,7 +4,7 @@
 ghost use Rattle.std.specs.Prelude.{◌≡◌, ℕ, ◌+◌, ◌<◌, ◌≤◌, ◌^◌, ◌++◌, false, List, length, drop, get_or, OnOk, OnErr, IsOk, vec_len, vec_capacity, take};
 ghost use Rattle.line_starts.specs.Starts.{starts_of, break_count, break_ends_at};
 ghost use Rattle.text_lengths.specs.Length.{length_plus};
-ghost use Rattle.text_rules.proofs.Breaks.{ends_break, joins_pair};
+ghost use Rattle.text_rules.specs.Breaks.{ends_break, joins_pair};
 ghost use Rattle.text_rules.specs.Lines.{text_length};
 
 use std::alloc::AllocError;

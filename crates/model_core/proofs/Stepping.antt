@@ -2,7 +2,7 @@
 use Rattle.std.proofs.Common.{◌≡◌, ℕ, zero, ◌+◌, ◌<◌, ◌≤◌, true, false, Bool, List, [], ◌∷◌, length, slice_get, Option, Some, None, Ok, Err, refl, ap, sym, subst, ◌∙◌, arith}
 use Rattle.std.proofs.lemmas.Bool.{lt-leb, le-leb}
 use Rattle.batch_rules.specs.Batches.{most_units, applied_from}
-use Rattle.edit_stack.specs.Stack.{Step, Stack, undone, undone_lists, redone, redone_lists}
+use Rattle.undo_rules.specs.Stack.{Step, Stack, undone, undone_lists, redone, redone_lists}
 use Rattle.document_rules.specs.Refusals.{limit}
 use Rattle.document_rules.specs.Document.{FlatState, flat_undo, flat_redo, greatest_version}
 use Rattle.model_core.specs.declared.change.Change.{Change}

@@ -1,9 +1,9 @@
 -- What contracts see of a model.
 use Rattle.std.specs.Prelude.{◌≡◌, ℕ, Bool, true, false, List, Option, Some, None, Result, Ok, Err, ⊤}
 use Rattle.bracket_rules.specs.Table.{Table, is_table}
-use Rattle.bracket_rules.specs.Tree.{Tree}
+use Rattle.bracket_trees.specs.Tree.{Tree}
 use Rattle.bracket_rules.specs.Rows.{text_rows}
-use Rattle.bracket_rules.specs.Told.{IsTreeOf}
+use Rattle.bracket_trees.specs.Told.{IsTreeOf}
 use Rattle.document_rules.specs.declared.ModelError.{ModelError}
 use Rattle.document_rules.specs.Document.{FlatState}
 use Rattle.document_rules.specs.Brackets.{line_contents}

@@ -9,7 +9,8 @@ use Rattle.std.proofs.lemmas.List.{append-nil, length-append, length-drop, lengt
 use Rattle.std.proofs.lemmas.Option.{slice_get-get_or, slice_get_past}
 use Rattle.std.proofs.lemmas.List.Sums.{sum_by-cons, sum_by_more}
 use Rattle.text_rules.specs.Lines.{Line, lines_of, line_length, line_start, line_at, line_feed, carriage_return, begins_with, in_first_line, in_first_break}
-use Rattle.text_rules.proofs.Breaks.{ends_with, and_false, line_count_is}
+use Rattle.text_rules.specs.Breaks.{ends_with}
+use Rattle.text_rules.proofs.Breaks.{and_false, line_count_is}
 use Rattle.text_rules.proofs.Places.{line_start_after, line_start_within}
 use Rattle.text_buffer.specs.Text.{ends_with_pair}
 use Rattle.text_buffer.proofs.Spelling.{drop-past}

@@ -12,7 +12,8 @@ use Rattle.piece_tree.specs.Costs.{WithinLookUps}
 use Rattle.piece_tree.specs.Pieces.{Pieces, Entry, pieces_of, unit_count, break_count_of, IsPieceOf, IsFound}
 use Rattle.piece_tree.proofs.Sums.{units-cons, breaks-cons}
 use Rattle.text_rules.specs.Lines.{lines_of, line_start}
-use Rattle.text_rules.proofs.Breaks.{ends_break, break_ends, break_ends-append, break_ends_moved, joins_pair, line_count_is, line_start_is, count_to, count_to_all, count_to_none, count_to-append, count_to-later, count_to-moved}
+use Rattle.text_rules.specs.Breaks.{ends_break, break_ends, joins_pair, count_to}
+use Rattle.text_rules.proofs.Breaks.{break_ends-append, break_ends_moved, line_count_is, line_start_is, count_to_all, count_to_none, count_to-append, count_to-later, count_to-moved}
 use Rattle.text_buffer.specs.Text.{Text, text_of, spelled, IsUnsplit, ends_with_pair}
 use Rattle.text_buffer.proofs.Spelling.{spelled-append, length-spelled, length-units_at, take-past, drop-past}
 use Rattle.text_buffer.proofs.Borders.{unsplit-parts, begins_with-take}

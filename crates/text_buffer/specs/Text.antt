@@ -5,7 +5,7 @@ use Rattle.chunk_buffers.specs.declared.span.ChunkSpan.{ChunkSpan}
 use Rattle.chunk_buffers.specs.Chunks.{Shown, units_at, LiesIn}
 use Rattle.piece_tree.specs.declared.piece.Piece.{Piece}
 use Rattle.piece_tree.specs.Pieces.{Pieces, pieces_of, IsPieceOf}
-use Rattle.text_rules.proofs.Breaks.{joins_pair}
+use Rattle.text_rules.specs.Breaks.{joins_pair}
 
 -- what contracts see of a text buffer
 pub record Text : Type 0 where

@@ -8,7 +8,7 @@ ghost use Rattle.unit_text.specs.Units.{is_place};
 ghost use Rattle.text_rules.specs.Positions.{position_of, is_position, offset_of};
 ghost use Rattle.text_rules.specs.Edits.{edited};
 ghost use Rattle.text_rules.specs.Lines.{Line, lines_of, line_at, line_start, line_feed, carriage_return, begins_with};
-ghost use Rattle.text_rules.proofs.Breaks.{ends_with, joins_pair, count_to, break_ends};
+ghost use Rattle.text_rules.specs.Breaks.{ends_with, joins_pair, count_to, break_ends};
 ghost use Rattle.text_buffer.specs.Text.{unit_if, one_if, IsAdded, ends_with_pair};
 
 use crate::look_up::{break_at, cuts_pair_at, piece_at};

@@ -1,4 +1,5 @@
 pub mod Lines
+pub mod Breaks
 pub mod Positions
 pub mod Edits
 mod Examples

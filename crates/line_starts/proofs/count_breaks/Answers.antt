@@ -1,7 +1,7 @@
 use Rattle.std.proofs.Common.{length, ap, arith}
 use Rattle.std.proofs.lemmas.List.{drop_all}
 use Rattle.line_starts.proofs.Starts.{break_count_is}
-use Rattle.text_rules.proofs.Breaks.{break_ends}
+use Rattle.text_rules.specs.Breaks.{break_ends}
 use Rattle.line_starts.proofs.count_breaks.Goals as goal
 
 pub returns : goal.returns

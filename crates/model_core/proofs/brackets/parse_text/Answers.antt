@@ -1,7 +1,7 @@
 use Rattle.std.proofs.Common.{List, subst}
 use Rattle.std.specs.Prelude.{IfOk}
 use Rattle.bracket_rules.specs.Rows.{Row}
-use Rattle.bracket_rules.specs.Told.{IsTreeOf}
+use Rattle.bracket_trees.specs.Told.{IsTreeOf}
 use Rattle.model_core.proofs.TreeLength.{IfOk-length}
 use Rattle.model_core.proofs.Scans.{AreScansOf, scans_of_text}
 use Rattle.model_core.proofs.brackets.parse_text.Goals as goal

@@ -4,7 +4,7 @@ use Rattle.std.specs.List.{All}
 use Rattle.unit_text.specs.Units.{IsPaired}
 use Rattle.batch_rules.specs.Batches.{most_units, checked_batch, applied_from, inverse_from, text_units}
 use Rattle.batch_rules.proofs.Standing.{accepted, text_units_applied}
-use Rattle.edit_stack.specs.Stack.{pushed}
+use Rattle.undo_rules.specs.Stack.{pushed}
 use Rattle.document_rules.specs.Document.{greatest_version, flat_edit}
 use Rattle.document_rules.proofs.PairedStates.{IsPairedState-edit}
 use Rattle.model_core.specs.State.{ModelState}

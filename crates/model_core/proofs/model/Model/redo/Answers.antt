@@ -1,7 +1,7 @@
 use Rattle.std.proofs.Common.{◌≡◌, refl, true, ◌+◌, ◌<◌, ◌≤◌, length, slice_get, Option, Some, None, Ok, Err, ap, sym, subst, ◌∙◌, arith, inl, inr}
 use Rattle.std.proofs.lemmas.Grind.{common_steps}
 use Rattle.batch_rules.specs.Batches.{most_units, text_units}
-use Rattle.edit_stack.specs.Stack.{Step, redone}
+use Rattle.undo_rules.specs.Stack.{Step, redone}
 use Rattle.edit_stack.specs.Element.{step_of}
 use Rattle.document_rules.specs.Refusals.{limit}
 use Rattle.document_rules.specs.Document.{greatest_version, flat_redo}

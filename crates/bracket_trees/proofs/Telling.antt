@@ -9,13 +9,13 @@ use Rattle.text_lengths.proofs.Lengths.{plus_none, length_plus_assoc}
 use Rattle.bracket_rules.specs.declared.TheConstants.{MOST_OPEN}
 use Rattle.bracket_rules.specs.Parse.{Bracket, bracket, spot_of, Judged, opens, too_deep, closes, closing_event, event, depth_of, judged_opening, judged_closing, Story, told, parse}
 use Rattle.bracket_rules.specs.Rows.{Row, HasRow, empty_row, glue, placed, rows_length}
-use Rattle.bracket_rules.specs.Tree.{Tree, pair, stray, capped, wide, tree_length, inside_start, inside_end, tree_tokens, tree_entries, bracket_row, closing_rows, tree_rows, is_missing, nesting, IsLone, IsTree, items}
-use Rattle.bracket_rules.specs.Items.{all_length, entries_at, all_entries, all_rows, any_missing}
-use Rattle.bracket_rules.specs.Told.{has_kind, with_kind, IsStack, Fits, prepend, Tells}
-use Rattle.bracket_rules.proofs.Glue.{HasRow-glue, HasRow-tree_rows, glue_empty, empty_glue, glue_assoc, placed-glue, placed-tree, placed-bracket, rows_length-tree}
-use Rattle.bracket_rules.proofs.ItemLists.{all_length-append, all_length-items, spread-append, all_entries-items, all_rows-append, all_rows-items, any_missing-append, any_missing-items, or_false}
-use Rattle.bracket_rules.proofs.TreeParse.{FitsOn, taken, prepend-prepend, parse-event, event_opens, event_too_deep, parse-closing, told-paired}
-use Rattle.bracket_rules.proofs.KindSets.{has_kind-with_same, has_kind-with_kind, IsStack-push}
+use Rattle.bracket_trees.specs.Tree.{Tree, pair, stray, capped, wide, tree_length, inside_start, inside_end, tree_tokens, tree_entries, bracket_row, closing_rows, tree_rows, is_missing, nesting, IsLone, IsTree, items}
+use Rattle.bracket_trees.specs.Items.{all_length, entries_at, all_entries, all_rows, any_missing}
+use Rattle.bracket_trees.specs.Told.{has_kind, with_kind, IsStack, Fits, prepend, Tells}
+use Rattle.bracket_trees.proofs.Glue.{HasRow-glue, HasRow-tree_rows, glue_empty, empty_glue, glue_assoc, placed-glue, placed-tree, placed-bracket, rows_length-tree}
+use Rattle.bracket_trees.proofs.ItemLists.{all_length-append, all_length-items, spread-append, all_entries-items, all_rows-append, all_rows-items, any_missing-append, any_missing-items, or_false}
+use Rattle.bracket_trees.proofs.TreeParse.{FitsOn, taken, prepend-prepend, parse-event, event_opens, event_too_deep, parse-closing, told-paired}
+use Rattle.bracket_trees.proofs.KindSets.{has_kind-with_same, has_kind-with_kind, IsStack-push}
 
 -- ---- none, and one after another
 

@@ -1,6 +1,6 @@
 -- Worked examples of the definitions.
 use Rattle.std.specs.Prelude.{◌≡◌, [], ◌∷◌, ℕ, refl}
-use Rattle.edit_stack.specs.Stack.{empty_stack, pushed, stopped, undone, redone}
+use Rattle.undo_rules.specs.Stack.{empty_stack, pushed, stopped, undone, redone}
 
 two_changes_are_one_step : (pushed (pushed (empty_stack {C = ℕ}) 7 1 2) 8 2 3).undo ≡ record { changes = 7 ∷ 8 ∷ []; alt_before = 1; alt_after = 3 } ∷ []
 two_changes_are_one_step = refl

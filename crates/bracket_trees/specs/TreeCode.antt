@@ -4,7 +4,7 @@ use Rattle.std.specs.Coded.{Coded, code_by, coded_ℕ, coded_list, coded×, code
 use Rattle.std.proofs.Common.{sym, ◌∙◌, ap, append_assoc}
 use Rattle.std.proofs.lemmas.List.{append-nil}
 use Rattle.text_lengths.specs.Length.{length_of}
-use Rattle.bracket_rules.specs.Tree.{Tree, text, pair, stray, capped, nothing, two, three}
+use Rattle.bracket_trees.specs.Tree.{Tree, text, pair, stray, capped, nothing, two, three}
 
 -- a node without its parts: its shape, two numbers and a width
 abbrev Mark : Type 0

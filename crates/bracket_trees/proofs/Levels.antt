@@ -6,7 +6,7 @@ use Rattle.text_lengths.specs.declared.Length.{Length}
 use Rattle.text_lengths.specs.Length.{no_length, length_plus, is_before}
 use Rattle.text_lengths.proofs.Lengths.{length_plus_assoc}
 use Rattle.bracket_rules.specs.Parse.{Bracket, bracket, Spot, Judged, Event, opens, too_deep, closes, unexpected, event, stack_after, judged_opening, Story, first_closer, told, parse, bracket_story, stack_before, bracket_level}
-use Rattle.bracket_rules.specs.Tree.{Tree, text, pair, stray, capped, nothing, two, three, wide, width_of, tree_length, inside_start, inside_end, closing_brackets, tree_tokens, level_before, tree_story, tree_level}
+use Rattle.bracket_trees.specs.Tree.{Tree, text, pair, stray, capped, nothing, two, three, wide, width_of, tree_length, inside_start, inside_end, closing_brackets, tree_tokens, level_before, tree_story, tree_level}
 
 pub level_before-opening : (p : Length) (level : ℕ) (b : Bracket) (n : ℕ) (closer : Option Spot) (rest : List Judged)
     → level_before p level (judged_opening b n closer ∷ rest) ≡ level_before p (cond (is_before b.place p) (suc n) level) rest

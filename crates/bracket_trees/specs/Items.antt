@@ -4,7 +4,7 @@ use Rattle.text_lengths.specs.declared.Length.{Length}
 use Rattle.text_lengths.specs.Length.{no_length, length_plus}
 use Rattle.bracket_rules.specs.Parse.{Bracket, Judged}
 use Rattle.bracket_rules.specs.Rows.{Row, empty_row, glue}
-use Rattle.bracket_rules.specs.Tree.{Tree, tree_length, tree_tokens, tree_entries, tree_rows, is_missing, is_closed, is_capped, nesting}
+use Rattle.bracket_trees.specs.Tree.{Tree, tree_length, tree_tokens, tree_entries, tree_rows, is_missing, is_closed, is_capped, nesting}
 
 abbrev pub all_length : List Tree → Length
 all_length [] = no_length

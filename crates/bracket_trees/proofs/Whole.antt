@@ -4,13 +4,13 @@ use Rattle.std.proofs.lemmas.List.{append-nil}
 use Rattle.text_lengths.specs.Length.{no_length}
 use Rattle.bracket_rules.specs.Parse.{Bracket, Story, bracket_story, bracket_level}
 use Rattle.bracket_rules.specs.Rows.{Row, empty_row, placed}
-use Rattle.bracket_rules.specs.Tree.{Tree, tree_tokens, tree_rows, tree_story, items}
-use Rattle.bracket_rules.specs.Items.{all_rows, all_entries}
-use Rattle.bracket_rules.specs.Told.{Tells, IsTreeOf}
-use Rattle.bracket_rules.proofs.Glue.{glue_empty, placed-tree}
-use Rattle.bracket_rules.proofs.ItemLists.{HasRow-all_rows, all_entries-items, all_rows-items}
-use Rattle.bracket_rules.proofs.KindSets.{IsStack-none}
-use Rattle.bracket_rules.proofs.Levels.{tree_level-is}
+use Rattle.bracket_trees.specs.Tree.{Tree, tree_tokens, tree_rows, tree_story, items}
+use Rattle.bracket_trees.specs.Items.{all_rows, all_entries}
+use Rattle.bracket_trees.specs.Told.{Tells, IsTreeOf}
+use Rattle.bracket_trees.proofs.Glue.{glue_empty, placed-tree}
+use Rattle.bracket_trees.proofs.ItemLists.{HasRow-all_rows, all_entries-items, all_rows-items}
+use Rattle.bracket_trees.proofs.KindSets.{IsStack-none}
+use Rattle.bracket_trees.proofs.Levels.{tree_level-is}
 
 pub IsTreeOf-from_Tells : (rows : List Row) (t : Tree) → Tells 0 0 rows (empty_row ∷ []) (items t) → IsTreeOf rows t
 IsTreeOf-from_Tells rows t h =

@@ -5,9 +5,9 @@ use Rattle.text_lengths.specs.declared.Length.{Length}
 use Rattle.text_lengths.specs.Length.{length_plus}
 use Rattle.text_lengths.proofs.Lengths.{plus_none, none_plus, length_plus_assoc}
 use Rattle.bracket_rules.specs.Rows.{HasRow, glue}
-use Rattle.bracket_rules.specs.Tree.{Tree, text, pair, stray, capped, nothing, two, three, tree_length, tree_tokens, tree_entries, tree_rows, is_missing, is_closed, is_capped, nesting, weight, items, all_items, all_weight}
-use Rattle.bracket_rules.specs.Items.{all_length, spread, all_tokens, entries_at, all_entries, all_rows, any_missing, all_closed, any_capped, most_nesting}
-use Rattle.bracket_rules.proofs.Glue.{HasRow-tree_rows, HasRow-glue, glue_empty, empty_glue, glue_assoc}
+use Rattle.bracket_trees.specs.Tree.{Tree, text, pair, stray, capped, nothing, two, three, tree_length, tree_tokens, tree_entries, tree_rows, is_missing, is_closed, is_capped, nesting, weight, items, all_items, all_weight}
+use Rattle.bracket_trees.specs.Items.{all_length, spread, all_tokens, entries_at, all_entries, all_rows, any_missing, all_closed, any_capped, most_nesting}
+use Rattle.bracket_trees.proofs.Glue.{HasRow-tree_rows, HasRow-glue, glue_empty, empty_glue, glue_assoc}
 
 -- ---- lengths
 

@@ -3,8 +3,8 @@ use Rattle.std.proofs.Common.{◌≡◌, ℕ, ◌+◌, ◌≤◌, ◌<◌, false
 use Rattle.std.proofs.lemmas.Grind.{common_steps}
 use Rattle.text_lengths.specs.declared.Length.{Length}
 use Rattle.text_lengths.specs.Length.{length_plus}
-use Rattle.bracket_rules.specs.Tree.{Tree, text, pair, stray, capped, nothing, two, three, wide, width_of, tree_length, nesting, height, weight, is_nothing, IsGap, IsTree, all_weight}
-use Rattle.bracket_rules.specs.Items.{all_length}
+use Rattle.bracket_trees.specs.Tree.{Tree, text, pair, stray, capped, nothing, two, three, wide, width_of, tree_length, nesting, height, weight, is_nothing, IsGap, IsTree, all_weight}
+use Rattle.bracket_trees.specs.Items.{all_length}
 
 -- lines and columns together
 abbrev pub units_of : Length → ℕ

@@ -6,7 +6,7 @@ use Rattle.std.specs.Int.{bit_at}
 use Rattle.std.proofs.lemmas.Bool.Decides.{eqb_tells, nat_tests}
 use Rattle.std.proofs.lemmas.Nat.Bits.{bit_at-zero, bit_at_or, bit_at-pow_same, bit_at-pow_other, bit_at-lt}
 use Rattle.bracket_rules.specs.Parse.{Bracket, depth_of}
-use Rattle.bracket_rules.specs.Told.{has_kind, with_kind, IsStack}
+use Rattle.bracket_trees.specs.Told.{has_kind, with_kind, IsStack}
 
 pub has_kind-none : (k : ℕ) → has_kind 0 k ≡ false
 has_kind-none k = rw (bit_at-zero k) refl

@@ -6,8 +6,8 @@ use Rattle.text_lengths.specs.declared.Length.{Length}
 use Rattle.text_lengths.specs.Length.{length_plus}
 use Rattle.bracket_rules.specs.declared.TheConstants.{MOST_OPEN}
 use Rattle.bracket_rules.specs.Parse.{Bracket, bracket, spot_of, Judged, Event, opens, too_deep, closes, unexpected, depth_of, closing_event, event, stack_after, judged_opening, judged_closing, Story, told, parse}
-use Rattle.bracket_rules.specs.Tree.{Tree, text, pair, stray, capped, nothing, two, three, tree_length, inside_start, inside_end, tree_tokens, tree_entries, is_missing, is_closed, is_capped, nesting, IsPair, IsTree}
-use Rattle.bracket_rules.specs.Told.{prepend}
+use Rattle.bracket_trees.specs.Tree.{Tree, text, pair, stray, capped, nothing, two, three, tree_length, inside_start, inside_end, tree_tokens, tree_entries, is_missing, is_closed, is_capped, nesting, IsPair, IsTree}
+use Rattle.bracket_trees.specs.Told.{prepend}
 
 -- a tree that fits on a stack
 pub record FitsOn (stack : List Bracket) (t : Tree) : Type 0 where

@@ -1,13 +1,10 @@
--- The bracket tree of a text is as long as the text.
+-- The rows of brackets of a text are as long as the text.
 use Rattle.std.proofs.Common.{◌≡◌, ℕ, suc, ◌-◌, List, [], ◌∷◌, length, map, refl, ap, sym, ◌∙◌, arith}
 use Rattle.text_lengths.specs.declared.Length.{Length}
 use Rattle.text_lengths.specs.Length.{length_of}
 use Rattle.text_rules.specs.Lines.{Line, lines_of, last_content, length_of_lines, text_length}
 use Rattle.bracket_rules.specs.Table.{Table}
 use Rattle.bracket_rules.specs.Rows.{rows_length, text_rows}
-use Rattle.bracket_rules.specs.Told.{IsTreeOf}
-use Rattle.bracket_rules.specs.Tree.{Tree, tree_length}
-use Rattle.bracket_rules.proofs.Glue.{rows_length-tree}
 use Rattle.document_rules.specs.Brackets.{line_contents}
 
 one_line_more : (columns count n : ℕ) → suc (count - 1) ≡ n → length_of (suc (count - 1)) columns ≡ length_of n columns
@@ -24,6 +21,3 @@ rows_length-lines table (l ∷ m ∷ n ∷ lines) =
 -- the rows of a text are as long as it is
 pub rows_length-text : (table : Table) (x : List ℕ) → rows_length (text_rows table (line_contents x)) ≡ text_length x
 rows_length-text table x = rows_length-lines table (lines_of x)
-
-pub tree_length-text : (table : Table) (x : List ℕ) (t : Tree) → IsTreeOf (text_rows table (line_contents x)) t → tree_length t ≡ text_length x
-tree_length-text table x t h = sym (rows_length-tree t) ∙ ap rows_length h.spells ∙ rows_length-text table x

@@ -1,0 +1,26 @@
+-- Worked examples of what a tree shows, as computed theorems. Places are (lines, columns) from (0, 0).
+use Rattle.std.specs.Prelude.{◌≡◌, ℕ, [], ◌∷◌, Some, refl}
+use Rattle.text_lengths.specs.Length.{length_of}
+use Rattle.bracket_rules.specs.declared.Entry.{Entry}
+use Rattle.bracket_rules.specs.declared.Status.{Status}
+use Rattle.bracket_rules.specs.declared.Status.TheVariants.{PairedOpening, PairedClosing, Unexpected}
+use Rattle.bracket_rules.specs.Parse.{entries_of}
+use Rattle.bracket_trees.specs.Tree.{pair, stray, capped, tree_story}
+
+abbrev entry : ℕ → ℕ → ℕ → ℕ → Status → ℕ → Entry
+entry line column len kind status level = record {
+  place = length_of line column;
+  len = len;
+  kind = kind;
+  status = status;
+  level = level;
+}
+
+-- `(` and `)` round `]`, and a bracket beyond the most that may be open
+entries_of_pair :
+    entries_of (tree_story (pair 0 1 (stray 1 1) (Some 1)))
+    ≡ entry 0 0 1 0 PairedOpening 0 ∷ entry 0 1 1 1 Unexpected 1 ∷ entry 0 2 1 0 PairedClosing 0 ∷ []
+entries_of_pair = refl
+
+capped_is_no_entry : tree_story (capped 0 1) ≡ []
+capped_is_no_entry = refl
