@@ -6,3 +6,4 @@ pub mod KindSets
 pub mod Telling
 pub mod Levels
 pub mod Whole
+pub mod Places

@@ -2,4 +2,5 @@ pub mod Tree
 pub mod TreeCode
 pub mod Items
 pub mod Told
+pub mod Places
 mod Examples
