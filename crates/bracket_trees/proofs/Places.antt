@@ -1,11 +1,11 @@
 -- What stands at a place of a tree takes its rows from there on, and where it ends something else begins.
 use Rattle.std.proofs.Common.{◌≡◌, ℕ, zero, suc, ◌+◌, ◌-◌, ◌<◌, ◌≤◌, ◌⊎◌, Bool, cond, true, false, Option, Some, None, List, [], ◌∷◌, ◌++◌, length, drop, refl, ap, sym, ◌∙◌, subst, arith, inl, inr, add-zero, zero-add, add_assoc}
 use Rattle.std.specs.Prelude.{nat_lt}
-use Rattle.std.proofs.lemmas.Bool.{lt-ltb, le-ltb}
+use Rattle.std.proofs.lemmas.Bool.{lt-ltb, le-ltb, cases_lt}
 use Rattle.std.proofs.lemmas.Grind.{common_steps}
 use Rattle.text_lengths.specs.declared.Length.{Length}
 use Rattle.text_lengths.specs.Length.{length_of, no_length, length_plus}
-use Rattle.text_lengths.proofs.Lengths.{none_plus, plus_none, length_plus_assoc}
+use Rattle.text_lengths.proofs.Lengths.{same_length, none_plus, plus_none, length_plus_assoc}
 use Rattle.bracket_rules.specs.declared.Token.{Token}
 use Rattle.bracket_rules.specs.Table.{token}
 use Rattle.bracket_rules.specs.Parse.{Bracket, bracket}
@@ -432,3 +432,71 @@ edge_after_node p (three a b c) q n (inr (inr (inl in_b))) =
     (edge_after_node (length_plus p (tree_length a)) b q n in_b)
 edge_after_node p (three a b c) q n (inr (inr (inr in_c))) =
     edge_in_last a b c p (length_plus q (tree_length n)) (edge_after_node (length_plus (length_plus p (tree_length a)) (tree_length b)) c q n in_c)
+
+edge_after_lone : (b : Bracket) (p : Length) (w k : ℕ) (opening : Bool) (t : Tree) → tree_length t ≡ wide w → IsAmong b (bracket p w k opening ∷ [])
+    → IsEdge p t (length_plus b.place (wide b.len))
+edge_after_lone b p w k opening t e (inl first) =
+    at_end (ap (λ (x : Bracket). length_plus x.place (wide x.len)) first ∙ ap (length_plus p) (sym e))
+edge_after_lone b p w k opening t e (inr none) = elim none [ ]
+
+edge_after_closing : (b : Bracket) (p : Length) (k o : ℕ) (i : Tree) (c : Option ℕ) → IsAmong b (closing_brackets (inside_end p o i) k c)
+    → IsEdge p (pair k o i c) (length_plus b.place (wide b.len))
+edge_after_closing b p k o i None h = elim h [ ]
+edge_after_closing b p k o i (Some w) (inr none) = elim none [ ]
+edge_after_closing b p k o i (Some w) (inl first) =
+    at_end (ap (λ (x : Bracket). length_plus x.place (wide x.len)) first
+    ∙ ap (λ (x : Length). length_plus x (wide w)) (length_plus_assoc p (wide o) (tree_length i))
+    ∙ length_plus_assoc p (length_plus (wide o) (tree_length i)) (wide w))
+
+-- where a bracket ends too
+pub edge_after_bracket : (p : Length) (t : Tree) (b : Bracket) → HasBracket p t b → IsEdge p t (length_plus b.place (wide b.len))
+edge_after_bracket p (text l) b none = elim none [ ]
+edge_after_bracket p (pair k o i c) b (inl first) =
+    subst (IsEdge p (pair k o i c)) (sym (ap (λ (x : Bracket). length_plus x.place (wide x.len)) first))
+    (edge_in_pair k o i c p (inside_start p o) (edge_at_start (inside_start p o) i))
+edge_after_bracket p (pair k o i c) b (inr later) =
+    elim (IsAmong-append b (tree_tokens (inside_start p o) i) (closing_brackets (inside_end p o i) k c) later)
+    [ inl in_it ↦ edge_in_pair k o i c p (length_plus b.place (wide b.len)) (edge_after_bracket (inside_start p o) i b in_it)
+    | inr last ↦ edge_after_closing b p k o i c last ]
+edge_after_bracket p (stray k w) b h = edge_after_lone b p w k false (stray k w) refl h
+edge_after_bracket p (capped k w) b h = edge_after_lone b p w k true (capped k w) refl h
+edge_after_bracket p nothing b none = elim none [ ]
+edge_after_bracket p (two x y) b h =
+    let q = length_plus b.place (wide b.len) in
+    elim (IsAmong-append b (tree_tokens p x) (tree_tokens (length_plus p (tree_length x)) y) h)
+    [ inl in_x ↦ edge_in_first x y p q (edge_at_start (length_plus p (tree_length x)) y) (edge_after_bracket p x b in_x)
+    | inr in_y ↦ edge_in_second x y p q (edge_after_bracket (length_plus p (tree_length x)) y b in_y) ]
+edge_after_bracket p (three x y z) b h =
+    let q = length_plus b.place (wide b.len) in
+    let r = length_plus p (tree_length x) in
+    let s = length_plus r (tree_length y) in
+    elim (IsAmong-append b (tree_tokens p x) (tree_tokens r y ++ tree_tokens s z) h)
+    [ inl in_x ↦ edge_in_front x y z p q (edge_at_start s z) (edge_at_start r y) (edge_after_bracket p x b in_x)
+    | inr later ↦ elim (IsAmong-append b (tree_tokens r y) (tree_tokens s z) later)
+      [ inl in_y ↦ edge_in_middle x y z p q (edge_at_start s z) (edge_after_bracket r y b in_y)
+      | inr in_z ↦ edge_in_last x y z p q (edge_after_bracket s z b in_z) ] ]
+
+-- lines start at edges: a text does not go on behind a break
+pub edge_at_line : (p : Length) (t : Tree) (line : ℕ) → IsTree t → p.lines < line → line ≤ p.lines + (tree_length t).lines → IsEdge p t (length_of line 0)
+edge_at_line p (text l) line (inl in_line) h k = absurd (let none : l.lines ≡ 0 = in_line.0 in omega arith)
+edge_at_line p (text l) line (inr break) h k =
+    let one : l.lines ≡ 1 = break.0 in
+    let same : length_of (p.lines + 1) 0 ≡ length_plus p l = ap (length_plus p) (sym (same_length l (length_of 1 0) break.0 break.1)) in
+    at_end (ap (λ (n : ℕ). length_of n 0) (omega arith) ∙ same)
+edge_at_line p (pair k o i c) line t h g =
+    edge_in_pair k o i c p (length_of line 0) (edge_at_line (inside_start p o) i line t.1 (omega arith) (omega arith))
+edge_at_line p (stray k w) line t h g = absurd (omega arith)
+edge_at_line p (capped k w) line t h g = absurd (omega arith)
+edge_at_line p nothing line t h g = absurd (omega arith)
+edge_at_line p (two a b) line t h g =
+    elim (cases_lt (p.lines + (tree_length a).lines) line)
+    [ inl behind ↦ edge_in_second a b p (length_of line 0) (edge_at_line (length_plus p (tree_length a)) b line t.1.1 behind (omega arith))
+    | inr within ↦ edge_in_first a b p (length_of line 0) (edge_at_start (length_plus p (tree_length a)) b) (edge_at_line p a line t.1.0 h within) ]
+edge_at_line p (three a b c) line t h g =
+    let r = length_plus p (tree_length a) in
+    let s = length_plus r (tree_length b) in
+    elim (cases_lt (p.lines + (tree_length a).lines) line)
+    [ inl behind ↦ elim (cases_lt (p.lines + (tree_length a).lines + (tree_length b).lines) line)
+      [ inl last ↦ edge_in_last a b c p (length_of line 0) (edge_at_line s c line t.1.1.1 last (omega arith))
+      | inr in_b ↦ edge_in_middle a b c p (length_of line 0) (edge_at_start s c) (edge_at_line r b line t.1.1.0 behind in_b) ]
+    | inr within ↦ edge_in_front a b c p (length_of line 0) (edge_at_start s c) (edge_at_start r b) (edge_at_line p a line t.1.0 h within) ]
