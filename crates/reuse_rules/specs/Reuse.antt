@@ -1,5 +1,5 @@
 -- Which nodes of an old tree may be taken over at a place of the text of now.
-use Rattle.std.specs.Prelude.{◌≡◌, ℕ, suc, ◌+◌, ◌-◌, ◌≤◌, ◌==◌, Bool, false, if◌then◌else◌, List, drop}
+use Rattle.std.specs.Prelude.{◌≡◌, ℕ, zero, suc, ◌+◌, ◌≤◌, false, List, drop}
 use Rattle.text_lengths.specs.declared.Length.{Length}
 use Rattle.text_lengths.specs.Length.{length_of, no_length}
 use Rattle.bracket_trees.specs.Tree.{Tree, tree_length, is_nothing}
@@ -11,8 +11,12 @@ use Rattle.mark_rules.specs.Marks.{mark_at, kept_run}
 
 -- how many lines a text of this length touches, from the start of a line on or not; one that ends just after a break
 -- does not touch the next line
+abbrev pub lines_touched : ℕ → ℕ → ℕ
+lines_touched lines zero = lines
+lines_touched lines (suc columns) = suc lines
+
 abbrev pub touched : Length → ℕ
-touched l = if l.columns == 0 then l.lines else suc l.lines
+touched l = lines_touched l.lines l.columns
 
 -- Where brackets of these kinds are open, so many at once, node n of the old tree may stand at place p of the text of
 -- now: it stood there, in the line that this one is kept from, at the same column.
