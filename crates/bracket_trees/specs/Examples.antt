@@ -6,6 +6,7 @@ use Rattle.bracket_rules.specs.declared.Status.{Status}
 use Rattle.bracket_rules.specs.declared.Status.TheVariants.{PairedOpening, PairedClosing, Unexpected}
 use Rattle.bracket_rules.specs.Parse.{entries_of}
 use Rattle.bracket_trees.specs.Tree.{pair, stray, capped, tree_story}
+use Rattle.bracket_trees.specs.Places.{touched}
 
 abbrev entry : ℕ → ℕ → ℕ → ℕ → Status → ℕ → Entry
 entry line column len kind status level = record {
@@ -24,3 +25,12 @@ entries_of_pair = refl
 
 capped_is_no_entry : tree_story (capped 0 1) ≡ []
 capped_is_no_entry = refl
+
+a_part_of_a_line_touches_it : touched (length_of 0 3) ≡ 1
+a_part_of_a_line_touches_it = refl
+
+a_break_ends_the_line_it_touches : touched (length_of 1 0) ≡ 1
+a_break_ends_the_line_it_touches = refl
+
+two_breaks_and_a_letter_touch_three_lines : touched (length_of 2 1) ≡ 3
+two_breaks_and_a_letter_touch_three_lines = refl

@@ -1,12 +1,13 @@
--- What stands at a place of a tree, and the rows of a text from a place on.
-use Rattle.std.specs.Prelude.{◌≡◌, ℕ, ◌+◌, ◌-◌, ◌<◌, ◌⊎◌, Bool, nat_lt, if◌then◌else◌, List, [], ◌∷◌, drop, ⊤}
+-- What stands at a place of a tree, which of it may be taken for another text, and the rows of a text from a place on.
+use Rattle.std.specs.Prelude.{◌≡◌, ℕ, zero, suc, ◌+◌, ◌-◌, ◌<◌, ◌≤◌, ◌⊎◌, Bool, false, nat_lt, if◌then◌else◌, List, [], ◌∷◌, drop, ⊤}
 use Rattle.text_lengths.specs.declared.Length.{Length}
-use Rattle.text_lengths.specs.Length.{length_plus}
+use Rattle.text_lengths.specs.Length.{length_plus, is_before}
 use Rattle.bracket_rules.specs.declared.Token.{Token}
 use Rattle.bracket_rules.specs.Table.{token}
 use Rattle.bracket_rules.specs.Parse.{Bracket}
 use Rattle.bracket_rules.specs.Rows.{Row, row}
-use Rattle.bracket_trees.specs.Tree.{Tree, text, pair, stray, capped, nothing, two, three, tree_length, tree_tokens, inside_start}
+use Rattle.bracket_trees.specs.Tree.{Tree, text, pair, stray, capped, nothing, two, three, tree_length, tree_tokens, inside_start, is_nothing}
+use Rattle.bracket_trees.specs.Told.{Fits}
 
 -- ---- nodes
 
@@ -43,6 +44,33 @@ pub data IsEdge (p : Length) (t : Tree) (q : Length) : Type 0 where
   at_text : (l : Length) → HasNode p t q (text l) → IsEdge p t q
   at_bracket : (b : Bracket) → HasBracket p t b → b.place ≡ q → IsEdge p t q
   at_end : q ≡ length_plus p (tree_length t) → IsEdge p t q
+
+-- ---- what may be taken
+
+-- How many lines a text of this length touches, where it starts in one of them. One that ends just after a break does
+-- not touch the next line.
+abbrev pub lines_touched : ℕ → ℕ → ℕ
+lines_touched lines zero = lines
+lines_touched lines (suc columns) = suc lines
+
+abbrev pub touched : Length → ℕ
+touched l = lines_touched l.lines l.columns
+
+-- the node may be taken where so many lines are left, and brackets of these kinds are open, so many at once
+pub record MayBeTaken (lines kinds level : ℕ) (n : Tree) : Type 0 where
+  pub some : is_nothing n ≡ false
+  pub within : touched (tree_length n) ≤ lines
+  pub fits : Fits kinds level n
+
+-- of the nodes at place q that may be taken none is longer than this one
+pub record IsLongest (p : Length) (t : Tree) (q : Length) (lines kinds level : ℕ) (n : Tree) : Type 0 where
+  pub stands : HasNode p t q n
+  pub taken : MayBeTaken lines kinds level n
+  pub longest : (m : Tree) → HasNode p t q m → MayBeTaken lines kinds level m → is_before (tree_length n) (tree_length m) ≡ false
+
+-- no node at place q may be taken
+abbrev pub NoneMayBeTaken : Length → Tree → Length → ℕ → ℕ → ℕ → Type 0
+NoneMayBeTaken p t q lines kinds level = (n : Tree) → HasNode p t q n → MayBeTaken lines kinds level n → ⊥
 
 -- ---- rows from a place on
 

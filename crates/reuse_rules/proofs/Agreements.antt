@@ -4,10 +4,9 @@ use Rattle.text_lengths.specs.declared.Length.{Length}
 use Rattle.text_lengths.specs.Length.{length_of, length_plus}
 use Rattle.bracket_rules.specs.declared.Token.{Token}
 use Rattle.bracket_rules.specs.Rows.{HasRow, Row, row, empty_row, joined_row, glue, rows_length}
-use Rattle.bracket_trees.specs.Places.{AreBefore, IsBounded}
+use Rattle.bracket_trees.specs.Places.{AreBefore, IsBounded, lines_touched, touched}
 use Rattle.bracket_trees.proofs.Glue.{HasRow-glue, empty_glue}
 use Rattle.reuse_rules.specs.Agreement.{Alike, GoOnAlike}
-use Rattle.reuse_rules.specs.Reuse.{lines_touched, touched}
 
 -- ---- rows of a kept run
 
