@@ -75,7 +75,7 @@ IsBounded-under : (r : Row) (m : List Row) → HasRow m → IsBounded m → IsBo
 IsBounded-under r [] h b = elim h [ ]
 IsBounded-under r (x ∷ m) h b = b
 
-IsBounded-glue : (a b : List Row) → IsBounded a → IsBounded b → IsBounded (glue a b)
+pub IsBounded-glue : (a b : List Row) → IsBounded a → IsBounded b → IsBounded (glue a b)
 IsBounded-glue [] b h k = k
 IsBounded-glue (r ∷ []) [] h k = h
 IsBounded-glue (r ∷ []) (s ∷ []) h k =
@@ -89,7 +89,7 @@ IsBounded-gap zero columns = tt
 IsBounded-gap (suc zero) columns = tt
 IsBounded-gap (suc (suc lines)) columns = IsBounded-gap (suc lines) columns
 
-IsBounded-bracket : (k w : ℕ) (opening : Bool) → 0 < w → IsBounded (bracket_row k w opening)
+pub IsBounded-bracket : (k w : ℕ) (opening : Bool) → 0 < w → IsBounded (bracket_row k w opening)
 IsBounded-bracket k w opening h = (h, tt)
 
 IsBounded-closing : (k : ℕ) (c : Option ℕ) → IsWidth c → IsBounded (closing_rows k c)

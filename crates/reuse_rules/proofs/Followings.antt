@@ -1,0 +1,118 @@
+-- The steps of a reader that follows an old text.
+use Rattle.std.proofs.Common.{◌≡◌, ℕ, zero, suc, ◌+◌, ◌-◌, ◌<◌, ◌≤◌, Bool, true, false, List, [], ◌∷◌, length, drop, refl, ap, sym, ◌∙◌, subst, arith}
+use Rattle.std.specs.Prelude.{slice_index_or}
+use Rattle.std.proofs.lemmas.List.{length-drop, get_or-drop}
+use Rattle.std.proofs.lemmas.Bool.{cases_lt, le-ltb}
+use Rattle.text_lengths.specs.declared.Length.{Length}
+use Rattle.text_lengths.specs.Length.{length_of, no_length, length_plus}
+use Rattle.text_lengths.proofs.Lengths.{same_length, none_plus}
+use Rattle.bracket_rules.specs.declared.Token.{Token}
+use Rattle.bracket_rules.specs.Table.{token}
+use Rattle.bracket_rules.specs.Rows.{HasRow, Row, row, empty_row, glue, rows_length}
+use Rattle.bracket_trees.specs.Tree.{Tree, tree_rows, tree_length, IsTree}
+use Rattle.bracket_trees.specs.Places.{IsEdge, IsBounded, later_brackets, from_column, rows_from, HasNode, MayBeTaken, touched}
+use Rattle.bracket_trees.proofs.Glue.{HasRow-glue, empty_glue, glue_assoc, rows_length-glue, HasRow-tree_rows, rows_length-tree}
+use Rattle.bracket_trees.proofs.Places.{rows_from-glue, IsBounded-glue, IsBounded-tree, IsTree-node, Begins, node_begins, bracket_begins, edge_at_start, edge_at_line, edge_after_node, edge_after_bracket}
+use Rattle.mark_rules.specs.declared.Mark.{Mark}
+use Rattle.mark_rules.specs.declared.Mark.TheVariants.{Kept, New}
+use Rattle.mark_rules.specs.Marks.{mark_at, kept_run}
+use Rattle.reuse_rules.specs.Agreement.{Alike, Agrees}
+use Rattle.reuse_rules.specs.Reuse.{IsKeptAs}
+use Rattle.reuse_rules.specs.Following.{Reached, Follows}
+use Rattle.reuse_rules.proofs.Agreements.{LeftAfter, taken_again}
+use Rattle.reuse_rules.proofs.KeptRuns.{kept_run_alike}
+
+-- ---- what was read, and what is ahead
+
+pub Reached-start : (now : List Row) → HasRow now → Reached now no_length now
+Reached-start now h = record {
+  done = empty_row ∷ [];
+  spells = sym (empty_glue now h);
+  place = refl;
+  has_done = tt;
+  has_ahead = h;
+  bounded = tt;
+}
+
+pub Reached-next : (now : List Row) (p : Length) (rows rest : List Row) → HasRow rows → HasRow rest → IsBounded rows → Reached now p (glue rows rest)
+    → Reached now (length_plus p (rows_length rows)) rest
+Reached-next now p rows rest h k b r = record {
+  done = glue r.done rows;
+  spells = r.spells ∙ sym (glue_assoc r.done rows rest);
+  place = rows_length-glue r.done rows h ∙ ap (λ (l : Length). length_plus l (rows_length rows)) r.place;
+  has_done = HasRow-glue r.done rows r.has_done;
+  has_ahead = k;
+  bounded = IsBounded-glue r.done rows r.bounded b;
+}
+
+pub Reached-rows : (now : List Row) (p : Length) (ahead : List Row) → Reached now p ahead → rows_from p now ≡ ahead
+Reached-rows now p ahead r =
+    ap (λ (l : Length). rows_from l now) (sym r.place) ∙ ap (rows_from (rows_length r.done)) r.spells
+    ∙ rows_from-glue r.done ahead r.has_done r.has_ahead r.bounded
+
+later-zero : (ts : List Token) → later_brackets 0 ts ≡ ts
+later-zero [] = refl
+later-zero (t ∷ ts) = rw (le-ltb t.at 0 (omega arith), later-zero ts) (ap (λ (n : ℕ). token n t.len t.kind t.opening ∷ ts) (omega arith))
+
+from_line : (rows : List Row) → from_column 0 rows ≡ rows
+from_line [] = refl
+from_line (r ∷ []) =
+    ap (λ (ts : List Token). row ts (r.columns - 0) ∷ []) (later-zero r.brackets) ∙ ap (λ (n : ℕ). row r.brackets n ∷ []) (omega arith)
+from_line (r ∷ x ∷ rows) = ap (λ (ts : List Token). row ts r.columns ∷ x ∷ rows) (later-zero r.brackets)
+
+-- at the start of a line the rows ahead are those of the line and of all after it
+pub Reached-line : (now : List Row) (line : ℕ) (ahead : List Row) → Reached now (length_of line 0) ahead → drop line now ≡ ahead
+Reached-line now line ahead r = sym (from_line (drop line now)) ∙ Reached-rows now (length_of line 0) ahead r
+
+-- ---- a kept line is entered
+
+has_more : (k : ℕ) (a b : List Row) → Alike (suc k) a b → 0 < length a
+has_more k [] b h = elim h [ ]
+has_more k (r ∷ a) b h = omega arith
+
+is_kept : Mark → Bool
+is_kept (Kept i) = true
+is_kept New = false
+
+kept_first : (marks : List Mark) (i : ℕ) → slice_index_or marks 0 New ≡ Kept i → 0 < kept_run marks
+unfolding is_kept
+kept_first [] i e = let clash : false ≡ true = ap is_kept e in cc
+kept_first (New ∷ marks) i e = let clash : false ≡ true = ap is_kept e in cc
+kept_first (Kept j ∷ marks) i e = omega arith
+
+kept_run_some : (marks : List Mark) (j i : ℕ) → mark_at (j + 1) marks ≡ Kept i → 0 < kept_run (drop j marks)
+kept_run_some marks j i e =
+    kept_first (drop j marks) i (get_or-drop j marks 0 New ∙ ap (λ (n : ℕ). slice_index_or marks n New) (omega arith) ∙ e)
+
+alike_first : (k : ℕ) (a b : List Row) → 0 < k → Alike k a b → 0 < length a
+alike_first zero a b h g = absurd (omega arith)
+alike_first (suc k) a b h g = has_more k a b g
+
+rows_count : (rows : List Row) → HasRow rows → length rows ≡ suc (rows_length rows).lines
+rows_count [] h = elim h [ ]
+rows_count (r ∷ []) h = refl
+rows_count (r ∷ x ∷ rows) h = ap suc (rows_count (x ∷ rows) tt)
+
+-- where a line of now is kept, a reader at its start follows the old text there
+pub Follows-line : (old : Tree) (marks : List Mark) (now : List Row) (p : Length) (ahead : List Row) (line : ℕ) → IsTree old
+    → Agrees (tree_rows old) marks now → p.columns ≡ 0 → Reached now p ahead → IsKeptAs marks p line → Follows old marks p ahead line
+Follows-line old marks now p ahead line t a c r e =
+    let at : p ≡ length_of p.lines 0 = same_length p (length_of p.lines 0) refl c in
+    let reached : drop p.lines now ≡ ahead = Reached-line now p.lines ahead (subst (λ (q : Length). Reached now q ahead) at r) in
+    let run = kept_run (drop p.lines marks) in
+    let alike : Alike run (drop line (tree_rows old)) (drop p.lines now) = kept_run_alike (tree_rows old) marks now line p.lines a e in
+    let old_line : rows_from (length_of line p.columns) (tree_rows old) ≡ drop line (tree_rows old) =
+        ap (λ (n : ℕ). from_column n (drop line (tree_rows old))) c ∙ from_line (drop line (tree_rows old)) in
+    let some : 0 < length (drop line (tree_rows old)) = alike_first run (drop line (tree_rows old)) (drop p.lines now) (kept_run_some marks p.lines (line + 1) e) alike in
+    let counted = length-drop line (tree_rows old) in
+    let rows = rows_count (tree_rows old) (HasRow-tree_rows old) in
+    let lines : (rows_length (tree_rows old)).lines ≡ (tree_length old).lines = ap (λ (l : Length). l.lines) (rows_length-tree old) in
+    record {
+      kept = e;
+      alike = subst (λ (x : List Row). Alike run x ahead) (sym old_line) (subst (λ (x : List Row). Alike run (drop line (tree_rows old)) x) reached alike);
+      edge = subst (λ (n : ℕ). IsEdge no_length old (length_of line n)) (sym c) (edge_of line (omega arith));
+    }
+  where
+    edge_of : (n : ℕ) → n ≤ (tree_length old).lines → IsEdge no_length old (length_of n 0)
+    edge_of zero h = edge_at_start no_length old
+    edge_of (suc n) h = edge_at_line no_length old (suc n) t (omega arith) (omega arith)
