@@ -1,8 +1,8 @@
 -- The steps of a reader that follows an old text.
 use Rattle.std.proofs.Common.{◌≡◌, ℕ, zero, suc, ◌+◌, ◌-◌, ◌<◌, ◌≤◌, Bool, true, false, List, [], ◌∷◌, length, drop, refl, ap, sym, ◌∙◌, subst, arith}
 use Rattle.std.specs.Prelude.{slice_index_or}
-use Rattle.std.proofs.lemmas.List.{length-drop, get_or-drop}
-use Rattle.std.proofs.lemmas.Bool.{cases_lt, le-ltb}
+use Rattle.std.proofs.lemmas.List.{length-drop, drop-drop, get_or-drop}
+use Rattle.std.proofs.lemmas.Bool.{le-ltb, lt-ltb}
 use Rattle.text_lengths.specs.declared.Length.{Length}
 use Rattle.text_lengths.specs.Length.{length_of, no_length, length_plus}
 use Rattle.text_lengths.proofs.Lengths.{same_length, none_plus}
@@ -10,7 +10,7 @@ use Rattle.bracket_rules.specs.declared.Token.{Token}
 use Rattle.bracket_rules.specs.Table.{token}
 use Rattle.bracket_rules.specs.Rows.{HasRow, Row, row, empty_row, glue, rows_length}
 use Rattle.bracket_trees.specs.Tree.{Tree, tree_rows, tree_length, IsTree}
-use Rattle.bracket_trees.specs.Places.{IsEdge, IsBounded, later_brackets, from_column, rows_from, HasNode, MayBeTaken, touched}
+use Rattle.bracket_trees.specs.Places.{IsEdge, IsBounded, later_brackets, from_column, rows_from, HasNode, MayBeTaken, lines_touched, touched}
 use Rattle.bracket_trees.proofs.Glue.{HasRow-glue, empty_glue, glue_assoc, rows_length-glue, HasRow-tree_rows, rows_length-tree}
 use Rattle.bracket_trees.proofs.Places.{rows_from-glue, IsBounded-glue, IsBounded-tree, IsTree-node, Begins, node_begins, bracket_begins, edge_at_start, edge_at_line, edge_after_node, edge_after_bracket}
 use Rattle.mark_rules.specs.declared.Mark.{Mark}
@@ -20,7 +20,7 @@ use Rattle.reuse_rules.specs.Agreement.{Alike, Agrees}
 use Rattle.reuse_rules.specs.Reuse.{IsKeptAs}
 use Rattle.reuse_rules.specs.Following.{Reached, Follows}
 use Rattle.reuse_rules.proofs.Agreements.{LeftAfter, taken_again}
-use Rattle.reuse_rules.proofs.KeptRuns.{kept_run_alike}
+use Rattle.reuse_rules.proofs.KeptRuns.{kept_run_alike, kept_run_mark, kept_run_rest}
 
 -- ---- what was read, and what is ahead
 
@@ -116,3 +116,49 @@ Follows-line old marks now p ahead line t a c r e =
     edge_of : (n : ℕ) → n ≤ (tree_length old).lines → IsEdge no_length old (length_of n 0)
     edge_of zero h = edge_at_start no_length old
     edge_of (suc n) h = edge_at_line no_length old (suc n) t (omega arith) (omega arith)
+
+-- ---- what stands in the old text is taken
+
+-- Behind what was taken: what is left, and whether the reader goes on in the run or stands at the start of a line.
+pub record Took (old : Tree) (marks : List Mark) (now : List Row) (p : Length) (ahead : List Row) (line : ℕ) (rows : List Row) : Type 0 where
+  pub left : List Row
+  pub spells : ahead ≡ glue rows left
+  pub has_left : HasRow left
+  pub reached : Reached now (length_plus p (rows_length rows)) left
+  pub goes_on : (rows_length rows).lines < kept_run (drop p.lines marks)
+      → Follows old marks (length_plus p (rows_length rows)) left (line + (rows_length rows).lines)
+  pub new_line : kept_run (drop p.lines marks) ≤ (rows_length rows).lines → (length_plus p (rows_length rows)).columns ≡ 0
+
+at_line_end : (lines columns k : ℕ) → lines_touched lines columns ≤ k → k ≤ lines → columns ≡ 0
+at_line_end lines zero k h g = refl
+at_line_end lines (suc columns) k h g = absurd (omega arith)
+
+columns_zero : (p l : Length) → 0 < l.lines → l.columns ≡ 0 → (length_plus p l).columns ≡ 0
+columns_zero p l h e = rw (lt-ltb 0 l.lines h) e
+
+took : (old : Tree) (marks : List Mark) (now : List Row) (p : Length) (ahead : List Row) (line : ℕ) (rows : List Row)
+    → HasRow rows → IsBounded rows → Reached now p ahead → Follows old marks p ahead line
+    → touched (rows_length rows) ≤ kept_run (drop p.lines marks) → Begins (tree_rows old) (length_of line p.columns) rows
+    → IsEdge no_length old (length_plus (length_of line p.columns) (rows_length rows)) → Took old marks now p ahead line rows
+took old marks now p ahead line rows f b r w t g e =
+    let run = kept_run (drop p.lines marks) in
+    let l = rows_length rows in
+    let q = length_of line p.columns in
+    let some : 0 < run = kept_run_some marks p.lines (line + 1) w.kept in
+    let again = taken_again run rows (rows_from (length_plus q l) (tree_rows old)) ahead f b g.rest r.has_ahead t
+        (subst (λ (x : List Row). Alike run x ahead) g.here w.alike) in
+    record {
+      left = again.left;
+      spells = again.spells;
+      has_left = again.has_row;
+      reached = Reached-next now p rows again.left f again.has_row b (subst (Reached now p) again.spells r);
+      goes_on = λ h.
+          let rest : kept_run (drop (p.lines + l.lines) marks) ≡ run - l.lines =
+              ap kept_run (sym (drop-drop l.lines p.lines marks)) ∙ kept_run_rest (drop p.lines marks) l.lines h in
+          record {
+            kept = ap (λ (n : ℕ). mark_at n marks) (omega arith) ∙ kept_run_mark marks line p.lines l.lines w.kept h ∙ ap Kept (omega arith);
+            alike = subst (λ (n : ℕ). Alike n (rows_from (length_plus q l) (tree_rows old)) again.left) (sym rest) again.alike;
+            edge = e;
+          };
+      new_line = λ h. columns_zero p l (omega arith) (at_line_end l.lines l.columns run t h);
+    }

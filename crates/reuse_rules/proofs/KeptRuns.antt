@@ -87,3 +87,31 @@ kept_run_alike old marks now i j h e = alike_steps old now (kept_run (drop j mar
         let counted = length-drop j marks in
         h.kept (j + m) (i + m) (omega arith)
         (ap (λ (n : ℕ). slice_index_or marks n New) (omega arith) ∙ sym (get_or-drop j marks m New) ∙ at.mark ∙ ap Kept (omega arith))
+
+-- ---- further on in a run
+
+pub kept_run_mark : (marks : List Mark) (i j m : ℕ) → mark_at (j + 1) marks ≡ Kept (i + 1) → m < kept_run (drop j marks)
+    → mark_at (j + m + 1) marks ≡ Kept (i + m + 1)
+kept_run_mark marks i j m e l =
+    let first : slice_index_or (drop j marks) 0 New ≡ Kept (i + 1) =
+        get_or-drop j marks 0 New ∙ ap (λ (n : ℕ). slice_index_or marks n New) (omega arith) ∙ e in
+    let at = kept_run-at (i + 1) (drop j marks) m first l in
+    ap (λ (n : ℕ). slice_index_or marks n New) (omega arith) ∙ sym (get_or-drop j marks m New) ∙ at.mark ∙ ap Kept (omega arith)
+
+numbered_later : (number : ℕ) (marks : List Mark) (m : ℕ) → m < numbered number marks → kept_run (drop m marks) ≡ numbered number marks - m
+numbered_later number [] m h = absurd (omega arith)
+numbered_later number (New ∷ marks) m h = absurd (omega arith)
+numbered_later number (Kept i ∷ marks) m h = later number i marks (eqb i number) refl m h (λ k l. numbered_later (suc number) marks k l)
+  where
+    later : (number i : ℕ) (marks : List Mark) (b : Bool) → eqb i number ≡ b → (m : ℕ) → m < cond b (suc (numbered (suc number) marks)) 0
+        → ((k : ℕ) → k < numbered (suc number) marks → kept_run (drop k marks) ≡ numbered (suc number) marks - k)
+        → kept_run (drop m (Kept i ∷ marks)) ≡ cond b (suc (numbered (suc number) marks)) 0 - m
+    later number i marks false e m h more = absurd (omega arith)
+    later number i marks true e zero h more = ap (λ (n : ℕ). suc (numbered (suc n) marks)) (eqb-true i number e) ∙ omega arith
+    later number i marks true e (suc m) h more = more m (omega arith) ∙ omega arith
+
+pub kept_run_rest : (marks : List Mark) (m : ℕ) → m < kept_run marks → kept_run (drop m marks) ≡ kept_run marks - m
+kept_run_rest [] m h = absurd (omega arith)
+kept_run_rest (New ∷ marks) m h = absurd (omega arith)
+kept_run_rest (Kept i ∷ marks) zero h = omega arith
+kept_run_rest (Kept i ∷ marks) (suc m) h = numbered_later (suc i) marks m (omega arith) ∙ omega arith
