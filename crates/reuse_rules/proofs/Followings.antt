@@ -1,5 +1,5 @@
 -- The steps of a reader that follows an old text.
-use Rattle.std.proofs.Common.{◌≡◌, ℕ, zero, suc, ◌+◌, ◌-◌, ◌<◌, ◌≤◌, Bool, true, false, List, [], ◌∷◌, length, drop, refl, ap, sym, ◌∙◌, subst, arith}
+use Rattle.std.proofs.Common.{◌≡◌, ℕ, zero, suc, ◌+◌, ◌-◌, ◌<◌, ◌≤◌, ◌⊎◌, inl, inr, Bool, true, false, List, [], ◌∷◌, length, drop, refl, ap, sym, ◌∙◌, subst, arith}
 use Rattle.std.specs.Prelude.{slice_index_or}
 use Rattle.std.proofs.lemmas.List.{length-drop, drop-drop, get_or-drop}
 use Rattle.std.proofs.lemmas.Bool.{le-ltb, lt-ltb}
@@ -9,10 +9,12 @@ use Rattle.text_lengths.proofs.Lengths.{same_length, none_plus}
 use Rattle.bracket_rules.specs.declared.Token.{Token}
 use Rattle.bracket_rules.specs.Table.{token}
 use Rattle.bracket_rules.specs.Rows.{HasRow, Row, row, empty_row, glue, rows_length}
-use Rattle.bracket_trees.specs.Tree.{Tree, tree_rows, tree_length, IsTree}
-use Rattle.bracket_trees.specs.Places.{IsEdge, IsBounded, later_brackets, from_column, rows_from, HasNode, MayBeTaken, lines_touched, touched}
-use Rattle.bracket_trees.proofs.Glue.{HasRow-glue, empty_glue, glue_assoc, rows_length-glue, HasRow-tree_rows, rows_length-tree}
-use Rattle.bracket_trees.proofs.Places.{rows_from-glue, IsBounded-glue, IsBounded-tree, IsTree-node, Begins, node_begins, bracket_begins, edge_at_start, edge_at_line, edge_after_node, edge_after_bracket}
+use Rattle.bracket_rules.specs.declared.TheConstants.{MOST_OPEN}
+use Rattle.bracket_rules.specs.Parse.{Bracket}
+use Rattle.bracket_trees.specs.Tree.{Tree, text, tree_rows, bracket_row, tree_length, IsTree, IsGap}
+use Rattle.bracket_trees.specs.Places.{IsEdge, HasBracket, IsBounded, later_brackets, from_column, rows_from, HasNode, MayBeTaken, lines_touched, touched}
+use Rattle.bracket_trees.proofs.Glue.{HasRow-glue, glue_empty, empty_glue, glue_assoc, rows_length-glue, HasRow-tree_rows, rows_length-tree}
+use Rattle.bracket_trees.proofs.Places.{rows_from-glue, IsBounded-glue, IsBounded-bracket, IsBounded-tree, IsTree-node, Begins, node_begins, bracket_begins, edge_at_start, edge_at_line, edge_after_node, edge_after_bracket}
 use Rattle.mark_rules.specs.declared.Mark.{Mark}
 use Rattle.mark_rules.specs.declared.Mark.TheVariants.{Kept, New}
 use Rattle.mark_rules.specs.Marks.{mark_at, kept_run}
@@ -162,3 +164,66 @@ took old marks now p ahead line rows f b r w t g e =
           };
       new_line = λ h. columns_zero p l (omega arith) (at_line_end l.lines l.columns run t h);
     }
+
+-- a node that may be taken stands in the text of now
+pub node_taken : (old : Tree) (marks : List Mark) (now : List Row) (p : Length) (ahead : List Row) (line : ℕ) (kinds level : ℕ) (n : Tree)
+    → IsTree old → Reached now p ahead → Follows old marks p ahead line → HasNode no_length old (length_of line p.columns) n
+    → MayBeTaken (kept_run (drop p.lines marks)) kinds level n → Took old marks now p ahead line (tree_rows n)
+node_taken old marks now p ahead line kinds level n t r w h m =
+    let q = length_of line p.columns in
+    let long : tree_length n ≡ rows_length (tree_rows n) = sym (rows_length-tree n) in
+    took old marks now p ahead line (tree_rows n) (HasRow-tree_rows n) (IsBounded-tree n (IsTree-node no_length old q n t h)) r w
+    (subst (λ (l : Length). touched l ≤ kept_run (drop p.lines marks)) long m.within) (node_begins old q n t h)
+    (subst (λ (l : Length). IsEdge no_length old (length_plus q l)) long (edge_after_node no_length old q n h))
+
+-- so does an old bracket
+pub bracket_taken : (old : Tree) (marks : List Mark) (now : List Row) (p : Length) (ahead : List Row) (line : ℕ) (b : Bracket)
+    → IsTree old → Reached now p ahead → Follows old marks p ahead line → HasBracket no_length old b → b.place ≡ length_of line p.columns → 0 < b.len
+    → Took old marks now p ahead line (bracket_row b.kind b.len b.opening)
+bracket_taken old marks now p ahead line b t r w h e wide =
+    let some : 0 < kept_run (drop p.lines marks) = kept_run_some marks p.lines (line + 1) w.kept in
+    took old marks now p ahead line (bracket_row b.kind b.len b.opening) tt (IsBounded-bracket b.kind b.len b.opening wide) r w
+    (one_line b.len (kept_run (drop p.lines marks)) wide some)
+    (subst (λ (q : Length). Begins (tree_rows old) q (bracket_row b.kind b.len b.opening)) e (bracket_begins old b t h wide))
+    (subst (λ (q : Length). IsEdge no_length old (length_plus q (length_of 0 b.len))) e (edge_after_bracket no_length old b h))
+  where
+    one_line : (len k : ℕ) → 0 < len → 0 < k → touched (length_of 0 len) ≤ k
+    one_line zero k h g = absurd (omega arith)
+    one_line (suc len) k h g = omega arith
+
+only_empty : (k : ℕ) (ahead : List Row) → 0 < k → Alike k (empty_row ∷ []) ahead → ahead ≡ empty_row ∷ []
+only_empty zero ahead h a = absurd (omega arith)
+only_empty (suc k) [] h a = elim a [ ]
+only_empty (suc k) (s ∷ []) h a = ap (λ (x : Row). x ∷ []) (sym a.0)
+only_empty (suc k) (s ∷ x ∷ ahead) h a = elim a.1.0 [ ]
+
+-- where the old tree ends, the text of now does
+pub ends_alike : (old : Tree) (marks : List Mark) (p : Length) (ahead : List Row) (line : ℕ) → IsTree old → Follows old marks p ahead line
+    → length_of line p.columns ≡ tree_length old → ahead ≡ empty_row ∷ []
+ends_alike old marks p ahead line t w e =
+    let run = kept_run (drop p.lines marks) in
+    let at_end : length_of line p.columns ≡ rows_length (tree_rows old) = e ∙ sym (rows_length-tree old) in
+    let nothing_left : rows_from (length_of line p.columns) (tree_rows old) ≡ empty_row ∷ [] =
+        ap (λ (l : Length). rows_from l (tree_rows old)) at_end
+        ∙ ap (rows_from (rows_length (tree_rows old))) (sym (glue_empty (tree_rows old) (HasRow-tree_rows old)))
+        ∙ rows_from-glue (tree_rows old) (empty_row ∷ []) (HasRow-tree_rows old) tt (IsBounded-tree old t) in
+    only_empty run ahead (kept_run_some marks p.lines (line + 1) w.kept) (subst (λ (x : List Row). Alike run x ahead) nothing_left w.alike)
+
+-- a text of the old tree may always be taken: it lies within its line
+pub text_may_be_taken : (old : Tree) (marks : List Mark) (p : Length) (ahead : List Row) (line kinds level : ℕ) (l : Length) → IsTree old
+    → Follows old marks p ahead line → HasNode no_length old (length_of line p.columns) (text l) → level ≤ MOST_OPEN
+    → MayBeTaken (kept_run (drop p.lines marks)) kinds level (text l)
+text_may_be_taken old marks p ahead line kinds level l t w h o =
+    let some : 0 < kept_run (drop p.lines marks) = kept_run_some marks p.lines (line + 1) w.kept in
+    let gap : IsGap l = IsTree-node no_length old (length_of line p.columns) (text l) t h in
+    record {
+      some = refl;
+      within = in_line l.lines l.columns (kept_run (drop p.lines marks)) gap some;
+      fits = record { closed = refl; uncapped = refl; apart = λ k e. cc; room = omega arith };
+    }
+  where
+    in_line : (lines columns k : ℕ) → ((lines ≡ 0) × (0 < columns)) ⊎ ((lines ≡ 1) × (columns ≡ 0)) → 0 < k → lines_touched lines columns ≤ k
+    in_line lines zero k (inl h) g = absurd (let more : 0 < 0 = h.1 in omega arith)
+    in_line lines (suc columns) k (inl h) g = let none : lines ≡ 0 = h.0 in omega arith
+    in_line lines zero k (inr h) g = let one : lines ≡ 1 = h.0 in omega arith
+    in_line lines (suc columns) k (inr h) g = absurd (let none : suc columns ≡ 0 = h.1 in omega arith)
