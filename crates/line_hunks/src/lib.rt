@@ -1,0 +1,7 @@
+//! The marks of a text's lines, kept as runs of lines whose marks go on from one to the next.
+#![tactic(auto)]
+
+mod run;
+mod stack;
+
+pub use mark_rules::Mark;
