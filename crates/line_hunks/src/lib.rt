@@ -2,6 +2,8 @@
 #![tactic(auto)]
 
 mod run;
+mod runs;
+mod sides;
 mod stack;
 
 pub use mark_rules::Mark;
