@@ -1,3 +1,3 @@
 pub mod Stacks
 pub mod RunMarks
-pub mod Moves
+pub mod PlaceLaws

@@ -40,8 +40,14 @@ length-marks_down (run ∷ runs) =
 pub length-marks_around : (front : List Run) (gap : Run) (back : List Run)
     → length (marks_around front gap back) ≡ lines_in front + gap.lines + lines_in back
 length-marks_around front gap back =
-    omega (arith, length-append (marks_up front) (run_marks gap ++ marks_down back), length-append (run_marks gap) (marks_down back),
-        length-marks_up front, length-marks_from gap.first gap.lines, length-marks_down back)
+    omega (
+      arith,
+      length-append (marks_up front) (run_marks gap ++ marks_down back),
+      length-append (run_marks gap) (marks_down back),
+      length-marks_up front,
+      length-marks_from gap.first gap.lines,
+      length-marks_down back,
+    )
 
 -- Parts of a run.
 
@@ -114,3 +120,52 @@ cut-marks run runs lines rest left more cut within =
     ∙ ap (drop more) (sym (append_assoc head tail (marks_down left)))
     ∙ ap (λ ms. drop more (ms ++ marks_down left)) (sym (marks_from-split rest.first rest.lines more within))
     ∙ cut.marks
+
+-- Lines of the gap that are replaced.
+
+halved : (front : List Run) (gap : Run) (back : List Run) (before : ℕ) → before ≤ gap.lines
+    → marks_around front gap back
+    ≡ (marks_up front ++ marks_from gap.first before) ++ (marks_from (later_mark gap.first before) (gap.lines - before) ++ marks_down back)
+halved front gap back before within =
+    let head = marks_from gap.first before in
+    let tail = marks_from (later_mark gap.first before) (gap.lines - before) in
+    ap (λ ms. marks_up front ++ (ms ++ marks_down back)) (marks_from-split gap.first gap.lines before within)
+    ∙ ap (λ ms. marks_up front ++ ms) (append_assoc head tail (marks_down back))
+    ∙ sym (append_assoc (marks_up front) head (tail ++ marks_down back))
+
+length-head : (front : List Run) (mark : Mark) (before : ℕ) → length (marks_up front ++ marks_from mark before) ≡ lines_in front + before
+length-head front mark before = omega (arith, length-append (marks_up front) (marks_from mark before), length-marks_up front, length-marks_from mark before)
+
+with_joined : (front back : List Run) (a b new : ℕ)
+    → marks_up front ++ (replicate (a + b + new) New ++ marks_down back)
+    ≡ (marks_up front ++ replicate a New) ++ (replicate new New ++ (replicate b New ++ marks_down back))
+with_joined front back a b new =
+    let parts : replicate (a + b + new) New ≡ replicate a New ++ (replicate new New ++ replicate b New) =
+    ap (λ n. replicate n New) (omega arith)
+    ∙ sym (replicate-append-replicate a (new + b) New)
+    ∙ ap (λ ms. replicate a New ++ ms) (sym (replicate-append-replicate new b New)) in
+    ap (λ ms. marks_up front ++ (ms ++ marks_down back)) parts ∙ simp append_assoc
+
+pub replaced-marks : (front : List Run) (gap : Run) (back : List Run) (before old new : ℕ) (head tail : List Mark) (a b : ℕ) (front' back' : List Run)
+    → before ≤ gap.lines
+    → head ≡ marks_from gap.first before
+    → tail ≡ drop old (marks_from (later_mark gap.first before) (gap.lines - before) ++ marks_down back)
+    → marks_up front' ++ replicate a New ≡ marks_up front ++ head
+    → replicate b New ++ marks_down back' ≡ tail
+    → marks_up front' ++ (replicate (a + b + new) New ++ marks_down back')
+    ≡ take (lines_in front + before) (marks_around front gap back)
+    ++ (replicate new New ++ drop (lines_in front + before + old) (marks_around front gap back))
+replaced-marks front gap back before old new head tail a b front' back' within head_is tail_is up down =
+    let all = marks_around front gap back in
+    let start = marks_up front ++ marks_from gap.first before in
+    let end = marks_from (later_mark gap.first before) (gap.lines - before) ++ marks_down back in
+    let halves : all ≡ start ++ end = halved front gap back before within in
+    let size : length start ≡ lines_in front + before = length-head front gap.first before in
+    let taken : take (lines_in front + before) all ≡ start = ap (take (lines_in front + before)) halves ∙ take_at start end (lines_in front + before) size in
+    let dropped : drop (lines_in front + before + old) all ≡ drop old end =
+    sym (drop-drop old (lines_in front + before) all)
+    ∙ ap (λ ms. drop old (drop (lines_in front + before) ms)) halves
+    ∙ ap (drop old) (drop_at start end (lines_in front + before) size) in
+    with_joined front' back' a b new
+    ∙ ap (λ ms. ms ++ (replicate new New ++ (replicate b New ++ marks_down back'))) (up ∙ ap (λ ms. marks_up front ++ ms) head_is ∙ sym taken)
+    ∙ ap (λ ms. take (lines_in front + before) all ++ (replicate new New ++ ms)) (down ∙ tail_is ∙ sym dropped)

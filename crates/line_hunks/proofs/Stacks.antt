@@ -122,5 +122,5 @@ Holds-at line items at found stacked some within read point =
     subst (λ (all : List Stacked). Holds (runs_onto [] all) line found) parts
     (Holds-found line (take at items) (drop (at + 1) items) found (subst (AreStackedOn 0) (sym parts) stacked) some
     (λ k d below. subst (λ (s : Stacked). s.height < line) (sym (get_or-take at items k d (omega arith)))
-        (ltb-true (get_or items k d).height line (point.0 k d (omega arith) (omega (arith, taken)))))
+    (ltb-true (get_or items k d).height line (point.0 k d (omega arith) (omega (arith, taken)))))
     (ltb-false found.height line (subst (λ (s : Stacked). ltb s.height line ≡ false) (sym read) (point.1 at found (omega arith) within))))

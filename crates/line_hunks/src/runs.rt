@@ -1,7 +1,8 @@
 //! The runs of a text, with a gap where it was edited last.
 
-ghost use Rattle.std.specs.Prelude.{◌≡◌, ◌+◌, ◌-◌, ◌^◌, ◌<◌, ◌≤◌, ◌++◌, ◌∷◌, [], length, take, drop, replicate};
+ghost use Rattle.std.specs.Prelude.{◌≡◌, ◌+◌, ◌-◌, ◌*◌, ◌^◌, ◌<◌, ◌≤◌, ◌++◌, ◌∷◌, [], length, take, drop, replicate, IfOk, OnOk};
 ghost use Rattle.mark_rules.specs.declared.Mark.TheVariants.{New};
+ghost use Rattle.mark_rules.specs.Marks.{clean_marks, edited_marks};
 ghost use Rattle.line_hunks.specs.Run.{lines_in};
 ghost use Rattle.line_hunks.specs.Runs.{all_marks, line_count, run_count, room_of, IsWhole, IsMoved};
 
@@ -9,6 +10,7 @@ use crate::run::Run;
 use crate::sides::{set_aside, take_lines};
 use crate::stack::RunStack;
 use mark_rules::Mark;
+use std::alloc::{AllocError, Global};
 use std::mem;
 
 /// The runs of a text. Beside a run of new lines stand runs of kept ones.
@@ -22,6 +24,50 @@ pub(crate) struct Runs {
 }
 
 impl Runs {
+    /// One new line.
+    pub(crate) fn new(alloc: Global) -> Runs
+        ensures whole { IsWhole result }
+        ensures marks { all_marks result ≡ New ∷ [] }
+    {
+        Runs {
+            front: RunStack::new(alloc),
+            gap: Run {
+                first: Mark::New,
+                lines: 1,
+            },
+            back: RunStack::new(alloc),
+        }
+    }
+
+    /// So many lines that are all kept.
+    pub(crate) fn clean(&mut self, lines: u64)
+        requires some { 1 ≤ lines }
+        requires fits { lines < 2 ^ 62 }
+        ensures whole { IsWhole self.new }
+        ensures marks { all_marks self.new ≡ clean_marks lines }
+        ensures count { run_count self.new ≡ 0 }
+        ensures room { room_of self.old ≤ room_of self.new }
+    {
+        self.front.clear();
+        self.back.clear();
+        self.gap = Run {
+            first: Mark::Kept(1),
+            lines,
+        };
+    }
+
+    /// Makes room for so many edits. An error leaves the runs as they were, and room that was there stays.
+    pub(crate) fn reserve(&mut self, edits: u64) -> Result<(), AllocError>
+        ensures spare { OnOk result (2 * edits + run_count self.new ≤ room_of self.new) }
+        ensures front { self.new.front.runs ≡ self.old.front.runs }
+        ensures gap { self.new.gap ≡ self.old.gap }
+        ensures back { self.new.back.runs ≡ self.old.back.runs }
+        ensures room { room_of self.old ≤ room_of self.new }
+    {
+        self.front.reserve(room_for(edits, self.back.len())?)?;
+        self.back.reserve(room_for(edits, self.front.len())?)
+    }
+
     /// How many lines there are.
     pub(crate) fn lines(&self) -> u64
         requires { line_count self.now < 2 ^ 62 }
@@ -94,7 +140,7 @@ impl Runs {
         requires fits { line_count self.old - old + new < 2 ^ 62 }
         ensures whole { IsWhole self.new }
         ensures marks { all_marks self.new ≡ take (lines_in self.old.front.runs + before) (all_marks self.old)
-                ++ (replicate new New ++ drop (lines_in self.old.front.runs + before + old) (all_marks self.old)) }
+            ++ (replicate new New ++ drop (lines_in self.old.front.runs + before + old) (all_marks self.old)) }
         ensures count { run_count self.new ≤ run_count self.old + 2 }
         ensures room { room_of self.old ≤ room_of self.new }
     {
@@ -107,23 +153,32 @@ impl Runs {
         };
     }
 
-    /// Behind so many lines, `old` lines become `new` new ones.
-    pub(crate) fn edit(&mut self, before: u64, old: u64, new: u64)
+    /// The lines from line `first` on, `old` of them, become `new` new ones.
+    pub(crate) fn edit(&mut self, first: u64, old: u64, new: u64)
         requires whole { IsWhole self.old }
         requires room { run_count self.old + 2 ≤ room_of self.old }
-        requires some { 0 < old }
-        requires within { before + old ≤ line_count self.old }
-        requires new { 0 < new }
+        requires first { 1 ≤ first }
+        requires some { 1 ≤ old }
+        requires within { first - 1 + old ≤ line_count self.old }
+        requires new { 1 ≤ new }
         requires fits { line_count self.old - old + new < 2 ^ 62 }
         ensures whole { IsWhole self.new }
-        ensures marks { all_marks self.new ≡ take before (all_marks self.old)
-                ++ (replicate new New ++ drop (before + old) (all_marks self.old)) }
+        ensures marks { all_marks self.new ≡ edited_marks first old new (all_marks self.old) }
         ensures count { run_count self.new ≤ run_count self.old + 2 }
         ensures room { room_of self.old ≤ room_of self.new }
     {
+        let before = first - 1;
         self.seek_back(before);
         self.seek_on(before);
         let skipped = before - self.front.lines();
         self.replace(skipped, old, new);
     }
+}
+
+/// Room for the runs that there are on the other side, and for those that the edits add.
+fn room_for(edits: u64, others: usize) -> Result<usize, AllocError>
+    ensures { IfOk result (λ room. room ≡ 2 * edits + others) }
+{
+    let added = edits.checked_mul(2).ok_or(AllocError)?;
+    others.checked_add(added as usize).ok_or(AllocError)
 }

@@ -19,8 +19,11 @@ index-requires c =
     let top : lines_in c.args.self.now.runs ≡ top_of 0 items =
     sym (ap (λ (s : Shown). lines_in s.runs) c.self.view_is) ∙ lines_in-runs_onto 0 [] items refl c.self.invariant in
     let reach : c.args.lines ≤ top_of 0 items = omega (arith, top) in
-    omega (arith, place-within c.args.lines items c.partition_point-at.result (omega arith) reach
-        (subst (λ all. IsPlaceOf c.args.lines all c.partition_point-at.result) c.deref.ensures.value point))
+    omega (
+      arith,
+      place-within c.args.lines items c.partition_point-at.result (omega arith) reach
+          (subst (λ all. IsPlaceOf c.args.lines all c.partition_point-at.result) c.deref.ensures.value point),
+    )
 
 pub returns : goal.returns
 returns c =

@@ -6,4 +6,4 @@ use Rattle.line_hunks.proofs.stack.RunStack.reserve.Goals as goal
 pub returns-clause-room : goal.returns-clause-room
 returns-clause-room c =
     on_ok_weaker c.reserve.result (λ (enough : vec_len c.reserve.new.self + c.args.more ≤ vec_capacity c.reserve.new.self).
-        omega (arith, enough, length-runs_onto [] c.reserve.new.self.items)) c.reserve.ensures.ok
+    omega (arith, enough, length-runs_onto [] c.reserve.new.self.items)) c.reserve.ensures.ok
