@@ -1,6 +1,7 @@
 -- The places of lines.
-use Rattle.std.proofs.Common.{◌≡◌, ℕ, zero, suc, ◌+◌, ◌-◌, ◌<◌, ◌≤◌, Bool, true, false, not, ◌||◌, List, [], ◌∷◌, ◌++◌, length, get_or, drop, refl, sym, ◌∙◌, ap, subst, add-one, arith}
+use Rattle.std.proofs.Common.{◌≡◌, ℕ, zero, suc, ◌+◌, ◌-◌, ◌<◌, ◌≤◌, Bool, true, false, not, ◌||◌, eqb, inl, inr, List, [], ◌∷◌, ◌++◌, length, get_or, drop, refl, sym, ◌∙◌, ap, subst, add-one, arith}
 use Rattle.std.specs.Prelude.{replicate}
+use Rattle.std.proofs.lemmas.Bool.{cases_eq, eq-eqb, ne_eqb}
 use Rattle.std.proofs.lemmas.List.{append_assoc, append-nil, length-append, get_or_at, drop_at}
 use Rattle.mark_rules.specs.declared.Mark.{Mark}
 use Rattle.mark_rules.specs.declared.Mark.TheVariants.{Kept, New}
@@ -182,3 +183,61 @@ module _ (marks : List Mark) (n : ℕ) (place : Place) (is : IsPlace marks n pla
       ∙ ap (λ m. kept_run (marks_from (later_mark m place.before) (place.run.lines - place.before) ++ is.upper)) first
       ∙ kept_run-new New (place.run.lines - place.before) is.upper refl (omega (arith, is.within))
       )
+
+-- A text in which no line is new.
+
+has_new-run : (mark : Mark) (lines : ℕ) → 0 < lines → has_new (marks_from mark lines) ≡ is_new mark
+has_new-run mark zero some = absurd (omega arith)
+has_new-run New (suc lines) some = refl
+has_new-run (Kept number) (suc lines) some = has_new-kept_marks number (suc lines)
+
+or-left : (x y : Bool) → x ≡ true → (x || y) ≡ true
+or-left x y is = ap (λ b. b || y) is
+
+or-right : (x y : Bool) → y ≡ true → (x || y) ≡ true
+or-right true y is = refl
+or-right false y is = is
+
+new-beside : (mark : Mark) (run : Run) (runs : List Run) → StandsBy mark (run ∷ runs) → is_new mark ≡ false → has_new (run_marks run) ≡ true
+new-beside mark run runs stands kept = has_new-run run.first run.lines stands.1 ∙ not-mark (is_new run.first) (is_new mark) stands.0 kept
+
+pub new-gap : (front : List Run) (gap : Run) (back : List Run) → Stands front gap back → is_new gap.first ≡ true → has_new (marks_around front gap back) ≡ true
+new-gap front gap back stands is =
+    has_new-append (marks_up front) (run_marks gap ++ marks_down back)
+    ∙ or-right (has_new (marks_up front)) (has_new (run_marks gap ++ marks_down back))
+    (has_new-append (run_marks gap) (marks_down back)
+    ∙ or-left (has_new (run_marks gap)) (has_new (marks_down back)) (has_new-run gap.first gap.lines stands.some ∙ is))
+
+pub new-front : (front : List Run) (gap : Run) (back : List Run) → Stands front gap back → is_new gap.first ≡ false → 0 < length front
+    → has_new (marks_around front gap back) ≡ true
+new-front [] gap back stands kept some = absurd (omega arith)
+new-front (run ∷ runs) gap back stands kept some =
+    has_new-append (marks_up runs ++ run_marks run) (run_marks gap ++ marks_down back)
+    ∙ or-left (has_new (marks_up runs ++ run_marks run)) (has_new (run_marks gap ++ marks_down back))
+    (has_new-append (marks_up runs) (run_marks run)
+    ∙ or-right (has_new (marks_up runs)) (has_new (run_marks run)) (new-beside gap.first run runs stands.before kept))
+
+pub new-back : (front : List Run) (gap : Run) (back : List Run) → Stands front gap back → is_new gap.first ≡ false → 0 < length back
+    → has_new (marks_around front gap back) ≡ true
+new-back front gap [] stands kept some = absurd (omega arith)
+new-back front gap (run ∷ runs) stands kept some =
+    has_new-append (marks_up front) (run_marks gap ++ (run_marks run ++ marks_down runs))
+    ∙ or-right (has_new (marks_up front)) (has_new (run_marks gap ++ (run_marks run ++ marks_down runs)))
+    (has_new-append (run_marks gap) (run_marks run ++ marks_down runs)
+    ∙ or-right (has_new (run_marks gap)) (has_new (run_marks run ++ marks_down runs))
+    (has_new-append (run_marks run) (marks_down runs)
+    ∙ or-left (has_new (run_marks run)) (has_new (marks_down runs)) (new-beside gap.first run runs stands.behind kept)))
+
+pub new-nowhere : (front : List Run) (gap : Run) (back : List Run) → Stands front gap back → is_new gap.first ≡ false → length front ≡ 0 → length back ≡ 0
+    → has_new (marks_around front gap back) ≡ false
+new-nowhere [] gap [] stands kept none_before none_behind =
+    ap has_new (append-nil (run_marks gap)) ∙ has_new-run gap.first gap.lines stands.some ∙ kept
+new-nowhere (run ∷ runs) gap back stands kept none_before none_behind = absurd (omega arith)
+new-nowhere [] gap (run ∷ runs) stands kept none_before none_behind = absurd (omega arith)
+
+pub clean-behind : (front : List Run) (gap : Run) (back : List Run) (n : ℕ) → Stands front gap back → is_new gap.first ≡ false → length front ≡ 0 → n ≡ length back
+    → eqb n 0 ≡ not (has_new (marks_around front gap back))
+clean-behind front gap back n stands kept none same = elim (cases_eq n 0) [
+  | inl zero_lines ↦ eq-eqb n 0 zero_lines ∙ ap not (sym (new-nowhere front gap back stands kept none (sym same ∙ zero_lines)))
+  | inr some ↦ ne_eqb n 0 some ∙ ap not (sym (new-back front gap back stands kept (omega arith)))
+]

@@ -8,8 +8,9 @@ use Rattle.mark_rules.specs.declared.Mark.TheVariants.{Kept, New}
 use Rattle.mark_rules.specs.Marks.{kept_marks}
 use Rattle.mark_rules.proofs.MarkLaws.{length-kept_marks, kept_marks-add}
 use Rattle.line_hunks.specs.declared.run.Run.{Run}
+use Rattle.line_hunks.specs.declared.runs.Runs.{Runs}
 use Rattle.line_hunks.specs.Run.{is_new, later_mark, marks_from, run_marks, lines_in, numbers_end, IsInRange}
-use Rattle.line_hunks.specs.Runs.{marks_up, marks_down, marks_around, StandsBy, IsCut}
+use Rattle.line_hunks.specs.Runs.{marks_up, marks_down, marks_around, all_marks, line_count, StandsBy, IsCut}
 
 -- So many lines from one with this mark.
 
@@ -169,3 +170,6 @@ replaced-marks front gap back before old new head tail a b front' back' within h
     with_joined front' back' a b new
     ∙ ap (λ ms. ms ++ (replicate new New ++ (replicate b New ++ marks_down back'))) (up ∙ ap (λ ms. marks_up front ++ ms) head_is ∙ sym taken)
     ∙ ap (λ ms. take (lines_in front + before) all ++ (replicate new New ++ ms)) (down ∙ tail_is ∙ sym dropped)
+
+pub line_count-marks : (r : Runs) (marks : List Mark) → all_marks r ≡ marks → line_count r ≡ length marks
+line_count-marks r marks is = sym (length-marks_around r.front.runs r.gap r.back.runs) ∙ ap length is

@@ -7,7 +7,7 @@ use Rattle.std.proofs.lemmas.List.{append_assoc, take-append-drop, drop_more, ge
 use Rattle.line_hunks.specs.declared.run.Run.{Run}
 use Rattle.line_hunks.specs.declared.stack.Stacked.{Stacked}
 use Rattle.line_hunks.specs.Run.{lines_in}
-use Rattle.line_hunks.specs.Stack.{runs_onto, AreStackedOn, Holds}
+use Rattle.line_hunks.specs.Stack.{runs_onto, AreStackedOn, IsPlaceOf, Holds}
 
 -- how many lines there are with the last one that is put on
 abbrev pub top_of : ℕ → List Stacked → ℕ
@@ -100,10 +100,6 @@ heights-rise lines (item ∷ items) stacked zero zero d order within = omega ari
 heights-rise lines (item ∷ items) stacked (suc i) zero d order within = absurd (omega arith)
 heights-rise lines (item ∷ items) stacked zero (suc j) d order within = height-up item.height j items d stacked.1 (omega arith)
 heights-rise lines (item ∷ items) stacked (suc i) (suc j) d order within = heights-rise item.height items stacked.1 i j d (omega arith) (omega arith)
-
--- a place with the lower heights before it
-abbrev pub IsPlaceOf : ℕ → List Stacked → ℕ → Type 0
-IsPlaceOf line items at = IsPartitionPoint (λ (s : Stacked). ltb s.height line ≡ true) (λ (s : Stacked). ltb s.height line ≡ false) items at
 
 pub place-within : (line : ℕ) (items : List Stacked) (at : ℕ) → 0 < line → line ≤ top_of 0 items → IsPlaceOf line items at → at < length items
 place-within line items at some reach point = elim (cases_lt at (length items)) [

@@ -1,6 +1,6 @@
 //! Where a line stands.
 
-ghost use Rattle.std.specs.Prelude.{◌+◌, ◌-◌, ◌≤◌, not};
+ghost use Rattle.std.specs.Prelude.{◌≡◌, ◌+◌, ◌-◌, ◌≤◌, not};
 ghost use Rattle.mark_rules.specs.Marks.{has_new};
 ghost use Rattle.line_hunks.specs.Run.{lines_in};
 ghost use Rattle.line_hunks.specs.Runs.{all_marks, line_count, IsWhole};
@@ -43,7 +43,11 @@ impl Runs {
         requires whole { IsWhole self.now }
         ensures { result ≡ not (has_new (all_marks self.now)) }
     {
-        self.front.len() == 0 && self.back.len() == 0 && self.gap.first != Mark::New
+        match self.gap.first {
+            Mark::New => false,
+            // Beside kept lines stand new ones.
+            Mark::Kept(_) => self.front.len() == 0 && self.back.len() == 0,
+        }
     }
 
     /// Of a line before the gap.

@@ -2,7 +2,7 @@
 
 ghost use Rattle.std.specs.Prelude.{◌≡◌, ◌+◌, ◌^◌, ◌<◌, ◌≤◌, [], ◌∷◌, length, OnOk, IfNone, MatchOption};
 ghost use Rattle.line_hunks.specs.Run.{lines_in};
-ghost use Rattle.line_hunks.specs.Stack.{Holds};
+ghost use Rattle.line_hunks.specs.Stack.{AreStackedOn, IsPlaceOf, Holds};
 
 use crate::run::Run;
 use std::alloc::{AllocError, Global};
@@ -99,7 +99,15 @@ impl RunStack {
         requires within { lines ≤ lines_in self.now.runs }
         ensures { Holds self.now.runs lines result }
     {
-        let at = self.runs.partition_point(|stacked| stacked.height < lines);
-        self.runs[at]
+        self.runs[lower_runs(self.runs.as_slice(), lines)]
     }
+}
+
+/// How many of the runs, the lowest first, are lower than so many lines.
+fn lower_runs(runs: &[Stacked], lines: u64) -> usize
+    requires { AreStackedOn 0 runs.now }
+    ensures bound { result ≤ length runs.now }
+    ensures parted { IsPlaceOf lines runs.now result }
+{
+    runs.partition_point(|stacked| stacked.height < lines)
 }
