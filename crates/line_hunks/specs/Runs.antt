@@ -1,5 +1,5 @@
 -- The runs of a text, in order: those before the gap, the gap, those behind it.
-use Rattle.std.specs.Prelude.{ℕ, ◌≡◌, ◌+◌, ◌-◌, ◌/◌, ◌^◌, ◌<◌, ◌≤◌, min, ⊤, not, List, [], ◌∷◌, ◌++◌, length, drop}
+use Rattle.std.specs.Prelude.{ℕ, ◌≡◌, ◌+◌, ◌^◌, ◌<◌, ◌≤◌, min, ⊤, not, List, [], ◌∷◌, ◌++◌, length, drop}
 use Rattle.mark_rules.specs.declared.Mark.{Mark}
 use Rattle.line_hunks.specs.declared.run.Run.{Run}
 use Rattle.line_hunks.specs.declared.runs.Runs.{Runs}

@@ -1,8 +1,8 @@
-use Rattle.std.proofs.Common.{◌≡◌, length, ap, sym, subst, arith}
+use Rattle.std.proofs.Common.{ap, sym, subst, arith}
 use Rattle.mark_rules.specs.Marks.{Rises}
 use Rattle.mark_rules.proofs.MarkLaws.{Rises-edited}
 use Rattle.line_hunks.specs.Hunks.{Shown}
-use Rattle.line_hunks.specs.Runs.{all_marks, line_count}
+use Rattle.line_hunks.specs.Runs.{all_marks}
 use Rattle.line_hunks.proofs.RunMarks.{line_count-marks}
 use Rattle.line_hunks.proofs.hunks.Hunks.edit.Goals as goal
 
@@ -18,5 +18,5 @@ pub invariant_of-self : goal.invariant_of-self
 invariant_of-self c = (
   c.edit.ensures.whole,
   subst Rises (sym c.edit.ensures.marks)
-    (Rises-edited c.args.first c.args.old c.args.new (all_marks c.self.inside.runs) (omega (arith, c.requires.new)) c.self.invariant.1),
+      (Rises-edited c.args.first c.args.old c.args.new (all_marks c.self.inside.runs) (omega (arith, c.requires.new)) c.self.invariant.1),
 )

@@ -1,6 +1,6 @@
-use Rattle.std.proofs.Common.{◌≡◌, ◌++◌, drop, refl, ap, sym, ◌∙◌, subst, arith}
+use Rattle.std.proofs.Common.{◌++◌, drop, ap, sym, ◌∙◌}
 use Rattle.line_hunks.specs.declared.run.Run.{Run}
-use Rattle.line_hunks.specs.Run.{run_marks, later_mark, is_new}
+use Rattle.line_hunks.specs.Run.{run_marks, is_new}
 use Rattle.line_hunks.specs.Runs.{marks_down}
 use Rattle.line_hunks.proofs.RunMarks.{is_new-later, StandsBy-alike, replaced-marks}
 use Rattle.line_hunks.proofs.runs.Runs.replace.Goals as goal

@@ -1,7 +1,7 @@
-use Rattle.std.proofs.Common.{◌≡◌, ◌<◌, ◌+◌, length, cond, is_ok, [], ◌∷◌, ◌++◌, List, refl, ap, sym, ◌∙◌, subst, arith}
+use Rattle.std.proofs.Common.{◌≡◌, ◌+◌, length, cond, is_ok, [], ◌∷◌, ◌++◌, refl, ap, sym, ◌∙◌, subst, arith}
 use Rattle.line_hunks.specs.declared.stack.Stacked.{Stacked}
 use Rattle.line_hunks.specs.Run.{lines_in}
-use Rattle.line_hunks.specs.Stack.{Shown, runs_onto, AreStackedOn}
+use Rattle.line_hunks.specs.Stack.{Shown, AreStackedOn}
 use Rattle.line_hunks.proofs.Stacks.{top_of, length-runs_onto, lines_in-runs_onto, AreStackedOn-push, shown-push}
 use Rattle.line_hunks.proofs.stack.RunStack.push.Goals as goal
 

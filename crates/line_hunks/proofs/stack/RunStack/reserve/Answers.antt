@@ -1,4 +1,4 @@
-use Rattle.std.proofs.Common.{[], length, ◌≤◌, ◌+◌, vec_len, vec_capacity, arith}
+use Rattle.std.proofs.Common.{[], ◌≤◌, ◌+◌, vec_len, vec_capacity, arith}
 use Rattle.std.proofs.lemmas.Result.{on_ok_weaker}
 use Rattle.line_hunks.proofs.Stacks.{length-runs_onto}
 use Rattle.line_hunks.proofs.stack.RunStack.reserve.Goals as goal
