@@ -8,7 +8,7 @@ use Rattle.mark_rules.proofs.MarkLaws.{length-kept_marks, kept_marks-add}
 use Rattle.line_hunks.specs.declared.run.Run.{Run}
 use Rattle.line_hunks.specs.declared.runs.Runs.{Runs}
 use Rattle.line_hunks.specs.Run.{is_new, later_mark, marks_from, run_marks, lines_in, numbers_end, IsInRange}
-use Rattle.line_hunks.specs.Runs.{marks_up, marks_down, marks_around, all_marks, line_count, StandsBy, IsCut}
+use Rattle.line_hunks.specs.Runs.{marks_up, marks_down, marks_around, all_marks, line_count, marks_behind, StandsBy}
 
 -- So many lines from one with this mark.
 
@@ -83,6 +83,15 @@ StandsBy-turned mark run runs gap others is stands some range beside = (
 )
 
 -- Lines that are taken off.
+
+-- what is left to cut, with so many more lines to take off
+pub record IsCut (run : Run) (runs : List Run) (lines : ℕ) (rest : Run) (left : List Run) (more : ℕ) : Type 0 where
+  pub marks : drop more (marks_behind rest left) ≡ drop lines (marks_behind run runs)
+  pub count : lines_in (rest ∷ left) + lines ≡ lines_in (run ∷ runs) + more
+  pub within : more ≤ lines_in (rest ∷ left)
+  pub range : IsInRange rest
+  pub apart : StandsBy rest.first left
+  pub fewer : length left ≤ length runs
 
 take_more : (rest : Run) (left : List Run) (more : ℕ) → rest.lines < more
     → drop more (run_marks rest ++ marks_down left) ≡ drop (more - rest.lines) (marks_down left)

@@ -1,5 +1,5 @@
 -- The marks of runs.
-use Rattle.std.specs.Prelude.{ℕ, ◌+◌, ◌^◌, ◌≤◌, Bool, true, false, List, [], ◌∷◌, replicate}
+use Rattle.std.specs.Prelude.{ℕ, ◌+◌, ◌-◌, ◌^◌, ◌≤◌, Bool, true, false, List, [], ◌∷◌, replicate}
 use Rattle.mark_rules.specs.declared.Mark.{Mark}
 use Rattle.mark_rules.specs.declared.Mark.TheVariants.{Kept, New}
 use Rattle.mark_rules.specs.Marks.{kept_marks}
@@ -21,6 +21,16 @@ marks_from (Kept number) lines = kept_marks number lines
 
 abbrev pub run_marks : Run → List Mark
 run_marks run = marks_from run.first run.lines
+
+abbrev pub new_lines : ℕ → Run
+new_lines lines = record { first = New; lines = lines }
+
+-- so many of its lines, and the others
+abbrev pub head_of : Run → ℕ → Run
+head_of run lines = record { first = run.first; lines = lines }
+
+abbrev pub tail_of : Run → ℕ → Run
+tail_of run lines = record { first = later_mark run.first lines; lines = run.lines - lines }
 
 abbrev pub lines_in : List Run → ℕ
 lines_in [] = 0

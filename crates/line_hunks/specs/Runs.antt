@@ -1,5 +1,5 @@
 -- The runs of a text, in order: those before the gap, the gap, those behind it.
-use Rattle.std.specs.Prelude.{ℕ, ◌≡◌, ◌+◌, ◌^◌, ◌<◌, ◌≤◌, min, ⊤, not, List, [], ◌∷◌, ◌++◌, length, drop}
+use Rattle.std.specs.Prelude.{ℕ, ◌≡◌, ◌+◌, ◌^◌, ◌<◌, ◌≤◌, min, ⊤, not, List, [], ◌∷◌, ◌++◌, length}
 use Rattle.mark_rules.specs.declared.Mark.{Mark}
 use Rattle.line_hunks.specs.declared.run.Run.{Run}
 use Rattle.line_hunks.specs.declared.runs.Runs.{Runs}
@@ -15,8 +15,15 @@ abbrev pub marks_down : List Run → List Mark
 marks_down [] = []
 marks_down (run ∷ runs) = run_marks run ++ marks_down runs
 
+-- of a run with others before it, and with others behind it
+abbrev pub marks_before : List Run → Run → List Mark
+marks_before runs run = marks_up runs ++ run_marks run
+
+abbrev pub marks_behind : Run → List Run → List Mark
+marks_behind run runs = run_marks run ++ marks_down runs
+
 abbrev pub marks_around : List Run → Run → List Run → List Mark
-marks_around front gap back = marks_up front ++ (run_marks gap ++ marks_down back)
+marks_around front gap back = marks_up front ++ marks_behind gap back
 
 abbrev pub all_marks : Runs → List Mark
 all_marks r = marks_around r.front.runs r.gap r.back.runs
@@ -27,7 +34,8 @@ line_count r = lines_in r.front.runs + r.gap.lines + lines_in r.back.runs
 -- beside new lines stand kept ones, and the other way round, from a line with this mark on; each run has a line
 abbrev pub StandsBy : Mark → List Run → Type 0
 StandsBy mark [] = ⊤
-StandsBy mark (run ∷ runs) = (is_new run.first ≡ not (is_new mark)) × (0 < run.lines) × IsInRange run × StandsBy run.first runs
+StandsBy mark (run ∷ runs) =
+    (is_new run.first ≡ not (is_new mark)) × (0 < run.lines) × IsInRange run × StandsBy run.first runs
 
 pub record Stands (front : List Run) (gap : Run) (back : List Run) : Type 0 where
   pub before : StandsBy gap.first front
@@ -54,12 +62,3 @@ pub record IsMoved (old new : Runs) : Type 0 where
   pub lines : line_count new ≡ line_count old
   pub count : run_count new ≡ run_count old
   pub room : room_of old ≤ room_of new
-
--- what is left to cut, with so many more lines to take off
-pub record IsCut (run : Run) (runs : List Run) (lines : ℕ) (rest : Run) (left : List Run) (more : ℕ) : Type 0 where
-  pub marks : drop more (run_marks rest ++ marks_down left) ≡ drop lines (run_marks run ++ marks_down runs)
-  pub count : rest.lines + lines_in left + lines ≡ run.lines + lines_in runs + more
-  pub within : more ≤ rest.lines + lines_in left
-  pub range : IsInRange rest
-  pub apart : StandsBy rest.first left
-  pub fewer : length left ≤ length runs

@@ -23,7 +23,9 @@ AreStackedOn lines (next ∷ more) = (next.height ≡ lines + next.run.lines) ×
 
 -- those before this place are lower than so many lines, the others are not
 abbrev pub IsPlaceOf : ℕ → List Stacked → ℕ → Type 0
-IsPlaceOf lines items at = IsPartitionPoint (λ (s : Stacked). nat_lt s.height lines ≡ true) (λ (s : Stacked). nat_lt s.height lines ≡ false) items at
+IsPlaceOf lines items at =
+    IsPartitionPoint (λ (s : Stacked). nat_lt s.height lines ≡ true) (λ (s : Stacked). nat_lt s.height lines ≡ false)
+    items at
 
 -- this is the run that has the line so many lines up from the bottom
 pub record Holds (runs : List Run) (line : ℕ) (found : Stacked) : Type 0 where

@@ -2,7 +2,7 @@
 
 ghost use Rattle.std.specs.Prelude.{◌≡◌, ◌-◌, ◌<◌, ◌≤◌};
 ghost use Rattle.mark_rules.specs.declared.Mark.TheVariants.{New};
-ghost use Rattle.line_hunks.specs.Run.{later_mark, IsInRange};
+ghost use Rattle.line_hunks.specs.Run.{later_mark, head_of, tail_of, IsInRange};
 
 use mark_rules::Mark;
 
@@ -31,8 +31,8 @@ impl Run {
     pub(crate) fn split(self, before: u64) -> (Run, Run)
         requires within { before ≤ self.lines }
         requires range { IsInRange self }
-        ensures before { result.0 ≡ record { first = self.first; lines = before } }
-        ensures behind { result.1 ≡ record { first = later_mark self.first before; lines = self.lines - before } }
+        ensures before { result.0 ≡ head_of self before }
+        ensures behind { result.1 ≡ tail_of self before }
     {
         let taken = Run {
             first: self.first,

@@ -139,8 +139,10 @@ impl Runs {
         requires new { 0 < new }
         requires fits { line_count self.old - old + new < 2 ^ 62 }
         ensures whole { IsWhole self.new }
-        ensures marks { all_marks self.new ≡ take (lines_in self.old.front.runs + before) (all_marks self.old)
-            ++ (replicate new New ++ drop (lines_in self.old.front.runs + before + old) (all_marks self.old)) }
+        ensures marks { all_marks self.new
+            ≡ take (lines_in self.old.front.runs + before) (all_marks self.old)
+            ++ (replicate new New
+            ++ drop (lines_in self.old.front.runs + before + old) (all_marks self.old)) }
         ensures count { run_count self.new ≤ run_count self.old + 2 }
         ensures room { room_of self.old ≤ room_of self.new }
     {

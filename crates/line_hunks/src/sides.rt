@@ -1,9 +1,9 @@
 //! The two sides of an edit.
 
-ghost use Rattle.std.specs.Prelude.{◌≡◌, false, ◌+◌, ◌^◌, ◌<◌, ◌≤◌, ◌++◌, length, drop, replicate};
+ghost use Rattle.std.specs.Prelude.{◌≡◌, false, ◌+◌, ◌^◌, ◌<◌, ◌≤◌, ◌∷◌, length, drop};
 ghost use Rattle.mark_rules.specs.declared.Mark.TheVariants.{New};
-ghost use Rattle.line_hunks.specs.Run.{is_new, run_marks, lines_in, IsInRange};
-ghost use Rattle.line_hunks.specs.Runs.{marks_up, marks_down, StandsBy};
+ghost use Rattle.line_hunks.specs.Run.{is_new, new_lines, lines_in, IsInRange};
+ghost use Rattle.line_hunks.specs.Runs.{marks_before, marks_behind, StandsBy};
 
 use crate::run::Run;
 use crate::stack::RunStack;
@@ -15,8 +15,8 @@ pub(crate) fn take_lines(back: &mut RunStack, run: Run, lines: u64) -> Run
     requires within { lines ≤ run.lines + lines_in back.old.runs }
     requires range { IsInRange run }
     requires apart { StandsBy run.first back.old.runs }
-    ensures marks { run_marks result ++ marks_down back.new.runs ≡ drop lines (run_marks run ++ marks_down back.old.runs) }
-    ensures lines { result.lines + lines_in back.new.runs + lines ≡ run.lines + lines_in back.old.runs }
+    ensures marks { marks_behind result back.new.runs ≡ drop lines (marks_behind run back.old.runs) }
+    ensures lines { lines_in (result ∷ back.new.runs) + lines ≡ lines_in (run ∷ back.old.runs) }
     ensures range { IsInRange result }
     ensures apart { StandsBy result.first back.new.runs }
     ensures count { length back.new.runs ≤ length back.old.runs }
@@ -38,8 +38,8 @@ pub(crate) fn set_aside(side: &mut RunStack, run: Run) -> u64
     requires fits { lines_in side.old.runs + run.lines < 2 ^ 62 }
     requires range { IsInRange run }
     requires apart { StandsBy run.first side.old.runs }
-    ensures up { marks_up side.new.runs ++ replicate result New ≡ marks_up side.old.runs ++ run_marks run }
-    ensures down { replicate result New ++ marks_down side.new.runs ≡ run_marks run ++ marks_down side.old.runs }
+    ensures up { marks_before side.new.runs (new_lines result) ≡ marks_before side.old.runs run }
+    ensures down { marks_behind (new_lines result) side.new.runs ≡ marks_behind run side.old.runs }
     ensures lines { result + lines_in side.new.runs ≡ run.lines + lines_in side.old.runs }
     ensures apart { StandsBy New side.new.runs }
     ensures count { length side.new.runs ≤ length side.old.runs + 1 }
@@ -58,8 +58,8 @@ fn set_kept_aside(side: &mut RunStack, run: Run) -> u64
     requires fits { lines_in side.old.runs + run.lines < 2 ^ 62 }
     requires range { IsInRange run }
     requires apart { StandsBy run.first side.old.runs }
-    ensures up { marks_up side.new.runs ++ replicate result New ≡ marks_up side.old.runs ++ run_marks run }
-    ensures down { replicate result New ++ marks_down side.new.runs ≡ run_marks run ++ marks_down side.old.runs }
+    ensures up { marks_before side.new.runs (new_lines result) ≡ marks_before side.old.runs run }
+    ensures down { marks_behind (new_lines result) side.new.runs ≡ marks_behind run side.old.runs }
     ensures lines { result + lines_in side.new.runs ≡ run.lines + lines_in side.old.runs }
     ensures apart { StandsBy New side.new.runs }
     ensures count { length side.new.runs ≤ length side.old.runs + 1 }

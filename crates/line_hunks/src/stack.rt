@@ -78,7 +78,8 @@ impl RunStack {
     }
 
     pub(crate) fn pop(&mut self) -> Option<Run>
-        ensures runs { MatchOption result (self.old.runs ≡ []) (λ run. self.old.runs ≡ run ∷ self.new.runs) }
+        ensures runs { MatchOption result (self.old.runs ≡ [])
+            (λ run. self.old.runs ≡ run ∷ self.new.runs) }
         ensures none { IfNone result (self.new.runs ≡ []) }
         ensures room { self.old.room ≤ self.new.room }
     {

@@ -1,5 +1,5 @@
 use Rattle.std.proofs.Common.{◌≤◌, length}
-use Rattle.line_hunks.specs.Runs.{IsCut}
+use Rattle.line_hunks.proofs.RunMarks.{IsCut}
 use Rattle.line_hunks.proofs.sides.take_lines.Given as goal
 
 abbrev pub invariant-loop-rest : goal.invariant-loop-rest
