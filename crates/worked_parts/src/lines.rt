@@ -103,7 +103,10 @@ fn compare(rt: &impl Abort, hunks: &Hunks, marks: &[Mark]) {
         assert_eq!(rt; Some(hunks.mark(line)), marks.get(index).copied());
         assert_eq!(rt; hunks.kept_from(line), kept_from(marks, index) as u64);
     }
-    assert_eq!(rt; hunks.is_clean(), marks.iter().all(|mark| *mark != Mark::New));
+    assert_eq!(rt;
+        hunks.is_clean(),
+        marks.iter().all(|mark| *mark != Mark::New)
+    );
 }
 
 #[test]
