@@ -9,7 +9,8 @@ use mark_rules::Mark;
 use std::alloc::{AllocError, Global};
 use std::marker::Model;
 
-/// One mark for each line of a text, from its first line on; a text has at least one line. Lines are counted from 1.
+/// One mark for each line of a text, from its first line on. Lines are counted from 1; there is at least one, and fewer
+/// than 2^62.
 ///
 /// They are kept as runs, with a gap where the text was edited last. Looking up a line halves the runs. An edit costs time
 /// in the runs between its place and the last one's, and typing at one place makes no more of them.
@@ -51,7 +52,7 @@ impl Hunks {
         self.runs.reserve(edits)
     }
 
-    /// The lines from line `first` on, `old` of them, became `new` other ones.
+    /// The lines from line `first` on, `old` of them, became `new` other ones. Neither is 0. Takes no memory.
     pub fn edit(&mut self, first: u64, old: u64, new: u64)
         requires room { 0 < self.old.spare }
         requires first { 1 ≤ first }
