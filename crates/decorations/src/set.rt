@@ -77,7 +77,8 @@ impl DecoSet {
         text: &F,
     ) -> Result<(), DecoError>
         ensures ok { OnOk result (IsOk (decorated self.now owner remove.now add.now (F.units text.now))) }
-        ensures err { IfErr result (λ e. RefusedFor e (decorated self.now owner remove.now add.now (F.units text.now))) }
+        ensures err { IfErr result (λ e. RefusedFor e
+            (decorated self.now owner remove.now add.now (F.units text.now))) }
     {
         if !owns_all(&self.tree, owner, remove) {
             return Err(DecoError::Unknown);

@@ -81,7 +81,8 @@ pub(crate) fn take_back(text: &mut TextBuffer, decorations: &mut DecoSet, change
     requires room { unit_count Way.Back changes.now + 3 * op_count Way.Back changes.now ≤ text.old.spare_units }
     requires inside { AreIn (length text.old.units) decorations.old }
     ensures units { text.new.units ≡ text_back text.old.units changes.now }
-    ensures pieces { GrownBy (op_count Way.Back changes.now) (length text.old.spans) (length text.new.spans) }
+    ensures pieces { GrownBy (op_count Way.Back changes.now)
+        (length text.old.spans) (length text.new.spans) }
     ensures decorations { decorations.new ≡ decorations_back decorations.old changes.now }
     ensures inside { AreIn (length text.new.units) decorations.new }
 {
@@ -98,7 +99,8 @@ pub(crate) fn make_again(text: &mut TextBuffer, decorations: &mut DecoSet, chang
     requires room { unit_count Way.On changes.now + 3 * op_count Way.On changes.now ≤ text.old.spare_units }
     requires inside { AreIn (length text.old.units) decorations.old }
     ensures units { text.new.units ≡ text_on text.old.units changes.now }
-    ensures pieces { GrownBy (op_count Way.On changes.now) (length text.old.spans) (length text.new.spans) }
+    ensures pieces { GrownBy (op_count Way.On changes.now)
+        (length text.old.spans) (length text.new.spans) }
     ensures decorations { decorations.new ≡ decorations_on decorations.old changes.now }
     ensures inside { AreIn (length text.new.units) decorations.new }
 {
