@@ -99,6 +99,7 @@ impl Model {
         ensures paired_state { IsPaired text.now → IsPairedState self.old.document
             → IsPairedState self.new.document }
         ensures fresh { KeptAfter result self.old.fresh self.new.fresh }
+        ensures kept_pieces { OnErr result (self.new.pieces ≡ self.old.pieces) }
     {
         if text.len() as u64 > MOST_UNITS {
             return Err(ModelError::Limit);
