@@ -7,8 +7,7 @@ use Rattle.unit_text.specs.Units.{is_place, cuts_pair}
 use Rattle.decoration_rules.specs.declared.Edit.{Edit}
 use Rattle.decoration_rules.specs.declared.Mark.{Mark}
 use Rattle.decoration_rules.specs.declared.NewDeco.{NewDeco}
-use Rattle.decoration_rules.specs.declared.DecoError.{DecoError}
-use Rattle.decoration_rules.specs.declared.DecoError.TheVariants.{Unknown, Range, Limit}
+use Rattle.decoration_rules.specs.Refusals.{DecoRefusal, unknown, range, limit}
 use Rattle.decoration_rules.specs.Moves.{offset_limit, removed, moved_mark, IsSpanIn, LieIn}
 use Rattle.decoration_rules.specs.Marks.{in_order}
 use Rattle.decoration_rules.specs.Decorations.{Decorations, decorated, is_unknown, is_bad, is_too_much, kept, new_mark, new_marks}
@@ -81,18 +80,18 @@ pub accepted : (d : Decorations) (owner : ℕ) (ids : List ℕ) (add : List NewD
     → decorated d owner ids add units ≡ Ok new → IsAccepted d owner ids add units new
 accepted d owner ids add units new is =
     elim (cases_Bool (is_unknown d.marks owner ids)) [
-      | inl unknown ↦ (let refused : Err Unknown ≡ Ok new = sym (cond-true (is_unknown d.marks owner ids) (Err Unknown) after_known unknown) ∙ is in cc)
+      | inl named_wrong ↦ (let refused : Err unknown ≡ Ok new = sym (cond-true (is_unknown d.marks owner ids) (Err unknown) after_known named_wrong) ∙ is in cc)
       | inr known ↦ elim (cases_Bool (list_any (is_bad units) add)) [
-        | inl bad ↦ (let refused : Err Range ≡ Ok new =
-            sym (cond-true (list_any (is_bad units) add) (Err Range) after_good bad) ∙ sym (cond-false (is_unknown d.marks owner ids) (Err Unknown) after_known known) ∙ is in cc)
+        | inl bad ↦ (let refused : Err range ≡ Ok new =
+            sym (cond-true (list_any (is_bad units) add) (Err range) after_good bad) ∙ sym (cond-false (is_unknown d.marks owner ids) (Err unknown) after_known known) ∙ is in cc)
         | inr good ↦ elim (cases_Bool (is_too_much d ids (length add))) [
-          | inl much ↦ (let refused : Err Limit ≡ Ok new =
-              sym (cond-true (is_too_much d ids (length add)) (Err Limit) (Ok made) much) ∙ sym (cond-false (list_any (is_bad units) add) (Err Range) after_good good)
-              ∙ sym (cond-false (is_unknown d.marks owner ids) (Err Unknown) after_known known) ∙ is in cc)
+          | inl much ↦ (let refused : Err limit ≡ Ok new =
+              sym (cond-true (is_too_much d ids (length add)) (Err limit) (Ok made) much) ∙ sym (cond-false (list_any (is_bad units) add) (Err range) after_good good)
+              ∙ sym (cond-false (is_unknown d.marks owner ids) (Err unknown) after_known known) ∙ is in cc)
           | inr few ↦
               let result : Ok made ≡ Ok new =
-              sym (cond-false (is_too_much d ids (length add)) (Err Limit) (Ok made) few) ∙ sym (cond-false (list_any (is_bad units) add) (Err Range) after_good good)
-              ∙ sym (cond-false (is_unknown d.marks owner ids) (Err Unknown) after_known known) ∙ is in
+              sym (cond-false (is_too_much d ids (length add)) (Err limit) (Ok made) few) ∙ sym (cond-false (list_any (is_bad units) add) (Err range) after_good good)
+              ∙ sym (cond-false (is_unknown d.marks owner ids) (Err unknown) after_known known) ∙ is in
               record { known = known; good = good; few = few; is = cc }
         ]
       ]
@@ -101,11 +100,11 @@ accepted d owner ids add units new is =
     made : Decorations
     made = record { marks = in_order (kept d.marks ids ++ new_marks owner d.next_id add); next_id = d.next_id + length add }
 
-    after_good : Result Decorations DecoError
-    after_good = cond (is_too_much d ids (length add)) (Err Limit) (Ok made)
+    after_good : Result Decorations DecoRefusal
+    after_good = cond (is_too_much d ids (length add)) (Err limit) (Ok made)
 
-    after_known : Result Decorations DecoError
-    after_known = cond (list_any (is_bad units) add) (Err Range) after_good
+    after_known : Result Decorations DecoRefusal
+    after_known = cond (list_any (is_bad units) add) (Err range) after_good
 
 pub LieIn-decorated : (d : Decorations) (owner : ℕ) (ids : List ℕ) (add : List NewDeco) (units : List ℕ) (new : Decorations)
     → decorated d owner ids add units ≡ Ok new → LieIn (length units) d.marks → LieIn (length units) new.marks
