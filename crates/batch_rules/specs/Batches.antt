@@ -3,12 +3,13 @@ use Rattle.std.specs.Prelude.{ℕ, ◌+◌, ◌-◌, ◌^◌, ◌≤◌, ◌==�
 use Rattle.std.specs.List.{list_any}
 use Rattle.text_rules.specs.declared.Op.{Op}
 use Rattle.text_rules.specs.Edits.{is_bad_span, edited}
+use Rattle.batch_rules.specs.declared.TheConstants.{MOST_TEXT_UNITS}
 use Rattle.batch_rules.specs.Refusals.{BatchRefusal}
 use Rattle.batch_rules.specs.Refusals as refused
 
 -- the most units that a text may have
 abbrev pub most_units : ℕ
-most_units = 2 ^ 30 - 1
+most_units = MOST_TEXT_UNITS
 
 -- the first op stands before the second: its end is lower, or the ends are equal and its start is not higher
 abbrev pub stands_before : Op → Op → Bool

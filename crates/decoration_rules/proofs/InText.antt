@@ -4,6 +4,7 @@ use Rattle.std.specs.List.{list_any, All}
 use Rattle.std.proofs.lemmas.Bool.{or_parts, and_parts, ltb-false, leb-true, not-false, cases_Bool, cond-true, cond-false}
 use Rattle.std.proofs.lemmas.List.Elements.{All-nil, All-cons, All-append, All-filter}
 use Rattle.unit_text.specs.Units.{is_place, cuts_pair}
+use Rattle.decoration_rules.specs.declared.TheConstants.{GREATEST_MODE}
 use Rattle.decoration_rules.specs.declared.Edit.{Edit}
 use Rattle.decoration_rules.specs.declared.Mark.{Mark}
 use Rattle.decoration_rules.specs.declared.NewDeco.{NewDeco}
@@ -47,11 +48,11 @@ moved_mark-fits edit marks len lie upright_edit edit_in fits =
 
 pub record IsNewIn (new : NewDeco) (len : ℕ) : Type 0 where
   pub span : IsSpanIn new.span len
-  pub mode : new.stick ≤ 3
+  pub mode : new.stick ≤ GREATEST_MODE
 
 pub IsNewIn-from_good : (units : List ℕ) (new : NewDeco) → is_bad units new ≡ false → IsNewIn new (length units)
 IsNewIn-from_good units new good =
-    let first = or_parts (ltb new.span.end new.span.start || not (is_place units new.span.start && is_place units new.span.end)) (ltb 3 new.stick) good in
+    let first = or_parts (ltb new.span.end new.span.start || not (is_place units new.span.start && is_place units new.span.end)) (ltb GREATEST_MODE new.stick) good in
     let second = or_parts (ltb new.span.end new.span.start) (not (is_place units new.span.start && is_place units new.span.end)) first.0 in
     let places = and_parts (is_place units new.span.start) (is_place units new.span.end) (not-false (is_place units new.span.start && is_place units new.span.end) second.1) in
     record {
@@ -59,7 +60,7 @@ IsNewIn-from_good units new good =
         upright = ltb-false new.span.end new.span.start second.0;
         within = leb-true new.span.end (length units) (and_parts (leb new.span.end (length units)) (not (cuts_pair units new.span.end)) places.1).0;
       };
-      mode = ltb-false 3 new.stick first.1;
+      mode = ltb-false GREATEST_MODE new.stick first.1;
     }
 
 pub LieIn-new_marks : (units : List ℕ) (owner id : ℕ) (add : List NewDeco) → list_any (is_bad units) add ≡ false → LieIn (length units) (new_marks owner id add)

@@ -2,7 +2,9 @@
 use Rattle.std.specs.Prelude.{ℕ, ◌≡◌, ◌+◌, ◌-◌, ◌^◌, ◌<◌, ◌≤◌, ◌==◌, ◌&&◌, ◌||◌, Bool, true, false, not, nat_lt, if◌then◌else◌, List, [], ◌∷◌, ◌++◌, length, map, filter, Option, Some, None, option_map, unwrap_or, Result, Ok, Err, ⊤}
 use Rattle.std.specs.List.{list_any, All}
 use Rattle.text_lengths.specs.declared.Span.{Span}
+use Rattle.text_lengths.specs.declared.TheConstants.{GREATEST_NUMBER}
 use Rattle.unit_text.specs.Units.{is_place}
+use Rattle.decoration_rules.specs.declared.TheConstants.{MOST_DECORATIONS, GREATEST_MODE}
 use Rattle.decoration_rules.specs.declared.Sticky.{Sticky}
 use Rattle.decoration_rules.specs.declared.Sticky.TheVariants.{AlwaysGrows, NeverGrows, GrowsBefore, GrowsAfter}
 use Rattle.decoration_rules.specs.declared.Mark.{Mark}
@@ -15,10 +17,10 @@ use Rattle.decoration_rules.specs.Marks.{IsInOrder, HasDistinctIds, in_order, ma
 
 -- the most live decorations
 abbrev pub most_decorations : ℕ
-most_decorations = 2 ^ 20
+most_decorations = MOST_DECORATIONS
 
 abbrev pub greatest_id : ℕ
-greatest_id = 2 ^ 63 - 1
+greatest_id = GREATEST_NUMBER
 
 -- The modes by their numbers.
 abbrev pub sticky_of : ℕ → Option Sticky
@@ -89,7 +91,7 @@ is_unknown marks owner ids = list_any (λ id. not (owns marks owner id)) ids || 
 abbrev pub is_bad : List ℕ → NewDeco → Bool
 is_bad units new =
     nat_lt new.span.end new.span.start || not (is_place units new.span.start && is_place units new.span.end)
-    || nat_lt 3 new.stick
+    || nat_lt GREATEST_MODE new.stick
 
 -- the live ones that are not among these
 abbrev pub kept : List Mark → List ℕ → List Mark

@@ -3,6 +3,7 @@
 use Rattle.std.specs.Prelude.{ℕ, ◌+◌, ◌-◌, ◌^◌, false, nat_lt, nat_le, if◌then◌else◌, List, [], ◌∷◌, length, map, take, drop, Option, Some, None, Result, Ok, Err}
 use Rattle.text_lengths.specs.declared.Position.{Position}
 use Rattle.text_lengths.specs.declared.Span.{Span}
+use Rattle.text_lengths.specs.declared.TheConstants.{GREATEST_NUMBER}
 use Rattle.unit_text.specs.Units.{is_place}
 use Rattle.text_rules.specs.Positions.{position_of, offset_of, is_position}
 use Rattle.text_rules.specs.declared.Op.{Op}
@@ -23,7 +24,7 @@ use Rattle.undo_rules.specs.Stack.{Step, Stack, empty_stack, pushed, stopped, un
 use Rattle.document_rules.specs.Refusals.{FlatRefusal, unknown, range, overlap, limit}
 
 abbrev pub greatest_version : ℕ
-greatest_version = 2 ^ 63 - 1
+greatest_version = GREATEST_NUMBER
 
 -- one accepted batch: its ops in their order, and the whole text before and after it
 pub record FlatChange : Type 0 where

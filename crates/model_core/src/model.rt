@@ -21,7 +21,7 @@ use bracket_nodes::{Entry, Node};
 use bracket_scan::BracketTable;
 use decorations::{Deco, DecoError, DecoSet, NewDeco};
 use document_rules::ModelError;
-use edit_batches::{Batch, BatchError, MOST_UNITS};
+use edit_batches::{Batch, BatchError, MOST_TEXT_UNITS};
 use edit_stack::EditStack;
 use std::alloc::Global;
 use std::sync::ledger::Ledger;
@@ -101,7 +101,7 @@ impl Model {
         ensures fresh { KeptAfter result self.old.fresh self.new.fresh }
         ensures kept_pieces { OnErr result (self.new.pieces ≡ self.old.pieces) }
     {
-        if text.len() as u64 > MOST_UNITS {
+        if text.len() as u64 > MOST_TEXT_UNITS {
             return Err(ModelError::Limit);
         }
         let text = TextBuffer::of_units(self.alloc, text).map_err(|_| ModelError::Memory)?;
