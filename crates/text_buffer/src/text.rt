@@ -408,6 +408,10 @@ impl Flat for TextBuffer {
     fn run(&self, at: u64) -> &[u16] {
         self.run_at(at)
     }
+
+    fn copy(&self, start: u64, end: u64, out: &mut Vec<u16>) -> Result<(), AllocError> {
+        self.value(Span { start, end }, out)
+    }
 }
 
 fn one_if(test: bool) -> u64
