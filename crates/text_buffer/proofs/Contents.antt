@@ -24,7 +24,7 @@ IsCut [] = ⊥
 IsCut (l ∷ []) = (ends_with 13 l.content ≡ false) × (l.break ≡ [])
 IsCut (l ∷ m ∷ ls) = (ends_with 13 l.content ≡ false) × (IsBreak l.break × IsCut (m ∷ ls))
 
-first_is_feed : (after : List ℕ) → begins_with line_feed after ≡ true → lines_of after ≡ record { content = []; break = 10 ∷ [] } ∷ lines_of (drop 1 after)
+pub first_is_feed : (after : List ℕ) → begins_with line_feed after ≡ true → lines_of after ≡ record { content = []; break = 10 ∷ [] } ∷ lines_of (drop 1 after)
 first_is_feed [] e = absurd cc
 first_is_feed (v ∷ z) e = subst (λ (u : ℕ). lines_of (u ∷ z) ≡ record { content = []; break = 10 ∷ [] } ∷ lines_of z) (sym (eqb-true v 10 e)) refl
 

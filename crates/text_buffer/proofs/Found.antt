@@ -150,7 +150,7 @@ module _ (b : List (List ℕ)) (entries : List Entry) (found : Found) (is : IsFo
         (sym (take_at (pieces_of is.earlier) (own ∷ pieces_of is.later) (length (pieces_of is.earlier)) refl))
         (All-take P (length (pieces_of is.earlier)) (pieces_of is.earlier ++ own ∷ pieces_of is.later) (subst (All P) pieces_are full))
 
-    parts : (joins_pair earlier_text (own_text ++ later_text) ≡ false) × (IsUnsplit b (pieces_of is.earlier) × IsUnsplit b (own ∷ pieces_of is.later))
+    pub parts : (joins_pair earlier_text (own_text ++ later_text) ≡ false) × (IsUnsplit b (pieces_of is.earlier) × IsUnsplit b (own ∷ pieces_of is.later))
     parts = unsplit-parts b (pieces_of is.earlier) (own ∷ pieces_of is.later) all_earlier full_earlier (subst (IsUnsplit b) pieces_are unsplit)
 
     -- a CR LF at the end of a front of the piece lies in the piece

@@ -9,9 +9,11 @@ ghost use Rattle.text_rules.specs.Positions.{position_of, is_position, offset_of
 ghost use Rattle.text_rules.specs.Edits.{edited};
 ghost use Rattle.text_rules.specs.Lines.{Line, lines_of, line_at, line_start, line_feed, carriage_return, begins_with};
 ghost use Rattle.text_rules.proofs.Breaks.{ends_with, joins_pair, count_to, break_ends};
-ghost use Rattle.text_buffer.specs.Text.{unit_if, one_if, IsAdded, ends_with_pair};
+ghost use Rattle.text_buffer.specs.Text.{unit_if, one_if, IsAdded};
 
+use crate::breaks::{CARRIAGE_RETURN, LINE_FEED, ends_with_pair};
 use crate::look_up::{break_at, cuts_pair_at, piece_at};
+use crate::place::{push_line, start_of_line};
 use crate::walk::push_span;
 use chunk_buffers::{ChunkSpan, Chunks};
 use piece_tree::PieceTree;
@@ -21,10 +23,6 @@ use std::sync::ledger::{Blank, Ledger};
 use steps::Steps;
 use text_lengths::{Position, Span};
 use unit_text::Flat;
-
-const LINE_FEED: u16 = 10;
-
-const CARRIAGE_RETURN: u16 = 13;
 
 /// What an edit may append beside its text: a CR, an LF, and a unit that keeps buffers apart.
 const UNITS_AN_EDIT: u64 = 3;
@@ -159,24 +157,11 @@ impl TextBuffer {
         ensures ok { (line : Line) → line_at self.now.units n ≡ Some line → OnOk result (out.new.items ≡ out.old.items ++ line.content) }
         ensures err { OnErr result (out.new.items ≡ out.old.items) }
     {
-        self.value(self.content_for::<Brand>(n, Blank::new(1)), out)
-    }
-
-    // The span of the content of a line.
-    fn content_for<L: Ledger>(&self, n: u64, blank: Blank) -> Span
-        requires first { 0 < n }
-        requires there { n ≤ length (lines_of self.now.units) }
-        requires name { blank.name ≡ L.name }
-        requires parts { blank.parts ≡ L.parts }
-        requires some { 0 < L.parts }
-        ensures start { result.start ≡ line_start self.now.units n }
-        ensures content { (d : Line) → result.end ≡ result.start + length (slice_index_or (lines_of self.now.units) (n - 1) d).content }
-        ensures within { result.end ≤ length self.now.units }
-    {
-        let mut steps = Steps::<L>::new(blank);
-        let start = self.line_start(n - 1, &mut steps);
-        let end = self.content_end(n, start, &mut steps);
-        Span { start, end }
+        let Some(start) = start_of_line(&self.pieces, &self.chunks, n) else {
+            return Ok(());
+        };
+        push_line(&self.pieces, &self.chunks, start, out)?;
+        Ok(())
     }
 
     /// The position of the offset; None where the offset is no place of the text. Each node that is visited is a step.
@@ -228,7 +213,6 @@ impl TextBuffer {
         requires first { 0 < line }
         requires there { line ≤ length (lines_of self.now.units) }
         requires start { start ≡ line_start self.now.units line }
-        requires small { start < 2 ^ 62 }
         ensures content { (d : Line) → result ≡ start + length (slice_index_or (lines_of self.now.units) (line - 1) d).content }
         ensures within { result ≤ length self.now.units }
         ensures cost { WithinLookUps 1 (length self.now.spans) (steps.new - steps.old) }
@@ -238,7 +222,7 @@ impl TextBuffer {
         }
         let (found, own) = break_at(&self.pieces, &self.chunks, line, steps);
         let end = found.before.units + own;
-        if end < start + 2 {
+        if end - start < 2 {
             return end - 1;
         }
         // A CR LF lies in one piece.
@@ -430,18 +414,6 @@ fn line_feed_if(test: bool) -> &'static [u16]
     ensures { result.now ≡ unit_if test line_feed }
 {
     if test { &[LINE_FEED] } else { &[] }
-}
-
-// Whether the units end with CR LF.
-fn ends_with_pair(units: &[u16]) -> bool
-    ensures { result ≡ ends_with_pair units.now }
-{
-    if units.len() < 2 {
-        return false;
-    }
-    let before = units[units.len() - 2];
-    let last = units[units.len() - 1];
-    before == CARRIAGE_RETURN && last == LINE_FEED
 }
 
 // Appends the three texts as one, if they have any unit.
