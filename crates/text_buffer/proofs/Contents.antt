@@ -112,6 +112,11 @@ ends_with_pair_short [] h = refl
 ends_with_pair_short (u ∷ []) h = refl
 ends_with_pair_short (u ∷ v ∷ x) h = absurd (omega arith)
 
+pub ends_with_pair_long : (x : List ℕ) → ends_with_pair x ≡ true → 2 ≤ length x
+ends_with_pair_long [] e = absurd cc
+ends_with_pair_long (u ∷ []) e = absurd cc
+ends_with_pair_long (u ∷ v ∷ x) e = omega arith
+
 -- the text of some lines
 abbrev text_of_lines : List Line → List ℕ
 text_of_lines lines = flat_map (λ l. l.content ++ l.break) lines

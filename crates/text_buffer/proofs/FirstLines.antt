@@ -3,8 +3,9 @@ use Rattle.std.proofs.Common.{◌≡◌, ℕ, zero, suc, ◌+◌, ◌-◌, ◌<�
 use Rattle.std.proofs.lemmas.Bool.{and_parts, or_parts, eqb-true}
 use Rattle.std.proofs.lemmas.List.{append-nil, drop-drop, drop_more, length-take-le, take-take}
 use Rattle.std.proofs.lemmas.List.Sums.{sum_by-cons, sum_by_more}
+use Rattle.line_starts.specs.Starts.{break_count}
 use Rattle.text_rules.specs.Lines.{Line, lines_of, line_length, line_start, line_feed, carriage_return, begins_with, in_first_line, in_first_break}
-use Rattle.text_rules.proofs.Breaks.{joins_pair, and_false, line_count_is}
+use Rattle.text_rules.proofs.Breaks.{joins_pair, and_false, line_count_is, line_start_is, break_ends, break_ends_above}
 use Rattle.text_rules.proofs.Places.{line_start_within}
 use Rattle.text_buffer.specs.Text.{ends_with_pair}
 use Rattle.text_buffer.proofs.Contents.{first_is_feed, content_end_by, content_of}
@@ -46,6 +47,9 @@ length-in_front x (l ∷ ls) = refl
 pub some_line : (x : List ℕ) → 0 < length (lines_of x)
 some_line x = omega (arith, line_count_is x)
 
+pub some_break : (x : List ℕ) → (break_count x ≡ 0 → ⊥) → 2 ≤ length (lines_of x)
+some_break x some = omega (arith, some, some_line x)
+
 first_or_none : (ls : List Line) → get_or ls 0 (record { content = []; break = [] }) ≡ first_line ls
 first_or_none [] = refl
 first_or_none (l ∷ ls) = refl
@@ -60,6 +64,11 @@ first_size x = second_start (lines_of x) (some_line x)
 
 pub first_within : (x : List ℕ) → 2 ≤ length (lines_of x) → line_start x 2 ≤ length x
 first_within x some = line_start_within x 0 2 (omega (arith, line_count_is x)) refl
+
+pub first_some : (x : List ℕ) → 2 ≤ length (lines_of x) → 0 < line_start x 2
+first_some x some =
+    let inside : 0 < length (break_ends 0 x) = omega (arith, line_count_is x) in
+    omega (arith, line_start_is x 0 2 inside refl, break_ends_above 0 0 x (omega arith) 0 0 inside)
 
 pub first_content : (x : List ℕ) (end : ℕ) → 2 ≤ length (lines_of x) → end ≡ line_start x 2
     → take (length (take end x) - (if ends_with_pair (take end x) then 2 else 1)) (take end x) ≡ (first_line (lines_of x)).content

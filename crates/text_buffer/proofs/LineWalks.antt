@@ -1,25 +1,27 @@
 -- A walk that copies a line, from the place where it starts.
 use Rattle.std.proofs.Common.{◌≡◌, ℕ, zero, suc, ◌+◌, ◌-◌, ◌<◌, ◌≤◌, ◌&&◌, false, Option, Some, None, List, [], ◌∷◌, ◌++◌, length, take, drop, get_or, refl, ap, sym, subst, ◌∙◌, append_assoc, arith}
+use Rattle.std.proofs.Common.{Result, Ok, Err}
+use Rattle.std.specs.Prelude.{OnErr}
 use Rattle.std.specs.List.{All}
-use Rattle.std.proofs.lemmas.List.{append-nil, length-append, length-drop, take_all, take-append-drop, drop-drop, drop-append-le}
+use Rattle.std.proofs.lemmas.List.{append-nil, length-append, length-drop, take_at, take_all, take-append-drop, drop-drop, drop-append-le}
 use Rattle.std.proofs.lemmas.List.Elements.{All-head}
 use Rattle.chunk_buffers.specs.declared.span.ChunkSpan.{ChunkSpan}
 use Rattle.chunk_buffers.specs.Chunks.{Shown, units_at, LiesIn}
 use Rattle.line_starts.specs.Starts.{break_count}
 use Rattle.piece_tree.specs.declared.piece.Piece.{Piece}
 use Rattle.piece_tree.specs.declared.piece.Found.{Found}
-use Rattle.piece_tree.specs.Pieces.{Pieces, Entry, pieces_of, sum_of, first_of, IsPieceOf, IsFound, IsAmong}
+use Rattle.piece_tree.specs.Pieces.{Pieces, Entry, pieces_of, unit_count, sum_of, first_of, IsPieceOf, IsFound, IsAmong}
 use Rattle.text_rules.specs.Lines.{Line, lines_of, line_length, line_start, line_at, line_feed, begins_with, carriage_return}
 use Rattle.text_rules.proofs.Breaks.{joins_pair}
 use Rattle.text_buffer.specs.declared.place.Place.{Place}
 use Rattle.text_buffer.specs.Text.{text_of, spelled, IsText, IsUnsplit}
 use Rattle.text_buffer.specs.Places.{IsPlace, text_from, StartsAt, NextStartsAt}
-use Rattle.text_buffer.proofs.Spelling.{length-units_at, drop-past}
+use Rattle.text_buffer.proofs.Spelling.{length-units_at, length-spelled, drop-past}
 use Rattle.text_buffer.proofs.Borders.{ends_with-append}
 use Rattle.text_buffer.proofs.Contents.{line_at_is}
 use Rattle.text_buffer.proofs.Found.{own_text, later_text, found_text, found_start, found_size, found_inside, parts}
 use Rattle.text_buffer.proofs.Walks.{first_there, none_there, after_next, next_piece, next_place, next_has}
-use Rattle.text_buffer.proofs.FirstLines.{first_line, in_front, in_front_none, in_front-in_front, some_line, lines_after_no_break, first_line_of_both, lines_from, first_from, next_start, first_size, first_within}
+use Rattle.text_buffer.proofs.FirstLines.{first_line, in_front, in_front_none, in_front-in_front, some_line, some_break, lines_after_no_break, first_line_of_both, lines_from, first_from, next_start, first_size, first_within}
 
 -- a text that makes no pair with what follows makes none with less of it
 pair_of_rest : (x w y : List ℕ) → joins_pair (x ++ w) y ≡ false → joins_pair w y ≡ false
@@ -37,7 +39,7 @@ module _ (b : List (List ℕ)) where
     abbrev found : Found
     found = record { id = place.id; span = is.piece.span; breaks = is.piece.breaks; before = sum_of (pieces_of is.earlier) }
 
-    found_is : IsFound entries found
+    abbrev found_is : IsFound entries found
     found_is = record { earlier = is.earlier; later = is.later; place = is.among; before = refl }
 
     pub place_among : IsAmong entries place.id
@@ -76,6 +78,29 @@ module _ (b : List (List ℕ)) where
       text = refl;
       lines = sym (in_front_none (lines_of (text_from b entries place is)));
     }
+
+    -- an error leaves the old units in front
+    pub kept : (from old out new : List ℕ) (place : Place) → Passed from old out place → new ≡ out → take (length old) new ≡ old
+    kept from old out new place w same = ap (take (length old)) (same ∙ w.copied) ∙ take_at old w.units (length old) refl
+
+    -- what is copied is no longer than the text
+    pub copied_within : All (IsPieceOf b) (pieces_of entries) → (start : Place) (is : IsPlace b entries start) (old out : List ℕ) (place : Place)
+        → Passed (text_from b entries start is) old out place → length out + place.rest.units ≤ length old + unit_count (pieces_of entries)
+    copied_within all start is old out place w =
+        let own : List ℕ = units_at b place.rest in
+        let after : List ℕ = spelled b (pieces_of w.is.later) in
+        omega (
+          arith,
+          ap length w.copied,
+          length-append old w.units,
+          ap length w.text,
+          length-append w.units (own ++ after),
+          length-append own after,
+          length-units_at b place.rest w.is.inside,
+          ap length (place_text entries start is all),
+          length-append (spelled b (pieces_of is.earlier) ++ is.before) (text_from b entries start is),
+          length-spelled b (pieces_of entries) all,
+        )
 
     -- the rest of a piece that has no break in it
     module _ (from old out : List ℕ) (place : Place) (w : Passed from old out place) (new : List ℕ)
@@ -124,10 +149,10 @@ module _ (b : List (List ℕ)) where
   -- the place in a piece that was looked up, after so many of its units
   module _ (entries : List Entry) (f : Found) (is : IsFound entries f) (all : All (IsPieceOf b) (pieces_of entries)) (own : ℕ) (rest : ChunkSpan)
       (within : own ≤ f.span.units) (lies : LiesIn b rest) (rest_is : units_at b rest ≡ take (f.span.units - own) (drop own (units_at b f.span))) where
-    rest_units : units_at b rest ≡ drop own (units_at b f.span)
+    pub rest_units : units_at b rest ≡ drop own (units_at b f.span)
     rest_units = rest_of_span f.span rest own (found_inside b entries f is all) within rest_is
 
-    pub place_found : IsPlace b entries (record { id = f.id; rest = rest })
+    abbrev pub place_found : IsPlace b entries (record { id = f.id; rest = rest })
     place_found = record {
       earlier = is.earlier;
       piece = record { span = f.span; breaks = f.breaks };
@@ -208,7 +233,7 @@ module _ (tree : Pieces) (chunks : Shown) (n : ℕ) (start : Place) (s : StartsA
     f = first_line (lines_of own)
 
     broken : 2 ≤ length (lines_of own)
-    broken = omega (arith, some, some_line own)
+    broken = some_break own some
 
     lines_broken : lines_of from ≡ record { content = w.units ++ f.content; break = f.break } ∷ lines_of (drop (line_length f) own ++ after)
     lines_broken =
@@ -228,8 +253,8 @@ module _ (tree : Pieces) (chunks : Shown) (n : ℕ) (start : Place) (s : StartsA
       within : end ≤ length own
       within = omega (arith, end_is, first_within own broken)
 
-      rest_units : units_at chunks.buffers rest ≡ drop end own
-      rest_units =
+      left_units : units_at chunks.buffers rest ≡ drop end own
+      left_units =
           rest_of_span chunks.buffers place.rest rest end w.is.inside (omega (arith, within, length-units_at chunks.buffers place.rest w.is.inside)) rest_is
 
       next_text : units_at chunks.buffers rest ++ after ≡ drop (line_start x (n + 1)) x
@@ -243,7 +268,7 @@ module _ (tree : Pieces) (chunks : Shown) (n : ℕ) (start : Place) (s : StartsA
           let place : m + end - m ≡ end = omega arith in
           sym (ap (λ (k : ℕ). drop k x) there ∙ sym (drop-drop (m + end) (line_start x n) x) ∙ ap (drop (m + end)) (sym s.text ∙ w.text)
           ∙ drop-past (m + end) m w.units (own ++ after) refl (omega arith) ∙ ap (λ (k : ℕ). drop k (own ++ after)) place
-          ∙ drop-append-le end own after within ∙ ap (λ t. t ++ after) (sym rest_units))
+          ∙ drop-append-le end own after within ∙ ap (λ t. t ++ after) (sym left_units))
 
       pub break_next : StartsAt tree chunks (n + 1) (record { id = place.id; rest = rest })
       break_next = record {
@@ -257,14 +282,18 @@ module _ (tree : Pieces) (chunks : Shown) (n : ℕ) (start : Place) (s : StartsA
           inside = lies;
           before = w.is.before ++ take end own;
           units = w.is.units ∙ ap (λ t. w.is.before ++ t) (sym (take-append-drop end own))
-              ∙ sym (append_assoc w.is.before (take end own) (drop end own)) ∙ ap (λ t. (w.is.before ++ take end own) ++ t) (sym rest_units);
+              ∙ sym (append_assoc w.is.before (take end own) (drop end own)) ∙ ap (λ t. (w.is.before ++ take end own) ++ t) (sym left_units);
         };
         text = next_text;
       }
 
+pub on_err_always : {T E P : Type 0} (r : Result T E) → P → OnErr r P
+on_err_always (Ok x) p = tt
+on_err_always (Err e) p = p
+
 -- a text without pieces has one line, without content
-pub no_content : (x : List ℕ) (n : ℕ) (line : Line) → x ≡ [] → 0 < n → n ≤ length (lines_of x) → line_at x n ≡ Some line → line.content ≡ []
-no_content x n line none first there at =
+pub no_content : (text : List ℕ) (n : ℕ) (line : Line) → text ≡ [] → 0 < n → n ≤ length (lines_of text) → line_at text n ≡ Some line → line.content ≡ []
+no_content text n line none first there at =
     let one : n ≡ 1 = omega (arith, there, ap (λ t. length (lines_of t)) none) in
-    let found : line_at [] 1 ≡ Some line = (λ i. line_at (none (~ i)) (one (~ i))) ∙ at in
+    let found : line_at [] 1 ≡ Some line = ap (λ t. line_at t 1) (sym none) ∙ ap (line_at text) (sym one) ∙ at in
     ap (λ (l : Line). l.content) (let same : line ≡ record { content = []; break = [] } = cc in same)

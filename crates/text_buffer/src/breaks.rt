@@ -25,6 +25,9 @@ pub(crate) fn without_break(line: &[u16]) -> &[u16]
     ensures { result.now
         ≡ take (length line.now - (if ends_with_pair line.now then 2 else 1)) line.now }
 {
-    let count = if ends_with_pair(line) { 2 } else { 1 };
-    &line[..line.len() - count]
+    if ends_with_pair(line) {
+        &line[..line.len() - 2]
+    } else {
+        &line[..line.len() - 1]
+    }
 }

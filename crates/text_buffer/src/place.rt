@@ -117,10 +117,13 @@ fn push_to_break(
     let mut place = start;
     while chunks.breaks(place.rest) == 0 {
         out.extend_from_slice(chunks.units(place.rest))?;
-        let Some((id, rest)) = pieces.next(place.id) else {
+        let Some(next) = pieces.next(place.id) else {
             return Ok(None);
         };
-        place = Place { id, rest };
+        place = Place {
+            id: next.0,
+            rest: next.1,
+        };
     }
     let end = chunks.nth_break(place.rest, 1);
     let units = chunks.units(place.rest);

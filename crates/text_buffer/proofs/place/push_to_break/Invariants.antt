@@ -4,11 +4,11 @@ use Rattle.text_buffer.specs.Places.{IsPlace, text_from}
 use Rattle.text_buffer.proofs.LineWalks.{Passed}
 use Rattle.text_buffer.proofs.place.push_to_break.Given as goal
 
-abbrev pub invariant-loop-place : goal.invariant-loop-place
-invariant-loop-place l =
-    (is : IsPlace l.chunks.buffers l.pieces.entries l.start)
-    → Passed l.chunks.buffers l.pieces.entries (text_from l.chunks.buffers l.pieces.entries l.start is) l.fn.out.items l.out.items l.place
+abbrev pub invariant-loop-out : goal.invariant-loop-out
+invariant-loop-out l =
+    (is : IsPlace l.chunks.buffers l.pieces.entries l.fn.start)
+    → Passed l.chunks.buffers l.pieces.entries (text_from l.chunks.buffers l.pieces.entries l.fn.start is) l.fn.out.items l.out.items l.place
 
 -- how many units are not there yet, and one where no unit of the piece is left
-abbrev pub decreases-loop-place : goal.decreases-loop-place
-decreases-loop-place l = length l.fn.out.items + unit_count (pieces_of l.pieces.entries) - length l.out.items + (1 - l.place.rest.units)
+abbrev pub decreases-loop-out : goal.decreases-loop-out
+decreases-loop-out l = length l.fn.out.items + unit_count (pieces_of l.pieces.entries) - length l.out.items + (1 - l.place.rest.units)
