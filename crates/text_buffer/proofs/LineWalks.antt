@@ -1,5 +1,5 @@
 -- A walk that copies a line, from the place where it starts.
-use Rattle.std.proofs.Common.{◌≡◌, ℕ, zero, suc, ◌+◌, ◌-◌, ◌<◌, ◌≤◌, ◌&&◌, false, Option, Some, None, List, [], ◌∷◌, ◌++◌, length, take, drop, get_or, refl, ap, sym, subst, ◌∙◌, append_assoc, arith}
+use Rattle.std.proofs.Common.{◌≡◌, ℕ, ◌+◌, ◌-◌, ◌<◌, ◌≤◌, ◌&&◌, false, Some, None, List, [], ◌∷◌, ◌++◌, length, take, drop, get_or, refl, ap, sym, subst, ◌∙◌, append_assoc, arith}
 use Rattle.std.proofs.Common.{Result, Ok, Err}
 use Rattle.std.specs.Prelude.{OnErr}
 use Rattle.std.specs.List.{All}
@@ -15,11 +15,11 @@ use Rattle.text_rules.specs.Lines.{Line, lines_of, line_length, line_start, line
 use Rattle.text_rules.proofs.Breaks.{joins_pair}
 use Rattle.text_buffer.specs.declared.place.Place.{Place}
 use Rattle.text_buffer.specs.Text.{text_of, spelled, IsText, IsUnsplit}
-use Rattle.text_buffer.specs.Places.{IsPlace, text_from, StartsAt, NextStartsAt}
+use Rattle.text_buffer.specs.Places.{IsPlace, text_from, StartsAt}
 use Rattle.text_buffer.proofs.Spelling.{length-units_at, length-spelled, drop-past}
 use Rattle.text_buffer.proofs.Borders.{ends_with-append}
 use Rattle.text_buffer.proofs.Contents.{line_at_is}
-use Rattle.text_buffer.proofs.Found.{own_text, later_text, found_text, found_start, found_size, found_inside, parts}
+use Rattle.text_buffer.proofs.Found.{found_text, found_start, found_size, found_inside, parts}
 use Rattle.text_buffer.proofs.Walks.{first_there, none_there, after_next, next_piece, next_place, next_has}
 use Rattle.text_buffer.proofs.FirstLines.{first_line, in_front, in_front_none, in_front-in_front, some_line, some_break, lines_after_no_break, first_line_of_both, lines_from, first_from, next_start, first_size, first_within}
 

@@ -261,7 +261,6 @@ impl TextBuffer {
     fn line_start<L: Ledger>(&self, breaks: u64, steps: &mut Steps<L>) -> u64
         requires { breaks < length (lines_of self.now.units) }
         ensures start { result ≡ line_start self.now.units (breaks + 1) }
-        ensures small { result < 2 ^ 62 }
         ensures cost { WithinLookUps 1 (length self.now.spans) (steps.new - steps.old) }
     {
         if breaks == 0 {

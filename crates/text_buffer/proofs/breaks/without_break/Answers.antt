@@ -1,4 +1,4 @@
-use Rattle.std.proofs.Common.{arith, sym, ◌∙◌}
+use Rattle.std.proofs.Common.{sym, ◌∙◌}
 use Rattle.text_buffer.proofs.Contents.{ends_with_pair_long}
 use Rattle.text_buffer.proofs.breaks.without_break.Goals as goal
 

@@ -1,4 +1,4 @@
-use Rattle.std.proofs.Common.{◌≡◌, ℕ, ◌+◌, ◌-◌, ◌≤◌, length, drop, ap, sym, subst, ◌∙◌, arith}
+use Rattle.std.proofs.Common.{◌≡◌, ℕ, ◌+◌, ◌-◌, drop, ap, sym, subst, ◌∙◌, arith}
 use Rattle.piece_tree.specs.Pieces.{pieces_of}
 use Rattle.text_rules.specs.Lines.{line_start}
 use Rattle.text_buffer.specs.Text.{spelled}

@@ -1,16 +1,14 @@
-use Rattle.std.proofs.Common.{◌≡◌, ℕ, ◌+◌, ◌-◌, ◌<◌, ◌≤◌, ◌++◌, ◌∷◌, [], if◌then◌else◌, List, length, take, drop, ap, sym, ◌∙◌, arith}
+use Rattle.std.proofs.Common.{◌≡◌, ℕ, ◌-◌, ◌<◌, ◌++◌, if◌then◌else◌, List, length, take, ap, sym, ◌∙◌, arith}
 use Rattle.std.proofs.lemmas.List.{length-take-le, length-append}
 use Rattle.chunk_buffers.specs.Chunks.{units_at}
 use Rattle.line_starts.specs.Starts.{break_count}
 use Rattle.piece_tree.specs.declared.piece.Piece.{Piece}
-use Rattle.piece_tree.specs.Pieces.{pieces_of}
-use Rattle.text_rules.specs.Lines.{line_start}
-use Rattle.text_buffer.specs.Places.{IsPlace, StartsAt, text_from}
+use Rattle.text_buffer.specs.Places.{text_from}
 use Rattle.text_buffer.specs.Text.{ends_with_pair}
 use Rattle.text_buffer.proofs.Spelling.{length-units_at}
 use Rattle.text_buffer.proofs.FirstLines.{first_content, first_some, first_within, some_break}
 use Rattle.text_buffer.proofs.Walks.{next_has}
-use Rattle.text_buffer.proofs.LineWalks.{Passed, passed_none, place_among, passed_more, copied_more, last_line, end_content, end_number, break_content, break_next, kept, copied_within, on_err_always}
+use Rattle.text_buffer.proofs.LineWalks.{passed_none, place_among, passed_more, copied_more, last_line, end_content, end_number, break_content, break_next, kept, copied_within, on_err_always}
 use Rattle.text_buffer.proofs.place.push_to_break.Goals as goal
 
 pub loop-out-init : goal.loop-out-init

@@ -1,4 +1,4 @@
-use Rattle.std.proofs.Common.{◌≡◌, ℕ, ◌+◌, ◌-◌, ◌<◌, ◌≤◌, ◌++◌, min, length, take, drop, ap, sym, ◌∙◌, arith}
+use Rattle.std.proofs.Common.{ℕ, ◌-◌, ◌<◌, ◌++◌, min, length, take, drop, ap, sym, ◌∙◌, arith}
 use Rattle.piece_tree.specs.declared.piece.Piece.{Piece}
 use Rattle.piece_tree.specs.Pieces.{pieces_of, IsPieceOf}
 use Rattle.text_buffer.proofs.Spelling.{length-spelled, length-units_at}
