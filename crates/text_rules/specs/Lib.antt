@@ -1,4 +1,5 @@
 pub mod Lines
 pub mod Positions
 pub mod Edits
+pub mod Dirty
 mod Examples

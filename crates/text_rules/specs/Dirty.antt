@@ -1,0 +1,33 @@
+-- Which lines an edit of a text touches.
+use Rattle.std.specs.Prelude.{ℕ, ◌+◌, ◌-◌, ◌==◌, Bool, false, ◌&&◌, nat_lt, if◌then◌else◌, List, length, slice_index}
+use Rattle.text_lengths.specs.declared.Span.{Span}
+use Rattle.text_lengths.specs.declared.Dirty.{Dirty}
+use Rattle.text_rules.specs.Lines.{lines_of, carriage_return}
+use Rattle.text_rules.specs.Positions.{position_of}
+use Rattle.text_rules.specs.Edits.{edited}
+
+-- a CR stands right before the place
+abbrev pub is_after_return : List ℕ → ℕ → Bool
+is_after_return x place = nat_lt 0 place && slice_index x (place - 1) == carriage_return
+
+-- the place, or where a CR stands right before it the place of this CR: with an LF that comes there it makes one break
+abbrev pub touched_from : List ℕ → ℕ → ℕ
+touched_from x place = if is_after_return x place then place - 1 else place
+
+-- the text in which these units have taken the place of the span
+abbrev pub replaced : List ℕ → Span → List ℕ → List ℕ
+replaced x span text = edited x (record { span = span; text = text; force = false })
+
+abbrev pub first_dirty : List ℕ → Span → ℕ
+first_dirty x span = (position_of x (touched_from x span.start)).line
+
+-- from that line to the one of the span's end
+abbrev pub old_dirty : List ℕ → Span → ℕ
+old_dirty x span = (position_of x span.end).line + 1 - first_dirty x span
+
+-- the lines that the text does not share with the one before the edit
+abbrev pub new_dirty : List ℕ → Span → List ℕ → ℕ
+new_dirty x span text = length (lines_of (replaced x span text)) - (length (lines_of x) - old_dirty x span)
+
+abbrev pub dirty_lines : List ℕ → Span → List ℕ → Dirty
+dirty_lines x span text = record { first = first_dirty x span; old = old_dirty x span; new = new_dirty x span text }
