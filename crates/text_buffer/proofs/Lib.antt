@@ -10,3 +10,4 @@ pub mod LineWalks
 pub mod Edited
 pub mod Lasts
 pub mod Positions
+pub mod Touched

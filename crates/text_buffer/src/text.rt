@@ -7,6 +7,7 @@ ghost use Rattle.piece_tree.specs.Costs.{WithinLookUps};
 ghost use Rattle.unit_text.specs.Units.{is_place};
 ghost use Rattle.text_rules.specs.Positions.{position_of, is_position, offset_of};
 ghost use Rattle.text_rules.specs.Edits.{edited};
+ghost use Rattle.text_rules.specs.Dirty.{dirty_lines, replaced};
 ghost use Rattle.text_rules.specs.Lines.{Line, lines_of, line_at, line_start, line_feed, carriage_return, begins_with};
 ghost use Rattle.text_rules.proofs.Breaks.{ends_with, joins_pair, count_to, break_ends};
 ghost use Rattle.text_buffer.specs.Text.{unit_if, one_if, IsAdded};
@@ -16,12 +17,13 @@ use crate::look_up::{break_at, cuts_pair_at, piece_at};
 use crate::place::{push_line, start_of_line};
 use crate::walk::push_span;
 use chunk_buffers::{ChunkSpan, Chunks};
+use line_starts::count_breaks;
 use piece_tree::PieceTree;
 use std::alloc::{AllocError, Global};
 use std::marker::{Brand, Model};
 use std::sync::ledger::{Blank, Ledger};
 use steps::Steps;
-use text_lengths::{Position, Span};
+use text_lengths::{Dirty, Position, Span};
 use unit_text::Flat;
 
 /// What an edit may append beside its text: a CR, an LF, and a unit that keeps buffers apart.
@@ -206,6 +208,58 @@ impl TextBuffer {
         } else {
             None
         }
+    }
+
+    /// Which lines of the text an edit touches that puts these units in the place of the span, and how many lines
+    /// stand in their place after it. The other lines stay as they are. It takes no memory.
+    pub fn dirty_lines(&self, span: Span, text: &[u16]) -> Dirty
+        requires ordered { span.start ≤ span.end }
+        requires within { span.end ≤ length self.now.units }
+        ensures dirty { result ≡ dirty_lines self.now.units span text.now }
+        ensures before { take (result.first - 1) (lines_of (replaced self.now.units span text.now))
+            ≡ take (result.first - 1) (lines_of self.now.units) }
+        ensures after { drop (result.first - 1 + result.new) (lines_of (replaced self.now.units span text.now))
+            ≡ drop (result.first - 1 + result.old) (lines_of self.now.units) }
+    {
+        let after_return = one_if(self.is_carriage_return_before(span.start));
+        let first = self.breaks_to(span.start - after_return) + 1;
+        let last = self.breaks_to(span.end) + 1;
+        let lines = count_breaks(text) + 1 + after_return;
+        Dirty {
+            first,
+            old: last + 1 - first,
+            new: lines - self.pairs_made(span, text),
+        }
+    }
+
+    // How many times a CR and an LF meet at the ends of the text where it stands in the place of the span.
+    fn pairs_made(&self, span: Span, text: &[u16]) -> u64
+        requires ordered { span.start ≤ span.end }
+        requires within { span.end ≤ length self.now.units }
+        ensures { result ≡ one_if (joins_pair (take span.start self.now.units) (text.now ++ drop span.end self.now.units))
+            + one_if (joins_pair text.now (drop span.end self.now.units)) }
+    {
+        let front = one_if(self.joins_front(span, text));
+        if text.is_empty() {
+            return front;
+        }
+        front + one_if(self.joins_back(span, text))
+    }
+
+    // How many breaks end at the offset or before it.
+    fn breaks_to(&self, offset: u64) -> u64
+        requires { offset ≤ length self.now.units }
+        ensures count { result ≡ count_to offset (break_ends 0 self.now.units) }
+        ensures few { result < 2 ^ 62 }
+    {
+        if offset == self.len() {
+            return self.pieces.breaks();
+        }
+        let found = piece_at(&self.pieces, offset);
+        let own = self
+            .chunks
+            .breaks_to(found.span, offset - found.before.units);
+        found.before.breaks + own
     }
 
     // The offset after the content of the line that starts here.

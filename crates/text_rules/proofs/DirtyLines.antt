@@ -1,7 +1,7 @@
 -- The lines beside those that an edit touches, and how many it leaves in their place.
 use Rattle.std.proofs.Common.{◌≡◌, ℕ, zero, suc, ◌+◌, ◌-◌, ◌<◌, ◌≤◌, ◌==◌, leb, ltb, Bool, true, false, ◌&&◌, ◌||◌, if◌then◌else◌, List, [], ◌∷◌, ◌++◌, length, take, drop, get_or, refl, ap, sym, ◌∙◌, append_assoc, add-zero, arith}
 use Rattle.std.proofs.lemmas.Bool.{le-leb, lt-ltb, ltb-true, eqb-true, and_parts}
-use Rattle.std.proofs.lemmas.List.{length-append, length-map, length-take-le, length-drop, get_or-drop, get_or-take, get_or_append_left, take_at, drop_at, take_more, take-take, take-append-le}
+use Rattle.std.proofs.lemmas.List.{length-append, length-map, length-take-le, length-drop, get_or-drop, get_or-take, take_at, drop_at, take_more, take-take, take-append-le}
 use Rattle.std.proofs.lemmas.List.Sums.{prefix_len-le-length}
 use Rattle.text_lengths.specs.declared.Span.{Span}
 use Rattle.text_rules.specs.Lines.{Line, lines_of, line_feed, carriage_return, begins_with, in_first_line, in_first_break}
@@ -131,7 +131,7 @@ breaks_of_both x y =
 
 -- ---- the place from which an edit touches lines
 
-after_return_is : (x : List ℕ) (place : ℕ) → place ≤ length x → is_after_return x place ≡ ends_with carriage_return (take place x)
+pub after_return_is : (x : List ℕ) (place : ℕ) → place ≤ length x → is_after_return x place ≡ ends_with carriage_return (take place x)
 after_return_is x zero within = refl
 after_return_is x (suc m) within =
     let t : List ℕ = take (suc m) x in
