@@ -40,10 +40,6 @@ pub in_front-in_front : (x y : List ℕ) (ls : List Line) → in_front x (in_fro
 in_front-in_front x y [] = refl
 in_front-in_front x y (l ∷ ls) = λ i. record { content = sym (append_assoc x y l.content) i; break = l.break } ∷ ls
 
-pub length-in_front : (x : List ℕ) (ls : List Line) → length (in_front x ls) ≡ length ls
-length-in_front x [] = refl
-length-in_front x (l ∷ ls) = refl
-
 pub some_line : (x : List ℕ) → 0 < length (lines_of x)
 some_line x = omega (arith, line_count_is x)
 
@@ -152,7 +148,7 @@ first_line_of_both (u ∷ x) y some apart =
     (λ more. first_line_of_both x y more (pair_later u x y apart)) some)
 
 -- after its first line a text goes on with the other ones
-pub lines_after_first : (x : List ℕ) → 2 ≤ length (lines_of x) → lines_of x ≡ first_line (lines_of x) ∷ lines_of (drop (line_length (first_line (lines_of x))) x)
+lines_after_first : (x : List ℕ) → 2 ≤ length (lines_of x) → lines_of x ≡ first_line (lines_of x) ∷ lines_of (drop (line_length (first_line (lines_of x))) x)
 lines_after_first x some =
     let n : ℕ = line_length (first_line (lines_of x)) in
     ap lines_of (sym (append-nil x)) ∙ first_line_of_both x [] some (and_false _) ∙ ap (λ (s : List ℕ). first_line (lines_of x) ∷ lines_of s) (append-nil (drop n x))

@@ -290,10 +290,3 @@ module _ (tree : Pieces) (chunks : Shown) (n : ℕ) (start : Place) (s : StartsA
 pub on_err_always : {T E P : Type 0} (r : Result T E) → P → OnErr r P
 on_err_always (Ok x) p = tt
 on_err_always (Err e) p = p
-
--- a text without pieces has one line, without content
-pub no_content : (text : List ℕ) (n : ℕ) (line : Line) → text ≡ [] → 0 < n → n ≤ length (lines_of text) → line_at text n ≡ Some line → line.content ≡ []
-no_content text n line none first there at =
-    let one : n ≡ 1 = omega (arith, there, ap (λ t. length (lines_of t)) none) in
-    let found : line_at [] 1 ≡ Some line = ap (λ t. line_at t 1) (sym none) ∙ ap (line_at text) (sym one) ∙ at in
-    ap (λ (l : Line). l.content) (let same : line ≡ record { content = []; break = [] } = cc in same)
