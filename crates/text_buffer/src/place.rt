@@ -22,8 +22,8 @@ pub(crate) struct Place {
     rest: ChunkSpan,
 }
 
-/// Where the line of this number starts, by a look-up that nobody counts. Lines count from 1. None where the text has
-/// no piece.
+/// Where the line of this number starts, by a look-up that nobody counts. Lines count from 1. None
+/// where the text has no piece.
 pub(crate) fn start_of_line(pieces: &PieceTree, chunks: &Chunks, n: u64) -> Option<Place>
     requires text { IsText pieces.now chunks.now }
     requires first { 0 < n }
@@ -61,7 +61,8 @@ fn find_start<L: Ledger>(
     requires text { IsText pieces.now chunks.now }
     requires first { 0 < n }
     requires there { n ≤ length (lines_of (text_of pieces.now chunks.now).units) }
-    ensures start { MatchOption result (pieces.now.entries ≡ []) (StartsAt pieces.now chunks.now n) }
+    ensures start { MatchOption result
+        (pieces.now.entries ≡ []) (StartsAt pieces.now chunks.now n) }
     ensures cost { WithinLookUps 1 (length pieces.now.entries) (steps.new - steps.old) }
 {
     if n == 1 {
@@ -73,8 +74,9 @@ fn find_start<L: Ledger>(
     Some(Place { id: found.id, rest })
 }
 
-/// Appends the content of the line that starts at the place, from each piece to the next one. Answers where the
-/// next line starts; None where this is the last. An error leaves `out` as it was.
+/// Appends the content of the line that starts at the place, and goes on from each piece to the
+/// next one. Answers where the next line starts; None where this is the last. An error leaves `out`
+/// as it was.
 pub(crate) fn push_line(
     pieces: &PieceTree,
     chunks: &Chunks,

@@ -210,15 +210,16 @@ impl TextBuffer {
         }
     }
 
-    /// Which lines of the text an edit touches that puts these units in the place of the span, and how many lines
-    /// stand in their place after it. The other lines stay as they are. It takes no memory.
+    /// Which lines of the text an edit touches that puts these units in the place of the span, and
+    /// how many lines stand in their place after it. The other lines stay. It takes no memory.
     pub fn dirty_lines(&self, span: Span, text: &[u16]) -> Dirty
         requires ordered { span.start ≤ span.end }
         requires within { span.end ≤ length self.now.units }
         ensures dirty { result ≡ dirty_lines self.now.units span text.now }
-        ensures before { take (result.first - 1) (lines_of (replaced self.now.units span text.now))
-            ≡ take (result.first - 1) (lines_of self.now.units) }
-        ensures after { drop (result.first - 1 + result.new) (lines_of (replaced self.now.units span text.now))
+        ensures before { let lines = lines_of (replaced self.now.units span text.now) in
+            take (result.first - 1) lines ≡ take (result.first - 1) (lines_of self.now.units) }
+        ensures after { let lines = lines_of (replaced self.now.units span text.now) in
+            drop (result.first - 1 + result.new) lines
             ≡ drop (result.first - 1 + result.old) (lines_of self.now.units) }
     {
         let after_return = one_if(self.is_carriage_return_before(span.start));
@@ -232,12 +233,13 @@ impl TextBuffer {
         }
     }
 
-    // How many times a CR and an LF meet at the ends of the text where it stands in the place of the span.
+    // How many times a CR and an LF meet at the ends of the text, put in the place of the span.
     fn pairs_made(&self, span: Span, text: &[u16]) -> u64
         requires ordered { span.start ≤ span.end }
         requires within { span.end ≤ length self.now.units }
-        ensures { result ≡ one_if (joins_pair (take span.start self.now.units) (text.now ++ drop span.end self.now.units))
-            + one_if (joins_pair text.now (drop span.end self.now.units)) }
+        ensures { let after = drop span.end self.now.units in
+            result ≡ one_if (joins_pair (take span.start self.now.units) (text.now ++ after))
+            + one_if (joins_pair text.now after) }
     {
         let front = one_if(self.joins_front(span, text));
         if text.is_empty() {
