@@ -61,7 +61,8 @@ fn push_break_ends(units: &[u16], start: u64, out: &mut Vec<u64>) -> Result<(), 
 
 /// How many line breaks the units have.
 pub fn count_breaks(units: &[u16]) -> u64
-    ensures { result ≡ break_count units.now }
+    ensures breaks { result ≡ break_count units.now }
+    ensures few { result < 2 ^ 63 }
 {
     let mut breaks = 0;
     for at in 0..units.len() {

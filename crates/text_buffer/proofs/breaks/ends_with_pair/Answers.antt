@@ -1,7 +1,7 @@
-use Rattle.std.proofs.Common.{◌≡◌, ◌-◌, ◌==◌, ◌&&◌, ◌≤◌, length, get_or, ap, sym, ◌∙◌, arith}
+use Rattle.std.proofs.Common.{◌-◌, ◌==◌, ◌&&◌, length, get_or, ap, sym, ◌∙◌, arith}
 use Rattle.std.proofs.lemmas.Bool.{ne_eqb, eq-eqb}
 use Rattle.text_buffer.proofs.Contents.{ends_with_pair_at, ends_with_pair_short}
-use Rattle.text_buffer.proofs.text.ends_with_pair.Goals as goal
+use Rattle.text_buffer.proofs.breaks.ends_with_pair.Goals as goal
 
 pub returns-then-units-lt2 : goal.returns-then-units-lt2
 returns-then-units-lt2 c = sym (ends_with_pair_short c.args.units.now (omega arith))
