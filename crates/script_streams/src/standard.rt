@@ -75,9 +75,9 @@ fn read_past_signals<R: Read>(reader: &mut R, buf: &mut [u8]) -> io::Result<usiz
     Err(io::Error::from(ErrorKind::Interrupted))
 }
 
-/// Hands on to a writer, and tells what the writer tells. Each piece is flushed before the write answers. An error of
-/// the writer is a fault, and so is an answer of 0 for a piece that is not empty, but a write that a signal interrupts
-/// is tried again.
+/// Hands on to a writer, and tells what the writer tells, with no room of its own. Each piece is flushed before the
+/// write answers. An error of the writer is a fault, and so is an answer of 0 for a piece that is not empty, but a
+/// write that a signal interrupts is tried again.
 #[derive(Drop)]
 pub struct StdSink<W: Write> {
     writer: W,

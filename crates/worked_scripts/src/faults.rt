@@ -46,7 +46,7 @@ struct FailingRead {
     written: &'static [u8],
 }
 
-const FAILING_READS: [FailingRead; 4] = [
+const FAILING_READS: &[FailingRead] = &[
     FailingRead {
         name: "a read that fails at once",
         script: SIZES,
@@ -97,7 +97,7 @@ struct LastLine {
     status: u8,
 }
 
-const LAST_LINES: [LastLine; 3] = [
+const LAST_LINES: &[LastLine] = &[
     LastLine {
         name: "a script of one line",
         script: SIZE,
@@ -133,7 +133,7 @@ struct FailingWrite {
     written: &'static [u8],
 }
 
-const FAILING_WRITES: [FailingWrite; 4] = [
+const FAILING_WRITES: &[FailingWrite] = &[
     FailingWrite {
         name: "a write that fails at once",
         plan: &[Fault::Fails { call: 1 }],
