@@ -3,11 +3,10 @@ use Rattle.std.proofs.Common.{◌≡◌, ◌≢◌, ℕ, ◌<◌, Bool, true, fa
 use Rattle.text_lengths.specs.declared.Length.{Length}
 use Rattle.text_lengths.specs.Length.{length_plus, is_before}
 use Rattle.bracket_rules.specs.declared.Token.{Token}
-use Rattle.bracket_rules.specs.Table.{token}
 use Rattle.bracket_rules.specs.Parse.{Bracket, bracket}
 use Rattle.bracket_trees.specs.Tree.{Tree, text, pair, stray, capped, nothing, two, three, wide, width_of, tree_length, tree_tokens, closing_brackets, inside_start, inside_end, IsTree, IsWidth}
 use Rattle.bracket_trees.specs.Places.{IsAmong, HasBracket}
-use Rattle.bracket_trees.specs.Found.{IsTokenAt, NoBracketAt, IsBracketFound}
+use Rattle.bracket_trees.specs.Found.{token_at, IsTokenAt, NoBracketAt, IsBracketFound}
 use Rattle.bracket_trees.proofs.Places.{IsAmong-append, IsAmong-left, IsAmong-right}
 use Rattle.bracket_trees.proofs.Longest.{before_more, not_before_front, before_units, not_before_itself, not_both, before_pair_end, before_two_end, before_three_end}
 
@@ -128,10 +127,6 @@ no_bracket_of_nothing p q = λ b none same. elim none [ ]
 lone_apart : (p q : Length) (w k : ℕ) (opening : Bool) (b : Bracket) → (p ≡ q → ⊥) → IsAmong b (bracket p w k opening ∷ []) → b.place ≢ q
 lone_apart p q w k opening b apart (inl first) = λ same. apart (sym (ap (λ (x : Bracket). x.place) first) ∙ same)
 lone_apart p q w k opening b apart (inr none) = elim none [ ]
-
--- the token of a bracket at this place
-abbrev pub token_at : Length → ℕ → ℕ → Bool → Token
-token_at q width kind opening = token q.columns width kind opening
 
 first_here : (p q : Length) (w k : ℕ) (opening : Bool) (rest : List Bracket) → p ≡ q → IsAmong (bracket q w k opening) (bracket p w k opening ∷ rest)
 first_here p q w k opening rest same = inl (ap (λ (x : Length). bracket x w k opening) (sym same))

@@ -183,9 +183,9 @@ root_of p nothing = record { node = refl; place = refl }
 root_of p (two a b) = inl (record { node = refl; place = refl })
 root_of p (three a b c) = inl (record { node = refl; place = refl })
 
-pub node_here : (p : Length) (t : Tree) (q : Length) (lines kinds level : ℕ) → IsTakenHere p t q lines kinds level
-    → IsNodeFound p t q lines kinds level (Some t)
-node_here p t q lines kinds level h = record {
+pub longest_here : (p : Length) (t : Tree) (q : Length) (lines kinds level : ℕ) → IsTakenHere p t q lines kinds level
+    → IsLongest p t q lines kinds level t
+longest_here p t q lines kinds level h = record {
   stands = subst (λ (x : Length). HasNode p t x t) h.0 (root_of p t);
   taken = h.1;
   longest = λ m there taken. no_longer p t q m there;
@@ -319,4 +319,4 @@ node_in_third_of_three p a b c q lines kinds level o none tree_a tree_b e f h =
         absurd (not_passed (length_plus p (tree_length a)) b q lines kinds level n tree_b f in_b taken)
     down n (inr (inr (inr in_c))) taken = in_c
 
-pub ruleset node_steps = (node_here, no_node_at_text, no_node_at_stray, no_node_at_capped, no_node_at_nothing, node_inside, node_in_first, node_in_second, node_in_first_of_three, node_in_second_of_three, node_in_third_of_three)
+pub ruleset node_steps = (longest_here, no_node_at_text, no_node_at_stray, no_node_at_capped, no_node_at_nothing, node_inside, node_in_first, node_in_second, node_in_first_of_three, node_in_second_of_three, node_in_third_of_three)

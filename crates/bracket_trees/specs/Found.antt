@@ -1,7 +1,8 @@
 -- What is found at a place of a tree.
-use Rattle.std.specs.Prelude.{◌≡◌, ◌≢◌, ℕ, Option, Some, None}
+use Rattle.std.specs.Prelude.{◌≡◌, ◌≢◌, ℕ, Bool, Option, Some, None}
 use Rattle.text_lengths.specs.declared.Length.{Length}
 use Rattle.bracket_rules.specs.declared.Token.{Token}
+use Rattle.bracket_rules.specs.Table.{token}
 use Rattle.bracket_rules.specs.Parse.{Bracket, bracket}
 use Rattle.bracket_trees.specs.Tree.{Tree}
 use Rattle.bracket_trees.specs.Places.{HasBracket, MayBeTaken, IsLongest, NoneMayBeTaken}
@@ -23,6 +24,10 @@ IsNodeFound p t q lines kinds level (Some n) = IsLongest p t q lines kinds level
 pub record IsTokenAt (p : Length) (t : Tree) (q : Length) (found : Token) : Type 0 where
   pub stands : HasBracket p t (bracket q found.len found.kind found.opening)
   pub column : found.at ≡ q.columns
+
+-- a bracket at this place, as one of its line
+abbrev pub token_at : Length → ℕ → ℕ → Bool → Token
+token_at q width kind opening = token q.columns width kind opening
 
 -- no bracket of the tree that starts at place p starts at place q
 abbrev pub NoBracketAt : Length → Tree → Length → Type 0
