@@ -1,5 +1,5 @@
 // What a reader asks of an old tree at a place: the longest node that may be taken, and a bracket.
-ghost use Rattle.std.specs.Prelude.{◌≡◌, ◌+◌, ◌<◌, ◌≤◌, ◌^◌, ◌↔◌, ℕ, IsTrue, IfOk, IfSome, IfNone};
+ghost use Rattle.std.specs.Prelude.{◌≡◌, ◌≢◌, ◌+◌, ◌<◌, ◌≤◌, ◌^◌, ◌⊎◌, ◌↔◌, ℕ, Some, None, IsTrue, IfOk, IfSome, IfNone};
 ghost use Rattle.text_lengths.specs.Length.{no_length};
 ghost use Rattle.bracket_trees.specs.Tree.{tree_length, weight};
 ghost use Rattle.bracket_trees.specs.Told.{Fits};
@@ -84,6 +84,7 @@ impl Node {
         longest_from(&self.inner, start, &place, &room)
     }
 
+    #[tactic(auto, using(bracket_trees::proofs::BracketAt::no_bracket_found))]
     /// The bracket that starts at this place, as one of its line. The tree starts at the start of a
     /// text.
     pub fn bracket_at(&self, place: Length) -> Option<Token>
@@ -195,9 +196,9 @@ fn bracket_from(inner: &Inner, start: Length, place: &Length) -> Option<Token>
             }
             let inside_start = start.plus(&wide(*opening));
             let ends = inside_start.plus(&inside.kept().length);
-            match closing {
-                Some(width) if ends == *place => Some(token_at(place, *width, *kind, false)),
-                _ => bracket_from(inside, inside_start, place),
+            match closing_at(*closing, &ends, place) {
+                Some(width) => Some(token_at(place, width, *kind, false)),
+                None => bracket_from(inside, inside_start, place),
             }
         }
         Shape::Stray(kind, width) if start == *place => {
@@ -227,6 +228,14 @@ fn bracket_from(inner: &Inner, start: Length, place: &Length) -> Option<Token>
         }
         _ => None,
     }
+}
+
+// The width of the closing bracket, where there is one and it starts at the place.
+fn closing_at(closing: Option<u64>, ends: &Length, place: &Length) -> Option<u64>
+    ensures some { IfSome result (λ width. (closing ≡ Some width) × (ends.now ≡ place.now)) }
+    ensures none { IfNone result ((closing ≡ None) ⊎ (ends.now ≢ place.now)) }
+{
+    closing.filter(|_| ends == place)
 }
 
 // A bracket at this place, as one of its line.

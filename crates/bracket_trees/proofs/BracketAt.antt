@@ -1,5 +1,6 @@
 -- The walk down to the bracket at a place: of the parts of a list only one has brackets there.
-use Rattle.std.proofs.Common.{◌≡◌, ◌≢◌, ℕ, ◌<◌, Bool, true, false, Option, Some, None, List, [], ◌∷◌, ◌++◌, refl, ap, sym, ◌∙◌, subst, arith, inl, inr}
+use Rattle.std.proofs.Common.{◌≡◌, ◌≢◌, ℕ, ◌<◌, ◌⊎◌, Bool, true, false, Option, Some, None, List, [], ◌∷◌, ◌++◌, refl, ap, sym, ◌∙◌, subst, arith, inl, inr}
+use Rattle.std.specs.Prelude.{IfNone}
 use Rattle.text_lengths.specs.declared.Length.{Length}
 use Rattle.text_lengths.specs.Length.{length_plus, is_before}
 use Rattle.bracket_rules.specs.declared.Token.{Token}
@@ -150,24 +151,22 @@ bracket_opens p q k o i c same = record {
   column = refl;
 }
 
-pub bracket_closes : (p q : Length) (k o : ℕ) (i : Tree) (w : ℕ) → inside_end p o i ≡ q
-    → IsBracketFound p (pair k o i (Some w)) q (Some (token_at q w k false))
-bracket_closes p q k o i w same = record {
-  stands = inr (IsAmong-right (bracket q w k false) (tree_tokens (inside_start p o) i) (closing_brackets (inside_end p o i) k (Some w))
-      (first_here (inside_end p o i) q w k false [] same));
+pub bracket_closes : (p q : Length) (k o : ℕ) (i : Tree) (c : Option ℕ) (w : ℕ) → c ≡ Some w → inside_end p o i ≡ q
+    → IsBracketFound p (pair k o i c) q (Some (token_at q w k false))
+bracket_closes p q k o i c w closing same = record {
+  stands = inr (IsAmong-right (bracket q w k false) (tree_tokens (inside_start p o) i) (closing_brackets (inside_end p o i) k c)
+      (subst (λ (x : Option ℕ). IsAmong (bracket q w k false) (closing_brackets (inside_end p o i) k x)) (sym closing)
+      (first_here (inside_end p o i) q w k false [] same)));
   column = refl;
 }
 
--- no closing bracket, or not here
-abbrev pub IsNoneClosed : Length → Option ℕ → Length → Type 0
-IsNoneClosed ends None q = Unit {0}
-IsNoneClosed ends (Some width) q = ends ≡ q → ⊥
-
-closing_apart : (ends q : Length) (k : ℕ) (c : Option ℕ) (b : Bracket) → IsNoneClosed ends c q → IsAmong b (closing_brackets ends k c) → b.place ≢ q
+closing_apart : (ends q : Length) (k : ℕ) (c : Option ℕ) (b : Bracket) → (c ≡ None) ⊎ (ends ≢ q) → IsAmong b (closing_brackets ends k c) → b.place ≢ q
 closing_apart ends q k None b h none = elim none [ ]
-closing_apart ends q k (Some w) b h last = lone_apart ends q w k false b h last
+closing_apart ends q k (Some w) b (inl unclosed) last = cc
+closing_apart ends q k (Some w) b (inr apart) last = lone_apart ends q w k false b apart last
 
-pub bracket_inside : (p q : Length) (k o : ℕ) (i : Tree) (c : Option ℕ) (found : Option Token) → (p ≡ q → ⊥) → IsNoneClosed (inside_end p o i) c q
+pub bracket_inside : (p q : Length) (k o : ℕ) (i : Tree) (c : Option ℕ) (found : Option Token) → (p ≡ q → ⊥)
+    → (c ≡ None) ⊎ (inside_end p o i ≢ q)
     → IsBracketFound (inside_start p o) i q found → IsBracketFound p (pair k o i c) q found
 bracket_inside p q k o i c found apart last h =
     found_by p (pair k o i c) (inside_start p o) i q found
@@ -225,5 +224,10 @@ pub bracket_in_third_of_three : (p : Length) (x y z : Tree) (q : Length) (found 
 bracket_in_third_of_three p x y z q found tree_x tree_y e f h =
     of_three p x y z q found
     (bracket_in_second p x (two y z) q found tree_x e (bracket_in_second (length_plus p (tree_length x)) y z q found tree_y f h))
+
+-- where none is found, there is none
+pub no_bracket_found : (p : Length) (t : Tree) (q : Length) (o : Option Token) → IsBracketFound p t q o → IfNone o (NoBracketAt p t q)
+no_bracket_found p t q None h = h
+no_bracket_found p t q (Some found) h = tt
 
 pub ruleset bracket_steps = (no_bracket_of_text, no_bracket_of_nothing, bracket_of_stray, no_bracket_of_stray, bracket_of_capped, no_bracket_of_capped, bracket_opens, bracket_closes, bracket_inside, bracket_in_first, bracket_in_second, bracket_in_first_of_three, bracket_in_second_of_three, bracket_in_third_of_three)
