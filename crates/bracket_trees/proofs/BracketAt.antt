@@ -27,26 +27,30 @@ bracket_from p (text l) b none = elim none [ ]
 bracket_from p (pair k o i c) b (inl first) = ap (λ (x : Bracket). is_before x.place p) first ∙ not_before_itself p
 bracket_from p (pair k o i c) b (inr later) =
     not_before_front b.place p (wide o)
-    (elim (IsAmong-append b (tree_tokens (inside_start p o) i) (closing_brackets (inside_end p o i) k c) later)
-    [ inl in_it ↦ bracket_from (inside_start p o) i b in_it
-    | inr last ↦ not_before_front b.place (inside_start p o) (tree_length i) (closing_from (inside_end p o i) k c b last) ])
+    (elim (IsAmong-append b (tree_tokens (inside_start p o) i) (closing_brackets (inside_end p o i) k c) later) [
+      | inl in_it ↦ bracket_from (inside_start p o) i b in_it
+      | inr last ↦ not_before_front b.place (inside_start p o) (tree_length i) (closing_from (inside_end p o i) k c b last)
+    ])
 bracket_from p (stray k w) b h = lone_from p w k false b h
 bracket_from p (capped k w) b h = lone_from p w k true b h
 bracket_from p nothing b none = elim none [ ]
 bracket_from p (two x y) b h =
     let r = length_plus p (tree_length x) in
-    elim (IsAmong-append b (tree_tokens p x) (tree_tokens r y) h)
-    [ inl in_x ↦ bracket_from p x b in_x
-    | inr in_y ↦ not_before_front b.place p (tree_length x) (bracket_from r y b in_y) ]
+    elim (IsAmong-append b (tree_tokens p x) (tree_tokens r y) h) [
+      | inl in_x ↦ bracket_from p x b in_x
+      | inr in_y ↦ not_before_front b.place p (tree_length x) (bracket_from r y b in_y)
+    ]
 bracket_from p (three x y z) b h =
     let r = length_plus p (tree_length x) in
     let s = length_plus r (tree_length y) in
-    elim (IsAmong-append b (tree_tokens p x) (tree_tokens r y ++ tree_tokens s z) h)
-    [ inl in_x ↦ bracket_from p x b in_x
-    | inr later ↦ not_before_front b.place p (tree_length x)
-      (elim (IsAmong-append b (tree_tokens r y) (tree_tokens s z) later)
-      [ inl in_y ↦ bracket_from r y b in_y
-      | inr in_z ↦ not_before_front b.place r (tree_length y) (bracket_from s z b in_z) ]) ]
+    elim (IsAmong-append b (tree_tokens p x) (tree_tokens r y ++ tree_tokens s z) h) [
+      | inl in_x ↦ bracket_from p x b in_x
+      | inr later ↦ not_before_front b.place p (tree_length x)
+          (elim (IsAmong-append b (tree_tokens r y) (tree_tokens s z) later) [
+            | inl in_y ↦ bracket_from r y b in_y
+            | inr in_z ↦ not_before_front b.place r (tree_length y) (bracket_from s z b in_z)
+          ])
+    ]
 
 before_wide : (p : Length) (w : ℕ) → 0 < w → is_before p (length_plus p (wide w)) ≡ true
 before_wide p w h = before_units p (wide w) (omega arith)
@@ -70,27 +74,31 @@ bracket_ends p (pair k o i c) b h (inl first) =
     (ap (λ (x : Bracket). is_before x.place (inside_start p o)) first ∙ before_wide p o h.0.opening)))
 bracket_ends p (pair k o i c) b h (inr later) =
     before_pair_end b.place p k o i c
-    (elim (IsAmong-append b (tree_tokens (inside_start p o) i) (closing_brackets (inside_end p o i) k c) later)
-    [ inl in_it ↦ before_more b.place (inside_end p o i) (wide (width_of c)) (bracket_ends (inside_start p o) i b h.1 in_it)
-    | inr last ↦ closing_ends (inside_end p o i) k c b h.0.closing last ])
+    (elim (IsAmong-append b (tree_tokens (inside_start p o) i) (closing_brackets (inside_end p o i) k c) later) [
+      | inl in_it ↦ before_more b.place (inside_end p o i) (wide (width_of c)) (bracket_ends (inside_start p o) i b h.1 in_it)
+      | inr last ↦ closing_ends (inside_end p o i) k c b h.0.closing last
+    ])
 bracket_ends p (stray k w) b h there = lone_ends p w k false b h.wide there
 bracket_ends p (capped k w) b h there = lone_ends p w k true b h.wide there
 bracket_ends p nothing b h none = elim none [ ]
 bracket_ends p (two x y) b h there =
     let r = length_plus p (tree_length x) in
     before_two_end b.place p x y
-    (elim (IsAmong-append b (tree_tokens p x) (tree_tokens r y) there)
-    [ inl in_x ↦ before_more b.place r (tree_length y) (bracket_ends p x b h.1.0 in_x)
-    | inr in_y ↦ bracket_ends r y b h.1.1 in_y ])
+    (elim (IsAmong-append b (tree_tokens p x) (tree_tokens r y) there) [
+      | inl in_x ↦ before_more b.place r (tree_length y) (bracket_ends p x b h.1.0 in_x)
+      | inr in_y ↦ bracket_ends r y b h.1.1 in_y
+    ])
 bracket_ends p (three x y z) b h there =
     let r = length_plus p (tree_length x) in
     let s = length_plus r (tree_length y) in
     before_three_end b.place p x y z
-    (elim (IsAmong-append b (tree_tokens p x) (tree_tokens r y ++ tree_tokens s z) there)
-    [ inl in_x ↦ before_more b.place s (tree_length z) (before_more b.place r (tree_length y) (bracket_ends p x b h.1.0 in_x))
-    | inr later ↦ elim (IsAmong-append b (tree_tokens r y) (tree_tokens s z) later)
-      [ inl in_y ↦ before_more b.place s (tree_length z) (bracket_ends r y b h.1.1.0 in_y)
-      | inr in_z ↦ bracket_ends s z b h.1.1.1 in_z ] ])
+    (elim (IsAmong-append b (tree_tokens p x) (tree_tokens r y ++ tree_tokens s z) there) [
+      | inl in_x ↦ before_more b.place s (tree_length z) (before_more b.place r (tree_length y) (bracket_ends p x b h.1.0 in_x))
+      | inr later ↦ elim (IsAmong-append b (tree_tokens r y) (tree_tokens s z) later) [
+        | inl in_y ↦ before_more b.place s (tree_length z) (bracket_ends r y b h.1.1.0 in_y)
+        | inr in_z ↦ bracket_ends s z b h.1.1.1 in_z
+      ]
+    ])
 
 -- a part that starts behind the place, or that ends at the place or before it, has no bracket there
 none_behind : (p : Length) (t : Tree) (q : Length) → is_before q p ≡ true → NoBracketAt p t q
