@@ -165,7 +165,7 @@ fn before_two(alloc: Global, grown: Grown, c: Shared, d: Shared) -> Result<Grown
     }
 }
 
-fn is_nothing(list: &Shared) -> bool
+pub(crate) fn is_nothing(list: &Shared) -> bool
     ensures { result ≡ is_nothing list.now.value }
 {
     let inner: &Inner = list;

@@ -1,10 +1,12 @@
 -- Sets of kinds, and the stacks whose brackets are of these kinds.
-use Rattle.std.proofs.Common.{◌≡◌, ◌<◌, max, ◌||◌, ℕ, suc, ◌^◌, ◌≢◌, true, false, eqb, Option, Some, None, List, [], ◌∷◌, refl, ap, sym, ◌∙◌, arith, inl, inr}
-use Rattle.std.specs.Prelude.{is_some, bit_or}
+use Rattle.std.proofs.Common.{◌≡◌, ◌<◌, max, min, ◌||◌, ℕ, zero, suc, ◌^◌, ◌≢◌, true, false, eqb, Option, Some, None, List, [], ◌∷◌, refl, ap, sym, ◌∙◌, arith, inl, inr}
+use Rattle.std.specs.Prelude.{is_some, bit_or, bit_and}
 use Rattle.std.specs.Option.{option_map}
 use Rattle.std.specs.Int.{bit_at}
 use Rattle.std.proofs.lemmas.Bool.Decides.{eqb_tells, nat_tests}
-use Rattle.std.proofs.lemmas.Nat.Bits.{bit_at-zero, bit_at_or, bit_at-pow_same, bit_at-pow_other, bit_at-lt}
+use Rattle.std.proofs.lemmas.Nat.{and_le_l}
+use Rattle.std.proofs.lemmas.Grind.{common_steps}
+use Rattle.std.proofs.lemmas.Nat.Bits.{bit_at-zero, bit_at_or, bit_at_and, same_from_bits_below, bit_at-pow_same, bit_at-pow_other, bit_at-lt}
 use Rattle.bracket_rules.specs.Parse.{Bracket, depth_of}
 use Rattle.bracket_trees.specs.Told.{has_kind, with_kind, IsStack}
 
@@ -31,6 +33,27 @@ has_kind-with_kind kinds k j h = elim (eqb_tells j k) [
   | inl same ↦ rw same.1 (has_kind-with_same kinds k)
   | inr differ ↦ has_kind-with_other kinds k j differ.1 ∙ h
 ]
+
+-- two sets have no kind in common where their bits have none
+has_kind-apart : (a b k : ℕ) → min (bit_at a k) (bit_at b k) ≡ 0 → has_kind a k ≡ true → has_kind b k ≡ false
+has_kind-apart a b k h e = grind (arith, nat_tests, common_steps)
+
+pub kinds_apart : (a b : ℕ) → bit_and a b ≡ 0 → (k : ℕ) → has_kind a k ≡ true → has_kind b k ≡ false
+kinds_apart a b h k e =
+    has_kind-apart a b k (sym (bit_at_and a b k) ∙ ap (λ (n : ℕ). bit_at n k) h ∙ bit_at-zero k) e
+
+no_common_bit : (m n : ℕ) → m < 2 → n < 2 → (eqb m 1 ≡ true → eqb n 1 ≡ false) → min m n ≡ 0
+no_common_bit zero n h k apart = omega arith
+no_common_bit (suc zero) zero h k apart = omega arith
+no_common_bit (suc zero) (suc zero) h k apart = let no = apart refl in cc
+no_common_bit (suc zero) (suc (suc n)) h k apart = absurd (omega arith)
+no_common_bit (suc (suc m)) n h k apart = absurd (omega arith)
+
+pub apart_kinds : (a b : ℕ) → a < 2 ^ 64 → ((k : ℕ) → has_kind a k ≡ true → has_kind b k ≡ false) → bit_and a b ≡ 0
+apart_kinds a b fits apart =
+    let below = and_le_l a b in
+    same_from_bits_below 64 (bit_and a b) 0 (omega arith) (omega arith)
+    (λ k h. bit_at_and a b k ∙ no_common_bit (bit_at a k) (bit_at b k) (bit_at-lt a k) (bit_at-lt b k) (apart k) ∙ sym (bit_at-zero k))
 
 is_some-map : (o : Option ℕ) → is_some (option_map suc o) ≡ is_some o
 is_some-map None = refl

@@ -7,3 +7,5 @@ pub mod Telling
 pub mod Levels
 pub mod Whole
 pub mod Places
+pub mod Longest
+pub mod BracketAt

@@ -4,3 +4,4 @@ pub mod Items
 pub mod Told
 pub mod Places
 mod Examples
+pub mod Found
