@@ -8,9 +8,10 @@ use Rattle.bracket_trees.specs.Tree.{text, wide}
 use Rattle.bracket_trees.specs.Told.{Fits}
 use Rattle.text_lengths.specs.Length.{length_of}
 use Rattle.bracket_trees.proofs.Glue.{empty_glue}
+use Rattle.bracket_trees.proofs.LineWeights.{AreCovered-same}
 use Rattle.bracket_nodes.specs.declared.scanned.ScannedLine.{ScannedLine}
 use Rattle.bracket_nodes.specs.Source.{GivesNode, GivesBracket}
-use Rattle.bracket_nodes.specs.ScannedLines.{moved_back, rows_left, bound_left, ahead_of}
+use Rattle.bracket_nodes.specs.ScannedLines.{moved_back, rows_left, line_weight, scanned_weights, ahead_of}
 
 -- ---- lines
 
@@ -66,22 +67,22 @@ fits_text kinds level lines columns h = record {
   room = omega arith;
 }
 
-bound_cut : (c d n : ℕ) (lines : List ScannedLine) → c ≤ d → d ≤ n → (d - c) + bound_left d n lines ≤ bound_left c n lines
-bound_cut c d n [] h k = omega arith
-bound_cut c d n (l ∷ lines) h k = omega arith
+weight_cut : (c d n : ℕ) (lines : List ScannedLine) → c ≤ d → d ≤ n → (d - c) + line_weight (n - d) lines ≤ line_weight (n - c) lines
+weight_cut c d n [] h k = omega arith
+weight_cut c d n (l ∷ lines) h k = omega arith
 
 pub gives_gap : (c d n kinds level : ℕ) (ts : List Token) (lines : List ScannedLine) → level ≤ MOST_OPEN → c < d → AreInLine d n ts
     → GivesNode (ahead_of c ts n lines) (ahead_of d ts n lines) kinds level (text (wide (d - c)))
 gives_gap c d n kinds level ts lines room h k =
     let below : c ≤ d = omega arith in
     let within = line_end d n ts k in
-    let bound = bound_cut c d n lines below within in
+    let weight = weight_cut c d n lines below within in
     record {
       tree = inl (refl, omega arith);
       some = refl;
       fits = fits_text kinds level 0 (d - c) room;
       spells = cut c d n [] ts ts lines below within (sym (shifted-moved_back c d n ts below k));
-      weighs = omega arith;
+      weighs = (omega arith, AreCovered-same (scanned_weights lines));
       rest = HasRow-rows_left d ts n lines;
     }
 
@@ -95,7 +96,7 @@ gives_bracket c n t ts lines h k =
     let below : c ≤ c + t.len = omega arith in
     let width : (c + t.len) - c ≡ t.len = omega arith in
     let start : t.at - c ≡ 0 = omega arith in
-    let bound = bound_cut c (c + t.len) n lines below within in
+    let weight = weight_cut c (c + t.len) n lines below within in
     record {
       has_kind = k.2;
       wide = k.1;
@@ -104,7 +105,7 @@ gives_bracket c n t ts lines h k =
           (ap (λ (m : ℕ). token m t.len t.kind t.opening ∷ moved_back c ts) start
           ∙ ap (λ (x : List Token). token 0 t.len t.kind t.opening ∷ x) (sym (shifted-moved_back c (c + t.len) n ts below line)))
           ∙ ap (λ (m : ℕ). glue (row (token 0 t.len t.kind t.opening ∷ []) m ∷ []) (rows_left (c + t.len) ts n lines)) width;
-      weighs = omega arith;
+      weighs = (omega arith, AreCovered-same (scanned_weights lines));
       rest = HasRow-rows_left (c + t.len) ts n lines;
     }
 
@@ -115,7 +116,7 @@ gives_break c n kinds level l lines room = record {
   some = refl;
   fits = fits_text kinds level 1 0 room;
   spells = ap (λ (x : List Row). empty_row ∷ x) (sym (empty_glue (rows_left 0 l.tokens.items l.columns lines) (HasRow-rows_left 0 l.tokens.items l.columns lines)));
-  weighs = omega arith;
+  weighs = (omega arith, omega arith, AreCovered-same (scanned_weights lines));
   rest = HasRow-rows_left 0 l.tokens.items l.columns lines;
 }
 
