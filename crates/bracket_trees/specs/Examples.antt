@@ -1,11 +1,12 @@
 -- Worked examples of what a tree shows, as computed theorems. Places are (lines, columns) from (0, 0).
-use Rattle.std.specs.Prelude.{◌≡◌, ℕ, [], ◌∷◌, Some, refl}
+use Rattle.std.specs.Prelude.{◌≡◌, ℕ, ◌≤◌, [], ◌∷◌, Some, refl}
 use Rattle.text_lengths.specs.Length.{length_of}
 use Rattle.bracket_rules.specs.declared.Entry.{Entry}
 use Rattle.bracket_rules.specs.declared.Status.{Status}
 use Rattle.bracket_rules.specs.declared.Status.TheVariants.{PairedOpening, PairedClosing, Unexpected}
 use Rattle.bracket_rules.specs.Parse.{entries_of}
-use Rattle.bracket_trees.specs.Tree.{pair, stray, capped, tree_story}
+use Rattle.bracket_trees.specs.Tree.{text, pair, stray, capped, three, tree_story}
+use Rattle.bracket_trees.specs.Weights.{glue_weights, tree_weights, AreCovered}
 use Rattle.bracket_trees.specs.Places.{touched}
 
 abbrev entry : ℕ → ℕ → ℕ → ℕ → Status → ℕ → Entry
@@ -34,3 +35,18 @@ a_break_ends_the_line_it_touches = refl
 
 two_breaks_and_a_letter_touch_three_lines : touched (length_of 2 1) ≡ 3
 two_breaks_and_a_letter_touch_three_lines = refl
+
+-- the line that the break ends goes on to the next one, which begins with nothing
+a_break_weighs_in_the_line_it_ends : tree_weights (text (length_of 1 0)) ≡ 1 ∷ 0 ∷ []
+a_break_weighs_in_the_line_it_ends = refl
+
+-- `(ab`, a break and `c)`
+a_pair_over_two_lines_weighs_in_both :
+    tree_weights (pair 0 1 (three (text (length_of 0 2)) (text (length_of 1 0)) (text (length_of 0 1))) (Some 1)) ≡ 4 ∷ 2 ∷ []
+a_pair_over_two_lines_weighs_in_both = refl
+
+weights_of_one_line_add : glue_weights (2 ∷ 3 ∷ []) (4 ∷ 1 ∷ []) ≡ 2 ∷ 7 ∷ 1 ∷ []
+weights_of_one_line_add = refl
+
+no_line_is_missing : AreCovered (3 ∷ 2 ∷ []) (4 ∷ []) ≡ ((3 ≤ 4) × ⊥)
+no_line_is_missing = refl
