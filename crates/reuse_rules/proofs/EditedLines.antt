@@ -7,8 +7,8 @@ use Rattle.bracket_rules.specs.Rows.{Row, row, text_rows}
 use Rattle.bracket_rules.specs.Table.{Table, tokens_of}
 use Rattle.mark_rules.specs.declared.Mark.{Mark}
 use Rattle.mark_rules.specs.declared.Mark.TheVariants.{Kept, New}
-use Rattle.mark_rules.specs.Marks.{mark_at, edited_marks}
-use Rattle.mark_rules.proofs.MarkLaws.{Rises-edited}
+use Rattle.mark_rules.specs.Marks.{mark_at, kept_marks, clean_marks, edited_marks}
+use Rattle.mark_rules.proofs.MarkLaws.{length-kept_marks, Rises-edited, Rises-clean}
 use Rattle.reuse_rules.specs.Agreement.{Alike, GoOnAlike, BeginsAlike, Agrees}
 use Rattle.reuse_rules.specs.Edits.{IsEdited}
 
@@ -182,3 +182,42 @@ module _ (old : List Row) (table : Table) (first n m : ℕ) (marks : List Mark) 
         begins = subst BeginsAlike (sym parts) (begins_edited (first - 1) n m marks edit.more (omega arith) agrees.begins);
         kept = kept_edited;
       }
+
+-- ---- after a parse
+
+kept_at : (number n m : ℕ) → m < n → slice_index_or (kept_marks number n) m New ≡ Kept (number + m)
+kept_at number zero m h = absurd (omega arith)
+kept_at number (suc n) zero h = ap Kept (omega arith)
+kept_at number (suc n) (suc m) h = kept_at (suc number) n m (omega arith) ∙ ap Kept (omega arith)
+
+number_of : Mark → ℕ
+number_of (Kept i) = i
+number_of New = 0
+
+go_on_same : (rows : List Row) → GoOnAlike rows rows
+go_on_same [] = tt
+go_on_same (r ∷ rows) = tt
+
+alike_same : (rows : List Row) → 0 < length rows → Alike 1 rows rows
+alike_same [] h = absurd (omega arith)
+alike_same (r ∷ rows) h = (refl, (go_on_same rows, tt))
+
+begins_clean : (n : ℕ) → BeginsAlike (clean_marks n)
+begins_clean zero = tt
+begins_clean (suc n) = refl
+
+-- a text agrees with itself where every line is kept
+pub Agrees-clean : (rows : List Row) → Agrees rows (clean_marks (length rows)) rows
+unfolding number_of
+Agrees-clean rows = record {
+  count = length-kept_marks 1 (length rows);
+  rises = Rises-clean (length rows);
+  begins = begins_clean (length rows);
+  kept = λ j i h e.
+      let counted = length-kept_marks 1 (length rows) in
+      let here : slice_index_or (kept_marks 1 (length rows)) (j + 1 - 1) New ≡ Kept (1 + (j + 1 - 1)) = kept_at 1 (length rows) (j + 1 - 1) (omega arith) in
+      let numbers : 1 + (j + 1 - 1) ≡ i + 1 = ap number_of (sym here ∙ e) in
+      let same : j ≡ i = omega arith in
+      let left = length-drop j rows in
+      subst (λ (k : ℕ). Alike 1 (drop k rows) (drop j rows)) same (alike_same (drop j rows) (omega arith));
+}
