@@ -1,5 +1,5 @@
 -- Worked examples of the definitions.
-use Rattle.std.specs.Prelude.{◌≡◌, ℕ, List, [], ◌∷◌, codes, false, refl}
+use Rattle.std.specs.Prelude.{◌≡◌, ℕ, [], ◌∷◌, codes, false, refl}
 use Rattle.text_rules.specs.declared.Op.{Op}
 use Rattle.undo_rules.specs.Stack.{Step}
 use Rattle.document_rules.specs.Document.{FlatChange}

@@ -1,4 +1,4 @@
-use Rattle.std.proofs.Common.{◌≡◌, ◌+◌, ◌≤◌, length, true, ap, sym, subst, ◌∙◌, Ok, arith}
+use Rattle.std.proofs.Common.{◌≡◌, ◌+◌, ◌*◌, ◌≤◌, length, true, ap, sym, subst, ◌∙◌, Ok, arith}
 use Rattle.std.proofs.lemmas.Grind.{common_steps}
 use Rattle.std.specs.List.{All}
 use Rattle.unit_text.specs.Units.{IsPaired}
@@ -66,7 +66,8 @@ returns-clause-pieces c =
     let ok = accepted x c.args.ops.now c.in_ok-batch.batch rule in
     let count : length c.in_ok-batch.batch ≡ length c.args.ops.now = ap length ok.in_order ∙ length-sorted_ops c.args.ops.now in
     let before : length c.self.inside.text.spans ≡ c.args.self.now.pieces = ap (λ (m : ModelState). m.pieces) c.self.view_is in
-    omega (arith, c.apply.ensures.pieces, ap length c.ops-2.ensures.ops, count, ap length c.reserve-2.ensures.spans, before)
+    let grown : length c.apply.new.text.spans ≤ length c.self.inside.text.spans + 6 * length c.in_ok-batch.batch = grind (arith, common_steps) in
+    omega (arith, grown, count, before)
 
 pub returns-clause-paired : goal.returns-clause-paired
 returns-clause-paired c =
