@@ -1,6 +1,6 @@
 //! The document and its calls.
 
-ghost use Rattle.std.specs.Prelude.{◌≡◌, ◌-◌, [], true, false, List, length, IfSome, OnOk, OnErr, Ok, Err};
+ghost use Rattle.std.specs.Prelude.{◌≡◌, ◌≤◌, ◌-◌, [], true, false, List, length, IfSome, OnOk, OnErr, Ok, Err};
 ghost use Rattle.std.specs.List.{All};
 ghost use Rattle.text_buffer.specs.Costs.{WithinLookUps};
 ghost use Rattle.unit_text.specs.Units.{IsPaired};
@@ -99,6 +99,7 @@ impl Model {
         ensures paired_state { IsPaired text.now → IsPairedState self.old.document
             → IsPairedState self.new.document }
         ensures fresh { KeptAfter result self.old.fresh self.new.fresh }
+        ensures pieces { OnOk result (self.new.pieces ≤ 1) }
         ensures kept_pieces { OnErr result (self.new.pieces ≡ self.old.pieces) }
     {
         if text.len() as u64 > MOST_TEXT_UNITS {

@@ -62,7 +62,8 @@ impl TextBuffer {
 
     /// A buffer of this text.
     pub fn of_units(alloc: Global, units: &[u16]) -> Result<TextBuffer, AllocError>
-        ensures { IfOk result (λ text. text.units ≡ units.now) }
+        ensures units { IfOk result (λ text. text.units ≡ units.now) }
+        ensures spans { IfOk result (λ text. length text.spans ≤ 1) }
     {
         let mut pieces = PieceTree::new(alloc);
         let mut chunks = Chunks::new(alloc);
