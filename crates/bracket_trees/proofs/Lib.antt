@@ -1,6 +1,7 @@
 pub mod Glue
 pub mod ItemLists
 pub mod Weights
+pub mod LineWeights
 pub mod TreeParse
 pub mod KindSets
 pub mod Telling

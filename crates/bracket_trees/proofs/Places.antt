@@ -1,8 +1,6 @@
 -- What stands at a place of a tree takes its rows from there on, and where it ends something else begins.
-use Rattle.std.proofs.Common.{◌≡◌, ℕ, zero, suc, ◌+◌, ◌-◌, ◌<◌, ◌≤◌, ◌⊎◌, Bool, cond, true, false, Option, Some, None, List, [], ◌∷◌, ◌++◌, length, drop, refl, ap, sym, ◌∙◌, subst, arith, inl, inr, add-zero, zero-add, add_assoc}
-use Rattle.std.specs.Prelude.{nat_lt}
+use Rattle.std.proofs.Common.{◌≡◌, ℕ, zero, suc, ◌+◌, ◌-◌, ◌<◌, ◌≤◌, ◌⊎◌, Bool, true, false, Option, Some, None, List, [], ◌∷◌, ◌++◌, drop, refl, ap, sym, ◌∙◌, subst, arith, inl, inr}
 use Rattle.std.proofs.lemmas.Bool.{lt-ltb, le-ltb, cases_lt}
-use Rattle.std.proofs.lemmas.Grind.{common_steps}
 use Rattle.text_lengths.specs.declared.Length.{Length}
 use Rattle.text_lengths.specs.Length.{length_of, no_length, length_plus}
 use Rattle.text_lengths.proofs.Lengths.{same_length, none_plus, plus_none, length_plus_assoc}
@@ -10,7 +8,7 @@ use Rattle.bracket_rules.specs.declared.Token.{Token}
 use Rattle.bracket_rules.specs.Table.{token}
 use Rattle.bracket_rules.specs.Parse.{Bracket, bracket}
 use Rattle.bracket_rules.specs.Rows.{HasRow, Row, row, empty_row, shifted, joined_row, glue, rows_length}
-use Rattle.bracket_trees.specs.Tree.{Tree, text, pair, stray, capped, nothing, two, three, wide, width_of, tree_length, tree_tokens, tree_rows, gap_rows, bracket_row, closing_rows, closing_brackets, inside_start, inside_end, IsTree, IsWidth}
+use Rattle.bracket_trees.specs.Tree.{Tree, text, pair, stray, capped, nothing, two, three, wide, tree_length, tree_tokens, tree_rows, gap_rows, bracket_row, closing_rows, closing_brackets, inside_start, inside_end, IsTree, IsWidth}
 use Rattle.bracket_trees.specs.Places.{IsHere, HasNode, IsAmong, HasBracket, IsEdge, at_text, at_bracket, at_end, later_brackets, from_column, rows_from, AreBefore, IsBounded}
 use Rattle.bracket_trees.proofs.Glue.{HasRow-glue, glue_empty, empty_glue, glue_assoc, rows_length-glue, HasRow-tree_rows, rows_length-tree}
 
@@ -252,26 +250,30 @@ bracket_stands : (p : Length) (t : Tree) (b : Bracket) → IsTree t → HasBrack
 bracket_stands p (text l) b h none = elim none [ ]
 bracket_stands p (pair k o i c) b h (inl e) = at_opening k o i c p b.place (row_of b) (lone_stands b p o k true e)
 bracket_stands p (pair k o i c) b h (inr later) =
-    elim (IsAmong-append b (tree_tokens (inside_start p o) i) (closing_brackets (inside_end p o i) k c) later)
-    [ inl in_it ↦ inside_pair k o i c p b.place (row_of b) h (bracket_stands (inside_start p o) i b h.1 in_it)
-    | inr last ↦ at_closing k o i c p b.place (row_of b) h (closing_stands b (inside_end p o i) k c last) ]
+    elim (IsAmong-append b (tree_tokens (inside_start p o) i) (closing_brackets (inside_end p o i) k c) later) [
+      | inl in_it ↦ inside_pair k o i c p b.place (row_of b) h (bracket_stands (inside_start p o) i b h.1 in_it)
+      | inr last ↦ at_closing k o i c p b.place (row_of b) h (closing_stands b (inside_end p o i) k c last)
+    ]
 bracket_stands p (stray k w) b h there = one_stands b p w k false there
 bracket_stands p (capped k w) b h there = one_stands b p w k true there
 bracket_stands p nothing b h none = elim none [ ]
 bracket_stands p (two x y) b h there =
-    elim (IsAmong-append b (tree_tokens p x) (tree_tokens (length_plus p (tree_length x)) y) there)
-    [ inl in_x ↦ stand_before (tree_rows x) (tree_rows y) p b.place (row_of b) (bracket_stands p x b h.1.0 in_x)
-    | inr in_y ↦ behind_tree x (tree_rows y) p b.place (row_of b) h.1.0 (bracket_stands (length_plus p (tree_length x)) y b h.1.1 in_y) ]
+    elim (IsAmong-append b (tree_tokens p x) (tree_tokens (length_plus p (tree_length x)) y) there) [
+      | inl in_x ↦ stand_before (tree_rows x) (tree_rows y) p b.place (row_of b) (bracket_stands p x b h.1.0 in_x)
+      | inr in_y ↦ behind_tree x (tree_rows y) p b.place (row_of b) h.1.0 (bracket_stands (length_plus p (tree_length x)) y b h.1.1 in_y)
+    ]
 bracket_stands p (three x y z) b h there =
     let q = length_plus p (tree_length x) in
     let r = length_plus q (tree_length y) in
-    elim (IsAmong-append b (tree_tokens p x) (tree_tokens q y ++ tree_tokens r z) there)
-    [ inl in_x ↦ stand_before (glue (tree_rows x) (tree_rows y)) (tree_rows z) p b.place (row_of b)
-        (stand_before (tree_rows x) (tree_rows y) p b.place (row_of b) (bracket_stands p x b h.1.0 in_x))
-    | inr later ↦ elim (IsAmong-append b (tree_tokens q y) (tree_tokens r z) later)
-      [ inl in_y ↦ stand_before (glue (tree_rows x) (tree_rows y)) (tree_rows z) p b.place (row_of b)
-          (behind_tree x (tree_rows y) p b.place (row_of b) h.1.0 (bracket_stands q y b h.1.1.0 in_y))
-      | inr in_z ↦ in_third x y z p b.place (row_of b) h (bracket_stands r z b h.1.1.1 in_z) ] ]
+    elim (IsAmong-append b (tree_tokens p x) (tree_tokens q y ++ tree_tokens r z) there) [
+      | inl in_x ↦ stand_before (glue (tree_rows x) (tree_rows y)) (tree_rows z) p b.place (row_of b)
+          (stand_before (tree_rows x) (tree_rows y) p b.place (row_of b) (bracket_stands p x b h.1.0 in_x))
+      | inr later ↦ elim (IsAmong-append b (tree_tokens q y) (tree_tokens r z) later) [
+        | inl in_y ↦ stand_before (glue (tree_rows x) (tree_rows y)) (tree_rows z) p b.place (row_of b)
+            (behind_tree x (tree_rows y) p b.place (row_of b) h.1.0 (bracket_stands q y b h.1.1.0 in_y))
+        | inr in_z ↦ in_third x y z p b.place (row_of b) h (bracket_stands r z b h.1.1.1 in_z)
+      ]
+    ]
 
 -- ---- the rows from a place on, where something stands there
 
@@ -285,14 +287,14 @@ Stands-begins whole q rows h b s =
     let at : rows_length s.before ≡ q = sym (none_plus (rows_length s.before)) ∙ s.place in
     let front = glue s.before rows in
     let front_length : rows_length front ≡ length_plus q (rows_length rows) =
-        rows_length-glue s.before rows h ∙ ap (λ (l : Length). length_plus l (rows_length rows)) at in
+    rows_length-glue s.before rows h ∙ ap (λ (l : Length). length_plus l (rows_length rows)) at in
     let first : rows_from q whole ≡ glue rows s.after =
-        ap (λ (l : Length). rows_from l whole) (sym at) ∙ ap (rows_from (rows_length s.before)) s.spells
-        ∙ rows_from-glue s.before (glue rows s.after) s.has_before (HasRow-glue rows s.after h) s.bounded in
+    ap (λ (l : Length). rows_from l whole) (sym at) ∙ ap (rows_from (rows_length s.before)) s.spells
+    ∙ rows_from-glue s.before (glue rows s.after) s.has_before (HasRow-glue rows s.after h) s.bounded in
     let second : rows_from (length_plus q (rows_length rows)) whole ≡ s.after =
-        ap (λ (l : Length). rows_from l whole) (sym front_length)
-        ∙ ap (rows_from (rows_length front)) (s.spells ∙ sym (glue_assoc s.before rows s.after))
-        ∙ rows_from-glue front s.after (HasRow-glue s.before rows s.has_before) s.has_after (IsBounded-glue s.before rows s.bounded b) in
+    ap (λ (l : Length). rows_from l whole) (sym front_length)
+    ∙ ap (rows_from (rows_length front)) (s.spells ∙ sym (glue_assoc s.before rows s.after))
+    ∙ rows_from-glue front s.after (HasRow-glue s.before rows s.has_before) s.has_after (IsBounded-glue s.before rows s.bounded b) in
     record { here = first ∙ ap (glue rows) (sym second); rest = subst HasRow (sym second) s.has_after }
 
 -- every node of a tree is a tree
@@ -455,26 +457,30 @@ edge_after_bracket p (pair k o i c) b (inl first) =
     subst (IsEdge p (pair k o i c)) (sym (ap (λ (x : Bracket). length_plus x.place (wide x.len)) first))
     (edge_in_pair k o i c p (inside_start p o) (edge_at_start (inside_start p o) i))
 edge_after_bracket p (pair k o i c) b (inr later) =
-    elim (IsAmong-append b (tree_tokens (inside_start p o) i) (closing_brackets (inside_end p o i) k c) later)
-    [ inl in_it ↦ edge_in_pair k o i c p (length_plus b.place (wide b.len)) (edge_after_bracket (inside_start p o) i b in_it)
-    | inr last ↦ edge_after_closing b p k o i c last ]
+    elim (IsAmong-append b (tree_tokens (inside_start p o) i) (closing_brackets (inside_end p o i) k c) later) [
+      | inl in_it ↦ edge_in_pair k o i c p (length_plus b.place (wide b.len)) (edge_after_bracket (inside_start p o) i b in_it)
+      | inr last ↦ edge_after_closing b p k o i c last
+    ]
 edge_after_bracket p (stray k w) b h = edge_after_lone b p w k false (stray k w) refl h
 edge_after_bracket p (capped k w) b h = edge_after_lone b p w k true (capped k w) refl h
 edge_after_bracket p nothing b none = elim none [ ]
 edge_after_bracket p (two x y) b h =
     let q = length_plus b.place (wide b.len) in
-    elim (IsAmong-append b (tree_tokens p x) (tree_tokens (length_plus p (tree_length x)) y) h)
-    [ inl in_x ↦ edge_in_first x y p q (edge_at_start (length_plus p (tree_length x)) y) (edge_after_bracket p x b in_x)
-    | inr in_y ↦ edge_in_second x y p q (edge_after_bracket (length_plus p (tree_length x)) y b in_y) ]
+    elim (IsAmong-append b (tree_tokens p x) (tree_tokens (length_plus p (tree_length x)) y) h) [
+      | inl in_x ↦ edge_in_first x y p q (edge_at_start (length_plus p (tree_length x)) y) (edge_after_bracket p x b in_x)
+      | inr in_y ↦ edge_in_second x y p q (edge_after_bracket (length_plus p (tree_length x)) y b in_y)
+    ]
 edge_after_bracket p (three x y z) b h =
     let q = length_plus b.place (wide b.len) in
     let r = length_plus p (tree_length x) in
     let s = length_plus r (tree_length y) in
-    elim (IsAmong-append b (tree_tokens p x) (tree_tokens r y ++ tree_tokens s z) h)
-    [ inl in_x ↦ edge_in_front x y z p q (edge_at_start s z) (edge_at_start r y) (edge_after_bracket p x b in_x)
-    | inr later ↦ elim (IsAmong-append b (tree_tokens r y) (tree_tokens s z) later)
-      [ inl in_y ↦ edge_in_middle x y z p q (edge_at_start s z) (edge_after_bracket r y b in_y)
-      | inr in_z ↦ edge_in_last x y z p q (edge_after_bracket s z b in_z) ] ]
+    elim (IsAmong-append b (tree_tokens p x) (tree_tokens r y ++ tree_tokens s z) h) [
+      | inl in_x ↦ edge_in_front x y z p q (edge_at_start s z) (edge_at_start r y) (edge_after_bracket p x b in_x)
+      | inr later ↦ elim (IsAmong-append b (tree_tokens r y) (tree_tokens s z) later) [
+        | inl in_y ↦ edge_in_middle x y z p q (edge_at_start s z) (edge_after_bracket r y b in_y)
+        | inr in_z ↦ edge_in_last x y z p q (edge_after_bracket s z b in_z)
+      ]
+    ]
 
 -- lines start at edges: a text does not go on behind a break
 pub edge_at_line : (p : Length) (t : Tree) (line : ℕ) → IsTree t → p.lines < line → line ≤ p.lines + (tree_length t).lines → IsEdge p t (length_of line 0)
@@ -489,14 +495,17 @@ edge_at_line p (stray k w) line t h g = absurd (omega arith)
 edge_at_line p (capped k w) line t h g = absurd (omega arith)
 edge_at_line p nothing line t h g = absurd (omega arith)
 edge_at_line p (two a b) line t h g =
-    elim (cases_lt (p.lines + (tree_length a).lines) line)
-    [ inl behind ↦ edge_in_second a b p (length_of line 0) (edge_at_line (length_plus p (tree_length a)) b line t.1.1 behind (omega arith))
-    | inr within ↦ edge_in_first a b p (length_of line 0) (edge_at_start (length_plus p (tree_length a)) b) (edge_at_line p a line t.1.0 h within) ]
+    elim (cases_lt (p.lines + (tree_length a).lines) line) [
+      | inl behind ↦ edge_in_second a b p (length_of line 0) (edge_at_line (length_plus p (tree_length a)) b line t.1.1 behind (omega arith))
+      | inr within ↦ edge_in_first a b p (length_of line 0) (edge_at_start (length_plus p (tree_length a)) b) (edge_at_line p a line t.1.0 h within)
+    ]
 edge_at_line p (three a b c) line t h g =
     let r = length_plus p (tree_length a) in
     let s = length_plus r (tree_length b) in
-    elim (cases_lt (p.lines + (tree_length a).lines) line)
-    [ inl behind ↦ elim (cases_lt (p.lines + (tree_length a).lines + (tree_length b).lines) line)
-      [ inl last ↦ edge_in_last a b c p (length_of line 0) (edge_at_line s c line t.1.1.1 last (omega arith))
-      | inr in_b ↦ edge_in_middle a b c p (length_of line 0) (edge_at_start s c) (edge_at_line r b line t.1.1.0 behind in_b) ]
-    | inr within ↦ edge_in_front a b c p (length_of line 0) (edge_at_start s c) (edge_at_start r b) (edge_at_line p a line t.1.0 h within) ]
+    elim (cases_lt (p.lines + (tree_length a).lines) line) [
+      | inl behind ↦ elim (cases_lt (p.lines + (tree_length a).lines + (tree_length b).lines) line) [
+        | inl last ↦ edge_in_last a b c p (length_of line 0) (edge_at_line s c line t.1.1.1 last (omega arith))
+        | inr in_b ↦ edge_in_middle a b c p (length_of line 0) (edge_at_start s c) (edge_at_line r b line t.1.1.0 behind in_b)
+      ]
+      | inr within ↦ edge_in_front a b c p (length_of line 0) (edge_at_start s c) (edge_at_start r b) (edge_at_line p a line t.1.0 h within)
+    ]

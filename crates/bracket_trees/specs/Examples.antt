@@ -1,5 +1,5 @@
 -- Worked examples of what a tree shows, as computed theorems. Places are (lines, columns) from (0, 0).
-use Rattle.std.specs.Prelude.{◌≡◌, ℕ, false, [], ◌∷◌, Some, refl}
+use Rattle.std.specs.Prelude.{◌≡◌, ℕ, ◌≤◌, false, [], ◌∷◌, Some, refl}
 use Rattle.std.proofs.Common.{inl, inr}
 use Rattle.text_lengths.specs.Length.{length_of, no_length}
 use Rattle.bracket_rules.specs.declared.Entry.{Entry}
@@ -7,7 +7,8 @@ use Rattle.bracket_rules.specs.declared.Status.{Status}
 use Rattle.bracket_rules.specs.declared.Status.TheVariants.{PairedOpening, PairedClosing, Unexpected}
 use Rattle.bracket_rules.specs.Table.{token}
 use Rattle.bracket_rules.specs.Parse.{entries_of}
-use Rattle.bracket_trees.specs.Tree.{text, pair, stray, capped, tree_story}
+use Rattle.bracket_trees.specs.Tree.{text, pair, stray, capped, three, tree_story}
+use Rattle.bracket_trees.specs.Weights.{glue_weights, tree_weights, AreCovered}
 use Rattle.bracket_trees.specs.Places.{touched}
 use Rattle.bracket_trees.specs.Found.{IsTokenAt}
 
@@ -42,3 +43,18 @@ two_breaks_and_a_letter_touch_three_lines = refl
 a_bracket_closes_at_column_2 :
     IsTokenAt no_length (pair 0 1 (text (length_of 0 1)) (Some 1)) (length_of 0 2) (token 2 1 0 false)
 a_bracket_closes_at_column_2 = record { stands = inr (inl refl); column = refl }
+
+-- the line that the break ends goes on to the next one, which begins with nothing
+a_break_weighs_in_the_line_it_ends : tree_weights (text (length_of 1 0)) ≡ 1 ∷ 0 ∷ []
+a_break_weighs_in_the_line_it_ends = refl
+
+-- `(ab`, a break and `c)`
+a_pair_over_two_lines_weighs_in_both :
+    tree_weights (pair 0 1 (three (text (length_of 0 2)) (text (length_of 1 0)) (text (length_of 0 1))) (Some 1)) ≡ 4 ∷ 2 ∷ []
+a_pair_over_two_lines_weighs_in_both = refl
+
+weights_of_one_line_add : glue_weights (2 ∷ 3 ∷ []) (4 ∷ 1 ∷ []) ≡ 2 ∷ 7 ∷ 1 ∷ []
+weights_of_one_line_add = refl
+
+no_line_is_missing : AreCovered (3 ∷ 2 ∷ []) (4 ∷ []) ≡ ((3 ≤ 4) × ⊥)
+no_line_is_missing = refl

@@ -1,6 +1,7 @@
 pub mod Tree
 pub mod TreeCode
 pub mod Items
+pub mod Weights
 pub mod Told
 pub mod Places
 mod Examples

@@ -10,10 +10,7 @@ ghost use Rattle.text_rules.specs.Breaks.{joins_pair, count_to, break_ends, ends
 use line_starts::{count_breaks, find_break_ends};
 use std::alloc::{AllocError, Global};
 use std::marker::Model;
-
-const LINE_FEED: u16 = 10;
-
-const CARRIAGE_RETURN: u16 = 13;
+use unit_text::{CARRIAGE_RETURN, LINE_FEED};
 
 const PADDING: u16 = 0x5F;
 

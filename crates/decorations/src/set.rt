@@ -1,10 +1,10 @@
 //! The set.
 
-ghost use Rattle.std.specs.Prelude.{◌≡◌, ◌≤◌, ◌<◌, ◌^◌, ◌++◌, length, map, take, vec_len, ◌⊎◌, IsOk, OnOk, OnErr, IfErr};
+ghost use Rattle.std.specs.Prelude.{◌≡◌, ◌≤◌, ◌<◌, ◌^◌, ◌++◌, length, map, take, vec_len, IsOk, OnOk, OnErr, IfErr};
 ghost use Rattle.std.specs.List.{All, filter};
 ghost use Rattle.decoration_rules.specs.Moves.{offset_limit, moved_mark};
 ghost use Rattle.decoration_rules.specs.Marks.{in_order};
-ghost use Rattle.decoration_rules.specs.Decorations.{no_decorations, IsSound, deco_of, deco_at, is_of, decos_in, decorated, Decorates};
+ghost use Rattle.decoration_rules.specs.Decorations.{no_decorations, IsSound, deco_of, deco_at, is_of, decos_in, decorated, RefusedFor, Decorates};
 
 use crate::changes::{add_all, any_is_bad, is_too_much, named_once, owns_all, remove_all};
 use decoration_rules::{Deco, DecoError, Edit, Mark, NewDeco};
@@ -77,7 +77,8 @@ impl DecoSet {
         text: &F,
     ) -> Result<(), DecoError>
         ensures ok { OnOk result (IsOk (decorated self.now owner remove.now add.now (F.units text.now))) }
-        ensures err { IfErr result (λ e. (e ≡ DecoError.Memory) ⊎ (decorated self.now owner remove.now add.now (F.units text.now) ≡ Err e)) }
+        ensures err { IfErr result (λ e. RefusedFor e
+            (decorated self.now owner remove.now add.now (F.units text.now))) }
     {
         if !owns_all(&self.tree, owner, remove) {
             return Err(DecoError::Unknown);

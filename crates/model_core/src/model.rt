@@ -10,7 +10,7 @@ ghost use Rattle.document_rules.specs.Outcomes.{Changes, ChangesWith, Moves, App
 ghost use Rattle.bracket_rules.specs.Table.{standard_table};
 ghost use Rattle.document_rules.specs.Brackets.{flat_brackets, flat_match, flat_level, IsSmall};
 ghost use Rattle.document_rules.specs.Paired.{IsPairedState};
-ghost use Rattle.model_core.specs.State.{KeptAfter, KeptAfterMove};
+ghost use Rattle.model_core.specs.State.{KeptAfter, KeptAfterMove, GrownAfter, GrownAfterMove, next_op_count};
 ghost use Rattle.document_rules.specs.Document.{new_document, flat_open, flat_edit, flat_stop, flat_undo, flat_redo, flat_decorate, flat_deco, flat_decos, flat_line, flat_value, flat_position, flat_offset, flat_line_count};
 ghost use Rattle.model_core.specs.Errors.{error_of, refusal_of};
 
@@ -21,7 +21,7 @@ use bracket_nodes::{Entry, Node};
 use bracket_scan::BracketTable;
 use decorations::{Deco, DecoError, DecoSet, NewDeco};
 use document_rules::ModelError;
-use edit_batches::{Batch, BatchError, MOST_UNITS};
+use edit_batches::{Batch, BatchError, MOST_TEXT_UNITS};
 use edit_stack::EditStack;
 use std::alloc::Global;
 use std::sync::ledger::Ledger;
@@ -78,6 +78,7 @@ impl Model {
     pub fn new(alloc: Global) -> Model
         ensures document { result.document ≡ new_document [] standard_table }
         ensures fresh { result.fresh ≡ false }
+        ensures pieces { result.pieces ≡ 0 }
     {
         Model {
             alloc,
@@ -98,8 +99,9 @@ impl Model {
         ensures paired_state { IsPaired text.now → IsPairedState self.old.document
             → IsPairedState self.new.document }
         ensures fresh { KeptAfter result self.old.fresh self.new.fresh }
+        ensures kept_pieces { OnErr result (self.new.pieces ≡ self.old.pieces) }
     {
-        if text.len() as u64 > MOST_UNITS {
+        if text.len() as u64 > MOST_TEXT_UNITS {
             return Err(ModelError::Limit);
         }
         let text = TextBuffer::of_units(self.alloc, text).map_err(|_| ModelError::Memory)?;
@@ -124,6 +126,7 @@ impl Model {
         ensures paired_state { All (λ op. IsPaired op.text) ops.now
             → IsPairedState self.old.document → IsPairedState self.new.document }
         ensures fresh { KeptAfter result self.old.fresh self.new.fresh }
+        ensures pieces { GrownAfter (length ops.now) result self.old.pieces self.new.pieces }
     {
         let batch = Batch::checked(self.alloc, ops, &self.text).map_err(error_of)?;
         let version = raised(self.version, 1).ok_or(ModelError::Limit)?;
@@ -148,6 +151,7 @@ impl Model {
         ensures document { self.new.document ≡ flat_stop self.old.document }
         ensures paired_state { IsPairedState self.old.document → IsPairedState self.new.document }
         ensures fresh { self.new.fresh ≡ self.old.fresh }
+        ensures pieces { self.new.pieces ≡ self.old.pieces }
     {
         self.history.stop();
     }
@@ -158,6 +162,8 @@ impl Model {
         ensures document { Moves result self.old.document self.new.document (flat_undo self.old.document) }
         ensures paired_state { IsPairedState self.old.document → IsPairedState self.new.document }
         ensures fresh { KeptAfterMove result self.old.fresh self.new.fresh }
+        ensures pieces { GrownAfterMove (next_op_count self.old.document.history.undo) result
+            self.old.pieces self.new.pieces }
     {
         let Some(step) = self.history.undo_next() else {
             return Ok(false);
@@ -179,6 +185,8 @@ impl Model {
         ensures document { Moves result self.old.document self.new.document (flat_redo self.old.document) }
         ensures paired_state { IsPairedState self.old.document → IsPairedState self.new.document }
         ensures fresh { KeptAfterMove result self.old.fresh self.new.fresh }
+        ensures pieces { GrownAfterMove (next_op_count self.old.document.history.redo) result
+            self.old.pieces self.new.pieces }
     {
         let Some(step) = self.history.redo_next() else {
             return Ok(false);
@@ -208,6 +216,7 @@ impl Model {
             (flat_decorate self.old.document owner remove.now add.now) }
         ensures paired_state { IsPairedState self.old.document → IsPairedState self.new.document }
         ensures fresh { self.new.fresh ≡ self.old.fresh }
+        ensures pieces { self.new.pieces ≡ self.old.pieces }
     {
         self.decorations
             .delta(owner, remove, add, &self.text)
@@ -262,6 +271,7 @@ impl Model {
         ensures small { (entries : List Entry) → flat_brackets self.old.document from to ≡ Ok entries
             → OnOk result (All (λ e. IsSmall e.place) entries) }
         ensures document { self.new.document ≡ self.old.document }
+        ensures pieces { self.new.pieces ≡ self.old.pieces }
         ensures fresh { OnOk result (self.new.fresh ≡ true) }
         ensures kept { OnErr result (self.new.fresh ≡ self.old.fresh) }
     {
@@ -290,6 +300,7 @@ impl Model {
     pub fn match_at(&mut self, p: Position) -> Result<Option<(Position, u64)>, ModelError>
         ensures partner { Gives result (flat_match self.old.document p) }
         ensures document { self.new.document ≡ self.old.document }
+        ensures pieces { self.new.pieces ≡ self.old.pieces }
         ensures fresh { OnOk result (self.new.fresh ≡ true) }
         ensures kept { OnErr result (self.new.fresh ≡ self.old.fresh) }
         ensures sure { self.old.fresh ≡ true → ¬ (result ≡ Err ModelError.Memory) }
@@ -309,6 +320,7 @@ impl Model {
     pub fn level_at(&mut self, p: Position) -> Result<u64, ModelError>
         ensures level { Gives result (flat_level self.old.document p) }
         ensures document { self.new.document ≡ self.old.document }
+        ensures pieces { self.new.pieces ≡ self.old.pieces }
         ensures fresh { OnOk result (self.new.fresh ≡ true) }
         ensures kept { OnErr result (self.new.fresh ≡ self.old.fresh) }
         ensures sure { self.old.fresh ≡ true → ¬ (result ≡ Err ModelError.Memory) }

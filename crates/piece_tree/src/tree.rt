@@ -112,6 +112,14 @@ impl PieceTree {
         found(at)
     }
 
+    /// The first piece; None where there is none.
+    pub fn first(&self) -> Option<(PieceId, ChunkSpan)>
+        ensures { result ≡ first_of self.now.entries }
+    {
+        let first = self.tree.first()?;
+        Some((first, self.tree.get(first).span))
+    }
+
     /// The piece after the one of this name.
     pub fn next(&self, id: PieceId) -> Option<(PieceId, ChunkSpan)>
         requires { IsAmong self.now.entries id }

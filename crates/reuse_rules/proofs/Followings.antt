@@ -5,7 +5,7 @@ use Rattle.std.proofs.lemmas.List.{length-drop, drop-drop, get_or-drop}
 use Rattle.std.proofs.lemmas.Bool.{le-ltb, lt-ltb}
 use Rattle.text_lengths.specs.declared.Length.{Length}
 use Rattle.text_lengths.specs.Length.{length_of, no_length, length_plus}
-use Rattle.text_lengths.proofs.Lengths.{same_length, none_plus}
+use Rattle.text_lengths.proofs.Lengths.{same_length}
 use Rattle.bracket_rules.specs.declared.Token.{Token}
 use Rattle.bracket_rules.specs.Table.{token}
 use Rattle.bracket_rules.specs.Rows.{HasRow, Row, row, empty_row, glue, rows_length}
@@ -21,7 +21,7 @@ use Rattle.mark_rules.specs.Marks.{mark_at, kept_run}
 use Rattle.reuse_rules.specs.Agreement.{Alike, Agrees}
 use Rattle.reuse_rules.specs.Reuse.{IsKeptAs}
 use Rattle.reuse_rules.specs.Following.{Reached, Follows}
-use Rattle.reuse_rules.proofs.Agreements.{LeftAfter, taken_again}
+use Rattle.reuse_rules.proofs.Agreements.{taken_again}
 use Rattle.reuse_rules.proofs.KeptRuns.{kept_run_alike, kept_run_mark, kept_run_rest}
 
 -- ---- what was read, and what is ahead

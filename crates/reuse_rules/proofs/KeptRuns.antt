@@ -1,5 +1,5 @@
 -- A run of kept lines is a run of alike rows.
-use Rattle.std.proofs.Common.{◌≡◌, ℕ, zero, suc, ◌+◌, ◌-◌, ◌<◌, ◌≤◌, eqb, cond, true, false, Bool, List, [], ◌∷◌, length, drop, refl, ap, sym, ◌∙◌, subst, arith}
+use Rattle.std.proofs.Common.{◌≡◌, ℕ, zero, suc, ◌+◌, ◌-◌, ◌<◌, eqb, cond, true, false, Bool, List, [], ◌∷◌, length, drop, refl, ap, sym, ◌∙◌, subst, arith}
 use Rattle.std.specs.Prelude.{slice_index_or}
 use Rattle.std.proofs.lemmas.Bool.{eqb-true}
 use Rattle.std.proofs.lemmas.List.{get_or-drop, length-drop}
@@ -7,7 +7,7 @@ use Rattle.bracket_rules.specs.Rows.{Row}
 use Rattle.mark_rules.specs.declared.Mark.{Mark}
 use Rattle.mark_rules.specs.declared.Mark.TheVariants.{Kept, New}
 use Rattle.mark_rules.specs.Marks.{mark_at, numbered, kept_run}
-use Rattle.reuse_rules.specs.Agreement.{Alike, GoOnAlike, Agrees}
+use Rattle.reuse_rules.specs.Agreement.{Alike, Agrees}
 
 -- the marks of a run, and that it lies within the marks
 record IsKeptAt (number : ℕ) (marks : List Mark) (m : ℕ) : Type 0 where

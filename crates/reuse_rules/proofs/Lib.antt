@@ -1,3 +1,4 @@
 pub mod Agreements
 pub mod KeptRuns
 pub mod Followings
+pub mod EditedLines

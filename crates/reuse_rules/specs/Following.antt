@@ -1,5 +1,5 @@
 -- A reader that has come to a place of the text of now, and follows the old text there.
-use Rattle.std.specs.Prelude.{◌≡◌, ℕ, ◌<◌, List, drop}
+use Rattle.std.specs.Prelude.{◌≡◌, ℕ, List, drop}
 use Rattle.text_lengths.specs.declared.Length.{Length}
 use Rattle.text_lengths.specs.Length.{length_of, no_length}
 use Rattle.bracket_rules.specs.Rows.{HasRow, Row, glue, rows_length}

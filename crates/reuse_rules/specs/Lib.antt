@@ -1,3 +1,4 @@
 pub mod Agreement
 pub mod Reuse
 pub mod Following
+pub mod Edits

@@ -2,4 +2,5 @@ pub mod Lines
 pub mod Breaks
 pub mod Positions
 pub mod Edits
+pub mod Dirty
 mod Examples
