@@ -59,8 +59,9 @@ struct Room {
 }
 
 impl Node {
-    /// The longest node at this place that may be taken where so many lines are left and brackets of
-    /// these kinds are open, `level` of them. The tree starts at the start of a text.
+    /// The longest node at this place that may be taken where so many lines are left and brackets
+    /// of these kinds are open, `level` of them; None where there is no such node. The tree starts
+    /// at the start of a text, and places are counted from there. Takes no memory.
     pub fn longest_at(
         &self,
         place: Length,
@@ -68,7 +69,7 @@ impl Node {
         opened: Kinds,
         level: u64,
     ) -> Option<NodeRef<'_>>
-        ensures some { IfSome result (λ node. IsLongest no_length self.now place lines opened level node) }
+        ensures some { IfSome result (IsLongest no_length self.now place lines opened level) }
         ensures none { IfNone result (NoneMayBeTaken no_length self.now place lines opened level) }
     {
         let start = Length {
@@ -84,11 +85,11 @@ impl Node {
         longest_from(&self.inner, start, &place, &room)
     }
 
+    /// The bracket that starts at this place, as one of its line; None where none does. The tree
+    /// starts at the start of a text, and places are counted from there. Takes no memory.
     #[tactic(auto, using(bracket_trees::proofs::BracketAt::no_bracket_found))]
-    /// The bracket that starts at this place, as one of its line. The tree starts at the start of a
-    /// text.
     pub fn bracket_at(&self, place: Length) -> Option<Token>
-        ensures some { IfSome result (λ found. IsTokenAt no_length self.now place found) }
+        ensures some { IfSome result (IsTokenAt no_length self.now place) }
         ensures none { IfNone result (NoBracketAt no_length self.now place) }
     {
         let start = Length {
@@ -109,7 +110,8 @@ fn longest_from<'a>(
     room: &Room,
 ) -> Option<NodeRef<'a>>
     requires { start.lines + start.columns + weight inner.now.value < 2 ^ 64 }
-    ensures { IsNodeFound start inner.now.value place.now room.now.lines room.now.opened room.now.level result }
+    ensures { IsNodeFound start inner.now.value place.now
+        room.now.lines room.now.opened room.now.level result }
 {
     if is_taken_here(inner, &start, place, room) {
         return Some(NodeRef { inner });
@@ -143,14 +145,15 @@ fn longest_from<'a>(
 }
 
 fn is_taken_here(inner: &Shared, start: &Length, place: &Length, room: &Room) -> bool
-    ensures { IsTrue result
-        ↔ IsTakenHere start.now inner.now.value place.now room.now.lines room.now.opened room.now.level }
+    ensures { IsTrue result ↔ IsTakenHere start.now inner.now.value place.now
+        room.now.lines room.now.opened room.now.level }
 {
     start == place && may_be_taken(inner, room)
 }
 
 fn may_be_taken(inner: &Shared, room: &Room) -> bool
-    ensures { IsTrue result ↔ MayBeTaken room.now.lines room.now.opened room.now.level inner.now.value }
+    ensures { IsTrue result
+        ↔ MayBeTaken room.now.lines room.now.opened room.now.level inner.now.value }
 {
     !is_nothing(inner) && is_within(&inner.kept().length, room.lines) && fits(inner, room)
 }

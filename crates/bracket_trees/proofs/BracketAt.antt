@@ -7,7 +7,7 @@ use Rattle.bracket_rules.specs.declared.Token.{Token}
 use Rattle.bracket_rules.specs.Parse.{Bracket, bracket}
 use Rattle.bracket_trees.specs.Tree.{Tree, text, pair, stray, capped, nothing, two, three, wide, width_of, tree_length, tree_tokens, closing_brackets, inside_start, inside_end, IsTree, IsWidth}
 use Rattle.bracket_trees.specs.Places.{IsAmong, HasBracket}
-use Rattle.bracket_trees.specs.Found.{token_at, IsTokenAt, NoBracketAt, IsBracketFound}
+use Rattle.bracket_trees.specs.Found.{token_at, NoBracketAt, IsBracketFound}
 use Rattle.bracket_trees.proofs.Places.{IsAmong-append, IsAmong-left, IsAmong-right}
 use Rattle.bracket_trees.proofs.Longest.{before_more, not_before_front, before_units, not_before_itself, not_both, before_pair_end, before_two_end, before_three_end}
 

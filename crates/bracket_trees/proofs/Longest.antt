@@ -1,12 +1,12 @@
 -- The walk down to the longest node at a place: of the parts of a list only one has nodes there that may be taken.
-use Rattle.std.proofs.Common.{◌≡◌, ℕ, ◌+◌, ◌<◌, ◌⊎◌, Bool, true, false, Option, Some, None, refl, ap, sym, ◌∙◌, subst, arith, inl, inr}
+use Rattle.std.proofs.Common.{◌≡◌, ℕ, ◌<◌, Bool, true, false, Option, Some, None, refl, ap, sym, ◌∙◌, subst, arith, inl, inr}
 use Rattle.std.proofs.lemmas.Bool.Decides.{nat_tests}
 use Rattle.std.proofs.lemmas.Grind.{common_steps}
 use Rattle.text_lengths.specs.declared.Length.{Length}
 use Rattle.text_lengths.specs.Length.{length_plus, is_before}
 use Rattle.text_lengths.proofs.Lengths.{length_plus_assoc}
 use Rattle.bracket_trees.specs.Tree.{Tree, text, pair, stray, capped, nothing, two, three, wide, width_of, tree_length, inside_start, inside_end, is_nothing, IsGap, IsTree}
-use Rattle.bracket_trees.specs.Places.{IsHere, HasNode, MayBeTaken, IsLongest, NoneMayBeTaken}
+use Rattle.bracket_trees.specs.Places.{IsHere, HasNode, MayBeTaken, IsLongest}
 use Rattle.bracket_trees.specs.Found.{IsTakenHere, IsNodeFound}
 use Rattle.bracket_trees.proofs.Weights.{units_of}
 use Rattle.bracket_trees.proofs.Levels.{not_before_later}
