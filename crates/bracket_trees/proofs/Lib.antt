@@ -8,3 +8,4 @@ pub mod Telling
 pub mod Levels
 pub mod Whole
 pub mod Places
+pub mod PlaceWeights

@@ -207,7 +207,7 @@ node_stands p (three a b c) q n h (inr (inr (inl in_b))) =
 node_stands p (three a b c) q n h (inr (inr (inr in_c))) =
     in_third a b c p q (tree_rows n) h (node_stands (length_plus (length_plus p (tree_length a)) (tree_length b)) c q n h.1.1.1 in_c)
 
-IsAmong-append : (b : Bracket) (xs ys : List Bracket) → IsAmong b (xs ++ ys) → IsAmong b xs ⊎ IsAmong b ys
+pub IsAmong-append : (b : Bracket) (xs ys : List Bracket) → IsAmong b (xs ++ ys) → IsAmong b xs ⊎ IsAmong b ys
 IsAmong-append b [] ys h = inr h
 IsAmong-append b (x ∷ xs) ys (inl first) = inl (inl first)
 IsAmong-append b (x ∷ xs) ys (inr later) = elim (IsAmong-append b xs ys later) [ inl in_xs ↦ inl (inr in_xs) | inr in_ys ↦ inr in_ys ]
