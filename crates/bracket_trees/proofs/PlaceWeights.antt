@@ -2,6 +2,7 @@
 use Rattle.std.proofs.Common.{◌≡◌, ℕ, zero, suc, ◌+◌, ◌<◌, ◌≤◌, ◌⊎◌, Bool, true, false, Option, Some, None, List, [], ◌∷◌, ◌++◌, get_or, refl, ap, sym, ◌∙◌, subst, arith, inl, inr, append_assoc, add-zero, zero-add, add_assoc}
 use Rattle.std.specs.Prelude.{⊤}
 use Rattle.std.proofs.lemmas.Bool.{lt-ltb, le-ltb, eq-eqb, ne_eqb, cases_lt}
+use Rattle.std.proofs.lemmas.Bool.Decides.{eqb_tells}
 use Rattle.std.proofs.lemmas.List.{append-nil}
 use Rattle.text_lengths.specs.declared.Length.{Length}
 use Rattle.text_lengths.specs.Length.{length_of, no_length, length_plus}
@@ -9,7 +10,7 @@ use Rattle.text_lengths.proofs.Lengths.{same_length, plus_none, length_plus_asso
 use Rattle.bracket_rules.specs.Parse.{Bracket, bracket}
 use Rattle.bracket_trees.specs.Tree.{Tree, text, pair, stray, capped, nothing, two, three, wide, width_of, tree_length, tree_tokens, closing_brackets, inside_start, inside_end, IsTree, IsWidth, IsGap}
 use Rattle.bracket_trees.specs.Places.{IsHere, HasNode, IsAmong, HasBracket}
-use Rattle.bracket_trees.specs.Weights.{glue_weights, tree_weights, Leaf, leaf, closing_leaves, leaves, leaf_left, left_of, lines_of, left_from, line_weight, weights_left}
+use Rattle.bracket_trees.specs.Weights.{glue_weights, tree_weights, Leaf, leaf, closing_leaves, leaves, leaf_left, left_of, lines_of, left_from, weight_left, line_weight, weights_left}
 use Rattle.bracket_trees.proofs.LineWeights.{HasWeight-tree, glue_zero, zero_glue, glue_weights-assoc}
 use Rattle.bracket_trees.proofs.Places.{IsAmong-append, IsTree-node}
 
@@ -547,3 +548,21 @@ line_weight-is t line h within =
     ap (λ (ws : List ℕ). get_or ws line 0) (weights_by_place t h)
     ∙ get_or-lines_of 0 (suc count) line (leaves no_length t) (omega arith)
     ∙ ap (λ (n : ℕ). line_weight t n) (zero-add line)
+
+-- what is left of a line is no more than the line
+leaf_within : (q : Length) (x : Leaf) → leaf_left q x ≤ leaf_left (length_of q.lines 0) x
+leaf_within q x =
+    elim (eqb_tells x.place.lines q.lines) [
+      | inl here ↦ elim (cases_lt x.place.columns q.columns) [
+        | inl passed ↦ omega (arith, leaf_before q x (inr (here.1, passed)))
+        | inr left ↦ omega (arith, leaf_whole q x here.1 left, leaf_whole (length_of q.lines 0) x here.1 (omega arith))
+      ]
+      | inr elsewhere ↦ omega (arith, leaf_elsewhere q x elsewhere.1)
+    ]
+
+left_within : (q : Length) (xs : List Leaf) → left_of q xs ≤ left_of (length_of q.lines 0) xs
+left_within q [] = omega arith
+left_within q (x ∷ xs) = omega (arith, leaf_within q x, left_within q xs)
+
+pub weight_left-within : (t : Tree) (q : Length) → weight_left t q ≤ line_weight t q.lines
+weight_left-within t q = left_within q (leaves no_length t)
