@@ -12,7 +12,7 @@ use Rattle.bracket_trees.proofs.Glue.{empty_glue}
 use Rattle.bracket_trees.proofs.LineWeights.{AreCovered-same}
 use Rattle.bracket_nodes.specs.declared.scanned.ScannedLine.{ScannedLine}
 use Rattle.bracket_nodes.specs.Source.{GivesNode, GivesBracket}
-use Rattle.bracket_nodes.specs.ScannedLines.{moved_back, rows_left, line_weight, scanned_weights, ahead_of}
+use Rattle.bracket_nodes.specs.ScannedLines.{moved_back, rows_left, with_break, scanned_weights, ahead_of}
 
 -- ---- lines
 
@@ -68,11 +68,11 @@ fits_text kinds level lines columns h = record {
   room = omega arith;
 }
 
-weight_cut : (c d n : ℕ) (lines : List ScannedLine) → c ≤ d → d ≤ n → (d - c) + line_weight (n - d) lines ≤ line_weight (n - c) lines
+weight_cut : (c d n : ℕ) (lines : List ScannedLine) → c ≤ d → d ≤ n → (d - c) + with_break (n - d) lines ≤ with_break (n - c) lines
 weight_cut c d n [] h k = omega arith
 weight_cut c d n (l ∷ lines) h k = omega arith
 
-pub weight_start : (n : ℕ) (lines : List ScannedLine) → line_weight (n - 0) lines ≡ line_weight n lines
+pub weight_start : (n : ℕ) (lines : List ScannedLine) → with_break (n - 0) lines ≡ with_break n lines
 weight_start n [] = omega arith
 weight_start n (l ∷ lines) = omega arith
 
@@ -139,10 +139,10 @@ token_fits c n t ts h k = let first : c ≤ t.at = k.0 in let rest = line_end (t
 
 -- at the start of the first line all lines weigh what they weigh
 pub whole_weights : (lines : List ScannedLine) (l : ScannedLine) → 0 < length lines → l ≡ get_or lines 0 l
-    → line_weight (l.columns - 0) (take (length lines - 1) (drop 1 lines)) ∷ scanned_weights (take (length lines - 1) (drop 1 lines)) ≡ scanned_weights lines
+    → with_break (l.columns - 0) (take (length lines - 1) (drop 1 lines)) ∷ scanned_weights (take (length lines - 1) (drop 1 lines)) ≡ scanned_weights lines
 whole_weights [] l h e = absurd (omega arith)
 whole_weights (m ∷ lines) l h e =
     let after : take (length (m ∷ lines) - 1) lines ≡ lines = take_rest (m ∷ lines) 1 in
-    ap (λ (x : List ScannedLine). line_weight (l.columns - 0) x ∷ scanned_weights x) after
+    ap (λ (x : List ScannedLine). with_break (l.columns - 0) x ∷ scanned_weights x) after
     ∙ ap (λ (n : ℕ). n ∷ scanned_weights lines) (weight_start l.columns lines)
-    ∙ ap (λ (x : ScannedLine). line_weight x.columns lines ∷ scanned_weights lines) e
+    ∙ ap (λ (x : ScannedLine). with_break x.columns lines ∷ scanned_weights lines) e

@@ -27,24 +27,24 @@ abbrev pub rows_left : ℕ → List Token → ℕ → List ScannedLine → List 
 rows_left column tokens columns [] = row (moved_back column tokens) (columns - column) ∷ []
 rows_left column tokens columns (l ∷ lines) = row (moved_back column tokens) 0 ∷ rows_left 0 l.tokens.items l.columns lines
 
--- what so many columns of a line may weigh, and the break that ends it where more lines follow
-abbrev pub line_weight : ℕ → List ScannedLine → ℕ
-line_weight columns [] = columns
-line_weight columns (l ∷ lines) = columns + 1
+-- what so many columns of a line weigh, with the break that ends it where more lines follow
+abbrev pub with_break : ℕ → List ScannedLine → ℕ
+with_break columns [] = columns
+with_break columns (l ∷ lines) = columns + 1
 
 -- the rows of all lines
 abbrev pub scanned_rows : List ScannedLine → List Row
 scanned_rows [] = empty_row ∷ []
 scanned_rows (l ∷ lines) = rows_left 0 l.tokens.items l.columns lines
 
--- what each line may weigh
+-- what each line weighs
 abbrev pub scanned_weights : List ScannedLine → List ℕ
 scanned_weights [] = []
-scanned_weights (l ∷ lines) = line_weight l.columns lines ∷ scanned_weights lines
+scanned_weights (l ∷ lines) = with_break l.columns lines ∷ scanned_weights lines
 
 abbrev pub ahead_of : ℕ → List Token → ℕ → List ScannedLine → Ahead
 ahead_of column tokens columns lines = record {
   rows = rows_left column tokens columns lines;
-  line = line_weight (columns - column) lines;
+  line = with_break (columns - column) lines;
   later = scanned_weights lines;
 }

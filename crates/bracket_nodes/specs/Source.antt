@@ -19,10 +19,10 @@ pub record Ahead : Type 0 where
   pub line : ℕ
   pub later : List ℕ
 
--- what each line that is left may weigh, and all of them together
 abbrev pub weights_ahead : Ahead → List ℕ
 weights_ahead a = a.line ∷ a.later
 
+-- what all of these lines may weigh together
 unfoldable pub weight_ahead : Ahead → ℕ
 weight_ahead a = sum (weights_ahead a)
 
@@ -78,7 +78,8 @@ abbrev pub IsStop : ℕ → Ahead → Stop → Type 0
 IsStop kinds new AtEnd = IsOver new
 IsStop kinds new (AtClosing kind width) = IsClosing kinds kind width
 
--- the tree is the list of what stands before the stop
+-- The tree is the list of what stands before the stop. Its lines weigh what was to be taken of them, and so does all of it
+-- together.
 pub record Listed (old new : Ahead) (kinds level : ℕ) (t : Tree) (stop : Stop) : Type 0 where
   pub tells : Tells kinds level old.rows (rows_after stop new) (items t)
   pub stops : IsStop kinds new stop

@@ -60,7 +60,8 @@ pub(crate) struct Part {
     pub stop: Stop,
 }
 
-/// The tree of the text that the source has ahead.
+/// The tree of the text that the source has ahead. In no line its leaves weigh more than the source
+/// has there.
 pub fn parse<S: Source>(alloc: Global, source: &mut S) -> Result<Node, AllocError>
     requires some { HasRow (S.ahead source.old).rows }
     requires fits { weight_ahead (S.ahead source.old) < 2 ^ 64 }

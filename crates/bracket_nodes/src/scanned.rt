@@ -82,7 +82,8 @@ impl<'a> Source for ScannedText<'a> {
     }
 }
 
-/// The tree of a text of these lines, of which there is at least one.
+/// The tree of a text of these lines, of which there is at least one. Its leaves weigh no more in a
+/// line than a unit for each column, and one for the break.
 pub fn parse_lines(alloc: Global, lines: &[ScannedLine]) -> Result<Node, AllocError>
     requires some { 0 < length lines.now }
     requires lines { AreLines lines.now }

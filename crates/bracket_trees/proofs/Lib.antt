@@ -10,3 +10,4 @@ pub mod Whole
 pub mod Places
 pub mod Longest
 pub mod BracketAt
+pub mod PlaceWeights

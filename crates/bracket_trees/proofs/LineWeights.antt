@@ -1,5 +1,5 @@
 -- The laws of weights line by line: glued weights, what covers them, and their sums.
-use Rattle.std.proofs.Common.{◌≡◌, ℕ, zero, suc, ◌+◌, ◌≤◌, true, Option, Some, None, List, [], ◌∷◌, ◌++◌, length, sum, refl, ap, sym, ◌∙◌, subst, arith, add-zero, zero-add, add_assoc}
+use Rattle.std.proofs.Common.{◌≡◌, ℕ, zero, suc, ◌+◌, ◌≤◌, true, Option, Some, None, List, [], ◌∷◌, ◌++◌, length, get_or, sum, refl, ap, sym, ◌∙◌, subst, arith, add-zero, zero-add, add_assoc}
 use Rattle.std.specs.Prelude.{⊤}
 use Rattle.std.proofs.lemmas.List.Sums.{sum_by-cons}
 use Rattle.bracket_rules.specs.Rows.{Row, glue}
@@ -82,6 +82,13 @@ AreCovered-glue (v ∷ []) (w ∷ []) (x ∷ b) (y ∷ b') h k =
 AreCovered-glue (v ∷ []) (w ∷ w' ∷ a') b b' h k = elim h.1 [ ]
 AreCovered-glue (v ∷ v' ∷ a) (w ∷ []) b b' h k = elim h.1 [ ]
 AreCovered-glue (v ∷ v' ∷ a) (w ∷ w' ∷ a') b b' h k = (h.0, AreCovered-glue (v' ∷ a) (w' ∷ a') b b' h.1 k)
+
+pub AreCovered-at : (ws vs : List ℕ) (line : ℕ) → AreCovered ws vs → get_or ws line 0 ≤ get_or vs line 0
+AreCovered-at [] [] line h = omega arith
+AreCovered-at [] (v ∷ vs) line h = elim h [ ]
+AreCovered-at (w ∷ ws) [] line h = elim h [ ]
+AreCovered-at (w ∷ ws) (v ∷ vs) zero h = h.0
+AreCovered-at (w ∷ ws) (v ∷ vs) (suc line) h = AreCovered-at ws vs line h.1
 
 pub AreCovered-sum : (ws vs : List ℕ) → AreCovered ws vs → sum ws ≤ sum vs
 AreCovered-sum [] [] h = omega arith
