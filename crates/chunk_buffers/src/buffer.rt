@@ -81,9 +81,11 @@ impl Buffer {
         requires { length (before.now ++ text.now ++ after.now) < self.old.room }
         ensures units { let whole = before.now ++ text.now ++ after.now in
             self.new.units ≡ padded self.old.units whole ++ whole }
-        ensures start { result ≡ length (padded self.old.units (before.now ++ text.now ++ after.now)) }
+        ensures start { result ≡ length
+            (padded self.old.units (before.now ++ text.now ++ after.now)) }
         ensures fits { result + length (before.now ++ text.now ++ after.now) < 2 ^ 63 }
-        ensures room { self.old.room ≤ self.new.room + length (before.now ++ text.now ++ after.now) + 1 }
+        ensures room { self.old.room
+            ≤ self.new.room + length (before.now ++ text.now ++ after.now) + 1 }
     {
         let pair = self.would_make_pair(before, text, after);
         pad(&mut self.units, pair);
@@ -181,7 +183,8 @@ fn begin_with_line_feed(before: &[u16], text: &[u16], after: &[u16]) -> bool
 // One unit that belongs to no text, where it must keep a CR and an LF apart.
 fn pad(units: &mut Vec<u16>, pair: bool)
     requires { vec_len units.old < vec_capacity units.old }
-    ensures items { units.new.items ≡ (if pair then units.old.items ++ padding ∷ [] else units.old.items) }
+    ensures items { units.new.items
+        ≡ (if pair then units.old.items ++ padding ∷ [] else units.old.items) }
     ensures len { vec_len units.new ≤ vec_len units.old + 1 }
     ensures capacity { vec_capacity units.old ≤ vec_capacity units.new }
 {
@@ -191,9 +194,11 @@ fn pad(units: &mut Vec<u16>, pair: bool)
 }
 
 fn push_all(units: &mut Vec<u16>, before: &[u16], text: &[u16], after: &[u16])
-    requires { vec_len units.old + length (before.now ++ text.now ++ after.now) ≤ vec_capacity units.old }
+    requires { vec_len units.old + length (before.now ++ text.now ++ after.now)
+        ≤ vec_capacity units.old }
     ensures items { units.new.items ≡ units.old.items ++ (before.now ++ text.now ++ after.now) }
-    ensures len { vec_len units.new ≡ vec_len units.old + length (before.now ++ text.now ++ after.now) }
+    ensures len { vec_len units.new
+        ≡ vec_len units.old + length (before.now ++ text.now ++ after.now) }
     ensures capacity { vec_capacity units.old ≤ vec_capacity units.new }
 {
     let _ = units.extend_from_slice(before);

@@ -33,7 +33,8 @@ fn owns(tree: &IntervalTree, owner: u64, id: u64) -> bool
 /// Refuses ids of which one is named twice.
 pub(crate) fn named_once(alloc: Global, ids: &[u64]) -> Result<(), DecoError>
     ensures ok { OnOk result (has_repeat ids.now ≡ false) }
-    ensures err { IfErr result (λ e. (e ≡ DecoError.Memory) ⊎ ((e ≡ DecoError.Unknown) × (has_repeat ids.now ≡ true))) }
+    ensures err { IfErr result
+        (λ e. (e ≡ DecoError.Memory) ⊎ ((e ≡ DecoError.Unknown) × (has_repeat ids.now ≡ true))) }
 {
     match has_repeat(alloc, ids) {
         Ok(true) => Err(DecoError::Unknown),
@@ -71,7 +72,8 @@ pub(crate) fn is_too_much(live: u64, removed: u64, added: u64, next_id: u64) -> 
     requires removed { removed ≤ live }
     requires live { live ≤ most_decorations }
     requires next { (1 ≤ next_id) × (next_id ≤ greatest_id + 1) }
-    ensures { result ≡ (nat_lt most_decorations (live - removed + added) || nat_lt greatest_id (next_id + added - 1)) }
+    ensures { result ≡ (nat_lt most_decorations (live - removed + added)
+        || nat_lt greatest_id (next_id + added - 1)) }
 {
     if added > MOST_DECORATIONS - (live - removed) {
         return true;

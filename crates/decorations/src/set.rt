@@ -55,7 +55,8 @@ impl DecoSet {
         text: &F,
     ) -> Result<u64, DecoError>
         requires { length (F.units text.now) < offset_limit }
-        ensures change { Decorates result self.old self.new (decorated self.old owner remove.now add.now (F.units text.now)) }
+        ensures change { Decorates result self.old self.new
+            (decorated self.old owner remove.now add.now (F.units text.now)) }
         ensures sound { IsSound self.new }
     {
         self.check(owner, remove, add, text)?;
@@ -76,7 +77,8 @@ impl DecoSet {
         add: &[NewDeco],
         text: &F,
     ) -> Result<(), DecoError>
-        ensures ok { OnOk result (IsOk (decorated self.now owner remove.now add.now (F.units text.now))) }
+        ensures ok { OnOk result (IsOk
+            (decorated self.now owner remove.now add.now (F.units text.now))) }
         ensures err { IfErr result (λ e. RefusedFor e
             (decorated self.now owner remove.now add.now (F.units text.now))) }
     {
@@ -126,8 +128,10 @@ impl DecoSet {
     /// Each decoration moves, as the text under it is edited.
     pub fn accept(&mut self, edit: &Edit)
         requires upright { edit.now.start ≤ edit.now.end }
-        requires fits { All (λ mark. (moved_mark edit.now mark).span.end < offset_limit) self.old.marks }
-        ensures moved { self.new ≡ record self.old { marks = in_order (map (moved_mark edit.now) self.old.marks) } }
+        requires fits { All (λ mark. (moved_mark edit.now mark).span.end < offset_limit)
+            self.old.marks }
+        ensures moved { self.new ≡ record self.old { marks = in_order
+            (map (moved_mark edit.now) self.old.marks) } }
         ensures sound { IsSound self.new }
     {
         self.tree.accept(edit);
@@ -136,7 +140,8 @@ impl DecoSet {
 
 // After an error some of them stand behind what was there.
 fn push_owned(marks: &[Mark], owner: Option<u64>, out: &mut Vec<Deco>) -> Result<(), AllocError>
-    ensures ok { OnOk result (out.new.items ≡ out.old.items ++ map deco_of (filter (is_of owner) marks.now)) }
+    ensures ok { OnOk result (out.new.items
+        ≡ out.old.items ++ map deco_of (filter (is_of owner) marks.now)) }
     ensures before { take (vec_len out.old) out.new.items ≡ out.old.items }
 {
     for mark in marks {

@@ -40,7 +40,8 @@ pub(crate) fn inverse_of<F: Flat>(
 fn units_between<F: Flat>(alloc: Global, text: &F, span: Span) -> Result<Units, AllocError>
     requires ordered { span.start ≤ span.end }
     requires within { span.end ≤ length (F.units text.now) }
-    ensures { IfOk result (λ units. units ≡ take (span.end - span.start) (drop span.start (F.units text.now))) }
+    ensures { IfOk result (λ units. units
+        ≡ take (span.end - span.start) (drop span.start (F.units text.now))) }
 {
     let mut units = Vec::with_capacity(alloc, (span.end - span.start) as usize)?;
     text.copy(span.start, span.end, &mut units)?;

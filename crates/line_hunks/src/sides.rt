@@ -15,7 +15,8 @@ pub(crate) fn take_lines(back: &mut RunStack, run: Run, lines: u64) -> Run
     requires within { lines ≤ run.lines + lines_in back.old.runs }
     requires range { IsInRange run }
     requires apart { StandsBy run.first back.old.runs }
-    ensures marks { marks_behind result back.new.runs ≡ drop lines (marks_behind run back.old.runs) }
+    ensures marks { marks_behind result back.new.runs
+        ≡ drop lines (marks_behind run back.old.runs) }
     ensures lines { lines_in (result ∷ back.new.runs) + lines ≡ lines_in (run ∷ back.old.runs) }
     ensures range { IsInRange result }
     ensures apart { StandsBy result.first back.new.runs }

@@ -57,7 +57,8 @@ fn scanned_lines(
     table: &BracketTable,
     text: &TextBuffer,
 ) -> Result<Vec<ScannedLine>, AllocError>
-    ensures scans { IfOk result (λ lines. AreScans table.now (line_contents text.now.units) lines.items) }
+    ensures scans { IfOk result
+        (λ lines. AreScans table.now (line_contents text.now.units) lines.items) }
     ensures table { OnOk result (is_table table.now ≡ true) }
 {
     let mut lines = Vec::new(alloc);

@@ -95,7 +95,8 @@ impl Model {
     /// Puts a new document with this text and these brackets in place of the old one. A text above the limit is refused
     /// with `Limit`.
     pub fn open_doc(&mut self, text: &[u16], table: BracketTable) -> Result<(), ModelError>
-        ensures document { Changes result self.old.document self.new.document (flat_open text.now table) }
+        ensures document { Changes result self.old.document self.new.document
+            (flat_open text.now table) }
         ensures paired_state { IsPaired text.now → IsPairedState self.old.document
             → IsPairedState self.new.document }
         ensures fresh { KeptAfter result self.old.fresh self.new.fresh }
@@ -160,7 +161,8 @@ impl Model {
     /// Goes back to the text before the last step, as the next version, and answers whether there was one. `Limit`
     /// where the version would pass its limit. All memory is taken before the first change.
     pub fn undo(&mut self) -> Result<bool, ModelError>
-        ensures document { Moves result self.old.document self.new.document (flat_undo self.old.document) }
+        ensures document { Moves result self.old.document self.new.document
+            (flat_undo self.old.document) }
         ensures paired_state { IsPairedState self.old.document → IsPairedState self.new.document }
         ensures fresh { KeptAfterMove result self.old.fresh self.new.fresh }
         ensures pieces { GrownAfterMove (next_op_count self.old.document.history.undo) result
@@ -183,7 +185,8 @@ impl Model {
     /// Goes on to the text after the step that was undone last, as the next version, and answers whether there was one.
     /// `Limit` where the version would pass its limit. All memory is taken before the first change.
     pub fn redo(&mut self) -> Result<bool, ModelError>
-        ensures document { Moves result self.old.document self.new.document (flat_redo self.old.document) }
+        ensures document { Moves result self.old.document self.new.document
+            (flat_redo self.old.document) }
         ensures paired_state { IsPairedState self.old.document → IsPairedState self.new.document }
         ensures fresh { KeptAfterMove result self.old.fresh self.new.fresh }
         ensures pieces { GrownAfterMove (next_op_count self.old.document.history.redo) result
@@ -213,7 +216,8 @@ impl Model {
         remove: &[u64],
         add: &[NewDeco],
     ) -> Result<u64, ModelError>
-        ensures document { ChangesWith self.old.document.decorations.next_id result self.old.document self.new.document
+        ensures document { ChangesWith self.old.document.decorations.next_id result
+            self.old.document self.new.document
             (flat_decorate self.old.document owner remove.now add.now) }
         ensures paired_state { IsPairedState self.old.document → IsPairedState self.new.document }
         ensures fresh { self.new.fresh ≡ self.old.fresh }
@@ -227,7 +231,8 @@ impl Model {
     /// The live decoration of this id. Its span lies in the text.
     pub fn get_deco(&self, id: u64) -> Option<Deco>
         ensures deco { result ≡ flat_deco self.now.document id }
-        ensures inside { IfSome result (λ deco. IsSpanIn deco.span (length self.now.document.units)) }
+        ensures inside { IfSome result
+            (λ deco. IsSpanIn deco.span (length self.now.document.units)) }
     {
         self.decorations.get(id)
     }
@@ -240,7 +245,8 @@ impl Model {
         owner: Option<u64>,
         out: &mut Vec<Deco>,
     ) -> Result<(), ModelError>
-        ensures decos { Appends result out.old.items out.new.items (flat_decos self.now.document span owner) }
+        ensures decos { Appends result out.old.items out.new.items
+            (flat_decos self.now.document span owner) }
         ensures inside { (decos : List Deco) → flat_decos self.now.document span owner ≡ Ok decos
             → All (λ deco. IsSpanIn deco.span (length self.now.document.units)) decos }
     {
@@ -268,8 +274,10 @@ impl Model {
         to: u64,
         out: &mut Vec<Entry>,
     ) -> Result<(), ModelError>
-        ensures entries { Appends result out.old.items out.new.items (flat_brackets self.old.document from to) }
-        ensures small { (entries : List Entry) → flat_brackets self.old.document from to ≡ Ok entries
+        ensures entries { Appends result out.old.items out.new.items
+            (flat_brackets self.old.document from to) }
+        ensures small { (entries : List Entry)
+            → flat_brackets self.old.document from to ≡ Ok entries
             → OnOk result (All (λ e. IsSmall e.place) entries) }
         ensures document { self.new.document ≡ self.old.document }
         ensures pieces { self.new.pieces ≡ self.old.pieces }

@@ -150,7 +150,8 @@ impl PieceTree {
 
     /// Appends the spans of the pieces in their order. An error leaves `out` as it was.
     pub fn spans(&self, out: &mut Vec<ChunkSpan>) -> Result<(), AllocError>
-        ensures ok { OnOk result (out.new.items ≡ out.old.items ++ map (λ p. p.span) (pieces_of self.now.entries)) }
+        ensures ok { OnOk result (out.new.items
+            ≡ out.old.items ++ map (λ p. p.span) (pieces_of self.now.entries)) }
         ensures err { OnErr result (out.new.items ≡ out.old.items) }
     {
         let before = out.len();

@@ -132,10 +132,13 @@ impl TextBuffer {
         requires within { span.end ≤ length self.old.units }
         requires edits { 0 < self.old.spare_edits }
         requires room { length text.now + 3 ≤ self.old.spare_units }
-        requires small { length (edited self.old.units (record { span = span; text = text.now; force = false })) < 2 ^ 62 }
-        ensures units { self.new.units ≡ edited self.old.units (record { span = span; text = text.now; force = false }) }
+        requires small { length (edited self.old.units
+            (record { span = span; text = text.now; force = false })) < 2 ^ 62 }
+        ensures units { self.new.units
+            ≡ edited self.old.units (record { span = span; text = text.now; force = false }) }
         ensures pieces { length self.new.spans ≤ length self.old.spans + 6 }
-        ensures appended { unit_count self.new.buffers ≤ unit_count self.old.buffers + length text.now + 8 }
+        ensures appended { unit_count self.new.buffers
+            ≤ unit_count self.old.buffers + length text.now + 8 }
         ensures grown { Extends self.old.buffers self.new.buffers }
         ensures spare_edits { self.new.spare_edits + 1 ≡ self.old.spare_edits }
         ensures spare_units { self.old.spare_units ≤ self.new.spare_units + length text.now + 3 }
@@ -157,7 +160,8 @@ impl TextBuffer {
     pub fn line(&self, n: u64, out: &mut Vec<u16>) -> Result<(), AllocError>
         requires first { 0 < n }
         requires there { n ≤ length (lines_of self.now.units) }
-        ensures ok { (line : Line) → line_at self.now.units n ≡ Some line → OnOk result (out.new.items ≡ out.old.items ++ line.content) }
+        ensures ok { (line : Line) → line_at self.now.units n ≡ Some line
+            → OnOk result (out.new.items ≡ out.old.items ++ line.content) }
         ensures err { OnErr result (out.new.items ≡ out.old.items) }
     {
         let Some(start) = start_of_line(&self.pieces, &self.chunks, n) else {
@@ -270,7 +274,9 @@ impl TextBuffer {
         requires first { 0 < line }
         requires there { line ≤ length (lines_of self.now.units) }
         requires start { start ≡ line_start self.now.units line }
-        ensures content { (d : Line) → result ≡ start + length (slice_index_or (lines_of self.now.units) (line - 1) d).content }
+        ensures content { (d : Line)
+            → result ≡ start + length
+            (slice_index_or (lines_of self.now.units) (line - 1) d).content }
         ensures within { result ≤ length self.now.units }
         ensures cost { WithinLookUps 1 (length self.now.spans) (steps.new - steps.old) }
     {
@@ -354,7 +360,8 @@ impl TextBuffer {
     pub fn value(&self, span: Span, out: &mut Vec<u16>) -> Result<(), AllocError>
         requires ordered { span.start ≤ span.end }
         requires within { span.end ≤ length self.now.units }
-        ensures ok { OnOk result (out.new.items ≡ out.old.items ++ take (span.end - span.start) (drop span.start self.now.units)) }
+        ensures ok { OnOk result (out.new.items
+            ≡ out.old.items ++ take (span.end - span.start) (drop span.start self.now.units)) }
         ensures err { OnErr result (out.new.items ≡ out.old.items) }
     {
         out.reserve((span.end - span.start) as usize)?;
@@ -378,7 +385,8 @@ impl TextBuffer {
     fn joins_front(&self, span: Span, text: &[u16]) -> bool
         requires ordered { span.start ≤ span.end }
         requires within { span.end ≤ length self.now.units }
-        ensures { result ≡ joins_pair (take span.start self.now.units) (text.now ++ drop span.end self.now.units) }
+        ensures { result ≡ joins_pair (take span.start self.now.units)
+            (text.now ++ drop span.end self.now.units) }
     {
         if !self.is_carriage_return_before(span.start) {
             return false;
@@ -393,7 +401,8 @@ impl TextBuffer {
     fn joins_back(&self, span: Span, text: &[u16]) -> bool
         requires ordered { span.start ≤ span.end }
         requires within { span.end ≤ length self.now.units }
-        ensures pair { result ≡ joins_pair (take span.start self.now.units ++ text.now) (drop span.end self.now.units) }
+        ensures pair { result ≡ joins_pair (take span.start self.now.units ++ text.now)
+            (drop span.end self.now.units) }
         ensures inside { result ≡ true → span.end < 2 ^ 62 }
     {
         if !self.is_line_feed_at(span.end) {
@@ -484,7 +493,8 @@ fn append_some(
     ensures grown { Extends chunks.old.buffers chunks.new.buffers }
     ensures units { unit_count chunks.new.buffers
         ≤ unit_count chunks.old.buffers + length (before.now ++ text.now ++ after.now) + 1 }
-    ensures spare { chunks.old.spare ≤ chunks.new.spare + length (before.now ++ text.now ++ after.now) + 1 }
+    ensures spare { chunks.old.spare
+        ≤ chunks.new.spare + length (before.now ++ text.now ++ after.now) + 1 }
 {
     if before.is_empty() && text.is_empty() && after.is_empty() {
         return None;
