@@ -16,15 +16,15 @@ loop-turn-init g c =
       refl,
     )
 
-pub returns-in_default-clause-found : goal.returns-in_default-clause-found
-returns-in_default-clause-found g c = λ beside whole made wv le.
-    let t = g.W.Weave in let L = g.met.W.Weave.laws in let l = c.loop-turn in
-    walk_ends t.weaving L t.is_near t.turn c.args.key whole l.at l.by l.before l.last l._turn (128 - l._turn) c.in_default.is (l.invariant.0 beside whole made wv le)
-
-pub returns-in_default-clause-cost : goal.returns-in_default-clause-cost
-returns-in_default-clause-cost g c = λ beside whole made wv le.
-    let t = g.W.Weave in let L = g.met.W.Weave.laws in let l = c.loop-turn in
-    walk_cost t.weaving L t.is_near t.turn c.args.key whole l.at l.by l.before l.last l._turn (128 - l._turn) (l.invariant.0 beside whole made wv le) c.args.steps.now l.steps l.invariant.1
+pub returns-in_default : goal.returns-in_default
+returns-in_default g c = record {
+  found = λ beside whole made wv le.
+      let t = g.W.Weave in let L = g.met.W.Weave.laws in let l = c.loop-turn in
+      walk_ends t.weaving L t.is_near t.turn c.args.key whole l.at l.by l.before l.last l._turn (128 - l._turn) c.in_default.is (l.invariant.0 beside whole made wv le);
+  cost = λ beside whole made wv le.
+      let t = g.W.Weave in let L = g.met.W.Weave.laws in let l = c.loop-turn in
+      walk_cost t.weaving L t.is_near t.turn c.args.key whole l.at l.by l.before l.last l._turn (128 - l._turn) (l.invariant.0 beside whole made wv le) c.args.steps.now l.steps l.invariant.1;
+}
 
 pub visit-requires : goal.visit-requires
 visit-requires g c =
@@ -40,32 +40,26 @@ visit g c beside whole made wv le =
     visits t.weaving L t.is_near t.turn c.args.key beside whole c.args.tree.now.nodes.live c.args.tree.now.root l.at l.by l.before l.last l._turn (128 - l._turn) c.in-Some.id made c.in-Some.is
     c.visit.result.now c.visit.ensures.value wv (l.invariant.0 beside whole made wv le)
 
-pub at_node-item-requires-clause-item : goal.at_node-item-requires-clause-item
-at_node-item-requires-clause-item g c =
+pub at_node-item-requires : goal.at_node-item-requires
+at_node-item-requires g c =
     let t = g.W.Weave in let laws = g.met.W.Weave in let (beside, (whole, made, wv, v, le)) = c.requires in
-    held_item t.weaving laws.laws t.is_near t.turn c.args.key (visit g (goal.at.at_node-item-requires-clause-item g c).After-visit beside whole made wv le) t.is_item t.is_sum t.is_value laws.sums laws.parts laws.starts_near v
+    let here = visit g (goal.at.at_node-item-requires g c).After-visit beside whole made wv le in record {
+      item = held_item t.weaving laws.laws t.is_near t.turn c.args.key here t.is_item t.is_sum t.is_value laws.sums laws.parts laws.starts_near v;
+      left = held_left t.weaving laws.laws t.is_near t.turn c.args.key here t.is_item t.is_sum t.is_value laws.sums laws.parts laws.starts_near v;
+      sum = held_sum t.weaving laws.laws t.is_near t.turn c.args.key here t.is_item t.is_sum t.is_value laws.sums laws.parts laws.starts_near v;
+    }
 
-pub at_node-item-requires-clause-left : goal.at_node-item-requires-clause-left
-at_node-item-requires-clause-left g c =
-    let t = g.W.Weave in let laws = g.met.W.Weave in let (beside, (whole, made, wv, v, le)) = c.requires in
-    held_left t.weaving laws.laws t.is_near t.turn c.args.key (visit g (goal.at.at_node-item-requires-clause-left g c).After-visit beside whole made wv le) t.is_item t.is_sum t.is_value laws.sums laws.parts laws.starts_near v
-
-pub at_node-item-requires-clause-sum : goal.at_node-item-requires-clause-sum
-at_node-item-requires-clause-sum g c =
-    let t = g.W.Weave in let laws = g.met.W.Weave in let (beside, (whole, made, wv, v, le)) = c.requires in
-    held_sum t.weaving laws.laws t.is_near t.turn c.args.key (visit g (goal.at.at_node-item-requires-clause-sum g c).After-visit beside whole made wv le) t.is_item t.is_sum t.is_value laws.sums laws.parts laws.starts_near v
-
-pub returns-in-Stop-clause-found : goal.returns-in-Stop-clause-found
-returns-in-Stop-clause-found g c = λ beside whole made wv le.
-    let t = g.W.Weave in let at = c.at_node-item in
-    found_here t.weaving g.met.W.Weave.laws t.is_near t.turn c.args.key (visit g (goal.at.returns-in-Stop-clause-found g c).After-visit beside whole made wv le)
-    at.result.0 at.result.1 at.ensures.item at.ensures.sum c.turn_at.result c.turn_at.ensures c.in-Stop.is
-
-pub returns-in-Stop-clause-cost : goal.returns-in-Stop-clause-cost
-returns-in-Stop-clause-cost g c = λ beside whole made wv le.
-    let t = g.W.Weave in
-    visit_cost t.weaving g.met.W.Weave.laws t.is_near t.turn c.args.key (visit g (goal.at.returns-in-Stop-clause-cost g c).After-visit beside whole made wv le)
-    c.args.steps.now c.loop-turn.steps c.visit.new.steps c.loop-turn.invariant.1 c.visit.ensures.step
+pub returns-in-Stop : goal.returns-in-Stop
+returns-in-Stop g c = record {
+  found = λ beside whole made wv le.
+      let t = g.W.Weave in let at = c.at_node-item in
+      found_here t.weaving g.met.W.Weave.laws t.is_near t.turn c.args.key (visit g (goal.at.returns-in-Stop g c).After-visit beside whole made wv le)
+      at.result.0 at.result.1 at.ensures.item at.ensures.sum c.turn_at.result c.turn_at.ensures c.in-Stop.is;
+  cost = λ beside whole made wv le.
+      let t = g.W.Weave in
+      visit_cost t.weaving g.met.W.Weave.laws t.is_near t.turn c.args.key (visit g (goal.at.returns-in-Stop g c).After-visit beside whole made wv le)
+      c.args.steps.now c.loop-turn.steps c.visit.new.steps c.loop-turn.invariant.1 c.visit.ensures.step;
+}
 
 pub join-before-requires : goal.join-before-requires
 join-before-requires g c =
@@ -97,13 +91,13 @@ loop-turn-preserved g c =
       refl,
     )
 
-pub returns-clause-found : goal.returns-clause-found
-returns-clause-found g c = λ beside whole made wv le.
-    let t = g.W.Weave in let L = g.met.W.Weave.laws in let l = c.loop-turn in let walk = l.invariant.0 beside whole made wv le in
-    walk_ends t.weaving L t.is_near t.turn c.args.key whole l.at l.by l.before l.last l._turn (128 - l._turn)
-    (walk_over t.weaving L t.is_near t.turn c.args.key whole l.at l.by l.before l.last l._turn (128 - l._turn) (no_turns l._turn c.loop-turn-test.false) walk) walk
-
-pub returns-clause-cost : goal.returns-clause-cost
-returns-clause-cost g c = λ beside whole made wv le.
-    let t = g.W.Weave in let L = g.met.W.Weave.laws in let l = c.loop-turn in
-    walk_cost t.weaving L t.is_near t.turn c.args.key whole l.at l.by l.before l.last l._turn (128 - l._turn) (l.invariant.0 beside whole made wv le) c.args.steps.now l.steps l.invariant.1
+pub returns : goal.returns
+returns g c = record {
+  found = λ beside whole made wv le.
+      let t = g.W.Weave in let L = g.met.W.Weave.laws in let l = c.loop-turn in let walk = l.invariant.0 beside whole made wv le in
+      walk_ends t.weaving L t.is_near t.turn c.args.key whole l.at l.by l.before l.last l._turn (128 - l._turn)
+      (walk_over t.weaving L t.is_near t.turn c.args.key whole l.at l.by l.before l.last l._turn (128 - l._turn) (no_turns l._turn c.loop-turn-test.false) walk) walk;
+  cost = λ beside whole made wv le.
+      let t = g.W.Weave in let L = g.met.W.Weave.laws in let l = c.loop-turn in
+      walk_cost t.weaving L t.is_near t.turn c.args.key whole l.at l.by l.before l.last l._turn (128 - l._turn) (l.invariant.0 beside whole made wv le) c.args.steps.now l.steps l.invariant.1;
+}
