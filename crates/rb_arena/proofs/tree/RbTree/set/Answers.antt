@@ -28,10 +28,18 @@ replace_item-requires g c =
 pub renew_up-requires : goal.renew_up-requires
 renew_up-requires g c =
     let t = g.W.Weave in let laws = g.met.W.Weave in let (us, (x, (vs, e))) = c.requires.named in
-    let n = node g (goal.at.renew_up-requires g c).After-self us x vs e in
-    (c.self.inside.reach, (c.self.invariant.beside, (_, slack_there t.weaving laws.laws (t.within c.self.inside.reach) t.is_item t.is_sum t.is_value laws.sums laws.parts c.self.inside.links.nodes.live c.self.inside.links.root c.self.inside.loose c.self.invariant us c.args.id x vs n c.args.item c.item_for-own.result c.requires.value (c.requires.sum us x vs e)
-    (c.item_for-own.ensures (own_spot t.weaving laws.laws (t.within c.self.inside.reach) t.is_item t.is_sum t.is_value laws.sums laws.parts c.self.inside.links.nodes.live c.self.inside.links.root c.self.inside.loose c.self.invariant us c.args.id x vs n) (woven_spot t.weaving laws.laws (t.within c.self.inside.reach) t.is_item t.is_sum t.is_value laws.sums laws.parts c.self.inside.links.nodes.live c.self.inside.links.root c.self.inside.loose c.self.invariant us c.args.id x vs n t.is_near (laws.within_near c.self.inside.reach)))
-    c.replace_item.new.tree.nodes.live c.replace_item.new.tree.root (c.replace_item.ensures.made (own_spot t.weaving laws.laws (t.within c.self.inside.reach) t.is_item t.is_sum t.is_value laws.sums laws.parts c.self.inside.links.nodes.live c.self.inside.links.root c.self.inside.loose c.self.invariant us c.args.id x vs n) (made_there t.weaving laws.laws (t.within c.self.inside.reach) t.is_item t.is_sum t.is_value laws.sums laws.parts c.self.inside.links.nodes.live c.self.inside.links.root c.self.inside.loose c.self.invariant us c.args.id x vs n)))))
+    let n = node g (goal.at.renew_up-requires g c).After-self us x vs e in (
+      c.self.inside.reach,
+      (
+        c.self.invariant.beside,
+        (
+          _,
+          slack_there t.weaving laws.laws (t.within c.self.inside.reach) t.is_item t.is_sum t.is_value laws.sums laws.parts c.self.inside.links.nodes.live c.self.inside.links.root c.self.inside.loose c.self.invariant us c.args.id x vs n c.args.item c.item_for-own.result c.requires.value (c.requires.sum us x vs e)
+              (c.item_for-own.ensures (own_spot t.weaving laws.laws (t.within c.self.inside.reach) t.is_item t.is_sum t.is_value laws.sums laws.parts c.self.inside.links.nodes.live c.self.inside.links.root c.self.inside.loose c.self.invariant us c.args.id x vs n) (woven_spot t.weaving laws.laws (t.within c.self.inside.reach) t.is_item t.is_sum t.is_value laws.sums laws.parts c.self.inside.links.nodes.live c.self.inside.links.root c.self.inside.loose c.self.invariant us c.args.id x vs n t.is_near (laws.within_near c.self.inside.reach)))
+              c.replace_item.new.tree.nodes.live c.replace_item.new.tree.root (c.replace_item.ensures.made (own_spot t.weaving laws.laws (t.within c.self.inside.reach) t.is_item t.is_sum t.is_value laws.sums laws.parts c.self.inside.links.nodes.live c.self.inside.links.root c.self.inside.loose c.self.invariant us c.args.id x vs n) (made_there t.weaving laws.laws (t.within c.self.inside.reach) t.is_item t.is_sum t.is_value laws.sums laws.parts c.self.inside.links.nodes.live c.self.inside.links.root c.self.inside.loose c.self.invariant us c.args.id x vs n)),
+        ),
+      ),
+    )
 
 kept : (g : Over) (c : goal.After-renew_up g) (us : List (ℕ × g.row.W-Item.Denot)) (x : g.row.W-Item.Denot) (vs : List (ℕ × g.row.W-Item.Denot)) → SplitsAt c.args.self.now.items c.args.id us x vs
     → Keeps g.W.Weave.weaving (g.W.Weave.within c.self.inside.reach) g.W.Weave.is_item g.W.Weave.is_value c.renew_up.new.tree.nodes.live c.renew_up.new.tree.root c.self.inside.loose
