@@ -119,127 +119,128 @@ module _ {X S B Key : Type 0} (w : Weaving X S B) (L : Lawful w) (is_near : B �
           left_after = la;
         } in subst (λ (z : ℕ × Slot (Data X S B)). Visit whole by before n j z.0 z.1) (λ t. (there t, slot t)) visit
 
-  module _ {whole : Tree (Data X S B)} {by : B} {before : S} {n m id : ℕ} {sl : Slot (Data X S B)} (v : Visit whole by before n m id sl) where
-    -- the item there, and those before and after it
-    abbrev x : X
-    x = w.shift (shift_at w v.hole) sl.«data».item
+module _ {X S B Key : Type 0} {w : Weaving X S B} {L : Lawful w} {is_near : B → Type 0} {turn : Key → S → X → Turn} {key : Key}
+    {whole : Tree (Data X S B)} {by : B} {before : S} {n m id : ℕ} {sl : Slot (Data X S B)} (v : Visit w L is_near turn key whole by before n m id sl) where
+  -- the item there, and those before and after it
+  abbrev x : X
+  x = w.shift (shift_at w v.hole) sl.«data».item
 
-    abbrev us : List (ℕ × X)
-    us = lefts w v.hole ++ entries w (shift_at w v.hole) v.left
+  abbrev us : List (ℕ × X)
+  us = lefts w v.hole ++ entries w (shift_at w v.hole) v.left
 
-    abbrev below : List (ℕ × X)
-    below = entries w (w.plus (shift_at w v.hole) sl.«data».delta) v.right
+  abbrev below : List (ℕ × X)
+  below = entries w (w.plus (shift_at w v.hole) sl.«data».delta) v.right
 
-    pub visit_cost : (start so_far now : ℕ) → so_far ≡ start + n → now ≡ so_far + 1 → now - start ≤ height whole
-    visit_cost start so_far now is one = let low = v.low in omega (arith, low, is, one)
+  pub visit_cost : (start so_far now : ℕ) → so_far ≡ start + n → now ≡ so_far + 1 → now - start ≤ height whole
+  visit_cost start so_far now is one = let low = v.low in omega (arith, low, is, one)
 
-    sum_here : w.join before (w.shift_sum by sl.«data».before) ≡ sum_of w us
-    sum_here =
-        (λ i. w.join (v.before_is i) (w.shift_sum (v.by_is i) sl.«data».before)) ∙ ap (w.join (sum_of w (lefts w v.hole))) v.woven.0
-        ∙ sym (sum-append w L (lefts w v.hole) (entries w (shift_at w v.hole) v.left))
+  sum_here : w.join before (w.shift_sum by sl.«data».before) ≡ sum_of w us
+  sum_here =
+      (λ i. w.join (v.before_is i) (w.shift_sum (v.by_is i) sl.«data».before)) ∙ ap (w.join (sum_of w (lefts w v.hole))) v.woven.0
+      ∙ sym (sum-append w L (lefts w v.hole) (entries w (shift_at w v.hole) v.left))
 
-    list_here : entries w w.still whole ≡ us ++ (id, x) ∷ (below ++ rights w v.hole)
-    list_here =
-        let es = entries w (shift_at w v.hole) v.left in let e : ℕ × X = (id, x) in
-        ap (entries w w.still) (sym v.same) ∙ entries-plug w L is_near v.hole (fork sl.red id sl.«data» v.left v.right)
-        ∙ ap (λ l. lefts w v.hole ++ l) (append_assoc es (e ∷ below) (rights w v.hole)) ∙ sym (append_assoc (lefts w v.hole) es (e ∷ (below ++ rights w v.hole)))
+  list_here : entries w w.still whole ≡ us ++ (id, x) ∷ (below ++ rights w v.hole)
+  list_here =
+      let es = entries w (shift_at w v.hole) v.left in let e : ℕ × X = (id, x) in
+      ap (entries w w.still) (sym v.same) ∙ entries-plug w L is_near v.hole (fork sl.red id sl.«data» v.left v.right)
+      ∙ ap (λ l. lefts w v.hole ++ l) (append_assoc es (e ∷ below) (rights w v.hole)) ∙ sym (append_assoc (lefts w v.hole) es (e ∷ (below ++ rights w v.hole)))
 
-    sum_after : (s : S) → s ≡ sum_of w us → w.join s (w.one x) ≡ sum_of w (us ++ (id, x) ∷ [])
-    sum_after s e = ap (λ z. w.join z (w.one x)) e ∙ ap (w.join (sum_of w us)) (sym (L.join_none _)) ∙ sym (sum-append w L us ((id, x) ∷ []))
+  sum_after : (s : S) → s ≡ sum_of w us → w.join s (w.one x) ≡ sum_of w (us ++ (id, x) ∷ [])
+  sum_after s e = ap (λ z. w.join z (w.one x)) e ∙ ap (w.join (sum_of w us)) (sym (L.join_none _)) ∙ sym (sum-append w L us ((id, x) ∷ []))
 
-    -- at the item and the sum that are those of the node
-    module _ (item : X) (sum : S) (is_item : item ≡ w.shift by sl.«data».item) (is_sum : sum ≡ w.join before (w.shift_sum by sl.«data».before)) where
-      item_is : item ≡ x
-      item_is = is_item ∙ ap (λ b. w.shift b sl.«data».item) v.by_is
+  -- at the item and the sum that are those of the node
+  module _ (item : X) (sum : S) (is_item : item ≡ w.shift by sl.«data».item) (is_sum : sum ≡ w.join before (w.shift_sum by sl.«data».before)) where
+    item_is : item ≡ x
+    item_is = is_item ∙ ap (λ b. w.shift b sl.«data».item) v.by_is
 
-      sum_is : sum ≡ sum_of w us
-      sum_is = is_sum ∙ sum_here
+    sum_is : sum ≡ sum_of w us
+    sum_is = is_sum ∙ sum_here
 
-      told : (o to : Turn) → o ≡ turn key sum item → o ≡ to → Says w turn key us x to
-      told o to turned is = sym (λ i. turn key (sum_is i) (item_is i)) ∙ sym turned ∙ is
+    told : (o to : Turn) → o ≡ turn key sum item → o ≡ to → Says w turn key us x to
+    told o to turned is = sym (λ i. turn key (sum_is i) (item_is i)) ∙ sym turned ∙ is
 
-      pub found_here : (o : Turn) → o ≡ turn key sum item → o ≡ turns.Stop → Found w turn key (entries w w.still whole) (Some (id, item, sum))
-      found_here o turned is = subst (λ z. Found w turn key (entries w w.still whole) (Some (id, z, sum))) (sym item_is)
-          (us, (below ++ rights w v.hole, list_here, sum_is, inl (told o turns.Stop turned is)))
+    pub found_here : (o : Turn) → o ≡ turn key sum item → o ≡ turns.Stop → Found w turn key (entries w w.still whole) (Some (id, item, sum))
+    found_here o turned is = subst (λ z. Found w turn key (entries w w.still whole) (Some (id, z, sum))) (sym item_is)
+        (us, (below ++ rights w v.hole, list_here, sum_is, inl (told o turns.Stop turned is)))
 
-      module _ (j : ℕ) (fewer : m ≡ suc j) (at : Option ℕ) (by2 : B) (before2 : S) where
-        pub goes_left : (o : Turn) → o ≡ turn key sum item → o ≡ turns.Left → at ≡ sl.left → by2 ≡ by → before2 ≡ before → Walk whole at by2 before2 (Some (id, item, sum)) (n + 1) j
-        goes_left o turned is e0 e1 e2 =
-            let low = v.low in let few = v.few in
-            let says_left = told o turns.Left turned is in
-            let next : Walk whole (root_of v.left) (shift_at w v.hole) (sum_of w (lefts w v.hole)) (Some (id, x, sum)) (n + 1) j = (
-              on side.Left sl.red id sl.«data» v.right v.hole,
-              (
-                v.left,
-                v.same,
-                refl,
-                refl,
-                refl,
-                omega (arith, low),
-                omega (arith, few, fewer),
-                v.right_before,
-                inr ((id, x), (below ++ rights w v.hole, refl, says_left)),
-                inr (id, (x, (sum, refl, inr (below ++ rights w v.hole, refl, sum_is, says_left)))),
-              ),
-            ) in subst (λ (z : Option ℕ × B × S × X). Walk whole z.0 z.1 z.2 (Some (id, z.3, sum)) (n + 1) j) (sym (λ i. ((e0 ∙ v.left_is) i, (e1 ∙ v.by_is) i, (e2 ∙ v.before_is) i, item_is i))) next
+    module _ (j : ℕ) (fewer : m ≡ suc j) (at : Option ℕ) (by2 : B) (before2 : S) where
+      pub goes_left : (o : Turn) → o ≡ turn key sum item → o ≡ turns.Left → at ≡ sl.left → by2 ≡ by → before2 ≡ before → Walk w L is_near turn key whole at by2 before2 (Some (id, item, sum)) (n + 1) j
+      goes_left o turned is e0 e1 e2 =
+          let low = v.low in let few = v.few in
+          let says_left = told o turns.Left turned is in
+          let next : Walk w L is_near turn key whole (root_of v.left) (shift_at w v.hole) (sum_of w (lefts w v.hole)) (Some (id, x, sum)) (n + 1) j = (
+            on side.Left sl.red id sl.«data» v.right v.hole,
+            (
+              v.left,
+              v.same,
+              refl,
+              refl,
+              refl,
+              omega (arith, low),
+              omega (arith, few, fewer),
+              v.right_before,
+              inr ((id, x), (below ++ rights w v.hole, refl, says_left)),
+              inr (id, (x, (sum, refl, inr (below ++ rights w v.hole, refl, sum_is, says_left)))),
+            ),
+          ) in subst (λ (z : Option ℕ × B × S × X). Walk w L is_near turn key whole z.0 z.1 z.2 (Some (id, z.3, sum)) (n + 1) j) (sym (λ i. ((e0 ∙ v.left_is) i, (e1 ∙ v.by_is) i, (e2 ∙ v.before_is) i, item_is i))) next
 
-        pub goes_right : (o : Turn) → o ≡ turn key sum item → o ≡ turns.Right → (reach : B) (one prefix : S) → at ≡ sl.right → by2 ≡ reach → reach ≡ w.plus by sl.«data».delta
-            → before2 ≡ prefix → prefix ≡ w.join sum one → one ≡ w.one item → Walk whole at by2 before2 (Some (id, item, sum)) (n + 1) j
-        goes_right o turned is reach one prefix e0 e1 is_reach e2 is_prefix is_one =
-            let low = v.low in let few = v.few in
-            let says_right = told o turns.Right turned is in
-            let es = entries w (shift_at w v.hole) v.left in let mine : ℕ × X = (id, x) in
-            let more : lefts w v.hole ++ (es ++ mine ∷ []) ≡ us ++ mine ∷ [] = sym (append_assoc (lefts w v.hole) es (mine ∷ [])) in
-            let all : lefts w v.hole ++ (es ++ mine ∷ below) ≡ (lefts w v.hole ++ (es ++ mine ∷ [])) ++ below
-            = ap (λ l. lefts w v.hole ++ l) (sym (append_assoc es (mine ∷ []) below)) ∙ sym (append_assoc (lefts w v.hole) (es ++ mine ∷ []) below) in
-            let next : Walk whole (root_of v.right) (w.plus (shift_at w v.hole) sl.«data».delta) (w.join sum (w.one x)) (Some (id, x, sum)) (n + 1) j = (
-              on side.Right sl.red id sl.«data» v.left v.hole,
-              (
-                v.right,
-                v.same,
-                refl,
-                refl,
-                sum_after sum sum_is ∙ ap (sum_of w) (sym more),
-                omega (arith, low),
-                omega (arith, few, fewer),
-                inr (us, (mine, more, says_right)),
-                subst (λ l. LeftAfter w turn key l (rights w v.hole)) all v.left_after,
-                inr (id, (x, (sum, refl, inl (us, more, sum_is, says_right)))),
-              ),
-            ) in
-            subst (λ (z : Option ℕ × B × S × X). Walk whole z.0 z.1 z.2 (Some (id, z.3, sum)) (n + 1) j)
-            (sym (λ i. ((e0 ∙ v.right_is) i, (e1 ∙ is_reach ∙ ap (λ b. w.plus b sl.«data».delta) v.by_is) i, (e2 ∙ is_prefix ∙ ap (w.join sum) (is_one ∙ ap w.one item_is)) i, item_is i))) next
+      pub goes_right : (o : Turn) → o ≡ turn key sum item → o ≡ turns.Right → (reach : B) (one prefix : S) → at ≡ sl.right → by2 ≡ reach → reach ≡ w.plus by sl.«data».delta
+          → before2 ≡ prefix → prefix ≡ w.join sum one → one ≡ w.one item → Walk w L is_near turn key whole at by2 before2 (Some (id, item, sum)) (n + 1) j
+      goes_right o turned is reach one prefix e0 e1 is_reach e2 is_prefix is_one =
+          let low = v.low in let few = v.few in
+          let says_right = told o turns.Right turned is in
+          let es = entries w (shift_at w v.hole) v.left in let mine : ℕ × X = (id, x) in
+          let more : lefts w v.hole ++ (es ++ mine ∷ []) ≡ us ++ mine ∷ [] = sym (append_assoc (lefts w v.hole) es (mine ∷ [])) in
+          let all : lefts w v.hole ++ (es ++ mine ∷ below) ≡ (lefts w v.hole ++ (es ++ mine ∷ [])) ++ below
+          = ap (λ l. lefts w v.hole ++ l) (sym (append_assoc es (mine ∷ []) below)) ∙ sym (append_assoc (lefts w v.hole) (es ++ mine ∷ []) below) in
+          let next : Walk w L is_near turn key whole (root_of v.right) (w.plus (shift_at w v.hole) sl.«data».delta) (w.join sum (w.one x)) (Some (id, x, sum)) (n + 1) j = (
+            on side.Right sl.red id sl.«data» v.left v.hole,
+            (
+              v.right,
+              v.same,
+              refl,
+              refl,
+              sum_after sum sum_is ∙ ap (sum_of w) (sym more),
+              omega (arith, low),
+              omega (arith, few, fewer),
+              inr (us, (mine, more, says_right)),
+              subst (λ l. LeftAfter w turn key l (rights w v.hole)) all v.left_after,
+              inr (id, (x, (sum, refl, inl (us, more, sum_is, says_right)))),
+            ),
+          ) in
+          subst (λ (z : Option ℕ × B × S × X). Walk w L is_near turn key whole z.0 z.1 z.2 (Some (id, z.3, sum)) (n + 1) j)
+          (sym (λ i. ((e0 ∙ v.right_is) i, (e1 ∙ is_reach ∙ ap (λ b. w.plus b sl.«data».delta) v.by_is) i, (e2 ∙ is_prefix ∙ ap (w.join sum) (is_one ∙ ap w.one item_is)) i, item_is i))) next
 
-    module _ (is_item : X → Type 0) (is_sum is_value : S → Type 0) (sums : Sums w is_item is_sum) (parts : (p q : S) → is_value (w.join p q) → is_value p × is_value q) (near : is_near w.still)
-        (values : Valued w is_item is_value (entries w w.still whole)) where
-      all_here : Valued w is_item is_value (us ++ (id, x) ∷ (below ++ rights w v.hole))
-      all_here = subst (Valued w is_item is_value) list_here values
+  module _ (is_item : X → Type 0) (is_sum is_value : S → Type 0) (sums : Sums w is_item is_sum) (parts : (p q : S) → is_value (w.join p q) → is_value p × is_value q) (near : is_near w.still)
+      (values : Valued w is_item is_value (entries w w.still whole)) where
+    all_here : Valued w is_item is_value (us ++ (id, x) ∷ (below ++ rights w v.hole))
+    all_here = subst (Valued w is_item is_value) list_here values
 
-      before_here : Valued w is_item is_value us
-      before_here = valued_left w L is_near is_item is_sum is_value sums parts us _ all_here
+    before_here : Valued w is_item is_value us
+    before_here = valued_left w L is_near is_item is_sum is_value sums parts us _ all_here
 
-      pub held_item : HeldItem w is_near is_item (w.shift by sl.«data».item)
-      held_item = subst (λ b. HeldItem w is_near is_item (w.shift b sl.«data».item)) (sym v.by_is)
-          (w.still, near, subst is_item (sym (L.shift_still x)) (items_right w L is_near is_item is_sum is_value sums parts us _ all_here.0).0)
+    pub held_item : HeldItem w is_near is_item (w.shift by sl.«data».item)
+    held_item = subst (λ b. HeldItem w is_near is_item (w.shift b sl.«data».item)) (sym v.by_is)
+        (w.still, near, subst is_item (sym (L.shift_still x)) (items_right w L is_near is_item is_sum is_value sums parts us _ all_here.0).0)
 
-      pub held_left : HeldSum w is_near is_sum is_value (w.shift_sum by sl.«data».before)
-      held_left = subst (λ b. HeldSum w is_near is_sum is_value (w.shift_sum b sl.«data».before)) (sym v.by_is)
-          (held w L is_near is_item is_sum is_value sums parts w.still _ (entries w (shift_at w v.hole) v.left) near (L.shift_sum_still _ ∙ v.woven.0)
-          (valued_right w L is_near is_item is_sum is_value sums parts (lefts w v.hole) (entries w (shift_at w v.hole) v.left) before_here))
+    pub held_left : HeldSum w is_near is_sum is_value (w.shift_sum by sl.«data».before)
+    held_left = subst (λ b. HeldSum w is_near is_sum is_value (w.shift_sum b sl.«data».before)) (sym v.by_is)
+        (held w L is_near is_item is_sum is_value sums parts w.still _ (entries w (shift_at w v.hole) v.left) near (L.shift_sum_still _ ∙ v.woven.0)
+        (valued_right w L is_near is_item is_sum is_value sums parts (lefts w v.hole) (entries w (shift_at w v.hole) v.left) before_here))
 
-      pub held_sum : HeldSum w is_near is_sum is_value (w.join before (w.shift_sum by sl.«data».before))
-      held_sum = held w L is_near is_item is_sum is_value sums parts w.still _ us near (L.shift_sum_still _ ∙ sum_here) before_here
+    pub held_sum : HeldSum w is_near is_sum is_value (w.join before (w.shift_sum by sl.«data».before))
+    held_sum = held w L is_near is_item is_sum is_value sums parts w.still _ us near (L.shift_sum_still _ ∙ sum_here) before_here
 
-      pub held_by : HeldBy w is_near (w.plus by sl.«data».delta)
-      held_by = subst (λ b. HeldBy w is_near (w.plus b sl.«data».delta)) (sym v.by_is)
-          (w.still, near, subst is_near (sym (still_plus w L _)) (near_of w L is_near (w.plus (shift_at w v.hole) sl.«data».delta) v.right v.woven.3))
+    pub held_by : HeldBy w is_near (w.plus by sl.«data».delta)
+    held_by = subst (λ b. HeldBy w is_near (w.plus b sl.«data».delta)) (sym v.by_is)
+        (w.still, near, subst is_near (sym (still_plus w L _)) (near_of w L is_near (w.plus (shift_at w v.hole) sl.«data».delta) v.right v.woven.3))
 
-      pub held_next : (item : X) (sum one : S) → item ≡ w.shift by sl.«data».item → sum ≡ w.join before (w.shift_sum by sl.«data».before) → one ≡ w.one item → HeldSum w is_near is_sum is_value (w.join sum one)
-      held_next item sum one is_the_item is_the_sum is_one =
-          let rest = below ++ rights w v.hole in
-          subst (λ z. HeldSum w is_near is_sum is_value (w.join sum z)) (sym (is_one ∙ ap w.one (item_is item sum is_the_item is_the_sum)))
-          (held w L is_near is_item is_sum is_value sums parts w.still _ (us ++ (id, x) ∷ []) near (L.shift_sum_still _ ∙ sum_after sum (sum_is item sum is_the_item is_the_sum))
-          (valued_left w L is_near is_item is_sum is_value sums parts (us ++ (id, x) ∷ []) rest (subst (Valued w is_item is_value) (sym (append_assoc us ((id, x) ∷ []) rest)) all_here)))
+    pub held_next : (item : X) (sum one : S) → item ≡ w.shift by sl.«data».item → sum ≡ w.join before (w.shift_sum by sl.«data».before) → one ≡ w.one item → HeldSum w is_near is_sum is_value (w.join sum one)
+    held_next item sum one is_the_item is_the_sum is_one =
+        let rest = below ++ rights w v.hole in
+        subst (λ z. HeldSum w is_near is_sum is_value (w.join sum z)) (sym (is_one ∙ ap w.one (item_is item sum is_the_item is_the_sum)))
+        (held w L is_near is_item is_sum is_value sums parts w.still _ (us ++ (id, x) ∷ []) near (L.shift_sum_still _ ∙ sum_after sum (sum_is item sum is_the_item is_the_sum))
+        (valued_left w L is_near is_item is_sum is_value sums parts (us ++ (id, x) ∷ []) rest (subst (Valued w is_item is_value) (sym (append_assoc us ((id, x) ∷ []) rest)) all_here)))
 
 pub few_turns : (n : ℕ) → n < 128 → 128 - n ≡ suc (128 - (n + 1))
 few_turns n lt = omega arith

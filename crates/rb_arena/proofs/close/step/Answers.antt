@@ -1,9 +1,8 @@
-use Rattle.std.proofs.Common.{◌≡◌, ℕ, ◌-◌, List, Option, Some, None, sym, ◌∙◌}
+use Rattle.std.proofs.Common.{ℕ, List, Some, sym, ◌∙◌}
 use Rattle.rb_rules.specs.declared.slot.Data.{Data}
 use Rattle.rb_rules.specs.Tree.{Tree}
 use Rattle.rb_rules.proofs.Wider.{can_turn_wider}
 use Rattle.rb_arena.specs.Closing.{Short}
-use Rattle.rb_arena.specs.Mending.{red_child_in}
 use Rattle.rb_arena.proofs.Gaps.{Seen, has_slot, lone, brother_live, sees, can_turn_red, comes_nearer, child_away, child_near, can_turn_outer, outer_stands, outer_mended, can_turn_inner, can_turn_again, inner_stands, inner_mended, plain_stands, plain_live, plain_parent, plain_mended, plain_higher}
 use Rattle.rb_arena.proofs.close.step.Given.{Over}
 use Rattle.rb_arena.proofs.close.step.Goals.{After-read-2}

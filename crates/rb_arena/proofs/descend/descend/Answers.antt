@@ -44,33 +44,33 @@ pub at_node-item-requires : goal.at_node-item-requires
 at_node-item-requires g c =
     let t = g.W.Weave in let laws = g.met.W.Weave in let (beside, (whole, made, wv, v, le)) = c.requires in
     let here = visit g (goal.at.at_node-item-requires g c).After-visit beside whole made wv le in record {
-      item = held_item t.weaving laws.laws t.is_near t.turn c.args.key here t.is_item t.is_sum t.is_value laws.sums laws.parts laws.starts_near v;
-      left = held_left t.weaving laws.laws t.is_near t.turn c.args.key here t.is_item t.is_sum t.is_value laws.sums laws.parts laws.starts_near v;
-      sum = held_sum t.weaving laws.laws t.is_near t.turn c.args.key here t.is_item t.is_sum t.is_value laws.sums laws.parts laws.starts_near v;
+      item = held_item here t.is_item t.is_sum t.is_value laws.sums laws.parts laws.starts_near v;
+      left = held_left here t.is_item t.is_sum t.is_value laws.sums laws.parts laws.starts_near v;
+      sum = held_sum here t.is_item t.is_sum t.is_value laws.sums laws.parts laws.starts_near v;
     }
 
 pub returns-in-Stop : goal.returns-in-Stop
 returns-in-Stop g c = record {
   found = λ beside whole made wv le.
       let t = g.W.Weave in let at = c.at_node-item in
-      found_here t.weaving g.met.W.Weave.laws t.is_near t.turn c.args.key (visit g (goal.at.returns-in-Stop g c).After-visit beside whole made wv le)
+      found_here (visit g (goal.at.returns-in-Stop g c).After-visit beside whole made wv le)
       at.result.0 at.result.1 at.ensures.item at.ensures.sum c.turn_at.result c.turn_at.ensures c.in-Stop.is;
   cost = λ beside whole made wv le.
       let t = g.W.Weave in
-      visit_cost t.weaving g.met.W.Weave.laws t.is_near t.turn c.args.key (visit g (goal.at.returns-in-Stop g c).After-visit beside whole made wv le)
+      visit_cost (visit g (goal.at.returns-in-Stop g c).After-visit beside whole made wv le)
       c.args.steps.now c.loop-turn.steps c.visit.new.steps c.loop-turn.invariant.1 c.visit.ensures.step;
 }
 
 pub join-before-requires : goal.join-before-requires
 join-before-requires g c =
     let t = g.W.Weave in let laws = g.met.W.Weave in let (beside, (whole, made, wv, v, le)) = c.requires in let at = c.at_node-item in
-    held_next t.weaving laws.laws t.is_near t.turn c.args.key (visit g (goal.at.join-before-requires g c).After-visit beside whole made wv le) t.is_item t.is_sum t.is_value laws.sums laws.parts laws.starts_near v
+    held_next (visit g (goal.at.join-before-requires g c).After-visit beside whole made wv le) t.is_item t.is_sum t.is_value laws.sums laws.parts laws.starts_near v
     at.result.0 at.result.1 c.one.result at.ensures.item at.ensures.sum c.one.ensures
 
 pub plus-by-requires : goal.plus-by-requires
 plus-by-requires g c =
     let t = g.W.Weave in let laws = g.met.W.Weave in let (beside, (whole, made, wv, v, le)) = c.requires in
-    held_by t.weaving laws.laws t.is_near t.turn c.args.key (visit g (goal.at.plus-by-requires g c).After-visit beside whole made wv le) t.is_item t.is_sum t.is_value laws.sums laws.parts laws.starts_near v
+    held_by (visit g (goal.at.plus-by-requires g c).After-visit beside whole made wv le) t.is_item t.is_sum t.is_value laws.sums laws.parts laws.starts_near v
 
 pub loop-turn-preserved : goal.loop-turn-preserved
 loop-turn-preserved g c =
@@ -80,10 +80,10 @@ loop-turn-preserved g c =
           let fewer = few_turns l._turn c.loop-turn-test.true in
           elim c.match-turn_at.branch [
             | in-Left z ↦
-                goes_left t.weaving L t.is_near t.turn c.args.key here at.result.0 at.result.1 at.ensures.item at.ensures.sum (128 - (l._turn + 1)) fewer
+                goes_left here at.result.0 at.result.1 at.ensures.item at.ensures.sum (128 - (l._turn + 1)) fewer
                 c.match-turn_at.at c.match-turn_at.by c.match-turn_at.before c.turn_at.result c.turn_at.ensures z.in-Left.is z.at-is z.by-is z.before-is
             | in-Right z ↦
-                goes_right t.weaving L t.is_near t.turn c.args.key here at.result.0 at.result.1 at.ensures.item at.ensures.sum (128 - (l._turn + 1)) fewer
+                goes_right here at.result.0 at.result.1 at.ensures.item at.ensures.sum (128 - (l._turn + 1)) fewer
                 c.match-turn_at.at c.match-turn_at.by c.match-turn_at.before c.turn_at.result c.turn_at.ensures z.in-Right.is
                 z.plus-by.result z.one.result z.join-before.result z.at-is z.by-is z.plus-by.ensures z.before-is z.join-before.ensures z.one.ensures
           ]),
