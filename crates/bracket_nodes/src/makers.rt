@@ -16,8 +16,15 @@ use text_lengths::Length;
 
 // A leaf whose level after its last entry is this one.
 fn leaf(length: Length, missing: Kinds, last_level: Option<u64>) -> Kept
-    ensures { result ≡ record { length = length; missing = missing; closed = true; capped = false;
-        nesting = 0; height = 0; last_level = last_level } }
+    ensures { result ≡ record {
+      length = length;
+      missing = missing;
+      closed = true;
+      capped = false;
+      nesting = 0;
+      height = 0;
+      last_level = last_level;
+    } }
 {
     Kept {
         length,

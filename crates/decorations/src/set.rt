@@ -130,8 +130,10 @@ impl DecoSet {
         requires upright { edit.now.start ≤ edit.now.end }
         requires fits { All (λ mark. (moved_mark edit.now mark).span.end < offset_limit)
             self.old.marks }
-        ensures moved { self.new ≡ record self.old { marks = in_order
-            (map (moved_mark edit.now) self.old.marks) } }
+        ensures moved { self.new ≡ record self.old {
+          marks = in_order
+              (map (moved_mark edit.now) self.old.marks);
+        } }
         ensures sound { IsSound self.new }
     {
         self.tree.accept(edit);

@@ -73,9 +73,9 @@ taken_again zero (r ∷ x ∷ rows) rest now f b h k t a = absurd (let more = to
 taken_again (suc n) (r ∷ x ∷ rows) rest [] f b h k t a = elim k [ ]
 taken_again (suc n) (r ∷ x ∷ rows) rest (y ∷ now) f b h k t a =
     let within : touched (rows_length (x ∷ rows)) ≤ n =
-        let more = touched-suc (rows_length (x ∷ rows)).lines (rows_length (x ∷ rows)).columns in omega arith in
+    let more = touched-suc (rows_length (x ∷ rows)).lines (rows_length (x ∷ rows)).columns in omega arith in
     let more = taken_again n (x ∷ rows) rest now tt b h
-        (HasRow-alike (glue (x ∷ rows) rest) now a.1.0 (HasRow-glue (x ∷ rows) rest tt)) within a.1.1 in
+    (HasRow-alike (glue (x ∷ rows) rest) now a.1.0 (HasRow-glue (x ∷ rows) rest tt)) within a.1.1 in
     let fewer : n - (rows_length (x ∷ rows)).lines ≡ suc n - suc (rows_length (x ∷ rows)).lines = omega arith in
     record {
       left = more.left;

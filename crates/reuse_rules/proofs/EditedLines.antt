@@ -141,10 +141,10 @@ module _ (old : List Row) (table : Table) (first n m : ℕ) (marks : List Mark) 
       let long = length-edited in
       let k : ℕ = first - 1 + n + (j - (first - 1 + m)) in
       let there : slice_index_or marks k New ≡ Kept (i + 1) =
-          sym (get_or-drop (first - 1 + n) marks (j - (first - 1 + m)) New)
-          ∙ ap (λ (x : ℕ). slice_index_or (drop (first - 1 + n) marks) x New) (omega arith)
-          ∙ sym (behind_new m (j - (first - 1)) (drop (first - 1 + n) marks) (omega arith))
-          ∙ sym (mark_behind (first - 1) j marks marks_behind (omega arith) (omega arith)) ∙ at_mark j i e in
+      sym (get_or-drop (first - 1 + n) marks (j - (first - 1 + m)) New)
+      ∙ ap (λ (x : ℕ). slice_index_or (drop (first - 1 + n) marks) x New) (omega arith)
+      ∙ sym (behind_new m (j - (first - 1)) (drop (first - 1 + n) marks) (omega arith))
+      ∙ sym (mark_behind (first - 1) j marks marks_behind (omega arith) (omega arith)) ∙ at_mark j i e in
       let was = agrees.kept k i (omega arith) (ap (λ (x : ℕ). slice_index_or marks x New) (omega arith) ∙ there) in
       let to_j : first - 1 + m + (j - (first - 1 + m)) ≡ j = omega arith in
       same_rows (drop i old) j k after before
@@ -160,9 +160,10 @@ module _ (old : List Row) (table : Table) (first n m : ℕ) (marks : List Mark) 
 
   kept_edited : (j i : ℕ) → j < length (edited_marks first n m marks) → mark_at (j + 1) (edited_marks first n m marks) ≡ Kept (i + 1)
       → Alike 1 (drop i old) (drop j (text_rows table after))
-  kept_edited j i l e = elim (cases_lt j (first - 1))
-      [ inl h ↦ in_front j i e h
-      | inr h ↦ elim (cases_lt j (first - 1 + m)) [ inl k ↦ absurd (in_edit j i e h k) | inr k ↦ behind_edit j i l e k ] ]
+  kept_edited j i l e = elim (cases_lt j (first - 1)) [
+    | inl h ↦ in_front j i e h
+    | inr h ↦ elim (cases_lt j (first - 1 + m)) [ inl k ↦ absurd (in_edit j i e h k) | inr k ↦ behind_edit j i l e k ]
+  ]
 
   -- the rows after the edit agree with the old text under the marks that it leaves
   pub Agrees-edited : Agrees old (edited_marks first n m marks) (text_rows table after)

@@ -104,7 +104,7 @@ Follows-line old marks now p ahead line t a c r e =
     let run = kept_run (drop p.lines marks) in
     let alike : Alike run (drop line (tree_rows old)) (drop p.lines now) = kept_run_alike (tree_rows old) marks now line p.lines a e in
     let old_line : rows_from (length_of line p.columns) (tree_rows old) ≡ drop line (tree_rows old) =
-        ap (λ (n : ℕ). from_column n (drop line (tree_rows old))) c ∙ from_line (drop line (tree_rows old)) in
+    ap (λ (n : ℕ). from_column n (drop line (tree_rows old))) c ∙ from_line (drop line (tree_rows old)) in
     let some : 0 < length (drop line (tree_rows old)) = alike_first run (drop line (tree_rows old)) (drop p.lines now) (kept_run_some marks p.lines (line + 1) e) alike in
     let counted = length-drop line (tree_rows old) in
     let rows = rows_count (tree_rows old) (HasRow-tree_rows old) in
@@ -148,7 +148,7 @@ took old marks now p ahead line rows f b r w t g e =
     let q = length_of line p.columns in
     let some : 0 < run = kept_run_some marks p.lines (line + 1) w.kept in
     let again = taken_again run rows (rows_from (length_plus q l) (tree_rows old)) ahead f b g.rest r.has_ahead t
-        (subst (λ (x : List Row). Alike run x ahead) g.here w.alike) in
+    (subst (λ (x : List Row). Alike run x ahead) g.here w.alike) in
     record {
       left = again.left;
       spells = again.spells;
@@ -156,7 +156,7 @@ took old marks now p ahead line rows f b r w t g e =
       reached = Reached-next now p rows again.left f again.has_row b (subst (Reached now p) again.spells r);
       goes_on = λ h.
           let rest : kept_run (drop (p.lines + l.lines) marks) ≡ run - l.lines =
-              ap kept_run (sym (drop-drop l.lines p.lines marks)) ∙ kept_run_rest (drop p.lines marks) l.lines h in
+          ap kept_run (sym (drop-drop l.lines p.lines marks)) ∙ kept_run_rest (drop p.lines marks) l.lines h in
           record {
             kept = ap (λ (n : ℕ). mark_at n marks) (omega arith) ∙ kept_run_mark marks line p.lines l.lines w.kept h ∙ ap Kept (omega arith);
             alike = subst (λ (n : ℕ). Alike n (rows_from (length_plus q l) (tree_rows old)) again.left) (sym rest) again.alike;
@@ -204,9 +204,9 @@ ends_alike old marks p ahead line t w e =
     let run = kept_run (drop p.lines marks) in
     let at_end : length_of line p.columns ≡ rows_length (tree_rows old) = e ∙ sym (rows_length-tree old) in
     let nothing_left : rows_from (length_of line p.columns) (tree_rows old) ≡ empty_row ∷ [] =
-        ap (λ (l : Length). rows_from l (tree_rows old)) at_end
-        ∙ ap (rows_from (rows_length (tree_rows old))) (sym (glue_empty (tree_rows old) (HasRow-tree_rows old)))
-        ∙ rows_from-glue (tree_rows old) (empty_row ∷ []) (HasRow-tree_rows old) tt (IsBounded-tree old t) in
+    ap (λ (l : Length). rows_from l (tree_rows old)) at_end
+    ∙ ap (rows_from (rows_length (tree_rows old))) (sym (glue_empty (tree_rows old) (HasRow-tree_rows old)))
+    ∙ rows_from-glue (tree_rows old) (empty_row ∷ []) (HasRow-tree_rows old) tt (IsBounded-tree old t) in
     only_empty run ahead (kept_run_some marks p.lines (line + 1) w.kept) (subst (λ (x : List Row). Alike run x ahead) nothing_left w.alike)
 
 -- a text of the old tree may always be taken: it lies within its line

@@ -61,10 +61,10 @@ alike_steps : (old now : List Row) (k i j : ℕ)
 alike_steps old now zero i j each = tt
 alike_steps old now (suc k) i j each =
     let one_later : (m : ℕ) → m < k → Alike 1 (drop (suc i + m) old) (drop (suc j + m) now) = λ m h.
-        let at_i : i + suc m ≡ suc i + m = omega arith in
-        let at_j : j + suc m ≡ suc j + m = omega arith in
-        subst (λ (n : ℕ). Alike 1 (drop n old) (drop (suc j + m) now)) at_i
-        (subst (λ (n : ℕ). Alike 1 (drop (i + suc m) old) (drop n now)) at_j (each (suc m) (omega arith))) in
+    let at_i : i + suc m ≡ suc i + m = omega arith in
+    let at_j : j + suc m ≡ suc j + m = omega arith in
+    subst (λ (n : ℕ). Alike 1 (drop n old) (drop (suc j + m) now)) at_i
+    (subst (λ (n : ℕ). Alike 1 (drop (i + suc m) old) (drop n now)) at_j (each (suc m) (omega arith))) in
     let at_i : i + 0 ≡ i = omega arith in
     let at_j : j + 0 ≡ j = omega arith in
     alike_more k (drop i old) (drop j now)
@@ -80,6 +80,7 @@ kept_run_alike old marks now i j h e = alike_steps old now (kept_run (drop j mar
   where
     first : slice_index_or (drop j marks) 0 New ≡ Kept (i + 1)
     first = get_or-drop j marks 0 New ∙ ap (λ (n : ℕ). slice_index_or marks n New) (omega arith) ∙ e
+
     each : (m : ℕ) → m < kept_run (drop j marks) → Alike 1 (drop (i + m) old) (drop (j + m) now)
     each m l =
         let at = kept_run-at (i + 1) (drop j marks) m first l in
@@ -94,7 +95,7 @@ pub kept_run_mark : (marks : List Mark) (i j m : ℕ) → mark_at (j + 1) marks 
     → mark_at (j + m + 1) marks ≡ Kept (i + m + 1)
 kept_run_mark marks i j m e l =
     let first : slice_index_or (drop j marks) 0 New ≡ Kept (i + 1) =
-        get_or-drop j marks 0 New ∙ ap (λ (n : ℕ). slice_index_or marks n New) (omega arith) ∙ e in
+    get_or-drop j marks 0 New ∙ ap (λ (n : ℕ). slice_index_or marks n New) (omega arith) ∙ e in
     let at = kept_run-at (i + 1) (drop j marks) m first l in
     ap (λ (n : ℕ). slice_index_or marks n New) (omega arith) ∙ sym (get_or-drop j marks m New) ∙ at.mark ∙ ap Kept (omega arith)
 
