@@ -320,7 +320,7 @@ impl Model {
         renew(self.alloc, &mut self.tree, &self.table, &self.text).map_err(|_| ModelError::Memory)?;
         match &self.tree {
             Some(tree) => Ok(told(tree.partner_of(place_of(p)))),
-            None => Err(ModelError::Memory),
+            None => unreachable!(),
         }
     }
 
@@ -340,7 +340,7 @@ impl Model {
         renew(self.alloc, &mut self.tree, &self.table, &self.text).map_err(|_| ModelError::Memory)?;
         match &self.tree {
             Some(tree) => Ok(tree.level_at(place_of(p))),
-            None => Err(ModelError::Memory),
+            None => unreachable!(),
         }
     }
 
