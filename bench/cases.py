@@ -1,14 +1,18 @@
 """The scripts that bench/run times: each case is made from a seed of its own, so that it is the same in every run."""
 import random
 from collections.abc import Iterator
-from functools import lru_cache
+from functools import lru_cache, partial
 from typing import NamedTuple
 
 LINE = "some words of a line that is as long as most\n"
 CHUNK = 15_000_000  # units that one script line may bring in: less than 2^24 bytes
-OWNER = 7
+MILLION = 1_000_000
+ORDERS = ("rising", "falling", "mixed")
+MARKS = (1_000, 30_000)  # how many decorations
+WAYS = (("one a line", False), ("all in one line", True))
 
 Lines = list[str]
+Pair = tuple[Lines, Lines]  # lines, and as many that are refused
 
 
 class Case(NamedTuple):
@@ -70,9 +74,10 @@ def brackets(first: int, last: int) -> str:
     return f'{{"cmd":"brackets","from":{first},"to":{last}}}'
 
 
-def decorate(owner: int, remove: list[int], add: list[str]) -> str:
-    """A line that changes decorations."""
-    return f'{{"cmd":"decorate","owner":{owner},"remove":{remove},"add":[{",".join(add)}]}}'.replace(", ", ",")
+def decorate(remove: list[int], add: list[tuple[int, int]]) -> str:
+    """A line that changes decorations. The mode of a new one is told by its place."""
+    new = ",".join(f'{{"at":[{start},{end}],"stick":{(start + end) % 4}}}' for start, end in add)
+    return f'{{"cmd":"decorate","owner":7,"remove":[{",".join(map(str, remove))}],"add":[{new}]}}'
 
 
 def opened(text: str) -> Lines:
@@ -88,9 +93,9 @@ def plain(units: int) -> Lines:
     return opened((LINE * (units // len(LINE) + 1))[:units])
 
 
-def in_pieces(units: int, draw: random.Random) -> Lines:
+def in_pieces(units: int) -> Lines:
     """A document of words in many pieces: an edit replaces a unit in each hundred, or at most 100,000; lines stay."""
-    step = max(100, units // 100_000)
+    draw, step = random.Random(1), max(100, units // 100_000)
     places = (start + draw.randrange(step - 1) for start in range(0, units - step, step))
     ops = [op(place, place + 1, "x") for place in places if place % len(LINE) != len(LINE) - 1]
     return [*plain(units), edit(*ops)]
@@ -99,9 +104,9 @@ def in_pieces(units: int, draw: random.Random) -> Lines:
 # ---- the text
 
 
-def edits(units: int, count: int, draw: random.Random) -> tuple[Lines, Lines]:
+def edits(units: int, count: int) -> Pair:
     """Edits at random places that add as many units as they remove, and the same with their spans turned round."""
-    lines, refused = [], []
+    draw, lines, refused = random.Random(2), [], []
     for _ in range(count):
         length, text = draw.choice([(1, "q"), (2, ".."), (3, "xyz"), (3, "a\\nb")])
         start = draw.randrange(units - length)
@@ -110,49 +115,59 @@ def edits(units: int, count: int, draw: random.Random) -> tuple[Lines, Lines]:
     return lines, refused
 
 
-def typed(places: list[int], count: int) -> tuple[Lines, Lines]:
-    """A unit typed at each of these rising places in turn, behind what was typed there, and the same with bad spans."""
+def typed(places: int, units: int, count: int) -> Pair:
+    """A unit typed at each of so many places in turn, behind what was typed there, and the same with bad spans."""
     lines, refused = [], []
     for done in range(count):
-        turn, which = divmod(done, len(places))
-        now = places[which] + turn + which * (turn + 1)  # what was typed there, and what was typed before it
+        turn, which = divmod(done, places)
+        at_first = units * (2 * which + 1) // (2 * places)
+        now = at_first + turn + which * (turn + 1)  # behind what was typed there, and at the places before it
         lines.append(edit(op(now, now, "x")))
         refused.append(edit(op(now + 1, now, "x")))
     return lines, refused
 
 
+def positions(units: int, count: int) -> Pair:
+    """Questions about the positions of random offsets, and of offsets behind the text."""
+    draw = random.Random(3)
+    offsets = [draw.randrange(1, units) for _ in range(count)]
+    return tuple([f'{{"cmd":"position","offset":{offset + past}}}' for offset in offsets] for past in (0, units))
+
+
+def offsets(units: int, count: int) -> Pair:
+    """Questions about the offsets of random positions, and of none."""
+    draw = random.Random(4)
+    places = [(draw.randrange(1, units // len(LINE)), draw.randrange(1, len(LINE))) for _ in range(count)]
+    return tuple([asked("offset", *place) for place in places] for asked in (at, nowhere))
+
+
+def reading(units: int, count: int) -> Pair:
+    """Lines one after another, from the middle of the text on, and lines behind the text."""
+    last = units // len(LINE)
+    numbers = [(last // 2 + done) % last + 1 for done in range(count)]
+    return tuple([f'{{"cmd":"line","n":{number + past}}}' for number in numbers] for past in (0, units + 1))
+
+
 def text_cases(scale: Scale) -> Iterator[Case]:
     """Edits of plain texts, and questions about their lines and places."""
-    for units, flat in scale.texts:
-        lines, refused = edits(units, scale.count, random.Random(1))
-        yield Case("edit at a random place", size_of(units), plain(units), lines, refused, flat)
-    for name, count in (("one place", 1), ("fifty places in turn", 50)):
+    rows = (
+        ("edit at a random place", plain, edits),
+        ("type at one place", plain, partial(typed, 1)),
+        ("type at fifty places in turn", plain, partial(typed, 50)),
+        ("position of a random offset", in_pieces, positions),
+        ("offset of a random position", in_pieces, offsets),
+        ("lines one after another", in_pieces, reading),
+    )
+    for what, document, made in rows:
         for units, flat in scale.texts:
-            places = [units * (2 * which + 1) // (2 * count) for which in range(count)]
-            lines, refused = typed(places, scale.count)
-            yield Case(f"type at {name}", size_of(units), plain(units), lines, refused, flat)
-    for units, flat in scale.texts:
-        draw = random.Random(2)
-        offsets = [draw.randrange(1, units) for _ in range(scale.count)]
-        lines, refused = ([f'{{"cmd":"position","offset":{o + past}}}' for o in offsets] for past in (0, units))
-        yield Case("position of a random offset", size_of(units), in_pieces(units, draw), lines, refused, flat)
-    for units, flat in scale.texts:
-        draw = random.Random(3)
-        places = [(draw.randrange(1, units // len(LINE)), draw.randrange(1, len(LINE))) for _ in range(scale.count)]
-        lines, refused = ([asked("offset", *place) for place in places] for asked in (at, nowhere))
-        yield Case("offset of a random position", size_of(units), in_pieces(units, draw), lines, refused, flat)
-    for units, flat in scale.texts:
-        count = units // len(LINE)
-        numbers = [(count // 2 + done) % count + 1 for done in range(scale.count)]
-        lines, refused = ([f'{{"cmd":"line","n":{number + past}}}' for number in numbers] for past in (0, units + 1))
-        yield Case("lines one after another", size_of(units), in_pieces(units, random.Random(4)), lines, refused, flat)
+            yield Case(what, size_of(units), document(units), *made(units, scale.count), flat)
 
 
 def undo_cases(scale: Scale) -> Iterator[Case]:
     """Undo and redo of many steps of one edit each. Where nothing is left to redo stands for what is refused."""
     count = 2 * scale.count
     for units, _ in scale.texts:
-        steps = [line for step in edits(units, count, random.Random(5))[0] for line in (step, '{"cmd":"stop"}')]
+        steps = [line for step in edits(units, count)[0] for line in (step, '{"cmd":"stop"}')]
         lines = ['{"cmd":"undo"}'] * count + ['{"cmd":"redo"}'] * count
         flat = 2 * count if units <= 10_000 else 0
         name = f"undo, then redo {count:,} edits"
@@ -164,46 +179,48 @@ def undo_cases(scale: Scale) -> Iterator[Case]:
 
 def marks(count: int, order: str) -> list[tuple[int, int]]:
     """Spans in a text of a million units, in this order."""
-    step = 1_000_000 // count
-    spans = [(start, start + 1 + start // step % 30) for start in range(0, step * count - 30, step)][:count]
+    step = MILLION // count
+    spans = [(start, start + 1 + start // step % 30) for start in range(0, step * count, step)]
     if order == "mixed":
-        random.Random(6).shuffle(spans)
+        random.Random(5).shuffle(spans)
     return spans[::-1] if order == "falling" else spans
 
 
-def mark(start: int, end: int) -> str:
-    """A new decoration, of a mode by its place."""
-    return f'{{"at":[{start},{end}],"stick":{(start + end) % 4}}}'
+def among(count: int, edited: int) -> Pair:
+    """In turn an edit at a random place and a question about one of so many decorations."""
+    ids = random.Random(6).choices(range(1, count + 1), k=edited)
+    asked = ([f'{{"cmd":"deco","id":{one + past}}}' for one in ids] for past in (0, count))
+    return tuple(
+        [line for turn in zip(changes, questions) for line in turn]
+        for changes, questions in zip(edits(MILLION, edited), asked)
+    )
 
 
-def marks_cases(count: int, scale: Scale) -> Iterator[tuple[str, Case]]:
-    """Cases with so many decorations, each under a name for the rows that belong together."""
-    document, size = plain(1_000_000), f"{count:,}"
-    for order in ("rising", "falling", "mixed"):
-        spans = marks(count, order)
-        good, bad = [mark(*span) for span in spans], [mark(*span[::-1]) for span in spans]
-        lines, refused = ([decorate(OWNER, [], [one]) for one in many] for many in (good, bad))
-        yield f"1{order}", Case(f"add one a line, {order}", size, document, lines, refused, count)
-        lines, refused = ([decorate(OWNER, [], many)] for many in (good, bad))
-        yield f"2{order}", Case(f"add all in one line, {order}", size, document, lines, refused, 1)
-    document = [*document, decorate(OWNER, [], good)]
-    ids = random.Random(7).sample(range(1, count + 1), count)
-    unknown = [one + count for one in ids]
-    lines, refused = ([decorate(OWNER, [one], []) for one in many] for many in (ids, unknown))
-    yield "3", Case("remove one a line, mixed", size, document, lines, refused, count)
-    lines, refused = ([decorate(OWNER, many, [])] for many in (ids, unknown))
-    yield "4", Case("remove all in one line, mixed", size, document, lines, refused, 1)
-    lines, refused = edits(1_000_000, scale.count // 50, random.Random(8))
-    for where, one in enumerate(random.Random(9).choices(ids, k=len(lines))):
-        lines.insert(2 * where + 1, f'{{"cmd":"deco","id":{one}}}')
-        refused.insert(2 * where + 1, f'{{"cmd":"deco","id":{one + count}}}')
-    yield "0", Case("edit, then ask where one is", size, document, lines, refused, scale.texts[1][1])
+def groups(values: list, at_once: bool) -> list[list]:
+    """What each line has: all of the values, or one."""
+    return [values] if at_once else [[value] for value in values]
 
 
 def decoration_cases(scale: Scale) -> Iterator[Case]:
     """Edits among decorations, and decorations added and removed."""
-    cases = [case for count in (1_000, 30_000) for case in marks_cases(count, scale)]
-    yield from (case for _, case in sorted(cases, key=lambda named: named[0]))
+    document = plain(MILLION)
+    full = {count: [*document, decorate([], marks(count, "mixed"))] for count in MARKS}
+    for count in MARKS:
+        lines, refused = among(count, scale.count // 50)
+        yield Case("edit, then ask where one is", f"{count:,}", full[count], lines, refused, scale.texts[1][1])
+    for way, at_once in WAYS:
+        for order in ORDERS:
+            for count in MARKS:
+                good = marks(count, order)
+                both = (good, [span[::-1] for span in good])
+                lines, refused = ([decorate([], group) for group in groups(many, at_once)] for many in both)
+                yield Case(f"add {way}, {order}", f"{count:,}", document, lines, refused, len(lines))
+    for way, at_once in WAYS:
+        for count in MARKS:
+            ids = random.Random(7).sample(range(1, count + 1), count)
+            both = (ids, [one + count for one in ids])
+            lines, refused = ([decorate(group, []) for group in groups(many, at_once)] for many in both)
+            yield Case(f"remove {way}, mixed", f"{count:,}", full[count], lines, refused, len(lines))
 
 
 # ---- brackets
@@ -217,7 +234,7 @@ def nested(units: int) -> tuple[Lines, int]:
     return opened("\n".join(block[number % len(block)] for number in range(count))), count
 
 
-def questions(command: str, last: int, count: int, draw: random.Random) -> tuple[Lines, Lines]:
+def questions(command: str, last: int, count: int, draw: random.Random) -> Pair:
     """Questions at random places of lines up to this one, most of them brackets, and the same refused."""
     numbers = [draw.randrange(1, last - 60) for _ in range(count)]
     if command == "brackets":
@@ -227,7 +244,7 @@ def questions(command: str, last: int, count: int, draw: random.Random) -> tuple
     return [at(command, *place) for place in places], [nowhere(command, *place) for place in places]
 
 
-def after_edits(units: int, last: int, asked: tuple[str, ...], rounds: int) -> tuple[Lines, Lines]:
+def after_edits(units: int, last: int, asked: tuple[str, ...], rounds: int) -> Pair:
     """In turn a balanced text put in at a random place, and questions."""
     draw, lines, refused = random.Random(11), [], []
     for _ in range(rounds):

@@ -217,20 +217,16 @@ static void replace_and_keep(Document *document, const Op *op) {
     replace(document, op);
 }
 
-static bool say_text(const Document *document) {
-    return printf("ok %lu %zu %zu", document->version, document->text.length, line_count(&document->text)) > 0;
-}
-
 static bool next_version(Document *document) {
     document->version++;
-    return say_text(document);
+    return printf("ok %lu %zu %zu", document->version, document->text.length, line_count(&document->text)) > 0;
 }
 
 static bool open_text(Document *document, const char **at) {
     Units units;
     if (!text(at, &units) || !closes(at)) return false;
-    *document = (Document){.text = units, .version = 1, .next_id = 1, .begins = true};
-    return say_text(document);
+    *document = (Document){.text = units, .next_id = 1, .begins = true};
+    return next_version(document);
 }
 
 /* The ops of an edit, each of which has room in `all`. */
