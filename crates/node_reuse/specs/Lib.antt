@@ -1,0 +1,3 @@
+pub mod OldText
+pub mod Texts
+mod Examples

@@ -1,0 +1,20 @@
+-- The lines of a text of now: what they may weigh, and which of them are read.
+use Rattle.std.specs.Prelude.{ℕ, suc, ◌+◌, List, [], ◌∷◌, length}
+use Rattle.mark_rules.specs.declared.Mark.{Mark}
+use Rattle.mark_rules.specs.declared.Mark.TheVariants.{Kept, New}
+
+-- what each line may weigh: its units, and one more for the break that ends it where another line follows
+abbrev pub text_weights : List (List ℕ) → List ℕ
+text_weights [] = []
+text_weights (x ∷ []) = length x ∷ []
+text_weights (x ∷ y ∷ lines) = (length x + 1) ∷ text_weights (y ∷ lines)
+
+-- the numbers of the lines that are new, where the first line has this number
+abbrev pub new_from : ℕ → List Mark → List ℕ
+new_from n [] = []
+new_from n (New ∷ marks) = n ∷ new_from (suc n) marks
+new_from n (Kept i ∷ marks) = new_from (suc n) marks
+
+-- the numbers of the lines that are new, from 1 and rising
+abbrev pub new_lines : List Mark → List ℕ
+new_lines marks = new_from 1 marks

@@ -1,0 +1,7 @@
+//! The bracket tree of a text whose lines changed in part: what of the old tree may be taken over.
+#![tactic(auto)]
+
+mod old;
+
+pub use bracket_rules::Token;
+pub use old::OldReader;
