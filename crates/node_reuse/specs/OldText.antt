@@ -10,12 +10,28 @@ use Rattle.bracket_trees.specs.Tree.{Tree, tree_length}
 use Rattle.bracket_trees.specs.TreeCode.{tree_code}
 use Rattle.mark_rules.specs.declared.Mark.{Mark}
 use Rattle.mark_rules.specs.declared.Mark.TheVariants.{Kept, New}
-use Rattle.reuse_rules.specs.Reuse.{Reusable, IsOldBracket}
+use Rattle.reuse_rules.specs.Reuse.{IsKeptAs, Reusable, IsOldBracket}
+
+-- ---- places
+
+-- the line of place p is kept from the old line of place q, at the same column
+pub record IsOldPlace (marks : List Mark) (p q : Length) : Type 0 where
+  pub kept : IsKeptAs marks p q.lines
+  pub column : q.columns ≡ p.columns
+
+-- the line of place p is new
+abbrev pub IsNewLine : List Mark → Length → Type 0
+IsNewLine marks p = (line : ℕ) → IsKeptAs marks p line → ⊥
+
+-- ---- an old text
 
 -- the tree of an old text, where there is one, and what the lines of the text of now are to it
 pub record OldText : Type 0 where
   pub tree : Option Tree
   pub marks : List Mark
+
+abbrev pub old_text : Option Tree → List Mark → OldText
+old_text tree marks = record { tree = tree; marks = marks }
 
 -- ---- nodes
 
@@ -64,7 +80,7 @@ abbrev mark_of : Option ℕ → Mark
 mark_of (Some i) = Kept i
 mark_of None = New
 
-mark_of-number : (m : Mark) → mark_of (number_of m) ≡ m
+pub mark_of-number : (m : Mark) → mark_of (number_of m) ≡ m
 mark_of-number (Kept i) = refl
 mark_of-number New = refl
 

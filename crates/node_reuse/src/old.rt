@@ -1,11 +1,8 @@
 //! An old text as a reader sees it.
 
-ghost use Rattle.std.specs.Prelude.{◌≡◌, ◌≢◌, ◌+◌, ◌^◌, ◌<◌, ℕ, length, IfSome, IfNone};
+ghost use Rattle.std.specs.Prelude.{◌≡◌, ◌+◌, ◌^◌, ◌<◌, length, IfSome, IfNone};
 ghost use Rattle.std.specs.Option.{option_copied};
-ghost use Rattle.mark_rules.specs.Marks.{kept_run};
-ghost use Rattle.reuse_rules.specs.Reuse.{IsKeptAs};
-ghost use Rattle.text_lengths.specs.Length.{length_of};
-ghost use Rattle.node_reuse.specs.OldText.{IsLongestReusable, NoneReusable, IsOldToken, NoOldBracket};
+ghost use Rattle.node_reuse.specs.OldText.{IsOldPlace, IsNewLine, IsLongestReusable, NoneReusable, IsOldToken, NoOldBracket};
 
 use bracket_nodes::{Kinds, Node, NodeRef};
 use bracket_rules::Token;
@@ -37,12 +34,13 @@ impl<'a> Model for OldReader<'a> {
 impl<'a> OldReader<'a> {
     /// The reader of this tree, under these marks.
     pub fn new(tree: Option<&'a Node>, hunks: &'a Hunks) -> OldReader<'a>
-        ensures tree { result.tree ≡ option_copied tree }
+        ensures tree { result.tree ≡ option_copied tree.entry }
         ensures marks { result.marks ≡ hunks.now.marks }
     {
         OldReader { tree, hunks }
     }
 
+    #[tactic(auto, using(crate::proofs::OldPlaces::node_laws))]
     /// The longest node of the old tree that may stand at this place of the text of now, where brackets of these kinds
     /// are open, `level` of them. Lines are counted from 0. Takes one step, and no memory.
     pub fn longest_at<L: Ledger>(
@@ -63,6 +61,7 @@ impl<'a> OldReader<'a> {
         tree.longest_at(old, self.hunks.kept_from(place.lines + 1), opened, level)
     }
 
+    #[tactic(auto, using(crate::proofs::OldPlaces::bracket_laws))]
     /// The old bracket at this place of the text of now, as one of its line; none where the line is new. Lines are
     /// counted from 0. Takes one step, and no memory.
     pub fn token_at<L: Ledger>(&self, place: Length, steps: &mut Steps<L>) -> Option<Token>
@@ -81,9 +80,8 @@ impl<'a> OldReader<'a> {
     fn old_place(&self, place: Length) -> Option<Length>
         requires { place.lines < length self.now.marks }
         ensures fits { length self.now.marks < 2 ^ 62 }
-        ensures some { IfSome result (λ old. IsKeptAs self.now.marks place old.lines) }
-        ensures column { IfSome result (λ old. old.columns ≡ place.columns) }
-        ensures none { IfNone result ((line : ℕ) → IsKeptAs self.now.marks place line → ⊥) }
+        ensures some { IfSome result (IsOldPlace self.now.marks place) }
+        ensures none { IfNone result (IsNewLine self.now.marks place) }
     {
         let _lines = self.hunks.lines();
         match self.hunks.mark(place.lines + 1) {
