@@ -1,1 +1,3 @@
 pub mod OldPlaces
+pub mod LeafWeights
+pub mod TreeLeaves

@@ -1,3 +1,4 @@
 pub mod OldText
+pub mod Leaves
 pub mod Texts
 mod Examples

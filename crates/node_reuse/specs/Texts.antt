@@ -1,7 +1,11 @@
 -- The lines of a text of now: what they may weigh, and which of them are read.
-use Rattle.std.specs.Prelude.{ℕ, suc, ◌+◌, List, [], ◌∷◌, length}
+use Rattle.std.specs.Prelude.{ℕ, suc, ◌+◌, ◌-◌, ◌≤◌, List, [], ◌∷◌, length, slice_index, slice_index_or}
+use Rattle.text_lengths.specs.Length.{length_of}
+use Rattle.bracket_trees.specs.Tree.{Tree}
 use Rattle.mark_rules.specs.declared.Mark.{Mark}
 use Rattle.mark_rules.specs.declared.Mark.TheVariants.{Kept, New}
+use Rattle.reuse_rules.specs.Reuse.{IsKeptAs}
+use Rattle.node_reuse.specs.Leaves.{line_weight}
 
 -- what each line may weigh: its units, and one more for the break that ends it where another line follows
 abbrev pub text_weights : List (List ℕ) → List ℕ
@@ -18,3 +22,19 @@ new_from n (Kept i ∷ marks) = new_from (suc n) marks
 -- the numbers of the lines that are new, from 1 and rising
 abbrev pub new_lines : List Mark → List ℕ
 new_lines marks = new_from 1 marks
+
+-- where line j is kept as an old line, both counted from 0, the old one weighs no more than line j may
+abbrev pub IsLight : Tree → List Mark → List (List ℕ) → Type 0
+IsLight old marks contents =
+    (j line : ℕ) → IsKeptAs marks (length_of j 0) line → line_weight old line ≤ slice_index (text_weights contents) j
+
+-- ---- lines that are asked for
+
+-- the contents of a text's lines, and the numbers of those that were asked for, in order
+pub record LinesState : Type 0 where
+  pub contents : List (List ℕ)
+  pub asked : List ℕ
+
+-- the content of line n, from 1
+abbrev pub content_at : ℕ → List (List ℕ) → List ℕ
+content_at n contents = slice_index_or contents (n - 1) []

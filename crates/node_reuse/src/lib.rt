@@ -1,7 +1,9 @@
 //! The bracket tree of a text whose lines changed in part: what of the old tree may be taken over.
 #![tactic(auto)]
 
+mod lines;
 mod old;
 
 pub use bracket_rules::Token;
+pub use lines::Lines;
 pub use old::OldReader;
