@@ -1,5 +1,5 @@
 -- The leaves of a tree, line by line, and what a node or a bracket of it leaves of its line.
-use Rattle.std.proofs.Common.{◌≡◌, ℕ, zero, suc, ◌+◌, ◌<◌, ◌≤◌, ◌⊎◌, inl, inr, Option, Some, None, List, [], ◌∷◌, ◌++◌, refl, ap, sym, ◌∙◌, subst, arith, append_assoc, add_assoc, add-zero, zero-add}
+use Rattle.std.proofs.Common.{◌≡◌, ℕ, zero, suc, ◌+◌, ◌<◌, ◌≤◌, ◌⊎◌, inl, inr, Bool, true, false, Option, Some, None, List, [], ◌∷◌, ◌++◌, refl, ap, sym, ◌∙◌, subst, arith, append_assoc, add_assoc, add-zero, zero-add}
 use Rattle.std.proofs.lemmas.List.{append-nil}
 use Rattle.text_lengths.specs.declared.Length.{Length}
 use Rattle.text_lengths.specs.Length.{length_of, no_length, length_plus}
@@ -235,3 +235,128 @@ parted_back o p e front whole q r ls s h k = record {
   starts = behind_then o p q k s.starts;
   ends = s.ends;
 }
+
+-- a whole tree, of which a part of the leaves stands in a part of it
+
+parted_first : (p : Length) (a b : Tree) (q r : Length) (ls : List Leaf) → Parted p (length_plus p (tree_length a)) (leaves p a) q r ls
+    → Parted p (length_plus p (tree_length (two a b))) (leaves p (two a b)) q r ls
+parted_first p a b q r ls s =
+    let m = length_plus p (tree_length a) in
+    let f = length_plus m (tree_length b) in
+    subst (λ (x : Length). Parted p x (leaves p (two a b)) q r ls) (length_plus_assoc p (tree_length a) (tree_length b))
+    (parted_front p m f (leaves p a) (leaves m b) q r ls s (leaves_behind m b) (behind_plus m (tree_length b)))
+
+parted_second : (p : Length) (a b : Tree) (q r : Length) (ls : List Leaf) → IsTree a
+    → Parted (length_plus p (tree_length a)) (length_plus (length_plus p (tree_length a)) (tree_length b)) (leaves (length_plus p (tree_length a)) b) q r ls
+    → Parted p (length_plus p (tree_length (two a b))) (leaves p (two a b)) q r ls
+parted_second p a b q r ls t s =
+    let m = length_plus p (tree_length a) in
+    let f = length_plus m (tree_length b) in
+    subst (λ (x : Length). Parted p x (leaves p (two a b)) q r ls) (length_plus_assoc p (tree_length a) (tree_length b))
+    (parted_back p m f (leaves p a) (leaves m b) q r ls s (leaves_ahead p a t) (behind_plus p (tree_length a)))
+
+-- three parts as two, the second of which has two
+three_as_two : (p : Length) (a b c : Tree) (q r : Length) (ls : List Leaf) → Parted p (length_plus p (tree_length (two a (two b c)))) (leaves p (two a (two b c))) q r ls
+    → Parted p (length_plus p (tree_length (three a b c))) (leaves p (three a b c)) q r ls
+three_as_two p a b c q r ls s =
+    subst (λ (x : Length). Parted p (length_plus p x) (leaves p (three a b c)) q r ls)
+    (sym (length_plus_assoc (tree_length a) (tree_length b) (tree_length c))) s
+
+parted_inside : (p : Length) (k o : ℕ) (i : Tree) (c : Option ℕ) (q r : Length) (ls : List Leaf) → 0 < o
+    → Parted (inside_start p o) (inside_end p o i) (leaves (inside_start p o) i) q r ls
+    → Parted p (length_plus p (tree_length (pair k o i c))) (leaves p (pair k o i c)) q r ls
+parted_inside p k o i c q r ls some s =
+    let m = inside_start p o in
+    let e = inside_end p o i in
+    let f = length_plus e (wide (width_of c)) in
+    subst (λ (x : Length). Parted p x (leaves p (pair k o i c)) q r ls) (pair_end p k o i c)
+    (parted_back p m f (leaf p o ∷ []) (leaves m i ++ closing_leaves e c) q r ls
+    (parted_front m e f (leaves m i) (closing_leaves e c) q r ls s (closing_behind e c) (behind_plus e (wide (width_of c))))
+    (ahead_plus p (wide o) (let h : 0 < o = some in omega arith), tt) (behind_plus p (wide o)))
+
+parted_opening : (p : Length) (k o : ℕ) (i : Tree) (c : Option ℕ)
+    → Parted p (length_plus p (tree_length (pair k o i c))) (leaves p (pair k o i c)) p (length_plus p (wide o)) (leaf p o ∷ [])
+parted_opening p k o i c =
+    let m = inside_start p o in
+    let e = inside_end p o i in
+    let f = length_plus e (wide (width_of c)) in
+    let rest = leaves m i ++ closing_leaves e c in
+    let end : IsBehind m e = behind_plus m (tree_length i) in
+    let behind : AreBehind m rest =
+    AreBehind-append m (leaves m i) (closing_leaves e c) (leaves_behind m i) (AreBehind-then m e (closing_leaves e c) end (closing_behind e c)) in
+    subst (λ (x : Length). Parted p x (leaves p (pair k o i c)) p m (leaf p o ∷ [])) (pair_end p k o i c)
+    (parted_front p m f (leaf p o ∷ []) rest p m (leaf p o ∷ []) (parted_alone p m (leaf p o ∷ [])) behind
+    (behind_then m e f end (behind_plus e (wide (width_of c)))))
+
+parted_closing : (p : Length) (k o : ℕ) (i : Tree) (w : ℕ) → 0 < o → IsTree i
+    → Parted p (length_plus p (tree_length (pair k o i (Some w)))) (leaves p (pair k o i (Some w))) (inside_end p o i)
+    (length_plus (inside_end p o i) (wide w)) (leaf (inside_end p o i) w ∷ [])
+parted_closing p k o i w some t =
+    let m = inside_start p o in
+    let e = inside_end p o i in
+    let f = length_plus e (wide w) in
+    let last = leaf e w ∷ [] in
+    subst (λ (x : Length). Parted p x (leaves p (pair k o i (Some w))) e f last) (pair_end p k o i (Some w))
+    (parted_back p m f (leaf p o ∷ []) (leaves m i ++ last) e f last
+    (parted_back m e f (leaves m i) last e f last (parted_alone e f last) (leaves_ahead m i t) (behind_plus m (tree_length i)))
+    (ahead_plus p (wide o) (let h : 0 < o = some in omega arith), tt) (behind_plus p (wide o)))
+
+here : (p : Length) (t : Tree) (q : Length) (n : Tree) → IsHere p t q n
+    → Parted p (length_plus p (tree_length t)) (leaves p t) q (length_plus q (tree_length n)) (leaves q n)
+here p t q n h =
+    subst (λ (x : Length). Parted p (length_plus p (tree_length t)) (leaves p t) x (length_plus x (tree_length n)) (leaves x n)) (sym h.place)
+    (subst (λ (x : Tree). Parted p (length_plus p (tree_length t)) (leaves p t) p (length_plus p (tree_length x)) (leaves p x)) (sym h.node)
+    (parted_alone p (length_plus p (tree_length t)) (leaves p t)))
+
+-- a node's leaves stand among those of the tree
+pub node_parted : (p : Length) (t : Tree) (q : Length) (n : Tree) → IsTree t → HasNode p t q n
+    → Parted p (length_plus p (tree_length t)) (leaves p t) q (length_plus q (tree_length n)) (leaves q n)
+node_parted p (text l) q n t h = here p (text l) q n h
+node_parted p (pair k o i c) q n t (inl h) = here p (pair k o i c) q n h
+node_parted p (pair k o i c) q n t (inr h) =
+    parted_inside p k o i c q (length_plus q (tree_length n)) (leaves q n) t.0.opening (node_parted (inside_start p o) i q n t.1 h)
+node_parted p (stray k w) q n t h = here p (stray k w) q n h
+node_parted p (capped k w) q n t h = here p (capped k w) q n h
+node_parted p nothing q n t h = here p nothing q n h
+node_parted p (two a b) q n t (inl h) = here p (two a b) q n h
+node_parted p (two a b) q n t (inr (inl h)) =
+    parted_first p a b q (length_plus q (tree_length n)) (leaves q n) (node_parted p a q n t.1.0 h)
+node_parted p (two a b) q n t (inr (inr h)) =
+    parted_second p a b q (length_plus q (tree_length n)) (leaves q n) t.1.0 (node_parted (length_plus p (tree_length a)) b q n t.1.1 h)
+node_parted p (three a b c) q n t (inl h) = here p (three a b c) q n h
+node_parted p (three a b c) q n t (inr (inl h)) =
+    let r = length_plus q (tree_length n) in
+    three_as_two p a b c q r (leaves q n) (parted_first p a (two b c) q r (leaves q n) (node_parted p a q n t.1.0 h))
+node_parted p (three a b c) q n t (inr (inr (inl h))) =
+    let r = length_plus q (tree_length n) in
+    let m = length_plus p (tree_length a) in
+    three_as_two p a b c q r (leaves q n)
+    (parted_second p a (two b c) q r (leaves q n) t.1.0 (parted_first m b c q r (leaves q n) (node_parted m b q n t.1.1.0 h)))
+node_parted p (three a b c) q n t (inr (inr (inr h))) =
+    let r = length_plus q (tree_length n) in
+    let m = length_plus p (tree_length a) in
+    three_as_two p a b c q r (leaves q n)
+    (parted_second p a (two b c) q r (leaves q n) t.1.0
+    (parted_second m b c q r (leaves q n) t.1.1.0 (node_parted (length_plus m (tree_length b)) c q n t.1.1.1 h)))
+
+-- the leaf of a bracket that stands at place p is all of such a tree
+lone : (p : Length) (w : ℕ) (first b : Bracket) (whole : List Leaf) (e : Length) → b ≡ first → first.place ≡ p → first.len ≡ w
+    → Parted p e whole p (length_plus p (wide w)) (leaf p w ∷ [])
+    → Parted p e whole b.place (length_plus b.place (wide b.len)) (leaf b.place b.len ∷ [])
+lone p w first b whole e h at len s =
+    let place : p ≡ b.place = sym (ap (λ (x : Bracket). x.place) h ∙ at) in
+    let width : w ≡ b.len = sym (ap (λ (x : Bracket). x.len) h ∙ len) in
+    subst (λ (x : Length). Parted p e whole x (length_plus x (wide b.len)) (leaf x b.len ∷ [])) place
+    (subst (λ (x : ℕ). Parted p e whole p (length_plus p (wide x)) (leaf p x ∷ [])) width s)
+
+abbrev BracketParted : Length → Tree → Bracket → Type 0
+BracketParted p t b = Parted p (length_plus p (tree_length t)) (leaves p t) b.place (length_plus b.place (wide b.len)) (leaf b.place b.len ∷ [])
+
+one_bracket : (p : Length) (w k : ℕ) (opening : Bool) (t : Tree) (b : Bracket) → leaves p t ≡ leaf p w ∷ [] → tree_length t ≡ wide w
+    → IsAmong b (bracket p w k opening ∷ []) → BracketParted p t b
+one_bracket p w k opening t b e l (inl h) =
+    lone p w (bracket p w k opening) b (leaves p t) (length_plus p (tree_length t)) h refl refl
+    (subst (λ (x : List Leaf). Parted p (length_plus p (tree_length t)) x p (length_plus p (wide w)) (leaf p w ∷ [])) (sym e)
+    (subst (λ (x : Length). Parted p (length_plus p x) (leaf p w ∷ []) p (length_plus p (wide w)) (leaf p w ∷ [])) (sym l)
+    (parted_alone p (length_plus p (wide w)) (leaf p w ∷ []))))
+one_bracket p w k opening t b e l (inr h) = elim h [ ]
