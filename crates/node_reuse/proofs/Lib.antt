@@ -1,3 +1,4 @@
 pub mod OldPlaces
 pub mod LeafWeights
 pub mod TreeLeaves
+pub mod PartedLeaves

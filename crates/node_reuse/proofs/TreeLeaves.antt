@@ -15,7 +15,7 @@ use Rattle.node_reuse.proofs.LeafWeights.{IsBehind, IsAhead, behind_itself, behi
 
 -- ---- where the leaves stand
 
-closing_behind : (p : Length) (c : Option ℕ) → AreBehind p (closing_leaves p c)
+pub closing_behind : (p : Length) (c : Option ℕ) → AreBehind p (closing_leaves p c)
 closing_behind p None = tt
 closing_behind p (Some w) = (behind_itself p, tt)
 
@@ -53,7 +53,7 @@ closing_ahead : (p : Length) (c : Option ℕ) → IsWidth c → AreAhead (length
 closing_ahead p None h = tt
 closing_ahead p (Some w) h = (ahead_plus p (wide w) (let some : 0 < w = h in omega arith), tt)
 
-pair_end : (p : Length) (k o : ℕ) (i : Tree) (c : Option ℕ)
+pub pair_end : (p : Length) (k o : ℕ) (i : Tree) (c : Option ℕ)
     → length_plus (inside_end p o i) (wide (width_of c)) ≡ length_plus p (tree_length (pair k o i c))
 pair_end p k o i c =
     let l = wide o in
@@ -104,7 +104,7 @@ leaves_ahead p (three a b c) h =
 
 -- ---- line by line
 
-one_leaf : (p : Length) (w : ℕ) → weight_from p (leaf p w ∷ []) ≡ w
+pub one_leaf : (p : Length) (w : ℕ) → weight_from p (leaf p w ∷ []) ≡ w
 one_leaf p w = omega (arith, in_line p (leaf p w) refl (omega arith))
 
 one_line : (p : Length) (w : ℕ) → weights_from p 0 (leaf p w ∷ []) ≡ w ∷ []
@@ -186,177 +186,3 @@ leaves_weigh p (three a b c) h =
     (second ∙ ap (λ (x : List ℕ). glue_weights x (weights_from s n (leaves s c))) (leaves_weigh r b h.1.1.0)
     ∙ ap (glue_weights (tree_weights b)) (leaves_weigh s c h.1.1.1))
     ∙ sym (glue_weights-assoc (tree_weights a) (tree_weights b) (tree_weights c))
-
--- ---- what stands among the leaves
-
--- these leaves from place q to place r stand among the whole, from place p to place e
-pub record Parted (p e : Length) (whole : List Leaf) (q r : Length) (ls : List Leaf) : Type 0 where
-  pub before : List Leaf
-  pub after : List Leaf
-  pub spells : whole ≡ before ++ (ls ++ after)
-  pub ahead : AreAhead q before
-  pub behind : AreBehind r after
-  pub starts : IsBehind p q
-  pub ends : IsBehind r e
-
-parted_alone : (p e : Length) (ls : List Leaf) → Parted p e ls p e ls
-parted_alone p e ls = record {
-  before = [];
-  after = [];
-  spells = sym (append-nil ls);
-  ahead = tt;
-  behind = tt;
-  starts = behind_itself p;
-  ends = behind_itself e;
-}
-
-parted_front : (p e f : Length) (whole more : List Leaf) (q r : Length) (ls : List Leaf) → Parted p e whole q r ls → AreBehind e more → IsBehind e f
-    → Parted p f (whole ++ more) q r ls
-parted_front p e f whole more q r ls s h k = record {
-  before = s.before;
-  after = s.after ++ more;
-  spells =
-      ap (λ (x : List Leaf). x ++ more) s.spells ∙ append_assoc s.before (ls ++ s.after) more
-      ∙ ap (λ (x : List Leaf). s.before ++ x) (append_assoc ls s.after more);
-  ahead = s.ahead;
-  behind = AreBehind-append r s.after more s.behind (AreBehind-then r e more s.ends h);
-  starts = s.starts;
-  ends = behind_then r e f s.ends k;
-}
-
-parted_back : (o p e : Length) (front whole : List Leaf) (q r : Length) (ls : List Leaf) → Parted p e whole q r ls → AreAhead p front → IsBehind o p
-    → Parted o e (front ++ whole) q r ls
-parted_back o p e front whole q r ls s h k = record {
-  before = front ++ s.before;
-  after = s.after;
-  spells = ap (λ (x : List Leaf). front ++ x) s.spells ∙ sym (append_assoc front s.before (ls ++ s.after));
-  ahead = AreAhead-append q front s.before (AreAhead-then p q front s.starts h) s.ahead;
-  behind = s.behind;
-  starts = behind_then o p q k s.starts;
-  ends = s.ends;
-}
-
--- a whole tree, of which a part of the leaves stands in a part of it
-
-parted_first : (p : Length) (a b : Tree) (q r : Length) (ls : List Leaf) → Parted p (length_plus p (tree_length a)) (leaves p a) q r ls
-    → Parted p (length_plus p (tree_length (two a b))) (leaves p (two a b)) q r ls
-parted_first p a b q r ls s =
-    let m = length_plus p (tree_length a) in
-    let f = length_plus m (tree_length b) in
-    subst (λ (x : Length). Parted p x (leaves p (two a b)) q r ls) (length_plus_assoc p (tree_length a) (tree_length b))
-    (parted_front p m f (leaves p a) (leaves m b) q r ls s (leaves_behind m b) (behind_plus m (tree_length b)))
-
-parted_second : (p : Length) (a b : Tree) (q r : Length) (ls : List Leaf) → IsTree a
-    → Parted (length_plus p (tree_length a)) (length_plus (length_plus p (tree_length a)) (tree_length b)) (leaves (length_plus p (tree_length a)) b) q r ls
-    → Parted p (length_plus p (tree_length (two a b))) (leaves p (two a b)) q r ls
-parted_second p a b q r ls t s =
-    let m = length_plus p (tree_length a) in
-    let f = length_plus m (tree_length b) in
-    subst (λ (x : Length). Parted p x (leaves p (two a b)) q r ls) (length_plus_assoc p (tree_length a) (tree_length b))
-    (parted_back p m f (leaves p a) (leaves m b) q r ls s (leaves_ahead p a t) (behind_plus p (tree_length a)))
-
--- three parts as two, the second of which has two
-three_as_two : (p : Length) (a b c : Tree) (q r : Length) (ls : List Leaf) → Parted p (length_plus p (tree_length (two a (two b c)))) (leaves p (two a (two b c))) q r ls
-    → Parted p (length_plus p (tree_length (three a b c))) (leaves p (three a b c)) q r ls
-three_as_two p a b c q r ls s =
-    subst (λ (x : Length). Parted p (length_plus p x) (leaves p (three a b c)) q r ls)
-    (sym (length_plus_assoc (tree_length a) (tree_length b) (tree_length c))) s
-
-parted_inside : (p : Length) (k o : ℕ) (i : Tree) (c : Option ℕ) (q r : Length) (ls : List Leaf) → 0 < o
-    → Parted (inside_start p o) (inside_end p o i) (leaves (inside_start p o) i) q r ls
-    → Parted p (length_plus p (tree_length (pair k o i c))) (leaves p (pair k o i c)) q r ls
-parted_inside p k o i c q r ls some s =
-    let m = inside_start p o in
-    let e = inside_end p o i in
-    let f = length_plus e (wide (width_of c)) in
-    subst (λ (x : Length). Parted p x (leaves p (pair k o i c)) q r ls) (pair_end p k o i c)
-    (parted_back p m f (leaf p o ∷ []) (leaves m i ++ closing_leaves e c) q r ls
-    (parted_front m e f (leaves m i) (closing_leaves e c) q r ls s (closing_behind e c) (behind_plus e (wide (width_of c))))
-    (ahead_plus p (wide o) (let h : 0 < o = some in omega arith), tt) (behind_plus p (wide o)))
-
-parted_opening : (p : Length) (k o : ℕ) (i : Tree) (c : Option ℕ)
-    → Parted p (length_plus p (tree_length (pair k o i c))) (leaves p (pair k o i c)) p (length_plus p (wide o)) (leaf p o ∷ [])
-parted_opening p k o i c =
-    let m = inside_start p o in
-    let e = inside_end p o i in
-    let f = length_plus e (wide (width_of c)) in
-    let rest = leaves m i ++ closing_leaves e c in
-    let end : IsBehind m e = behind_plus m (tree_length i) in
-    let behind : AreBehind m rest =
-    AreBehind-append m (leaves m i) (closing_leaves e c) (leaves_behind m i) (AreBehind-then m e (closing_leaves e c) end (closing_behind e c)) in
-    subst (λ (x : Length). Parted p x (leaves p (pair k o i c)) p m (leaf p o ∷ [])) (pair_end p k o i c)
-    (parted_front p m f (leaf p o ∷ []) rest p m (leaf p o ∷ []) (parted_alone p m (leaf p o ∷ [])) behind
-    (behind_then m e f end (behind_plus e (wide (width_of c)))))
-
-parted_closing : (p : Length) (k o : ℕ) (i : Tree) (w : ℕ) → 0 < o → IsTree i
-    → Parted p (length_plus p (tree_length (pair k o i (Some w)))) (leaves p (pair k o i (Some w))) (inside_end p o i)
-    (length_plus (inside_end p o i) (wide w)) (leaf (inside_end p o i) w ∷ [])
-parted_closing p k o i w some t =
-    let m = inside_start p o in
-    let e = inside_end p o i in
-    let f = length_plus e (wide w) in
-    let last = leaf e w ∷ [] in
-    subst (λ (x : Length). Parted p x (leaves p (pair k o i (Some w))) e f last) (pair_end p k o i (Some w))
-    (parted_back p m f (leaf p o ∷ []) (leaves m i ++ last) e f last
-    (parted_back m e f (leaves m i) last e f last (parted_alone e f last) (leaves_ahead m i t) (behind_plus m (tree_length i)))
-    (ahead_plus p (wide o) (let h : 0 < o = some in omega arith), tt) (behind_plus p (wide o)))
-
-here : (p : Length) (t : Tree) (q : Length) (n : Tree) → IsHere p t q n
-    → Parted p (length_plus p (tree_length t)) (leaves p t) q (length_plus q (tree_length n)) (leaves q n)
-here p t q n h =
-    subst (λ (x : Length). Parted p (length_plus p (tree_length t)) (leaves p t) x (length_plus x (tree_length n)) (leaves x n)) (sym h.place)
-    (subst (λ (x : Tree). Parted p (length_plus p (tree_length t)) (leaves p t) p (length_plus p (tree_length x)) (leaves p x)) (sym h.node)
-    (parted_alone p (length_plus p (tree_length t)) (leaves p t)))
-
--- a node's leaves stand among those of the tree
-pub node_parted : (p : Length) (t : Tree) (q : Length) (n : Tree) → IsTree t → HasNode p t q n
-    → Parted p (length_plus p (tree_length t)) (leaves p t) q (length_plus q (tree_length n)) (leaves q n)
-node_parted p (text l) q n t h = here p (text l) q n h
-node_parted p (pair k o i c) q n t (inl h) = here p (pair k o i c) q n h
-node_parted p (pair k o i c) q n t (inr h) =
-    parted_inside p k o i c q (length_plus q (tree_length n)) (leaves q n) t.0.opening (node_parted (inside_start p o) i q n t.1 h)
-node_parted p (stray k w) q n t h = here p (stray k w) q n h
-node_parted p (capped k w) q n t h = here p (capped k w) q n h
-node_parted p nothing q n t h = here p nothing q n h
-node_parted p (two a b) q n t (inl h) = here p (two a b) q n h
-node_parted p (two a b) q n t (inr (inl h)) =
-    parted_first p a b q (length_plus q (tree_length n)) (leaves q n) (node_parted p a q n t.1.0 h)
-node_parted p (two a b) q n t (inr (inr h)) =
-    parted_second p a b q (length_plus q (tree_length n)) (leaves q n) t.1.0 (node_parted (length_plus p (tree_length a)) b q n t.1.1 h)
-node_parted p (three a b c) q n t (inl h) = here p (three a b c) q n h
-node_parted p (three a b c) q n t (inr (inl h)) =
-    let r = length_plus q (tree_length n) in
-    three_as_two p a b c q r (leaves q n) (parted_first p a (two b c) q r (leaves q n) (node_parted p a q n t.1.0 h))
-node_parted p (three a b c) q n t (inr (inr (inl h))) =
-    let r = length_plus q (tree_length n) in
-    let m = length_plus p (tree_length a) in
-    three_as_two p a b c q r (leaves q n)
-    (parted_second p a (two b c) q r (leaves q n) t.1.0 (parted_first m b c q r (leaves q n) (node_parted m b q n t.1.1.0 h)))
-node_parted p (three a b c) q n t (inr (inr (inr h))) =
-    let r = length_plus q (tree_length n) in
-    let m = length_plus p (tree_length a) in
-    three_as_two p a b c q r (leaves q n)
-    (parted_second p a (two b c) q r (leaves q n) t.1.0
-    (parted_second m b c q r (leaves q n) t.1.1.0 (node_parted (length_plus m (tree_length b)) c q n t.1.1.1 h)))
-
--- the leaf of a bracket that stands at place p is all of such a tree
-lone : (p : Length) (w : ℕ) (first b : Bracket) (whole : List Leaf) (e : Length) → b ≡ first → first.place ≡ p → first.len ≡ w
-    → Parted p e whole p (length_plus p (wide w)) (leaf p w ∷ [])
-    → Parted p e whole b.place (length_plus b.place (wide b.len)) (leaf b.place b.len ∷ [])
-lone p w first b whole e h at len s =
-    let place : p ≡ b.place = sym (ap (λ (x : Bracket). x.place) h ∙ at) in
-    let width : w ≡ b.len = sym (ap (λ (x : Bracket). x.len) h ∙ len) in
-    subst (λ (x : Length). Parted p e whole x (length_plus x (wide b.len)) (leaf x b.len ∷ [])) place
-    (subst (λ (x : ℕ). Parted p e whole p (length_plus p (wide x)) (leaf p x ∷ [])) width s)
-
-abbrev BracketParted : Length → Tree → Bracket → Type 0
-BracketParted p t b = Parted p (length_plus p (tree_length t)) (leaves p t) b.place (length_plus b.place (wide b.len)) (leaf b.place b.len ∷ [])
-
-one_bracket : (p : Length) (w k : ℕ) (opening : Bool) (t : Tree) (b : Bracket) → leaves p t ≡ leaf p w ∷ [] → tree_length t ≡ wide w
-    → IsAmong b (bracket p w k opening ∷ []) → BracketParted p t b
-one_bracket p w k opening t b e l (inl h) =
-    lone p w (bracket p w k opening) b (leaves p t) (length_plus p (tree_length t)) h refl refl
-    (subst (λ (x : List Leaf). Parted p (length_plus p (tree_length t)) x p (length_plus p (wide w)) (leaf p w ∷ [])) (sym e)
-    (subst (λ (x : Length). Parted p (length_plus p x) (leaf p w ∷ []) p (length_plus p (wide w)) (leaf p w ∷ [])) (sym l)
-    (parted_alone p (length_plus p (wide w)) (leaf p w ∷ []))))
-one_bracket p w k opening t b e l (inr h) = elim h [ ]
