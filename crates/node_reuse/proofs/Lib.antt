@@ -2,3 +2,4 @@ pub mod OldPlaces
 pub mod LeafWeights
 pub mod TreeLeaves
 pub mod PartedLeaves
+pub mod FreshSteps

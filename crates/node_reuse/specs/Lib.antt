@@ -1,4 +1,5 @@
 pub mod OldText
 pub mod Leaves
 pub mod Texts
+pub mod Ahead
 mod Examples
