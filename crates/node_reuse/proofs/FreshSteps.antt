@@ -58,7 +58,7 @@ cut c d n front ts all [] h k e =
     ap (λ (r : Row). r ∷ []) (same_row (moved_back c all) (front ++ shifted (d - c) (moved_back d ts)) (n - c) ((d - c) + (n - d)) e columns)
 cut c d n front ts all (r ∷ rest) h k e = ap (λ (x : List Token). row x 0 ∷ r ∷ rest) e
 
-fits_text : (kinds level lines columns : ℕ) → level ≤ MOST_OPEN → Fits kinds level (text (length_of lines columns))
+pub fits_text : (kinds level lines columns : ℕ) → level ≤ MOST_OPEN → Fits kinds level (text (length_of lines columns))
 fits_text kinds level lines columns h = record {
   closed = refl;
   uncapped = refl;
@@ -89,7 +89,7 @@ moved_on now weights p d n ts us front h f b k e =
       weight = f.weight;
     }
 
-rows_at : (now : List Row) (weights : List ℕ) (p : Length) (ts : List Token) (n : ℕ) → IsFresh now weights p ts n
+pub rows_at : (now : List Row) (weights : List ℕ) (p : Length) (ts : List Token) (n : ℕ) → IsFresh now weights p ts n
     → rows_from p now ≡ rows_before p.columns ts n (drop (suc p.lines) now)
 rows_at now weights p ts n f = Reached-rows now p (rows_before p.columns ts n (drop (suc p.lines) now)) f.reached
 

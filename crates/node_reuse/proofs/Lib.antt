@@ -3,3 +3,4 @@ pub mod LeafWeights
 pub mod TreeLeaves
 pub mod PartedLeaves
 pub mod FreshSteps
+pub mod FreshLines
