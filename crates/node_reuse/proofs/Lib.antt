@@ -4,3 +4,4 @@ pub mod TreeLeaves
 pub mod PartedLeaves
 pub mod FreshSteps
 pub mod FreshLines
+pub mod KeptCovers
