@@ -5,3 +5,4 @@ pub mod PartedLeaves
 pub mod FreshSteps
 pub mod FreshLines
 pub mod KeptCovers
+pub mod KeptSteps
