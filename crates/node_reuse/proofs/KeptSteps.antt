@@ -89,7 +89,7 @@ pub record TookAt (old : Tree) (marks : List Mark) (now : List Row) (p : Length)
   pub goes_on : l.lines < kept_run (drop p.lines marks)
       → Follows old marks (length_plus p l) (rows_from (length_plus p l) now) (line + l.lines)
 
-took_at : (old : Tree) (marks : List Mark) (now : List Row) (p : Length) (line : ℕ) (rows : List Row) (l : Length) → rows_length rows ≡ l
+pub took_at : (old : Tree) (marks : List Mark) (now : List Row) (p : Length) (line : ℕ) (rows : List Row) (l : Length) → rows_length rows ≡ l
     → Took old marks now p (rows_from p now) line rows → TookAt old marks now p line rows l
 took_at old marks now p line rows l e t =
     let m = rows_length rows in

@@ -6,3 +6,4 @@ pub mod FreshSteps
 pub mod FreshLines
 pub mod KeptCovers
 pub mod KeptSteps
+pub mod KeptEnds
