@@ -1,12 +1,12 @@
 -- A reader that enters a line whose content was scanned, goes on to the next line, or stands at the end.
-use Rattle.std.proofs.Common.{◌≡◌, ℕ, zero, suc, ◌+◌, ◌-◌, ◌<◌, ◌≤◌, true, false, List, [], ◌∷◌, length, get_or, drop, refl, ap, sym, ◌∙◌, subst, arith, inl, inr, drop-cons}
+use Rattle.std.proofs.Common.{◌≡◌, ℕ, zero, suc, ◌+◌, ◌-◌, ◌<◌, ◌≤◌, true, List, [], ◌∷◌, length, get_or, drop, refl, ap, sym, ◌∙◌, subst, arith, inr, drop-cons}
 use Rattle.std.specs.Prelude.{slice_index}
 use Rattle.std.proofs.lemmas.List.{length-drop, nil_from_length}
 use Rattle.text_lengths.specs.declared.Length.{Length}
 use Rattle.text_lengths.specs.Length.{length_of}
 use Rattle.bracket_rules.specs.declared.Token.{Token}
 use Rattle.bracket_rules.specs.declared.TheConstants.{MOST_OPEN}
-use Rattle.bracket_rules.specs.Table.{Table, is_table, token, tokens_of, AreInLine}
+use Rattle.bracket_rules.specs.Table.{Table, is_table, token, tokens_of}
 use Rattle.bracket_rules.specs.Rows.{Row, HasRow, row, empty_row, glue, text_rows}
 use Rattle.bracket_rules.proofs.Tokens.{tokens_of-in_line}
 use Rattle.bracket_trees.specs.Tree.{text}
@@ -16,7 +16,6 @@ use Rattle.bracket_trees.proofs.Glue.{empty_glue}
 use Rattle.bracket_trees.proofs.LineWeights.{AreCovered-same}
 use Rattle.bracket_nodes.specs.Source.{GivesNode, IsOver}
 use Rattle.bracket_nodes.specs.ScannedLines.{moved_back}
-use Rattle.bracket_nodes.proofs.ScannedSteps.{line_end}
 use Rattle.reuse_rules.specs.Following.{Reached}
 use Rattle.reuse_rules.proofs.Followings.{Reached-rows, Reached-line}
 use Rattle.node_reuse.specs.Texts.{text_weights}

@@ -1,5 +1,5 @@
 -- The steps of a reader in a line whose content was scanned.
-use Rattle.std.proofs.Common.{◌≡◌, ℕ, zero, suc, ◌+◌, ◌-◌, ◌<◌, ◌≤◌, true, false, List, [], ◌∷◌, ◌++◌, length, drop, refl, ap, sym, ◌∙◌, subst, arith, inl, inr}
+use Rattle.std.proofs.Common.{◌≡◌, ℕ, suc, ◌+◌, ◌-◌, ◌<◌, ◌≤◌, true, false, List, [], ◌∷◌, ◌++◌, length, drop, refl, ap, sym, ◌∙◌, subst, arith, inl}
 use Rattle.std.specs.Prelude.{slice_index}
 use Rattle.std.proofs.lemmas.List.{length-drop}
 use Rattle.text_lengths.specs.declared.Length.{Length}
@@ -7,22 +7,19 @@ use Rattle.text_lengths.specs.Length.{length_of, length_plus}
 use Rattle.text_lengths.proofs.Lengths.{same_length}
 use Rattle.bracket_rules.specs.declared.Token.{Token}
 use Rattle.bracket_rules.specs.declared.TheConstants.{MOST_OPEN}
-use Rattle.bracket_rules.specs.Table.{Table, is_table, token, tokens_of, AreInLine}
-use Rattle.bracket_rules.specs.Rows.{Row, HasRow, row, empty_row, shifted, glue, rows_length, text_rows}
-use Rattle.bracket_rules.proofs.Tokens.{tokens_of-in_line}
-use Rattle.bracket_trees.specs.Tree.{Tree, text, wide, bracket_row, tree_rows, IsTree}
+use Rattle.bracket_rules.specs.Table.{token, AreInLine}
+use Rattle.bracket_rules.specs.Rows.{Row, HasRow, row, empty_row, shifted, glue}
+use Rattle.bracket_trees.specs.Tree.{text, wide, bracket_row}
 use Rattle.bracket_trees.specs.Told.{Fits}
 use Rattle.bracket_trees.specs.Places.{IsBounded, rows_from}
 use Rattle.bracket_trees.proofs.Glue.{empty_glue}
-use Rattle.bracket_trees.proofs.Places.{IsBounded-bracket, IsBounded-tree}
 use Rattle.bracket_trees.proofs.LineWeights.{AreCovered-same}
-use Rattle.bracket_nodes.specs.Source.{Ahead, GivesNode, GivesBracket, IsOver}
+use Rattle.bracket_nodes.specs.Source.{GivesNode, GivesBracket}
 use Rattle.bracket_nodes.specs.ScannedLines.{moved_back}
-use Rattle.bracket_nodes.proofs.ScannedSteps.{line_end, token_fits}
+use Rattle.bracket_nodes.proofs.ScannedSteps.{line_end}
 use Rattle.reuse_rules.specs.Following.{Reached}
-use Rattle.reuse_rules.proofs.Followings.{Reached-next, Reached-rows, Reached-line}
-use Rattle.node_reuse.specs.Texts.{text_weights, content_at}
-use Rattle.node_reuse.specs.Ahead.{ahead_at, fresh_left, break_before, rows_before, IsFresh}
+use Rattle.reuse_rules.proofs.Followings.{Reached-next, Reached-rows}
+use Rattle.node_reuse.specs.Ahead.{ahead_at, fresh_left, rows_before, IsFresh}
 
 -- ---- rows
 

@@ -62,7 +62,6 @@ glue_none : (g : ℕ) (d : List ℕ) → g ≡ 0 → 0 < length d → glue_weigh
 glue_none g [] e h = absurd (omega arith)
 glue_none g (v ∷ d) e h = ap (λ (n : ℕ). n ∷ d) (omega arith)
 
-
 pub cover_turned : (weights : List ℕ) (ls : List Leaf) (k : ℕ) (q : Length) (j : ℕ) (f : List ℕ) (x : ℕ) → HasWeight f
     → glue_weights f (x ∷ []) ≡ weights_from q (suc k) ls → x ≡ weight_from (length_of (q.lines + suc k) 0) ls → suc (j + k) < length weights
     → AreLight weights ls q j k
@@ -95,7 +94,8 @@ cover_turned weights ls (suc k) q j (w ∷ g ∷ f) x has e last within h =
     let end : x ≡ weight_from (length_of ((next_line q).lines + suc k) 0) ls = last ∙ ap (λ (p : Length). weight_from p ls) line in
     let count : suc (suc j + k) ≡ suc (j + suc k) = omega arith in
     let rest : AreCovered (glue_weights (g ∷ f) (drop (suc (suc j + k)) weights)) (weight_from (next_line q) ls ∷ drop (suc (suc j)) weights) =
-    cover_turned weights ls k (next_line q) (suc j) (g ∷ f) x tt tail end (omega arith) (light_next weights ls q j k h) in
-    (omega arith,
-    step_over weights ls q j k (glue_weights (g ∷ f) (drop (suc (j + suc k)) weights)) (omega arith) h
-    (subst (λ (n : ℕ). AreCovered (glue_weights (g ∷ f) (drop n weights)) (weight_from (next_line q) ls ∷ drop (suc (suc j)) weights)) count rest))
+    cover_turned weights ls k (next_line q) (suc j) (g ∷ f) x tt tail end (omega arith) (light_next weights ls q j k h) in (
+      omega arith,
+      step_over weights ls q j k (glue_weights (g ∷ f) (drop (suc (j + suc k)) weights)) (omega arith) h
+          (subst (λ (n : ℕ). AreCovered (glue_weights (g ∷ f) (drop n weights)) (weight_from (next_line q) ls ∷ drop (suc (suc j)) weights)) count rest),
+    )

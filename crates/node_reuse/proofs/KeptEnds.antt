@@ -1,5 +1,5 @@
 -- A reader in a kept line takes an old bracket, or stands at the end.
-use Rattle.std.proofs.Common.{◌≡◌, ℕ, zero, suc, ◌+◌, ◌-◌, ◌<◌, ◌≤◌, ◌⊎◌, inl, inr, Bool, true, false, Option, Some, None, List, [], ◌∷◌, ◌++◌, length, drop, refl, ap, sym, ◌∙◌, subst, arith}
+use Rattle.std.proofs.Common.{◌≡◌, ℕ, suc, ◌+◌, ◌<◌, ◌≤◌, inl, inr, Bool, true, false, Option, Some, None, List, [], ◌∷◌, ◌++◌, length, drop, refl, ap, sym, ◌∙◌, subst, arith}
 use Rattle.std.specs.Prelude.{slice_index_or}
 use Rattle.std.proofs.lemmas.List.{length-drop, nil_from_length, get_or-drop}
 use Rattle.text_lengths.specs.declared.Length.{Length}
@@ -7,17 +7,17 @@ use Rattle.text_lengths.specs.Length.{length_of, no_length, length_plus}
 use Rattle.text_lengths.proofs.Lengths.{none_plus}
 use Rattle.bracket_rules.specs.declared.TheConstants.{MOST_OPEN, MOST_PAIRS}
 use Rattle.bracket_rules.specs.Parse.{Bracket, bracket}
-use Rattle.bracket_rules.specs.Rows.{Row, HasRow, empty_row, glue}
+use Rattle.bracket_rules.specs.Rows.{Row, empty_row}
 use Rattle.bracket_trees.specs.Tree.{Tree, text, pair, stray, capped, nothing, two, three, wide, bracket_row, tree_length, tree_tokens, closing_brackets, inside_start, inside_end, IsTree, IsWidth}
 use Rattle.bracket_trees.specs.Weights.{glue_weights, tree_weights, AreCovered}
-use Rattle.bracket_trees.specs.Places.{HasNode, IsAmong, HasBracket, IsEdge, at_text, at_bracket, at_end, rows_from}
+use Rattle.bracket_trees.specs.Places.{IsAmong, HasBracket, IsEdge, at_text, at_bracket, at_end, rows_from}
 use Rattle.bracket_trees.proofs.Places.{IsAmong-append}
 use Rattle.bracket_trees.proofs.LineWeights.{AreCovered-same, AreCovered-then, AreCovered-glue}
 use Rattle.bracket_nodes.specs.Source.{Ahead, GivesNode, GivesBracket, IsOver, weights_ahead}
 use Rattle.mark_rules.specs.declared.Mark.{Mark}
 use Rattle.mark_rules.specs.declared.Mark.TheVariants.{Kept, New}
 use Rattle.mark_rules.specs.Marks.{mark_at, kept_run}
-use Rattle.reuse_rules.specs.Following.{Reached, Follows}
+use Rattle.reuse_rules.specs.Following.{Reached}
 use Rattle.reuse_rules.proofs.Followings.{bracket_taken, ends_alike, text_may_be_taken}
 use Rattle.node_reuse.specs.Leaves.{weight_left}
 use Rattle.node_reuse.specs.OldText.{old_text, NoneReusable, NoOldBracket}
@@ -98,7 +98,10 @@ pub bracket_goes_on : (old : Tree) (marks : List Mark) (now : List Row) (weights
 bracket_goes_on old marks now weights p line b f h e =
     let t : TookAt old marks now p line (bracket_row b.kind b.len b.opening) (wide b.len) = bracket_took old marks now weights p line b f h e in
     record {
-      tree = f.tree; light = f.light; count = f.count; reached = t.reached;
+      tree = f.tree;
+      light = f.light;
+      count = f.count;
+      reached = t.reached;
       follows = t.goes_on (run_some marks p.lines (line + 1) f.follows.kept);
     }
 
@@ -118,9 +121,10 @@ bracket_given old marks now weights p line b f h e =
       has_kind = fits.has_kind;
       wide = fits.wide;
       spells = t.spells;
-      weighs =
-          (omega (arith, weighed),
-          subst (λ (x : List ℕ). AreCovered x (drop (suc p.lines) weights)) later (AreCovered-same (drop (suc p.lines) weights)));
+      weighs = (
+        omega (arith, weighed),
+        subst (λ (x : List ℕ). AreCovered x (drop (suc p.lines) weights)) later (AreCovered-same (drop (suc p.lines) weights)),
+      );
       rest = t.has_rest;
     }
 

@@ -1,32 +1,28 @@
 -- The steps of a reader in a line that is kept.
-use Rattle.std.proofs.Common.{◌≡◌, ℕ, zero, suc, ◌+◌, ◌-◌, ◌<◌, ◌≤◌, Option, Some, List, [], ◌∷◌, length, drop, refl, ap, sym, ◌∙◌, subst, arith, drop-cons}
+use Rattle.std.proofs.Common.{◌≡◌, ℕ, zero, suc, ◌+◌, ◌-◌, ◌<◌, ◌≤◌, List, [], ◌∷◌, length, drop, refl, ap, sym, ◌∙◌, subst, arith, drop-cons}
 use Rattle.std.specs.Prelude.{slice_index}
-use Rattle.std.proofs.lemmas.List.{length-drop, nil_from_length}
 use Rattle.std.proofs.lemmas.Bool.{lt-ltb}
 use Rattle.text_lengths.specs.declared.Length.{Length}
 use Rattle.text_lengths.specs.Length.{length_of, no_length, length_plus}
 use Rattle.text_lengths.proofs.Lengths.{same_length}
-use Rattle.bracket_rules.specs.declared.TheConstants.{MOST_OPEN, MOST_PAIRS}
-use Rattle.bracket_rules.specs.Parse.{Bracket}
 use Rattle.bracket_rules.specs.Rows.{Row, HasRow, empty_row, glue, rows_length}
-use Rattle.bracket_trees.specs.Tree.{Tree, text, wide, bracket_row, tree_rows, tree_length, IsTree}
+use Rattle.bracket_trees.specs.Tree.{Tree, tree_rows, tree_length, IsTree}
 use Rattle.bracket_trees.specs.Weights.{glue_weights, tree_weights, AreCovered}
-use Rattle.bracket_trees.specs.Places.{HasNode, HasBracket, MayBeTaken, IsEdge, at_text, at_bracket, at_end, rows_from, touched, lines_touched}
-use Rattle.bracket_trees.proofs.Glue.{HasRow-tree_rows, rows_length-tree, glue_empty}
+use Rattle.bracket_trees.specs.Places.{HasNode, MayBeTaken, rows_from, lines_touched}
+use Rattle.bracket_trees.proofs.Glue.{rows_length-tree, glue_empty}
 use Rattle.bracket_trees.proofs.Places.{IsTree-node}
-use Rattle.bracket_trees.proofs.LineWeights.{HasWeight-tree, glue_weights-assoc, AreCovered-same}
-use Rattle.bracket_nodes.specs.Source.{GivesNode, GivesBracket, IsOver}
+use Rattle.bracket_trees.proofs.LineWeights.{HasWeight-tree, glue_weights-assoc}
+use Rattle.bracket_nodes.specs.Source.{GivesNode}
 use Rattle.mark_rules.specs.declared.Mark.{Mark}
 use Rattle.mark_rules.specs.declared.Mark.TheVariants.{Kept}
 use Rattle.mark_rules.specs.Marks.{mark_at, kept_run}
 use Rattle.reuse_rules.specs.Reuse.{IsKeptAs}
 use Rattle.reuse_rules.specs.Following.{Reached, Follows}
-use Rattle.reuse_rules.proofs.Followings.{Took, node_taken, bracket_taken, ends_alike, text_may_be_taken, Reached-rows}
+use Rattle.reuse_rules.proofs.Followings.{Took, node_taken, Reached-rows}
 use Rattle.reuse_rules.proofs.KeptRuns.{kept_run_mark}
 use Rattle.node_reuse.specs.Leaves.{leaves, weight_from, weights_from, weight_left, line_weight}
-use Rattle.node_reuse.specs.OldText.{old_text, NoneReusable, NoOldBracket}
 use Rattle.node_reuse.specs.Ahead.{ahead_at, fresh_left}
-use Rattle.node_reuse.proofs.PartedLeaves.{node_weighs, bracket_weighs}
+use Rattle.node_reuse.proofs.PartedLeaves.{node_weighs}
 use Rattle.node_reuse.proofs.KeptCovers.{AreLight, cover_kept, cover_turned}
 
 -- ---- where a reader is among the rows

@@ -1,9 +1,9 @@
 -- What the leaves of a tree weigh in the lines from a place on, and how a node's leaves are parted from those about it.
-use Rattle.std.proofs.Common.{◌≡◌, ℕ, zero, suc, ◌+◌, ◌-◌, ◌<◌, ◌≤◌, ◌⊎◌, inl, inr, Bool, true, false, Option, Some, None, List, [], ◌∷◌, ◌++◌, refl, ap, sym, ◌∙◌, subst, arith, zero-add}
+use Rattle.std.proofs.Common.{◌≡◌, ℕ, zero, suc, ◌+◌, ◌<◌, ◌≤◌, inl, inr, List, [], ◌∷◌, ◌++◌, refl, ap, sym, ◌∙◌, arith, zero-add}
 use Rattle.std.specs.Prelude.{⊤}
-use Rattle.std.proofs.lemmas.Bool.{cases_lt, ne_eqb, eq-eqb, le-leb, lt-leb, lt-ltb, le-ltb}
+use Rattle.std.proofs.lemmas.Bool.{cases_lt, ne_eqb, eq-eqb, le-leb, lt-leb, le-ltb}
 use Rattle.text_lengths.specs.declared.Length.{Length}
-use Rattle.text_lengths.specs.Length.{length_of, no_length, length_plus}
+use Rattle.text_lengths.specs.Length.{length_of, length_plus}
 use Rattle.bracket_rules.specs.Rows.{next_line}
 use Rattle.bracket_trees.specs.Weights.{glue_weights}
 use Rattle.node_reuse.specs.Leaves.{Leaf, leaf_weight, weight_from, weights_from}
@@ -79,9 +79,9 @@ leaf_behind p q l e c h =
     elim (cases_lt q.lines l.place.lines) [
       | inl later ↦ other_line p l (λ x. omega arith) ∙ sym (other_line q l (λ x. omega arith))
       | inr here ↦
-        let a = h.lines in
-        let column : q.columns ≤ l.place.columns = h.columns here in
-        in_line p l (omega arith) (omega arith) ∙ sym (in_line q l (omega arith) column)
+          let a = h.lines in
+          let column : q.columns ≤ l.place.columns = h.columns here in
+          in_line p l (omega arith) (omega arith) ∙ sym (in_line q l (omega arith) column)
     ]
 
 -- ---- many leaves

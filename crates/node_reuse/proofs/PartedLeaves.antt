@@ -1,17 +1,16 @@
 -- A node's leaves, or a bracket's, stand together among those of its tree, and what they leave of their line.
-use Rattle.std.proofs.Common.{◌≡◌, ℕ, zero, suc, ◌+◌, ◌<◌, ◌≤◌, ◌⊎◌, inl, inr, Bool, true, false, Option, Some, None, List, [], ◌∷◌, ◌++◌, refl, ap, sym, ◌∙◌, subst, arith, append_assoc, add-zero}
+use Rattle.std.proofs.Common.{◌≡◌, ℕ, ◌+◌, ◌<◌, ◌≤◌, inl, inr, Bool, true, false, Option, Some, None, List, [], ◌∷◌, ◌++◌, refl, ap, sym, ◌∙◌, subst, arith, append_assoc, add-zero}
 use Rattle.std.proofs.lemmas.List.{append-nil}
 use Rattle.text_lengths.specs.declared.Length.{Length}
-use Rattle.text_lengths.specs.Length.{length_of, no_length, length_plus}
+use Rattle.text_lengths.specs.Length.{no_length, length_plus}
 use Rattle.text_lengths.proofs.Lengths.{length_plus_assoc}
 use Rattle.bracket_rules.specs.Parse.{Bracket, bracket}
-use Rattle.bracket_trees.specs.Tree.{Tree, text, pair, stray, capped, nothing, two, three, wide, width_of, tree_length, tree_tokens, closing_brackets, inside_start, inside_end, IsTree, IsGap, IsWidth}
-use Rattle.bracket_trees.specs.Weights.{glue_weights, gap_weights, tree_weights}
+use Rattle.bracket_trees.specs.Tree.{Tree, text, pair, stray, capped, nothing, two, three, wide, width_of, tree_length, tree_tokens, closing_brackets, inside_start, inside_end, IsTree}
+use Rattle.bracket_trees.specs.Weights.{glue_weights, tree_weights}
 use Rattle.bracket_trees.specs.Places.{IsHere, HasNode, IsAmong, HasBracket}
 use Rattle.bracket_trees.proofs.Places.{IsAmong-append, IsTree-node}
-use Rattle.bracket_trees.proofs.LineWeights.{glue_weights-assoc}
 use Rattle.node_reuse.specs.Leaves.{Leaf, leaf, closing_leaves, leaves, weight_from, weights_from, weight_left}
-use Rattle.node_reuse.proofs.LeafWeights.{IsBehind, IsAhead, behind_itself, behind_then, ahead_then, behind_plus, ahead_plus, in_line, AreBehind, AreAhead, AreUpTo, AreBehind-append, AreBehind-then, AreAhead-append, AreAhead-then, AreUpTo-ahead, weight_from-append, weight_ahead, weight_behind, weights_ahead, weights-glue}
+use Rattle.node_reuse.proofs.LeafWeights.{IsBehind, behind_itself, behind_then, behind_plus, ahead_plus, AreBehind, AreAhead, AreBehind-append, AreBehind-then, AreAhead-append, AreAhead-then, AreUpTo-ahead, weight_from-append, weight_ahead, weight_behind, weights_ahead, weights-glue}
 use Rattle.node_reuse.proofs.TreeLeaves.{closing_behind, leaves_behind, leaves_ahead, pair_end, one_leaf, leaves_weigh}
 
 -- ---- what stands among the leaves
@@ -228,11 +227,11 @@ bracket_parted p (three x y z) b t h =
       | inl first ↦ three_as_two p x y z b.place r ls (parted_first p x (two y z) b.place r ls (bracket_parted p x b t.1.0 first))
       | inr rest ↦ elim (IsAmong-append b (tree_tokens m y) (tree_tokens n z) rest) [
         | inl second ↦
-          three_as_two p x y z b.place r ls
-          (parted_second p x (two y z) b.place r ls t.1.0 (parted_first m y z b.place r ls (bracket_parted m y b t.1.1.0 second)))
+            three_as_two p x y z b.place r ls
+            (parted_second p x (two y z) b.place r ls t.1.0 (parted_first m y z b.place r ls (bracket_parted m y b t.1.1.0 second)))
         | inr third ↦
-          three_as_two p x y z b.place r ls
-          (parted_second p x (two y z) b.place r ls t.1.0 (parted_second m y z b.place r ls t.1.1.0 (bracket_parted n z b t.1.1.1 third)))
+            three_as_two p x y z b.place r ls
+            (parted_second p x (two y z) b.place r ls t.1.0 (parted_second m y z b.place r ls t.1.1.0 (bracket_parted n z b t.1.1.1 third)))
       ]
     ]
 
@@ -243,8 +242,13 @@ left_behind : (p e : Length) (whole : List Leaf) (q r : Length) (ls : List Leaf)
     → weight_from r whole ≡ weight_from r s.after
 left_behind p e whole q r ls s h k =
     ap (weight_from r) s.spells
-    ∙ omega (arith, weight_from-append r s.before (ls ++ s.after), weight_from-append r ls s.after,
-      weight_ahead r s.before (AreAhead-then q r s.before h s.ahead), weight_ahead r ls k)
+    ∙ omega (
+      arith,
+      weight_from-append r s.before (ls ++ s.after),
+      weight_from-append r ls s.after,
+      weight_ahead r s.before (AreAhead-then q r s.before h s.ahead),
+      weight_ahead r ls k,
+    )
 
 -- the lines from a node's place on, as many as it has breaks, are its own lines and what it leaves of the last
 pub node_weighs : (t : Tree) (q : Length) (n : Tree) → IsTree t → HasNode no_length t q n
@@ -283,8 +287,15 @@ bracket_weighs t b is h some =
     let line : q.lines ≡ r.lines = omega arith in
     let column : q.columns ≤ r.columns = end.columns (omega arith) in
     ap (weight_from q) s.spells
-    ∙ omega (arith, weight_from-append q s.before (ls ++ s.after), weight_from-append q ls s.after, weight_ahead q s.before s.ahead,
-      one_leaf q b.len, weight_behind q r s.after line column s.behind, left)
+    ∙ omega (
+      arith,
+      weight_from-append q s.before (ls ++ s.after),
+      weight_from-append q ls s.after,
+      weight_ahead q s.before s.ahead,
+      one_leaf q b.len,
+      weight_behind q r s.after line column s.behind,
+      left,
+    )
 
 -- the lines of a tree weigh what its leaves do
 pub lines_weigh : (t : Tree) → IsTree t → weights_from no_length (tree_length t).lines (leaves no_length t) ≡ tree_weights t

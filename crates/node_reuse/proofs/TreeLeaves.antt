@@ -1,17 +1,13 @@
 -- The leaves of a tree, line by line, and what a node or a bracket of it leaves of its line.
-use Rattle.std.proofs.Common.{◌≡◌, ℕ, zero, suc, ◌+◌, ◌<◌, ◌≤◌, ◌⊎◌, inl, inr, Bool, true, false, Option, Some, None, List, [], ◌∷◌, ◌++◌, refl, ap, sym, ◌∙◌, subst, arith, append_assoc, add_assoc, add-zero, zero-add}
-use Rattle.std.proofs.lemmas.List.{append-nil}
+use Rattle.std.proofs.Common.{◌≡◌, ℕ, zero, suc, ◌+◌, ◌<◌, ◌⊎◌, inl, inr, Option, Some, None, List, [], ◌∷◌, ◌++◌, refl, ap, sym, ◌∙◌, subst, arith, add_assoc, zero-add}
 use Rattle.text_lengths.specs.declared.Length.{Length}
-use Rattle.text_lengths.specs.Length.{length_of, no_length, length_plus}
+use Rattle.text_lengths.specs.Length.{length_of, length_plus}
 use Rattle.text_lengths.proofs.Lengths.{length_plus_assoc}
-use Rattle.bracket_rules.specs.Parse.{Bracket, bracket}
-use Rattle.bracket_trees.specs.Tree.{Tree, text, pair, stray, capped, nothing, two, three, wide, width_of, tree_length, tree_tokens, closing_brackets, inside_start, inside_end, IsTree, IsGap, IsWidth}
+use Rattle.bracket_trees.specs.Tree.{Tree, text, pair, stray, capped, nothing, two, three, wide, width_of, tree_length, inside_start, inside_end, IsTree, IsGap, IsWidth}
 use Rattle.bracket_trees.specs.Weights.{glue_weights, gap_weights, tree_weights}
-use Rattle.bracket_trees.specs.Places.{IsHere, HasNode, IsAmong, HasBracket}
-use Rattle.bracket_trees.proofs.Places.{IsAmong-append, IsTree-node}
 use Rattle.bracket_trees.proofs.LineWeights.{glue_weights-assoc}
-use Rattle.node_reuse.specs.Leaves.{Leaf, leaf, closing_leaves, leaves, weight_from, weights_from, weight_left}
-use Rattle.node_reuse.proofs.LeafWeights.{IsBehind, IsAhead, behind_itself, behind_then, ahead_then, behind_plus, ahead_plus, in_line, AreBehind, AreAhead, AreUpTo, AreBehind-append, AreBehind-then, AreAhead-append, AreAhead-then, AreUpTo-ahead, weight_from-append, weight_ahead, weights_ahead, weights-glue}
+use Rattle.node_reuse.specs.Leaves.{leaf, closing_leaves, leaves, weight_from, weights_from}
+use Rattle.node_reuse.proofs.LeafWeights.{IsBehind, IsAhead, behind_itself, behind_then, ahead_then, behind_plus, ahead_plus, in_line, AreBehind, AreAhead, AreBehind-append, AreBehind-then, AreAhead-append, AreAhead-then, AreUpTo-ahead, weight_ahead, weights-glue}
 
 -- ---- where the leaves stand
 
@@ -25,10 +21,11 @@ leaves_behind p (pair k o i c) =
     let s = inside_start p o in
     let e = inside_end p o i in
     let start : IsBehind p s = behind_plus p (wide o) in
-    let end : IsBehind p e = behind_then p s e start (behind_plus s (tree_length i)) in
-    (behind_itself p,
-    AreBehind-append p (leaves s i) (closing_leaves e c) (AreBehind-then p s (leaves s i) start (leaves_behind s i))
-    (AreBehind-then p e (closing_leaves e c) end (closing_behind e c)))
+    let end : IsBehind p e = behind_then p s e start (behind_plus s (tree_length i)) in (
+      behind_itself p,
+      AreBehind-append p (leaves s i) (closing_leaves e c) (AreBehind-then p s (leaves s i) start (leaves_behind s i))
+          (AreBehind-then p e (closing_leaves e c) end (closing_behind e c)),
+    )
 leaves_behind p (stray k w) = (behind_itself p, tt)
 leaves_behind p (capped k w) = (behind_itself p, tt)
 leaves_behind p nothing = tt
@@ -78,10 +75,11 @@ leaves_ahead p (pair k o i c) h =
     let last : IsBehind e f = behind_plus e (wide (width_of c)) in
     let inside : IsBehind s f = behind_then s e f (behind_plus s (tree_length i)) last in
     let opening : IsAhead s p = ahead_plus p (wide o) (let some : 0 < o = h.0.opening in omega arith) in
-    subst (λ (x : Length). AreAhead x (leaves p (pair k o i c))) (pair_end p k o i c)
-    (ahead_then p s f opening inside,
-    AreAhead-append f (leaves s i) (closing_leaves e c) (AreAhead-then e f (leaves s i) last (leaves_ahead s i h.1))
-    (closing_ahead e c h.0.closing))
+    subst (λ (x : Length). AreAhead x (leaves p (pair k o i c))) (pair_end p k o i c) (
+      ahead_then p s f opening inside,
+      AreAhead-append f (leaves s i) (closing_leaves e c) (AreAhead-then e f (leaves s i) last (leaves_ahead s i h.1))
+          (closing_ahead e c h.0.closing),
+    )
 leaves_ahead p (stray k w) h = (ahead_plus p (wide w) (let some : 0 < w = h.wide in omega arith), tt)
 leaves_ahead p (capped k w) h = (ahead_plus p (wide w) (let some : 0 < w = h.wide in omega arith), tt)
 leaves_ahead p nothing h = tt
@@ -120,6 +118,7 @@ gap_lines p (suc zero) zero h = cc_two (one_leaf p (1 + 0)) (weight_behind_line 
   where
     weight_behind_line : (p : Length) → weight_from (length_of (suc p.lines) 0) (leaf p (1 + 0) ∷ []) ≡ 0
     weight_behind_line p = weight_ahead (length_of (suc p.lines) 0) (leaf p (1 + 0) ∷ []) (record { lines = omega arith; columns = λ e. absurd (omega arith) }, tt)
+
     cc_two : {a b : ℕ} → a ≡ 1 → b ≡ 0 → a ∷ b ∷ [] ≡ 1 ∷ 0 ∷ []
     cc_two e f = cc
 gap_lines p (suc zero) (suc n) (inl h) = absurd (let none : suc zero ≡ 0 = h.0 in omega arith)
