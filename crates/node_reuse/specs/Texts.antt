@@ -1,5 +1,5 @@
 -- The lines of a text of now: what they may weigh, and which of them are read.
-use Rattle.std.specs.Prelude.{ℕ, suc, ◌+◌, ◌-◌, ◌≤◌, List, [], ◌∷◌, length, slice_index, slice_index_or}
+use Rattle.std.specs.Prelude.{◌≡◌, ◌⊎◌, ◌++◌, ℕ, suc, ◌+◌, ◌-◌, ◌≤◌, List, [], ◌∷◌, length, slice_index, slice_index_or}
 use Rattle.text_lengths.specs.Length.{length_of}
 use Rattle.bracket_trees.specs.Tree.{Tree}
 use Rattle.mark_rules.specs.declared.Mark.{Mark}
@@ -38,3 +38,7 @@ pub record LinesState : Type 0 where
 -- the content of line n, from 1
 abbrev pub content_at : ℕ → List (List ℕ) → List ℕ
 content_at n contents = slice_index_or contents (n - 1) []
+
+-- line n was asked for, or none was
+abbrev pub AsksAtMost : List ℕ → ℕ → List ℕ → Type 0
+AsksAtMost old n new = (new ≡ old) ⊎ (new ≡ old ++ n ∷ [])
