@@ -21,6 +21,8 @@ use Rattle.reuse_rules.specs.Following.{Reached, Follows}
 use Rattle.reuse_rules.proofs.Followings.{Took, node_taken, Reached-rows}
 use Rattle.reuse_rules.proofs.KeptRuns.{kept_run_mark}
 use Rattle.node_reuse.specs.Leaves.{leaves, weight_from, weights_from, weight_left, line_weight}
+use Rattle.node_reuse.specs.Texts.{IsLightBy}
+use Rattle.node_reuse.specs.Reading.{IsFollowing}
 use Rattle.node_reuse.specs.Ahead.{ahead_at, fresh_left}
 use Rattle.node_reuse.proofs.PartedLeaves.{node_weighs}
 use Rattle.node_reuse.proofs.KeptCovers.{AreLight, cover_kept, cover_turned}
@@ -54,10 +56,6 @@ reached_end now p r =
 
 -- ---- what kept lines may weigh
 
--- where line j is kept as an old line, the old one weighs no more than line j may
-abbrev pub IsLightBy : Tree → List Mark → List ℕ → Type 0
-IsLightBy old marks weights = (j line : ℕ) → IsKeptAs marks (length_of j 0) line → line_weight old line ≤ slice_index weights j
-
 -- as many lines as the run has are light
 light_run : (old : Tree) (marks : List Mark) (weights : List ℕ) (p : Length) (line k : ℕ) → IsLightBy old marks weights → IsKeptAs marks p line
     → k < kept_run (drop p.lines marks) → AreLight weights (leaves no_length old) (length_of line p.columns) p.lines k
@@ -68,14 +66,6 @@ light_run old marks weights p line k light kept h l i a b e =
     light i l at
 
 -- ---- a node
-
--- what stands where a reader follows the old text
-pub record IsFollowing (old : Tree) (marks : List Mark) (now : List Row) (weights : List ℕ) (p : Length) (line : ℕ) : Type 0 where
-  pub tree : IsTree old
-  pub light : IsLightBy old marks weights
-  pub count : length weights ≡ length now
-  pub reached : Reached now p (rows_from p now)
-  pub follows : Follows old marks p (rows_from p now) line
 
 -- behind rows of length l, which were taken from the old text
 pub record TookAt (old : Tree) (marks : List Mark) (now : List Row) (p : Length) (line : ℕ) (rows : List Row) (l : Length) : Type 0 where

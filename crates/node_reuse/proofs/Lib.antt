@@ -7,3 +7,4 @@ pub mod FreshLines
 pub mod KeptCovers
 pub mod KeptSteps
 pub mod KeptEnds
+pub mod LineStarts

@@ -24,9 +24,11 @@ abbrev pub new_lines : List Mark → List ℕ
 new_lines marks = new_from 1 marks
 
 -- where line j is kept as an old line, both counted from 0, the old one weighs no more than line j may
+abbrev pub IsLightBy : Tree → List Mark → List ℕ → Type 0
+IsLightBy old marks weights = (j line : ℕ) → IsKeptAs marks (length_of j 0) line → line_weight old line ≤ slice_index weights j
+
 abbrev pub IsLight : Tree → List Mark → List (List ℕ) → Type 0
-IsLight old marks contents =
-    (j line : ℕ) → IsKeptAs marks (length_of j 0) line → line_weight old line ≤ slice_index (text_weights contents) j
+IsLight old marks contents = IsLightBy old marks (text_weights contents)
 
 -- ---- lines that are asked for
 
