@@ -6,7 +6,7 @@ use Rattle.text_lengths.specs.declared.Length.{Length}
 use Rattle.text_lengths.specs.Length.{length_of, no_length, length_plus}
 use Rattle.text_lengths.proofs.Lengths.{same_length}
 use Rattle.bracket_rules.specs.Rows.{Row, HasRow, empty_row, glue, rows_length}
-use Rattle.bracket_trees.specs.Tree.{Tree, tree_rows, tree_length, IsTree}
+use Rattle.bracket_trees.specs.Tree.{Tree, tree_rows, tree_length}
 use Rattle.bracket_trees.specs.Weights.{glue_weights, tree_weights, AreCovered}
 use Rattle.bracket_trees.specs.Places.{HasNode, MayBeTaken, rows_from, lines_touched}
 use Rattle.bracket_trees.proofs.Glue.{rows_length-tree, glue_empty}
@@ -20,7 +20,7 @@ use Rattle.reuse_rules.specs.Reuse.{IsKeptAs}
 use Rattle.reuse_rules.specs.Following.{Reached, Follows}
 use Rattle.reuse_rules.proofs.Followings.{Took, node_taken, Reached-rows}
 use Rattle.reuse_rules.proofs.KeptRuns.{kept_run_mark}
-use Rattle.node_reuse.specs.Leaves.{leaves, weight_from, weights_from, weight_left, line_weight}
+use Rattle.node_reuse.specs.Leaves.{leaves, weight_from, weights_from, weight_left}
 use Rattle.node_reuse.specs.Texts.{IsLightBy}
 use Rattle.node_reuse.specs.Reading.{IsFollowing}
 use Rattle.node_reuse.specs.Ahead.{ahead_at, fresh_left}

@@ -15,7 +15,7 @@ use Rattle.reuse_rules.specs.Following.{Reached}
 use Rattle.reuse_rules.proofs.Followings.{Follows-line}
 use Rattle.node_reuse.specs.Leaves.{weight_left}
 use Rattle.node_reuse.specs.Ahead.{fresh_left}
-use Rattle.node_reuse.specs.Reading.{Stays, StaysIfThere, IsInLine, left_by, left_at}
+use Rattle.node_reuse.specs.Reading.{StaysIfThere, IsInLine, left_by, left_at}
 use Rattle.node_reuse.proofs.OldPlaces.{kept_from_one}
 
 kept_as : (marks : List Mark) (p : Length) (i : ℕ) → Rises marks → mark_at (p.lines + 1) marks ≡ Kept i → IsKeptAs marks p (i - 1)

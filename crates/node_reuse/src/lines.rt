@@ -15,7 +15,8 @@ pub trait Lines {
     fn line(&mut self, n: u64, out: &mut Vec<u16>) -> Result<(), AllocError>
         requires first { 1 ≤ n }
         requires there { n ≤ length (state self.old).contents }
-        ensures content { OnOk result (out.new.items ≡ out.old.items ++ content_at n (state self.old).contents) }
+        ensures content { OnOk result
+            (out.new.items ≡ out.old.items ++ content_at n (state self.old).contents) }
         ensures asked { OnOk result ((state self.new).asked ≡ (state self.old).asked ++ n ∷ []) }
         ensures unread { OnErr result (out.new.items ≡ out.old.items) }
         ensures unasked { OnErr result ((state self.new).asked ≡ (state self.old).asked) }
