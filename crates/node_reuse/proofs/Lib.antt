@@ -1,0 +1,10 @@
+pub mod OldPlaces
+pub mod LeafWeights
+pub mod TreeLeaves
+pub mod PartedLeaves
+pub mod FreshSteps
+pub mod FreshLines
+pub mod KeptCovers
+pub mod KeptSteps
+pub mod KeptEnds
+pub mod LineStarts
