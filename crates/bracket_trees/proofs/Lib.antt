@@ -10,4 +10,6 @@ pub mod Whole
 pub mod Places
 pub mod Longest
 pub mod BracketAt
-pub mod PlaceWeights
+pub mod LeafWeights
+pub mod TreeLeaves
+pub mod PartedLeaves

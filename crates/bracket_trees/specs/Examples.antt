@@ -8,7 +8,7 @@ use Rattle.bracket_rules.specs.declared.Status.TheVariants.{PairedOpening, Paire
 use Rattle.bracket_rules.specs.Table.{token}
 use Rattle.bracket_rules.specs.Parse.{entries_of}
 use Rattle.bracket_trees.specs.Tree.{text, pair, stray, capped, three, tree_story}
-use Rattle.bracket_trees.specs.Weights.{glue_weights, tree_weights, AreCovered, weights_left}
+use Rattle.bracket_trees.specs.Weights.{glue_weights, tree_weights, AreCovered}
 use Rattle.bracket_trees.specs.Places.{touched}
 use Rattle.bracket_trees.specs.Found.{IsTokenAt}
 
@@ -58,8 +58,3 @@ weights_of_one_line_add = refl
 
 no_line_is_missing : AreCovered (3 ∷ 2 ∷ []) (4 ∷ []) ≡ ((3 ≤ 4) × ⊥)
 no_line_is_missing = refl
-
--- `(ab` and a break, then `c)`: behind the `(` two columns and the break are left
-left_behind_a_bracket :
-    weights_left (pair 0 1 (three (text (length_of 0 2)) (text (length_of 1 0)) (text (length_of 0 1))) (Some 1)) (length_of 0 1) 1 ≡ 3 ∷ 2 ∷ []
-left_behind_a_bracket = refl

@@ -2,6 +2,7 @@ pub mod Tree
 pub mod TreeCode
 pub mod Items
 pub mod Weights
+pub mod Leaves
 pub mod Told
 pub mod Places
 mod Examples

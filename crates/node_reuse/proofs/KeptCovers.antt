@@ -7,7 +7,7 @@ use Rattle.text_lengths.specs.Length.{length_of}
 use Rattle.bracket_rules.specs.Rows.{next_line}
 use Rattle.bracket_trees.specs.Weights.{glue_weights, AreCovered}
 use Rattle.bracket_trees.proofs.LineWeights.{HasWeight, AreCovered-same, AreCovered-then}
-use Rattle.node_reuse.specs.Leaves.{Leaf, weight_from, weights_from}
+use Rattle.bracket_trees.specs.Leaves.{Leaf, weight_from, weights_from}
 
 HasWeight-from : (q : Length) (k : ℕ) (ls : List Leaf) → HasWeight (weights_from q k ls)
 HasWeight-from q zero ls = tt

@@ -19,11 +19,11 @@ use Rattle.mark_rules.specs.declared.Mark.TheVariants.{Kept, New}
 use Rattle.mark_rules.specs.Marks.{mark_at, kept_run}
 use Rattle.reuse_rules.specs.Following.{Reached}
 use Rattle.reuse_rules.proofs.Followings.{bracket_taken, ends_alike, text_may_be_taken}
-use Rattle.node_reuse.specs.Leaves.{weight_left}
+use Rattle.bracket_trees.specs.Leaves.{weight_left}
 use Rattle.node_reuse.specs.OldText.{old_text, NoneReusable, NoOldBracket}
 use Rattle.node_reuse.specs.Reading.{IsFollowing}
 use Rattle.node_reuse.specs.Ahead.{ahead_at}
-use Rattle.node_reuse.proofs.PartedLeaves.{bracket_weighs}
+use Rattle.bracket_trees.proofs.PartedLeaves.{bracket_weighs}
 use Rattle.node_reuse.proofs.KeptSteps.{TookAt, took_at, reached_end}
 
 -- ---- brackets of trees

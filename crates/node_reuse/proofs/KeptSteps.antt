@@ -20,11 +20,11 @@ use Rattle.reuse_rules.specs.Reuse.{IsKeptAs}
 use Rattle.reuse_rules.specs.Following.{Reached, Follows}
 use Rattle.reuse_rules.proofs.Followings.{Took, node_taken, Reached-rows}
 use Rattle.reuse_rules.proofs.KeptRuns.{kept_run_mark}
-use Rattle.node_reuse.specs.Leaves.{leaves, weight_from, weights_from, weight_left}
+use Rattle.bracket_trees.specs.Leaves.{leaves, weight_from, weights_from, weight_left}
 use Rattle.node_reuse.specs.Texts.{IsLightBy}
 use Rattle.node_reuse.specs.Reading.{IsFollowing}
 use Rattle.node_reuse.specs.Ahead.{ahead_at, fresh_left}
-use Rattle.node_reuse.proofs.PartedLeaves.{node_weighs}
+use Rattle.bracket_trees.proofs.PartedLeaves.{node_weighs}
 use Rattle.node_reuse.proofs.KeptCovers.{AreLight, cover_kept, cover_turned}
 
 -- ---- where a reader is among the rows

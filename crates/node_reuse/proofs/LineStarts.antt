@@ -13,7 +13,7 @@ use Rattle.mark_rules.specs.Marks.{mark_at, Rises}
 use Rattle.reuse_rules.specs.Reuse.{IsKeptAs}
 use Rattle.reuse_rules.specs.Following.{Reached}
 use Rattle.reuse_rules.proofs.Followings.{Follows-line}
-use Rattle.node_reuse.specs.Leaves.{weight_left}
+use Rattle.bracket_trees.specs.Leaves.{weight_left}
 use Rattle.node_reuse.specs.Ahead.{fresh_left}
 use Rattle.node_reuse.specs.Reading.{StaysIfThere, IsInLine, left_by, left_at}
 use Rattle.node_reuse.proofs.OldPlaces.{kept_from_one}

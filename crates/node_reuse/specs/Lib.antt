@@ -1,5 +1,4 @@
 pub mod OldText
-pub mod Leaves
 pub mod Texts
 pub mod Ahead
 pub mod Reading

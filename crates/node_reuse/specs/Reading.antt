@@ -11,7 +11,7 @@ use Rattle.mark_rules.specs.declared.Mark.TheVariants.{Kept, New}
 use Rattle.mark_rules.specs.Marks.{mark_at}
 use Rattle.reuse_rules.specs.Agreement.{Agrees}
 use Rattle.reuse_rules.specs.Following.{Reached, Follows}
-use Rattle.node_reuse.specs.Leaves.{weight_left}
+use Rattle.bracket_trees.specs.Leaves.{weight_left}
 use Rattle.node_reuse.specs.Texts.{IsLightBy}
 use Rattle.node_reuse.specs.Ahead.{fresh_left, IsFresh}
 

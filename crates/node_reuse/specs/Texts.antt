@@ -5,7 +5,7 @@ use Rattle.bracket_trees.specs.Tree.{Tree}
 use Rattle.mark_rules.specs.declared.Mark.{Mark}
 use Rattle.mark_rules.specs.declared.Mark.TheVariants.{Kept, New}
 use Rattle.reuse_rules.specs.Reuse.{IsKeptAs}
-use Rattle.node_reuse.specs.Leaves.{line_weight}
+use Rattle.bracket_trees.specs.Leaves.{line_weight}
 
 -- what each line may weigh: its units, and one more for the break that ends it where another line follows
 abbrev pub text_weights : List (List ℕ) → List ℕ

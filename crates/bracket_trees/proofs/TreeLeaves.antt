@@ -6,8 +6,8 @@ use Rattle.text_lengths.proofs.Lengths.{length_plus_assoc}
 use Rattle.bracket_trees.specs.Tree.{Tree, text, pair, stray, capped, nothing, two, three, wide, width_of, tree_length, inside_start, inside_end, IsTree, IsGap, IsWidth}
 use Rattle.bracket_trees.specs.Weights.{glue_weights, gap_weights, tree_weights}
 use Rattle.bracket_trees.proofs.LineWeights.{glue_weights-assoc}
-use Rattle.node_reuse.specs.Leaves.{leaf, closing_leaves, leaves, weight_from, weights_from}
-use Rattle.node_reuse.proofs.LeafWeights.{IsBehind, IsAhead, behind_itself, behind_then, ahead_then, behind_plus, ahead_plus, in_line, AreBehind, AreAhead, AreBehind-append, AreBehind-then, AreAhead-append, AreAhead-then, AreUpTo-ahead, weight_ahead, weights-glue}
+use Rattle.bracket_trees.specs.Leaves.{leaf, closing_leaves, leaves, weight_from, weights_from}
+use Rattle.bracket_trees.proofs.LeafWeights.{IsBehind, IsAhead, behind_itself, behind_then, ahead_then, behind_plus, ahead_plus, in_line, AreBehind, AreAhead, AreBehind-append, AreBehind-then, AreAhead-append, AreAhead-then, AreUpTo-ahead, weight_ahead, weights-glue}
 
 -- ---- where the leaves stand
 

@@ -6,7 +6,7 @@ use Rattle.text_lengths.specs.declared.Length.{Length}
 use Rattle.text_lengths.specs.Length.{length_of, length_plus}
 use Rattle.bracket_rules.specs.Rows.{next_line}
 use Rattle.bracket_trees.specs.Weights.{glue_weights}
-use Rattle.node_reuse.specs.Leaves.{Leaf, leaf_weight, weight_from, weights_from}
+use Rattle.bracket_trees.specs.Leaves.{Leaf, leaf_weight, weight_from, weights_from}
 
 -- ---- places
 

@@ -9,9 +9,9 @@ use Rattle.bracket_trees.specs.Tree.{Tree, text, pair, stray, capped, nothing, t
 use Rattle.bracket_trees.specs.Weights.{glue_weights, tree_weights}
 use Rattle.bracket_trees.specs.Places.{IsHere, HasNode, IsAmong, HasBracket}
 use Rattle.bracket_trees.proofs.Places.{IsAmong-append, IsTree-node}
-use Rattle.node_reuse.specs.Leaves.{Leaf, leaf, closing_leaves, leaves, weight_from, weights_from, weight_left}
-use Rattle.node_reuse.proofs.LeafWeights.{IsBehind, behind_itself, behind_then, behind_plus, ahead_plus, AreBehind, AreAhead, AreBehind-append, AreBehind-then, AreAhead-append, AreAhead-then, AreUpTo-ahead, weight_from-append, weight_ahead, weight_behind, weights_ahead, weights-glue}
-use Rattle.node_reuse.proofs.TreeLeaves.{closing_behind, leaves_behind, leaves_ahead, pair_end, one_leaf, leaves_weigh}
+use Rattle.bracket_trees.specs.Leaves.{Leaf, leaf, closing_leaves, leaves, weight_from, weights_from, weight_left}
+use Rattle.bracket_trees.proofs.LeafWeights.{IsBehind, behind_itself, behind_then, behind_plus, ahead_plus, AreBehind, AreAhead, AreBehind-append, AreBehind-then, AreAhead-append, AreAhead-then, AreUpTo-ahead, weight_from-append, weight_ahead, weight_behind, weights_ahead, weights-glue}
+use Rattle.bracket_trees.proofs.TreeLeaves.{closing_behind, leaves_behind, leaves_ahead, pair_end, one_leaf, leaves_weigh}
 
 -- ---- what stands among the leaves
 
