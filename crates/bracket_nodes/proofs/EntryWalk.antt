@@ -1,5 +1,5 @@
 -- The walk down to the entries of some lines: a part above or below these lines has none of them.
-use Rattle.std.proofs.Common.{◌≡◌, ℕ, suc, ◌+◌, ◌<◌, ◌≤◌, Bool, true, false, cond, ◌&&◌, leb, Option, Some, None, List, [], ◌∷◌, ◌++◌, length, take, refl, ap, sym, ◌∙◌, arith, append_assoc, add-one}
+use Rattle.std.proofs.Common.{◌≡◌, ℕ, suc, ◌+◌, ◌<◌, ◌≤◌, Bool, true, false, cond, ◌&&◌, leb, Option, List, [], ◌∷◌, ◌++◌, length, take, refl, ap, sym, ◌∙◌, arith, append_assoc, add-one}
 use Rattle.std.specs.List.{filter}
 use Rattle.std.proofs.lemmas.Bool.Decides.{nat_tests}
 use Rattle.std.proofs.lemmas.List.{append-nil, take-append-le, take-take, take_all, length-append}
@@ -7,7 +7,7 @@ use Rattle.std.proofs.lemmas.List.Elements.{filter-append}
 use Rattle.text_lengths.specs.declared.Length.{Length}
 use Rattle.text_lengths.specs.Length.{length_plus}
 use Rattle.bracket_rules.specs.declared.Entry.{Entry}
-use Rattle.bracket_rules.specs.Parse.{bracket, Spot, spot, Judged, judged_opening, entries_of, is_between}
+use Rattle.bracket_rules.specs.Parse.{bracket, spot, Judged, judged_opening, entries_of, is_between}
 use Rattle.bracket_trees.specs.Tree.{Tree, pair, two, three, tree_length, inside_start, inside_end, closing_spot, closing_entries, tree_entries, IsTree}
 use Rattle.bracket_nodes.specs.Walks.{chosen, entry_if}
 use Rattle.bracket_nodes.proofs.EntryPlaces.{EachPlace, each_later, each_earlier}
