@@ -122,7 +122,7 @@ fn longest_from<'a>(
             longest_from(inside, inside_start, place, room)
         }
         Shape::Two(a, b) => {
-            let middle = start.plus(&a.kept().length);
+            let middle = a.end(&start);
             if place.before(&middle) {
                 longest_from(a, start, place, room)
             } else {
@@ -130,11 +130,11 @@ fn longest_from<'a>(
             }
         }
         Shape::Three(a, b, c) => {
-            let second = start.plus(&a.kept().length);
+            let second = a.end(&start);
             if place.before(&second) {
                 return longest_from(a, start, place, room);
             }
-            let third = second.plus(&b.kept().length);
+            let third = b.end(&second);
             if place.before(&third) {
                 return longest_from(b, second, place, room);
             }
