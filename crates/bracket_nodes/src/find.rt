@@ -122,7 +122,7 @@ fn longest_from<'a>(
             longest_from(inside, inside_start, place, room)
         }
         Shape::Two(a, b) => {
-            let middle = start.plus(&a.kept().length);
+            let middle = a.end(&start);
             if place.before(&middle) {
                 longest_from(a, start, place, room)
             } else {
@@ -130,11 +130,11 @@ fn longest_from<'a>(
             }
         }
         Shape::Three(a, b, c) => {
-            let second = start.plus(&a.kept().length);
+            let second = a.end(&start);
             if place.before(&second) {
                 return longest_from(a, start, place, room);
             }
-            let third = second.plus(&b.kept().length);
+            let third = b.end(&second);
             if place.before(&third) {
                 return longest_from(b, second, place, room);
             }
@@ -198,7 +198,7 @@ fn bracket_from(inner: &Inner, start: Length, place: &Length) -> Option<Token>
                 return Some(token_at(place, *opening, *kind, true));
             }
             let inside_start = start.plus(&wide(*opening));
-            let ends = inside_start.plus(&inside.kept().length);
+            let ends = inside.end(&inside_start);
             match closing_at(*closing, &ends, place) {
                 Some(width) => Some(token_at(place, width, *kind, false)),
                 None => bracket_from(inside, inside_start, place),
@@ -211,7 +211,7 @@ fn bracket_from(inner: &Inner, start: Length, place: &Length) -> Option<Token>
             Some(token_at(place, *width, *kind, true))
         }
         Shape::Two(a, b) => {
-            let middle = start.plus(&a.kept().length);
+            let middle = a.end(&start);
             if place.before(&middle) {
                 bracket_from(a, start, place)
             } else {
@@ -219,11 +219,11 @@ fn bracket_from(inner: &Inner, start: Length, place: &Length) -> Option<Token>
             }
         }
         Shape::Three(a, b, c) => {
-            let second = start.plus(&a.kept().length);
+            let second = a.end(&start);
             if place.before(&second) {
                 return bracket_from(a, start, place);
             }
-            let third = second.plus(&b.kept().length);
+            let third = b.end(&second);
             if place.before(&third) {
                 return bracket_from(b, second, place);
             }

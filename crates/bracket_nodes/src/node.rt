@@ -1,5 +1,6 @@
 // The nodes of a bracket tree.
-ghost use Rattle.std.specs.Prelude.{◌≡◌, ◌<◌, ◌^◌, ℕ, IfOk};
+ghost use Rattle.std.specs.Prelude.{◌≡◌, ◌+◌, ◌<◌, ◌≤◌, ◌^◌, ℕ, IfOk};
+ghost use Rattle.text_lengths.specs.Length.{length_plus};
 ghost use Rattle.bracket_trees.specs.Told.{has_kind};
 ghost use Rattle.bracket_trees.specs.Tree.{tree_length, is_missing, is_closed, is_capped, nesting, height, weight, IsTree};
 ghost use Rattle.bracket_nodes.specs.Kept.{Keeps};
@@ -134,5 +135,16 @@ impl Inner {
         ensures bounded { IsBounded (weight self.now) result }
     {
         self.kept
+    }
+
+    /// Where the node ends, where it starts here.
+    pub fn end(&self, start: &Length) -> Length
+        requires { start.now.lines + start.now.columns + weight self.now < 2 ^ 64 }
+        ensures end { result ≡ length_plus start.now (tree_length self.now) }
+        ensures fits { result.lines + result.columns
+            ≤ start.now.lines + start.now.columns + weight self.now }
+        ensures tree { IsTree self.now }
+    {
+        start.plus(&self.kept().length)
     }
 }
