@@ -190,10 +190,8 @@ def among(count: int, edited: int) -> Pair:
     """In turn an edit at a random place and a question about one of so many decorations."""
     ids = random.Random(6).choices(range(1, count + 1), k=edited)
     asked = ([f'{{"cmd":"deco","id":{one + past}}}' for one in ids] for past in (0, count))
-    return tuple(
-        [line for turn in zip(changes, questions) for line in turn]
-        for changes, questions in zip(edits(MILLION, edited), asked)
-    )
+    both = zip(edits(MILLION, edited), asked)
+    return tuple([line for turn in zip(changes, questions) for line in turn] for changes, questions in both)
 
 
 def groups(values: list, at_once: bool) -> list[list]:
@@ -249,12 +247,10 @@ def after_edits(units: int, last: int, asked: tuple[str, ...], rounds: int) -> P
     draw, lines, refused = random.Random(11), [], []
     for _ in range(rounds):
         place = draw.randrange(units - 60)
-        put_in = [[edit(op(place, place, "([{x}])"))], [edit(op(place + 1, place, "([{x}])"))]]
-        for command in asked:
-            for known, more in zip(put_in, questions(command, last, 1, draw)):
-                known += more
-        lines += put_in[0]
-        refused += put_in[1]
+        turn = [tuple([edit(op(start, place, "([{x}])"))] for start in (place, place + 1))]
+        for good, bad in turn + [questions(command, last, 1, draw) for command in asked]:
+            lines += good
+            refused += bad
     return lines, refused
 
 
