@@ -5,3 +5,4 @@ pub mod KeptCovers
 pub mod KeptSteps
 pub mod KeptEnds
 pub mod LineStarts
+pub mod LightLines

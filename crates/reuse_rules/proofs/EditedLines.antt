@@ -165,6 +165,29 @@ module _ (old : List Row) (table : Table) (first n m : ℕ) (marks : List Mark) 
     | inr h ↦ elim (cases_lt j (first - 1 + m)) [ inl k ↦ absurd (in_edit j i e h k) | inr k ↦ behind_edit j i l e k ]
   ]
 
+  -- a line that is kept after the edit was kept as the same one before it: it stands in front of the edited lines, or
+  -- behind them
+  pub kept_before : (j i : ℕ) → mark_at (j + 1) (edited_marks first n m marks) ≡ Kept (i + 1)
+      → ((j < first - 1) × (mark_at (j + 1) marks ≡ Kept (i + 1)))
+      ⊎ ((first - 1 + m ≤ j) × (mark_at (first - 1 + n + (j - (first - 1 + m)) + 1) marks ≡ Kept (i + 1)))
+  unfolding marks_behind
+  kept_before j i e =
+      let room = inside in
+      elim (cases_lt j (first - 1)) [
+        | inl h ↦ inl (h, ap (λ (k : ℕ). slice_index_or marks k New) (omega arith) ∙ sym (mark_before (first - 1) j marks marks_behind h (omega arith)) ∙ at_mark j i e)
+        | inr h ↦ elim (cases_lt j (first - 1 + m)) [
+          | inl k ↦ absurd (in_edit j i e h k)
+          | inr k ↦ inr (
+            k,
+            ap (λ (x : ℕ). slice_index_or marks x New) (omega arith)
+                ∙ sym (get_or-drop (first - 1 + n) marks (j - (first - 1 + m)) New)
+                ∙ ap (λ (x : ℕ). slice_index_or (drop (first - 1 + n) marks) x New) (omega arith)
+                ∙ sym (behind_new m (j - (first - 1)) (drop (first - 1 + n) marks) (omega arith))
+                ∙ sym (mark_behind (first - 1) j marks marks_behind (omega arith) (omega arith)) ∙ at_mark j i e,
+          )
+        ]
+      ]
+
   -- the rows after the edit agree with the old text under the marks that it leaves
   pub Agrees-edited : Agrees old (edited_marks first n m marks) (text_rows table after)
   Agrees-edited =
