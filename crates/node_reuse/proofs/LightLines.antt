@@ -1,16 +1,20 @@
 -- An old tree weighs no more than the lines of now may, after an edit and after a parse.
 use Rattle.std.proofs.Common.{◌≡◌, ℕ, zero, suc, ◌+◌, ◌-◌, ◌<◌, ◌≤◌, inl, inr, List, [], ◌∷◌, length, take, drop, refl, ap, sym, ◌∙◌, subst, arith}
 use Rattle.std.specs.Prelude.{slice_index, slice_index_or}
-use Rattle.text_lengths.specs.Length.{length_of}
-use Rattle.bracket_rules.specs.Rows.{Row, text_rows}
+use Rattle.text_lengths.specs.declared.Length.{Length}
+use Rattle.text_lengths.specs.Length.{length_of, no_length}
+use Rattle.bracket_rules.specs.Rows.{next_line, text_rows}
 use Rattle.bracket_rules.specs.Table.{Table}
-use Rattle.bracket_trees.specs.Tree.{Tree, tree_rows}
-use Rattle.bracket_trees.specs.Leaves.{line_weight}
+use Rattle.bracket_trees.specs.Tree.{Tree, tree_length, tree_rows, IsTree}
+use Rattle.bracket_trees.specs.Weights.{tree_weights, AreCovered}
+use Rattle.bracket_trees.specs.Leaves.{Leaf, leaves, weight_from, weights_from, line_weight}
+use Rattle.bracket_trees.proofs.LineWeights.{AreCovered-at}
+use Rattle.bracket_trees.proofs.PartedLeaves.{lines_weigh}
 use Rattle.mark_rules.specs.declared.Mark.{Mark}
-use Rattle.mark_rules.specs.Marks.{edited_marks}
+use Rattle.mark_rules.specs.Marks.{clean_marks, edited_marks}
 use Rattle.reuse_rules.specs.Agreement.{Agrees}
 use Rattle.reuse_rules.specs.Edits.{IsEdited}
-use Rattle.reuse_rules.proofs.EditedLines.{kept_before}
+use Rattle.reuse_rules.proofs.EditedLines.{kept_before, kept_clean}
 use Rattle.node_reuse.specs.Texts.{text_weights, IsLight}
 
 -- a line in front of the edited ones is the same one, and more follows in both texts
@@ -55,3 +59,48 @@ IsLight-edited old table first n m marks before after edit agrees light j line e
           ∙ ap (λ (lines : List (List ℕ)). slice_index (text_weights lines) d) edit.rest ∙ sym (weights_behind (first - 1 + n) d before) in
           subst (λ (w : ℕ). line_weight old line ≤ w) (sym same) (light (first - 1 + n + d) line behind.1)
     ]
+
+-- ---- after a parse
+
+weights_from-at : (line lines j : ℕ) (ls : List Leaf) → j ≤ lines → slice_index (weights_from (length_of line 0) lines ls) j ≡ weight_from (length_of (line + j) 0) ls
+weights_from-at line zero zero ls h = let at : line ≡ line + 0 = omega arith in ap (λ (n : ℕ). weight_from (length_of n 0) ls) at
+weights_from-at line zero (suc j) ls h = absurd (omega arith)
+weights_from-at line (suc lines) zero ls h = let at : line ≡ line + 0 = omega arith in ap (λ (n : ℕ). weight_from (length_of n 0) ls) at
+weights_from-at line (suc lines) (suc j) ls h =
+    let at : suc line + j ≡ line + suc j = omega arith in
+    weights_from-at (suc line) lines j ls (omega arith) ∙ ap (λ (n : ℕ). weight_from (length_of n 0) ls) at
+
+line_weighs : (t : Tree) (j : ℕ) → IsTree t → j ≤ (tree_length t).lines → slice_index (tree_weights t) j ≡ line_weight t j
+line_weighs t j h k =
+    let at : 0 + j ≡ j = omega arith in
+    ap (λ (ws : List ℕ). slice_index ws j) (sym (lines_weigh t h)) ∙ weights_from-at 0 (tree_length t).lines j (leaves no_length t) k
+    ∙ ap (λ (n : ℕ). line_weight t n) at
+
+length-covered : (ws vs : List ℕ) → AreCovered ws vs → length ws ≡ length vs
+length-covered [] [] h = refl
+length-covered [] (v ∷ vs) h = elim h [ ]
+length-covered (w ∷ ws) [] h = elim h [ ]
+length-covered (w ∷ ws) (v ∷ vs) h = ap suc (length-covered ws vs h.1)
+
+length-text_weights : (lines : List (List ℕ)) → length (text_weights lines) ≡ length lines
+length-text_weights [] = refl
+length-text_weights (x ∷ []) = refl
+length-text_weights (x ∷ y ∷ lines) = ap suc (length-text_weights (y ∷ lines))
+
+length-weights_from : (q : Length) (lines : ℕ) (ls : List Leaf) → length (weights_from q lines ls) ≡ suc lines
+length-weights_from q zero ls = refl
+length-weights_from q (suc lines) ls = ap suc (length-weights_from (next_line q) lines ls)
+
+-- a tree that is covered by what the lines may weigh is light where every line is kept
+pub IsLight-clean : (t : Tree) (lines : List (List ℕ)) → IsTree t → AreCovered (tree_weights t) (text_weights lines) → IsLight t (clean_marks (length lines)) lines
+IsLight-clean t lines h covered j line e =
+    let same = length-covered (tree_weights t) (text_weights lines) covered in
+    let counted = length-text_weights lines in
+    let tall = ap length (lines_weigh t h) in
+    let rows = length-weights_from no_length (tree_length t).lines (leaves no_length t) in
+    let here = kept_clean (length lines) j line e in
+    let within : j < length lines = here.0 in
+    let number : line ≡ j = here.1 in
+    let light : slice_index (tree_weights t) j ≤ slice_index (text_weights lines) j = AreCovered-at (tree_weights t) (text_weights lines) j covered in
+    subst (λ (w : ℕ). w ≤ slice_index (text_weights lines) j)
+    (line_weighs t j h (omega arith) ∙ ap (line_weight t) (sym number)) light

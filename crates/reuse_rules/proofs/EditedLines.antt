@@ -2,9 +2,9 @@
 use Rattle.std.proofs.Common.{◌≡◌, ℕ, zero, suc, ◌+◌, ◌-◌, ◌<◌, ◌≤◌, ◌⊎◌, inl, inr, Bool, true, false, List, [], ◌∷◌, ◌++◌, length, take, drop, refl, ap, sym, ◌∙◌, subst, append_assoc, arith}
 use Rattle.std.specs.Prelude.{slice_index_or, replicate}
 use Rattle.std.proofs.lemmas.Bool.{cases_lt}
-use Rattle.std.proofs.lemmas.List.{length-drop, length-take, length-append, length-replicate, drop-drop, get_or-drop, get_or-take, get_or_append_left, get_or-append_right, get_or-replicate}
-use Rattle.bracket_rules.specs.Rows.{Row, row, text_rows}
-use Rattle.bracket_rules.specs.Table.{Table, tokens_of}
+use Rattle.std.proofs.lemmas.List.{length-drop, length-take, length-append, length-replicate, drop-drop, get_or-drop, get_or-take, get_or_append_left, get_or-append_right}
+use Rattle.bracket_rules.specs.Rows.{Row, text_rows}
+use Rattle.bracket_rules.specs.Table.{Table}
 use Rattle.mark_rules.specs.declared.Mark.{Mark}
 use Rattle.mark_rules.specs.declared.Mark.TheVariants.{Kept, New}
 use Rattle.mark_rules.specs.Marks.{mark_at, kept_marks, clean_marks, edited_marks}
@@ -229,6 +229,25 @@ alike_same (r ∷ rows) h = (refl, (go_on_same rows, tt))
 begins_clean : (n : ℕ) → BeginsAlike (clean_marks n)
 begins_clean zero = tt
 begins_clean (suc n) = refl
+
+is_kept_at : (number n m : ℕ) → n ≤ m → slice_index_or (kept_marks number n) m New ≡ New
+is_kept_at number zero m h = refl
+is_kept_at number (suc n) zero h = absurd (omega arith)
+is_kept_at number (suc n) (suc m) h = is_kept_at (suc number) n m (omega arith)
+
+-- after a parse a line is kept as itself
+pub kept_clean : (n j i : ℕ) → mark_at (j + 1) (clean_marks n) ≡ Kept (i + 1) → (j < n) × (i ≡ j)
+unfolding is_kept number_of
+kept_clean n j i e =
+    let here : j + 1 - 1 ≡ j = omega arith in
+    let at : slice_index_or (kept_marks 1 n) j New ≡ Kept (i + 1) = ap (λ (k : ℕ). slice_index_or (kept_marks 1 n) k New) (sym here) ∙ e in
+    elim (cases_lt j n) [
+      | inl h ↦ (h, let numbers : 1 + j ≡ i + 1 = ap number_of (sym (kept_at 1 n j h) ∙ at) in omega arith)
+      | inr h ↦ let clash : false ≡ true = ap is_kept (sym (is_kept_at 1 n j h) ∙ at) in absurd (clash_of clash)
+    ]
+  where
+    clash_of : false ≡ true → ⊥
+    clash_of c = cc
 
 -- a text agrees with itself where every line is kept
 pub Agrees-clean : (rows : List Row) → Agrees rows (clean_marks (length rows)) rows
