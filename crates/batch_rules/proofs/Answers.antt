@@ -2,17 +2,17 @@
 use Rattle.std.proofs.Common.{◌≡◌, ◌<◌, ◌≤◌, true, false, List, ℕ, length, Ok, Err, refl}
 use Rattle.std.proofs.lemmas.Bool.{lt-ltb, le-ltb}
 use Rattle.text_rules.specs.declared.Op.{Op}
-use Rattle.batch_rules.specs.declared.BatchError.TheVariants.{Range, Overlap, Limit}
+use Rattle.batch_rules.specs.Refusals as refused
 use Rattle.batch_rules.specs.Batches.{most_units, sorted_ops, has_bad_span, overlap, applied, checked_batch}
 
-pub refused_for_range : (x : List ℕ) (ops : List Op) → has_bad_span x ops ≡ true → checked_batch x ops ≡ Err Range
+pub refused_for_range : (x : List ℕ) (ops : List Op) → has_bad_span x ops ≡ true → checked_batch x ops ≡ Err refused.range
 refused_for_range x ops bad = rw bad refl
 
-pub refused_for_overlap : (x : List ℕ) (ops : List Op) → has_bad_span x ops ≡ false → overlap (sorted_ops ops) ≡ true → checked_batch x ops ≡ Err Overlap
+pub refused_for_overlap : (x : List ℕ) (ops : List Op) → has_bad_span x ops ≡ false → overlap (sorted_ops ops) ≡ true → checked_batch x ops ≡ Err refused.overlap
 refused_for_overlap x ops good overlaps = rw (good, overlaps) refl
 
 pub refused_for_limit : (x : List ℕ) (ops : List Op) → has_bad_span x ops ≡ false → overlap (sorted_ops ops) ≡ false → most_units < length (applied x ops)
-    → checked_batch x ops ≡ Err Limit
+    → checked_batch x ops ≡ Err refused.limit
 refused_for_limit x ops good apart long = rw (good, apart, lt-ltb most_units (length (applied x ops)) long) refl
 
 pub accepted_in_order : (x : List ℕ) (ops : List Op) → has_bad_span x ops ≡ false → overlap (sorted_ops ops) ≡ false → length (applied x ops) ≤ most_units

@@ -1,5 +1,5 @@
 -- The inverse of a batch gives the text back.
-use Rattle.std.proofs.Common.{◌≡◌, ℕ, ◌+◌, ◌-◌, false, List, [], ◌∷◌, ◌++◌, length, take, drop, refl, ap, sym, ◌∙◌, append_assoc, length-append, arith}
+use Rattle.std.proofs.Common.{◌≡◌, ℕ, suc, ◌+◌, ◌-◌, false, List, [], ◌∷◌, ◌++◌, length, take, drop, refl, ap, sym, ◌∙◌, append_assoc, length-append, arith}
 use Rattle.std.proofs.lemmas.List.{take-append-drop, take_at, drop_at, drop-drop}
 use Rattle.text_rules.specs.declared.Op.{Op}
 use Rattle.batch_rules.specs.Batches.{sorted_ops, has_bad_span, overlap, applied_from, applied, StandFrom, inverse_from, inverse_of}
@@ -40,6 +40,11 @@ inverse_applied at now x y (op ∷ ops) standing e =
     let all : kept ++ drop op.span.start x ≡ drop at x =
     ap (λ (z : List ℕ). kept ++ z) (ap (λ (n : ℕ). drop n x) (omega (arith, standing.0)) ∙ sym (drop-drop k at x)) ∙ take-append-drop k (drop at x) in
     rw (first, rest) (append_assoc kept _ _ ∙ ap (λ (z : List ℕ). kept ++ z) middle ∙ all)
+
+-- the inverse has an op for each op
+pub length-inverse_from : (at now : ℕ) (x : List ℕ) (ops : List Op) → length (inverse_from at now x ops) ≡ length ops
+length-inverse_from at now x [] = refl
+length-inverse_from at now x (op ∷ ops) = ap suc (length-inverse_from op.span.end (now + (op.span.start - at) + length op.text) x ops)
 
 -- to apply a batch that stands in the text and then its inverse gives the text back
 pub inverse_gives_back : (x : List ℕ) (ops : List Op) → StandFrom 0 x ops → applied_from 0 (applied_from 0 x ops) (inverse_from 0 0 x ops) ≡ x

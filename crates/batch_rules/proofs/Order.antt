@@ -6,7 +6,7 @@ use Rattle.std.proofs.lemmas.Bool.Decides.{nat_tests}
 use Rattle.std.proofs.lemmas.Bool.{lt-ltb, le-leb, eq-eqb, and_from, or_left, or_right, and_parts, both_ways, not-false, cases_lt, cases_Bool}
 use Rattle.std.specs.Prelude.{⊤}
 use Rattle.std.proofs.lemmas.List.Elements.{All-nil, All-cons, All-head, All-same, All-weaker, All-filter, filter_agree}
-use Rattle.std.proofs.lemmas.List.Sorted.{IsPermutation-refl, IsPermutation-cons, IsPermutation-sym, IsPermutation-trans, IsPermutation-middle, All-permutation}
+use Rattle.std.proofs.lemmas.List.Sorted.{IsPermutation-refl, IsPermutation-cons, IsPermutation-sym, IsPermutation-trans, IsPermutation-middle, All-permutation, length_permutation}
 use Rattle.text_rules.specs.declared.Op.{Op}
 use Rattle.batch_rules.specs.Batches.{stands_before, put_in_order, sorted_ops, StandFrom}
 
@@ -25,6 +25,9 @@ pub sorted_ops_move : (ops : List Op) → IsPermutation ops (sorted_ops ops)
 sorted_ops_move [] = IsPermutation-refl []
 sorted_ops_move (op ∷ ops) =
     IsPermutation-trans _ _ _ (IsPermutation-cons op _ _ (sorted_ops_move ops)) (put_in_order_moves op (sorted_ops ops))
+
+pub length-sorted_ops : (ops : List Op) → length (sorted_ops ops) ≡ length ops
+length-sorted_ops ops = length_permutation ops (sorted_ops ops) (sorted_ops_move ops)
 
 pub All-sorted_ops : (P : Op → Type 0) (ops : List Op) → All P ops → All P (sorted_ops ops)
 All-sorted_ops P ops all = All-permutation P ops (sorted_ops ops) (sorted_ops_move ops) all

@@ -8,8 +8,8 @@ use Rattle.std.proofs.lemmas.List.Sums.{sum_by-cons}
 use Rattle.text_rules.specs.declared.Op.{Op}
 use Rattle.text_rules.specs.Edits.{is_bad_span}
 use Rattle.text_rules.proofs.EditLemmas.{span_from_test}
-use Rattle.batch_rules.specs.declared.BatchError.{BatchError}
-use Rattle.batch_rules.specs.declared.BatchError.TheVariants.{Range, Overlap, Limit}
+use Rattle.batch_rules.specs.Refusals.{BatchRefusal}
+use Rattle.batch_rules.specs.Refusals as refused
 use Rattle.batch_rules.specs.Batches.{most_units, sorted_ops, has_bad_span, overlap, applied_from, applied, checked_batch, StandFrom, FollowFrom, text_units, inverse_from}
 use Rattle.batch_rules.proofs.Order.{All-sorted_ops}
 
@@ -46,8 +46,8 @@ pub record IsAccepted (x : List ℕ) (ops sorted : List Op) : Type 0 where
   pub standing : StandFrom 0 x sorted
   pub fits : length (applied_from 0 x sorted) ≤ most_units
 
-abbrev answer_by : Bool → Bool → Bool → List Op → Result (List Op) BatchError
-answer_by bad overlaps long sorted = cond bad (Err Range) (cond overlaps (Err Overlap) (cond long (Err Limit) (Ok sorted)))
+abbrev answer_by : Bool → Bool → Bool → List Op → Result (List Op) BatchRefusal
+answer_by bad overlaps long sorted = cond bad (Err refused.range) (cond overlaps (Err refused.overlap) (cond long (Err refused.limit) (Ok sorted)))
 
 accepted_at : (x : List ℕ) (ops sorted : List Op) (bad overlaps long : Bool) → has_bad_span x ops ≡ bad → overlap (sorted_ops ops) ≡ overlaps → ltb most_units (length (applied x ops)) ≡ long
     → answer_by bad overlaps long (sorted_ops ops) ≡ Ok sorted → IsAccepted x ops sorted

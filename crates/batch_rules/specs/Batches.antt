@@ -3,12 +3,13 @@ use Rattle.std.specs.Prelude.{ℕ, ◌+◌, ◌-◌, ◌^◌, ◌≤◌, ◌==�
 use Rattle.std.specs.List.{list_any}
 use Rattle.text_rules.specs.declared.Op.{Op}
 use Rattle.text_rules.specs.Edits.{is_bad_span, edited}
-use Rattle.batch_rules.specs.declared.BatchError.{BatchError}
-use Rattle.batch_rules.specs.declared.BatchError.TheVariants.{Range, Overlap, Limit}
+use Rattle.batch_rules.specs.declared.TheConstants.{MOST_TEXT_UNITS}
+use Rattle.batch_rules.specs.Refusals.{BatchRefusal}
+use Rattle.batch_rules.specs.Refusals as refused
 
 -- the most units that a text may have
 abbrev pub most_units : ℕ
-most_units = 2 ^ 30 - 1
+most_units = MOST_TEXT_UNITS
 
 -- the first op stands before the second: its end is lower, or the ends are equal and its start is not higher
 abbrev pub stands_before : Op → Op → Bool
@@ -43,11 +44,11 @@ abbrev pub applied : List ℕ → List Op → List ℕ
 applied x ops = applied_from 0 x (sorted_ops ops)
 
 -- the ops of the batch in their order, or why it is refused
-abbrev pub checked_batch : List ℕ → List Op → Result (List Op) BatchError
+abbrev pub checked_batch : List ℕ → List Op → Result (List Op) BatchRefusal
 checked_batch x ops =
-    if has_bad_span x ops then Err Range else
-    (if overlap (sorted_ops ops) then Err Overlap else
-    (if nat_lt most_units (length (applied x ops)) then Err Limit
+    if has_bad_span x ops then Err refused.range else
+    (if overlap (sorted_ops ops) then Err refused.overlap else
+    (if nat_lt most_units (length (applied x ops)) then Err refused.limit
     else Ok (sorted_ops ops)))
 
 -- From a place on the spans stand in the text one after another: each begins where the one before it ends, or later.

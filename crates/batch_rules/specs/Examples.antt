@@ -1,7 +1,7 @@
 -- Worked examples of the definitions.
 use Rattle.std.specs.Prelude.{◌≡◌, ℕ, [], ◌∷◌, List, codes, true, false, Ok, Err, refl}
 use Rattle.text_rules.specs.declared.Op.{Op}
-use Rattle.batch_rules.specs.declared.BatchError.TheVariants.{Range, Overlap}
+use Rattle.batch_rules.specs.Refusals as refused
 use Rattle.batch_rules.specs.Batches.{sorted_ops, overlap, applied, checked_batch, inverse_of, edited_backwards, text_units}
 
 abbrev op : ℕ → ℕ → List ℕ → Op
@@ -37,8 +37,8 @@ texts_of_two_ops = refl
 a_batch_comes_in_order : checked_batch (codes "abcdef") (op 4 5 (codes "Y") ∷ op 1 2 (codes "XX") ∷ []) ≡ Ok (op 1 2 (codes "XX") ∷ op 4 5 (codes "Y") ∷ [])
 a_batch_comes_in_order = refl
 
-a_bad_span_comes_before_an_overlap : checked_batch (codes "abc") (op 0 2 [] ∷ op 1 3 [] ∷ op 2 9 [] ∷ []) ≡ Err Range
+a_bad_span_comes_before_an_overlap : checked_batch (codes "abc") (op 0 2 [] ∷ op 1 3 [] ∷ op 2 9 [] ∷ []) ≡ Err refused.range
 a_bad_span_comes_before_an_overlap = refl
 
-an_overlap : checked_batch (codes "abc") (op 1 3 [] ∷ op 0 2 [] ∷ []) ≡ Err Overlap
+an_overlap : checked_batch (codes "abc") (op 1 3 [] ∷ op 0 2 [] ∷ []) ≡ Err refused.overlap
 an_overlap = refl

@@ -1,11 +1,11 @@
 -- Bounds of what is kept.
 use Rattle.std.proofs.Common.{◌≡◌, ℕ, ◌+◌, ◌≤◌, ◌<◌, ◌^◌, max, Bool, ◌||◌, Option, Some, None, refl, ap, sym, ◌∙◌, arith, add-one}
 use Rattle.std.specs.Prelude.{unwrap_or, bit_or}
-use Rattle.bracket_rules.specs.Tree.{Tree, text, pair, stray, capped, nothing, two, three, tree_length, is_missing, nesting, height, weight, IsEven}
+use Rattle.bracket_trees.specs.Tree.{Tree, text, pair, stray, capped, nothing, two, three, tree_length, is_missing, nesting, height, weight, IsEven}
 use Rattle.text_lengths.proofs.Lengths.{length_plus_assoc}
-use Rattle.bracket_rules.specs.Told.{has_kind}
-use Rattle.bracket_rules.proofs.KindSets.{has_kind-union}
-use Rattle.bracket_rules.proofs.Weights.{units_of, length_within, nesting_within, height_within}
+use Rattle.bracket_trees.specs.Told.{has_kind}
+use Rattle.bracket_trees.proofs.KindSets.{has_kind-union}
+use Rattle.bracket_trees.proofs.Weights.{units_of, length_within, nesting_within, height_within}
 use Rattle.bracket_nodes.specs.declared.kept.Kept.{Kept}
 use Rattle.bracket_nodes.specs.Kept.{later, last_level, Keeps, both_of}
 use Rattle.bracket_nodes.specs.Bounds.{IsBounded}

@@ -1,15 +1,14 @@
 -- The walk down to the level at a place: the entries of a part all start before the place, or none does.
 use Rattle.std.proofs.Common.{◌≡◌, ℕ, suc, ◌+◌, Bool, true, false, cond, Option, Some, None, List, [], ◌∷◌, ◌++◌, ◌&&◌, refl, ap, ◌∙◌, arith, add-one}
-use Rattle.std.proofs.lemmas.Bool.Decides.{nat_tests}
-use Rattle.std.proofs.lemmas.Grind.{common_steps}
 use Rattle.text_lengths.specs.declared.Length.{Length}
 use Rattle.text_lengths.specs.Length.{length_plus, is_before}
 use Rattle.text_lengths.proofs.Lengths.{length_plus_assoc}
 use Rattle.bracket_rules.specs.Parse.{bracket, Spot, spot, Judged, judged_opening}
-use Rattle.bracket_rules.specs.Tree.{is_some_width, Tree, text, pair, stray, capped, nothing, two, three, wide, tree_length, inside_start, inside_end, closing_spot, closing_entries, tree_entries, level_after, level_before}
-use Rattle.bracket_rules.proofs.Levels.{not_before_later, not_before_sum, level_before-opening}
+use Rattle.bracket_trees.specs.Tree.{is_some_width, Tree, text, pair, stray, capped, nothing, two, three, wide, tree_length, inside_start, inside_end, closing_entries, tree_entries, level_after, level_before}
+use Rattle.bracket_trees.proofs.Levels.{not_before_later, not_before_sum, level_before-opening}
 use Rattle.bracket_nodes.specs.Kept.{later, inside_level, last_level}
 use Rattle.bracket_nodes.specs.Walks.{level_from}
+use Rattle.bracket_nodes.proofs.EntryPlaces.{EachPlace, each_later}
 
 pub level_before-append : (p : Length) (level : ℕ) (xs ys : List Judged)
     → level_before p level (xs ++ ys) ≡ level_before p (level_before p level xs) ys
@@ -21,59 +20,40 @@ level_before-append p level (x ∷ xs) ys = level_before-append p (cond (is_befo
 pub not_before_plus : (p q l : Length) → is_before q p ≡ false → is_before (length_plus q l) p ≡ false
 not_before_plus p q l h = not_before_later p q (length_plus q l) h (not_before_sum q l)
 
-late_opening : (p q : Length) (o k level before : ℕ) (closer : Option Spot) (rest : List Judged) → is_before q p ≡ false
-    → level_before p before (judged_opening (bracket q o k true) level closer ∷ rest) ≡ level_before p before rest
-late_opening p q o k level before closer rest h =
-    level_before-opening p before (bracket q o k true) level closer rest
-    ∙ ap (λ (c : Bool). level_before p (cond c (suc level) before) rest) h
-
-late_closing : (p q : Length) (k level before : ℕ) (c : Option ℕ) (opener : Spot) → is_before q p ≡ false
-    → level_before p before (closing_entries q k level c opener) ≡ before
-late_closing p q k level before None opener h = refl
-late_closing p q k level before (Some w) opener h = ap (λ (c : Bool). cond c level before) h
+level_before-none : (p : Length) (before : ℕ) (js : List Judged) → EachPlace (λ (x : Length). is_before x p ≡ false) js
+    → level_before p before js ≡ before
+level_before-none p before [] h = refl
+level_before-none p before (j ∷ js) h =
+    ap (λ (c : Bool). level_before p (cond c (level_after j.entry) before) js) h.0 ∙ level_before-none p before js h.1
 
 pub level_before-late : (p q : Length) (level before : ℕ) (t : Tree) → is_before q p ≡ false
     → level_before p before (tree_entries q level t) ≡ before
-level_before-late p q level before (text l) h = refl
-level_before-late p q level before (pair k o i c) h =
-    let start : Length = inside_start q o in
-    let ends : Length = inside_end q o i in
-    let start_late = not_before_plus p q (wide o) h in
-    let ends_late = not_before_plus p start (tree_length i) start_late in
-    late_opening p q o k level before (closing_spot ends c) (tree_entries start (suc level) i ++ closing_entries ends k level c (spot q o)) h
-    ∙ level_before-append p before (tree_entries start (suc level) i) (closing_entries ends k level c (spot q o))
-    ∙ ap (λ (n : ℕ). level_before p n (closing_entries ends k level c (spot q o))) (level_before-late p start (suc level) before i start_late)
-    ∙ late_closing p ends k level before c (spot q o) ends_late
-level_before-late p q level before (stray k w) h = ap (λ (c : Bool). cond c level before) h
-level_before-late p q level before (capped k w) h = refl
-level_before-late p q level before nothing h = refl
-level_before-late p q level before (two a b) h =
-    let r : Length = length_plus q (tree_length a) in
-    level_before-append p before (tree_entries q level a) (tree_entries r level b)
-    ∙ ap (λ (n : ℕ). level_before p n (tree_entries r level b)) (level_before-late p q level before a h)
-    ∙ level_before-late p r level before b (not_before_plus p q (tree_length a) h)
-level_before-late p q level before (three a b c) h =
-    let r : Length = length_plus q (tree_length a) in
-    let s : Length = length_plus r (tree_length b) in
-    let r_late = not_before_plus p q (tree_length a) h in
-    level_before-append p before (tree_entries q level a) (tree_entries r level b ++ tree_entries s level c)
-    ∙ ap (λ (n : ℕ). level_before p n (tree_entries r level b ++ tree_entries s level c)) (level_before-late p q level before a h)
-    ∙ level_before-append p before (tree_entries r level b) (tree_entries s level c)
-    ∙ ap (λ (n : ℕ). level_before p n (tree_entries s level c)) (level_before-late p r level before b r_late)
-    ∙ level_before-late p s level before c (not_before_plus p r (tree_length b) r_late)
+level_before-late p q level before t h =
+    let Late : Length → Type 0 = λ (x : Length). is_before x p ≡ false in
+    level_before-none p before (tree_entries q level t)
+    (each_later Late Late (λ (x l : Length) (e : Late x). not_before_plus p x l e) (λ (x : Length) (e : Late x). e) q level t h)
 
 -- ---- all start before the place
 
 pub before_start : (p q l : Length) → is_before (length_plus q l) p ≡ true → is_before q p ≡ true
-before_start p q l h = grind (arith, nat_tests, common_steps)
+before_start p q l h = either (is_before q p) refl
+  where
+    either : (b : Bool) → is_before q p ≡ b → is_before q p ≡ true
+    either true e = e
+    either false e = let late = not_before_plus p q l e in cc
 
 level_from-later : (level before : ℕ) (a b : Option ℕ) → level_from level (level_from level before a) b ≡ level_from level before (later a b)
 level_from-later level before a None = refl
 level_from-later level before a (Some n) = refl
 
-later-assoc : (a b c : Option ℕ) → later (later a b) c ≡ later a (later b c)
-later-assoc a b None = refl
-later-assoc a b (Some n) = refl
+early_joined : (p : Length) (level before : ℕ) (xs ys : List Judged) (a b : Option ℕ)
+    → level_before p before xs ≡ level_from level before a → ((n : ℕ) → level_before p n ys ≡ level_from level n b)
+    → level_before p before (xs ++ ys) ≡ level_from level before (later a b)
+early_joined p level before xs ys a b h k =
+    level_before-append p before xs ys
+    ∙ ap (λ (n : ℕ). level_before p n ys) h
+    ∙ k (level_from level before a)
+    ∙ level_from-later level before a b
 
 level_from-inside : (level : ℕ) (o : Option ℕ) (before : ℕ)
     → level_from (suc level) (suc level) o ≡ level_from level before (inside_level o None)
@@ -123,11 +103,9 @@ level_before-early p q level before (two a b) h =
     let r : Length = length_plus q (tree_length a) in
     let b_early : is_before (length_plus r (tree_length b)) p ≡ true =
     ap (λ (l : Length). is_before l p) (length_plus_assoc q (tree_length a) (tree_length b)) ∙ h in
-    let a_early = before_start p r (tree_length b) b_early in
-    level_before-append p before (tree_entries q level a) (tree_entries r level b)
-    ∙ ap (λ (n : ℕ). level_before p n (tree_entries r level b)) (level_before-early p q level before a a_early)
-    ∙ level_before-early p r level (level_from level before (last_level a)) b b_early
-    ∙ level_from-later level before (last_level a) (last_level b)
+    early_joined p level before (tree_entries q level a) (tree_entries r level b) (last_level a) (last_level b)
+    (level_before-early p q level before a (before_start p r (tree_length b) b_early))
+    (λ (n : ℕ). level_before-early p r level n b b_early)
 level_before-early p q level before (three a b c) h =
     let r : Length = length_plus q (tree_length a) in
     let s : Length = length_plus r (tree_length b) in
@@ -135,15 +113,11 @@ level_before-early p q level before (three a b c) h =
     ap (λ (l : Length). is_before l p) (ap (λ (l : Length). length_plus l (tree_length c)) (length_plus_assoc q (tree_length a) (tree_length b))
     ∙ length_plus_assoc q (length_plus (tree_length a) (tree_length b)) (tree_length c)) ∙ h in
     let b_early = before_start p s (tree_length c) c_early in
-    let a_early = before_start p r (tree_length b) b_early in
-    level_before-append p before (tree_entries q level a) (tree_entries r level b ++ tree_entries s level c)
-    ∙ ap (λ (n : ℕ). level_before p n (tree_entries r level b ++ tree_entries s level c)) (level_before-early p q level before a a_early)
-    ∙ level_before-append p (level_from level before (last_level a)) (tree_entries r level b) (tree_entries s level c)
-    ∙ ap (λ (n : ℕ). level_before p n (tree_entries s level c)) (level_before-early p r level (level_from level before (last_level a)) b b_early)
-    ∙ level_before-early p s level (level_from level (level_from level before (last_level a)) (last_level b)) c c_early
-    ∙ ap (λ (n : ℕ). level_from level n (last_level c)) (level_from-later level before (last_level a) (last_level b))
-    ∙ level_from-later level before (later (last_level a) (last_level b)) (last_level c)
-    ∙ ap (level_from level before) (later-assoc (last_level a) (last_level b) (last_level c))
+    early_joined p level before (tree_entries q level a) (tree_entries r level b ++ tree_entries s level c)
+    (last_level a) (later (last_level b) (last_level c))
+    (level_before-early p q level before a (before_start p r (tree_length b) b_early))
+    (λ (n : ℕ). early_joined p level n (tree_entries r level b) (tree_entries s level c) (last_level b) (last_level c)
+    (level_before-early p r level n b b_early) (λ (m : ℕ). level_before-early p s level m c c_early))
 
 -- ---- the part that decides
 

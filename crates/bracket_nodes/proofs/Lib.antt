@@ -1,5 +1,6 @@
 pub mod KeptLemmas
 pub mod Shares
+pub mod EntryPlaces
 pub mod LevelWalk
 pub mod PartnerWalk
 pub mod EntryWalk

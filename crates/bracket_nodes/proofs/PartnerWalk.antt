@@ -1,31 +1,24 @@
 -- The walk down to the partner of the entry at a place: at most one part has an entry there.
-use Rattle.std.proofs.Common.{◌≡◌, ℕ, suc, ◌<◌, Bool, true, false, cond, ◌&&◌, Option, Some, None, List, [], ◌∷◌, ◌++◌, refl, ap, sym, ◌∙◌, arith}
+use Rattle.std.proofs.Common.{◌≡◌, ℕ, suc, ◌<◌, Bool, true, false, cond, ◌&&◌, Option, Some, None, List, [], ◌∷◌, ◌++◌, refl, ap, ◌∙◌, arith}
 use Rattle.std.proofs.lemmas.Bool.Decides.{nat_tests}
 use Rattle.std.proofs.lemmas.Grind.{common_steps}
 use Rattle.text_lengths.specs.declared.Length.{Length}
 use Rattle.text_lengths.specs.Length.{length_plus, is_before}
-use Rattle.text_lengths.proofs.Lengths.{length_plus_assoc}
 use Rattle.bracket_rules.specs.Parse.{bracket, Spot, spot, Judged, judged_opening, same_place, partner_at}
-use Rattle.bracket_rules.specs.Tree.{Tree, text, pair, stray, capped, nothing, two, three, wide, width_of, is_some_width, tree_length, inside_start, inside_end, closing_spot, closing_entries, tree_entries, IsWidth, IsTree}
+use Rattle.bracket_trees.specs.Tree.{Tree, pair, two, three, wide, is_some_width, tree_length, inside_start, inside_end, closing_spot, closing_entries, tree_entries, IsTree}
+use Rattle.bracket_trees.proofs.Levels.{not_before_later, not_before_sum}
+use Rattle.bracket_nodes.proofs.EntryPlaces.{EachPlace, each_later, each_earlier}
 
 -- no entry starts at the place
-NoneAt : Length → List Judged → Type 0
-NoneAt p [] = Unit {0}
-NoneAt p (j ∷ js) = (same_place j.entry.place p ≡ false) × NoneAt p js
-
-NoneAt-append : (p : Length) (xs ys : List Judged) → NoneAt p xs → NoneAt p ys → NoneAt p (xs ++ ys)
-unfolding NoneAt
-NoneAt-append p [] ys h k = k
-NoneAt-append p (x ∷ xs) ys h k = (h.0, NoneAt-append p xs ys h.1 k)
+abbrev NoneAt : Length → List Judged → Type 0
+NoneAt p js = EachPlace (λ (x : Length). same_place x p ≡ false) js
 
 partner_at-past : (p : Length) (xs ys : List Judged) → NoneAt p xs → partner_at p (xs ++ ys) ≡ partner_at p ys
-unfolding NoneAt
 partner_at-past p [] ys h = refl
 partner_at-past p (x ∷ xs) ys h =
     ap (λ (b : Bool). cond b x.partner (partner_at p (xs ++ ys))) h.0 ∙ partner_at-past p xs ys h.1
 
 partner_at-none : (p : Length) (ys : List Judged) → NoneAt p ys → partner_at p ys ≡ None
-unfolding NoneAt
 partner_at-none p [] h = refl
 partner_at-none p (y ∷ ys) h = ap (λ (b : Bool). cond b y.partner (partner_at p ys)) h.0 ∙ partner_at-none p ys h.1
 
@@ -36,9 +29,6 @@ partner_at-before p (x ∷ xs) ys h =
 
 -- ---- places apart
 
-before_plus : (p q l : Length) → is_before p q ≡ true → is_before p (length_plus q l) ≡ true
-before_plus p q l h = grind (arith, nat_tests, common_steps)
-
 apart_before : (p q : Length) → is_before p q ≡ true → same_place q p ≡ false
 apart_before p q h = grind (arith, nat_tests)
 
@@ -46,105 +36,34 @@ apart_after : (p q : Length) (w : ℕ) → 0 < w → is_before p (length_plus q 
 apart_after p q w h k = grind (arith, nat_tests, common_steps)
 
 reached : (p q l : Length) → is_before p (length_plus q l) ≡ false → is_before p q ≡ false
-reached p q l h = grind (arith, nat_tests, common_steps)
+reached p q l h = not_before_later q (length_plus q l) p (not_before_sum q l) h
+
+before_plus : (p q l : Length) → is_before p q ≡ true → is_before p (length_plus q l) ≡ true
+before_plus p q l h = either (is_before p (length_plus q l)) refl
+  where
+    either : (b : Bool) → is_before p (length_plus q l) ≡ b → is_before p (length_plus q l) ≡ true
+    either true e = e
+    either false e = let reaches = reached p q l e in cc
 
 not_before_same : (p q : Length) → same_place q p ≡ true → is_before p q ≡ false
 not_before_same p q h = grind (arith, nat_tests)
 
--- ---- an opening and a closing bracket
-
-place_of_opening : (q : Length) (o k level : ℕ) (c : Option Spot) → (judged_opening (bracket q o k true) level c).entry.place ≡ q
-place_of_opening q o k level None = refl
-place_of_opening q o k level (Some s) = refl
-
-partner_of_opening : (q : Length) (o k level : ℕ) (c : Option Spot) → (judged_opening (bracket q o k true) level c).partner ≡ c
-partner_of_opening q o k level None = refl
-partner_of_opening q o k level (Some s) = refl
-
-not_at_opening : (p q : Length) (o k level : ℕ) (c : Option Spot) (rest : List Judged) → same_place q p ≡ false → NoneAt p rest
-    → NoneAt p (judged_opening (bracket q o k true) level c ∷ rest)
-unfolding NoneAt
-not_at_opening p q o k level None rest h r = (h, r)
-not_at_opening p q o k level (Some s) rest h r = (h, r)
+-- ---- a tree after the place, and one that ends there or before
 
 closing_apart : (p q : Length) (k level : ℕ) (c : Option ℕ) (s : Spot) → (is_some_width c && same_place q p) ≡ false → NoneAt p (closing_entries q k level c s)
-unfolding NoneAt
 closing_apart p q k level None s h = tt
 closing_apart p q k level (Some w) s h = (h, tt)
 
-and_false : (b c : Bool) → c ≡ false → (b && c) ≡ false
-and_false true c h = h
-and_false false c h = refl
-
--- ---- a tree after the place
-
 none_before : (p q : Length) (level : ℕ) (t : Tree) → is_before p q ≡ true → NoneAt p (tree_entries q level t)
-unfolding NoneAt
-none_before p q level (text l) h = tt
-none_before p q level (pair k o i c) h =
-    let start : Length = inside_start q o in
-    let ends : Length = inside_end q o i in
-    let later_start = before_plus p q (wide o) h in
-    let later_end = before_plus p start (tree_length i) later_start in
-    not_at_opening p q o k level (closing_spot ends c) _ (apart_before p q h)
-    (NoneAt-append p (tree_entries start (suc level) i) (closing_entries ends k level c (spot q o))
-    (none_before p start (suc level) i later_start)
-    (closing_apart p ends k level c (spot q o) (and_false (is_some_width c) (same_place ends p) (apart_before p ends later_end))))
-none_before p q level (stray k w) h = (apart_before p q h, tt)
-none_before p q level (capped k w) h = tt
-none_before p q level nothing h = tt
-none_before p q level (two a b) h =
-    let r : Length = length_plus q (tree_length a) in
-    NoneAt-append p (tree_entries q level a) (tree_entries r level b) (none_before p q level a h) (none_before p r level b (before_plus p q (tree_length a) h))
-none_before p q level (three a b c) h =
-    let r : Length = length_plus q (tree_length a) in
-    let s : Length = length_plus r (tree_length b) in
-    let later = before_plus p q (tree_length a) h in
-    NoneAt-append p (tree_entries q level a) (tree_entries r level b ++ tree_entries s level c) (none_before p q level a h)
-    (NoneAt-append p (tree_entries r level b) (tree_entries s level c) (none_before p r level b later) (none_before p s level c (before_plus p r (tree_length b) later)))
-
--- ---- a tree that ends at the place or before it
-
-closing_passed : (p q : Length) (k level : ℕ) (c : Option ℕ) (s : Spot) → IsWidth c → is_before p (length_plus q (wide (width_of c))) ≡ false
-    → NoneAt p (closing_entries q k level c s)
-unfolding NoneAt
-closing_passed p q k level None s h e = tt
-closing_passed p q k level (Some w) s h e = (apart_after p q w h e, tt)
+none_before p q level t h =
+    each_later (λ (x : Length). is_before p x ≡ true) (λ (x : Length). same_place x p ≡ false)
+    (λ (x l : Length) (e : is_before p x ≡ true). before_plus p x l e) (λ (x : Length) (e : is_before p x ≡ true). apart_before p x e) q level t h
 
 none_after : (p q : Length) (level : ℕ) (t : Tree) → IsTree t → is_before p (length_plus q (tree_length t)) ≡ false → NoneAt p (tree_entries q level t)
-unfolding NoneAt
-none_after p q level (text l) h e = tt
-none_after p q level (pair k o i c) h e =
-    let start : Length = inside_start q o in
-    let ends : Length = inside_end q o i in
-    let all : length_plus q (tree_length (pair k o i c)) ≡ length_plus ends (wide (width_of c)) =
-    sym (ap (λ (l : Length). length_plus l (wide (width_of c))) (length_plus_assoc q (wide o) (tree_length i))
-    ∙ length_plus_assoc q (length_plus (wide o) (tree_length i)) (wide (width_of c))) in
-    let past : is_before p (length_plus ends (wide (width_of c))) ≡ false = ap (is_before p) (sym all) ∙ e in
-    let past_inside = reached p ends (wide (width_of c)) past in
-    let past_opening = reached p start (tree_length i) past_inside in
-    not_at_opening p q o k level (closing_spot ends c) _ (apart_after p q o h.0.opening past_opening)
-    (NoneAt-append p (tree_entries start (suc level) i) (closing_entries ends k level c (spot q o))
-    (none_after p start (suc level) i h.1 past_inside)
-    (closing_passed p ends k level c (spot q o) h.0.closing past))
-none_after p q level (stray k w) h e = (apart_after p q w h.wide e, tt)
-none_after p q level (capped k w) h e = tt
-none_after p q level nothing h e = tt
-none_after p q level (two a b) h e =
-    let r : Length = length_plus q (tree_length a) in
-    let past : is_before p (length_plus r (tree_length b)) ≡ false = ap (is_before p) (length_plus_assoc q (tree_length a) (tree_length b)) ∙ e in
-    NoneAt-append p (tree_entries q level a) (tree_entries r level b)
-    (none_after p q level a h.1.0 (reached p r (tree_length b) past)) (none_after p r level b h.1.1 past)
-none_after p q level (three a b c) h e =
-    let r : Length = length_plus q (tree_length a) in
-    let s : Length = length_plus r (tree_length b) in
-    let past : is_before p (length_plus s (tree_length c)) ≡ false =
-    ap (is_before p) (ap (λ (l : Length). length_plus l (tree_length c)) (length_plus_assoc q (tree_length a) (tree_length b))
-    ∙ length_plus_assoc q (length_plus (tree_length a) (tree_length b)) (tree_length c)) ∙ e in
-    let past_b = reached p s (tree_length c) past in
-    NoneAt-append p (tree_entries q level a) (tree_entries r level b ++ tree_entries s level c)
-    (none_after p q level a h.1.0 (reached p r (tree_length b) past_b))
-    (NoneAt-append p (tree_entries r level b) (tree_entries s level c) (none_after p r level b h.1.1.0 past_b) (none_after p s level c h.1.1.1 past))
+none_after p q level t h e =
+    each_earlier (λ (x : Length). is_before p x ≡ false) (λ (x : Length). same_place x p ≡ false)
+    (λ (x l : Length) (f : is_before p (length_plus x l) ≡ false). reached p x l f)
+    (λ (x : Length) (w : ℕ) (some : 0 < w) (f : is_before p (length_plus x (wide w)) ≡ false). apart_after p x w some f) q level t h e
 
 -- ---- the part that decides
 

@@ -1,16 +1,18 @@
 -- The steps of a text of scanned lines as a source.
-use Rattle.std.proofs.Common.{◌≡◌, ℕ, ◌+◌, ◌-◌, ◌<◌, ◌≤◌, true, false, List, [], ◌∷◌, ◌++◌, length, get_or, drop, refl, ap, sym, ◌∙◌, arith, inl, inr}
+use Rattle.std.proofs.Common.{◌≡◌, ℕ, ◌+◌, ◌-◌, ◌<◌, ◌≤◌, true, false, List, [], ◌∷◌, ◌++◌, length, get_or, take, drop, refl, ap, sym, ◌∙◌, arith, inl, inr}
+use Rattle.std.proofs.lemmas.List.{take_rest}
 use Rattle.bracket_rules.specs.declared.Token.{Token}
 use Rattle.bracket_rules.specs.declared.TheConstants.{MOST_OPEN}
 use Rattle.bracket_rules.specs.Table.{token, AreInLine}
 use Rattle.bracket_rules.specs.Rows.{Row, HasRow, row, empty_row, shifted, glue}
-use Rattle.bracket_rules.specs.Tree.{text, wide}
-use Rattle.bracket_rules.specs.Told.{Fits}
+use Rattle.bracket_trees.specs.Tree.{text, wide}
+use Rattle.bracket_trees.specs.Told.{Fits}
 use Rattle.text_lengths.specs.Length.{length_of}
-use Rattle.bracket_rules.proofs.Glue.{empty_glue}
+use Rattle.bracket_trees.proofs.Glue.{empty_glue}
+use Rattle.bracket_trees.proofs.LineWeights.{AreCovered-same}
 use Rattle.bracket_nodes.specs.declared.scanned.ScannedLine.{ScannedLine}
 use Rattle.bracket_nodes.specs.Source.{GivesNode, GivesBracket}
-use Rattle.bracket_nodes.specs.ScannedLines.{moved_back, rows_left, bound_left, ahead_of}
+use Rattle.bracket_nodes.specs.ScannedLines.{moved_back, rows_left, with_break, scanned_weights, ahead_of}
 
 -- ---- lines
 
@@ -66,22 +68,26 @@ fits_text kinds level lines columns h = record {
   room = omega arith;
 }
 
-bound_cut : (c d n : ℕ) (lines : List ScannedLine) → c ≤ d → d ≤ n → (d - c) + bound_left d n lines ≤ bound_left c n lines
-bound_cut c d n [] h k = omega arith
-bound_cut c d n (l ∷ lines) h k = omega arith
+weight_cut : (c d n : ℕ) (lines : List ScannedLine) → c ≤ d → d ≤ n → (d - c) + with_break (n - d) lines ≤ with_break (n - c) lines
+weight_cut c d n [] h k = omega arith
+weight_cut c d n (l ∷ lines) h k = omega arith
+
+pub weight_start : (n : ℕ) (lines : List ScannedLine) → with_break (n - 0) lines ≡ with_break n lines
+weight_start n [] = omega arith
+weight_start n (l ∷ lines) = omega arith
 
 pub gives_gap : (c d n kinds level : ℕ) (ts : List Token) (lines : List ScannedLine) → level ≤ MOST_OPEN → c < d → AreInLine d n ts
     → GivesNode (ahead_of c ts n lines) (ahead_of d ts n lines) kinds level (text (wide (d - c)))
 gives_gap c d n kinds level ts lines room h k =
     let below : c ≤ d = omega arith in
     let within = line_end d n ts k in
-    let bound = bound_cut c d n lines below within in
+    let weight = weight_cut c d n lines below within in
     record {
       tree = inl (refl, omega arith);
       some = refl;
       fits = fits_text kinds level 0 (d - c) room;
       spells = cut c d n [] ts ts lines below within (sym (shifted-moved_back c d n ts below k));
-      weighs = omega arith;
+      weighs = (omega arith, AreCovered-same (scanned_weights lines));
       rest = HasRow-rows_left d ts n lines;
     }
 
@@ -95,7 +101,7 @@ gives_bracket c n t ts lines h k =
     let below : c ≤ c + t.len = omega arith in
     let width : (c + t.len) - c ≡ t.len = omega arith in
     let start : t.at - c ≡ 0 = omega arith in
-    let bound = bound_cut c (c + t.len) n lines below within in
+    let weight = weight_cut c (c + t.len) n lines below within in
     record {
       has_kind = k.2;
       wide = k.1;
@@ -104,7 +110,7 @@ gives_bracket c n t ts lines h k =
           (ap (λ (m : ℕ). token m t.len t.kind t.opening ∷ moved_back c ts) start
           ∙ ap (λ (x : List Token). token 0 t.len t.kind t.opening ∷ x) (sym (shifted-moved_back c (c + t.len) n ts below line)))
           ∙ ap (λ (m : ℕ). glue (row (token 0 t.len t.kind t.opening ∷ []) m ∷ []) (rows_left (c + t.len) ts n lines)) width;
-      weighs = omega arith;
+      weighs = (omega arith, AreCovered-same (scanned_weights lines));
       rest = HasRow-rows_left (c + t.len) ts n lines;
     }
 
@@ -115,7 +121,7 @@ gives_break c n kinds level l lines room = record {
   some = refl;
   fits = fits_text kinds level 1 0 room;
   spells = ap (λ (x : List Row). empty_row ∷ x) (sym (empty_glue (rows_left 0 l.tokens.items l.columns lines) (HasRow-rows_left 0 l.tokens.items l.columns lines)));
-  weighs = omega arith;
+  weighs = (omega arith, (omega (arith, weight_start l.columns lines), AreCovered-same (scanned_weights lines)));
   rest = HasRow-rows_left 0 l.tokens.items l.columns lines;
 }
 
@@ -130,3 +136,13 @@ at_token c n t ts h = (omega arith, h.1, h.2, h.3)
 
 pub token_fits : (c n : ℕ) (t : Token) (ts : List Token) → t.at ≤ c → AreInLine c n (t ∷ ts) → c + t.len ≤ n
 token_fits c n t ts h k = let first : c ≤ t.at = k.0 in let rest = line_end (t.at + t.len) n ts k.3 in omega arith
+
+-- at the start of the first line all lines weigh what they weigh
+pub whole_weights : (lines : List ScannedLine) (l : ScannedLine) → 0 < length lines → l ≡ get_or lines 0 l
+    → with_break (l.columns - 0) (take (length lines - 1) (drop 1 lines)) ∷ scanned_weights (take (length lines - 1) (drop 1 lines)) ≡ scanned_weights lines
+whole_weights [] l h e = absurd (omega arith)
+whole_weights (m ∷ lines) l h e =
+    let after : take (length (m ∷ lines) - 1) lines ≡ lines = take_rest (m ∷ lines) 1 in
+    ap (λ (x : List ScannedLine). with_break (l.columns - 0) x ∷ scanned_weights x) after
+    ∙ ap (λ (n : ℕ). n ∷ scanned_weights lines) (weight_start l.columns lines)
+    ∙ ap (λ (x : ScannedLine). with_break x.columns lines ∷ scanned_weights lines) e

@@ -1,8 +1,8 @@
 -- What a node keeps of its tree.
 use Rattle.std.specs.Prelude.{◌≡◌, ℕ, suc, ◌<◌, ◌^◌, ◌&&◌, ◌||◌, max, bit_or, Option, Some, None, unwrap_or}
 use Rattle.text_lengths.specs.Length.{length_plus}
-use Rattle.bracket_rules.specs.Tree.{Tree, text, pair, stray, capped, nothing, two, three, tree_length, is_missing, is_closed, is_capped, nesting, height, weight, IsTree}
-use Rattle.bracket_rules.specs.Told.{has_kind}
+use Rattle.bracket_trees.specs.Tree.{Tree, text, pair, stray, capped, nothing, two, three, tree_length, is_missing, is_closed, is_capped, nesting, height, weight, IsTree}
+use Rattle.bracket_trees.specs.Told.{has_kind}
 use Rattle.bracket_nodes.specs.declared.kept.Kept.{Kept}
 
 abbrev pub later : Option ℕ → Option ℕ → Option ℕ

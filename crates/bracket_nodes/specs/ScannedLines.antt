@@ -27,21 +27,24 @@ abbrev pub rows_left : ℕ → List Token → ℕ → List ScannedLine → List 
 rows_left column tokens columns [] = row (moved_back column tokens) (columns - column) ∷ []
 rows_left column tokens columns (l ∷ lines) = row (moved_back column tokens) 0 ∷ rows_left 0 l.tokens.items l.columns lines
 
-abbrev pub bound_left : ℕ → ℕ → List ScannedLine → ℕ
-bound_left column columns [] = columns - column
-bound_left column columns (l ∷ lines) = (columns - column) + (1 + bound_left 0 l.columns lines)
+-- what so many columns of a line weigh, with the break that ends it where more lines follow
+abbrev pub with_break : ℕ → List ScannedLine → ℕ
+with_break columns [] = columns
+with_break columns (l ∷ lines) = columns + 1
 
 -- the rows of all lines
 abbrev pub scanned_rows : List ScannedLine → List Row
 scanned_rows [] = empty_row ∷ []
 scanned_rows (l ∷ lines) = rows_left 0 l.tokens.items l.columns lines
 
-abbrev pub scanned_bound : List ScannedLine → ℕ
-scanned_bound [] = 0
-scanned_bound (l ∷ lines) = bound_left 0 l.columns lines
+-- what each line weighs
+abbrev pub scanned_weights : List ScannedLine → List ℕ
+scanned_weights [] = []
+scanned_weights (l ∷ lines) = with_break l.columns lines ∷ scanned_weights lines
 
 abbrev pub ahead_of : ℕ → List Token → ℕ → List ScannedLine → Ahead
 ahead_of column tokens columns lines = record {
   rows = rows_left column tokens columns lines;
-  weight = bound_left column columns lines;
+  line = with_break (columns - column) lines;
+  later = scanned_weights lines;
 }

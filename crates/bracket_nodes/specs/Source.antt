@@ -1,9 +1,10 @@
 -- What a source of brackets has ahead, what it gives, and what is parsed of it.
-use Rattle.std.specs.Prelude.{◌≡◌, ℕ, ◌+◌, ◌<◌, ◌≤◌, Bool, true, false, ◌==◌, if◌then◌else◌, List, [], ◌∷◌, Some, None, ⊤}
+use Rattle.std.specs.Prelude.{◌≡◌, ℕ, ◌+◌, ◌<◌, ◌≤◌, Bool, true, false, ◌==◌, if◌then◌else◌, List, [], ◌∷◌, sum, Some, None, ⊤}
 use Rattle.bracket_rules.specs.declared.TheConstants.{MOST_PAIRS}
 use Rattle.bracket_rules.specs.Rows.{Row, HasRow, empty_row, glue}
-use Rattle.bracket_rules.specs.Tree.{Tree, pair, stray, nothing, bracket_row, tree_rows, weight, is_nothing, IsTree, items}
-use Rattle.bracket_rules.specs.Told.{has_kind, Fits, Tells}
+use Rattle.bracket_trees.specs.Tree.{Tree, pair, stray, nothing, bracket_row, tree_rows, weight, is_nothing, IsTree, items}
+use Rattle.bracket_trees.specs.Weights.{glue_weights, tree_weights, all_weights, AreCovered}
+use Rattle.bracket_trees.specs.Told.{has_kind, Fits, Tells}
 use Rattle.bracket_nodes.specs.declared.parser.Next.{Next}
 use Rattle.bracket_nodes.specs.declared.parser.Next.TheVariants.{End, Ready, Bracket}
 use Rattle.bracket_nodes.specs.declared.parser.Stop.{Stop}
@@ -11,10 +12,19 @@ use Rattle.bracket_nodes.specs.declared.parser.Stop.TheVariants.{AtEnd, AtClosin
 use Rattle.bracket_nodes.specs.declared.parser.Taken.{Taken}
 use Rattle.bracket_nodes.specs.declared.parser.Taken.TheVariants.{One, Last, Nothing}
 
--- the rows from here to the end of the text, and a bound on the weight of all that is left
+-- The rows from here to the end of the text, and what the leaves of each line may weigh: of what is left of the line
+-- that is read, and of each line after it.
 pub record Ahead : Type 0 where
   pub rows : List Row
-  pub weight : ℕ
+  pub line : ℕ
+  pub later : List ℕ
+
+abbrev pub weights_ahead : Ahead → List ℕ
+weights_ahead a = a.line ∷ a.later
+
+-- what all of these lines may weigh together
+unfoldable pub weight_ahead : Ahead → ℕ
+weight_ahead a = sum (weights_ahead a)
 
 -- ---- what a source gives
 
@@ -24,18 +34,23 @@ pub record GivesNode (old new : Ahead) (kinds level : ℕ) (t : Tree) : Type 0 w
   pub some : is_nothing t ≡ false
   pub fits : Fits kinds level t
   pub spells : old.rows ≡ glue (tree_rows t) new.rows
-  pub weighs : weight t + new.weight ≤ old.weight
+  pub weighs : AreCovered (glue_weights (tree_weights t) (weights_ahead new)) (weights_ahead old)
   pub rest : HasRow new.rows
 
 pub record GivesBracket (old new : Ahead) (kind width : ℕ) (opening : Bool) : Type 0 where
   pub has_kind : kind < MOST_PAIRS
   pub wide : 0 < width
   pub spells : old.rows ≡ glue (bracket_row kind width opening) new.rows
-  pub weighs : width + new.weight ≤ old.weight
+  pub weighs : AreCovered (glue_weights (width ∷ []) (weights_ahead new)) (weights_ahead old)
   pub rest : HasRow new.rows
 
+-- neither a unit nor a line is left
+pub record IsOver (a : Ahead) : Type 0 where
+  pub empty : a.rows ≡ empty_row ∷ []
+  pub last : a.later ≡ []
+
 abbrev pub Comes : Ahead → Ahead → ℕ → ℕ → Next → Type 0
-Comes old new kinds level End = (old.rows ≡ empty_row ∷ []) × (new ≡ old)
+Comes old new kinds level End = IsOver old × (new ≡ old)
 Comes old new kinds level (Ready node) = GivesNode old new kinds level node
 Comes old new kinds level (Bracket kind width opening) = GivesBracket old new kind width opening
 
@@ -50,6 +65,9 @@ abbrev pub stop_width : Stop → ℕ
 stop_width AtEnd = 0
 stop_width (AtClosing kind width) = width
 
+abbrev pub weights_after : Stop → Ahead → List ℕ
+weights_after stop new = glue_weights (stop_width stop ∷ []) (weights_ahead new)
+
 pub record IsClosing (kinds kind width : ℕ) : Type 0 where
   pub is_open : has_kind kinds kind ≡ true
   pub has_kind : kind < MOST_PAIRS
@@ -57,21 +75,24 @@ pub record IsClosing (kinds kind width : ℕ) : Type 0 where
 
 -- a list stops where the text ends, or at a closing bracket of a kind that is open
 abbrev pub IsStop : ℕ → Ahead → Stop → Type 0
-IsStop kinds new AtEnd = new.rows ≡ empty_row ∷ []
+IsStop kinds new AtEnd = IsOver new
 IsStop kinds new (AtClosing kind width) = IsClosing kinds kind width
 
--- the tree is the list of what stands before the stop
+-- The tree is the list of what stands before the stop. Its lines weigh what was to be taken of them, and so does all of it
+-- together.
 pub record Listed (old new : Ahead) (kinds level : ℕ) (t : Tree) (stop : Stop) : Type 0 where
   pub tells : Tells kinds level old.rows (rows_after stop new) (items t)
   pub stops : IsStop kinds new stop
-  pub weighs : weight t + (stop_width stop + new.weight) ≤ old.weight
+  pub weighs : AreCovered (glue_weights (tree_weights t) (weights_after stop new)) (weights_ahead old)
+  pub together : weight t + (stop_width stop + weight_ahead new) ≤ weight_ahead old
   pub rest : HasRow new.rows
 
 -- the node is what stands between
 pub record Parsed (old new : Ahead) (kinds level : ℕ) (t : Tree) : Type 0 where
   pub tells : Tells kinds level old.rows new.rows (items t)
   pub some : 0 < weight t
-  pub weighs : weight t + new.weight ≤ old.weight
+  pub weighs : AreCovered (glue_weights (tree_weights t) (weights_ahead new)) (weights_ahead old)
+  pub together : weight t + weight_ahead new ≤ weight_ahead old
   pub rest : HasRow new.rows
 
 abbrev pub Takes : Ahead → Ahead → ℕ → ℕ → Taken → Type 0
@@ -96,5 +117,6 @@ HasWidth (AtClosing kind width) = 0 < width
 -- what has been read of a source, as the nodes of a list
 pub record Reads (start now : Ahead) (kinds level : ℕ) (nodes : List Tree) (w : ℕ) : Type 0 where
   pub tells : Tells kinds level start.rows now.rows nodes
-  pub weighs : w + now.weight ≤ start.weight
+  pub weighs : AreCovered (glue_weights (all_weights nodes) (weights_ahead now)) (weights_ahead start)
+  pub together : w + weight_ahead now ≤ weight_ahead start
   pub rest : HasRow now.rows

@@ -3,7 +3,7 @@ use Rattle.std.specs.Prelude.{ℕ, ◌+◌, ◌<◌, ◌^◌, Bool, if◌then◌
 use Rattle.text_lengths.specs.declared.Length.{Length}
 use Rattle.bracket_rules.specs.declared.Entry.{Entry}
 use Rattle.bracket_rules.specs.Parse.{Spot, Judged, entries_of, entries_between}
-use Rattle.bracket_rules.specs.Tree.{Tree, weight, nesting}
+use Rattle.bracket_trees.specs.Tree.{Tree, weight, nesting}
 
 -- the level after entries that end at this one, counted from the level of their tree, or the level before them
 abbrev pub level_from : ℕ → ℕ → Option ℕ → ℕ

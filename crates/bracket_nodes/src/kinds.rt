@@ -1,6 +1,6 @@
 // Sets of kinds.
-ghost use Rattle.std.specs.Prelude.{◌≡◌, ◌<◌, ◌^◌, bit_or};
-ghost use Rattle.bracket_rules.specs.Told.{has_kind, with_kind};
+ghost use Rattle.std.specs.Prelude.{◌≡◌, ◌<◌, ◌^◌, ◌↔◌, ℕ, true, false, IsTrue, bit_or};
+ghost use Rattle.bracket_trees.specs.Told.{has_kind, with_kind};
 
 use bracket_rules::MOST_PAIRS;
 use std::marker::Model;
@@ -60,5 +60,12 @@ impl Kinds {
         Kinds {
             bits: self.bits | other.bits,
         }
+    }
+    /// Whether no kind is in both sets.
+    pub(crate) fn is_apart_from(self, other: Kinds) -> bool
+        ensures { IsTrue result
+            ↔ ((k : ℕ) → has_kind self k ≡ true → has_kind other k ≡ false) }
+    {
+        self.bits & other.bits == 0
     }
 }

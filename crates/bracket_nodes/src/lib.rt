@@ -2,6 +2,7 @@
 //! and the parser that makes them from a source of brackets.
 #![tactic(auto)]
 
+mod find;
 mod joiner;
 mod kept;
 mod kinds;
@@ -14,6 +15,7 @@ mod parser;
 mod scanned;
 
 pub use bracket_rules::{Entry, Status, Token};
+pub use find::NodeRef;
 pub use joiner::concat;
 pub use kinds::Kinds;
 pub use makers::{capped_node, pair_node, stray_node, text_node};

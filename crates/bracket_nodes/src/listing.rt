@@ -1,7 +1,7 @@
 // The entries of some lines: a walk down to the parts that reach these lines.
 ghost use Rattle.std.specs.Prelude.{◌≡◌, ◌+◌, ◌<◌, ◌^◌, ◌++◌, ◌∷◌, [], length, take, true, OnOk, OnErr, IfOk};
 ghost use Rattle.bracket_rules.specs.Parse.{bracket, spot, Spot, is_between, entries_between, entries_of, judged_opening};
-ghost use Rattle.bracket_rules.specs.Tree.{tree_entries, tree_story, closing_entries, closing_spot};
+ghost use Rattle.bracket_trees.specs.Tree.{tree_entries, tree_story, closing_entries, closing_spot};
 ghost use Rattle.bracket_nodes.specs.Walks.{HasRoom, chosen, entry_if};
 
 use crate::makers::wide;
@@ -53,14 +53,14 @@ fn push_entries(
         ≡ out.old.items ++ chosen lines.from lines.to (tree_entries start level inner.now)) }
     ensures err { OnErr result (take (length out.old.items) out.new.items ≡ out.old.items) }
 {
-    let end = start.plus(&inner.kept().length);
+    let end = inner.end(&start);
     if end.lines < lines.from || lines.to < start.lines {
         return Ok(());
     }
     match &inner.shape {
         Shape::Pair(kind, opening, inside, closing) => {
             let inside_start = start.plus(&wide(*opening));
-            let ends = inside_start.plus(&inside.kept().length);
+            let ends = inside.end(&inside_start);
             push_if(
                 lines,
                 opening_entry(start, *opening, *kind, level, *closing),
@@ -75,14 +75,14 @@ fn push_entries(
         }
         Shape::Two(a, b) => {
             push_entries(a, start, level, lines, out)?;
-            let middle = start.plus(&a.kept().length);
+            let middle = a.end(&start);
             push_entries(b, middle, level, lines, out)
         }
         Shape::Three(a, b, c) => {
             push_entries(a, start, level, lines, out)?;
-            let second = start.plus(&a.kept().length);
+            let second = a.end(&start);
             push_entries(b, second, level, lines, out)?;
-            let third = second.plus(&b.kept().length);
+            let third = b.end(&second);
             push_entries(c, third, level, lines, out)
         }
         _ => Ok(()),

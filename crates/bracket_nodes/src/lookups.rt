@@ -3,7 +3,7 @@ ghost use Rattle.std.specs.Prelude.{◌≡◌, ◌+◌, ◌<◌, ◌^◌, ◌&&�
 ghost use Rattle.std.specs.Option.{option_map};
 ghost use Rattle.text_lengths.specs.Length.{is_before};
 ghost use Rattle.bracket_rules.specs.Parse.{same_place, partner_at};
-ghost use Rattle.bracket_rules.specs.Tree.{weight, is_some_width, closing_spot, tree_entries, level_before, tree_level, tree_partner};
+ghost use Rattle.bracket_trees.specs.Tree.{weight, is_some_width, closing_spot, tree_entries, level_before, tree_level, tree_partner};
 ghost use Rattle.bracket_nodes.specs.Walks.{HasRoom, level_from, place_and_len};
 
 use crate::makers::wide;
@@ -53,14 +53,14 @@ fn level_at(inner: &Inner, start: Length, level: u64, before: u64, place: &Lengt
                 return before;
             }
             let inside_start = start.plus(&wide(*opening));
-            let ends = inside_start.plus(&inside.kept().length);
+            let ends = inside.end(&inside_start);
             if closes_before(*closing, &ends, place) {
                 return level;
             }
             level_at(inside, inside_start, level + 1, level + 1, place)
         }
         Shape::Two(a, b) => {
-            let middle = start.plus(&a.kept().length);
+            let middle = a.end(&start);
             if middle.before(place) {
                 let before = level_from(level, before, a.kept().last_level);
                 level_at(b, middle, level, before, place)
@@ -69,12 +69,12 @@ fn level_at(inner: &Inner, start: Length, level: u64, before: u64, place: &Lengt
             }
         }
         Shape::Three(a, b, c) => {
-            let second = start.plus(&a.kept().length);
+            let second = a.end(&start);
             if !second.before(place) {
                 return level_at(a, start, level, before, place);
             }
             let before = level_from(level, before, a.kept().last_level);
-            let third = second.plus(&b.kept().length);
+            let third = b.end(&second);
             if !third.before(place) {
                 return level_at(b, second, level, before, place);
             }
@@ -111,7 +111,7 @@ fn partner_of(inner: &Inner, start: Length, place: &Length) -> Option<(Length, u
     match &inner.shape {
         Shape::Pair(_, opening, inside, closing) => {
             let inside_start = start.plus(&wide(*opening));
-            let ends = inside_start.plus(&inside.kept().length);
+            let ends = inside.end(&inside_start);
             if start == *place {
                 return closing_place(ends, *closing);
             }
@@ -121,7 +121,7 @@ fn partner_of(inner: &Inner, start: Length, place: &Length) -> Option<(Length, u
             partner_of(inside, inside_start, place)
         }
         Shape::Two(a, b) => {
-            let middle = start.plus(&a.kept().length);
+            let middle = a.end(&start);
             if place.before(&middle) {
                 partner_of(a, start, place)
             } else {
@@ -129,11 +129,11 @@ fn partner_of(inner: &Inner, start: Length, place: &Length) -> Option<(Length, u
             }
         }
         Shape::Three(a, b, c) => {
-            let second = start.plus(&a.kept().length);
+            let second = a.end(&start);
             if place.before(&second) {
                 return partner_of(a, start, place);
             }
-            let third = second.plus(&b.kept().length);
+            let third = b.end(&second);
             if place.before(&third) {
                 return partner_of(b, second, place);
             }

@@ -2,7 +2,7 @@
 ghost use Rattle.std.specs.Prelude.{◌≡◌, ◌+◌, ◌-◌, ◌<◌, ◌^◌, true, false, IfOk, unwrap_or, Some, None};
 ghost use Rattle.std.specs.Option.{ForSome};
 ghost use Rattle.text_lengths.specs.Length.{length_plus};
-ghost use Rattle.bracket_rules.specs.Tree.{text, pair, stray, capped, nothing, two, three, wide, width_of, is_missing, weight, IsGap, IsPair, IsLone, IsEven};
+ghost use Rattle.bracket_trees.specs.Tree.{text, pair, stray, capped, nothing, two, three, wide, width_of, is_missing, weight, IsGap, IsPair, IsLone, IsEven};
 ghost use Rattle.bracket_nodes.specs.Bracket.{IsBracketLength, columns_of};
 ghost use Rattle.bracket_nodes.specs.Kept.{later, inside_level};
 
@@ -16,7 +16,15 @@ use text_lengths::Length;
 
 // A leaf whose level after its last entry is this one.
 fn leaf(length: Length, missing: Kinds, last_level: Option<u64>) -> Kept
-    ensures { result ≡ record { length = length; missing = missing; closed = true; capped = false; nesting = 0; height = 0; last_level = last_level } }
+    ensures { result ≡ record {
+      length = length;
+      missing = missing;
+      closed = true;
+      capped = false;
+      nesting = 0;
+      height = 0;
+      last_level = last_level;
+    } }
 {
     Kept {
         length,

@@ -1,7 +1,8 @@
 // The nodes of a bracket tree.
-ghost use Rattle.std.specs.Prelude.{◌≡◌, ◌<◌, ◌^◌, ℕ, IfOk};
-ghost use Rattle.bracket_rules.specs.Told.{has_kind};
-ghost use Rattle.bracket_rules.specs.Tree.{tree_length, is_missing, is_closed, is_capped, nesting, height, weight, IsTree};
+ghost use Rattle.std.specs.Prelude.{◌≡◌, ◌+◌, ◌<◌, ◌≤◌, ◌^◌, ℕ, IfOk};
+ghost use Rattle.text_lengths.specs.Length.{length_plus};
+ghost use Rattle.bracket_trees.specs.Told.{has_kind};
+ghost use Rattle.bracket_trees.specs.Tree.{tree_length, is_missing, is_closed, is_capped, nesting, height, weight, IsTree};
 ghost use Rattle.bracket_nodes.specs.Kept.{Keeps};
 ghost use Rattle.bracket_nodes.specs.Bounds.{IsBounded};
 
@@ -19,8 +20,8 @@ pub struct Node {
 }
 
 impl Model for Node {
-    ghost use Rattle.bracket_rules.specs.Tree.{Tree};
-    ghost use Rattle.bracket_rules.specs.TreeCode.{tree_code};
+    ghost use Rattle.bracket_trees.specs.Tree.{Tree};
+    ghost use Rattle.bracket_trees.specs.TreeCode.{tree_code};
 
     ghost Value = { Tree };
 
@@ -106,8 +107,8 @@ pub(crate) enum Shape {
 }
 
 impl Model for Inner {
-    ghost use Rattle.bracket_rules.specs.Tree.{Tree};
-    ghost use Rattle.bracket_rules.specs.TreeCode.{tree_code};
+    ghost use Rattle.bracket_trees.specs.Tree.{Tree};
+    ghost use Rattle.bracket_trees.specs.TreeCode.{tree_code};
 
     ghost Value = { Tree };
 
@@ -134,5 +135,16 @@ impl Inner {
         ensures bounded { IsBounded (weight self.now) result }
     {
         self.kept
+    }
+
+    /// Where the node ends, where it starts here.
+    pub fn end(&self, start: &Length) -> Length
+        requires { start.now.lines + start.now.columns + weight self.now < 2 ^ 64 }
+        ensures end { result ≡ length_plus start.now (tree_length self.now) }
+        ensures fits { result.lines + result.columns
+            ≤ start.now.lines + start.now.columns + weight self.now }
+        ensures tree { IsTree self.now }
+    {
+        start.plus(&self.kept().length)
     }
 }

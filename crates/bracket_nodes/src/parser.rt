@@ -1,9 +1,10 @@
 // The parser: it makes a tree of what a source gives.
 ghost use Rattle.std.specs.Prelude.{◌≡◌, ◌+◌, ◌<◌, ◌≤◌, ◌^◌, false, IfOk};
 ghost use Rattle.bracket_rules.specs.Rows.{HasRow};
-ghost use Rattle.bracket_rules.specs.Told.{IsTreeOf};
-ghost use Rattle.bracket_rules.specs.Tree.{IsLone, is_missing, weight};
-ghost use Rattle.bracket_nodes.specs.Source.{Listed, Takes, HasWidth, stop_width, closing_taken, pair_taken};
+ghost use Rattle.bracket_trees.specs.Told.{IsTreeOf};
+ghost use Rattle.bracket_trees.specs.Tree.{IsLone, is_missing, weight};
+ghost use Rattle.bracket_trees.specs.Weights.{tree_weights, AreCovered};
+ghost use Rattle.bracket_nodes.specs.Source.{Listed, Takes, HasWidth, weights_ahead, weight_ahead, stop_width, closing_taken, pair_taken};
 
 use crate::joiner::Joiner;
 use crate::kinds::Kinds;
@@ -59,11 +60,14 @@ pub(crate) struct Part {
     pub stop: Stop,
 }
 
-/// The tree of the text that the source has ahead.
+/// The tree of the text that the source has ahead. In no line its leaves weigh more than the source
+/// has there.
 pub fn parse<S: Source>(alloc: Global, source: &mut S) -> Result<Node, AllocError>
     requires some { HasRow (S.ahead source.old).rows }
-    requires fits { (S.ahead source.old).weight < 2 ^ 64 }
-    ensures { IfOk result (IsTreeOf (S.ahead source.old).rows) }
+    requires fits { weight_ahead (S.ahead source.old) < 2 ^ 64 }
+    ensures tree { IfOk result (IsTreeOf (S.ahead source.old).rows) }
+    ensures light { IfOk result (λ tree.
+        AreCovered (tree_weights tree) (weights_ahead (S.ahead source.old))) }
 {
     let part = parse_list(alloc, source, Kinds::none(), 0)?;
     Ok(part.list)
@@ -79,7 +83,7 @@ fn parse_list<S: Source>(
 ) -> Result<Part, AllocError>
     requires level { level ≤ MOST_OPEN }
     requires some { HasRow (S.ahead source.old).rows }
-    requires fits { (S.ahead source.old).weight < 2 ^ 64 }
+    requires fits { weight_ahead (S.ahead source.old) < 2 ^ 64 }
     ensures { IfOk result (λ part.
         Listed (S.ahead source.old) (S.ahead source.new) opened level part.list part.stop) }
 {
@@ -109,7 +113,7 @@ fn take<S: Source>(
 ) -> Result<Taken, AllocError>
     requires level { level ≤ MOST_OPEN }
     requires some { HasRow (S.ahead source.old).rows }
-    requires fits { (S.ahead source.old).weight < 2 ^ 64 }
+    requires fits { weight_ahead (S.ahead source.old) < 2 ^ 64 }
     ensures { IfOk result (Takes (S.ahead source.old) (S.ahead source.new) opened level) }
 {
     match source.next(alloc, opened, level)? {

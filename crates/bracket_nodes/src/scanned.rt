@@ -1,7 +1,8 @@
 // A whole text as a source, from the scans of its lines.
-ghost use Rattle.std.specs.Prelude.{◌≡◌, ◌<◌, ◌^◌, [], length, IfOk};
-ghost use Rattle.bracket_rules.specs.Told.{IsTreeOf};
-ghost use Rattle.bracket_nodes.specs.ScannedLines.{AreLines, scanned_rows, scanned_bound};
+ghost use Rattle.std.specs.Prelude.{◌≡◌, ◌<◌, ◌^◌, [], length, sum, IfOk};
+ghost use Rattle.bracket_trees.specs.Told.{IsTreeOf};
+ghost use Rattle.bracket_trees.specs.Weights.{tree_weights, AreCovered};
+ghost use Rattle.bracket_nodes.specs.ScannedLines.{AreLines, scanned_rows, scanned_weights};
 
 use crate::kinds::Kinds;
 use crate::makers::{text_node, wide};
@@ -81,12 +82,15 @@ impl<'a> Source for ScannedText<'a> {
     }
 }
 
-/// The tree of a text of these lines, of which there is at least one.
+/// The tree of a text of these lines, of which there is at least one. Its leaves weigh no more in a
+/// line than a unit for each column, and one for the break.
 pub fn parse_lines(alloc: Global, lines: &[ScannedLine]) -> Result<Node, AllocError>
     requires some { 0 < length lines.now }
     requires lines { AreLines lines.now }
-    requires fits { scanned_bound lines.now < 2 ^ 64 }
-    ensures { IfOk result (IsTreeOf (scanned_rows lines.now)) }
+    requires fits { sum (scanned_weights lines.now) < 2 ^ 64 }
+    ensures tree { IfOk result (IsTreeOf (scanned_rows lines.now)) }
+    ensures light { IfOk result (λ tree.
+        AreCovered (tree_weights tree) (scanned_weights lines.now)) }
 {
     let first = &lines[0];
     let mut text = ScannedText {

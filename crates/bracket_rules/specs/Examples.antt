@@ -5,9 +5,8 @@ use Rattle.bracket_rules.specs.declared.Entry.{Entry}
 use Rattle.bracket_rules.specs.declared.Status.{Status}
 use Rattle.bracket_rules.specs.declared.Status.TheVariants.{PairedOpening, PairedClosing, Unclosed, Unexpected}
 use Rattle.bracket_rules.specs.Table.{Table, standard_table}
-use Rattle.bracket_rules.specs.Parse.{spot, entries_of, bracket_entries, bracket_partner, bracket_level}
+use Rattle.bracket_rules.specs.Parse.{spot, bracket_entries, bracket_partner, bracket_level}
 use Rattle.bracket_rules.specs.Rows.{text_brackets}
-use Rattle.bracket_rules.specs.Tree.{pair, stray, capped, tree_story}
 
 abbrev entry : ℕ → ℕ → ℕ → ℕ → Status → ℕ → Entry
 entry line column len kind status level = record {
@@ -108,12 +107,3 @@ overlapping_texts :
     entries_in ((60 ∷ [], 60 ∷ 60 ∷ []) ∷ []) ((60 ∷ 60 ∷ 60 ∷ []) ∷ [])
     ≡ entry 0 0 2 0 Unexpected 0 ∷ entry 0 2 1 0 Unclosed 0 ∷ []
 overlapping_texts = refl
-
--- a tree: `(` and `)` round `]`, and a bracket beyond the most that may be open
-entries_of_pair :
-    entries_of (tree_story (pair 0 1 (stray 1 1) (Some 1)))
-    ≡ entry 0 0 1 0 PairedOpening 0 ∷ entry 0 1 1 1 Unexpected 1 ∷ entry 0 2 1 0 PairedClosing 0 ∷ []
-entries_of_pair = refl
-
-capped_is_no_entry : tree_story (capped 0 1) ≡ []
-capped_is_no_entry = refl

@@ -3,8 +3,9 @@ use Rattle.std.specs.Prelude.{◌≡◌, ◌<◌, ◌≤◌, ℕ, zero, suc, ◌
 use Rattle.std.specs.Cmp.Lexicographic.{pointwise}
 use Rattle.std.specs.List.{starts_with, list_all, list_any}
 use Rattle.std.specs.Option.{option_to_list}
+use Rattle.unit_text.specs.declared.TheConstants.{LINE_FEED, CARRIAGE_RETURN}
 use Rattle.bracket_rules.specs.declared.Token.{Token}
-use Rattle.bracket_rules.specs.declared.TheConstants.{MOST_PAIRS, MOST_UNITS}
+use Rattle.bracket_rules.specs.declared.TheConstants.{MOST_PAIRS, MOST_BRACKET_UNITS}
 
 -- pairs of an opening and a closing text, each a list of UTF-16 code units. The kind of a pair is its place, from 0
 abbrev pub Table : Type 0
@@ -21,10 +22,10 @@ same_units = pointwise nat_eq
 
 -- neither CR nor LF
 abbrev pub is_in_line : ℕ → Bool
-is_in_line u = not (u == 13) && not (u == 10)
+is_in_line u = not (u == CARRIAGE_RETURN) && not (u == LINE_FEED)
 
 abbrev pub is_bracket_text : List ℕ → Bool
-is_bracket_text x = nat_lt 0 (length x) && nat_le (length x) MOST_UNITS && list_all is_in_line x
+is_bracket_text x = nat_lt 0 (length x) && nat_le (length x) MOST_BRACKET_UNITS && list_all is_in_line x
 
 abbrev pub are_distinct : List (List ℕ) → Bool
 are_distinct [] = true

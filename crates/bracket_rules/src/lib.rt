@@ -9,7 +9,7 @@ use text_lengths::Length;
 pub const MOST_PAIRS: u64 = 32;
 
 /// The most units of one bracket text.
-pub const MOST_UNITS: u64 = 32;
+pub const MOST_BRACKET_UNITS: u64 = 32;
 
 /// The most brackets that are open at once; an opening bracket beyond them is text.
 pub const MOST_OPEN: u64 = 300;

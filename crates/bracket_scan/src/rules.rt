@@ -3,8 +3,8 @@ ghost use Rattle.std.specs.Prelude.{◌≡◌, ◌+◌, ◌<◌, ◌≤◌, ◌&
 ghost use Rattle.std.specs.List.{list_any, list_all};
 ghost use Rattle.bracket_rules.specs.Table.{texts_of, same_units, is_in_line, is_bracket_text, are_distinct, is_table};
 
-use bracket_rules::{MOST_PAIRS, MOST_UNITS};
-use unit_text::Units;
+use bracket_rules::{MOST_BRACKET_UNITS, MOST_PAIRS};
+use unit_text::{CARRIAGE_RETURN, LINE_FEED, Units};
 
 /// Whether the pairs are a bracket table: 1 to 32 of them, whose texts have 1 to 32 units without
 /// CR or LF and are all distinct.
@@ -31,7 +31,7 @@ fn is_bracket_text(text: &Units) -> bool
 {
     let units = text.as_slice();
     let count = units.len() as u64;
-    0 < count && count <= MOST_UNITS && are_in_line(units)
+    0 < count && count <= MOST_BRACKET_UNITS && are_in_line(units)
 }
 
 fn are_in_line(units: &[u16]) -> bool
@@ -40,11 +40,10 @@ fn are_in_line(units: &[u16]) -> bool
     units.iter().all(|unit| is_in_line(*unit))
 }
 
-// Neither CR nor LF.
 fn is_in_line(unit: u16) -> bool
     ensures { result ≡ is_in_line unit }
 {
-    unit != 13 && unit != 10
+    unit != CARRIAGE_RETURN && unit != LINE_FEED
 }
 
 fn are_distinct(pairs: &[(Units, Units)]) -> bool

@@ -6,7 +6,8 @@ use Rattle.std.proofs.lemmas.Bool.{lt-leb, both_ways}
 use Rattle.std.proofs.lemmas.List.{drop-drop, length-drop, length-append, length-map, length-take-le, get_or-map, get_or-drop, get_or-take, get_or_append_left, get_or_at}
 use Rattle.std.proofs.lemmas.List.Sums.{prefix_len-le-length}
 use Rattle.text_rules.specs.Lines.{line_feed, carriage_return, line_start}
-use Rattle.text_rules.proofs.Breaks.{break_ends, break_ends-take, break_ends_moved, joins_pair, count_to, drop-count_to, count_to-drop, count_to-take, count_to-moved, line_start_is, joins_pair_at, ends_with, ends_with_last}
+use Rattle.text_rules.specs.Breaks.{break_ends, joins_pair, count_to, ends_with}
+use Rattle.text_rules.proofs.Breaks.{break_ends-take, break_ends_moved, drop-count_to, count_to-drop, count_to-take, count_to-moved, line_start_is, joins_pair_at, ends_with_last}
 use Rattle.line_starts.specs.Starts.{break_count}
 use Rattle.line_starts.proofs.Starts.{break_count_is, starts_of_is}
 use Rattle.chunk_buffers.specs.Buffer.{cut, breaks_to}

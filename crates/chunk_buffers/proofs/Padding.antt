@@ -2,7 +2,8 @@
 use Rattle.std.proofs.Common.{◌≡◌, ℕ, ◌+◌, ◌≤◌, Bool, true, false, cond, min, ◌-◌, List, [], ◌∷◌, ◌++◌, length, take, drop, refl, ap, sym, ◌∙◌, zero-add, arith}
 use Rattle.std.proofs.lemmas.List.{append-nil, take_rest, drop_at, length-drop}
 use Rattle.text_rules.specs.Lines.{carriage_return}
-use Rattle.text_rules.proofs.Breaks.{break_ends, break_ends-append, ends_with, ends_with_push, joins_pair, and_false}
+use Rattle.text_rules.specs.Breaks.{break_ends, ends_with, joins_pair}
+use Rattle.text_rules.proofs.Breaks.{break_ends-append, ends_with_push, and_false}
 use Rattle.line_starts.specs.Starts.{break_ends_at}
 use Rattle.line_starts.proofs.Starts.{break_ends_at_is}
 use Rattle.chunk_buffers.specs.Buffer.{padding, padded}

@@ -3,7 +3,7 @@ use Rattle.std.proofs.Common.{◌≡◌, ℕ, ◌+◌, ◌-◌, ◌<◌, ◌≤�
 use Rattle.std.proofs.lemmas.Bool.{cases_eq}
 use Rattle.std.proofs.lemmas.List.{length-append, length-map, map-set, get_or-map, length-set, length-take, length-take-le, length-drop, drop-drop, length_push, take_all, take_at, take-take, drop_at, drop-take, get_or-set_same, get_or-set_other, get_or_append_left}
 use Rattle.std.proofs.lemmas.List.Sums.{sum_by-set}
-use Rattle.text_rules.proofs.Breaks.{joins_pair}
+use Rattle.text_rules.specs.Breaks.{joins_pair}
 use Rattle.chunk_buffers.specs.Buffer.{Filled, padding, padded}
 use Rattle.chunk_buffers.specs.declared.span.ChunkSpan.{ChunkSpan}
 use Rattle.chunk_buffers.specs.Chunks.{buffer_at, units_at, LiesIn, Extends, unit_count, part_of, last_room}

@@ -5,15 +5,12 @@ ghost use Rattle.std.specs.List.Sorted.{IsNonDecreasingBy};
 ghost use Rattle.chunk_buffers.specs.Buffer.{Filled, padding, padded, cut, breaks_to};
 ghost use Rattle.line_starts.specs.Starts.{break_count, break_ends_at};
 ghost use Rattle.text_rules.specs.Lines.{line_start, line_feed, carriage_return, begins_with};
-ghost use Rattle.text_rules.proofs.Breaks.{joins_pair, count_to, break_ends, ends_with};
+ghost use Rattle.text_rules.specs.Breaks.{joins_pair, count_to, break_ends, ends_with};
 
 use line_starts::{count_breaks, find_break_ends};
 use std::alloc::{AllocError, Global};
 use std::marker::Model;
-
-const LINE_FEED: u16 = 10;
-
-const CARRIAGE_RETURN: u16 = 13;
+use unit_text::{CARRIAGE_RETURN, LINE_FEED};
 
 const PADDING: u16 = 0x5F;
 
@@ -28,7 +25,7 @@ pub(crate) struct Buffer {
 impl Model for Buffer {
     ghost use Rattle.std.specs.Prelude.{◌≡◌, ◌-◌, min, vec_len, vec_capacity};
     ghost use Rattle.chunk_buffers.specs.Buffer.{Filled};
-    ghost use Rattle.text_rules.proofs.Breaks.{break_ends};
+    ghost use Rattle.text_rules.specs.Breaks.{break_ends};
 
     ghost Value = { Filled };
 
@@ -84,9 +81,11 @@ impl Buffer {
         requires { length (before.now ++ text.now ++ after.now) < self.old.room }
         ensures units { let whole = before.now ++ text.now ++ after.now in
             self.new.units ≡ padded self.old.units whole ++ whole }
-        ensures start { result ≡ length (padded self.old.units (before.now ++ text.now ++ after.now)) }
+        ensures start { result ≡ length
+            (padded self.old.units (before.now ++ text.now ++ after.now)) }
         ensures fits { result + length (before.now ++ text.now ++ after.now) < 2 ^ 63 }
-        ensures room { self.old.room ≤ self.new.room + length (before.now ++ text.now ++ after.now) + 1 }
+        ensures room { self.old.room
+            ≤ self.new.room + length (before.now ++ text.now ++ after.now) + 1 }
     {
         let pair = self.would_make_pair(before, text, after);
         pad(&mut self.units, pair);
@@ -184,7 +183,8 @@ fn begin_with_line_feed(before: &[u16], text: &[u16], after: &[u16]) -> bool
 // One unit that belongs to no text, where it must keep a CR and an LF apart.
 fn pad(units: &mut Vec<u16>, pair: bool)
     requires { vec_len units.old < vec_capacity units.old }
-    ensures items { units.new.items ≡ (if pair then units.old.items ++ padding ∷ [] else units.old.items) }
+    ensures items { units.new.items
+        ≡ (if pair then units.old.items ++ padding ∷ [] else units.old.items) }
     ensures len { vec_len units.new ≤ vec_len units.old + 1 }
     ensures capacity { vec_capacity units.old ≤ vec_capacity units.new }
 {
@@ -194,9 +194,11 @@ fn pad(units: &mut Vec<u16>, pair: bool)
 }
 
 fn push_all(units: &mut Vec<u16>, before: &[u16], text: &[u16], after: &[u16])
-    requires { vec_len units.old + length (before.now ++ text.now ++ after.now) ≤ vec_capacity units.old }
+    requires { vec_len units.old + length (before.now ++ text.now ++ after.now)
+        ≤ vec_capacity units.old }
     ensures items { units.new.items ≡ units.old.items ++ (before.now ++ text.now ++ after.now) }
-    ensures len { vec_len units.new ≡ vec_len units.old + length (before.now ++ text.now ++ after.now) }
+    ensures len { vec_len units.new
+        ≡ vec_len units.old + length (before.now ++ text.now ++ after.now) }
     ensures capacity { vec_capacity units.old ≤ vec_capacity units.new }
 {
     let _ = units.extend_from_slice(before);

@@ -79,7 +79,8 @@ impl Chunks {
         ensures shown { units_at self.new.buffers result ≡ text.now }
         ensures inside { LiesIn self.new.buffers result }
         ensures grown { Extends self.old.buffers self.new.buffers }
-        ensures units { unit_count self.new.buffers ≤ unit_count self.old.buffers + length text.now + 1 }
+        ensures units { unit_count self.new.buffers
+            ≤ unit_count self.old.buffers + length text.now + 1 }
         ensures spare { self.old.spare ≤ self.new.spare + length text.now + 1 }
     {
         self.append_joined(&[], text, &[])
@@ -93,7 +94,8 @@ impl Chunks {
         ensures grown { Extends self.old.buffers self.new.buffers }
         ensures units { unit_count self.new.buffers
             ≤ unit_count self.old.buffers + length (before.now ++ text.now ++ after.now) + 1 }
-        ensures spare { self.old.spare ≤ self.new.spare + length (before.now ++ text.now ++ after.now) + 1 }
+        ensures spare { self.old.spare
+            ≤ self.new.spare + length (before.now ++ text.now ++ after.now) + 1 }
     {
         let number = self.buffers.len() - 1;
         let buffer = &mut self.buffers[number];
@@ -110,7 +112,8 @@ impl Chunks {
         ensures shown { IfOk result (λ span. units_at self.new.buffers span ≡ text.now) }
         ensures inside { IfOk result (λ span. LiesIn self.new.buffers span) }
         ensures grown { Extends self.old.buffers self.new.buffers }
-        ensures units { OnOk result (unit_count self.new.buffers ≡ unit_count self.old.buffers + length text.now) }
+        ensures units { OnOk result
+            (unit_count self.new.buffers ≡ unit_count self.old.buffers + length text.now) }
         ensures err { OnErr result (self.new ≡ self.old) }
     {
         let buffer = Buffer::of_text(self.alloc, text)?;
@@ -169,7 +172,8 @@ impl Chunks {
         requires within { to ≤ span.units }
         ensures part { result ≡ part_of span from to }
         ensures inside { LiesIn self.now.buffers result }
-        ensures shown { units_at self.now.buffers result ≡ take (to - from) (drop from (units_at self.now.buffers span)) }
+        ensures shown { units_at self.now.buffers result
+            ≡ take (to - from) (drop from (units_at self.now.buffers span)) }
     {
         ChunkSpan {
             buffer: span.buffer,

@@ -4,11 +4,11 @@ use Rattle.std.specs.List.{list_any, All}
 use Rattle.std.proofs.lemmas.Bool.{or_parts, and_parts, ltb-false, leb-true, not-false, cases_Bool, cond-true, cond-false}
 use Rattle.std.proofs.lemmas.List.Elements.{All-nil, All-cons, All-append, All-filter}
 use Rattle.unit_text.specs.Units.{is_place, cuts_pair}
+use Rattle.decoration_rules.specs.declared.TheConstants.{GREATEST_MODE}
 use Rattle.decoration_rules.specs.declared.Edit.{Edit}
 use Rattle.decoration_rules.specs.declared.Mark.{Mark}
 use Rattle.decoration_rules.specs.declared.NewDeco.{NewDeco}
-use Rattle.decoration_rules.specs.declared.DecoError.{DecoError}
-use Rattle.decoration_rules.specs.declared.DecoError.TheVariants.{Unknown, Range, Limit}
+use Rattle.decoration_rules.specs.Refusals.{DecoRefusal, unknown, range, limit}
 use Rattle.decoration_rules.specs.Moves.{offset_limit, removed, moved_mark, IsSpanIn, LieIn}
 use Rattle.decoration_rules.specs.Marks.{in_order}
 use Rattle.decoration_rules.specs.Decorations.{Decorations, decorated, is_unknown, is_bad, is_too_much, kept, new_mark, new_marks}
@@ -48,11 +48,11 @@ moved_mark-fits edit marks len lie upright_edit edit_in fits =
 
 pub record IsNewIn (new : NewDeco) (len : ℕ) : Type 0 where
   pub span : IsSpanIn new.span len
-  pub mode : new.stick ≤ 3
+  pub mode : new.stick ≤ GREATEST_MODE
 
 pub IsNewIn-from_good : (units : List ℕ) (new : NewDeco) → is_bad units new ≡ false → IsNewIn new (length units)
 IsNewIn-from_good units new good =
-    let first = or_parts (ltb new.span.end new.span.start || not (is_place units new.span.start && is_place units new.span.end)) (ltb 3 new.stick) good in
+    let first = or_parts (ltb new.span.end new.span.start || not (is_place units new.span.start && is_place units new.span.end)) (ltb GREATEST_MODE new.stick) good in
     let second = or_parts (ltb new.span.end new.span.start) (not (is_place units new.span.start && is_place units new.span.end)) first.0 in
     let places = and_parts (is_place units new.span.start) (is_place units new.span.end) (not-false (is_place units new.span.start && is_place units new.span.end) second.1) in
     record {
@@ -60,7 +60,7 @@ IsNewIn-from_good units new good =
         upright = ltb-false new.span.end new.span.start second.0;
         within = leb-true new.span.end (length units) (and_parts (leb new.span.end (length units)) (not (cuts_pair units new.span.end)) places.1).0;
       };
-      mode = ltb-false 3 new.stick first.1;
+      mode = ltb-false GREATEST_MODE new.stick first.1;
     }
 
 pub LieIn-new_marks : (units : List ℕ) (owner id : ℕ) (add : List NewDeco) → list_any (is_bad units) add ≡ false → LieIn (length units) (new_marks owner id add)
@@ -81,18 +81,18 @@ pub accepted : (d : Decorations) (owner : ℕ) (ids : List ℕ) (add : List NewD
     → decorated d owner ids add units ≡ Ok new → IsAccepted d owner ids add units new
 accepted d owner ids add units new is =
     elim (cases_Bool (is_unknown d.marks owner ids)) [
-      | inl unknown ↦ (let refused : Err Unknown ≡ Ok new = sym (cond-true (is_unknown d.marks owner ids) (Err Unknown) after_known unknown) ∙ is in cc)
+      | inl named_wrong ↦ (let refused : Err unknown ≡ Ok new = sym (cond-true (is_unknown d.marks owner ids) (Err unknown) after_known named_wrong) ∙ is in cc)
       | inr known ↦ elim (cases_Bool (list_any (is_bad units) add)) [
-        | inl bad ↦ (let refused : Err Range ≡ Ok new =
-            sym (cond-true (list_any (is_bad units) add) (Err Range) after_good bad) ∙ sym (cond-false (is_unknown d.marks owner ids) (Err Unknown) after_known known) ∙ is in cc)
+        | inl bad ↦ (let refused : Err range ≡ Ok new =
+            sym (cond-true (list_any (is_bad units) add) (Err range) after_good bad) ∙ sym (cond-false (is_unknown d.marks owner ids) (Err unknown) after_known known) ∙ is in cc)
         | inr good ↦ elim (cases_Bool (is_too_much d ids (length add))) [
-          | inl much ↦ (let refused : Err Limit ≡ Ok new =
-              sym (cond-true (is_too_much d ids (length add)) (Err Limit) (Ok made) much) ∙ sym (cond-false (list_any (is_bad units) add) (Err Range) after_good good)
-              ∙ sym (cond-false (is_unknown d.marks owner ids) (Err Unknown) after_known known) ∙ is in cc)
+          | inl much ↦ (let refused : Err limit ≡ Ok new =
+              sym (cond-true (is_too_much d ids (length add)) (Err limit) (Ok made) much) ∙ sym (cond-false (list_any (is_bad units) add) (Err range) after_good good)
+              ∙ sym (cond-false (is_unknown d.marks owner ids) (Err unknown) after_known known) ∙ is in cc)
           | inr few ↦
               let result : Ok made ≡ Ok new =
-              sym (cond-false (is_too_much d ids (length add)) (Err Limit) (Ok made) few) ∙ sym (cond-false (list_any (is_bad units) add) (Err Range) after_good good)
-              ∙ sym (cond-false (is_unknown d.marks owner ids) (Err Unknown) after_known known) ∙ is in
+              sym (cond-false (is_too_much d ids (length add)) (Err limit) (Ok made) few) ∙ sym (cond-false (list_any (is_bad units) add) (Err range) after_good good)
+              ∙ sym (cond-false (is_unknown d.marks owner ids) (Err unknown) after_known known) ∙ is in
               record { known = known; good = good; few = few; is = cc }
         ]
       ]
@@ -101,11 +101,11 @@ accepted d owner ids add units new is =
     made : Decorations
     made = record { marks = in_order (kept d.marks ids ++ new_marks owner d.next_id add); next_id = d.next_id + length add }
 
-    after_good : Result Decorations DecoError
-    after_good = cond (is_too_much d ids (length add)) (Err Limit) (Ok made)
+    after_good : Result Decorations DecoRefusal
+    after_good = cond (is_too_much d ids (length add)) (Err limit) (Ok made)
 
-    after_known : Result Decorations DecoError
-    after_known = cond (list_any (is_bad units) add) (Err Range) after_good
+    after_known : Result Decorations DecoRefusal
+    after_known = cond (list_any (is_bad units) add) (Err range) after_good
 
 pub LieIn-decorated : (d : Decorations) (owner : ℕ) (ids : List ℕ) (add : List NewDeco) (units : List ℕ) (new : Decorations)
     → decorated d owner ids add units ≡ Ok new → LieIn (length units) d.marks → LieIn (length units) new.marks

@@ -1,8 +1,10 @@
 -- The decorations of a document: what is asked of them, and the rule of their change.
-use Rattle.std.specs.Prelude.{ℕ, ◌≡◌, ◌+◌, ◌-◌, ◌^◌, ◌<◌, ◌≤◌, ◌==◌, ◌&&◌, ◌||◌, ◌⊎◌, Bool, true, false, not, nat_lt, if◌then◌else◌, List, [], ◌∷◌, ◌++◌, length, map, filter, Option, Some, None, option_map, unwrap_or, Result, Ok, Err}
+use Rattle.std.specs.Prelude.{ℕ, ◌≡◌, ◌+◌, ◌-◌, ◌^◌, ◌<◌, ◌≤◌, ◌==◌, ◌&&◌, ◌||◌, Bool, true, false, not, nat_lt, if◌then◌else◌, List, [], ◌∷◌, ◌++◌, length, map, filter, Option, Some, None, option_map, unwrap_or, Result, Ok, Err, ⊤}
 use Rattle.std.specs.List.{list_any, All}
 use Rattle.text_lengths.specs.declared.Span.{Span}
+use Rattle.text_lengths.specs.declared.TheConstants.{GREATEST_NUMBER}
 use Rattle.unit_text.specs.Units.{is_place}
+use Rattle.decoration_rules.specs.declared.TheConstants.{MOST_DECORATIONS, GREATEST_MODE}
 use Rattle.decoration_rules.specs.declared.Sticky.{Sticky}
 use Rattle.decoration_rules.specs.declared.Sticky.TheVariants.{AlwaysGrows, NeverGrows, GrowsBefore, GrowsAfter}
 use Rattle.decoration_rules.specs.declared.Mark.{Mark}
@@ -10,14 +12,15 @@ use Rattle.decoration_rules.specs.declared.NewDeco.{NewDeco}
 use Rattle.decoration_rules.specs.declared.Deco.{Deco}
 use Rattle.decoration_rules.specs.declared.DecoError.{DecoError}
 use Rattle.decoration_rules.specs.declared.DecoError.TheVariants.{Unknown, Range, Limit, Memory}
+use Rattle.decoration_rules.specs.Refusals.{DecoRefusal, unknown, range, limit}
 use Rattle.decoration_rules.specs.Marks.{IsInOrder, HasDistinctIds, in_order, mark_of, touching}
 
 -- the most live decorations
 abbrev pub most_decorations : ℕ
-most_decorations = 2 ^ 20
+most_decorations = MOST_DECORATIONS
 
 abbrev pub greatest_id : ℕ
-greatest_id = 2 ^ 63 - 1
+greatest_id = GREATEST_NUMBER
 
 -- The modes by their numbers.
 abbrev pub sticky_of : ℕ → Option Sticky
@@ -88,7 +91,7 @@ is_unknown marks owner ids = list_any (λ id. not (owns marks owner id)) ids || 
 abbrev pub is_bad : List ℕ → NewDeco → Bool
 is_bad units new =
     nat_lt new.span.end new.span.start || not (is_place units new.span.start && is_place units new.span.end)
-    || nat_lt 3 new.stick
+    || nat_lt GREATEST_MODE new.stick
 
 -- the live ones that are not among these
 abbrev pub kept : List Mark → List ℕ → List Mark
@@ -109,18 +112,25 @@ is_too_much d ids added =
     nat_lt most_decorations (length (kept d.marks ids) + added) || nat_lt greatest_id (d.next_id + added - 1)
 
 -- decorations of one owner go, and new ones come
-abbrev pub decorated : Decorations → ℕ → List ℕ → List NewDeco → List ℕ → Result Decorations DecoError
+abbrev pub decorated : Decorations → ℕ → List ℕ → List NewDeco → List ℕ → Result Decorations DecoRefusal
 decorated d owner ids add units =
-    if is_unknown d.marks owner ids then Err Unknown else
-    (if list_any (is_bad units) add then Err Range else
-    (if is_too_much d ids (length add) then Err Limit
+    if is_unknown d.marks owner ids then Err unknown else
+    (if list_any (is_bad units) add then Err range else
+    (if is_too_much d ids (length add) then Err limit
     else Ok (record {
       marks = in_order (kept d.marks ids ++ new_marks owner d.next_id add);
       next_id = d.next_id + length add;
     })))
 
+-- the rule refuses for the reason that the call names; want of memory may take the place of any answer
+abbrev pub RefusedFor : DecoError → Result Decorations DecoRefusal → Type 0
+RefusedFor Unknown rule = rule ≡ Err unknown
+RefusedFor Range rule = rule ≡ Err range
+RefusedFor Limit rule = rule ≡ Err limit
+RefusedFor Memory rule = ⊤
+
 -- An accepted change answers the first new id, or the next free one where there is none. A refused one leaves all as it
 -- was, for the rule's reason, or for want of memory.
-abbrev pub Decorates : Result ℕ DecoError → Decorations → Decorations → Result Decorations DecoError → Type 0
+abbrev pub Decorates : Result ℕ DecoError → Decorations → Decorations → Result Decorations DecoRefusal → Type 0
 Decorates (Ok first) old new rule = (rule ≡ Ok new) × (first ≡ old.next_id)
-Decorates (Err e) old new rule = (new ≡ old) × ((e ≡ Memory) ⊎ (rule ≡ Err e))
+Decorates (Err e) old new rule = (new ≡ old) × RefusedFor e rule

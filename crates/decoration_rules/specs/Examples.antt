@@ -6,7 +6,7 @@ use Rattle.decoration_rules.specs.declared.Sticky.TheVariants.{AlwaysGrows, Neve
 use Rattle.decoration_rules.specs.declared.Edit.{Edit}
 use Rattle.decoration_rules.specs.declared.Mark.{Mark}
 use Rattle.decoration_rules.specs.declared.NewDeco.{NewDeco}
-use Rattle.decoration_rules.specs.declared.DecoError.TheVariants.{Unknown, Range, Limit}
+use Rattle.decoration_rules.specs.Refusals.{unknown, range, limit}
 use Rattle.decoration_rules.specs.Moves.{moved}
 use Rattle.decoration_rules.specs.Marks.{carried, touching}
 use Rattle.decoration_rules.specs.Decorations.{Decorations, no_decorations, decorated, decos_in}
@@ -101,20 +101,20 @@ one = record { marks = mark 1 0 0 AlwaysGrows ∷ []; next_id = 2 }
 the_first_id : decorated no_decorations 1 [] (new 0 0 0 ∷ []) [] ≡ Ok one
 the_first_id = refl
 
-named_twice : decorated one 1 (1 ∷ 1 ∷ []) [] [] ≡ Err Unknown
+named_twice : decorated one 1 (1 ∷ 1 ∷ []) [] [] ≡ Err unknown
 named_twice = refl
 
-of_another_owner : decorated one 2 (1 ∷ []) [] [] ≡ Err Unknown
+of_another_owner : decorated one 2 (1 ∷ []) [] [] ≡ Err unknown
 of_another_owner = refl
 
 an_id_is_not_used_again : decorated one 1 (1 ∷ []) (new 0 0 3 ∷ []) [] ≡ Ok (record { marks = mark 2 0 0 GrowsAfter ∷ []; next_id = 3 })
 an_id_is_not_used_again = refl
 
-no_such_mode : decorated one 1 [] (new 0 0 4 ∷ []) [] ≡ Err Range
+no_such_mode : decorated one 1 [] (new 0 0 4 ∷ []) [] ≡ Err range
 no_such_mode = refl
 
-unknown_comes_first : decorated one 1 (7 ∷ []) (new 0 1 0 ∷ []) [] ≡ Err Unknown
+unknown_comes_first : decorated one 1 (7 ∷ []) (new 0 1 0 ∷ []) [] ≡ Err unknown
 unknown_comes_first = refl
 
-no_id_is_left : decorated (record { marks = []; next_id = 2 ^ 63 }) 1 [] (new 0 0 0 ∷ []) [] ≡ Err Limit
+no_id_is_left : decorated (record { marks = []; next_id = 2 ^ 63 }) 1 [] (new 0 0 0 ∷ []) [] ≡ Err limit
 no_id_is_left = refl

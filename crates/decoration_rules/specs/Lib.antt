@@ -1,4 +1,5 @@
 pub mod Moves
 pub mod Marks
+pub mod Refusals
 pub mod Decorations
 mod Examples

@@ -8,6 +8,12 @@ ghost use Rattle.decoration_rules.specs.Decorations.{sticky_of, mode_of, deco_of
 use text_lengths::Span;
 use thiserror::Error;
 
+/// The most decorations that are live at once.
+pub const MOST_DECORATIONS: u64 = 1 << 20;
+
+/// The greatest mode that a [`Sticky`] has.
+pub const GREATEST_MODE: u64 = 3;
+
 /// What a decoration does when text is typed right at its edges.
 #[derive(Clone, Copy, PartialEq, Eq, Debug)]
 pub enum Sticky {

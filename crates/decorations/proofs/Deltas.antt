@@ -7,8 +7,7 @@ use Rattle.std.proofs.lemmas.List.{length-append}
 use Rattle.std.proofs.lemmas.List.Elements.{All-append, All-filter, All-weaker, All-nil, All-cons}
 use Rattle.decoration_rules.specs.declared.Mark.{Mark}
 use Rattle.decoration_rules.specs.declared.NewDeco.{NewDeco}
-use Rattle.decoration_rules.specs.declared.DecoError.{DecoError}
-use Rattle.decoration_rules.specs.declared.DecoError.TheVariants.{Unknown, Range, Limit}
+use Rattle.decoration_rules.specs.Refusals.{DecoRefusal, unknown, range, limit}
 use Rattle.decoration_rules.specs.Moves.{offset_limit, IsSpanIn}
 use Rattle.decoration_rules.specs.Marks.{in_order, IsInOrder, HasDistinctIds}
 use Rattle.decoration_rules.specs.Decorations.{Decorations, IsSound, decorated, is_unknown, is_bad, is_too_much, kept, new_marks, owns, has_repeat, most_decorations, greatest_id}
@@ -34,32 +33,32 @@ module _ (d : Decorations) (owner : ℕ) (ids : List ℕ) (add : List NewDeco) (
   made : Decorations
   made = record { marks = in_order (kept d.marks ids ++ new_marks owner d.next_id add); next_id = d.next_id + length add }
 
-  after_good : Result Decorations DecoError
-  after_good = if is_too_much d ids (length add) then Err Limit else Ok made
+  after_good : Result Decorations DecoRefusal
+  after_good = if is_too_much d ids (length add) then Err limit else Ok made
 
-  after_known : Result Decorations DecoError
-  after_known = if list_any (is_bad units) add then Err Range else after_good
+  after_known : Result Decorations DecoRefusal
+  after_known = if list_any (is_bad units) add then Err range else after_good
 
-  pub decorated-unknown : is_unknown d.marks owner ids ≡ true → decorated d owner ids add units ≡ Err Unknown
+  pub decorated-unknown : is_unknown d.marks owner ids ≡ true → decorated d owner ids add units ≡ Err unknown
   unfolding after_known after_good made
-  decorated-unknown unknown = cond-true (is_unknown d.marks owner ids) (Err Unknown) after_known unknown
+  decorated-unknown named_wrong = cond-true (is_unknown d.marks owner ids) (Err unknown) after_known named_wrong
 
-  pub decorated-bad : is_unknown d.marks owner ids ≡ false → list_any (is_bad units) add ≡ true → decorated d owner ids add units ≡ Err Range
+  pub decorated-bad : is_unknown d.marks owner ids ≡ false → list_any (is_bad units) add ≡ true → decorated d owner ids add units ≡ Err range
   unfolding after_known after_good made
-  decorated-bad known bad = cond-false (is_unknown d.marks owner ids) (Err Unknown) after_known known ∙ cond-true (list_any (is_bad units) add) (Err Range) after_good bad
+  decorated-bad known bad = cond-false (is_unknown d.marks owner ids) (Err unknown) after_known known ∙ cond-true (list_any (is_bad units) add) (Err range) after_good bad
 
-  pub decorated-too_much : is_unknown d.marks owner ids ≡ false → list_any (is_bad units) add ≡ false → is_too_much d ids (length add) ≡ true → decorated d owner ids add units ≡ Err Limit
+  pub decorated-too_much : is_unknown d.marks owner ids ≡ false → list_any (is_bad units) add ≡ false → is_too_much d ids (length add) ≡ true → decorated d owner ids add units ≡ Err limit
   unfolding after_known after_good made
   decorated-too_much known good much =
-      cond-false (is_unknown d.marks owner ids) (Err Unknown) after_known known ∙ cond-false (list_any (is_bad units) add) (Err Range) after_good good
-      ∙ cond-true (is_too_much d ids (length add)) (Err Limit) (Ok made) much
+      cond-false (is_unknown d.marks owner ids) (Err unknown) after_known known ∙ cond-false (list_any (is_bad units) add) (Err range) after_good good
+      ∙ cond-true (is_too_much d ids (length add)) (Err limit) (Ok made) much
 
   pub decorated-ok : is_unknown d.marks owner ids ≡ false → list_any (is_bad units) add ≡ false → is_too_much d ids (length add) ≡ false → IsOk (decorated d owner ids add units)
   unfolding after_known after_good made
   decorated-ok known good few =
       let is : decorated d owner ids add units ≡ Ok made =
-      cond-false (is_unknown d.marks owner ids) (Err Unknown) after_known known ∙ cond-false (list_any (is_bad units) add) (Err Range) after_good good
-      ∙ cond-false (is_too_much d ids (length add)) (Err Limit) (Ok made) few in
+      cond-false (is_unknown d.marks owner ids) (Err unknown) after_known known ∙ cond-false (list_any (is_bad units) add) (Err range) after_good good
+      ∙ cond-false (is_too_much d ids (length add)) (Err limit) (Ok made) few in
       subst IsOk (sym is) refl
 
 -- as many go as are named
@@ -86,7 +85,7 @@ pub record IsFit (d : Decorations) (owner : ℕ) (ids : List ℕ) (add : List Ne
   pub few : length (kept d.marks ids) + length add ≤ most_decorations
   pub last : d.next_id + length add - 1 ≤ greatest_id
 
-ok_value : (r : Result Decorations DecoError) → IsOk r → (new : Decorations) × (r ≡ Ok new)
+ok_value : (r : Result Decorations DecoRefusal) → IsOk r → (new : Decorations) × (r ≡ Ok new)
 ok_value (Ok new) is = (new, refl)
 ok_value (Err e) is = absurd (both_ways false refl is)
 

@@ -1,5 +1,6 @@
 -- What may be added to the decorations of a document.
 use Rattle.std.specs.Prelude.{◌<◌, ◌≤◌}
+use Rattle.decoration_rules.specs.declared.TheConstants.{GREATEST_MODE}
 use Rattle.decoration_rules.specs.declared.NewDeco.{NewDeco}
 use Rattle.decoration_rules.specs.Moves.{offset_limit}
 
@@ -7,4 +8,4 @@ use Rattle.decoration_rules.specs.Moves.{offset_limit}
 pub record IsNew (new : NewDeco) : Type 0 where
   pub upright : new.span.start ≤ new.span.end
   pub small : new.span.end < offset_limit
-  pub mode : new.stick ≤ 3
+  pub mode : new.stick ≤ GREATEST_MODE

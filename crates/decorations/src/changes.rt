@@ -2,19 +2,17 @@
 
 ghost use Rattle.std.specs.Prelude.{◌≡◌, ◌+◌, ◌-◌, ◌^◌, ◌<◌, ◌≤◌, ◌||◌, ◌++◌, ◌⊎◌, false, true, nat_lt, length, IfOk, IfErr, OnOk};
 ghost use Rattle.std.specs.List.{All, list_any, list_all};
+ghost use Rattle.decoration_rules.specs.declared.TheConstants.{GREATEST_MODE};
 ghost use Rattle.decoration_rules.specs.Moves.{offset_limit};
 ghost use Rattle.decoration_rules.specs.Marks.{in_order, is_live, IsInOrder, HasDistinctIds};
 ghost use Rattle.decoration_rules.specs.Decorations.{owns, has_repeat, is_bad, kept, new_mark, new_marks, most_decorations, greatest_id};
 ghost use Rattle.decorations.specs.Set.{IsNew};
 
-use decoration_rules::{DecoError, Mark, NewDeco, Sticky};
+use decoration_rules::{DecoError, GREATEST_MODE, MOST_DECORATIONS, Mark, NewDeco, Sticky};
 use interval_deltas::IntervalTree;
 use std::alloc::{AllocError, Global};
 use text_lengths::GREATEST_NUMBER;
 use unit_text::Flat;
-
-/// The most live decorations.
-const MOST_DECORATIONS: u64 = 1 << 20;
 
 /// Whether each of the ids is live and has this owner.
 pub(crate) fn owns_all(tree: &IntervalTree, owner: u64, ids: &[u64]) -> bool
@@ -35,7 +33,8 @@ fn owns(tree: &IntervalTree, owner: u64, id: u64) -> bool
 /// Refuses ids of which one is named twice.
 pub(crate) fn named_once(alloc: Global, ids: &[u64]) -> Result<(), DecoError>
     ensures ok { OnOk result (has_repeat ids.now ≡ false) }
-    ensures err { IfErr result (λ e. (e ≡ DecoError.Memory) ⊎ ((e ≡ DecoError.Unknown) × (has_repeat ids.now ≡ true))) }
+    ensures err { IfErr result
+        (λ e. (e ≡ DecoError.Memory) ⊎ ((e ≡ DecoError.Unknown) × (has_repeat ids.now ≡ true))) }
 {
     match has_repeat(alloc, ids) {
         Ok(true) => Err(DecoError::Unknown),
@@ -65,7 +64,7 @@ fn is_bad<F: Flat>(new: &NewDeco, text: &F) -> bool
 {
     new.span.end < new.span.start
         || !(text.is_place(new.span.start) && text.is_place(new.span.end))
-        || new.stick > 3
+        || new.stick > GREATEST_MODE
 }
 
 /// Whether there would be too many decorations, or an id would pass the greatest.
@@ -73,7 +72,8 @@ pub(crate) fn is_too_much(live: u64, removed: u64, added: u64, next_id: u64) -> 
     requires removed { removed ≤ live }
     requires live { live ≤ most_decorations }
     requires next { (1 ≤ next_id) × (next_id ≤ greatest_id + 1) }
-    ensures { result ≡ (nat_lt most_decorations (live - removed + added) || nat_lt greatest_id (next_id + added - 1)) }
+    ensures { result ≡ (nat_lt most_decorations (live - removed + added)
+        || nat_lt greatest_id (next_id + added - 1)) }
 {
     if added > MOST_DECORATIONS - (live - removed) {
         return true;
@@ -111,7 +111,7 @@ pub(crate) fn add_all(tree: &mut IntervalTree, owner: u64, first: u64, add: &[Ne
 }
 
 fn new_mark(owner: u64, id: u64, new: &NewDeco) -> Mark
-    requires { new.now.stick ≤ 3 }
+    requires { new.now.stick ≤ GREATEST_MODE }
     ensures { result ≡ new_mark owner id new.now }
 {
     Mark {

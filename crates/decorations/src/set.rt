@@ -1,10 +1,10 @@
 //! The set.
 
-ghost use Rattle.std.specs.Prelude.{◌≡◌, ◌≤◌, ◌<◌, ◌^◌, ◌++◌, length, map, take, vec_len, ◌⊎◌, IsOk, OnOk, OnErr, IfErr};
+ghost use Rattle.std.specs.Prelude.{◌≡◌, ◌≤◌, ◌<◌, ◌^◌, ◌++◌, length, map, take, vec_len, IsOk, OnOk, OnErr, IfErr};
 ghost use Rattle.std.specs.List.{All, filter};
 ghost use Rattle.decoration_rules.specs.Moves.{offset_limit, moved_mark};
 ghost use Rattle.decoration_rules.specs.Marks.{in_order};
-ghost use Rattle.decoration_rules.specs.Decorations.{no_decorations, IsSound, deco_of, deco_at, is_of, decos_in, decorated, Decorates};
+ghost use Rattle.decoration_rules.specs.Decorations.{no_decorations, IsSound, deco_of, deco_at, is_of, decos_in, decorated, RefusedFor, Decorates};
 
 use crate::changes::{add_all, any_is_bad, is_too_much, named_once, owns_all, remove_all};
 use decoration_rules::{Deco, DecoError, Edit, Mark, NewDeco};
@@ -55,7 +55,8 @@ impl DecoSet {
         text: &F,
     ) -> Result<u64, DecoError>
         requires { length (F.units text.now) < offset_limit }
-        ensures change { Decorates result self.old self.new (decorated self.old owner remove.now add.now (F.units text.now)) }
+        ensures change { Decorates result self.old self.new
+            (decorated self.old owner remove.now add.now (F.units text.now)) }
         ensures sound { IsSound self.new }
     {
         self.check(owner, remove, add, text)?;
@@ -76,8 +77,10 @@ impl DecoSet {
         add: &[NewDeco],
         text: &F,
     ) -> Result<(), DecoError>
-        ensures ok { OnOk result (IsOk (decorated self.now owner remove.now add.now (F.units text.now))) }
-        ensures err { IfErr result (λ e. (e ≡ DecoError.Memory) ⊎ (decorated self.now owner remove.now add.now (F.units text.now) ≡ Err e)) }
+        ensures ok { OnOk result (IsOk
+            (decorated self.now owner remove.now add.now (F.units text.now))) }
+        ensures err { IfErr result (λ e. RefusedFor e
+            (decorated self.now owner remove.now add.now (F.units text.now))) }
     {
         if !owns_all(&self.tree, owner, remove) {
             return Err(DecoError::Unknown);
@@ -125,8 +128,12 @@ impl DecoSet {
     /// Each decoration moves, as the text under it is edited.
     pub fn accept(&mut self, edit: &Edit)
         requires upright { edit.now.start ≤ edit.now.end }
-        requires fits { All (λ mark. (moved_mark edit.now mark).span.end < offset_limit) self.old.marks }
-        ensures moved { self.new ≡ record self.old { marks = in_order (map (moved_mark edit.now) self.old.marks) } }
+        requires fits { All (λ mark. (moved_mark edit.now mark).span.end < offset_limit)
+            self.old.marks }
+        ensures moved { self.new ≡ record self.old {
+          marks = in_order
+              (map (moved_mark edit.now) self.old.marks);
+        } }
         ensures sound { IsSound self.new }
     {
         self.tree.accept(edit);
@@ -135,7 +142,8 @@ impl DecoSet {
 
 // After an error some of them stand behind what was there.
 fn push_owned(marks: &[Mark], owner: Option<u64>, out: &mut Vec<Deco>) -> Result<(), AllocError>
-    ensures ok { OnOk result (out.new.items ≡ out.old.items ++ map deco_of (filter (is_of owner) marks.now)) }
+    ensures ok { OnOk result (out.new.items
+        ≡ out.old.items ++ map deco_of (filter (is_of owner) marks.now)) }
     ensures before { take (vec_len out.old) out.new.items ≡ out.old.items }
 {
     for mark in marks {

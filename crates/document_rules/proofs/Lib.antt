@@ -1,3 +1,3 @@
 pub mod Places
-pub mod TreeLengths
+pub mod RowLengths
 pub mod PairedStates

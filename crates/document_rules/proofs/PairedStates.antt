@@ -4,16 +4,16 @@ use Rattle.std.specs.Prelude.{⊤, All}
 use Rattle.std.proofs.lemmas.List.Elements.{All-nil, All-cons, All-head, All-tail, All-push}
 use Rattle.unit_text.specs.Units.{IsPaired}
 use Rattle.text_rules.specs.declared.Op.{Op}
-use Rattle.batch_rules.specs.declared.BatchError.{BatchError}
+use Rattle.batch_rules.specs.Refusals.{BatchRefusal}
 use Rattle.batch_rules.specs.Batches.{most_units, checked_batch, applied, applied_from}
 use Rattle.batch_rules.proofs.Order.{All-sorted_ops}
 use Rattle.batch_rules.proofs.Pairs.{HasPairedText, IsPaired-applied}
 use Rattle.batch_rules.proofs.Standing.{accepted}
 use Rattle.bracket_rules.specs.Table.{Table}
-use Rattle.decoration_rules.specs.declared.DecoError.{DecoError}
+use Rattle.decoration_rules.specs.Refusals.{DecoRefusal}
 use Rattle.decoration_rules.specs.declared.NewDeco.{NewDeco}
 use Rattle.decoration_rules.specs.Decorations.{Decorations, decorated}
-use Rattle.edit_stack.specs.Stack.{Step, Stack, joined, new_step, undone_lists, redone_lists, undone, redone}
+use Rattle.undo_rules.specs.Stack.{Step, Stack, joined, new_step, undone_lists, redone_lists, undone, redone}
 use Rattle.document_rules.specs.declared.ModelError.{ModelError}
 use Rattle.document_rules.specs.Refusals.{FlatRefusal, limit}
 use Rattle.document_rules.specs.Document.{greatest_version, FlatChange, FlatState, new_document, flat_open, after_batch, edited_by, flat_edit, text_before, text_after, carried_back, carried_on, returned, undone_step, flat_undo, redone_step, flat_redo, with_decorations, flat_decorate}
@@ -89,7 +89,7 @@ after_batch_paired f ops sorted rule h texts =
       redo = All-nil IsPairedStep;
     }
 
-edited_by_paired : (f g : FlatState) (ops : List Op) (r : Result (List Op) BatchError) → checked_batch f.units ops ≡ r → edited_by f ops r ≡ Ok g
+edited_by_paired : (f g : FlatState) (ops : List Op) (r : Result (List Op) BatchRefusal) → checked_batch f.units ops ≡ r → edited_by f ops r ≡ Ok g
     → IsPairedState f → All HasPairedText ops → IsPairedState g
 edited_by_paired f g ops (Err e) rule done h texts = absurd cc
 edited_by_paired f g ops (Ok sorted) rule done h texts =
@@ -149,7 +149,7 @@ IsPairedState-undo result old new done h = moved_paired result old new (flat_und
 pub IsPairedState-redo : (result : Result Bool ModelError) (old new : FlatState) → Moves result old new (flat_redo old) → IsPairedState old → IsPairedState new
 IsPairedState-redo result old new done h = moved_paired result old new (flat_redo old) done (λ f e. redone_paired old f e h) h
 
-with_decorations_paired : (f g : FlatState) (d : Result Decorations DecoError) → with_decorations f d ≡ Ok g → IsPairedState f → IsPairedState g
+with_decorations_paired : (f g : FlatState) (d : Result Decorations DecoRefusal) → with_decorations f d ≡ Ok g → IsPairedState f → IsPairedState g
 with_decorations_paired f g (Err e) done h = absurd cc
 with_decorations_paired f g (Ok d) done h =
     let same : record f { decorations = d } ≡ g = cc in

@@ -3,27 +3,28 @@
 use Rattle.std.specs.Prelude.{ℕ, ◌+◌, ◌-◌, ◌^◌, false, nat_lt, nat_le, if◌then◌else◌, List, [], ◌∷◌, length, map, take, drop, Option, Some, None, Result, Ok, Err}
 use Rattle.text_lengths.specs.declared.Position.{Position}
 use Rattle.text_lengths.specs.declared.Span.{Span}
+use Rattle.text_lengths.specs.declared.TheConstants.{GREATEST_NUMBER}
 use Rattle.unit_text.specs.Units.{is_place}
 use Rattle.text_rules.specs.Positions.{position_of, offset_of, is_position}
 use Rattle.text_rules.specs.declared.Op.{Op}
 use Rattle.text_rules.specs.Lines.{Line, line_at, lines_of}
 use Rattle.text_rules.specs.Edits.{is_bad_span}
-use Rattle.batch_rules.specs.declared.BatchError.{BatchError}
-use Rattle.batch_rules.specs.declared.BatchError.TheVariants as refused
+use Rattle.batch_rules.specs.Refusals.{BatchRefusal}
+use Rattle.batch_rules.specs.Refusals as refused
 use Rattle.batch_rules.specs.Batches.{most_units, checked_batch, applied, inverse_from}
 use Rattle.bracket_rules.specs.Table.{Table, standard_table}
 use Rattle.decoration_rules.specs.declared.Edit.{Edit}
 use Rattle.decoration_rules.specs.declared.NewDeco.{NewDeco}
 use Rattle.decoration_rules.specs.declared.Deco.{Deco}
-use Rattle.decoration_rules.specs.declared.DecoError.{DecoError}
-use Rattle.decoration_rules.specs.declared.DecoError.TheVariants as undecorated
+use Rattle.decoration_rules.specs.Refusals.{DecoRefusal}
+use Rattle.decoration_rules.specs.Refusals as undecorated
 use Rattle.decoration_rules.specs.Marks.{carried}
 use Rattle.decoration_rules.specs.Decorations.{Decorations, no_decorations, decorated, deco_at, decos_in}
-use Rattle.edit_stack.specs.Stack.{Step, Stack, empty_stack, pushed, stopped, undone, redone}
+use Rattle.undo_rules.specs.Stack.{Step, Stack, empty_stack, pushed, stopped, undone, redone}
 use Rattle.document_rules.specs.Refusals.{FlatRefusal, unknown, range, overlap, limit}
 
 abbrev pub greatest_version : ℕ
-greatest_version = 2 ^ 63 - 1
+greatest_version = GREATEST_NUMBER
 
 -- one accepted batch: its ops in their order, and the whole text before and after it
 pub record FlatChange : Type 0 where
@@ -73,15 +74,14 @@ after_batch f ops sorted = record f {
   history = pushed f.history (record { before = f.units; ops = sorted; after = applied f.units ops }) f.alternative (f.version + 1);
 }
 
--- why a batch is refused; its rule never wants memory
-abbrev pub batch_refusal : BatchError → FlatRefusal
-batch_refusal refused.Range = range
-batch_refusal refused.Overlap = overlap
-batch_refusal refused.Limit = limit
-batch_refusal refused.Memory = limit
+-- why a batch is refused
+abbrev pub batch_refusal : BatchRefusal → FlatRefusal
+batch_refusal refused.range = range
+batch_refusal refused.overlap = overlap
+batch_refusal refused.limit = limit
 
-abbrev pub edited_by : FlatState → List Op → Result (List Op) BatchError → Result FlatState FlatRefusal
-edited_by f ops (Err e) = Err (batch_refusal e)
+abbrev pub edited_by : FlatState → List Op → Result (List Op) BatchRefusal → Result FlatState FlatRefusal
+edited_by f ops (Err why) = Err (batch_refusal why)
 edited_by f ops (Ok sorted) = if nat_le greatest_version f.version then Err limit else Ok (after_batch f ops sorted)
 
 -- a batch of edits at once
@@ -139,15 +139,14 @@ redone_step f (step ∷ steps) = unless_last_version f (returned f (text_after f
 abbrev pub flat_redo : FlatState → Result (Option FlatState) FlatRefusal
 flat_redo f = redone_step f f.history.redo
 
--- why decorations are not changed; their rule never wants memory
-abbrev pub decoration_refusal : DecoError → FlatRefusal
-decoration_refusal undecorated.Unknown = unknown
-decoration_refusal undecorated.Range = range
-decoration_refusal undecorated.Limit = limit
-decoration_refusal undecorated.Memory = limit
+-- why decorations are not changed
+abbrev pub decoration_refusal : DecoRefusal → FlatRefusal
+decoration_refusal undecorated.unknown = unknown
+decoration_refusal undecorated.range = range
+decoration_refusal undecorated.limit = limit
 
-abbrev pub with_decorations : FlatState → Result Decorations DecoError → Result FlatState FlatRefusal
-with_decorations f (Err e) = Err (decoration_refusal e)
+abbrev pub with_decorations : FlatState → Result Decorations DecoRefusal → Result FlatState FlatRefusal
+with_decorations f (Err why) = Err (decoration_refusal why)
 with_decorations f (Ok d) = Ok (record f { decorations = d })
 
 -- decorations of one owner go, and new ones come

@@ -2,7 +2,7 @@
 use Rattle.std.specs.Prelude.{List, All}
 use Rattle.unit_text.specs.Units.{IsPaired}
 use Rattle.text_rules.specs.declared.Op.{Op}
-use Rattle.edit_stack.specs.Stack.{Step}
+use Rattle.undo_rules.specs.Stack.{Step}
 use Rattle.document_rules.specs.Document.{FlatChange, FlatState}
 
 -- a batch whose new texts, and the whole texts before and after it, have no lone surrogate

@@ -37,7 +37,8 @@ impl Batch {
     pub fn checked<F: Flat>(alloc: Global, ops: &[Op], text: &F) -> Result<Batch, BatchError>
         ensures rule { Checks result (checked_batch (F.units text.now) ops.now) }
         ensures standing { IfOk result (λ b. StandFrom 0 (F.units text.now) b) }
-        ensures fits { IfOk result (λ b. length (applied_from 0 (F.units text.now) b) ≤ most_units) }
+        ensures fits { IfOk result
+            (λ b. length (applied_from 0 (F.units text.now) b) ≤ most_units) }
         ensures texts { IfOk result (λ b. text_units b ≤ most_units) }
     {
         if has_bad_span(ops, text) {
@@ -59,8 +60,10 @@ impl Batch {
         requires standing { StandFrom 0 (F.units text.now) self.now }
         requires fits { length (applied_from 0 (F.units text.now) self.now) ≤ most_units }
         ensures ops { IfOk result (λ b. b ≡ inverse_from 0 0 (F.units text.now) self.now) }
-        ensures standing { IfOk result (λ b. StandFrom 0 (applied_from 0 (F.units text.now) self.now) b) }
-        ensures back { IfOk result (λ b. applied (applied (F.units text.now) self.now) b ≡ F.units text.now) }
+        ensures standing { IfOk result
+            (λ b. StandFrom 0 (applied_from 0 (F.units text.now) self.now) b) }
+        ensures back { IfOk result
+            (λ b. applied (applied (F.units text.now) self.now) b ≡ F.units text.now) }
         ensures texts { IfOk result (λ b. text_units b ≤ length (F.units text.now)) }
     {
         let ops = inverse_of(alloc, &self.ops, text)?;

@@ -4,12 +4,10 @@ ghost use Rattle.std.specs.Prelude.{◌≡◌, nat_lt, length};
 ghost use Rattle.text_rules.specs.Edits.{is_bad_span};
 ghost use Rattle.batch_rules.specs.Batches.{most_units, has_bad_span, overlap, applied_from, StandFrom};
 
+use batch_rules::MOST_TEXT_UNITS;
 use text_lengths::Span;
 use text_rules::Op;
 use unit_text::Flat;
-
-/// The most units that a text may have.
-pub const MOST_UNITS: u64 = 0x3FFF_FFFF;
 
 pub(crate) fn has_bad_span<F: Flat>(ops: &[Op], text: &F) -> bool
     ensures { result ≡ has_bad_span (F.units text.now) ops.now }
@@ -43,7 +41,7 @@ pub(crate) fn is_too_long<F: Flat>(ops: &[Op], text: &F) -> bool
     ensures { result ≡ nat_lt most_units (length (applied_from 0 (F.units text.now) ops.now)) }
 {
     let mut at = 0;
-    let mut room = MOST_UNITS;
+    let mut room = MOST_TEXT_UNITS;
     for op in ops {
         let kept = op.span.start - at;
         if kept > room || op.text.len() > room - kept {

@@ -36,19 +36,14 @@ pub(crate) fn inverse_of<F: Flat>(
     Ok(back)
 }
 
-/// The units of a span of the text, read run by run.
+/// A copy of the units of a span of the text.
 fn units_between<F: Flat>(alloc: Global, text: &F, span: Span) -> Result<Units, AllocError>
     requires ordered { span.start ≤ span.end }
     requires within { span.end ≤ length (F.units text.now) }
-    ensures { IfOk result (λ units. units ≡ take (span.end - span.start) (drop span.start (F.units text.now))) }
+    ensures { IfOk result (λ units. units
+        ≡ take (span.end - span.start) (drop span.start (F.units text.now))) }
 {
     let mut units = Vec::with_capacity(alloc, (span.end - span.start) as usize)?;
-    let mut at = span.start;
-    while at < span.end {
-        let run = text.run(at);
-        let count = (run.len() as u64).min(span.end - at);
-        units.extend_from_slice(&run[..count as usize])?;
-        at += count;
-    }
+    text.copy(span.start, span.end, &mut units)?;
     Ok(Units::from_vec(units))
 }

@@ -7,6 +7,5 @@ mod inverse;
 mod order;
 
 pub use batch::Batch;
-pub use batch_rules::BatchError;
-pub use checks::MOST_UNITS;
+pub use batch_rules::{BatchError, MOST_TEXT_UNITS};
 pub use text_rules::Op;

@@ -1,6 +1,6 @@
 -- What contracts see of an element.
 use Rattle.edit_stack.specs.declared.element.Element.{Element}
-use Rattle.edit_stack.specs.Stack.{Step}
+use Rattle.undo_rules.specs.Stack.{Step}
 
 abbrev pub step_of : {C : Type 0} → Element C → Step C
 step_of e = record { changes = e.changes.items; alt_before = e.alt_before; alt_after = e.alt_after }

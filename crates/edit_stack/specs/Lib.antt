@@ -1,5 +1,3 @@
-pub mod Stack
 pub mod Element
 pub mod Shown
 pub mod Lists
-mod Examples

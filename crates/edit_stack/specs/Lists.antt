@@ -4,7 +4,7 @@ use Rattle.std.specs.Vec.{vec_len, vec_capacity}
 use Rattle.edit_stack.specs.declared.element.Element.{Element}
 use Rattle.edit_stack.specs.declared.stack.EditStack.TheInside.{Inside}
 use Rattle.edit_stack.specs.Element.{step_of}
-use Rattle.edit_stack.specs.Stack.{Step}
+use Rattle.undo_rules.specs.Stack.{Step}
 use Rattle.edit_stack.specs.Shown.{Shown}
 
 module _ {C : Type 0} where

@@ -1,7 +1,7 @@
 -- What contracts see of a stack.
 use Rattle.std.specs.Prelude.{ℕ, Bool, List, refl}
 use Rattle.std.specs.Coded.{Coded, code_by, coded×, coded_list, coded_ℕ, coded_bool}
-use Rattle.edit_stack.specs.Stack.{Step, Stack}
+use Rattle.undo_rules.specs.Stack.{Step, Stack}
 
 pub record Shown (C : Type 0) : Type 0 where
   pub stack : Stack C

@@ -3,7 +3,7 @@
 ghost use Rattle.std.specs.Prelude.{◌≡◌, ◌<◌, ◌≤◌, length, slice_get, OnOk, option_map};
 ghost use Rattle.std.specs.Option.{option_copied};
 ghost use Rattle.edit_stack.specs.Element.{step_of};
-ghost use Rattle.edit_stack.specs.Stack.{empty_stack, pushed, stopped, undone, redone};
+ghost use Rattle.undo_rules.specs.Stack.{empty_stack, pushed, stopped, undone, redone};
 
 use crate::element::Element;
 use std::alloc::{AllocError, Global};

@@ -93,7 +93,8 @@ impl IntervalTree {
     /// Each decoration moves, as the text under it is edited.
     pub fn accept(&mut self, edit: &Edit)
         requires upright { edit.now.start ≤ edit.now.end }
-        requires fits { All (λ mark. (moved_mark edit.now mark).span.end < offset_limit) self.old.marks }
+        requires fits { All (λ mark. (moved_mark edit.now mark).span.end < offset_limit)
+            self.old.marks }
         ensures moved { self.new.marks ≡ in_order (map (moved_mark edit.now) self.old.marks) }
         ensures room { self.old.spare ≤ self.new.spare }
     {

@@ -7,7 +7,8 @@ use Rattle.text_lengths.proofs.Lengths.{plus_none}
 use Rattle.text_rules.specs.Lines.{text_length}
 use Rattle.text_rules.proofs.TextLengths.{counted_break, counted_column}
 use Rattle.line_starts.specs.Starts.{starts_of, break_count, break_ends_at}
-use Rattle.text_rules.proofs.Breaks.{break_ends, ends_break, starts_are, break_ends_moved, line_count_is}
+use Rattle.text_rules.specs.Breaks.{break_ends, ends_break}
+use Rattle.text_rules.proofs.Breaks.{starts_are, break_ends_moved, line_count_is}
 
 pub starts_of_is : (x : List ℕ) → starts_of x ≡ 0 ∷ break_ends 0 x
 starts_of_is x = starts_are x

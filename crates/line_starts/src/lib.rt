@@ -4,15 +4,12 @@
 ghost use Rattle.std.specs.Prelude.{◌≡◌, ℕ, ◌+◌, ◌<◌, ◌≤◌, ◌^◌, ◌++◌, false, List, length, drop, get_or, OnOk, OnErr, IsOk, vec_len, vec_capacity, take};
 ghost use Rattle.line_starts.specs.Starts.{starts_of, break_count, break_ends_at};
 ghost use Rattle.text_lengths.specs.Length.{length_plus};
-ghost use Rattle.text_rules.proofs.Breaks.{ends_break, joins_pair};
+ghost use Rattle.text_rules.specs.Breaks.{ends_break, joins_pair};
 ghost use Rattle.text_rules.specs.Lines.{text_length};
 
 use std::alloc::AllocError;
 use text_lengths::Length;
-
-const LINE_FEED: u16 = 10;
-
-const CARRIAGE_RETURN: u16 = 13;
+use unit_text::{CARRIAGE_RETURN, LINE_FEED};
 
 /// Appends the start of each line: 0, and the place after each break. After an error `out` is as it was.
 pub fn find_starts(units: &[u16], out: &mut Vec<u64>) -> Result<(), AllocError>
@@ -64,7 +61,8 @@ fn push_break_ends(units: &[u16], start: u64, out: &mut Vec<u64>) -> Result<(), 
 
 /// How many line breaks the units have.
 pub fn count_breaks(units: &[u16]) -> u64
-    ensures { result ≡ break_count units.now }
+    ensures breaks { result ≡ break_count units.now }
+    ensures few { result < 2 ^ 63 }
 {
     let mut breaks = 0;
     for at in 0..units.len() {

@@ -45,10 +45,8 @@ pub record ReadsByPlan (answer : Result ℕ Failed) (old new : PlannedSource) (b
 -- ---- sinks
 
 pub record PlannedSink : Type 0 where
-  -- what it took
+  -- what it took, and its room
   pub state : SinkState
-  -- how many bytes it tells at most
-  pub room : ℕ
   -- the most bytes that a write takes
   pub each : ℕ
   -- the writes that fail or come short
@@ -59,7 +57,7 @@ pub record PlannedSink : Type 0 where
 -- a sink with room for so many bytes before its first write
 abbrev pub new_sink : ℕ → ℕ → List Fault → PlannedSink
 new_sink room each plan =
-    record { state = fresh_sink (Some []); room = room; each = each; plan = plan; calls = 0 }
+    record { state = fresh_sink room (Some []); each = each; plan = plan; calls = 0 }
 
 -- what is told after these bytes more: all of them while they fit the room, and from then on nothing
 abbrev pub told_with : ℕ → Option (List ℕ) → List ℕ → Option (List ℕ)
@@ -78,6 +76,5 @@ pub record WritesByPlan (answer : Result ℕ Failed) (old new : PlannedSink) (pi
   pub faults :
       new.state.faults ≡ (if is_fault answer piece then counted old.state.faults else old.state.faults)
   pub calls : new.calls ≡ counted old.calls
-  pub room : new.room ≡ old.room
   pub each : new.each ≡ old.each
   pub plan : new.plan ≡ old.plan

@@ -27,8 +27,7 @@ impl Model for MemSink {
     ghost Value = { PlannedSink };
 
     ghost view = { λ s. record {
-      state = record { taken = bytes_told s.tray; faults = s.faults };
-      room = s.tray.room;
+      state = record { taken = bytes_told s.tray; room = s.tray.room; faults = s.faults };
       each = s.each;
       plan = s.plan.faults.items;
       calls = s.plan.calls;
@@ -83,7 +82,7 @@ impl Sink for MemSink {
     fn write(&mut self, piece: &[u8]) -> Result<usize, Failed>
         ensures writes { Writes result self.old.state self.new.state piece.now }
         ensures told { IfOk result (λ count. self.new.state.taken
-            ≡ told_with self.old.room self.old.state.taken (take count piece.now)) }
+            ≡ told_with self.old.state.room self.old.state.taken (take count piece.now)) }
         ensures failed { OnErr result (self.new.state.taken ≡ self.old.state.taken) }
         ensures planned { WritesByPlan result self.old self.new piece.now }
     {
@@ -143,7 +142,7 @@ impl Sink for SureSink {
             (record self.new.state { faults = 0 }) piece.now }
         ensures sure { IsOk result }
         ensures told { IfOk result (λ count. self.new.state.taken
-            ≡ told_with self.old.room self.old.state.taken (take count piece.now)) }
+            ≡ told_with self.old.state.room self.old.state.taken (take count piece.now)) }
         ensures planned { WritesByPlan result self.old self.new piece.now }
     {
         self.sink.write(piece)

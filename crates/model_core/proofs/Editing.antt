@@ -8,7 +8,7 @@ use Rattle.batch_rules.specs.Batches.{most_units, checked_batch, applied_from, i
 use Rattle.batch_rules.proofs.Standing.{IsAccepted, accepted}
 use Rattle.batch_rules.proofs.Pairs.{IsPaired-applied, HasPairedText}
 use Rattle.batch_rules.proofs.Order.{All-sorted_ops}
-use Rattle.edit_stack.specs.Stack.{Stack, pushed}
+use Rattle.undo_rules.specs.Stack.{Stack, pushed}
 use Rattle.document_rules.specs.Document.{FlatState, flat_edit, greatest_version, edited_by}
 use Rattle.model_core.specs.declared.change.Change.{Change}
 use Rattle.model_core.specs.History.{history_of, Leads, IsHistory}

@@ -5,7 +5,7 @@ use Rattle.text_rules.specs.declared.Op.{Op}
 use Rattle.batch_rules.specs.Batches.{most_units, applied_from, inverse_from, StandFrom, text_units}
 use Rattle.batch_rules.proofs.Inverses.{inverse_gives_back}
 use Rattle.batch_rules.proofs.Standing.{text_units_applied, text_units_inverse}
-use Rattle.edit_stack.specs.Stack.{Step, Stack, joined, pushed, undone_lists, redone_lists}
+use Rattle.undo_rules.specs.Stack.{Step, Stack, joined, pushed, undone_lists, redone_lists}
 use Rattle.document_rules.specs.Document.{FlatChange, text_before, text_after}
 use Rattle.model_core.specs.declared.change.Change.{Change}
 use Rattle.model_core.specs.declared.change.Way.TheVariants.{Back, On}

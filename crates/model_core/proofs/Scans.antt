@@ -1,5 +1,5 @@
 -- The lines of a text that were scanned one after another, and that they can be parsed.
-use Rattle.std.proofs.Common.{◌≡◌, ℕ, ◌+◌, ◌-◌, ◌<◌, ◌≤◌, ◌==◌, ◌^◌, Bool, true, false, ◌&&◌, ◌||◌, if◌then◌else◌, Some, List, [], ◌∷◌, ◌++◌, length, map, take, get_or, subst, sym, arith}
+use Rattle.std.proofs.Common.{◌≡◌, ℕ, ◌+◌, ◌-◌, ◌<◌, ◌≤◌, ◌==◌, ◌^◌, Bool, true, false, ◌&&◌, ◌||◌, if◌then◌else◌, Some, List, [], ◌∷◌, ◌++◌, length, map, take, get_or, sum, subst, sym, arith}
 use Rattle.std.proofs.lemmas.Bool.{ne_eqb}
 use Rattle.std.proofs.lemmas.List.{map_more}
 use Rattle.std.proofs.lemmas.Option.{slice_get-get_or}
@@ -8,8 +8,9 @@ use Rattle.text_rules.specs.Lines.{Line, lines_of, line_at, line_feed, carriage_
 use Rattle.text_rules.proofs.Breaks.{line_count_is}
 use Rattle.bracket_rules.specs.Rows.{text_rows}
 use Rattle.bracket_rules.specs.Table.{Table, is_table, tokens_of}
+use Rattle.bracket_trees.proofs.LineWeights.{sum-cons}
 use Rattle.bracket_nodes.specs.declared.scanned.ScannedLine.{ScannedLine}
-use Rattle.bracket_nodes.specs.ScannedLines.{AreLines, AreScans, bound_left, scanned_rows, scanned_bound}
+use Rattle.bracket_nodes.specs.ScannedLines.{AreLines, AreScans, scanned_rows, scanned_weights}
 use Rattle.bracket_nodes.proofs.Scans.{scanned_rows-text, AreLines-from_scans}
 use Rattle.document_rules.specs.Brackets.{line_contents}
 
@@ -65,12 +66,16 @@ spread-text (u ∷ after) =
       spread-step u (u == carriage_return && begins_with line_feed after) (u == carriage_return || u == line_feed) (lines_of after),
     )
 
-bound-scans : (table : Table) (line : Line) (lines : List Line) (l : ScannedLine) (scans : List ScannedLine)
-    → AreScans table (contents (line ∷ lines)) (l ∷ scans) → bound_left 0 l.columns scans ≤ spread (line ∷ lines)
-bound-scans table line [] l [] h = omega (arith, h.1)
-bound-scans table line [] l (m ∷ scans) h = elim h.2 [ ]
-bound-scans table line (next ∷ lines) l [] h = elim h.2 [ ]
-bound-scans table line (next ∷ lines) l (m ∷ scans) h = omega (arith, h.1, bound-scans table next lines m scans h.2)
+sum-scans : (table : Table) (lines : List Line) (scans : List ScannedLine) → AreScans table (contents lines) scans
+    → sum (scanned_weights scans) ≤ spread lines
+sum-scans table [] [] h = omega arith
+sum-scans table [] (l ∷ scans) h = elim h [ ]
+sum-scans table (line ∷ lines) [] h = elim h [ ]
+sum-scans table (line ∷ []) (l ∷ []) h = omega (arith, h.1)
+sum-scans table (line ∷ []) (l ∷ m ∷ scans) h = elim h.2 [ ]
+sum-scans table (line ∷ next ∷ lines) (l ∷ []) h = elim h.2 [ ]
+sum-scans table (line ∷ next ∷ lines) (l ∷ m ∷ scans) h =
+    omega (arith, h.1, sum-scans table (next ∷ lines) (m ∷ scans) h.2, sum-cons (l.columns + 1) (scanned_weights (m ∷ scans)))
 
 -- ---- the lines of a text
 
@@ -83,17 +88,11 @@ some_contents : (lines : List Line) → 0 < length lines → 0 < length (content
 some_contents [] some = absurd (omega arith)
 some_contents (line ∷ lines) some = omega arith
 
-few_scans : (table : Table) (lines : List Line) (scans : List ScannedLine) → AreScans table (contents lines) scans → scanned_bound scans ≤ spread lines
-few_scans table [] [] h = omega arith
-few_scans table [] (l ∷ scans) h = elim h [ ]
-few_scans table (line ∷ lines) [] h = elim h [ ]
-few_scans table (line ∷ lines) (l ∷ scans) h = bound-scans table line lines l scans h
-
 -- lines that can be parsed, to the tree of the text
 pub record AreScansOf (table : Table) (x : List ℕ) (scans : List ScannedLine) : Type 0 where
   pub some : 0 < length scans
   pub lines : AreLines scans
-  pub fits : scanned_bound scans < 2 ^ 64
+  pub fits : sum (scanned_weights scans) < 2 ^ 64
   pub rows : scanned_rows scans ≡ text_rows table (line_contents x)
 
 pub scans_of_text : (table : Table) (x : List ℕ) (scans : List ScannedLine) → is_table table ≡ true → length x ≤ most_units
@@ -103,6 +102,6 @@ scans_of_text table x scans t small h =
     record {
       some = some_scans table (lines_of x) scans some h;
       lines = AreLines-from_scans table (line_contents x) scans t h;
-      fits = omega (arith, few_scans table (lines_of x) scans h, spread-text x);
+      fits = omega (arith, sum-scans table (lines_of x) scans h, spread-text x);
       rows = scanned_rows-text table (line_contents x) scans (some_contents (lines_of x) some) h;
     }

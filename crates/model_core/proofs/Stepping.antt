@@ -2,14 +2,17 @@
 use Rattle.std.proofs.Common.{◌≡◌, ℕ, zero, ◌+◌, ◌<◌, ◌≤◌, true, false, Bool, List, [], ◌∷◌, length, slice_get, Option, Some, None, Ok, Err, refl, ap, sym, subst, ◌∙◌, arith}
 use Rattle.std.proofs.lemmas.Bool.{lt-leb, le-leb}
 use Rattle.batch_rules.specs.Batches.{most_units, applied_from}
-use Rattle.edit_stack.specs.Stack.{Step, Stack, undone, undone_lists, redone, redone_lists}
+use Rattle.undo_rules.specs.Stack.{Step, Stack, undone, undone_lists, redone, redone_lists}
 use Rattle.document_rules.specs.Refusals.{limit}
 use Rattle.document_rules.specs.Document.{FlatState, flat_undo, flat_redo, greatest_version}
 use Rattle.model_core.specs.declared.change.Change.{Change}
-use Rattle.model_core.specs.History.{text_back, text_on, history_of, Leads, LeadBack, LeadOn, StepsLeadBack, StepsLeadOn, IsHistory}
+use Rattle.model_core.specs.declared.change.Way.TheVariants.{Back, On}
+use Rattle.model_core.specs.State.{next_op_count}
+use Rattle.model_core.specs.History.{text_back, text_on, undo_steps, redo_steps, op_count, history_of, Leads, LeadBack, LeadOn, StepsLeadBack, StepsLeadOn, IsHistory}
 use Rattle.bracket_rules.specs.Table.{Table}
 use Rattle.decoration_rules.specs.Decorations.{Decorations}
 use Rattle.model_core.specs.Carrying.{decorations_back, decorations_on}
+use Rattle.model_core.proofs.Turns.{ops_back, ops_on}
 use Rattle.model_core.proofs.Carries.{carried_back-kept, carried_on-kept}
 use Rattle.model_core.proofs.Histories.{text_before-back, text_after-on, history-undone, IsHistory-undone, history-redone, IsHistory-redone}
 
@@ -44,6 +47,7 @@ pub record IsUndo (now : List ℕ) (version alternative : ℕ) (d : Decorations)
       → flat_undo (document_of now version alternative d table s) ≡ Ok (Some (document_of (text_back now step.changes) (version + 1) step.alt_before (decorations_back d step.changes) table (undone s)))
   pub refused : greatest_version < version + 1 → flat_undo (document_of now version alternative d table s) ≡ Err limit
   pub some : 0 < length s.undo
+  pub ops : next_op_count (undo_steps now s.undo) ≡ op_count Back step.changes
 
 undo_first : (now : List ℕ) (version alternative : ℕ) (d : Decorations) (table : Table) (step : Step Change) (rest redo : List (Step Change)) (is_open : Bool)
     → IsHistory now (record { undo = step ∷ rest; redo = redo; is_open = is_open })
@@ -55,6 +59,7 @@ undo_first now version alternative d table step rest redo is_open old =
       accepted = λ few. rw (lt-leb greatest_version version (omega (arith, few)), text_before-back step.changes now, carried_back-kept d now step.changes old.back.0, sym (history-undone rest redo step now old.back.0)) refl;
       refused = λ last. rw (le-leb greatest_version version (omega (arith, last))) refl;
       some = omega arith;
+      ops = ops_back now step.changes old.back.0;
     }
 
 pub undo_of : (now : List ℕ) (version alternative : ℕ) (d : Decorations) (table : Table) (s : Stack Change) (step : Step Change) → slice_get s.undo 0 ≡ Some step → IsHistory now s → IsUndo now version alternative d table s step
@@ -74,6 +79,7 @@ pub record IsRedo (now : List ℕ) (version alternative : ℕ) (d : Decorations)
       → flat_redo (document_of now version alternative d table s) ≡ Ok (Some (document_of (text_on now step.changes) (version + 1) step.alt_after (decorations_on d step.changes) table (redone s)))
   pub refused : greatest_version < version + 1 → flat_redo (document_of now version alternative d table s) ≡ Err limit
   pub some : 0 < length s.redo
+  pub ops : next_op_count (redo_steps now s.redo) ≡ op_count On step.changes
 
 redo_first : (now : List ℕ) (version alternative : ℕ) (d : Decorations) (table : Table) (step : Step Change) (undo rest : List (Step Change)) (is_open : Bool)
     → IsHistory now (record { undo = undo; redo = step ∷ rest; is_open = is_open })
@@ -85,6 +91,7 @@ redo_first now version alternative d table step undo rest is_open old =
       accepted = λ few. rw (lt-leb greatest_version version (omega (arith, few)), text_after-on step.changes now, carried_on-kept d now step.changes, sym (history-redone undo rest step is_open now old.on.0)) refl;
       refused = λ last. rw (le-leb greatest_version version (omega (arith, last))) refl;
       some = omega arith;
+      ops = ops_on now step.changes;
     }
 
 pub redo_of : (now : List ℕ) (version alternative : ℕ) (d : Decorations) (table : Table) (s : Stack Change) (step : Step Change) → slice_get s.redo 0 ≡ Some step → IsHistory now s → IsRedo now version alternative d table s step

@@ -2,6 +2,7 @@
 use Rattle.std.proofs.Common.{◌≡◌, ℕ, zero, suc, ◌+◌, ◌-◌, ◌*◌, ◌<◌, ◌≤◌, List, [], ◌∷◌, length, drop, get_or, slice_index_or, refl, ap, sym, subst, ◌∙◌, arith}
 use Rattle.std.proofs.Math.Seq.{drop-cons}
 use Rattle.std.specs.List.{All}
+use Rattle.std.specs.Prelude.{sum_by}
 use Rattle.std.proofs.lemmas.List.Elements.{All-nil, All-cons}
 use Rattle.std.proofs.lemmas.List.Sums.{sum_by-cons, sum_by-drop_more, sum_by-take-drop}
 use Rattle.text_rules.specs.declared.Op.{Op}
@@ -9,11 +10,12 @@ use Rattle.text_rules.specs.Edits.{edited}
 use Rattle.batch_rules.specs.Batches.{most_units, applied_from, inverse_from, text_units, StandFrom, edited_backwards}
 use Rattle.batch_rules.proofs.Backwards.{backwards_step, backwards_few, IsStep}
 use Rattle.batch_rules.proofs.Standing.{text_units_applied, text_units_inverse}
-use Rattle.batch_rules.proofs.Inverses.{inverse_stands_from_start}
+use Rattle.batch_rules.proofs.Inverses.{inverse_stands_from_start, length-inverse_from}
+use Rattle.document_rules.specs.Document.{FlatChange}
 use Rattle.model_core.specs.declared.change.Change.{Change}
 use Rattle.model_core.specs.declared.change.Way.{Way}
 use Rattle.model_core.specs.declared.change.Way.TheVariants.{Back, On}
-use Rattle.model_core.specs.History.{text_back, text_on, Leads, LeadBack, LeadOn, ops_by, op_count, unit_count}
+use Rattle.model_core.specs.History.{text_back, text_on, changes_back, changes_on, Leads, LeadBack, LeadOn, ops_by, op_count, unit_count}
 
 -- the op whose turn it is, after so many others, on the text of the moment
 pub record IsTurn (x : List ℕ) (ops : List Op) (done : ℕ) (op : Op) (now : List ℕ) : Type 0 where
@@ -136,6 +138,21 @@ turn_on_at cs done c now inside is lead =
       ops = ap (op_count On) cut ∙ op_count-cons On c (drop (done + 1) cs);
       units = ap (unit_count On) cut ∙ unit_count-cons On c (drop (done + 1) cs);
     }
+
+-- a step has as many ops on either way as its batches have
+pub ops_back : (after : List ℕ) (cs : List Change) → LeadBack after cs → sum_by (λ (change : FlatChange). length change.ops) (changes_back after cs) ≡ op_count Back cs
+ops_back after [] lead = refl
+ops_back after (c ∷ cs) lead =
+    let first : FlatChange = record { before = text_back after (c ∷ cs); ops = c.batch; after = text_back after cs } in
+    let same : length c.inverse ≡ length c.batch = ap length lead.0.inverse ∙ length-inverse_from 0 0 (text_back after (c ∷ cs)) c.batch in
+    omega (arith, sum_by-cons {X = FlatChange} (λ change. length change.ops) first (changes_back after cs), op_count-cons Back c cs, same, ops_back after cs lead.1)
+
+pub ops_on : (before : List ℕ) (cs : List Change) → sum_by (λ (change : FlatChange). length change.ops) (changes_on before cs) ≡ op_count On cs
+ops_on before [] = refl
+ops_on before (c ∷ cs) =
+    let after = applied_from 0 before c.batch in
+    let first : FlatChange = record { before = before; ops = c.batch; after = after } in
+    omega (arith, sum_by-cons {X = FlatChange} (λ change. length change.ops) first (changes_on after cs), op_count-cons On c cs, ops_on after cs)
 
 -- each change of a step is fit for its way
 pub few_back : (after : List ℕ) (cs : List Change) → LeadBack after cs → All (λ c. text_units (ops_by Back c) ≤ most_units) cs

@@ -2,7 +2,7 @@
 use Rattle.std.specs.Prelude.{ℕ, ◌≡◌, ◌≤◌, List, [], ◌∷◌, length, sum_by, ⊤}
 use Rattle.text_rules.specs.declared.Op.{Op}
 use Rattle.batch_rules.specs.Batches.{most_units, applied_from, inverse_from, text_units, StandFrom}
-use Rattle.edit_stack.specs.Stack.{Step, Stack}
+use Rattle.undo_rules.specs.Stack.{Step, Stack}
 use Rattle.document_rules.specs.Document.{FlatChange}
 use Rattle.model_core.specs.declared.change.Change.{Change}
 use Rattle.model_core.specs.declared.change.Way.{Way}

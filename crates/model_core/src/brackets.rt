@@ -5,8 +5,8 @@ ghost use Rattle.batch_rules.specs.Batches.{most_units};
 ghost use Rattle.text_rules.specs.Lines.{Line, lines_of, line_at, text_length};
 ghost use Rattle.bracket_rules.specs.Rows.{text_rows};
 ghost use Rattle.bracket_rules.specs.Table.{is_table, tokens_of};
-ghost use Rattle.bracket_rules.specs.Told.{IsTreeOf};
-ghost use Rattle.bracket_rules.specs.Tree.{tree_length};
+ghost use Rattle.bracket_trees.specs.Told.{IsTreeOf};
+ghost use Rattle.bracket_trees.specs.Tree.{tree_length};
 ghost use Rattle.bracket_nodes.specs.ScannedLines.{AreScans};
 ghost use Rattle.document_rules.specs.Brackets.{line_contents};
 ghost use Rattle.model_core.specs.State.{IsKept};
@@ -57,7 +57,8 @@ fn scanned_lines(
     table: &BracketTable,
     text: &TextBuffer,
 ) -> Result<Vec<ScannedLine>, AllocError>
-    ensures scans { IfOk result (λ lines. AreScans table.now (line_contents text.now.units) lines.items) }
+    ensures scans { IfOk result
+        (λ lines. AreScans table.now (line_contents text.now.units) lines.items) }
     ensures table { OnOk result (is_table table.now ≡ true) }
 {
     let mut lines = Vec::new(alloc);

@@ -4,6 +4,7 @@ ghost use Rattle.std.specs.Prelude.{◌≡◌, ◌+◌, ◌*◌, ◌<◌, ◌≤
 ghost use Rattle.std.specs.List.{All};
 ghost use Rattle.batch_rules.specs.Batches.{most_units, applied_from, text_units, StandFrom};
 ghost use Rattle.model_core.specs.History.{text_back, text_on, LeadBack, LeadOn, ops_by, op_count, unit_count};
+ghost use Rattle.model_core.specs.State.{GrownBy};
 ghost use Rattle.model_core.specs.Carrying.{edit_with, carried_with, decorations_back, decorations_on, AreIn};
 
 use decorations::{DecoSet, Edit};
@@ -49,8 +50,10 @@ pub(crate) fn apply(text: &mut TextBuffer, decorations: &mut DecoSet, ops: &[Op]
     requires room { text_units ops.now + 3 * length ops.now ≤ text.old.spare_units }
     requires inside { AreIn (length text.old.units) decorations.old }
     ensures units { text.new.units ≡ applied_from 0 text.old.units ops.now }
+    ensures pieces { GrownBy (length ops.now) (length text.old.spans) (length text.new.spans) }
     ensures edits { text.old.spare_edits ≤ text.new.spare_edits + length ops.now }
-    ensures room { text.old.spare_units ≤ text.new.spare_units + (text_units ops.now + 3 * length ops.now) }
+    ensures room { text.old.spare_units
+        ≤ text.new.spare_units + (text_units ops.now + 3 * length ops.now) }
     ensures decorations { decorations.new ≡ carried_with forces decorations.old ops.now }
     ensures inside { AreIn (length text.new.units) decorations.new }
 {
@@ -76,9 +79,12 @@ fn edit_with(op: &Op, forces: bool) -> Edit
 pub(crate) fn take_back(text: &mut TextBuffer, decorations: &mut DecoSet, changes: &[Change])
     requires lead { LeadBack text.old.units changes.now }
     requires edits { op_count Way.Back changes.now ≤ text.old.spare_edits }
-    requires room { unit_count Way.Back changes.now + 3 * op_count Way.Back changes.now ≤ text.old.spare_units }
+    requires room { unit_count Way.Back changes.now + 3 * op_count Way.Back changes.now
+        ≤ text.old.spare_units }
     requires inside { AreIn (length text.old.units) decorations.old }
     ensures units { text.new.units ≡ text_back text.old.units changes.now }
+    ensures pieces { GrownBy (op_count Way.Back changes.now)
+        (length text.old.spans) (length text.new.spans) }
     ensures decorations { decorations.new ≡ decorations_back decorations.old changes.now }
     ensures inside { AreIn (length text.new.units) decorations.new }
 {
@@ -92,9 +98,12 @@ pub(crate) fn take_back(text: &mut TextBuffer, decorations: &mut DecoSet, change
 pub(crate) fn make_again(text: &mut TextBuffer, decorations: &mut DecoSet, changes: &[Change])
     requires lead { LeadOn text.old.units changes.now }
     requires edits { op_count Way.On changes.now ≤ text.old.spare_edits }
-    requires room { unit_count Way.On changes.now + 3 * op_count Way.On changes.now ≤ text.old.spare_units }
+    requires room { unit_count Way.On changes.now + 3 * op_count Way.On changes.now
+        ≤ text.old.spare_units }
     requires inside { AreIn (length text.old.units) decorations.old }
     ensures units { text.new.units ≡ text_on text.old.units changes.now }
+    ensures pieces { GrownBy (op_count Way.On changes.now)
+        (length text.old.spans) (length text.new.spans) }
     ensures decorations { decorations.new ≡ decorations_on decorations.old changes.now }
     ensures inside { AreIn (length text.new.units) decorations.new }
 {
@@ -111,8 +120,10 @@ pub(crate) fn reserve_for(
 ) -> Result<(), AllocError>
     requires { All (λ c. text_units (ops_by way c) ≤ most_units) changes.now }
     ensures edits { OnOk result (op_count way changes.now ≤ text.new.spare_edits) }
-    ensures room { OnOk result (unit_count way changes.now + 3 * op_count way changes.now ≤ text.new.spare_units) }
+    ensures room { OnOk result
+        (unit_count way changes.now + 3 * op_count way changes.now ≤ text.new.spare_units) }
     ensures same { text.new.units ≡ text.old.units }
+    ensures spans { text.new.spans ≡ text.old.spans }
 {
     let mut edits: u64 = 0;
     let mut units: u64 = 0;

@@ -1,6 +1,6 @@
 //! The document and its calls.
 
-ghost use Rattle.std.specs.Prelude.{◌≡◌, ◌-◌, [], true, false, List, length, IfSome, OnOk, OnErr, Ok, Err};
+ghost use Rattle.std.specs.Prelude.{◌≡◌, ◌≤◌, ◌-◌, [], true, false, List, length, IfSome, OnOk, OnErr, Ok, Err};
 ghost use Rattle.std.specs.List.{All};
 ghost use Rattle.text_buffer.specs.Costs.{WithinLookUps};
 ghost use Rattle.unit_text.specs.Units.{IsPaired};
@@ -10,7 +10,7 @@ ghost use Rattle.document_rules.specs.Outcomes.{Changes, ChangesWith, Moves, App
 ghost use Rattle.bracket_rules.specs.Table.{standard_table};
 ghost use Rattle.document_rules.specs.Brackets.{flat_brackets, flat_match, flat_level, IsSmall};
 ghost use Rattle.document_rules.specs.Paired.{IsPairedState};
-ghost use Rattle.model_core.specs.State.{KeptAfter, KeptAfterMove};
+ghost use Rattle.model_core.specs.State.{KeptAfter, KeptAfterMove, GrownAfter, GrownAfterMove, next_op_count};
 ghost use Rattle.document_rules.specs.Document.{new_document, flat_open, flat_edit, flat_stop, flat_undo, flat_redo, flat_decorate, flat_deco, flat_decos, flat_line, flat_value, flat_position, flat_offset, flat_line_count};
 ghost use Rattle.model_core.specs.Errors.{error_of, refusal_of};
 
@@ -21,7 +21,7 @@ use bracket_nodes::{Entry, Node};
 use bracket_scan::BracketTable;
 use decorations::{Deco, DecoError, DecoSet, NewDeco};
 use document_rules::ModelError;
-use edit_batches::{Batch, BatchError, MOST_UNITS};
+use edit_batches::{Batch, BatchError, MOST_TEXT_UNITS};
 use edit_stack::EditStack;
 use std::alloc::Global;
 use std::sync::ledger::Ledger;
@@ -78,6 +78,7 @@ impl Model {
     pub fn new(alloc: Global) -> Model
         ensures document { result.document ≡ new_document [] standard_table }
         ensures fresh { result.fresh ≡ false }
+        ensures pieces { result.pieces ≡ 0 }
     {
         Model {
             alloc,
@@ -94,12 +95,15 @@ impl Model {
     /// Puts a new document with this text and these brackets in place of the old one. A text above the limit is refused
     /// with `Limit`.
     pub fn open_doc(&mut self, text: &[u16], table: BracketTable) -> Result<(), ModelError>
-        ensures document { Changes result self.old.document self.new.document (flat_open text.now table) }
+        ensures document { Changes result self.old.document self.new.document
+            (flat_open text.now table) }
         ensures paired_state { IsPaired text.now → IsPairedState self.old.document
             → IsPairedState self.new.document }
         ensures fresh { KeptAfter result self.old.fresh self.new.fresh }
+        ensures pieces { OnOk result (self.new.pieces ≤ 1) }
+        ensures kept_pieces { OnErr result (self.new.pieces ≡ self.old.pieces) }
     {
-        if text.len() as u64 > MOST_UNITS {
+        if text.len() as u64 > MOST_TEXT_UNITS {
             return Err(ModelError::Limit);
         }
         let text = TextBuffer::of_units(self.alloc, text).map_err(|_| ModelError::Memory)?;
@@ -124,6 +128,7 @@ impl Model {
         ensures paired_state { All (λ op. IsPaired op.text) ops.now
             → IsPairedState self.old.document → IsPairedState self.new.document }
         ensures fresh { KeptAfter result self.old.fresh self.new.fresh }
+        ensures pieces { GrownAfter (length ops.now) result self.old.pieces self.new.pieces }
     {
         let batch = Batch::checked(self.alloc, ops, &self.text).map_err(error_of)?;
         let version = raised(self.version, 1).ok_or(ModelError::Limit)?;
@@ -148,6 +153,7 @@ impl Model {
         ensures document { self.new.document ≡ flat_stop self.old.document }
         ensures paired_state { IsPairedState self.old.document → IsPairedState self.new.document }
         ensures fresh { self.new.fresh ≡ self.old.fresh }
+        ensures pieces { self.new.pieces ≡ self.old.pieces }
     {
         self.history.stop();
     }
@@ -155,9 +161,12 @@ impl Model {
     /// Goes back to the text before the last step, as the next version, and answers whether there was one. `Limit`
     /// where the version would pass its limit. All memory is taken before the first change.
     pub fn undo(&mut self) -> Result<bool, ModelError>
-        ensures document { Moves result self.old.document self.new.document (flat_undo self.old.document) }
+        ensures document { Moves result self.old.document self.new.document
+            (flat_undo self.old.document) }
         ensures paired_state { IsPairedState self.old.document → IsPairedState self.new.document }
         ensures fresh { KeptAfterMove result self.old.fresh self.new.fresh }
+        ensures pieces { GrownAfterMove (next_op_count self.old.document.history.undo) result
+            self.old.pieces self.new.pieces }
     {
         let Some(step) = self.history.undo_next() else {
             return Ok(false);
@@ -176,9 +185,12 @@ impl Model {
     /// Goes on to the text after the step that was undone last, as the next version, and answers whether there was one.
     /// `Limit` where the version would pass its limit. All memory is taken before the first change.
     pub fn redo(&mut self) -> Result<bool, ModelError>
-        ensures document { Moves result self.old.document self.new.document (flat_redo self.old.document) }
+        ensures document { Moves result self.old.document self.new.document
+            (flat_redo self.old.document) }
         ensures paired_state { IsPairedState self.old.document → IsPairedState self.new.document }
         ensures fresh { KeptAfterMove result self.old.fresh self.new.fresh }
+        ensures pieces { GrownAfterMove (next_op_count self.old.document.history.redo) result
+            self.old.pieces self.new.pieces }
     {
         let Some(step) = self.history.redo_next() else {
             return Ok(false);
@@ -204,10 +216,12 @@ impl Model {
         remove: &[u64],
         add: &[NewDeco],
     ) -> Result<u64, ModelError>
-        ensures document { ChangesWith self.old.document.decorations.next_id result self.old.document self.new.document
+        ensures document { ChangesWith self.old.document.decorations.next_id result
+            self.old.document self.new.document
             (flat_decorate self.old.document owner remove.now add.now) }
         ensures paired_state { IsPairedState self.old.document → IsPairedState self.new.document }
         ensures fresh { self.new.fresh ≡ self.old.fresh }
+        ensures pieces { self.new.pieces ≡ self.old.pieces }
     {
         self.decorations
             .delta(owner, remove, add, &self.text)
@@ -217,7 +231,8 @@ impl Model {
     /// The live decoration of this id. Its span lies in the text.
     pub fn get_deco(&self, id: u64) -> Option<Deco>
         ensures deco { result ≡ flat_deco self.now.document id }
-        ensures inside { IfSome result (λ deco. IsSpanIn deco.span (length self.now.document.units)) }
+        ensures inside { IfSome result
+            (λ deco. IsSpanIn deco.span (length self.now.document.units)) }
     {
         self.decorations.get(id)
     }
@@ -230,7 +245,8 @@ impl Model {
         owner: Option<u64>,
         out: &mut Vec<Deco>,
     ) -> Result<(), ModelError>
-        ensures decos { Appends result out.old.items out.new.items (flat_decos self.now.document span owner) }
+        ensures decos { Appends result out.old.items out.new.items
+            (flat_decos self.now.document span owner) }
         ensures inside { (decos : List Deco) → flat_decos self.now.document span owner ≡ Ok decos
             → All (λ deco. IsSpanIn deco.span (length self.now.document.units)) decos }
     {
@@ -258,10 +274,13 @@ impl Model {
         to: u64,
         out: &mut Vec<Entry>,
     ) -> Result<(), ModelError>
-        ensures entries { Appends result out.old.items out.new.items (flat_brackets self.old.document from to) }
-        ensures small { (entries : List Entry) → flat_brackets self.old.document from to ≡ Ok entries
+        ensures entries { Appends result out.old.items out.new.items
+            (flat_brackets self.old.document from to) }
+        ensures small { (entries : List Entry)
+            → flat_brackets self.old.document from to ≡ Ok entries
             → OnOk result (All (λ e. IsSmall e.place) entries) }
         ensures document { self.new.document ≡ self.old.document }
+        ensures pieces { self.new.pieces ≡ self.old.pieces }
         ensures fresh { OnOk result (self.new.fresh ≡ true) }
         ensures kept { OnErr result (self.new.fresh ≡ self.old.fresh) }
     {
@@ -290,6 +309,7 @@ impl Model {
     pub fn match_at(&mut self, p: Position) -> Result<Option<(Position, u64)>, ModelError>
         ensures partner { Gives result (flat_match self.old.document p) }
         ensures document { self.new.document ≡ self.old.document }
+        ensures pieces { self.new.pieces ≡ self.old.pieces }
         ensures fresh { OnOk result (self.new.fresh ≡ true) }
         ensures kept { OnErr result (self.new.fresh ≡ self.old.fresh) }
         ensures sure { self.old.fresh ≡ true → ¬ (result ≡ Err ModelError.Memory) }
@@ -300,7 +320,7 @@ impl Model {
         renew(self.alloc, &mut self.tree, &self.table, &self.text).map_err(|_| ModelError::Memory)?;
         match &self.tree {
             Some(tree) => Ok(told(tree.partner_of(place_of(p)))),
-            None => Err(ModelError::Memory),
+            None => unreachable!(),
         }
     }
 
@@ -309,6 +329,7 @@ impl Model {
     pub fn level_at(&mut self, p: Position) -> Result<u64, ModelError>
         ensures level { Gives result (flat_level self.old.document p) }
         ensures document { self.new.document ≡ self.old.document }
+        ensures pieces { self.new.pieces ≡ self.old.pieces }
         ensures fresh { OnOk result (self.new.fresh ≡ true) }
         ensures kept { OnErr result (self.new.fresh ≡ self.old.fresh) }
         ensures sure { self.old.fresh ≡ true → ¬ (result ≡ Err ModelError.Memory) }
@@ -319,7 +340,7 @@ impl Model {
         renew(self.alloc, &mut self.tree, &self.table, &self.text).map_err(|_| ModelError::Memory)?;
         match &self.tree {
             Some(tree) => Ok(tree.level_at(place_of(p))),
-            None => Err(ModelError::Memory),
+            None => unreachable!(),
         }
     }
 

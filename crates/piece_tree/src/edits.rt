@@ -23,7 +23,8 @@ pub(crate) fn cut(tree: &mut RbTree<PieceWeave>, units: u64, chunks: &Chunks) ->
     requires small { unit_count (in_order tree.old.items) < 2 ^ 62 }
     requires room { 0 < tree.old.spare }
     requires pieces { All (IsPieceOf chunks.now.buffers) (in_order tree.old.items) }
-    ensures parted { Parted tree.new.items result (front chunks.now.buffers units (in_order tree.old.items))
+    ensures parted { Parted tree.new.items result
+        (front chunks.now.buffers units (in_order tree.old.items))
         (back chunks.now.buffers units (in_order tree.old.items)) }
     ensures room { tree.old.spare ≤ tree.new.spare + 1 }
 {
@@ -79,7 +80,8 @@ pub(crate) fn insert_span(
     requires place { PlaceAfter tree.old.items after.now }
     requires room { 0 < tree.old.spare }
     requires inside { ForSome span (LiesIn chunks.now.buffers) }
-    requires small { unit_count (in_order tree.old.items) + unit_count (piece_list chunks.now.buffers span) < 2 ^ 62 }
+    requires small { unit_count (in_order tree.old.items)
+        + unit_count (piece_list chunks.now.buffers span) < 2 ^ 62 }
     ensures items { (first second : List Piece) → Parted tree.old.items after.now first second
         → in_order tree.new.items ≡ first ++ piece_list chunks.now.buffers span ++ second }
     ensures room { tree.old.spare ≤ tree.new.spare + 1 }
@@ -121,7 +123,8 @@ fn divide(tree: &mut RbTree<PieceWeave>, id: PieceId, at: u64, chunks: &Chunks)
     requires small { unit_count (in_order tree.old.items) < 2 ^ 62 }
     requires room { 0 < tree.old.spare }
     requires pieces { All (IsPieceOf chunks.now.buffers) (in_order tree.old.items) }
-    ensures items { (us : List (ℕ × Piece)) (x : Piece) (vs : List (ℕ × Piece)) → SplitsAt tree.old.items id us x vs
+    ensures items { (us : List (ℕ × Piece)) (x : Piece) (vs : List (ℕ × Piece))
+        → SplitsAt tree.old.items id us x vs
         → (other : ℕ) × (tree.new.items ≡ us ++ (id, piece_of chunks.now.buffers (part_of x.span 0 at))
         ∷ (other, piece_of chunks.now.buffers (part_of x.span at x.span.units)) ∷ vs) }
     ensures room { tree.old.spare ≤ tree.new.spare + 1 }
@@ -135,10 +138,12 @@ fn divide(tree: &mut RbTree<PieceWeave>, id: PieceId, at: u64, chunks: &Chunks)
 /// Puts a span that is no longer in the place of a piece's.
 fn shorten(tree: &mut RbTree<PieceWeave>, id: PieceId, span: ChunkSpan, chunks: &Chunks)
     requires named { IsItem tree.old.items id }
-    requires shorter { (us : List (ℕ × Piece)) (x : Piece) (vs : List (ℕ × Piece)) → SplitsAt tree.old.items id us x vs → span.units ≤ x.span.units }
+    requires shorter { (us : List (ℕ × Piece)) (x : Piece) (vs : List (ℕ × Piece))
+        → SplitsAt tree.old.items id us x vs → span.units ≤ x.span.units }
     requires small { unit_count (in_order tree.old.items) < 2 ^ 62 }
     requires inside { LiesIn chunks.now.buffers span }
-    ensures items { (us : List (ℕ × Piece)) (x : Piece) (vs : List (ℕ × Piece)) → SplitsAt tree.old.items id us x vs
+    ensures items { (us : List (ℕ × Piece)) (x : Piece) (vs : List (ℕ × Piece))
+        → SplitsAt tree.old.items id us x vs
         → tree.new.items ≡ us ++ (id, piece_of chunks.now.buffers span) ∷ vs }
     ensures spare { tree.new.spare ≡ tree.old.spare }
 {
@@ -148,7 +153,8 @@ fn shorten(tree: &mut RbTree<PieceWeave>, id: PieceId, span: ChunkSpan, chunks: 
 /// The name of the piece right after another, or of the first.
 fn name_after(tree: &RbTree<PieceWeave>, after: &Option<PieceId>) -> Option<PieceId>
     requires { PlaceAfter tree.now.items after.now }
-    ensures { (us vs : List (ℕ × Piece)) → SplitsAfter tree.now.items after.now us vs → result ≡ first_or None vs }
+    ensures { (us vs : List (ℕ × Piece)) → SplitsAfter tree.now.items after.now us vs
+        → result ≡ first_or None vs }
 {
     match after {
         Some(id) => tree.next(*id),

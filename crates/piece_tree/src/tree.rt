@@ -112,6 +112,14 @@ impl PieceTree {
         found(at)
     }
 
+    /// The first piece; None where there is none.
+    pub fn first(&self) -> Option<(PieceId, ChunkSpan)>
+        ensures { result ≡ first_of self.now.entries }
+    {
+        let first = self.tree.first()?;
+        Some((first, self.tree.get(first).span))
+    }
+
     /// The piece after the one of this name.
     pub fn next(&self, id: PieceId) -> Option<(PieceId, ChunkSpan)>
         requires { IsAmong self.now.entries id }
@@ -142,7 +150,8 @@ impl PieceTree {
 
     /// Appends the spans of the pieces in their order. An error leaves `out` as it was.
     pub fn spans(&self, out: &mut Vec<ChunkSpan>) -> Result<(), AllocError>
-        ensures ok { OnOk result (out.new.items ≡ out.old.items ++ map (λ p. p.span) (pieces_of self.now.entries)) }
+        ensures ok { OnOk result (out.new.items
+            ≡ out.old.items ++ map (λ p. p.span) (pieces_of self.now.entries)) }
         ensures err { OnErr result (out.new.items ≡ out.old.items) }
     {
         let before = out.len();

@@ -341,47 +341,150 @@ module _ {X S B : Type 0} (w : Weaving X S B) (L : Lawful w) (is_near : B → Ty
             ),
           )
 
-  -- What the reads of a step tell: the slot of the node, its link to the brother, and the brother's slot.
-  module _ (beside : Tree (Data X S B)) (m : map.FinMap nat_cmp (Slot (Data X S B))) (root : Option ℕ) (es : List (ℕ × X)) (s away : Side) (p q n : ℕ) (sl sl2 : Slot (Data X S B))
-      (found : map.get m p ≡ Some sl) (is_away : away ≡ other s) (link : child away sl ≡ Some q) (found2 : map.get m q ≡ Some sl2) (short : Short w is_near beside m root es (Some (p, s)) n) where
+  -- what the reads of a step tell: the slot of the node beside the gap, its link to the brother, and the brother's slot
+  pub record Seen (beside : Tree (Data X S B)) (m : map.FinMap nat_cmp (Slot (Data X S B))) (root : Option ℕ) (es : List (ℕ × X)) (s away : Side) (p q n : ℕ) (brother : Slot (Data X S B)) : Type 0 where
+    pub is_away : away ≡ other s
+    pub parent : Slot (Data X S B)
+    pub found : map.get m p ≡ Some parent
+    pub link : child away parent ≡ Some q
+    pub found_brother : map.get m q ≡ Some brother
+    pub short : Short w is_near beside m root es (Some (p, s)) n
+
+  module _ (beside : Tree (Data X S B)) (m : map.FinMap nat_cmp (Slot (Data X S B))) (root : Option ℕ) (es : List (ℕ × X)) (s away : Side) (p q n : ℕ) (sl : Slot (Data X S B)) (is_away : away ≡ other s)
+      (found : map.get m p ≡ Some sl) (short : Short w is_near beside m root es (Some (p, s)) n) (o : Option ℕ) (is_child : o ≡ child away sl) where
+    pub lone : o ≡ None → ⊥
+    lone none = no_brother beside m root es p s n sl found (ap (λ side. child side sl) (sym is_away) ∙ sym is_child ∙ none) short
+
+    pub brother_live : o ≡ Some q → Live m q
+    brother_live is =
+        let (b, (out, mid, g)) = gap beside m root es p s q n sl found (ap (λ side. child side sl) (sym is_away) ∙ sym is_child ∙ is) short in
+        (_, brother_slot beside m root es s p q n b out mid g)
+
+    pub sees : o ≡ Some q → (sl2 : Slot (Data X S B)) → map.get m q ≡ Some sl2 → Seen beside m root es s away p q n sl2
+    sees is sl2 found2 = record { is_away = is_away; parent = sl; found = found; link = sym is_child ∙ is; found_brother = found2; short = short }
+
+  module _ {beside : Tree (Data X S B)} {m : map.FinMap nat_cmp (Slot (Data X S B))} {root : Option ℕ} {es : List (ℕ × X)} {s away : Side} {p q n : ℕ} {sl2 : Slot (Data X S B)}
+      (r : Seen beside m root es s away p q n sl2) where
     coloured : (b : Bool) → sl2.red ≡ b → (out : Tree (Data X S B)) × ((mid : Tree (Data X S B)) × Gap beside m root es p s q n b out mid)
     coloured b is =
-        let (b2, (out, mid, g)) = gap beside m root es p s q n sl found (ap (λ side. child side sl) (sym is_away) ∙ link) short in
+        let (b2, (out, mid, g)) = gap beside m root es p s q n r.parent r.found (ap (λ side. child side r.parent) (sym r.is_away) ∙ r.link) r.short in
         let same : b2 ≡ b = sym (red-sided (other s) (Some p) (root_of out) (root_of mid) b2 g.brother)
-        ∙ ap (λ o. (unwrap_or o sl2).red) (sym (brother_slot beside m root es s p q n b2 out mid g) ∙ found2) ∙ is in
+        ∙ ap (λ o. (unwrap_or o sl2).red) (sym (brother_slot beside m root es s p q n b2 out mid g) ∙ r.found_brother) ∙ is in
         (out, (mid, subst (λ c. Gap beside m root es p s q n c out mid) same g))
 
-    pub gap_red : sl2.red ≡ true → (out : Tree (Data X S B)) × ((mid : Tree (Data X S B)) × Gap beside m root es p s q n true out mid)
-    gap_red = coloured true
+    can_turn : (b : Bool) (out mid : Tree (Data X S B)) → Gap beside m root es p s q n b out mid → Valued w is_item is_value es → CanTurnAt w is_near is_item is_value m root p away
+    can_turn b out mid g v = subst (CanTurnAt w is_near is_item is_value m root p) (sym r.is_away) (can_turn_parent beside m root es s p q n b out mid g v)
 
-    pub gap_black : sl2.red ≡ false → (out : Tree (Data X S B)) × ((mid : Tree (Data X S B)) × Gap beside m root es p s q n false out mid)
-    gap_black = coloured false
+    module _ (red : sl2.red ≡ true) where
+      pub can_turn_red : Valued w is_item is_value es → CanTurnAt w is_near is_item is_value m root p away
+      can_turn_red v = let (out, (mid, g)) = coloured true red in can_turn true out mid g v
+
+      pub comes_nearer : (m2 : map.FinMap nat_cmp (Slot (Data X S B))) (root2 : Option ℕ) → AtSpot m root p (λ sp. TurnedAt w is_near m2 root2 p away sp) → Short w is_near beside m2 root2 es (Some (p, s)) (n - 1)
+      comes_nearer m2 root2 done =
+          let (out, (mid, g)) = coloured true red in
+          nearer beside m root es s p q n out mid g m2 root2 (subst (λ l. AtSpot m root p (λ sp. TurnedAt w is_near m2 root2 p l sp)) r.is_away done)
 
     module _ (black : sl2.red ≡ false) where
-      pub gap_outer : (i : ℕ) → red_child_in m q away ≡ Some i
-          → (d : Data X S B) × ((x : Tree (Data X S B)) × (y : Tree (Data X S B)) × (mid : Tree (Data X S B)) × Gap beside m root es p s q n false (fork true i d x y) mid)
-      gap_outer i e =
-          let (out, (mid, g)) = gap_black black in
-          let (d, (x, y, is)) = red_fork out i (sym (outer_is beside m root es s p q n false out mid g) ∙ ap (red_child_in m q) (sym is_away) ∙ e) in
-          (d, (x, y, mid, subst (λ t. Gap beside m root es p s q n false t mid) is g))
+      pub child_away : HasChild m q away
+      child_away = let (out, (mid, g)) = coloured false black in subst (HasChild m q) (sym r.is_away) (has_children beside m root es s p q n false out mid g).0
+
+      pub child_near : HasChild m q s
+      child_near = let (out, (mid, g)) = coloured false black in (has_children beside m root es s p q n false out mid g).1
+
+      -- a red outer child
+      module _ (i : ℕ) (is_red : red_child_in m q away ≡ Some i) where
+        outer : (d : Data X S B) × ((x : Tree (Data X S B)) × (y : Tree (Data X S B)) × (mid : Tree (Data X S B)) × Gap beside m root es p s q n false (fork true i d x y) mid)
+        outer =
+            let (out, (mid, g)) = coloured false black in
+            let (d, (x, y, is)) = red_fork out i (sym (outer_is beside m root es s p q n false out mid g) ∙ ap (red_child_in m q) (sym r.is_away) ∙ is_red) in
+            (d, (x, y, mid, subst (λ t. Gap beside m root es p s q n false t mid) is g))
+
+        pub can_turn_outer : Valued w is_item is_value es → CanTurnAt w is_near is_item is_value m root p away
+        can_turn_outer v = let (d, (x, y, mid, g)) = outer in can_turn false (fork true i d x y) mid g v
+
+        module _ (m2 : map.FinMap nat_cmp (Slot (Data X S B))) (root2 : Option ℕ) (done : AtSpot m root p (λ sp. TurnedAt w is_near m2 root2 p away sp)) where
+          turned_away : AtSpot m root p (λ sp. TurnedAt w is_near m2 root2 p (other s) sp)
+          turned_away = subst (λ l. AtSpot m root p (λ sp. TurnedAt w is_near m2 root2 p l sp)) r.is_away done
+
+          pub outer_stands : Stands m2 root2 i
+          outer_stands = let (d, (x, y, mid, g)) = outer in stands_outer beside m root es s p q n i d x y mid g m2 root2 turned_away
+
+          pub outer_mended : (m3 : map.FinMap nat_cmp (Slot (Data X S B))) (root3 : Option ℕ) → Painted m2 root2 m3 root3 i false → Mended w is_near beside m3 root3 es
+          outer_mended m3 root3 paint = let (d, (x, y, mid, g)) = outer in outer_closed beside m root es s p q n i d x y mid g m2 root2 turned_away m3 root3 paint
 
       module _ (none : red_child_in m q away ≡ None) where
         outer_even : (out mid : Tree (Data X S B)) (g : Gap beside m root es p s q n false out mid) → Rb false g.black out
         outer_even out mid g =
-            let ((c, r), _) = nephews s g.red p q g.black g.datum g.brother out mid g.hole g.fits in
-            not_red c g.black out (sym (outer_is beside m root es s p q n false out mid g) ∙ ap (red_child_in m q) (sym is_away) ∙ none) r
+            let ((c, h), _) = nephews s g.red p q g.black g.datum g.brother out mid g.hole g.fits in
+            not_red c g.black out (sym (outer_is beside m root es s p q n false out mid g) ∙ ap (red_child_in m q) (sym r.is_away) ∙ none) h
 
-        pub gap_inner : (i : ℕ) → red_child_in m q s ≡ Some i
-            → (out : Tree (Data X S B)) × ((d : Data X S B) × (x : Tree (Data X S B)) × (y : Tree (Data X S B)) × (g : Gap beside m root es p s q n false out (forked s true i d x y)) × Rb false g.black out)
-        gap_inner i e =
-            let (out, (mid, g)) = gap_black black in
-            let (d, (x, y, is)) = red_fork mid i (sym (inner_is beside m root es s p q n false out mid g) ∙ e) in
-            let (a, (c, again)) = reforked s true i d x y in
-            let g2 = subst (λ t. Gap beside m root es p s q n false out t) (is ∙ again) g in
-            (out, (d, a, c, g2, outer_even out (forked s true i d a c) g2))
+        -- a red inner child
+        module _ (i : ℕ) (is_red : red_child_in m q s ≡ Some i) where
+          inner : (out : Tree (Data X S B)) × ((d : Data X S B) × (x : Tree (Data X S B)) × (y : Tree (Data X S B)) × (g : Gap beside m root es p s q n false out (forked s true i d x y)) × Rb false g.black out)
+          inner =
+              let (out, (mid, g)) = coloured false black in
+              let (d, (x, y, is)) = red_fork mid i (sym (inner_is beside m root es s p q n false out mid g) ∙ is_red) in
+              let (a, (c, again)) = reforked s true i d x y in
+              let g2 = subst (λ t. Gap beside m root es p s q n false out t) (is ∙ again) g in
+              (out, (d, a, c, g2, outer_even out (forked s true i d a c) g2))
 
-        pub gap_plain : red_child_in m q s ≡ None → (out : Tree (Data X S B)) × ((mid : Tree (Data X S B)) × (g : Gap beside m root es p s q n false out mid) × Rb false g.black out × Rb false g.black mid)
-        gap_plain none2 =
-            let (out, (mid, g)) = gap_black black in
-            let (_, (c, r)) = nephews s g.red p q g.black g.datum g.brother out mid g.hole g.fits in
-            (out, (mid, g, outer_even out mid g, not_red c g.black mid (sym (inner_is beside m root es s p q n false out mid g) ∙ none2) r))
+          pub can_turn_inner : Valued w is_item is_value es → CanTurnAt w is_near is_item is_value m root q s
+          can_turn_inner v = let (out, (d, x, y, g, even)) = inner in can_turn_brother beside m root es s p q n false out (forked s true i d x y) g i d x y refl refl v
+
+          module _ (m2 : map.FinMap nat_cmp (Slot (Data X S B))) (root2 : Option ℕ) (done : AtSpot m root q (λ sp. TurnedAt w is_near m2 root2 q s sp)) where
+            raised_inner : (d : Data X S B) × ((x : Tree (Data X S B)) × (y : Tree (Data X S B)) × (z : Tree (Data X S B)) × Gap beside m2 root2 es p s i n false (fork true q d x y) z)
+            raised_inner =
+                let (out, (d, x, y, g, even)) = inner in
+                let (d2, (x2, y2, g2)) = inner_gap beside m root es s p q n i d x y out g even m2 root2 done in
+                (d2, (x2, y2, x, g2))
+
+            pub can_turn_again : Valued w is_item is_value es → CanTurnAt w is_near is_item is_value m2 root2 p away
+            can_turn_again v =
+                let (d, (x, y, z, g)) = raised_inner in
+                subst (CanTurnAt w is_near is_item is_value m2 root2 p) (sym r.is_away) (can_turn_parent beside m2 root2 es s p i n false (fork true q d x y) z g v)
+
+            module _ (m3 : map.FinMap nat_cmp (Slot (Data X S B))) (root3 : Option ℕ) (done2 : AtSpot m2 root2 p (λ sp. TurnedAt w is_near m3 root3 p away sp)) where
+              turned_again : AtSpot m2 root2 p (λ sp. TurnedAt w is_near m3 root3 p (other s) sp)
+              turned_again = subst (λ l. AtSpot m2 root2 p (λ sp. TurnedAt w is_near m3 root3 p l sp)) r.is_away done2
+
+              pub inner_stands : Stands m3 root3 q
+              inner_stands = let (d, (x, y, z, g)) = raised_inner in stands_outer beside m2 root2 es s p i n q d x y z g m3 root3 turned_again
+
+              pub inner_mended : (m4 : map.FinMap nat_cmp (Slot (Data X S B))) (root4 : Option ℕ) → Painted m3 root3 m4 root4 q false → Mended w is_near beside m4 root4 es
+              inner_mended m4 root4 paint = let (d, (x, y, z, g)) = raised_inner in outer_closed beside m2 root2 es s p i n q d x y z g m3 root3 turned_again m4 root4 paint
+
+        -- no red child
+        module _ (none2 : red_child_in m q s ≡ None) where
+          plain : (out : Tree (Data X S B)) × ((mid : Tree (Data X S B)) × (g : Gap beside m root es p s q n false out mid) × Rb false g.black out × Rb false g.black mid)
+          plain =
+              let (out, (mid, g)) = coloured false black in
+              let (_, (c, h)) = nephews s g.red p q g.black g.datum g.brother out mid g.hole g.fits in
+              (out, (mid, g, outer_even out mid g, not_red c g.black mid (sym (inner_is beside m root es s p q n false out mid g) ∙ none2) h))
+
+          pub plain_stands : Stands m root q
+          plain_stands = let (out, (mid, g, ro, rm)) = plain in stands_brother beside m root es s p q n false out mid g
+
+          module _ (m2 : map.FinMap nat_cmp (Slot (Data X S B))) (root2 : Option ℕ) (paint : Painted m root m2 root2 q true) where
+            pub plain_live : Live m2 p
+            plain_live = let (out, (mid, g, ro, rm)) = plain in (_, parent_slot beside m root es s p q n out mid g m2 root2 paint)
+
+            pub plain_parent : Stands m2 root2 p
+            plain_parent = let (out, (mid, g, ro, rm)) = plain in stands_parent beside m root es s p q n out mid g m2 root2 paint
+
+            module _ (sl3 : Slot (Data X S B)) (found3 : map.get m2 p ≡ Some sl3) where
+              parent_red : (out mid : Tree (Data X S B)) (g : Gap beside m root es p s q n false out mid) → g.red ≡ sl3.red
+              parent_red out mid g =
+                  sym (red-sided s (above g.hole) (root_of g.under) (root_of (forked (other s) true q g.brother out mid)) g.red g.datum)
+                  ∙ ap (λ o. (unwrap_or o sl3).red) (sym (parent_slot beside m root es s p q n out mid g m2 root2 paint) ∙ found3)
+
+              pub plain_mended : sl3.red ≡ true → (m3 : map.FinMap nat_cmp (Slot (Data X S B))) (root3 : Option ℕ) → Painted m2 root2 m3 root3 p false → Mended w is_near beside m3 root3 es
+              plain_mended red m3 root3 paint2 =
+                  let (out, (mid, g, ro, rm)) = plain in
+                  parent_closed beside m root es s p q n out mid g m2 root2 paint (parent_red out mid g ∙ red) ro rm m3 root3 paint2
+
+              pub plain_higher : sl3.red ≡ false → (at : Option (ℕ × Side)) → AtSpot m2 root2 p (λ sp. at ≡ place_of sp.hole) → Closing w is_near beside m2 root2 es at (n - 1)
+              plain_higher dark at place =
+                  let (out, (mid, g, ro, rm)) = plain in
+                  at_top beside m2 root2 es at (n - 1)
+                  (subst (λ o. Short w is_near beside m2 root2 es o (n - 1)) (sym (place_above beside m root es s p q n out mid g m2 root2 paint at place))
+                  (higher beside m root es s p q n out mid g m2 root2 paint (parent_red out mid g ∙ dark) ro rm))

@@ -56,18 +56,43 @@ module _ {X S B : Type 0} (w : Weaving X S B) (L : Lawful w) (is_near : B → Ty
     back : w.shift (shift_at w k) (w.shift (w.minus w.still (shift_at w k)) x) ≡ x
     back = sym (L.shift_plus _ _ x) ∙ ap (λ b. w.shift b x) (L.plus_minus w.still (shift_at w k)) ∙ L.shift_still x
 
-    pub held_minus : HeldBy w is_near (w.minus w.still (shift_at w k))
+    held_minus : HeldBy w is_near (w.minus w.still (shift_at w k))
     held_minus = (shift_at w k, near, subst is_near (sym (L.plus_minus w.still (shift_at w k))) (near_of w L is_near w.still (plug k tip) wv))
 
-    pub held_own : HeldItem w is_near is_item (w.shift (w.minus w.still (shift_at w k)) x)
+    held_own : HeldItem w is_near is_item (w.shift (w.minus w.still (shift_at w k)) x)
     held_own = (shift_at w k, near, subst is_item (sym back) (items_right w L is_near is_item is_sum is_value sums parts (lefts w k) ((0, x) ∷ rights w k) v.0).0)
 
-    pub can_sum_leaf : CanSumUp w is_near is_item is_sum is_value (w.shift (w.minus w.still (shift_at w k)) x) w.still w.none w.none
+    can_sum_leaf : CanSumUp w is_near is_item is_sum is_value (w.shift (w.minus w.still (shift_at w k)) x) w.still w.none w.none
     can_sum_leaf =
         let one = valued_left w L is_near is_item is_sum is_value sums parts ((0, x) ∷ []) (rights w k)
         (valued_right w L is_near is_item is_sum is_value sums parts (lefts w k) ((0, x) ∷ rights w k) v) in
         can_sum_up w L is_near is_item is_sum is_value sums parts (shift_at w k) 0 (w.shift (w.minus w.still (shift_at w k)) x) w.still tip tip near still_near
         (subst (λ z. Valued w is_item is_value ((0, z) ∷ [])) (sym back) one)
+
+    -- the leaf, as it is computed
+    module _ (still by : B) (is_still : still ≡ w.still) (is_by : by ≡ shift_at w k) where
+      pub can_go_back : HeldBy w is_near (w.minus still by)
+      can_go_back = subst (HeldBy w is_near) (sym (λ i. w.minus (is_still i) (is_by i))) held_minus
+
+      module _ (back_by : B) (is_back : back_by ≡ w.minus still by) where
+        back_is : back_by ≡ w.minus w.still (shift_at w k)
+        back_is = is_back ∙ (λ i. w.minus (is_still i) (is_by i))
+
+        pub can_store : HeldItem w is_near is_item (w.shift back_by x)
+        can_store = subst (λ b. HeldItem w is_near is_item (w.shift b x)) (sym back_is) held_own
+
+        module _ (item : X) (still2 : B) (none none2 : S) (is_moved : item ≡ w.shift back_by x) (is_still2 : still2 ≡ w.still) (is_none : none ≡ w.none) (is_none2 : none2 ≡ w.none) where
+          item_is : item ≡ w.shift (w.minus w.still (shift_at w k)) x
+          item_is = is_moved ∙ ap (λ b. w.shift b x) back_is
+
+          pub can_sum_moved : CanSumUp w is_near is_item is_sum is_value item still2 none none2
+          can_sum_moved = subst {A = X × B × S × S} (λ p. CanSumUp w is_near is_item is_sum is_value p.0 p.1 p.2 p.3) (sym (λ i. (item_is i, is_still2 i, is_none i, is_none2 i))) can_sum_leaf
+
+          pub leaf_slot : (sl : Slot (Data X S B)) (parent : Option ℕ) (datum : Data X S B) → sl ≡ sided Left parent None None true datum → parent ≡ above k → datum ≡ summed w item still2 none none2
+              → sl ≡ sided Left (above k) None None true (leaf_of w k x)
+          leaf_slot sl parent datum is is_parent is_datum =
+              let leaf : datum ≡ leaf_of w k x = is_datum ∙ (λ i. summed w (item_is i) (is_still2 i) (is_none i) (is_none2 i)) in
+              is ∙ (λ i. sided Left (is_parent i) None None true (leaf i))
 
     module _ (id : ℕ) where
       abbrev leaf : Tree (Data X S B)

@@ -12,7 +12,7 @@ use Rattle.rb_rules.specs.declared.slot.Side.TheVariants.{Left, Right}
 use Rattle.rb_rules.specs.declared.slot.Slot.{Slot}
 use Rattle.rb_rules.specs.Tree.{Tree, tip, fork, Hole, top, on, other, forked, plug, root_of, above, depth, height}
 use Rattle.rb_rules.specs.Colours.{Rb, Fits, Balanced}
-use Rattle.rb_rules.specs.Memory.{sided, Made, Spot, here, below, turned, AtSpot, place_of, adopted, hung, root_hung}
+use Rattle.rb_rules.specs.Memory.{sided, Made, Spot, here, below, child, turned, AtSpot, place_of, adopted, hung, root_hung}
 use Rattle.rb_rules.specs.Shape.{each}
 use Rattle.rb_rules.specs.Weaving.{Weaving, Lawful, Sums}
 use Rattle.rb_rules.specs.Woven.{entries, sum_of, Woven, AllItems, Valued, lefts, rights, shift_at}
@@ -99,9 +99,9 @@ none_of None e = refl
 none_of (Some i) e = absurd (false≢true (sym e))
 
 -- a node with one child at most that has a left one has no right one
-pub right_none : {D : Type 0} (m : map.FinMap nat_cmp (Slot D)) (root : Option ℕ) (s : Spot D) (id : ℕ) → Made s.beside m root (plug s.hole (here s id)) → OneChild m id → (j : ℕ) → root_of s.left ≡ Some j → root_of s.right ≡ None
-right_none m root s id made (n, found, inl e) j is = absurd (none-some j (sym (sym (ap (λ o. o.left) (upper_is m root s id made Left n found)) ∙ e) ∙ is))
-right_none m root s id made (n, found, inr e) j is = sym (ap (λ o. o.right) (upper_is m root s id made Left n found)) ∙ e
+pub only_left : {D : Type 0} (m : map.FinMap nat_cmp (Slot D)) (id : ℕ) (sl : Slot D) → map.get m id ≡ Some sl → OneChild m id → is_some sl.left ≡ true → sl.right ≡ None
+only_left m id sl found (n, f, inl e) some = absurd (false≢true (sym (ap is_some (ap (λ o. (unwrap_or o sl).left) (sym found ∙ f) ∙ e)) ∙ some))
+only_left m id sl found (n, f, inr e) some = ap (λ o. (unwrap_or o sl).right) (sym found ∙ f) ∙ e
 
 module _ {X S B : Type 0} (w : Weaving X S B) (L : Lawful w) (is_near : B → Type 0) (is_item : X → Type 0) (is_sum is_value : S → Type 0)
     (sums : Sums w is_item is_sum) (parts : (a b : S) → is_value (w.join a b) → is_value a × is_value b)
@@ -266,3 +266,26 @@ module _ {X S B : Type 0} (w : Weaving X S B) (L : Lawful w) (is_near : B → Ty
 
         pub down_mended : Mended w is_near beside m2 root2 (us ++ (id, x) ∷ vs)
         down_mended = let (low, (high, made2, list2, bal2)) = lower_leaf in (plug s.hole (forked side false j high tip (fork true id low tip tip)), made2, list2, bal2)
+
+    -- the same by what is read of the node
+    module _ (stores : Stores w is_near is_item is_value beside m root (us ++ (id, x) ∷ vs)) (sl : Slot (Data X S B)) (found : map.get m id ≡ Some sl) where
+      abbrev node : Spot (Data X S B)
+      node = (spotted stores).0
+
+      child_is : (side : Side) → child side sl ≡ root_of (below side node)
+      child_is Left = ap (λ o. o.left) (upper_is m root (lying beside node) id (spotted stores).1.0 Left sl found)
+      child_is Right = ap (λ o. o.right) (upper_is m root (lying beside node) id (spotted stores).1.0 Left sl found)
+
+      module _ (side : Side) (some : is_some (child side sl) ≡ true) where
+        there : (j : ℕ) × (root_of (below side node) ≡ Some j)
+        there = let (j, is) = some_of (child side sl) some in (j, sym (child_is side) ∙ is)
+
+        pub can_turn_there : CanTurnAt w is_near is_item is_value m root id side
+        can_turn_there = can_turn_down node (spotted stores).1 side there.0 there.1 stores.1
+
+        module _ (none : child (other side) sl ≡ None) (m2 : map.FinMap nat_cmp (Slot (Data X S B))) (root2 : Option ℕ) (done : AtSpot m root id (λ sp. TurnedAt w is_near m2 root2 id side sp)) where
+          pub leaf_there : NoChild m2 id
+          leaf_there = down_leaf node (spotted stores).1 side there.0 there.1 (sym (child_is (other side)) ∙ none) m2 root2 (done (lying beside node) (spotted stores).1.0)
+
+          pub mended_there : Mended w is_near beside m2 root2 (us ++ (id, x) ∷ vs)
+          mended_there = down_mended node (spotted stores).1 side there.0 there.1 (sym (child_is (other side)) ∙ none) m2 root2 (done (lying beside node) (spotted stores).1.0)

@@ -6,7 +6,7 @@ use Rattle.std.proofs.lemmas.List.Concat.{flat_map-append}
 use Rattle.std.proofs.lemmas.List.Sums.{sum_by-append, count_by-le-length}
 use Rattle.document_rules.specs.Document.{FlatState}
 use Rattle.script_streams.specs.Streams.{SinkState, TakenWhole, Rose, greatest_count}
-use Rattle.script_streams.proofs.StreamLaws.{Took-append, Took-nothing}
+use Rattle.script_streams.proofs.StreamLaws.{Wrote-append, Wrote-nothing}
 use Rattle.script_runner.specs.declared.serving.Progress.{Progress}
 use Rattle.script_runner.specs.Script.{cut, is_refused, whole_lines, all_lines, written, IsInOneLine, Turn, Transcript}
 use Rattle.script_runner.specs.Progress.{IsLineSoFar, refusals, memory_refusals, Led, Went, Broke, LineAnswered, LineBroken, PieceAnswered, PieceBroken}
@@ -136,7 +136,7 @@ answered_to_start piece doc progress out = record {
   added = [];
   whole = refl;
   went = Went-nothing doc progress;
-  sink = record { bytes = Took-nothing out.taken; faults = refl };
+  sink = record { wrote = Wrote-nothing out; faults = refl };
 }
 
 module _ (piece rest : List ℕ) (doc : FlatState) (progress : Progress) (mid : FlatState) (progress' progress'' : Progress) (out out' : SinkState)
@@ -155,7 +155,7 @@ module _ (piece rest : List ℕ) (doc : FlatState) (progress : Progress) (mid : 
         ∙ sym (append_assoc (before.consumed ++ line) (10 ∷ []) after);
     went = Went-append _ _ _ _ _ _ _ _ _ _ with_line (Went-break _ _ _ _ _ _ answered);
     sink = record {
-      bytes = rw (append-nil before.added) (Took-append _ _ _ _ _ before.sink.bytes answered.sink.bytes);
+      wrote = rw (append-nil before.added) (Wrote-append _ _ _ _ _ before.sink.wrote answered.sink.wrote);
       faults = answered.sink.faults ∙ before.sink.faults;
     };
   }
@@ -166,7 +166,7 @@ module _ (piece rest : List ℕ) (doc : FlatState) (progress : Progress) (mid : 
     added = (before.added ++ []) ++ broken.sink.front;
     broke = rw (before.whole, parts, ← append_assoc before.consumed line (10 ∷ after))
         (Broke-append _ _ _ _ _ progress'' _ _ _ _ with_line (Broke-break _ _ _ progress'' _ _ after broken));
-    bytes = rw (append-nil before.added) (Took-append _ _ _ _ _ before.sink.bytes broken.sink.bytes);
+    wrote = rw (append-nil before.added) (Wrote-append _ _ _ _ _ before.sink.wrote broken.sink.wrote);
     faults = subst (λ n. Rose n out''.faults) before.sink.faults broken.sink.faults;
   }
 

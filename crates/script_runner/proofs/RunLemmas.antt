@@ -5,14 +5,14 @@ use Rattle.std.proofs.lemmas.Bool.{lt-ltb}
 use Rattle.std.proofs.lemmas.List.{append-nil}
 use Rattle.std.proofs.lemmas.List.Sums.{sum_by-cons}
 use Rattle.document_rules.specs.Document.{FlatState, empty_document}
-use Rattle.script_streams.specs.Streams.{SourceState, SinkState, Gave, NothingLeft, Took}
+use Rattle.script_streams.specs.Streams.{SourceState, SinkState, Gave, NothingLeft, Took, Wrote}
 use Rattle.script_runner.specs.declared.running.Status.TheVariants as status
 use Rattle.script_runner.specs.declared.serving.Served.{Served}
 use Rattle.script_runner.specs.declared.serving.Served.TheVariants.{Ended, ReadFault, WriteFault, TooLong}
 use Rattle.script_runner.specs.Script.{all_lines, written, is_refused, Transcript}
 use Rattle.script_runner.specs.Progress.{refusals}
 use Rattle.script_runner.specs.Serving.{Serves, ServedAll}
-use Rattle.script_runner.specs.Runs.{most_script_bytes, status_after, EndsWith, Runs, IsAnswered}
+use Rattle.script_runner.specs.Runs.{most_script_bytes, status_after, EndsWith, Runs, IsAnswered, IsTold}
 
 module _ (src src' : SourceState) (out out' : SinkState) where
   runs_after_end : (refused memory : ℕ) (end : FlatState) → ServedAll most_script_bytes empty_document end src src' out out' refused memory
@@ -45,30 +45,56 @@ whole_script : (left : Option (List ℕ)) (script read : List ℕ) → Gave (Som
 whole_script None script read gave none = absurd gave
 whole_script (Some rest) script read gave none = sym (gave ∙ ap (λ x. read ++ x) none ∙ append-nil read)
 
-module _ (src src' : SourceState) (out out' : SinkState) (script before after : List ℕ) (told : src.left ≡ Some script) (took : out.taken ≡ Some before)
-    (takes : out'.taken ≡ Some after) where
-  answered_is : (number refused memory : ℕ) (end : FlatState) → ServedAll most_script_bytes empty_document end src src' out out' refused memory
-      → ((replies : List (List ℕ)) → refused ≡ refusals replies → number ≡ cond (list_any is_refused replies) 1 0) → IsAnswered script before after number
-  answered_is number refused memory end served status =
-      let whole = whole_script src'.left script served.script (subst (λ left. Gave left src'.left served.script) told served.gave) served.nothing_left in
+-- the replies to all lines of the script were written
+pub record IsWritten (script : List ℕ) (out out' : SinkState) (number : ℕ) : Type 0 where
+  pub replies : List (List ℕ)
+  pub end : FlatState
+  pub transcript : Transcript empty_document (all_lines script) replies end
+  pub status : number ≡ cond (list_any is_refused replies) 1 0
+  pub wrote : Wrote out out' (written replies)
+
+module _ (src src' : SourceState) (out out' : SinkState) (script : List ℕ) (left : src.left ≡ Some script) where
+  written_is : (number refused memory : ℕ) (end : FlatState) → ServedAll most_script_bytes empty_document end src src' out out' refused memory
+      → ((replies : List (List ℕ)) → refused ≡ refusals replies → number ≡ cond (list_any is_refused replies) 1 0) → IsWritten script out out' number
+  written_is number refused memory end served status =
+      let whole = whole_script src'.left script served.script (subst (λ left. Gave left src'.left served.script) left served.gave) served.nothing_left in
       record {
         replies = served.replies;
         end = end;
         transcript = subst (λ x. Transcript empty_document (all_lines x) served.replies end) whole served.transcript;
-        grown = subst (λ t. Took (Some before) t (written served.replies)) takes (subst (λ t. Took t out'.taken (written served.replies)) took served.took);
         status = status served.replies served.refused_is;
+        wrote = served.wrote;
       }
 
   -- a run that ends with 0 or 1 answered the whole script
-  pub answered_from_run : (number : ℕ) → number ≤ 1 → EndsWith number (λ s. Runs s src src' out out') → IsAnswered script before after number
-  answered_from_run number few (status.Answered, is, answers) =
-      answered_is number 0 answers.memory answers.end answers.served
+  pub written_from_run : (number : ℕ) → number ≤ 1 → EndsWith number (λ s. Runs s src src' out out') → IsWritten script out out' number
+  written_from_run number few (status.Answered, is, answers) =
+      written_is number 0 answers.memory answers.end answers.served
       (λ replies none. is ∙ sym (rw ((any_refused replies).0 (sym none)) refl))
-  answered_from_run number few (status.Refused, is, (more, answers)) =
-      answered_is number (suc more) answers.memory answers.end answers.served
+  written_from_run number few (status.Refused, is, (more, answers)) =
+      written_is number (suc more) answers.memory answers.end answers.served
       (λ replies some. is ∙ sym (rw ((any_refused replies).1 (omega arith)) refl))
-  answered_from_run number few (status.Usage, is, never) = absurd never
-  answered_from_run number few (status.Memory, is, same) = absurd (omega arith)
-  answered_from_run number few (status.ReadFault, is, fault) = absurd (omega arith)
-  answered_from_run number few (status.WriteFault, is, fault) = absurd (omega arith)
-  answered_from_run number few (status.TooLong, is, long) = absurd (omega arith)
+  written_from_run number few (status.Usage, is, never) = absurd never
+  written_from_run number few (status.Memory, is, same) = absurd (omega arith)
+  written_from_run number few (status.ReadFault, is, fault) = absurd (omega arith)
+  written_from_run number few (status.WriteFault, is, fault) = absurd (omega arith)
+  written_from_run number few (status.TooLong, is, long) = absurd (omega arith)
+
+module _ (out out' : SinkState) (script before : List ℕ) (number : ℕ) (w : IsWritten script out out' number) (taken : out.taken ≡ Some before) where
+  pub answered_from_written : (after : List ℕ) → out'.taken ≡ Some after → IsAnswered script before after number
+  answered_from_written after takes = record {
+    replies = w.replies;
+    end = w.end;
+    transcript = w.transcript;
+    grown = subst (λ t. Took (Some before) t (written w.replies)) takes (subst (λ t. Took t out'.taken (written w.replies)) taken w.wrote.took);
+    status = w.status;
+  }
+
+  pub told_from_written : IsTold script before out out' number
+  told_from_written = record {
+    replies = w.replies;
+    end = w.end;
+    transcript = w.transcript;
+    status = w.status;
+    told = w.wrote.told before taken;
+  }

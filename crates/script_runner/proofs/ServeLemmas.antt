@@ -7,8 +7,8 @@ use Rattle.std.proofs.lemmas.List.Concat.{flat_map-append}
 use Rattle.std.proofs.lemmas.List.Sums.{sum_by-append}
 use Rattle.document_rules.specs.Document.{FlatState}
 use Rattle.script_streams.specs.declared.Failed.{Failed}
-use Rattle.script_streams.specs.Streams.{SourceState, SinkState, Took, Gave, Given, NotGiven, Rose, greatest_count}
-use Rattle.script_streams.proofs.StreamLaws.{Took-append, Took-nothing, Gave-append, Gave-nothing}
+use Rattle.script_streams.specs.Streams.{SourceState, SinkState, Wrote, Gave, Given, NotGiven, Rose, greatest_count}
+use Rattle.script_streams.proofs.StreamLaws.{Wrote-append, Wrote-nothing, Gave-append, Gave-nothing}
 use Rattle.script_runner.specs.declared.serving.Progress.{Progress}
 use Rattle.script_runner.specs.Script.{cut, most_line_bytes, whole_lines, last_line, written}
 use Rattle.script_runner.specs.Progress.{IsLineSoFar, refusals, memory_refusals, Led, LineAnswered, LineBroken, PieceAnswered, PieceBroken, AnswersPiece}
@@ -40,7 +40,7 @@ finish_empty doc progress out empty = record {
     refused_is = led.refused;
     memory_is = led.memory;
   };
-  took = Took-nothing out.taken;
+  wrote = Wrote-nothing out;
   faults = refl;
 }
 
@@ -58,7 +58,7 @@ module _ (doc : FlatState) (progress : Progress) (doc' : FlatState) (progress' :
       memory_is = answered.memory ∙ counted_more progress.memory _ (memory_refusals led.replies) led.memory
           ∙ ap (λ n. min n greatest_count) (sym (sum_by-append _ led.replies (answered.reply ∷ [])));
     };
-    took = answered.sink.bytes;
+    wrote = answered.sink.wrote;
     faults = answered.sink.faults;
   }
 
@@ -79,7 +79,7 @@ module _ (doc : FlatState) (progress : Progress) (doc' : FlatState) (progress' :
       starts = broken.sink.starts;
       out_is = ap (λ x. x ++ broken.sink.front) led.out_is;
     };
-    took = broken.sink.bytes;
+    wrote = broken.sink.wrote;
     faults = broken.sink.faults;
   }
 
@@ -93,7 +93,7 @@ pub record IsServedTo (most left : ℕ) (start now : FlatState) (progress : Prog
   pub script : List ℕ
   pub added : List ℕ
   pub gave : Gave src.left src'.left script
-  pub took : Took out.taken out'.taken added
+  pub wrote : Wrote out out' added
   pub led : Led start script added now progress
   pub read : length script + left ≡ most
   pub given : RoseBy src.given (length script) src'.given
@@ -108,7 +108,7 @@ served_to_start most start progress src out line refused memory = record {
   script = [];
   added = [];
   gave = Gave-nothing src.left;
-  took = Took-nothing out.taken;
+  wrote = Wrote-nothing out;
   led = Led-start start progress line refused memory;
   read = omega arith;
   given = inl (omega arith);
@@ -136,7 +136,7 @@ module _ (most left : ℕ) (start now : FlatState) (progress : Progress) (src sr
     not_ended = failed.ended;
     replies = before.led.replies;
     transcript = before.led.transcript;
-    took = rw (← before.led.out_is) before.took;
+    wrote = rw (← before.led.out_is) before.wrote;
     source_faults = subst (λ n. Rose n src''.faults) before.source_faults failed.faults;
     sink_faults = before.sink_faults;
   }
@@ -160,7 +160,7 @@ module _ (most left : ℕ) (start now : FlatState) (progress : Progress) (src sr
       script = before.script ++ take n buf;
       added = before.added ++ answered.added;
       gave = gave_more;
-      took = Took-append _ _ _ _ _ before.took answered.sink.bytes;
+      wrote = Wrote-append _ _ _ _ _ before.wrote answered.sink.wrote;
       led = answered.went start before.script before.added before.led;
       read = omega (arith, before.read, length_given, length-append before.script (take n buf));
       given = given_more;
@@ -179,7 +179,7 @@ module _ (most left : ℕ) (start now : FlatState) (progress : Progress) (src sr
       given = given_more;
       added = before.added ++ broken.added;
       broken = rw (given.ended ∙ and_left _ _ (ne_eqb n 0 (λ none. omega arith))) (broken.broke start before.script before.added before.led);
-      took = Took-append _ _ _ _ _ before.took broken.bytes;
+      wrote = Wrote-append _ _ _ _ _ before.wrote broken.wrote;
       source_faults = given.faults ∙ before.source_faults;
       sink_faults = subst (λ k. Rose k out''.faults) before.sink_faults broken.faults;
     }
@@ -211,7 +211,7 @@ module _ (most left : ℕ) (start now : FlatState) (progress : Progress) (src sr
             ended = end_seen;
             replies = answered.replies;
             transcript = answered.transcript;
-            took = rw (← answered.out_is) (Took-append _ _ _ _ _ before.took finished.took);
+            wrote = rw (← answered.out_is) (Wrote-append _ _ _ _ _ before.wrote finished.wrote);
             refused_is = answered.refused_is ∙ counted_exactly _ (omega arith);
             memory_is = answered.memory_is ∙ counted_exactly _ (omega arith);
             source_faults = given.faults ∙ before.source_faults;
@@ -228,7 +228,7 @@ module _ (most left : ℕ) (start now : FlatState) (progress : Progress) (src sr
         given = given_all;
         added = before.added ++ broken.added;
         broken = rw end_seen (broken.broke start before.script before.added before.led);
-        took = Took-append _ _ _ _ _ before.took broken.took;
+        wrote = Wrote-append _ _ _ _ _ before.wrote broken.wrote;
         source_faults = given.faults ∙ before.source_faults;
         sink_faults = subst (λ k. Rose k out''.faults) before.sink_faults broken.faults;
       }
@@ -244,7 +244,7 @@ served_to_limit most left start now progress src src' out out' none before = rec
   not_ended = λ some. before.not_ended (omega arith);
   replies = before.led.replies;
   transcript = before.led.transcript;
-  took = rw (← before.led.out_is) before.took;
+  wrote = rw (← before.led.out_is) before.wrote;
   source_faults = before.source_faults;
   sink_faults = before.sink_faults;
 }

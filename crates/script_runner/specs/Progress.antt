@@ -3,7 +3,7 @@ use Rattle.std.specs.Prelude.{◌≡◌, ℕ, ◌+◌, ◌≤◌, min, false, Li
 use Rattle.std.specs.Str.{bytes_eq}
 use Rattle.document_rules.specs.Document.{FlatState}
 use Rattle.script_streams.specs.declared.Failed.{Failed}
-use Rattle.script_streams.specs.Streams.{SinkState, greatest_count, Rose, Took, StartsWith, TakenWhole, Cut}
+use Rattle.script_streams.specs.Streams.{SinkState, greatest_count, Rose, Wrote, StartsWith, TakenWhole, Cut}
 use Rattle.script_runner.specs.declared.line.PartialLine.{PartialLine}
 use Rattle.script_runner.specs.declared.serving.Progress.{Progress}
 use Rattle.script_runner.specs.Step.{memory_reply}
@@ -86,7 +86,7 @@ pub record PieceAnswered (piece : List ℕ) (doc : FlatState) (progress : Progre
 pub record PieceBroken (piece : List ℕ) (doc : FlatState) (progress : Progress) (doc' : FlatState) (out out' : SinkState) : Type 0 where
   pub added : List ℕ
   pub broke : Broke doc progress piece added doc'
-  pub bytes : Took out.taken out'.taken added
+  pub wrote : Wrote out out' added
   pub faults : Rose out.faults out'.faults
 
 abbrev pub AnswersPiece : Result ⊤ Failed → List ℕ → FlatState → Progress → FlatState → Progress → SinkState → SinkState → Type 0

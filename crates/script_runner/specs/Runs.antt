@@ -1,9 +1,9 @@
 -- What a run of the program does, by the status that it ends with.
-use Rattle.std.specs.Prelude.{◌≡◌, ℕ, suc, ◌^◌, Bool, false, nat_lt, if◌then◌else◌, List, [], ◌∷◌, ◌++◌, codes}
+use Rattle.std.specs.Prelude.{◌≡◌, ℕ, suc, ◌+◌, ◌^◌, ◌≤◌, Bool, false, nat_lt, if◌then◌else◌, List, [], ◌∷◌, ◌++◌, length, Some, codes}
 use Rattle.std.specs.Str.{bytes_eq}
 use Rattle.std.specs.List.{list_any}
 use Rattle.document_rules.specs.Document.{FlatState, empty_document}
-use Rattle.script_streams.specs.Streams.{SourceState, SinkState, Took, Rose, StartsWith}
+use Rattle.script_streams.specs.Streams.{SourceState, SinkState, Wrote, Rose, StartsWith}
 use Rattle.script_runner.specs.declared.running.Status.{Status}
 use Rattle.script_runner.specs.declared.running.Status.TheVariants as status
 use Rattle.script_runner.specs.declared.serving.Served.{Served}
@@ -47,9 +47,9 @@ EndsWith number Holds = (s : Status) × (number ≡ number_of s) × Holds s
 
 -- The words are no command: the usage line was written, or a front of it where the write failed.
 abbrev pub ShowsUsage : Status → SinkState → SinkState → Type 0
-ShowsUsage status.Usage err err' = Took err.taken err'.taken usage_line × (err'.faults ≡ err.faults)
+ShowsUsage status.Usage err err' = Wrote err err' usage_line × (err'.faults ≡ err.faults)
 ShowsUsage status.WriteFault err err' =
-    (front : List ℕ) × StartsWith usage_line front × Took err.taken err'.taken front × Rose err.faults err'.faults
+    (front : List ℕ) × StartsWith usage_line front × Wrote err err' front × Rose err.faults err'.faults
 ShowsUsage status.Answered err err' = ⊥
 ShowsUsage status.Refused err err' = ⊥
 ShowsUsage status.Memory err err' = ⊥
@@ -63,6 +63,15 @@ pub record IsAnswered (script before after : List ℕ) (number : ℕ) : Type 0 w
   pub transcript : Transcript empty_document (all_lines script) replies end
   pub grown : after ≡ before ++ written replies
   pub status : number ≡ (if list_any is_refused replies then 1 else 0)
+
+-- The replies to all lines of the script were written, and a sink that told what it took tells them too where it has room.
+pub record IsTold (script before : List ℕ) (out out' : SinkState) (number : ℕ) : Type 0 where
+  pub replies : List (List ℕ)
+  pub end : FlatState
+  pub transcript : Transcript empty_document (all_lines script) replies end
+  pub status : number ≡ (if list_any is_refused replies then 1 else 0)
+  pub told : length before + length (written replies) ≤ out.room
+      → out'.taken ≡ Some (before ++ written replies)
 
 -- the script was answered to its end, and this many replies begin with `!`
 pub record AnswersAll (src src' : SourceState) (out out' : SinkState) (refused : ℕ) : Type 0 where

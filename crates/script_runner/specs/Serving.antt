@@ -1,7 +1,7 @@
 -- What serving a script did, by how it ended.
 use Rattle.std.specs.Prelude.{◌≡◌, ℕ, ◌+◌, ◌<◌, ◌≤◌, ◌⊎◌, min, Bool, true, false, if◌then◌else◌, List, ◌++◌, length}
 use Rattle.document_rules.specs.Document.{FlatState}
-use Rattle.script_streams.specs.Streams.{SourceState, SinkState, greatest_count, Gave, NothingLeft, Took, Rose}
+use Rattle.script_streams.specs.Streams.{SourceState, SinkState, greatest_count, Gave, NothingLeft, Wrote, Rose}
 use Rattle.script_runner.specs.declared.serving.Served.{Served}
 use Rattle.script_runner.specs.declared.serving.Served.TheVariants.{Ended, ReadFault, WriteFault, TooLong}
 use Rattle.script_runner.specs.Script.{whole_lines, all_lines, written, Transcript}
@@ -26,7 +26,7 @@ pub record ServedAll (most : ℕ) (start end : FlatState) (src src' : SourceStat
   pub ended : src'.ended ≡ true
   pub replies : List (List ℕ)
   pub transcript : Transcript start (all_lines script) replies end
-  pub took : Took out.taken out'.taken (written replies)
+  pub wrote : Wrote out out' (written replies)
   pub refused_is : refused ≡ refusals replies
   pub memory_is : memory ≡ memory_refusals replies
   pub source_faults : src'.faults ≡ src.faults
@@ -41,7 +41,7 @@ pub record ServedToReadFault (most : ℕ) (start end : FlatState) (src src' : So
   pub not_ended : src'.ended ≡ false
   pub replies : List (List ℕ)
   pub transcript : Transcript start (whole_lines script) replies end
-  pub took : Took out.taken out'.taken (written replies)
+  pub wrote : Wrote out out' (written replies)
   pub source_faults : Rose src.faults src'.faults
   pub sink_faults : out'.faults ≡ out.faults
 
@@ -53,7 +53,7 @@ pub record ServedToWriteFault (most : ℕ) (start end : FlatState) (src src' : S
   pub given : RoseBy src.given (length script) src'.given
   pub added : List ℕ
   pub broken : Broken start (lines_read src'.ended script) added end
-  pub took : Took out.taken out'.taken added
+  pub wrote : Wrote out out' added
   pub source_faults : src'.faults ≡ src.faults
   pub sink_faults : Rose out.faults out'.faults
 
@@ -66,7 +66,7 @@ pub record ServedToLimit (most : ℕ) (start end : FlatState) (src src' : Source
   pub not_ended : 0 < most → src'.ended ≡ false
   pub replies : List (List ℕ)
   pub transcript : Transcript start (whole_lines script) replies end
-  pub took : Took out.taken out'.taken (written replies)
+  pub wrote : Wrote out out' (written replies)
   pub source_faults : src'.faults ≡ src.faults
   pub sink_faults : out'.faults ≡ out.faults
 
@@ -91,7 +91,7 @@ pub record Finished (doc : FlatState) (progress : Progress) (doc' : FlatState) (
   pub added : List ℕ
   pub answered : (start : FlatState) (read before : List ℕ) → Led start read before doc progress
       → AllAnswered start read (before ++ added) doc' refused memory
-  pub took : Took out.taken out'.taken added
+  pub wrote : Wrote out out' added
   pub faults : out'.faults ≡ out.faults
 
 -- Whatever was read and written before, the reply to the last line was not written whole.
@@ -99,7 +99,7 @@ pub record FinishBroken (doc : FlatState) (progress : Progress) (doc' : FlatStat
   pub added : List ℕ
   pub broke : (start : FlatState) (read before : List ℕ) → Led start read before doc progress
       → Broken start (all_lines read) (before ++ added) doc'
-  pub took : Took out.taken out'.taken added
+  pub wrote : Wrote out out' added
   pub faults : Rose out.faults out'.faults
 
 abbrev pub Finishes : Served → FlatState → Progress → FlatState → SinkState → SinkState → Type 0

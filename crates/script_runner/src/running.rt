@@ -4,7 +4,7 @@ ghost use Rattle.std.specs.Prelude.{◌≡◌, ◌≢◌, ◌≤◌, ◌<◌, �
 ghost use Rattle.document_rules.specs.Document.{FlatState};
 ghost use Rattle.script_runner.specs.Step.{memory_reply};
 ghost use Rattle.script_runner.specs.Script.{turn, Transcript, IsDecided};
-ghost use Rattle.script_runner.specs.Runs.{is_run, most_script_bytes, number_of, status_after, EndsWith, ShowsUsage, Runs, IsAnswered};
+ghost use Rattle.script_runner.specs.Runs.{is_run, most_script_bytes, number_of, status_after, EndsWith, ShowsUsage, Runs, IsAnswered, IsTold};
 
 use crate::serving::{Served, serve};
 use model_core::Model;
@@ -52,6 +52,11 @@ pub fn run_words<S: Source, K: Sink, E: Sink>(
     ensures headline { is_run (map string_bytes words.now) ≡ true → result ≤ 1 → (script before after : List ℕ)
         → (S.state src.old).left ≡ Some script → (K.state out.old).taken ≡ Some before
         → (K.state out.new).taken ≡ Some after → IsAnswered script before after result }
+
+    // A sink that told what it took before tells the replies too, where it has room for them.
+    ensures told { is_run (map string_bytes words.now) ≡ true → result ≤ 1 → (script before : List ℕ)
+        → (S.state src.old).left ≡ Some script → (K.state out.old).taken ≡ Some before
+        → IsTold script before (K.state out.old) (K.state out.new) result }
 
     // What was written leaves no choice. A flat reply is never `! memory`, so the replies tell where memory was wanting.
     ensures flat { (f : FlatState) (line : List ℕ) → (turn f line).0 ≢ memory_reply }

@@ -1,7 +1,7 @@
 -- What came off a source and went to a sink, one call after another.
-use Rattle.std.proofs.Common.{◌≡◌, ℕ, ◌<◌, List, [], ◌++◌, take, drop, length, Option, Some, None, append_assoc, refl, ap, sym, ◌∙◌, subst}
+use Rattle.std.proofs.Common.{◌≡◌, ℕ, ◌<◌, List, [], ◌++◌, take, drop, length, length-append, Option, Some, None, append_assoc, refl, ap, sym, ◌∙◌, subst, arith}
 use Rattle.std.proofs.lemmas.List.{append-nil, take-append-drop, nil_from_length}
-use Rattle.script_streams.specs.Streams.{SinkState, Gave, Took, Rose, Taken, TakenWhole, Cut}
+use Rattle.script_streams.specs.Streams.{SinkState, Gave, Took, Wrote, Rose, Taken, TakenWhole, Cut}
 
 pub Gave-nothing : (left : Option (List ℕ)) → Gave left left []
 Gave-nothing None = tt
@@ -23,22 +23,39 @@ Took-append a None (Some c) xs ys first second = absurd second
 Took-append None (Some b) (Some c) xs ys first second = absurd first
 Took-append (Some a) (Some b) (Some c) xs ys first second = second ∙ ap (λ z. z ++ ys) first ∙ append_assoc a xs ys
 
+pub Wrote-nothing : (s : SinkState) → Wrote s s []
+Wrote-nothing s = record {
+  took = Took-nothing s.taken;
+  told = λ before is fits. is ∙ ap Some (sym (append-nil before));
+  room = refl;
+}
+
+pub Wrote-append : (a b c : SinkState) (xs ys : List ℕ) → Wrote a b xs → Wrote b c ys → Wrote a c (xs ++ ys)
+Wrote-append a b c xs ys first second = record {
+  took = Took-append a.taken b.taken c.taken xs ys first.took second.took;
+  told = λ before is fits.
+      let mid : b.taken ≡ Some (before ++ xs) = first.told before is (omega (arith, fits, length-append xs ys)) in
+      second.told (before ++ xs) mid (omega (arith, fits, first.room, length-append before xs, length-append xs ys))
+      ∙ ap Some (append_assoc before xs ys);
+  room = second.room ∙ first.room;
+}
+
 -- of the text, what stands before rest was written
 pub record IsWrittenTo (old new : SinkState) (text rest : List ℕ) : Type 0 where
   pub written : List ℕ
   pub whole : text ≡ written ++ rest
-  pub bytes : Took old.taken new.taken written
+  pub wrote : Wrote old new written
   pub faults : new.faults ≡ old.faults
 
 pub written_to_start : (s : SinkState) (text : List ℕ) → IsWrittenTo s s text text
-written_to_start s text = record { written = []; whole = refl; bytes = Took-nothing s.taken; faults = refl }
+written_to_start s text = record { written = []; whole = refl; wrote = Wrote-nothing s; faults = refl }
 
 module _ (old mid new : SinkState) (text rest : List ℕ) (before : IsWrittenTo old mid text rest) where
   pub written_to_more : (n : ℕ) → Taken n mid new rest → 0 < n → IsWrittenTo old new text (drop n rest)
   written_to_more n taken some = record {
     written = before.written ++ take n rest;
     whole = before.whole ∙ ap (λ z. before.written ++ z) (sym (take-append-drop n rest)) ∙ sym (append_assoc before.written (take n rest) (drop n rest));
-    bytes = Took-append _ _ _ _ _ before.bytes taken.bytes;
+    wrote = Wrote-append _ _ _ _ _ before.wrote taken.wrote;
     faults = taken.something some ∙ before.faults;
   }
 
@@ -46,7 +63,7 @@ module _ (old mid new : SinkState) (text rest : List ℕ) (before : IsWrittenTo 
   written_to_cut cut = record {
     front = before.written ++ cut.front;
     starts = (cut.starts.0, before.whole ∙ ap (λ z. before.written ++ z) cut.starts.1 ∙ sym (append_assoc before.written cut.front cut.starts.0));
-    bytes = Took-append _ _ _ _ _ before.bytes cut.bytes;
+    wrote = Wrote-append _ _ _ _ _ before.wrote cut.wrote;
     faults = subst (λ n. Rose n new.faults) before.faults cut.faults;
   }
 
@@ -54,13 +71,13 @@ module _ (old mid new : SinkState) (text rest : List ℕ) (before : IsWrittenTo 
   written_to_stop n taken none more = written_to_cut (record {
     front = take n rest;
     starts = (drop n rest, sym (take-append-drop n rest));
-    bytes = taken.bytes;
+    wrote = taken.wrote;
     faults = taken.nothing none more;
   })
 
 pub written_to_end : (old new : SinkState) (text rest : List ℕ) → IsWrittenTo old new text rest → length rest ≡ 0 → TakenWhole old new text
 written_to_end old new text rest before none = record {
-  bytes = subst (λ z. Took old.taken new.taken z)
-      (sym (before.whole ∙ ap (λ z. before.written ++ z) (nil_from_length rest none) ∙ append-nil before.written)) before.bytes;
+  wrote = subst (λ z. Wrote old new z)
+      (sym (before.whole ∙ ap (λ z. before.written ++ z) (nil_from_length rest none) ∙ append-nil before.written)) before.wrote;
   faults = before.faults;
 }

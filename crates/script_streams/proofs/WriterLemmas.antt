@@ -1,9 +1,10 @@
 -- A writer around a write.
-use Rattle.std.proofs.Common.{◌≡◌, ℕ, List, [], ◌++◌, Option, Some, None, Result, Ok, Err, take, ◌∙◌, ap, sym, append-nil}
+use Rattle.std.proofs.Common.{◌≡◌, ℕ, List, [], ◌++◌, Option, Some, None, Result, Ok, Err, take, ◌∙◌, ap, refl, sym, append-nil}
 use Rattle.std.proofs.KnownBytes.{Keeps-trans}
 use Rattle.std.specs.Prelude.{is_some}
 use Rattle.std.specs.Io.KnownBytes.{Keeps, Appends, WriteAppends}
-use Rattle.script_streams.specs.Streams.{Took}
+use Rattle.script_streams.specs.Streams.{Took, Wrote}
+use Rattle.script_streams.specs.Writer.{TellsAlwaysOrNever}
 
 Appends-after_Keeps : (a b c : Option (List ℕ)) (bytes : List ℕ) → Keeps a b → Appends b c bytes → Appends a c bytes
 Appends-after_Keeps None b c bytes kept appended = tt
@@ -28,3 +29,18 @@ Took-from_Appends None None bytes same appended = tt
 Took-from_Appends None (Some y) bytes same appended = cc
 Took-from_Appends (Some x) None bytes same appended = absurd appended
 Took-from_Appends (Some x) (Some y) bytes same appended = appended
+
+told_after : (a b : Option (List ℕ)) (before bytes : List ℕ) → is_some a ≡ is_some b → a ≡ Some before → Took a b bytes → b ≡ Some (before ++ bytes)
+told_after None b before bytes same is took = cc
+told_after (Some x) None before bytes same is took = cc
+told_after (Some x) (Some y) before bytes same is took = cc
+
+-- a sink over such a writer still tells what it told
+pub Wrote-over_writer : {W : Type 0} (contents : W → Option (List ℕ)) (old new : W) (faults faults' : ℕ) (bytes : List ℕ)
+    → TellsAlwaysOrNever contents → Took (contents old) (contents new) bytes
+    → Wrote (record { taken = contents old; room = 0; faults = faults }) (record { taken = contents new; room = 0; faults = faults' }) bytes
+Wrote-over_writer contents old new faults faults' bytes always took = record {
+  took = took;
+  told = λ before is fits. told_after (contents old) (contents new) before bytes (always old new) is took;
+  room = refl;
+}

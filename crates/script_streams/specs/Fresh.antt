@@ -6,6 +6,6 @@ use Rattle.script_streams.specs.Streams.{SourceState, SinkState}
 abbrev pub fresh_source : Option (List ℕ) → SourceState
 fresh_source left = record { left = left; given = 0; ended = false; faults = 0 }
 
--- a sink before its first write, with what it holds where it tells that
-abbrev pub fresh_sink : Option (List ℕ) → SinkState
-fresh_sink taken = record { taken = taken; faults = 0 }
+-- a sink before its first write, with its room, and what it holds where it tells that
+abbrev pub fresh_sink : ℕ → Option (List ℕ) → SinkState
+fresh_sink room taken = record { taken = taken; room = room; faults = 0 }

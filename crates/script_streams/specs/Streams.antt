@@ -15,6 +15,8 @@ pub record SourceState : Type 0 where
 pub record SinkState : Type 0 where
   -- the bytes that the sink took, where it tells them
   pub taken : Option (List ℕ)
+  -- a sink that tells them still does while they are at most so many bytes
+  pub room : ℕ
   -- how many of its writes failed; the number stands still at the greatest one of 64 bits
   pub faults : ℕ
 
@@ -41,6 +43,15 @@ abbrev pub Took : Option (List ℕ) → Option (List ℕ) → List ℕ → Type 
 Took before None bytes = ⊤
 Took None (Some after) bytes = ⊥
 Took (Some before) (Some after) bytes = after ≡ before ++ bytes
+
+-- these bytes came to the end of what a sink took
+pub record Wrote (old new : SinkState) (bytes : List ℕ) : Type 0 where
+  -- as far as it tells that
+  pub took : Took old.taken new.taken bytes
+  -- what it told, and has room for, it still tells
+  pub told : (before : List ℕ) → old.taken ≡ Some before → length before + length bytes ≤ old.room
+      → new.taken ≡ Some (before ++ bytes)
+  pub room : new.room ≡ old.room
 
 abbrev pub StartsWith : List ℕ → List ℕ → Type 0
 StartsWith bytes front = (rest : List ℕ) × (bytes ≡ front ++ rest)
@@ -69,7 +80,7 @@ Reads (Err failed) old new buf = NotGiven old new
 -- a write took the first n of these bytes; to take nothing of something is a fault
 pub record Taken (n : ℕ) (old new : SinkState) (piece : List ℕ) : Type 0 where
   pub within : n ≤ length piece
-  pub bytes : Took old.taken new.taken (take n piece)
+  pub wrote : Wrote old new (take n piece)
   pub nothing : n ≡ 0 → 0 < length piece → Rose old.faults new.faults
   pub something : 0 < n → new.faults ≡ old.faults
   pub nothing_asked : length piece ≡ 0 → new.faults ≡ old.faults
@@ -78,7 +89,7 @@ pub record Taken (n : ℕ) (old new : SinkState) (piece : List ℕ) : Type 0 whe
 pub record Cut (old new : SinkState) (piece : List ℕ) : Type 0 where
   pub front : List ℕ
   pub starts : StartsWith piece front
-  pub bytes : Took old.taken new.taken front
+  pub wrote : Wrote old new front
   pub faults : Rose old.faults new.faults
 
 abbrev pub Writes : Result ℕ Failed → SinkState → SinkState → List ℕ → Type 0
@@ -87,7 +98,7 @@ Writes (Err failed) old new piece = Cut old new piece
 
 -- a whole text was written, or a front of it
 pub record TakenWhole (old new : SinkState) (text : List ℕ) : Type 0 where
-  pub bytes : Took old.taken new.taken text
+  pub wrote : Wrote old new text
   pub faults : new.faults ≡ old.faults
 
 abbrev pub WritesWhole : Result ⊤ Failed → SinkState → SinkState → List ℕ → Type 0

@@ -25,7 +25,8 @@ pub trait Source {
         ensures { Reads result (state self.old) (state self.new) buf.new };
 }
 
-/// Takes the bytes of replies, piece by piece.
+/// Takes the bytes of replies, piece by piece. A sink that tells what it took goes on telling it while that fits its
+/// room.
 pub trait Sink {
     ghost state: { Self → SinkState };
 

@@ -75,9 +75,9 @@ fn read_past_signals<R: Read>(reader: &mut R, buf: &mut [u8]) -> io::Result<usiz
     Err(io::Error::from(ErrorKind::Interrupted))
 }
 
-/// Hands on to a writer, and tells what the writer tells. Each piece is flushed before the write answers. An error of
-/// the writer is a fault, and so is an answer of 0 for a piece that is not empty, but a write that a signal interrupts
-/// is tried again.
+/// Hands on to a writer, and tells what the writer tells, with no room of its own. Each piece is flushed before the
+/// write answers. An error of the writer is a fault, and so is an answer of 0 for a piece that is not empty, but a
+/// write that a signal interrupts is tried again.
 #[derive(Drop)]
 pub struct StdSink<W: Write> {
     writer: W,
@@ -90,7 +90,7 @@ impl<W: Write> Model for StdSink<W> {
 
     ghost Value = { SinkState };
 
-    ghost view = { λ s. record { taken = W.contents s.writer; faults = s.faults } };
+    ghost view = { λ s. record { taken = W.contents s.writer; room = 0; faults = s.faults } };
 
     ghost invariant = { λ _. TellsAlwaysOrNever W.contents };
 }
@@ -99,7 +99,7 @@ impl<W: Write> StdSink<W> {
     /// A sink over this writer, which tells the bytes that it holds at all times, or at none, as standard output.
     pub fn new(writer: W) -> StdSink<W>
         requires { TellsAlwaysOrNever W.contents }
-        ensures { result ≡ fresh_sink (W.contents writer) }
+        ensures { result ≡ fresh_sink 0 (W.contents writer) }
     {
         StdSink { writer, faults: 0 }
     }

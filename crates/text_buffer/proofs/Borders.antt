@@ -9,7 +9,8 @@ use Rattle.piece_tree.specs.declared.piece.Piece.{Piece}
 use Rattle.piece_tree.specs.Pieces.{unit_count, piece_of, IsPieceOf, front, back}
 use Rattle.piece_tree.proofs.Cuts.{front_past, back_past, front_none, back_none, front_part, back_part}
 use Rattle.text_rules.specs.Lines.{line_feed, carriage_return, begins_with}
-use Rattle.text_rules.proofs.Breaks.{ends_with, ends_with_push, joins_pair, and_false}
+use Rattle.text_rules.specs.Breaks.{ends_with, joins_pair}
+use Rattle.text_rules.proofs.Breaks.{ends_with_push, and_false}
 use Rattle.text_buffer.specs.Text.{spelled, IsUnsplit}
 use Rattle.text_buffer.proofs.Spelling.{spelled-append, spelled-front, length-units_at, back_of_piece}
 

@@ -1,15 +1,13 @@
 -- The content of a line, by the units at its end.
-use Rattle.std.proofs.Common.{◌≡◌, ℕ, zero, suc, ◌+◌, ◌-◌, ◌<◌, ◌≤◌, ◌==◌, ◌&&◌, ◌||◌, ◌⊎◌, Bool, true, false, cond, if◌then◌else◌, Option, Some, None, List, [], ◌∷◌, ◌++◌, length, take, drop, get_or, sum_by, refl, ap, sym, subst, ◌∙◌, inl, inr, append_assoc, arith}
-use Rattle.std.proofs.Common.{Result}
-use Rattle.std.specs.Prelude.{OnOk}
-use Rattle.std.proofs.lemmas.Result.{on_ok_weaker}
+use Rattle.std.proofs.Common.{◌≡◌, ℕ, zero, suc, ◌+◌, ◌-◌, ◌<◌, ◌≤◌, ◌==◌, ◌&&◌, ◌||◌, ◌⊎◌, Bool, true, false, cond, if◌then◌else◌, Some, None, List, [], ◌∷◌, ◌++◌, length, take, drop, get_or, sum_by, refl, ap, sym, subst, ◌∙◌, inl, inr, append_assoc, arith}
 use Rattle.std.specs.List.{flat_map}
 use Rattle.std.proofs.lemmas.Bool.{and_parts, or_cases, or_parts, eqb-true, cases_eq, ne_eqb}
-use Rattle.std.proofs.lemmas.List.{append-nil, length-append, length-drop, length-take, length-take-le, get_or-take, get_or-drop, drop_more, drop_all, take_at}
+use Rattle.std.proofs.lemmas.List.{length-append, length-drop, length-take, length-take-le, get_or-take, get_or-drop, drop_more, drop_all, take_at}
 use Rattle.std.proofs.lemmas.Option.{slice_get-get_or, slice_get_past}
 use Rattle.std.proofs.lemmas.List.Sums.{sum_by-cons, sum_by_more}
 use Rattle.text_rules.specs.Lines.{Line, lines_of, line_length, line_start, line_at, line_feed, carriage_return, begins_with, in_first_line, in_first_break}
-use Rattle.text_rules.proofs.Breaks.{ends_with, and_false, line_count_is}
+use Rattle.text_rules.specs.Breaks.{ends_with}
+use Rattle.text_rules.proofs.Breaks.{and_false, line_count_is}
 use Rattle.text_rules.proofs.Places.{line_start_after, line_start_within}
 use Rattle.text_buffer.specs.Text.{ends_with_pair}
 use Rattle.text_buffer.proofs.Spelling.{drop-past}
@@ -24,7 +22,7 @@ IsCut [] = ⊥
 IsCut (l ∷ []) = (ends_with 13 l.content ≡ false) × (l.break ≡ [])
 IsCut (l ∷ m ∷ ls) = (ends_with 13 l.content ≡ false) × (IsBreak l.break × IsCut (m ∷ ls))
 
-first_is_feed : (after : List ℕ) → begins_with line_feed after ≡ true → lines_of after ≡ record { content = []; break = 10 ∷ [] } ∷ lines_of (drop 1 after)
+pub first_is_feed : (after : List ℕ) → begins_with line_feed after ≡ true → lines_of after ≡ record { content = []; break = 10 ∷ [] } ∷ lines_of (drop 1 after)
 first_is_feed [] e = absurd cc
 first_is_feed (v ∷ z) e = subst (λ (u : ℕ). lines_of (u ∷ z) ≡ record { content = []; break = 10 ∷ [] } ∷ lines_of z) (sym (eqb-true v 10 e)) refl
 
@@ -111,6 +109,11 @@ pub ends_with_pair_short : (x : List ℕ) → length x < 2 → ends_with_pair x 
 ends_with_pair_short [] h = refl
 ends_with_pair_short (u ∷ []) h = refl
 ends_with_pair_short (u ∷ v ∷ x) h = absurd (omega arith)
+
+pub ends_with_pair_long : (x : List ℕ) → ends_with_pair x ≡ true → 2 ≤ length x
+ends_with_pair_long [] e = absurd cc
+ends_with_pair_long (u ∷ []) e = absurd cc
+ends_with_pair_long (u ∷ v ∷ x) e = omega arith
 
 -- the text of some lines
 abbrev text_of_lines : List Line → List ℕ
@@ -269,15 +272,3 @@ pub no_line_at : (x : List ℕ) (line : ℕ) → length (lines_of x) < line → 
 no_line_at x line past =
     let other : line ≡ 0 → ⊥ = λ e. absurd (omega arith) in
     rw (ne_eqb line 0 other) (slice_get_past (lines_of x) (line - 1) (omega arith))
-
--- the units between the start of a line and the end of its content
-pub line_content : (x : List ℕ) (line start end : ℕ) (l : Line) → 0 < line → line ≤ length (lines_of x) → start ≡ line_start x line
-    → ((d : Line) → end ≡ start + length (get_or (lines_of x) (line - 1) d).content) → line_at x line ≡ Some l → take (end - start) (drop start x) ≡ l.content
-line_content x line start end l first there start_is end_is l_is =
-    let found = line_at_is x line l first there in
-    let same : get_or (lines_of x) (line - 1) l ≡ l = cc in
-    let reach : end - start ≡ length (get_or (lines_of x) (line - 1) l).content = omega (arith, end_is l) in
-    ap (λ (n : ℕ). take n (drop start x)) reach ∙ sym (content_of x line start l first there start_is) ∙ ap (λ (k : Line). k.content) same
-
-pub ok_equal : {T E : Type 0} (r : Result T E) (new old added content : List ℕ) → added ≡ content → OnOk r (new ≡ old ++ added) → OnOk r (new ≡ old ++ content)
-ok_equal r new old added content same = on_ok_weaker r (λ (e : new ≡ old ++ added). e ∙ ap (λ s. old ++ s) same)

@@ -10,7 +10,8 @@ use Rattle.piece_tree.specs.declared.piece.Piece.{Piece}
 use Rattle.piece_tree.specs.Pieces.{unit_count, piece_of, piece_list, IsPieceOf, front, back, spliced}
 use Rattle.piece_tree.proofs.Cuts.{pieces-front, pieces-back, pieces-spliced}
 use Rattle.text_rules.specs.Lines.{line_feed, carriage_return}
-use Rattle.text_rules.proofs.Breaks.{joins_pair, ends_with, and_false}
+use Rattle.text_rules.specs.Breaks.{joins_pair, ends_with}
+use Rattle.text_rules.proofs.Breaks.{and_false}
 use Rattle.text_buffer.specs.Text.{spelled, IsUnsplit, IsAdded, unit_if, one_if}
 use Rattle.text_buffer.proofs.Spelling.{spelled-append, spelled-front, spelled-back, length-units_at, length-spelled}
 use Rattle.text_buffer.proofs.Borders.{unsplit-append, unsplit-front, unsplit-back, full-front, full-back, length-parts}

@@ -7,7 +7,7 @@ use Rattle.chunk_buffers.proofs.Spans.{LiesIn-extended, units_at-extended}
 use Rattle.line_starts.specs.Starts.{break_count}
 use Rattle.piece_tree.specs.declared.piece.Piece.{Piece}
 use Rattle.piece_tree.specs.Pieces.{IsPieceOf}
-use Rattle.text_rules.proofs.Breaks.{joins_pair}
+use Rattle.text_rules.specs.Breaks.{joins_pair}
 use Rattle.text_buffer.specs.Text.{spelled, IsUnsplit}
 
 module _ (old new : List (List ℕ)) (grown : Extends old new) where

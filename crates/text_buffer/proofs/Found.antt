@@ -4,15 +4,15 @@ use Rattle.std.specs.List.{All}
 use Rattle.std.proofs.lemmas.List.{map-append, length-map, length-take-le, take_at, drop_at, take-append-le, drop-append-le, length-append, get_or_append_left, get_or-append_right, get_or-map}
 use Rattle.std.proofs.lemmas.List.Elements.{All-head, All-tail, All-take, All-drop, All-same}
 use Rattle.chunk_buffers.specs.Chunks.{Shown, units_at, LiesIn}
-use Rattle.line_starts.specs.Starts.{break_count}
 use Rattle.line_starts.proofs.Starts.{break_count_is}
 use Rattle.piece_tree.specs.declared.piece.Piece.{Piece}
 use Rattle.piece_tree.specs.declared.piece.Found.{Found}
 use Rattle.piece_tree.specs.Costs.{WithinLookUps}
-use Rattle.piece_tree.specs.Pieces.{Pieces, Entry, pieces_of, unit_count, break_count_of, IsPieceOf, IsFound}
-use Rattle.piece_tree.proofs.Sums.{units-cons, breaks-cons}
+use Rattle.piece_tree.specs.Pieces.{Pieces, Entry, pieces_of, break_count_of, IsPieceOf, IsFound}
+use Rattle.piece_tree.proofs.Sums.{breaks-cons}
 use Rattle.text_rules.specs.Lines.{lines_of, line_start}
-use Rattle.text_rules.proofs.Breaks.{ends_break, break_ends, break_ends-append, break_ends_moved, joins_pair, line_count_is, line_start_is, count_to, count_to_all, count_to_none, count_to-append, count_to-later, count_to-moved}
+use Rattle.text_rules.specs.Breaks.{ends_break, break_ends, joins_pair, count_to}
+use Rattle.text_rules.proofs.Breaks.{break_ends-append, break_ends_moved, line_count_is, line_start_is, count_to_all, count_to_none, count_to-append, count_to-later, count_to-moved}
 use Rattle.text_buffer.specs.Text.{Text, text_of, spelled, IsUnsplit, ends_with_pair}
 use Rattle.text_buffer.proofs.Spelling.{spelled-append, length-spelled, length-units_at, take-past, drop-past}
 use Rattle.text_buffer.proofs.Borders.{unsplit-parts, begins_with-take}
@@ -150,7 +150,7 @@ module _ (b : List (List ℕ)) (entries : List Entry) (found : Found) (is : IsFo
         (sym (take_at (pieces_of is.earlier) (own ∷ pieces_of is.later) (length (pieces_of is.earlier)) refl))
         (All-take P (length (pieces_of is.earlier)) (pieces_of is.earlier ++ own ∷ pieces_of is.later) (subst (All P) pieces_are full))
 
-    parts : (joins_pair earlier_text (own_text ++ later_text) ≡ false) × (IsUnsplit b (pieces_of is.earlier) × IsUnsplit b (own ∷ pieces_of is.later))
+    pub parts : (joins_pair earlier_text (own_text ++ later_text) ≡ false) × (IsUnsplit b (pieces_of is.earlier) × IsUnsplit b (own ∷ pieces_of is.later))
     parts = unsplit-parts b (pieces_of is.earlier) (own ∷ pieces_of is.later) all_earlier full_earlier (subst (IsUnsplit b) pieces_are unsplit)
 
     -- a CR LF at the end of a front of the piece lies in the piece

@@ -2,7 +2,8 @@
 use Rattle.std.proofs.Common.{◌≡◌, ℕ, ◌-◌, ◌<◌, ◌≤◌, ◌==◌, ◌&&◌, Bool, true, false, List, ◌++◌, length, take, drop, get_or, refl, ap, sym, ◌∙◌, arith}
 use Rattle.std.proofs.lemmas.List.{length-take-le, get_or-take}
 use Rattle.text_rules.specs.Lines.{line_feed, carriage_return, begins_with}
-use Rattle.text_rules.proofs.Breaks.{ends_with, ends_with_last, joins_pair}
+use Rattle.text_rules.specs.Breaks.{ends_with, joins_pair}
+use Rattle.text_rules.proofs.Breaks.{ends_with_last}
 use Rattle.text_buffer.proofs.Borders.{ends_with-append}
 
 pub ends_with_at : (x : List ℕ) (offset : ℕ) → 0 < offset → offset ≤ length x → ends_with carriage_return (take offset x) ≡ (get_or x (offset - 1) 0 == carriage_return)

@@ -3,8 +3,11 @@ pub mod Borders
 pub mod Extended
 pub mod Replacing
 pub mod Contents
+pub mod FirstLines
 pub mod Found
 pub mod Walks
+pub mod LineWalks
 pub mod Edited
 pub mod Lasts
 pub mod Positions
+pub mod Touched

@@ -4,7 +4,8 @@ use Rattle.std.proofs.lemmas.Bool.{and_parts, eqb-true}
 use Rattle.std.proofs.lemmas.List.{append-nil, length-append, length-take-le, take-take, drop-drop, length-drop}
 use Rattle.text_buffer.specs.Text.{unit_if, one_if}
 use Rattle.text_rules.specs.Lines.{line_feed, carriage_return, begins_with}
-use Rattle.text_rules.proofs.Breaks.{ends_with, ends_with_push, joins_pair, and_false}
+use Rattle.text_rules.specs.Breaks.{ends_with, joins_pair}
+use Rattle.text_rules.proofs.Breaks.{ends_with_push, and_false}
 
 ends_with_split : (unit : ℕ) (x : List ℕ) → ends_with unit x ≡ true → x ≡ take (length x - 1) x ++ unit ∷ []
 ends_with_split unit [] e = absurd cc

@@ -1,5 +1,5 @@
 -- A walk over the pieces of a text, from each to the next one.
-use Rattle.std.proofs.Common.{◌≡◌, ℕ, zero, suc, ◌+◌, ◌-◌, ◌<◌, ◌≤◌, min, Option, Some, None, List, [], ◌∷◌, ◌++◌, length, take, drop, refl, ap, sym, subst, ◌∙◌, append_assoc, arith}
+use Rattle.std.proofs.Common.{◌≡◌, ℕ, zero, suc, ◌+◌, ◌-◌, ◌<◌, ◌≤◌, min, Some, None, List, [], ◌∷◌, ◌++◌, length, take, drop, refl, ap, sym, subst, ◌∙◌, append_assoc, arith}
 use Rattle.std.specs.List.{All}
 use Rattle.std.specs.Option.{unwrap_or}
 use Rattle.std.proofs.lemmas.List.{append-nil, map-append, length-append, length-drop}
@@ -32,16 +32,38 @@ copied old out whole xs ys most left is count so_far =
     ∙ ap (λ s. old ++ s) (sym (take-both most xs ys)) ∙ so_far
 
 -- the entry that a list begins with
-first_there : (later : List Entry) (id : ℕ) (span : ChunkSpan) → Some (id, span) ≡ first_of later
+pub first_there : (later : List Entry) (id : ℕ) (span : ChunkSpan) → Some (id, span) ≡ first_of later
     → (breaks : ℕ) × ((rest : List Entry) × (later ≡ record { id = id; piece = record { span = span; breaks = breaks } } ∷ rest))
 first_there [] id span e = absurd (none-some (id, span) (sym e))
 first_there (entry ∷ rest) id span e =
     let same : (entry.id, entry.piece.span) ≡ (id, span) = sym (ap (λ o. unwrap_or o (id, span)) e) in
     (entry.piece.breaks, (rest, λ i. record { id = (same i).0; piece = record { span = (same i).1; breaks = entry.piece.breaks } } ∷ rest))
 
-none_there : (later : List Entry) → None ≡ first_of later → later ≡ []
+pub none_there : (later : List Entry) → None ≡ first_of later → later ≡ []
 none_there [] e = refl
 none_there (entry ∷ rest) e = absurd (none-some (entry.id, entry.piece.span) e)
+
+-- the entry after one of them
+module _ (entries earlier : List Entry) (id : ℕ) (piece : Piece) (later : List Entry) (place : entries ≡ earlier ++ record { id = id; piece = piece } ∷ later)
+    (next : ℕ) (span : ChunkSpan) (is : Some (next, span) ≡ first_of later) where
+  pub after_next : (breaks : ℕ) × ((rest : List Entry) × (later ≡ record { id = next; piece = record { span = span; breaks = breaks } } ∷ rest))
+  after_next = first_there later next span is
+
+  abbrev pub next_piece : Piece
+  next_piece = record { span = span; breaks = after_next.0 }
+
+  pub next_place : entries ≡ (earlier ++ record { id = id; piece = piece } ∷ []) ++ record { id = next; piece = next_piece } ∷ after_next.1.0
+  next_place =
+      place ∙ ap (λ es. earlier ++ record { id = id; piece = piece } ∷ es) after_next.1.1
+      ∙ sym (append_assoc earlier (record { id = id; piece = piece } ∷ []) (record { id = next; piece = next_piece } ∷ after_next.1.0))
+
+  -- what holds of all pieces holds of the next one
+  pub next_has : (P : Piece → Type 0) → All P (pieces_of entries) → P next_piece
+  next_has P all =
+      let before : List Entry = earlier ++ record { id = id; piece = piece } ∷ [] in
+      All-head P next_piece (pieces_of after_next.1.0)
+      (All-parts P (pieces_of before) (next_piece ∷ pieces_of after_next.1.0)
+      (subst (All P) (ap pieces_of next_place ∙ map-append (λ (e : Entry). e.piece) before _) all)).1
 
 module _ (b : List (List ℕ)) (entries : List Entry) where
   -- Of a copy that is to be `whole` the units up to the end of the piece of that name are there; the other ones are the first of the
@@ -82,34 +104,17 @@ module _ (b : List (List ℕ)) (entries : List Entry) where
         absurd (omega (arith, some, w.enough, ap (λ es. length (spelled b (pieces_of es))) (none_there w.later none)))
 
     module _ (next : ℕ) (span : ChunkSpan) (is : Some (next, span) ≡ first_of w.later) where
-      pub after_next : (breaks : ℕ) × ((rest : List Entry) × (w.later ≡ record { id = next; piece = record { span = span; breaks = breaks } } ∷ rest))
-      after_next = first_there w.later next span is
-
-      abbrev next_piece : Piece
-      next_piece = record { span = span; breaks = after_next.0 }
-
-      next_place : entries ≡ (w.earlier ++ record { id = id; piece = w.piece } ∷ []) ++ record { id = next; piece = next_piece } ∷ after_next.1.0
-      next_place =
-          w.place ∙ ap (λ es. w.earlier ++ record { id = id; piece = w.piece } ∷ es) after_next.1.1
-          ∙ sym (append_assoc w.earlier (record { id = id; piece = w.piece } ∷ []) (record { id = next; piece = next_piece } ∷ after_next.1.0))
-
-      -- what holds of all pieces holds of the next one
-      pub next_has : (P : Piece → Type 0) → All P (pieces_of entries) → P next_piece
-      next_has P all =
-          let before : List Entry = w.earlier ++ record { id = id; piece = w.piece } ∷ [] in
-          All-head P next_piece (pieces_of after_next.1.0)
-          (All-parts P (pieces_of before) (next_piece ∷ pieces_of after_next.1.0)
-          (subst (All P) (ap pieces_of next_place ∙ map-append (λ (e : Entry). e.piece) before _) all)).1
-
       pub walk_on : (more : ℕ) (new : List ℕ) → new ≡ out ++ take left (units_at b span) → more ≡ left - min left (length (units_at b span)) → Walked next more new whole
       walk_on more new new_is count =
           let own = units_at b span in
-          let after : List ℕ = spelled b (pieces_of after_next.1.0) in
-          let text : spelled b (pieces_of w.later) ≡ own ++ after = ap (λ es. spelled b (pieces_of es)) after_next.1.1 in record {
+          let others : List Entry = (after_next entries w.earlier id w.piece w.later w.place next span is).1.0 in
+          let after : List ℕ = spelled b (pieces_of others) in
+          let text : spelled b (pieces_of w.later) ≡ own ++ after =
+          ap (λ es. spelled b (pieces_of es)) (after_next entries w.earlier id w.piece w.later w.place next span is).1.1 in record {
             earlier = w.earlier ++ record { id = id; piece = w.piece } ∷ [];
-            piece = next_piece;
-            later = after_next.1.0;
-            place = next_place;
+            piece = next_piece entries w.earlier id w.piece w.later w.place next span is;
+            later = others;
+            place = next_place entries w.earlier id w.piece w.later w.place next span is;
             rest = copied out new whole own after left more new_is count (ap (λ s. out ++ take left s) (sym text) ∙ w.rest);
             enough = omega (arith, count, ap length text, length-append own after, w.enough);
           }

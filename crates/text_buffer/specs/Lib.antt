@@ -1,2 +1,3 @@
 pub mod Text
+pub mod Places
 pub use Rattle.piece_tree.specs.Costs

@@ -5,7 +5,8 @@ use Rattle.chunk_buffers.specs.declared.span.ChunkSpan.{ChunkSpan}
 use Rattle.chunk_buffers.specs.Chunks.{Shown, units_at, LiesIn}
 use Rattle.piece_tree.specs.declared.piece.Piece.{Piece}
 use Rattle.piece_tree.specs.Pieces.{Pieces, pieces_of, IsPieceOf}
-use Rattle.text_rules.proofs.Breaks.{joins_pair}
+use Rattle.text_rules.specs.Lines.{line_feed, carriage_return}
+use Rattle.text_rules.specs.Breaks.{joins_pair}
 
 -- what contracts see of a text buffer
 pub record Text : Type 0 where
@@ -57,5 +58,5 @@ IsAdded buffers (Some span) units = LiesIn buffers span × ((units_at buffers sp
 abbrev pub ends_with_pair : List ℕ → Bool
 ends_with_pair [] = false
 ends_with_pair (u ∷ []) = false
-ends_with_pair (u ∷ v ∷ []) = u == 13 && v == 10
+ends_with_pair (u ∷ v ∷ []) = u == carriage_return && v == line_feed
 ends_with_pair (u ∷ v ∷ w ∷ x) = ends_with_pair (v ∷ w ∷ x)

@@ -1,7 +1,9 @@
 //! One text in pieces over buffers that are only appended to.
 #![tactic(auto)]
 
+mod breaks;
 mod look_up;
+mod place;
 mod text;
 mod walk;
 

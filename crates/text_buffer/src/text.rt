@@ -7,24 +7,24 @@ ghost use Rattle.piece_tree.specs.Costs.{WithinLookUps};
 ghost use Rattle.unit_text.specs.Units.{is_place};
 ghost use Rattle.text_rules.specs.Positions.{position_of, is_position, offset_of};
 ghost use Rattle.text_rules.specs.Edits.{edited};
+ghost use Rattle.text_rules.specs.Dirty.{dirty_lines, replaced};
 ghost use Rattle.text_rules.specs.Lines.{Line, lines_of, line_at, line_start, line_feed, carriage_return, begins_with};
-ghost use Rattle.text_rules.proofs.Breaks.{ends_with, joins_pair, count_to, break_ends};
-ghost use Rattle.text_buffer.specs.Text.{unit_if, one_if, IsAdded, ends_with_pair};
+ghost use Rattle.text_rules.specs.Breaks.{ends_with, joins_pair, count_to, break_ends};
+ghost use Rattle.text_buffer.specs.Text.{unit_if, one_if, IsAdded};
 
+use crate::breaks::ends_with_pair;
 use crate::look_up::{break_at, cuts_pair_at, piece_at};
+use crate::place::{push_line, start_of_line};
 use crate::walk::push_span;
 use chunk_buffers::{ChunkSpan, Chunks};
+use line_starts::count_breaks;
 use piece_tree::PieceTree;
 use std::alloc::{AllocError, Global};
 use std::marker::{Brand, Model};
 use std::sync::ledger::{Blank, Ledger};
 use steps::Steps;
-use text_lengths::{Position, Span};
-use unit_text::Flat;
-
-const LINE_FEED: u16 = 10;
-
-const CARRIAGE_RETURN: u16 = 13;
+use text_lengths::{Dirty, Position, Span};
+use unit_text::{CARRIAGE_RETURN, Flat, LINE_FEED};
 
 /// What an edit may append beside its text: a CR, an LF, and a unit that keeps buffers apart.
 const UNITS_AN_EDIT: u64 = 3;
@@ -62,7 +62,8 @@ impl TextBuffer {
 
     /// A buffer of this text.
     pub fn of_units(alloc: Global, units: &[u16]) -> Result<TextBuffer, AllocError>
-        ensures { IfOk result (λ text. text.units ≡ units.now) }
+        ensures units { IfOk result (λ text. text.units ≡ units.now) }
+        ensures spans { IfOk result (λ text. length text.spans ≤ 1) }
     {
         let mut pieces = PieceTree::new(alloc);
         let mut chunks = Chunks::new(alloc);
@@ -131,10 +132,13 @@ impl TextBuffer {
         requires within { span.end ≤ length self.old.units }
         requires edits { 0 < self.old.spare_edits }
         requires room { length text.now + 3 ≤ self.old.spare_units }
-        requires small { length (edited self.old.units (record { span = span; text = text.now; force = false })) < 2 ^ 62 }
-        ensures units { self.new.units ≡ edited self.old.units (record { span = span; text = text.now; force = false }) }
+        requires small { length (edited self.old.units
+            (record { span = span; text = text.now; force = false })) < 2 ^ 62 }
+        ensures units { self.new.units
+            ≡ edited self.old.units (record { span = span; text = text.now; force = false }) }
         ensures pieces { length self.new.spans ≤ length self.old.spans + 6 }
-        ensures appended { unit_count self.new.buffers ≤ unit_count self.old.buffers + length text.now + 8 }
+        ensures appended { unit_count self.new.buffers
+            ≤ unit_count self.old.buffers + length text.now + 8 }
         ensures grown { Extends self.old.buffers self.new.buffers }
         ensures spare_edits { self.new.spare_edits + 1 ≡ self.old.spare_edits }
         ensures spare_units { self.old.spare_units ≤ self.new.spare_units + length text.now + 3 }
@@ -156,27 +160,15 @@ impl TextBuffer {
     pub fn line(&self, n: u64, out: &mut Vec<u16>) -> Result<(), AllocError>
         requires first { 0 < n }
         requires there { n ≤ length (lines_of self.now.units) }
-        ensures ok { (line : Line) → line_at self.now.units n ≡ Some line → OnOk result (out.new.items ≡ out.old.items ++ line.content) }
+        ensures ok { (line : Line) → line_at self.now.units n ≡ Some line
+            → OnOk result (out.new.items ≡ out.old.items ++ line.content) }
         ensures err { OnErr result (out.new.items ≡ out.old.items) }
     {
-        self.value(self.content_for::<Brand>(n, Blank::new(1)), out)
-    }
-
-    // The span of the content of a line.
-    fn content_for<L: Ledger>(&self, n: u64, blank: Blank) -> Span
-        requires first { 0 < n }
-        requires there { n ≤ length (lines_of self.now.units) }
-        requires name { blank.name ≡ L.name }
-        requires parts { blank.parts ≡ L.parts }
-        requires some { 0 < L.parts }
-        ensures start { result.start ≡ line_start self.now.units n }
-        ensures content { (d : Line) → result.end ≡ result.start + length (slice_index_or (lines_of self.now.units) (n - 1) d).content }
-        ensures within { result.end ≤ length self.now.units }
-    {
-        let mut steps = Steps::<L>::new(blank);
-        let start = self.line_start(n - 1, &mut steps);
-        let end = self.content_end(n, start, &mut steps);
-        Span { start, end }
+        let Some(start) = start_of_line(&self.pieces, &self.chunks, n) else {
+            return Ok(());
+        };
+        push_line(&self.pieces, &self.chunks, start, out)?;
+        Ok(())
     }
 
     /// The position of the offset; None where the offset is no place of the text. Each node that is visited is a step.
@@ -223,13 +215,68 @@ impl TextBuffer {
         }
     }
 
+    /// Which lines of the text an edit touches that puts these units in the place of the span, and
+    /// how many lines stand in their place after it. The other lines stay. It takes no memory.
+    pub fn dirty_lines(&self, span: Span, text: &[u16]) -> Dirty
+        requires ordered { span.start ≤ span.end }
+        requires within { span.end ≤ length self.now.units }
+        ensures dirty { result ≡ dirty_lines self.now.units span text.now }
+        ensures before { let lines = lines_of (replaced self.now.units span text.now) in
+            take (result.first - 1) lines ≡ take (result.first - 1) (lines_of self.now.units) }
+        ensures after { let lines = lines_of (replaced self.now.units span text.now) in
+            drop (result.first - 1 + result.new) lines
+            ≡ drop (result.first - 1 + result.old) (lines_of self.now.units) }
+    {
+        let after_return = one_if(self.is_carriage_return_before(span.start));
+        let first = self.breaks_to(span.start - after_return) + 1;
+        let last = self.breaks_to(span.end) + 1;
+        let lines = count_breaks(text) + 1 + after_return;
+        Dirty {
+            first,
+            old: last + 1 - first,
+            new: lines - self.pairs_made(span, text),
+        }
+    }
+
+    // How many times a CR and an LF meet at the ends of the text, put in the place of the span.
+    fn pairs_made(&self, span: Span, text: &[u16]) -> u64
+        requires ordered { span.start ≤ span.end }
+        requires within { span.end ≤ length self.now.units }
+        ensures { let after = drop span.end self.now.units in
+            result ≡ one_if (joins_pair (take span.start self.now.units) (text.now ++ after))
+            + one_if (joins_pair text.now after) }
+    {
+        let front = one_if(self.joins_front(span, text));
+        if text.is_empty() {
+            return front;
+        }
+        front + one_if(self.joins_back(span, text))
+    }
+
+    // How many breaks end at the offset or before it.
+    fn breaks_to(&self, offset: u64) -> u64
+        requires { offset ≤ length self.now.units }
+        ensures count { result ≡ count_to offset (break_ends 0 self.now.units) }
+        ensures few { result < 2 ^ 62 }
+    {
+        if offset == self.len() {
+            return self.pieces.breaks();
+        }
+        let found = piece_at(&self.pieces, offset);
+        let own = self
+            .chunks
+            .breaks_to(found.span, offset - found.before.units);
+        found.before.breaks + own
+    }
+
     // The offset after the content of the line that starts here.
     fn content_end<L: Ledger>(&self, line: u64, start: u64, steps: &mut Steps<L>) -> u64
         requires first { 0 < line }
         requires there { line ≤ length (lines_of self.now.units) }
         requires start { start ≡ line_start self.now.units line }
-        requires small { start < 2 ^ 62 }
-        ensures content { (d : Line) → result ≡ start + length (slice_index_or (lines_of self.now.units) (line - 1) d).content }
+        ensures content { (d : Line)
+            → result ≡ start + length
+            (slice_index_or (lines_of self.now.units) (line - 1) d).content }
         ensures within { result ≤ length self.now.units }
         ensures cost { WithinLookUps 1 (length self.now.spans) (steps.new - steps.old) }
     {
@@ -238,7 +285,7 @@ impl TextBuffer {
         }
         let (found, own) = break_at(&self.pieces, &self.chunks, line, steps);
         let end = found.before.units + own;
-        if end < start + 2 {
+        if end - start < 2 {
             return end - 1;
         }
         // A CR LF lies in one piece.
@@ -277,7 +324,6 @@ impl TextBuffer {
     fn line_start<L: Ledger>(&self, breaks: u64, steps: &mut Steps<L>) -> u64
         requires { breaks < length (lines_of self.now.units) }
         ensures start { result ≡ line_start self.now.units (breaks + 1) }
-        ensures small { result < 2 ^ 62 }
         ensures cost { WithinLookUps 1 (length self.now.spans) (steps.new - steps.old) }
     {
         if breaks == 0 {
@@ -314,7 +360,8 @@ impl TextBuffer {
     pub fn value(&self, span: Span, out: &mut Vec<u16>) -> Result<(), AllocError>
         requires ordered { span.start ≤ span.end }
         requires within { span.end ≤ length self.now.units }
-        ensures ok { OnOk result (out.new.items ≡ out.old.items ++ take (span.end - span.start) (drop span.start self.now.units)) }
+        ensures ok { OnOk result (out.new.items
+            ≡ out.old.items ++ take (span.end - span.start) (drop span.start self.now.units)) }
         ensures err { OnErr result (out.new.items ≡ out.old.items) }
     {
         out.reserve((span.end - span.start) as usize)?;
@@ -338,7 +385,8 @@ impl TextBuffer {
     fn joins_front(&self, span: Span, text: &[u16]) -> bool
         requires ordered { span.start ≤ span.end }
         requires within { span.end ≤ length self.now.units }
-        ensures { result ≡ joins_pair (take span.start self.now.units) (text.now ++ drop span.end self.now.units) }
+        ensures { result ≡ joins_pair (take span.start self.now.units)
+            (text.now ++ drop span.end self.now.units) }
     {
         if !self.is_carriage_return_before(span.start) {
             return false;
@@ -353,7 +401,8 @@ impl TextBuffer {
     fn joins_back(&self, span: Span, text: &[u16]) -> bool
         requires ordered { span.start ≤ span.end }
         requires within { span.end ≤ length self.now.units }
-        ensures pair { result ≡ joins_pair (take span.start self.now.units ++ text.now) (drop span.end self.now.units) }
+        ensures pair { result ≡ joins_pair (take span.start self.now.units ++ text.now)
+            (drop span.end self.now.units) }
         ensures inside { result ≡ true → span.end < 2 ^ 62 }
     {
         if !self.is_line_feed_at(span.end) {
@@ -408,6 +457,10 @@ impl Flat for TextBuffer {
     fn run(&self, at: u64) -> &[u16] {
         self.run_at(at)
     }
+
+    fn copy(&self, start: u64, end: u64, out: &mut Vec<u16>) -> Result<(), AllocError> {
+        self.value(Span { start, end }, out)
+    }
 }
 
 fn one_if(test: bool) -> u64
@@ -428,18 +481,6 @@ fn line_feed_if(test: bool) -> &'static [u16]
     if test { &[LINE_FEED] } else { &[] }
 }
 
-// Whether the units end with CR LF.
-fn ends_with_pair(units: &[u16]) -> bool
-    ensures { result ≡ ends_with_pair units.now }
-{
-    if units.len() < 2 {
-        return false;
-    }
-    let before = units[units.len() - 2];
-    let last = units[units.len() - 1];
-    before == CARRIAGE_RETURN && last == LINE_FEED
-}
-
 // Appends the three texts as one, if they have any unit.
 fn append_some(
     chunks: &mut Chunks,
@@ -452,7 +493,8 @@ fn append_some(
     ensures grown { Extends chunks.old.buffers chunks.new.buffers }
     ensures units { unit_count chunks.new.buffers
         ≤ unit_count chunks.old.buffers + length (before.now ++ text.now ++ after.now) + 1 }
-    ensures spare { chunks.old.spare ≤ chunks.new.spare + length (before.now ++ text.now ++ after.now) + 1 }
+    ensures spare { chunks.old.spare
+        ≤ chunks.new.spare + length (before.now ++ text.now ++ after.now) + 1 }
 {
     if before.is_empty() && text.is_empty() && after.is_empty() {
         return None;

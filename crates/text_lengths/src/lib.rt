@@ -1,4 +1,4 @@
-//! Places in a text: offsets, positions, spans and lengths. No call takes memory.
+//! Places in a text: offsets, positions, spans, touched lines and lengths. No call takes memory.
 #![tactic(auto)]
 
 ghost use Rattle.std.specs.Prelude.{◌≡◌, ◌+◌, ◌^◌, ◌<◌, ◌≤◌, ◌↔◌, IsTrue, IsNone, IfSome};
@@ -19,6 +19,17 @@ pub struct Position {
 pub struct Span {
     pub start: u64,
     pub end: u64,
+}
+
+/// The lines of a text that an edit touches.
+#[derive(Clone, Copy, PartialEq, Eq, Debug)]
+pub struct Dirty {
+    /// The number of the first of them, counted from 1.
+    pub first: u64,
+    /// How many of them the text has before the edit.
+    pub old: u64,
+    /// How many lines stand in their place after it.
+    pub new: u64,
 }
 
 /// What a text measures: its line breaks, and the units after the last of them.

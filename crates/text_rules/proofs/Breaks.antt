@@ -7,15 +7,7 @@ use Rattle.std.proofs.lemmas.List.{same_lists, get_or_default, length-take-le, g
 use Rattle.std.proofs.lemmas.List.Sums.{sum_by-cons}
 use Rattle.std.proofs.lemmas.List.FromFn.{length-map-range_with_len, get_or-map-range_with_len}
 use Rattle.text_rules.specs.Lines.{Line, lines_of, line_length, line_start, line_feed, carriage_return, begins_with, in_first_line, in_first_break}
-
--- whether a break ends with the unit, which these units follow
-abbrev pub ends_break : ℕ → List ℕ → Bool
-ends_break u after = if u == carriage_return && begins_with line_feed after then false else u == carriage_return || u == line_feed
-
--- the places after the breaks of a text that stands from a place on
-abbrev pub break_ends : ℕ → List ℕ → List ℕ
-break_ends at [] = []
-break_ends at (u ∷ after) = if ends_break u after then (at + 1) ∷ break_ends (at + 1) after else break_ends (at + 1) after
+use Rattle.text_rules.specs.Breaks.{ends_break, break_ends, ends_with, joins_pair, count_to}
 
 -- the places at which lines start, the first of them at a place
 abbrev pub starts_from : ℕ → List Line → List ℕ
@@ -86,16 +78,6 @@ break_ends_moved by at (u ∷ after) =
     elim (ends_break u after) as (λ b. cond b ((by + at + 1) ∷ break_ends (by + at + 1) after) (break_ends (by + at + 1) after) ≡ map (λ e. by + e) (cond b ((at + 1) ∷ break_ends (at + 1) after) (break_ends (at + 1) after)))
     [ true ↦ cc (add_assoc by at 1) | false ↦ rest ]
 
--- the text ends with the unit
-abbrev pub ends_with : ℕ → List ℕ → Bool
-ends_with unit [] = false
-ends_with unit (u ∷ []) = u == unit
-ends_with unit (u ∷ v ∷ x) = ends_with unit (v ∷ x)
-
--- a CR LF lies across the border of two texts
-abbrev pub joins_pair : List ℕ → List ℕ → Bool
-joins_pair x y = ends_with carriage_return x && begins_with line_feed y
-
 pub one_more : (n : ℕ) → 1 + n ≡ suc n
 one_more n = omega arith
 
@@ -121,10 +103,6 @@ break_ends-append at (u ∷ v ∷ x) y apart =
     elim (ends_break u (v ∷ x)) as (λ b. cond b ((at + 1) ∷ break_ends (at + 1) ((v ∷ x) ++ y)) (break_ends (at + 1) ((v ∷ x) ++ y))
     ≡ cond b ((at + 1) ∷ break_ends (at + 1) (v ∷ x)) (break_ends (at + 1) (v ∷ x)) ++ break_ends (at + length (u ∷ v ∷ x)) y)
     [ true ↦ ap (λ s. (at + 1) ∷ s) rest | false ↦ rest ]
-
--- how many of ascending places are at most this one
-abbrev pub count_to : ℕ → List ℕ → ℕ
-count_to place ends = prefix_len (λ e. leb e place) ends
 
 pub count_to_none : (at place : ℕ) (x : List ℕ) → place ≤ at → count_to place (break_ends at x) ≡ 0
 count_to_none at place [] h = refl

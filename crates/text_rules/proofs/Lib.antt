@@ -2,3 +2,4 @@ pub mod EditLemmas
 pub mod Breaks
 pub mod Places
 pub mod TextLengths
+pub mod DirtyLines

@@ -5,7 +5,8 @@ use Rattle.std.proofs.lemmas.List.Sums.{prefix_len-le-length}
 use Rattle.text_lengths.specs.declared.Position.{Position}
 use Rattle.text_rules.specs.Lines.{Line, lines_of, line_length, line_start}
 use Rattle.text_rules.specs.Positions.{position_in, position_of, one_line_down}
-use Rattle.text_rules.proofs.Breaks.{starts_from, starts_of_lines, break_ends, ends_break, count_to, line_start_is, one_more}
+use Rattle.text_rules.specs.Breaks.{break_ends, ends_break, count_to}
+use Rattle.text_rules.proofs.Breaks.{starts_from, starts_of_lines, line_start_is, one_more}
 
 position_by : (line : Line) (lines : List Line) (at offset : ℕ) → position_in (line ∷ lines) offset
     ≡ record {

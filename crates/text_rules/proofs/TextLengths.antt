@@ -6,7 +6,8 @@ use Rattle.text_lengths.specs.declared.Length.{Length}
 use Rattle.text_lengths.specs.Length.{length_of, no_length, length_plus}
 use Rattle.text_lengths.proofs.Lengths.{same_length, none_plus, length_plus_assoc}
 use Rattle.text_rules.specs.Lines.{Line, lines_of, line_feed, carriage_return, begins_with, in_first_line, in_first_break, length_of_lines, text_length}
-use Rattle.text_rules.proofs.Breaks.{ends_break, joins_pair, line_count_is, and_false}
+use Rattle.text_rules.specs.Breaks.{ends_break, joins_pair}
+use Rattle.text_rules.proofs.Breaks.{line_count_is, and_false}
 
 -- what a unit adds: nothing where it joins the break after it, a break, or a column
 abbrev added_by : Bool → Bool → Length

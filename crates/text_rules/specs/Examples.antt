@@ -4,6 +4,7 @@ use Rattle.text_lengths.specs.Length.{length_of, no_length, length_plus}
 use Rattle.text_rules.specs.Lines.{lines_of, line_at, line_start, text_length}
 use Rattle.text_rules.specs.Positions.{position_of, offset_of, is_position}
 use Rattle.text_rules.specs.Edits.{edited, is_bad_span}
+use Rattle.text_rules.specs.Dirty.{dirty_lines}
 
 -- CR LF, CR and LF each end one line
 contents_of_four_lines : map (λ l. l.content) (lines_of (codes "a\r\nb\rc\nd")) ≡ codes "a" ∷ codes "b" ∷ codes "c" ∷ codes "d" ∷ []
@@ -69,3 +70,26 @@ position_of_the_end = refl
 
 position_at_a_start : position_of (codes "a\r\nb") 3 ≡ record { line = 2; column = 1 }
 position_at_a_start = refl
+
+an_edit_in_a_line : dirty_lines (codes "ab\ncd\nef") (record { start = 4; end = 5 }) (codes "X") ≡ record { first = 2; old = 1; new = 1 }
+an_edit_in_a_line = refl
+
+a_break_goes : dirty_lines (codes "ab\ncd\nef") (record { start = 1; end = 4 }) [] ≡ record { first = 1; old = 2; new = 1 }
+a_break_goes = refl
+
+two_breaks_come : dirty_lines (codes "ab\ncd") (record { start = 4; end = 4 }) (codes "x\r\ny\r") ≡ record { first = 2; old = 1; new = 3 }
+two_breaks_come = refl
+
+-- an LF joins the CR before it: the line that this CR ends is touched
+a_line_feed_after_a_return : dirty_lines (codes "a\rb") (record { start = 2; end = 2 }) (codes "\n") ≡ record { first = 1; old = 2; new = 2 }
+a_line_feed_after_a_return = refl
+
+a_return_meets_a_line_feed : dirty_lines (codes "a\rx\nb") (record { start = 2; end = 3 }) [] ≡ record { first = 1; old = 2; new = 1 }
+a_return_meets_a_line_feed = refl
+
+inside_cr_lf : dirty_lines (codes "a\r\nb") (record { start = 2; end = 2 }) (codes "x") ≡ record { first = 1; old = 1; new = 2 }
+inside_cr_lf = refl
+
+-- nothing joins an LF
+after_a_line_feed : dirty_lines (codes "a\nb") (record { start = 2; end = 2 }) (codes "\r") ≡ record { first = 2; old = 1; new = 2 }
+after_a_line_feed = refl

@@ -1,4 +1,6 @@
 pub mod Lines
+pub mod Breaks
 pub mod Positions
 pub mod Edits
+pub mod Dirty
 mod Examples

@@ -2,6 +2,7 @@
 use Rattle.std.specs.Prelude.{ℕ, ◌+◌, ◌-◌, ◌==◌, Bool, false, ◌&&◌, ◌||◌, if◌then◌else◌, List, [], ◌∷◌, length, take, sum_by, Option, None, slice_get}
 use Rattle.text_lengths.specs.declared.Length.{Length}
 use Rattle.text_lengths.specs.Length.{length_of}
+use Rattle.unit_text.specs.declared.TheConstants.{LINE_FEED, CARRIAGE_RETURN}
 
 pub record Line : Type 0 where
   pub content : List ℕ
@@ -9,10 +10,10 @@ pub record Line : Type 0 where
   pub break : List ℕ
 
 abbrev pub line_feed : ℕ
-line_feed = 10
+line_feed = LINE_FEED
 
 abbrev pub carriage_return : ℕ
-carriage_return = 13
+carriage_return = CARRIAGE_RETURN
 
 abbrev pub begins_with : ℕ → List ℕ → Bool
 begins_with unit [] = false

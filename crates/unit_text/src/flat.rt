@@ -1,11 +1,12 @@
 //! A text that is read without a copy.
 
-ghost use Rattle.std.specs.Prelude.{◌≡◌, ◌<◌, ◌++◌, List, ℕ, length, drop, take};
+ghost use Rattle.std.specs.Prelude.{◌≡◌, ◌-◌, ◌<◌, ◌≤◌, ◌++◌, List, ℕ, length, drop, take, OnOk, OnErr};
 ghost use Rattle.unit_text.specs.Units.{is_place};
 
 use crate::units::{Units, cuts_pair};
+use std::alloc::AllocError;
 
-/// A text that contracts see as its list of units, and that is read run by run.
+/// A text that contracts see as its list of units, and that is read run by run, or copied span by span.
 pub trait Flat {
     ghost units: { Self → List ℕ };
 
@@ -22,6 +23,13 @@ pub trait Flat {
         requires { at < length (units self.now) }
         ensures some { 0 < length result.now }
         ensures front { result.now ≡ take (length result.now) (drop at (units self.now)) };
+
+    /// Appends the units from `start` up to `end`. An error leaves `out` as it was.
+    fn copy(&self, start: u64, end: u64, out: &mut Vec<u16>) -> Result<(), AllocError>
+        requires ordered { start ≤ end }
+        requires within { end ≤ length (units self.now) }
+        ensures ok { OnOk result (out.new.items ≡ out.old.items ++ take (end - start) (drop start (units self.now))) }
+        ensures err { OnErr result (out.new.items ≡ out.old.items) };
 }
 
 impl Flat for Units {
@@ -38,5 +46,9 @@ impl Flat for Units {
 
     fn run(&self, at: u64) -> &[u16] {
         &self.as_slice()[at as usize..]
+    }
+
+    fn copy(&self, start: u64, end: u64, out: &mut Vec<u16>) -> Result<(), AllocError> {
+        out.extend_from_slice(&self.as_slice()[start as usize..end as usize])
     }
 }

@@ -10,3 +10,7 @@ pub use flat::Flat;
 pub use quote::quoted;
 pub use units::{Units, cuts_pair};
 pub use utf8::{units_of, utf8_of};
+
+pub const LINE_FEED: u16 = 0xA;
+
+pub const CARRIAGE_RETURN: u16 = 0xD;

@@ -2,6 +2,8 @@
 #![tactic(auto)]
 
 #[cfg(test)]
+mod lines;
+#[cfg(test)]
 mod nodes;
 #[cfg(test)]
 mod texts;

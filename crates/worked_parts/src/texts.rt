@@ -1,8 +1,8 @@
-//! The spans of an edited text.
+//! The spans of an edited text, and the lines that an edit touches.
 
 use std::test::Fail;
 use text_buffer::TextBuffer;
-use text_lengths::Span;
+use text_lengths::{Dirty, Span};
 
 const A: u16 = 0x61;
 
@@ -23,5 +23,19 @@ fn spans_of_an_edited_text(rt: HostRuntime) -> Result<(), Fail> {
         units.extend_from_slice(text.chunks().units(*span))?;
     }
     assert_eq!(rt; units.as_slice(), [A, 13, 10, B].as_slice());
+    Ok(())
+}
+
+/// An LF comes behind a CR that was a break alone.
+#[test]
+fn lines_that_an_edit_touches(rt: HostRuntime) -> Result<(), Fail> {
+    let text = TextBuffer::of_units(rt.alloc(), &[A, 13, B])?;
+    let dirty = text.dirty_lines(Span { start: 2, end: 2 }, &[10]);
+    let touched = Dirty {
+        first: 1,
+        old: 2,
+        new: 2,
+    };
+    assert_eq!(rt; dirty, touched);
     Ok(())
 }

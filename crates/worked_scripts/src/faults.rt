@@ -12,6 +12,8 @@ const SIZE: &[u8] = b"{\"cmd\":\"size\"}\n";
 
 const SIZES: &[u8] = b"{\"cmd\":\"size\"}\n{\"cmd\":\"size\"}\n{\"cmd\":\"size\"}\n";
 
+const BROKEN: &[u8] = b"{\"cmd\":\"edit\"";
+
 const ONE_REPLY: &[u8] = b"ok 0 1\n";
 
 const THREE_REPLIES: &[u8] = b"ok 0 1\nok 0 1\nok 0 1\n";
@@ -21,12 +23,11 @@ const ENDED: Served = Served::Ended {
     memory: 0,
 };
 
-/// One line a case: what the source gives, what the sink takes, what is written, and the status.
 #[test]
 fn faults_and_cuts(rt: HostRuntime) -> Result<(), Fail> {
     byte_by_byte(&rt)?;
     reads_that_fail(&rt)?;
-    a_last_line_without_its_break(&rt)?;
+    last_lines(&rt)?;
     writes_that_fail(&rt)?;
     Ok(())
 }
@@ -36,132 +37,133 @@ fn byte_by_byte<R: AllocGlobal + Abort>(rt: &R) -> Result<(), AllocError> {
     expect_run(rt, "byte by byte", SIZES, one, one, THREE_REPLIES, 0)
 }
 
-fn reads_that_fail<R: AllocGlobal + Abort>(rt: &R) -> Result<(), AllocError> {
-    let at_once = Stream {
+/// A script of which a read gives so many bytes, and one read fails; and what is written for it.
+struct FailingRead {
+    name: &'static str,
+    script: &'static [u8],
+    each: usize,
+    failing: u64,
+    written: &'static [u8],
+}
+
+const FAILING_READS: &[FailingRead] = &[
+    FailingRead {
+        name: "a read that fails at once",
+        script: SIZES,
         each: 65_536,
-        plan: &[Fault::Fails { call: 1 }],
-    };
-    expect_run(rt, "a read that fails at once", SIZES, at_once, ALL, b"", 4)?;
-
-    let after_a_line = Stream {
+        failing: 1,
+        written: b"",
+    },
+    FailingRead {
+        name: "a read that fails after a line",
+        script: SIZES,
         each: 15,
-        plan: &[Fault::Fails { call: 2 }],
-    };
-    expect_run(
-        rt,
-        "a read that fails after a line",
-        SIZES,
-        after_a_line,
-        ALL,
-        ONE_REPLY,
-        4,
-    )?;
-
+        failing: 2,
+        written: ONE_REPLY,
+    },
     // The second line lacks its LF, and the end was not seen.
-    let inside_a_line = Stream {
+    FailingRead {
+        name: "a read that fails inside a line",
+        script: SIZES,
         each: 29,
-        plan: &[Fault::Fails { call: 2 }],
-    };
-    expect_run(
-        rt,
-        "a read that fails inside a line",
-        SIZES,
-        inside_a_line,
-        ALL,
-        ONE_REPLY,
-        4,
-    )?;
-    expect_run(
-        rt,
-        "a read that fails inside the first line",
-        b"{\"cmd\":\"edit\"",
-        inside_a_line,
-        ALL,
-        b"",
-        4,
-    )?;
+        failing: 2,
+        written: ONE_REPLY,
+    },
+    FailingRead {
+        name: "a read that fails inside the first line",
+        script: BROKEN,
+        each: 29,
+        failing: 2,
+        written: b"",
+    },
+];
+
+fn reads_that_fail<R: AllocGlobal + Abort>(rt: &R) -> Result<(), AllocError> {
+    for case in FAILING_READS {
+        let source = Stream {
+            each: case.each.max(1),
+            plan: &[Fault::Fails { call: case.failing }],
+        };
+        expect_run(rt, case.name, case.script, source, ALL, case.written, 4)?;
+    }
     Ok(())
 }
 
-fn a_last_line_without_its_break<R: AllocGlobal + Abort>(rt: &R) -> Result<(), AllocError> {
-    expect_run(
-        rt,
-        "a last line without its break",
-        &SIZES[..29],
-        ALL,
-        ALL,
-        b"ok 0 1\nok 0 1\n",
-        0,
-    )?;
-    expect_run(
-        rt,
-        "a broken line at the end",
-        b"{\"cmd\":\"edit\"",
-        ALL,
-        ALL,
-        b"! syntax\n",
-        1,
-    )?;
-    expect_run(rt, "a script of one line", SIZE, ALL, ALL, ONE_REPLY, 0)?;
+/// A script, what is written for it, and the status.
+struct LastLine {
+    name: &'static str,
+    script: &'static [u8],
+    written: &'static [u8],
+    status: u8,
+}
+
+const LAST_LINES: &[LastLine] = &[
+    LastLine {
+        name: "a script of one line",
+        script: SIZE,
+        written: ONE_REPLY,
+        status: 0,
+    },
+    LastLine {
+        name: "a last line without its break",
+        script: b"{\"cmd\":\"size\"}\n{\"cmd\":\"size\"}",
+        written: b"ok 0 1\nok 0 1\n",
+        status: 0,
+    },
+    LastLine {
+        name: "a broken line at the end",
+        script: BROKEN,
+        written: b"! syntax\n",
+        status: 1,
+    },
+];
+
+fn last_lines<R: AllocGlobal + Abort>(rt: &R) -> Result<(), AllocError> {
+    for case in LAST_LINES {
+        let (script, written) = (case.script, case.written);
+        expect_run(rt, case.name, script, ALL, ALL, written, case.status)?;
+    }
     Ok(())
 }
+
+/// Which writes of the three replies fail or come short, and what is written.
+struct FailingWrite {
+    name: &'static str,
+    plan: &'static [Fault],
+    written: &'static [u8],
+}
+
+const FAILING_WRITES: &[FailingWrite] = &[
+    FailingWrite {
+        name: "a write that fails at once",
+        plan: &[Fault::Fails { call: 1 }],
+        written: b"",
+    },
+    FailingWrite {
+        name: "a write that fails inside a reply",
+        plan: &[Fault::Short { call: 1, most: 3 }, Fault::Fails { call: 2 }],
+        written: b"ok ",
+    },
+    FailingWrite {
+        name: "a write that takes nothing",
+        plan: &[Fault::Short { call: 2, most: 0 }],
+        written: ONE_REPLY,
+    },
+    FailingWrite {
+        name: "the second write fails",
+        plan: &[Fault::Fails { call: 2 }],
+        written: ONE_REPLY,
+    },
+];
 
 fn writes_that_fail<R: AllocGlobal + Abort>(rt: &R) -> Result<(), AllocError> {
-    let at_once = Stream {
-        each: 65_536,
-        plan: &[Fault::Fails { call: 1 }],
-    };
-    expect_run(
-        rt,
-        "a write that fails at once",
-        SIZES,
-        ALL,
-        at_once,
-        b"",
-        5,
-    )?;
-
-    let inside_a_reply = Stream {
-        each: 65_536,
-        plan: &[Fault::Short { call: 1, most: 3 }, Fault::Fails { call: 2 }],
-    };
-    expect_run(
-        rt,
-        "a write that fails inside a reply",
-        SIZES,
-        ALL,
-        inside_a_reply,
-        b"ok ",
-        5,
-    )?;
-
-    let takes_nothing = Stream {
-        each: 65_536,
-        plan: &[Fault::Short { call: 2, most: 0 }],
-    };
-    expect_run(
-        rt,
-        "a write that takes nothing",
-        SIZES,
-        ALL,
-        takes_nothing,
-        ONE_REPLY,
-        5,
-    )?;
-
-    let second = Stream {
-        each: 65_536,
-        plan: &[Fault::Fails { call: 2 }],
-    };
-    expect_run(
-        rt,
-        "the second write fails",
-        SIZES,
-        ALL,
-        second,
-        ONE_REPLY,
-        5,
-    )?;
+    for case in FAILING_WRITES {
+        let sink = Stream {
+            each: 65_536,
+            plan: case.plan,
+        };
+        expect_run(rt, case.name, SIZES, ALL, sink, case.written, 5)?;
+    }
     Ok(())
 }
 

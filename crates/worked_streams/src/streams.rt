@@ -1,8 +1,9 @@
 //! What no clause says: that there is memory for the makers, signals and flushes. And what callers learn by contract.
-ghost use Rattle.std.specs.Prelude.{◌≡◌, ◌+◌, ◌^◌, ◌<◌, ◌≤◌, length, ◌++◌, Some, IfOk};
+ghost use Rattle.std.specs.Prelude.{◌≡◌, ◌+◌, ◌^◌, ◌<◌, ◌≤◌, length, [], ◌++◌, Some, IfOk, OnOk};
+ghost use Rattle.script_streams.specs.Streams.{Wrote};
 
-use memory_streams::{SureSink, SureSource};
-use script_streams::{Failed, Sink, Source, StdSink, StdSource};
+use memory_streams::{MemSink, SureSink, SureSource};
+use script_streams::{Failed, Sink, Source, StdSink, StdSource, write_whole};
 use std::alloc::{AllocError, Global};
 use std::io;
 use std::io::{Error, ErrorKind, Read, Write};
@@ -44,6 +45,32 @@ fn sink_of_both(alloc: Global, first: &[u8], second: &[u8]) -> Result<SureSink, 
     let _ = sink.write(first);
     let _ = sink.write(second);
     Ok(sink)
+}
+
+/// Writes two texts into any sink.
+fn write_both<K: Sink>(out: &mut K, first: &[u8], second: &[u8]) -> Result<(), Failed>
+    ensures { OnOk result (Wrote (K.state out.old) (K.state out.new) (first.now ++ second.now)) }
+{
+    write_whole(out, first)?;
+    write_whole(out, second)
+}
+
+/// That a sink in memory still tells both texts after a call that knows no more than that it is a sink is said by
+/// contract, with no look at its bytes.
+fn write_both_in_memory(out: &mut MemSink, first: &[u8], second: &[u8]) -> Result<(), Failed>
+    requires empty { out.old.state.taken ≡ Some [] }
+    requires room { length first.now + length second.now ≤ out.old.state.room }
+    ensures told { OnOk result (out.new.state.taken ≡ Some (first.now ++ second.now)) }
+{
+    write_both(out, first, second)
+}
+
+#[test]
+fn a_sink_still_tells_after_a_generic_call(rt: HostRuntime) -> Result<(), Fail> {
+    let mut sink = MemSink::new(rt.alloc(), 5, 2, &[])?;
+    assert_eq!(rt; write_both_in_memory(&mut sink, b"ab", b"cde"), Ok(()));
+    assert_eq!(rt; sink.bytes(), Some(b"abcde".as_slice()));
+    Ok(())
 }
 
 #[test]

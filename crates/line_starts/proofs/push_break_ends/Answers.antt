@@ -2,7 +2,7 @@ use Rattle.std.proofs.Common.{◌<◌, ◌+◌, length, ap, sym, ◌∙◌, arit
 use Rattle.std.proofs.lemmas.Grind.{common_steps}
 use Rattle.std.proofs.lemmas.List.{drop_all, append-nil}
 use Rattle.line_starts.proofs.Starts.{break_ends_at_is, push_at_end, push_at_other}
-use Rattle.text_rules.proofs.Breaks.{break_ends}
+use Rattle.text_rules.specs.Breaks.{break_ends}
 use Rattle.line_starts.proofs.push_break_ends.Goals as goal
 use Rattle.line_starts.proofs.push_break_ends.Goals.{then-is_break_end+in_ok-push, else-is_break_end}
 

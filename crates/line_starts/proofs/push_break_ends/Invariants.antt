@@ -1,5 +1,5 @@
 use Rattle.std.proofs.Common.{◌≡◌, ◌+◌, ◌≤◌, ◌++◌, take, drop, vec_len, vec_capacity}
-use Rattle.text_rules.proofs.Breaks.{break_ends}
+use Rattle.text_rules.specs.Breaks.{break_ends}
 use Rattle.line_starts.proofs.push_break_ends.Given as goal
 
 abbrev pub invariant-loop-at : goal.invariant-loop-at

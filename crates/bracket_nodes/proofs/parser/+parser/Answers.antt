@@ -1,14 +1,14 @@
-use Rattle.std.proofs.Common.{◌≡◌, ◌<◌, ap, sym, ◌∙◌, subst, add-zero, add-one, Result, arith}
+use Rattle.std.proofs.Common.{◌≡◌, ◌<◌, ap, sym, ◌∙◌, subst, add-zero, add-one, true, rules, Result, arith}
 use Rattle.std.specs.Prelude.{IfOk}
 use Rattle.std.proofs.lemmas.Result.{IfOk-weaker}
 use Rattle.text_lengths.specs.declared.Length.{Length}
 use Rattle.bracket_rules.specs.declared.TheConstants.{MOST_OPEN}
 use Rattle.std.proofs.lemmas.List.{append-nil}
-use Rattle.bracket_rules.specs.Tree.{nothing}
+use Rattle.bracket_trees.specs.Tree.{nothing}
 use Rattle.bracket_nodes.specs.SharedLists.{shared_items, shared_weight}
 use Rattle.bracket_nodes.specs.declared.parser.Taken.{Taken}
 use Rattle.bracket_nodes.specs.Source.{Ahead, Takes, closing_taken, pair_taken}
-use Rattle.bracket_nodes.proofs.Parsing.{Takes-ready, Takes-closing, Takes-capped, Takes-paired, asks_not_missing, Reads-start, Reads-one, Listed-after}
+use Rattle.bracket_nodes.proofs.Parsing.{Takes-ready, Takes-closing, Takes-capped, Takes-paired, asks_not_missing, Reads-start, Reads-one, Listed-after, bracket_weighs}
 use Rattle.bracket_nodes.proofs.parser.+parser.Goals as goal
 
 taken_as : {E : Type 0} (r : Result Taken E) (x : Taken) (P : Taken → Type 0) → IfOk r (λ y. y ≡ x) → P x → IfOk r P
@@ -64,6 +64,18 @@ take-returns-then-level-eq-MOST_OPEN g t c =
     let columns : c.wide.result.columns ≡ c.in-Bracket.width = ap (λ (l : Length). l.columns) c.wide.ensures in
     rw (c.in_ok-capped_node-in-Bracket.ensures, columns)
     (Takes-capped old new c.args.opened c.args.level c.in-Bracket.kind c.in-Bracket.width c.if-level-eq-MOST_OPEN.true given)
+
+pub take-parse_list-requires : goal.take-parse_list-requires
+take-parse_list-requires g t c κs within =
+    let given = rw c.if-not-opening.false at (rw c.in-Bracket.is at c.in_ok-next.ensures) in
+    let weighs = bracket_weighs (g.S.Source.ahead c.args.source.now) (g.S.Source.ahead c.next.new.self) c.in-Bracket.kind c.in-Bracket.width true given in
+    search (rules, weighs)
+
+pub take-paired-requires-clause-fits : goal.take-paired-requires-clause-fits
+take-paired-requires-clause-fits g t c =
+    let given = rw c.if-not-opening.false at (rw c.in-Bracket.is at c.in_ok-next.ensures) in
+    let weighs = bracket_weighs (g.S.Source.ahead c.args.source.now) (g.S.Source.ahead c.next.new.self) c.in-Bracket.kind c.in-Bracket.width true given in
+    omega (arith, weighs, c.in_ok-part-in-Bracket.ensures.together, c.requires.fits)
 
 pub take-paired-requires-clause-not_missing : goal.take-paired-requires-clause-not_missing
 take-paired-requires-clause-not_missing g t c =

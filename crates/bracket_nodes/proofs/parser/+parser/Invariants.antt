@@ -1,7 +1,7 @@
 use Rattle.std.proofs.Common.{◌+◌, ◌-◌, ◌*◌}
 use Rattle.bracket_rules.specs.declared.TheConstants.{MOST_OPEN}
 use Rattle.bracket_nodes.specs.SharedLists.{shared_items, shared_weight}
-use Rattle.bracket_nodes.specs.Source.{Reads}
+use Rattle.bracket_nodes.specs.Source.{Reads, weight_ahead}
 use Rattle.bracket_nodes.proofs.parser.+parser.Given as goal
 
 abbrev pub decreases-parse_list : goal.decreases-parse_list
@@ -16,4 +16,4 @@ invariant-parse_list-loop-joiner g l =
     (shared_items l.joiner.lists.items) (shared_weight l.joiner.lists.items)
 
 abbrev pub decreases-parse_list-loop-joiner : goal.decreases-parse_list-loop-joiner
-decreases-parse_list-loop-joiner g l = (g.S.Source.ahead l.source).weight
+decreases-parse_list-loop-joiner g l = weight_ahead (g.S.Source.ahead l.source)

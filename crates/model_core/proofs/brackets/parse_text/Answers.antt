@@ -1,7 +1,7 @@
 use Rattle.std.proofs.Common.{List, subst}
 use Rattle.std.specs.Prelude.{IfOk}
 use Rattle.bracket_rules.specs.Rows.{Row}
-use Rattle.bracket_rules.specs.Told.{IsTreeOf}
+use Rattle.bracket_trees.specs.Told.{IsTreeOf}
 use Rattle.model_core.proofs.TreeLength.{IfOk-length}
 use Rattle.model_core.proofs.Scans.{AreScansOf, scans_of_text}
 use Rattle.model_core.proofs.brackets.parse_text.Goals as goal
@@ -24,10 +24,10 @@ parse_lines-requires-clause-fits c = (scans c).fits
 pub returns-clause-tree : goal.returns-clause-tree
 returns-clause-tree c =
     subst (λ (rows : List Row). IfOk c.parse_lines.result (IsTreeOf rows))
-    (scans (goal.at.returns-clause-tree c).After-deref).rows c.parse_lines.ensures
+    (scans (goal.at.returns-clause-tree c).After-deref).rows c.parse_lines.ensures.tree
 
 pub returns-clause-length : goal.returns-clause-length
 returns-clause-length c =
     IfOk-length c.args.table.now c.args.text.now.units c.parse_lines.result
     (subst (λ (rows : List Row). IfOk c.parse_lines.result (IsTreeOf rows))
-    (scans (goal.at.returns-clause-length c).After-deref).rows c.parse_lines.ensures)
+    (scans (goal.at.returns-clause-length c).After-deref).rows c.parse_lines.ensures.tree)

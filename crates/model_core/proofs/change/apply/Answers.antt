@@ -17,6 +17,7 @@ loop-done-init c =
     let none : drop (length ops - 0) ops ≡ [] = drop_all (length ops - 0) ops (omega arith) in
     record {
       units = sym (ap (edited_backwards c.args.text.now.units) none);
+      pieces = omega arith;
       edits = omega arith;
       room = omega arith;
       carried = sym (ap (carried_with c.args.forces c.args.decorations.now) none ∙ carried_with-none c.args.forces c.args.decorations.now c.requires.inside.sound);
@@ -68,6 +69,7 @@ loop-done-preserved c =
     let left : c.replace.new.self.units ≡ edited c.loop-done.text.units c.index-ops-ops.result = c.replace.ensures.units ∙ text in
     record {
       units = left ∙ sym now.leaves;
+      pieces = omega (arith, c.loop-done.invariant.pieces, c.replace.ensures.pieces);
       edits = omega (arith, c.loop-done.invariant.edits, c.replace.ensures.spare_edits);
       room = omega (arith, c.loop-done.invariant.room, c.replace.ensures.spare_units, now.units, ap length c.as_slice.ensures);
       carried = set ∙ sym moved.leaves;
@@ -85,6 +87,9 @@ returns-clause-decorations c =
     let ops = c.args.ops.now in
     let all : length ops - c.loop-done.done ≡ 0 = omega arith in
     c.loop-done.invariant.carried ∙ ap (λ (k : ℕ). carried_with c.args.forces c.args.decorations.now (drop k ops)) all
+
+pub returns-clause-pieces : goal.returns-clause-pieces
+returns-clause-pieces c = omega (arith, c.loop-done.invariant.pieces)
 
 pub returns-clause-edits : goal.returns-clause-edits
 returns-clause-edits c = omega (arith, c.loop-done.invariant.edits)

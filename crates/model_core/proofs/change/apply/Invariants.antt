@@ -1,11 +1,13 @@
 use Rattle.std.proofs.Common.{◌≡◌, ◌+◌, ◌-◌, ◌*◌, ◌≤◌, length, drop}
 use Rattle.batch_rules.specs.Batches.{text_units, edited_backwards}
+use Rattle.model_core.specs.State.{GrownBy}
 use Rattle.model_core.specs.Carrying.{carried_with, AreIn}
 use Rattle.model_core.proofs.change.apply.Given as goal
 
 abbrev pub invariant-loop-done : goal.invariant-loop-done
 invariant-loop-done l = record {
   units : l.text.units ≡ edited_backwards l.fn.text.units (drop (length l.ops - l.done) l.ops);
+  pieces : GrownBy l.done (length l.fn.text.spans) (length l.text.spans);
   edits : l.fn.text.spare_edits ≤ l.text.spare_edits + l.done;
   room : l.fn.text.spare_units ≤ l.text.spare_units + (text_units (drop (length l.ops - l.done) l.ops) + 3 * l.done);
   carried : l.decorations ≡ carried_with l.forces l.fn.decorations (drop (length l.ops - l.done) l.ops);

@@ -40,6 +40,7 @@ loop-change-preserved c =
     record {
       units = ap (λ t. text_on t (drop (c.loop-change.change-index + 1) c.args.changes.now)) text ∙ sym now.leaves ∙ c.loop-change.invariant.units;
       lead = subst (λ t. LeadOn t (drop (c.loop-change.change-index + 1) c.args.changes.now)) (sym text) now.lead;
+      pieces = omega (arith, c.loop-change.invariant.pieces, c.apply.ensures.pieces, now.ops, ap length c.ops.ensures.ops);
       edits = omega (arith, c.loop-change.invariant.edits, c.apply.ensures.edits, now.ops, ap length c.ops.ensures.ops);
       room = omega (arith, c.loop-change.invariant.room, c.apply.ensures.room, now.ops, now.units, ap length c.ops.ensures.ops, ap text_units c.ops.ensures.ops);
       carried = ap (λ d. decorations_on d (drop (c.loop-change.change-index + 1) c.args.changes.now)) moved
@@ -51,6 +52,9 @@ pub returns-clause-units : goal.returns-clause-units
 returns-clause-units c =
     let changes = c.args.changes.now in
     sym (ap (text_on c.loop-change.text.units) (drop_all c.loop-change.change-index changes (omega arith))) ∙ c.loop-change.invariant.units
+
+pub returns-clause-pieces : goal.returns-clause-pieces
+returns-clause-pieces c = omega (arith, c.loop-change.invariant.pieces)
 
 pub returns-clause-decorations : goal.returns-clause-decorations
 returns-clause-decorations c =

@@ -8,6 +8,7 @@ abbrev pub invariant-loop-change : goal.invariant-loop-change
 invariant-loop-change l = record {
   units : text_on l.text.units (drop l.change-index l.changes) ≡ text_on l.fn.text.units l.changes;
   lead : LeadOn l.text.units (drop l.change-index l.changes);
+  pieces : length l.text.spans + 6 * op_count On (drop l.change-index l.changes) ≤ length l.fn.text.spans + 6 * op_count On l.changes;
   edits : op_count On (drop l.change-index l.changes) ≤ l.text.spare_edits;
   room : unit_count On (drop l.change-index l.changes) + 3 * op_count On (drop l.change-index l.changes) ≤ l.text.spare_units;
   carried : decorations_on l.decorations (drop l.change-index l.changes) ≡ decorations_on l.fn.decorations l.changes;

@@ -14,7 +14,7 @@ pub loop-done-init : goal.loop-done-init
 loop-done-init c =
     let changes = c.args.changes.now in
     let none : drop (length changes - 0) changes ≡ [] = drop_all (length changes - 0) changes (omega arith) in
-    record { units = sym (ap (text_back c.args.text.now.units) none); edits = omega arith; room = omega arith; carried = sym (ap (decorations_back c.args.decorations.now) none); inside = c.requires.inside }
+    record { units = sym (ap (text_back c.args.text.now.units) none); pieces = omega arith; edits = omega arith; room = omega arith; carried = sym (ap (decorations_back c.args.decorations.now) none); inside = c.requires.inside }
 
 turn_now : (g : goal.After-ops) → IsTurnBack g.args.text.now.units g.args.changes.now g.loop-done.done g.index-changes-changes.result g.loop-done.text.units
 turn_now c = turn_back c.args.text.now.units c.args.changes.now c.loop-done.done c.index-changes-changes.result c.loop-done.text.units c.requires.lead c.loop-done-test.true c.index-changes-changes.is c.loop-done.invariant.units
@@ -48,6 +48,7 @@ loop-done-preserved c =
     ∙ decorations_back-cut c.args.decorations.now changes (length changes - 1 - c.loop-done.done) c.index-changes-changes.result (omega arith) c.index-changes-changes.is in
     record {
       units = c.apply.ensures.units ∙ ap (applied_from 0 c.loop-done.text.units) c.ops.ensures.ops ∙ sym now.leaves;
+      pieces = omega (arith, c.loop-done.invariant.pieces, c.apply.ensures.pieces, now.ops, ap length c.ops.ensures.ops);
       edits = omega (arith, c.loop-done.invariant.edits, c.apply.ensures.edits, now.ops, ap length c.ops.ensures.ops);
       room = omega (arith, c.loop-done.invariant.room, c.apply.ensures.room, now.ops, now.units, ap length c.ops.ensures.ops, ap text_units c.ops.ensures.ops);
       carried = c.apply.ensures.decorations ∙ ap (carried_with true c.loop-done.decorations) c.ops.ensures.ops ∙ ap (λ d. carried_with true d c.index-changes-changes.result.inverse) (c.loop-done.invariant.carried ∙ before) ∙ sym cut;
@@ -59,6 +60,12 @@ returns-clause-units c =
     let changes = c.args.changes.now in
     let all : length changes - c.loop-done.done ≡ 0 = omega arith in
     c.loop-done.invariant.units ∙ ap (λ (k : ℕ). text_back c.args.text.now.units (drop k changes)) all
+
+pub returns-clause-pieces : goal.returns-clause-pieces
+returns-clause-pieces c =
+    let changes = c.args.changes.now in
+    let all : length changes - c.loop-done.done ≡ 0 = omega arith in
+    omega (arith, c.loop-done.invariant.pieces, ap (λ (k : ℕ). op_count Back (drop k changes)) all)
 
 pub returns-clause-decorations : goal.returns-clause-decorations
 returns-clause-decorations c =

@@ -1,12 +1,14 @@
 use Rattle.std.proofs.Common.{◌≡◌, ◌+◌, ◌-◌, ◌*◌, ◌≤◌, length, drop}
 use Rattle.model_core.specs.declared.change.Way.TheVariants.{Back}
 use Rattle.model_core.specs.History.{text_back, op_count, unit_count}
+use Rattle.model_core.specs.State.{GrownBy}
 use Rattle.model_core.specs.Carrying.{decorations_back, AreIn}
 use Rattle.model_core.proofs.change.take_back.Given as goal
 
 abbrev pub invariant-loop-done : goal.invariant-loop-done
 invariant-loop-done l = record {
   units : l.text.units ≡ text_back l.fn.text.units (drop (length l.changes - l.done) l.changes);
+  pieces : GrownBy (op_count Back (drop (length l.changes - l.done) l.changes)) (length l.fn.text.spans) (length l.text.spans);
   edits : l.fn.text.spare_edits ≤ l.text.spare_edits + op_count Back (drop (length l.changes - l.done) l.changes);
   room : l.fn.text.spare_units ≤ l.text.spare_units + (unit_count Back (drop (length l.changes - l.done) l.changes) + 3 * op_count Back (drop (length l.changes - l.done) l.changes));
   carried : l.decorations ≡ decorations_back l.fn.decorations (drop (length l.changes - l.done) l.changes);

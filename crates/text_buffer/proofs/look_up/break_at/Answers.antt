@@ -1,7 +1,8 @@
 use Rattle.std.proofs.Common.{◌≡◌, ◌+◌, ◌-◌, ◌<◌, ◌≤◌, ℕ, length, get_or, ap, sym, ◌∙◌, arith}
 use Rattle.chunk_buffers.specs.Chunks.{units_at}
 use Rattle.line_starts.proofs.Starts.{break_count_is}
-use Rattle.text_rules.proofs.Breaks.{break_ends, line_start_is}
+use Rattle.text_rules.specs.Breaks.{break_ends}
+use Rattle.text_rules.proofs.Breaks.{line_start_is}
 use Rattle.text_rules.proofs.Places.{line_start_within}
 use Rattle.text_buffer.proofs.Found.{break_ends_after, found_inside, found_size, found_line_start, own_breaks}
 use Rattle.text_buffer.proofs.look_up.break_at.Goals as goal

@@ -1,4 +1,4 @@
-use Rattle.std.proofs.Common.{◌≡◌, ℕ, ◌+◌, ◌-◌, ◌<◌, ◌≤◌, ◌++◌, min, length, take, drop, ap, sym, ◌∙◌, arith}
+use Rattle.std.proofs.Common.{ℕ, ◌-◌, ◌<◌, ◌++◌, min, length, take, drop, ap, sym, ◌∙◌, arith}
 use Rattle.piece_tree.specs.declared.piece.Piece.{Piece}
 use Rattle.piece_tree.specs.Pieces.{pieces_of, IsPieceOf}
 use Rattle.text_buffer.proofs.Spelling.{length-spelled, length-units_at}
@@ -39,7 +39,7 @@ unreachable-requires c =
 pub units-requires-in-loop-left : goal.units-requires-in-loop-left
 units-requires-in-loop-left c =
     let w = c.loop-left.invariant.walked in
-    (next_has c.args.chunks.now.buffers c.args.pieces.now.entries c.loop-left.id c.loop-left.left c.loop-left.out.items _ w c.in-Some.next.0 c.in-Some.next.1 (sym c.in-Some.is ∙ c.next.ensures w.earlier w.later w.piece w.place)
+    (next_has c.args.pieces.now.entries w.earlier c.loop-left.id w.piece w.later w.place c.in-Some.next.0 c.in-Some.next.1 (sym c.in-Some.is ∙ c.next.ensures w.earlier w.later w.piece w.place)
     (IsPieceOf c.args.chunks.now.buffers) c.requires.text.pieces).inside
 
 pub loop-left-smaller : goal.loop-left-smaller
@@ -48,8 +48,8 @@ loop-left-smaller c =
     let b = c.args.chunks.now.buffers in
     let is = sym c.in-Some.is ∙ c.next.ensures w.earlier w.later w.piece w.place in
     let HasUnits : Piece → Type 0 = λ p. 0 < p.span.units in
-    let lies = (next_has c.args.chunks.now.buffers c.args.pieces.now.entries c.loop-left.id c.loop-left.left c.loop-left.out.items _ w c.in-Some.next.0 c.in-Some.next.1 is (IsPieceOf b) c.requires.text.pieces).inside in
-    let some : 0 < c.in-Some.next.1.units = next_has c.args.chunks.now.buffers c.args.pieces.now.entries c.loop-left.id c.loop-left.left c.loop-left.out.items _ w c.in-Some.next.0 c.in-Some.next.1 is HasUnits c.requires.text.full in
+    let lies = (next_has c.args.pieces.now.entries w.earlier c.loop-left.id w.piece w.later w.place c.in-Some.next.0 c.in-Some.next.1 is (IsPieceOf b) c.requires.text.pieces).inside in
+    let some : 0 < c.in-Some.next.1.units = next_has c.args.pieces.now.entries w.earlier c.loop-left.id w.piece w.later w.place c.in-Some.next.0 c.in-Some.next.1 is HasUnits c.requires.text.full in
     omega (
       arith,
       c.push_first-left-in-loop-left.ensures.count,

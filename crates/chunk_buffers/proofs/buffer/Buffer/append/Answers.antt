@@ -1,5 +1,5 @@
 use Rattle.std.proofs.Common.{◌++◌, sym, ap, ◌∙◌, cond, [], ◌∷◌, vec_len, vec_capacity, arith}
-use Rattle.text_rules.proofs.Breaks.{joins_pair}
+use Rattle.text_rules.specs.Breaks.{joins_pair}
 use Rattle.chunk_buffers.specs.Buffer.{padding}
 use Rattle.chunk_buffers.proofs.Padding.{ends_appended, length-from_place, room_left}
 use Rattle.chunk_buffers.proofs.buffer.Buffer.append.Goals as goal

@@ -1,5 +1,5 @@
 use Rattle.std.proofs.Common.{true, false, drop, arith, sym, ◌∙◌, ap}
-use Rattle.text_rules.proofs.Breaks.{joins_pair}
+use Rattle.text_rules.specs.Breaks.{joins_pair}
 use Rattle.chunk_buffers.specs.Buffer.{cut}
 use Rattle.chunk_buffers.proofs.Cuts.{counts_rise, break_count_if}
 use Rattle.chunk_buffers.proofs.buffer.Buffer.breaks.Goals as goal

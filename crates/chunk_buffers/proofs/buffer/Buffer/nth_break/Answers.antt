@@ -1,7 +1,7 @@
 use Rattle.std.proofs.Common.{◌+◌, ◌-◌, ◌≡◌, ◌<◌, arith, ap, get_or, leb}
 use Rattle.std.proofs.lemmas.List.Sums.{prefix_len-le-length}
 use Rattle.text_rules.specs.Lines.{line_start}
-use Rattle.text_rules.proofs.Breaks.{break_ends}
+use Rattle.text_rules.specs.Breaks.{break_ends}
 use Rattle.chunk_buffers.specs.Buffer.{cut}
 use Rattle.line_starts.specs.Starts.{break_count}
 use Rattle.chunk_buffers.proofs.Cuts.{break_count_most, nth_of_whole, nth_of_cut}

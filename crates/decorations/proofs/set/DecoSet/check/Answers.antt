@@ -1,25 +1,25 @@
-use Rattle.std.proofs.Common.{◌≡◌, false, true, length, Err, ◌⊎◌, inr, sym, ◌∙◌, subst, arith}
+use Rattle.std.proofs.Common.{◌≡◌, false, true, length, sym, ◌∙◌, subst, arith}
 use Rattle.std.specs.Prelude.{IsOk}
 use Rattle.std.specs.List.{list_all}
-use Rattle.decoration_rules.specs.declared.DecoError.TheVariants.{Unknown, Range, Limit, Memory}
-use Rattle.decoration_rules.specs.Decorations.{Decorations, decorated, owns, is_unknown, is_too_much}
+use Rattle.decoration_rules.specs.declared.DecoError.TheVariants.{Unknown, Range, Limit}
+use Rattle.decoration_rules.specs.Decorations.{Decorations, RefusedFor, decorated, owns, is_unknown, is_too_much}
 use Rattle.decorations.proofs.Deltas.{unknown-not_owned, known-owned, decorated-unknown, decorated-bad, decorated-too_much, decorated-ok, is_too_much-by_length, removed-within}
 use Rattle.decorations.proofs.set.DecoSet.check.Goals as goal
 
 pub returns-then-not-owns_all-clause-err : goal.returns-then-not-owns_all-clause-err
 returns-then-not-owns_all-clause-err g c =
     let units = g.F.Flat.units c.args.text.now in
-    subst (λ (d : Decorations). (Unknown ≡ Memory) ⊎ (decorated d c.args.owner c.args.remove.now c.args.add.now units ≡ Err Unknown)) c.self.view_is
-    (inr (decorated-unknown _ c.args.owner c.args.remove.now c.args.add.now units
-    (unknown-not_owned c.self.inside.tree.marks c.args.owner c.args.remove.now (sym c.owns_all.ensures ∙ c.if-not-owns_all.true))))
+    subst (λ (d : Decorations). RefusedFor Unknown (decorated d c.args.owner c.args.remove.now c.args.add.now units)) c.self.view_is
+    (decorated-unknown _ c.args.owner c.args.remove.now c.args.add.now units
+    (unknown-not_owned c.self.inside.tree.marks c.args.owner c.args.remove.now (sym c.owns_all.ensures ∙ c.if-not-owns_all.true)))
 
 pub returns-then-any_is_bad-clause-err : goal.returns-then-any_is_bad-clause-err
 returns-then-any_is_bad-clause-err g c =
     let units = g.F.Flat.units c.args.text.now in
     let known : is_unknown c.self.inside.tree.marks c.args.owner c.args.remove.now ≡ false =
     known-owned c.self.inside.tree.marks c.args.owner c.args.remove.now (sym c.owns_all.ensures ∙ c.if-not-owns_all.false) c.in_ok-named_once.ensures.ok in
-    subst (λ (d : Decorations). (Range ≡ Memory) ⊎ (decorated d c.args.owner c.args.remove.now c.args.add.now units ≡ Err Range)) c.self.view_is
-    (inr (decorated-bad _ c.args.owner c.args.remove.now c.args.add.now units known (sym c.any_is_bad.ensures ∙ c.if-any_is_bad.true)))
+    subst (λ (d : Decorations). RefusedFor Range (decorated d c.args.owner c.args.remove.now c.args.add.now units)) c.self.view_is
+    (decorated-bad _ c.args.owner c.args.remove.now c.args.add.now units known (sym c.any_is_bad.ensures ∙ c.if-any_is_bad.true))
 
 pub is_too_much-requires-clause-removed : goal.is_too_much-requires-clause-removed
 is_too_much-requires-clause-removed g c =
@@ -40,8 +40,8 @@ returns-then-is_too_much-clause-err g c =
     let much : is_too_much before c.args.remove.now (length c.args.add.now) ≡ true =
     is_too_much-by_length before c.args.owner c.args.remove.now c.len.result (length c.args.add.now) c.self.invariant.distinct owned c.in_ok-named_once.ensures.ok c.len.ensures
     ∙ sym c.is_too_much.ensures ∙ c.if-is_too_much.true in
-    subst (λ (d : Decorations). (Limit ≡ Memory) ⊎ (decorated d c.args.owner c.args.remove.now c.args.add.now units ≡ Err Limit)) c.self.view_is
-    (inr (decorated-too_much before c.args.owner c.args.remove.now c.args.add.now units known (sym c.any_is_bad.ensures ∙ c.if-any_is_bad.false) much))
+    subst (λ (d : Decorations). RefusedFor Limit (decorated d c.args.owner c.args.remove.now c.args.add.now units)) c.self.view_is
+    (decorated-too_much before c.args.owner c.args.remove.now c.args.add.now units known (sym c.any_is_bad.ensures ∙ c.if-any_is_bad.false) much)
 
 pub returns-clause-ok : goal.returns-clause-ok
 returns-clause-ok g c =

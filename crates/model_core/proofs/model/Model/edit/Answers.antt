@@ -1,10 +1,11 @@
-use Rattle.std.proofs.Common.{◌≡◌, ◌+◌, ◌≤◌, length, true, ap, sym, subst, ◌∙◌, Ok, arith}
+use Rattle.std.proofs.Common.{◌≡◌, ◌+◌, ◌*◌, ◌≤◌, length, true, ap, sym, subst, ◌∙◌, Ok, arith}
 use Rattle.std.proofs.lemmas.Grind.{common_steps}
 use Rattle.std.specs.List.{All}
 use Rattle.unit_text.specs.Units.{IsPaired}
 use Rattle.batch_rules.specs.Batches.{most_units, checked_batch, applied_from, inverse_from, text_units}
+use Rattle.batch_rules.proofs.Order.{length-sorted_ops}
 use Rattle.batch_rules.proofs.Standing.{accepted, text_units_applied}
-use Rattle.edit_stack.specs.Stack.{pushed}
+use Rattle.undo_rules.specs.Stack.{pushed}
 use Rattle.document_rules.specs.Document.{greatest_version, flat_edit}
 use Rattle.document_rules.proofs.PairedStates.{IsPairedState-edit}
 use Rattle.model_core.specs.State.{ModelState}
@@ -57,6 +58,16 @@ returns-clause-document c =
     let flat = edited_document x c.args.ops.now sorted c.in_ok-inverse.inverse rule c.self.invariant.0 inverse c.self.inside.history.stack c.self.inside.decorations c.self.inside.table c.self.inside.version c.self.inside.alternative few in
     let decorations : c.apply.new.decorations ≡ carried_with true c.self.inside.decorations sorted = c.apply.ensures.decorations ∙ ap (carried_with true c.self.inside.decorations) c.ops-2.ensures.ops in
     rw (text, decorations, stack, next) (sym (ap (λ (m : ModelState). flat_edit m.document c.args.ops.now) c.self.view_is) ∙ flat)
+
+pub returns-clause-pieces : goal.returns-clause-pieces
+returns-clause-pieces c =
+    let x = c.self.inside.text.units in
+    let rule : checked_batch x c.args.ops.now ≡ Ok c.in_ok-batch.batch = grind (arith, common_steps) in
+    let ok = accepted x c.args.ops.now c.in_ok-batch.batch rule in
+    let count : length c.in_ok-batch.batch ≡ length c.args.ops.now = ap length ok.in_order ∙ length-sorted_ops c.args.ops.now in
+    let before : length c.self.inside.text.spans ≡ c.args.self.now.pieces = ap (λ (m : ModelState). m.pieces) c.self.view_is in
+    let grown : length c.apply.new.text.spans ≤ length c.self.inside.text.spans + 6 * length c.in_ok-batch.batch = grind (arith, common_steps) in
+    omega (arith, grown, count, before)
 
 pub returns-clause-paired : goal.returns-clause-paired
 returns-clause-paired c =

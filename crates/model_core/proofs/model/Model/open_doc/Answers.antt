@@ -5,7 +5,7 @@ use Rattle.batch_rules.specs.Batches.{most_units}
 use Rattle.decoration_rules.specs.declared.Mark.{Mark}
 use Rattle.decoration_rules.specs.Decorations.{Decorations}
 use Rattle.decoration_rules.specs.Moves.{IsSpanIn, LieIn}
-use Rattle.edit_stack.specs.Stack.{Stack}
+use Rattle.undo_rules.specs.Stack.{Stack}
 use Rattle.document_rules.specs.Paired.{ArePairedSteps}
 use Rattle.document_rules.proofs.PairedStates.{no_steps}
 use Rattle.model_core.specs.declared.change.Change.{Change}

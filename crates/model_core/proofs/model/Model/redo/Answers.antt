@@ -1,15 +1,15 @@
 use Rattle.std.proofs.Common.{◌≡◌, refl, true, ◌+◌, ◌<◌, ◌≤◌, length, slice_get, Option, Some, None, Ok, Err, ap, sym, subst, ◌∙◌, arith, inl, inr}
 use Rattle.std.proofs.lemmas.Grind.{common_steps}
 use Rattle.batch_rules.specs.Batches.{most_units, text_units}
-use Rattle.edit_stack.specs.Stack.{Step, redone}
+use Rattle.undo_rules.specs.Stack.{Step, redone}
 use Rattle.edit_stack.specs.Element.{step_of}
 use Rattle.document_rules.specs.Refusals.{limit}
 use Rattle.document_rules.specs.Document.{greatest_version, flat_redo}
 use Rattle.document_rules.proofs.PairedStates.{IsPairedState-redo}
-use Rattle.model_core.specs.State.{ModelState}
+use Rattle.model_core.specs.State.{ModelState, next_op_count}
 use Rattle.model_core.specs.declared.change.Change.{Change}
 use Rattle.model_core.specs.declared.change.Way.TheVariants.{On}
-use Rattle.model_core.specs.History.{text_on, LeadOn, ops_by}
+use Rattle.model_core.specs.History.{text_on, LeadOn, ops_by, op_count}
 use Rattle.model_core.specs.Carrying.{decorations_on}
 use Rattle.model_core.proofs.Turns.{few_on}
 use Rattle.model_core.proofs.Stepping.{redo_of, nothing_to_redo, fits_on, IsRedo}
@@ -19,7 +19,7 @@ pub returns-in_default : goal.returns-in_default
 returns-in_default c =
     let m = c.self.inside in
     let none : slice_get m.history.stack.redo 0 ≡ None = grind (arith, common_steps) in
-    record { document = (sym (ap (λ (s : ModelState). flat_redo s.document) c.self.view_is) ∙ nothing_to_redo m.text.units m.version m.alternative m.decorations m.table m.history.stack none, refl); paired_state = λ paired. paired; fresh = refl }
+    record { document = (sym (ap (λ (s : ModelState). flat_redo s.document) c.self.view_is) ∙ nothing_to_redo m.text.units m.version m.alternative m.decorations m.table m.history.stack none, refl); paired_state = λ paired. paired; fresh = refl; pieces = refl }
 
 pub returns-in_err-version : goal.returns-in_err-version
 returns-in_err-version c =
@@ -76,6 +76,17 @@ returns-clause-document c =
     let alternative : c.alt_after-self-inside.result ≡ shown.alt_after = grind (arith, common_steps) in
     let decorations : c.make_again.new.decorations ≡ decorations_on m.decorations shown.changes = c.make_again.ensures.decorations ∙ ap (decorations_on m.decorations) c.changes-changes.ensures in
     rw (text, decorations, stack, version, alternative) (sym (ap (λ (s : ModelState). flat_redo s.document) c.self.view_is) ∙ step.accepted few)
+
+pub returns-clause-pieces : goal.returns-clause-pieces
+returns-clause-pieces c =
+    let m = c.self.inside in
+    let shown = step_of c.in-Some.step.now in
+    let next : slice_get m.history.stack.redo 0 ≡ Some shown = grind (arith, common_steps) in
+    let step = redo_of m.text.units m.version m.alternative m.decorations m.table m.history.stack shown next c.self.invariant.2 in
+    let ops : next_op_count c.args.self.now.document.history.redo ≡ op_count On shown.changes =
+    sym (ap (λ (s : ModelState). next_op_count s.document.history.redo) c.self.view_is) ∙ step.ops in
+    let before : length m.text.spans ≡ c.args.self.now.pieces = ap (λ (s : ModelState). s.pieces) c.self.view_is in
+    omega (arith, c.make_again.ensures.pieces, ap (op_count On) c.changes-changes.ensures, ops, ap length c.reserve_for.ensures.spans, before)
 
 pub returns-clause-paired_state : goal.returns-clause-paired_state
 returns-clause-paired_state c =

@@ -5,7 +5,8 @@ use Rattle.line_starts.proofs.Starts.{starts_of_is}
 use Rattle.piece_tree.specs.Pieces.{pieces_of}
 use Rattle.piece_tree.proofs.Costs.{no_look_up, look_ups-add}
 use Rattle.unit_text.specs.Units.{cuts_pair, is_place}
-use Rattle.text_rules.proofs.Breaks.{count_to, break_ends, break_ends_few, count_to_all}
+use Rattle.text_rules.specs.Breaks.{count_to, break_ends}
+use Rattle.text_rules.proofs.Breaks.{break_ends_few, count_to_all}
 use Rattle.text_buffer.proofs.Spelling.{length-spelled}
 use Rattle.text_buffer.proofs.Found.{found_inside, found_breaks_to, breaks_of_pieces, among_spans}
 use Rattle.text_buffer.proofs.Positions.{place_at_end, place_inside}

@@ -1,12 +1,12 @@
-use Rattle.std.proofs.Common.{◌≡◌, ◌+◌, ◌-◌, ◌<◌, ◌≤◌, ℕ, true, false, List, [], length, take, drop, ap, sym, ◌∙◌, arith}
+use Rattle.std.proofs.Common.{◌+◌, ◌-◌, ℕ, Bool, true, false, [], length, take, drop, refl, ap, sym, ◌∙◌, arith}
 use Rattle.std.proofs.lemmas.List.{length-take-le}
 use Rattle.piece_tree.specs.Pieces.{pieces_of}
-use Rattle.text_rules.specs.Lines.{Line, lines_of, line_start}
+use Rattle.text_rules.specs.Lines.{lines_of, line_start}
 use Rattle.text_rules.proofs.Breaks.{line_count_is}
 use Rattle.text_rules.proofs.Places.{line_start_within}
 use Rattle.text_buffer.specs.Text.{ends_with_pair}
 use Rattle.text_buffer.proofs.Contents.{content_end_by, content_end_last, no_pair_before}
-use Rattle.text_buffer.proofs.Found.{line_count_of_pieces, found_inside, found_size, found_line_pair, among_spans}
+use Rattle.text_buffer.proofs.Found.{line_count_of_pieces, found_inside, found_size, found_line_pair}
 use Rattle.text_buffer.proofs.text.TextBuffer.content_end.Goals as goal
 
 pub returns-then-line-line_count-clause-content : goal.returns-then-line-line_count-clause-content
@@ -30,15 +30,24 @@ slice_bounds-ends_with_pair-end g c =
     let size = found_size c.self.inside.chunks.buffers c.self.inside.pieces.entries c.break_at-found.result.0 c.break_at-found.ensures.piece c.self.invariant.pieces in
     sym (length-take-le c.break_at-found.result.1 c.units.result.now (omega (arith, size, ap length c.units.ensures, c.break_at-found.ensures.within)))
 
-pub returns-then-end-start-clause-content : goal.returns-then-end-start-clause-content
-returns-then-end-start-clause-content g c = λ d.
+pub overflow_sub-end : goal.overflow_sub-end
+overflow_sub-end g c =
+    let x = c.args.self.now.units in
+    let start : ℕ = c.args.start in
+    let end : ℕ = c.break_at-found.result.0.before.units + c.break_at-found.result.1 in
+    let end_is = sym c.break_at-found.ensures.line ∙ ap (λ v. line_start v.units (c.args.line + 1)) c.self.view_is in
+    let pair : Bool = ends_with_pair (take (end - start) (drop start x)) in
+    omega (arith, content_end_by x c.args.line start end (record { content = []; break = [] }) pair c.requires.first (omega arith) c.requires.start end_is refl)
+
+pub returns-then-end-start-lt2-clause-content : goal.returns-then-end-start-lt2-clause-content
+returns-then-end-start-lt2-clause-content g c = λ d.
     let x = c.args.self.now.units in
     let end : ℕ = c.break_at-found.result.0.before.units + c.break_at-found.result.1 in
     let end_is = sym c.break_at-found.ensures.line ∙ ap (λ v. line_start v.units (c.args.line + 1)) c.self.view_is in
     omega (arith, content_end_by x c.args.line c.args.start end d false c.requires.first (omega arith) c.requires.start end_is (no_pair_before x c.args.start end (omega arith)))
 
-pub returns-then-end-start-clause-within : goal.returns-then-end-start-clause-within
-returns-then-end-start-clause-within g c =
+pub returns-then-end-start-lt2-clause-within : goal.returns-then-end-start-lt2-clause-within
+returns-then-end-start-lt2-clause-within g c =
     let x = c.args.self.now.units in
     let end_is = sym c.break_at-found.ensures.line ∙ ap (λ v. line_start v.units (c.args.line + 1)) c.self.view_is in
     omega (arith, end_is, line_start_within x (c.args.line - 1) (c.args.line + 1) (omega (arith, line_count_is x)) (omega arith))

@@ -5,7 +5,8 @@ use Rattle.text_lengths.specs.declared.Position.{Position}
 use Rattle.unit_text.specs.Units.{is_place}
 use Rattle.text_rules.specs.Lines.{lines_of, line_start}
 use Rattle.text_rules.specs.Positions.{position_of}
-use Rattle.text_rules.proofs.Breaks.{count_to, break_ends, line_count_is}
+use Rattle.text_rules.specs.Breaks.{count_to, break_ends}
+use Rattle.text_rules.proofs.Breaks.{line_count_is}
 use Rattle.text_rules.proofs.Places.{position_of_is, line_start_before}
 use Rattle.text_buffer.proofs.Positions.{some_at_place}
 use Rattle.text_buffer.proofs.text.TextBuffer.position_at.Goals as goal

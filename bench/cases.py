@@ -1,0 +1,310 @@
+"""The scripts that bench/run times: each case is made from a seed of its own, so that it is the same in every run."""
+import random
+from collections.abc import Iterator
+from functools import lru_cache, partial
+from typing import NamedTuple
+
+LINE = "some words of a line that is as long as most\n"
+CHUNK = 15_000_000  # units that one script line may bring in: less than 2^24 bytes
+MILLION = 1_000_000
+ORDERS = ("rising", "falling", "mixed")
+MARKS = (1_000, 30_000)  # how many decorations
+WAYS = (("one a line", False), ("all in one line", True))
+
+Lines = list[str]
+Pair = tuple[Lines, Lines]  # lines, and as many that are refused
+
+
+class Case(NamedTuple):
+    """One row: lines to be timed, and as many of the same shape and length that are refused, after a setup."""
+
+    what: str
+    size: str
+    setup: Lines
+    lines: Lines
+    refused: Lines
+    flat: int  # how many of the lines the flat baseline gets: 0 where already the setup would take it too long
+
+    @property
+    def before(self) -> Lines:
+        """What is not timed: the setup, and one refused line, for which the program takes its first memory."""
+        return self.setup + self.refused[:1]
+
+
+class Scale(NamedTuple):
+    """How large and how long the cases are."""
+
+    texts: list[tuple[int, int]]  # units, and how many questions that go over all of them the flat baseline gets
+    nested: list[tuple[int, int]]  # units, and how many times all brackets are parsed anew
+    count: int  # lines to be timed, where a line takes little
+    enough: float  # seconds of processor time after which a case is not run again
+
+
+FULL = Scale([(10_000, 20_000), (1_000_000, 500), (100_000_000, 10)], [(1_000_000, 10), (10_000_000, 3)], 50_000, 2)
+QUICK = Scale([(10_000, 2_000), (1_000_000, 100)], [(1_000_000, 3)], 5_000, 0.2)
+
+
+def size_of(units: int) -> str:
+    """A number of units in words."""
+    return f"{units // 1_000_000} MB" if units >= 1_000_000 else f"{units // 1_000} KB"
+
+
+def op(start: int, end: int, text: str) -> str:
+    """An op of an edit. A line feed in the text stands escaped."""
+    return f'{{"at":[{start},{end}],"text":"{text}"}}'
+
+
+def edit(*ops: str) -> str:
+    """A line that edits."""
+    return f'{{"cmd":"edit","ops":[{",".join(ops)}]}}'
+
+
+def at(command: str, line: int, col: int) -> str:
+    """A line that asks about a position."""
+    return f'{{"cmd":"{command}","line":{line},"col":{col}}}'
+
+
+def nowhere(command: str, line: int, col: int) -> str:
+    """The same line, as long as that, about a position that no text has."""
+    return at(command, 0, 10 ** (len(f"{line}{col}") - 2))
+
+
+def brackets(first: int, last: int) -> str:
+    """A line that asks for the brackets of lines."""
+    return f'{{"cmd":"brackets","from":{first},"to":{last}}}'
+
+
+def decorate(remove: list[int], add: list[tuple[int, int]]) -> str:
+    """A line that changes decorations. The mode of a new one is told by its place."""
+    new = ",".join(f'{{"at":[{start},{end}],"stick":{(start + end) % 4}}}' for start, end in add)
+    return f'{{"cmd":"decorate","owner":7,"remove":[{",".join(map(str, remove))}],"add":[{new}]}}'
+
+
+def opened(text: str) -> Lines:
+    """Lines that make a document of this text."""
+    chunks = [text[start : start + CHUNK].replace("\n", "\\n") for start in range(0, len(text), CHUNK)]
+    later = [edit(op(start * CHUNK, start * CHUNK, chunk)) for start, chunk in enumerate(chunks) if start > 0]
+    return [f'{{"cmd":"open","text":"{chunks[0]}"}}', *later]
+
+
+@lru_cache(maxsize=1)
+def plain(units: int) -> Lines:
+    """A document of words."""
+    return opened((LINE * (units // len(LINE) + 1))[:units])
+
+
+def in_pieces(units: int) -> Lines:
+    """A document of words in many pieces: an edit replaces a unit in each hundred, or at most 100,000; lines stay."""
+    draw, step = random.Random(1), max(100, units // 100_000)
+    places = (start + draw.randrange(step - 1) for start in range(0, units - step, step))
+    ops = [op(place, place + 1, "x") for place in places if place % len(LINE) != len(LINE) - 1]
+    return [*plain(units), edit(*ops)]
+
+
+# ---- the text
+
+
+def edits(units: int, count: int) -> Pair:
+    """Edits at random places that add as many units as they remove, and the same with their spans turned round."""
+    draw, lines, refused = random.Random(2), [], []
+    for _ in range(count):
+        length, text = draw.choice([(1, "q"), (2, ".."), (3, "xyz"), (3, "a\\nb")])
+        start = draw.randrange(units - length)
+        lines.append(edit(op(start, start + length, text)))
+        refused.append(edit(op(start + length, start, text)))
+    return lines, refused
+
+
+def typed(places: int, units: int, count: int) -> Pair:
+    """A unit typed at each of so many places in turn, behind what was typed there, and the same with bad spans."""
+    lines, refused = [], []
+    for done in range(count):
+        turn, which = divmod(done, places)
+        at_first = units * (2 * which + 1) // (2 * places)
+        now = at_first + turn + which * (turn + 1)  # behind what was typed there, and at the places before it
+        lines.append(edit(op(now, now, "x")))
+        refused.append(edit(op(now + 1, now, "x")))
+    return lines, refused
+
+
+def positions(units: int, count: int) -> Pair:
+    """Questions about the positions of random offsets, and of offsets behind the text."""
+    draw = random.Random(3)
+    offsets = [draw.randrange(1, units) for _ in range(count)]
+    return tuple([f'{{"cmd":"position","offset":{offset + past}}}' for offset in offsets] for past in (0, units))
+
+
+def offsets(units: int, count: int) -> Pair:
+    """Questions about the offsets of random positions, and of none."""
+    draw = random.Random(4)
+    places = [(draw.randrange(1, units // len(LINE)), draw.randrange(1, len(LINE))) for _ in range(count)]
+    return tuple([asked("offset", *place) for place in places] for asked in (at, nowhere))
+
+
+def reading(units: int, count: int) -> Pair:
+    """Lines one after another, from the middle of the text on, and lines behind the text."""
+    last = units // len(LINE)
+    numbers = [(last // 2 + done) % last + 1 for done in range(count)]
+    return tuple([f'{{"cmd":"line","n":{number + past}}}' for number in numbers] for past in (0, units + 1))
+
+
+def text_cases(scale: Scale) -> Iterator[Case]:
+    """Edits of plain texts, and questions about their lines and places."""
+    rows = (
+        ("edit at a random place", plain, edits),
+        ("type at one place", plain, partial(typed, 1)),
+        ("type at fifty places in turn", plain, partial(typed, 50)),
+        ("position of a random offset", in_pieces, positions),
+        ("offset of a random position", in_pieces, offsets),
+        ("lines one after another", in_pieces, reading),
+    )
+    for what, document, made in rows:
+        for units, flat in scale.texts:
+            yield Case(what, size_of(units), document(units), *made(units, scale.count), flat)
+
+
+def undo_cases(scale: Scale) -> Iterator[Case]:
+    """Undo and redo of many steps of one edit each. Where nothing is left to redo stands for what is refused."""
+    count = 2 * scale.count
+    for units, _ in scale.texts:
+        steps = [line for step in edits(units, count)[0] for line in (step, '{"cmd":"stop"}')]
+        lines = ['{"cmd":"undo"}'] * count + ['{"cmd":"redo"}'] * count
+        flat = 2 * count if units <= 10_000 else 0
+        name = f"undo, then redo {count:,} edits"
+        yield Case(name, size_of(units), plain(units) + steps, lines, ['{"cmd":"redo"}'] * (2 * count), flat)
+
+
+# ---- decorations
+
+
+def marks(count: int, order: str) -> list[tuple[int, int]]:
+    """Spans in a text of a million units, in this order."""
+    step = MILLION // count
+    spans = [(start, start + 1 + start // step % 30) for start in range(0, step * count, step)]
+    if order == "mixed":
+        random.Random(5).shuffle(spans)
+    return spans[::-1] if order == "falling" else spans
+
+
+def among(count: int, edited: int) -> Pair:
+    """In turn an edit at a random place and a question about one of so many decorations."""
+    ids = random.Random(6).choices(range(1, count + 1), k=edited)
+    asked = ([f'{{"cmd":"deco","id":{one + past}}}' for one in ids] for past in (0, count))
+    both = zip(edits(MILLION, edited), asked)
+    return tuple([line for turn in zip(changes, questions) for line in turn] for changes, questions in both)
+
+
+def groups(values: list, at_once: bool) -> list[list]:
+    """What each line has: all of the values, or one."""
+    return [values] if at_once else [[value] for value in values]
+
+
+def decoration_cases(scale: Scale) -> Iterator[Case]:
+    """Edits among decorations, and decorations added and removed."""
+    document = plain(MILLION)
+    full = {count: [*document, decorate([], marks(count, "mixed"))] for count in MARKS}
+    for count in MARKS:
+        lines, refused = among(count, scale.count // 50)
+        yield Case("edit, then ask where one is", f"{count:,}", full[count], lines, refused, scale.texts[1][1])
+    for way, at_once in WAYS:
+        for order in ORDERS:
+            for count in MARKS:
+                good = marks(count, order)
+                both = (good, [span[::-1] for span in good])
+                lines, refused = ([decorate([], group) for group in groups(many, at_once)] for many in both)
+                yield Case(f"add {way}, {order}", f"{count:,}", document, lines, refused, len(lines))
+    for way, at_once in WAYS:
+        for count in MARKS:
+            ids = random.Random(7).sample(range(1, count + 1), count)
+            both = (ids, [one + count for one in ids])
+            lines, refused = ([decorate(group, []) for group in groups(many, at_once)] for many in both)
+            yield Case(f"remove {way}, mixed", f"{count:,}", full[count], lines, refused, len(lines))
+
+
+# ---- brackets
+
+
+def nested(units: int) -> tuple[Lines, int]:
+    """A document of lines of 32 units, with brackets in each and up to twelve open, and how many lines it has."""
+    opening = ["  " * depth + "if(x[i]) {" for depth in range(10)]
+    block = [line.ljust(31) for line in opening + ["  " * depth + "}" for depth in reversed(range(10))]]
+    count = units // 32
+    return opened("\n".join(block[number % len(block)] for number in range(count))), count
+
+
+def questions(command: str, last: int, count: int, draw: random.Random) -> Pair:
+    """Questions at random places of lines up to this one, most of them brackets, and the same refused."""
+    numbers = [draw.randrange(1, last - 60) for _ in range(count)]
+    if command == "brackets":
+        return [brackets(n, n + 59) for n in numbers], [brackets(n + 59, n) for n in numbers]
+    cols = [(number - 1) % 20 * 2 + 3 if (number - 1) % 20 < 10 else draw.randrange(10, 31) for number in numbers]
+    places = list(zip(numbers, cols))
+    return [at(command, *place) for place in places], [nowhere(command, *place) for place in places]
+
+
+def after_edits(units: int, last: int, asked: tuple[str, ...], rounds: int) -> Pair:
+    """In turn a balanced text put in at a random place, and questions."""
+    draw, lines, refused = random.Random(11), [], []
+    for _ in range(rounds):
+        place = draw.randrange(units - 60)
+        turn = [tuple([edit(op(start, place, "([{x}])"))] for start in (place, place + 1))]
+        for good, bad in turn + [questions(command, last, 1, draw) for command in asked]:
+            lines += good
+            refused += bad
+    return lines, refused
+
+
+def nested_cases(scale: Scale) -> Iterator[Case]:
+    """Questions about nested brackets, where the tree is kept and after edits."""
+    for command in ("level", "match", "brackets"):
+        for units, flat in scale.nested:
+            document, last = nested(units)
+            lines, refused = questions(command, last, scale.count // 5, random.Random(10))
+            name = "brackets of 60 lines" if command == "brackets" else command
+            yield Case(f"{name}, tree kept", size_of(units), [*document, at("level", 1, 1)], lines, refused, 3 * flat)
+    for name, asked in (("level, match", ("level", "match")), ("brackets of 60 lines", ("brackets",))):
+        for units, rounds in scale.nested:
+            document, last = nested(units)
+            lines, refused = after_edits(units, last, asked, rounds)
+            yield Case(f"edit, then {name}", size_of(units), document, lines, refused, len(lines))
+
+
+def parse_cases() -> Iterator[Case]:
+    """What changes or parses all brackets: one opened before all others, and the first question."""
+    document = opened(("f(x[i])".ljust(59) + "\n") * 42_000)
+    lines = [edit(op(0, 0, "{")), brackets(1, 60)] * 5
+    refused = [edit(op(1, 0, "{")), brackets(60, 1)] * 5
+    yield Case("{ typed first, then 60 lines", "2.5 MB", document, lines, refused, len(lines))
+    block = ["{"] * 4 + ["(a)"] * 5 + ["}"] * 4 + [""]
+    text = "".join(block[n % 14].ljust(27 + (n % 7 < 4)) + "\n" for n in range(35_000))
+    lines, refused = ([asked("level", 35_000, 1)] for asked in (at, nowhere))
+    yield Case("first parse, 45,000 brackets", "1 MB", opened(text), lines, refused, 1)
+
+
+# ---- lines
+
+
+HOSTILE = {
+    "bad JSON": ['{"cmd":"edit","ops":[{"at":[1,2],"text":"x"}]', '{"cmd":"line","n":1}}', "not json", '["', "[" * 200],
+    "unknown names": ['{"cmd":"erase","at":[1,2]}', '{"cmd":"line","n":1,"m":1}', '{"command":"size"}'],
+    "wrong types": ['{"cmd":"line","n":"1"}', '{"cmd":"edit","ops":7}', '{"cmd":"position","offset":1.5}', "[1]", "7"],
+}
+
+
+def line_cases(scale: Scale) -> Iterator[Case]:
+    """Lines that are no commands, and one that is as long as a line may be."""
+    for name, kinds in HOSTILE.items():
+        lines = [kinds[number % len(kinds)] for number in range(scale.count)]
+        yield Case(f"hostile lines, {name}", "", [], lines, [], len(lines))
+    head = '{"cmd":"open","text":"'
+    words = (LINE.replace("\n", "\\n") * (2**24 // len(LINE)))[: 2**24 - len(head) - 2].rstrip("\\")
+    whole = head + words.ljust(2**24 - len(head) - 2) + '"}'
+    yield Case("open a line of 2^24 bytes", "16 MB", [], [whole], [whole.replace("open", "oper", 1)], 1)
+
+
+def all_cases(scale: Scale) -> Iterator[Case]:
+    """Every case, made as it is asked for."""
+    for group in (text_cases(scale), undo_cases(scale), decoration_cases(scale), nested_cases(scale)):
+        yield from group
+    yield from parse_cases()
+    yield from line_cases(scale)

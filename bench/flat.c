@@ -1,0 +1,426 @@
+/* A flat text model: what the program is measured beside, and its replies compared with.
+ *
+ * The text is one array of UTF-16 units that each edit moves. Lines are found by scanning it from its beginning, and
+ * each question about brackets folds all of it. It reads the lines that bench/run writes and those alone: fields in one
+ * order without blanks, texts of ASCII with `\n` as their one escape and break, the ops of an edit in rising order. Any
+ * other line is answered `! syntax`. What an `open` or an edit lets go of is not freed. */
+#include <stdbool.h>
+#include <stdint.h>
+#include <stdio.h>
+#include <stdlib.h>
+#include <string.h>
+
+enum { MOST_OPEN = 300, BUFFER_BYTES = 1 << 16 };
+
+static const size_t NOWHERE = SIZE_MAX;
+
+typedef uint64_t Number;
+typedef struct { uint16_t *at; size_t length, room; } Units;
+typedef struct { size_t start, end; Units text; } Op;
+/* A replacement that was made, with both texts; `begins` where it is the first of its step. */
+typedef struct { size_t start; Units removed, added; bool begins; } Change;
+typedef struct { Number id, owner, stick; size_t start, end; bool goes; } Mark;
+typedef struct { size_t at, line, col, level, partner; int kind; char status; } Bracket;
+typedef struct {
+    Units text;
+    Number version, next_id;
+    Change *changes;
+    size_t done, total, change_room;
+    bool begins;
+    Mark *marks;
+    size_t mark_count, mark_room;
+    Bracket *brackets;
+    size_t bracket_count, bracket_room;
+} Document;
+
+static void fail(const char *why) {
+    fprintf(stderr, "flat: %s\n", why);
+    exit(3);
+}
+
+/* Room for more than `count` values; the array may move. */
+static void *grown(void *at, size_t count, size_t *room, size_t bytes) {
+    if (count < *room) return at;
+    *room = count + count / 2 + 8;
+    at = realloc(at, *room * bytes);
+    if (!at) fail("no memory");
+    return at;
+}
+
+static bool refuse_range(void) { return printf("! range") > 0; }
+
+/* ---- reading a line: each of these goes past what it reads, or tells that it is not there */
+
+static bool word(const char **at, const char *expected) {
+    size_t length = strlen(expected);
+    if (strncmp(*at, expected, length) != 0) return false;
+    *at += length;
+    return true;
+}
+
+static bool number(const char **at, Number *value) {
+    if (**at < '0' || **at > '9') return false;
+    char *end;
+    *value = strtoull(*at, &end, 10);
+    *at = end;
+    return true;
+}
+
+static bool span(const char **at, size_t *start, size_t *end) {
+    return word(at, "\"at\":[") && number(at, start) && word(at, ",") && number(at, end) && word(at, "]");
+}
+
+static bool text(const char **at, Units *units) {
+    *units = (Units){0};
+    if (!word(at, "\"")) return false;
+    for (; **at && **at != '"'; ++*at) {
+        bool is_break = **at == '\\' && (*at)[1] == 'n';
+        if (is_break) ++*at;
+        else if (**at < ' ' || **at == '\\') fail("a text has more than ASCII and line feeds");
+        units->at = grown(units->at, units->length, &units->room, sizeof *units->at);
+        units->at[units->length++] = is_break ? '\n' : (uint16_t)**at;
+    }
+    return word(at, "\"");
+}
+
+static bool closes(const char **at) { return word(at, "}") && (**at == '\n' || **at == 0); }
+
+/* ---- lines and places */
+
+static size_t line_count(const Units *text) {
+    size_t lines = 1;
+    for (size_t at = 0; at < text->length; at++) lines += text->at[at] == '\n';
+    return lines;
+}
+
+static size_t line_end(const Units *text, size_t start) {
+    while (start < text->length && text->at[start] != '\n') start++;
+    return start;
+}
+
+/* Where this line starts, counted from 1. */
+static bool line_start(const Units *text, Number line, size_t *start) {
+    *start = 0;
+    if (line > text->length + 1) return false;
+    for (Number now = 1; now < line; now++) {
+        *start = line_end(text, *start) + 1;
+        if (*start > text->length) return false;
+    }
+    return line > 0;
+}
+
+/* ---- decorations */
+
+static bool is_before(size_t offset, size_t place, bool stays) {
+    return offset < place || (offset == place && stays);
+}
+
+/* Where an offset stands after the op, by whether it sticks to the text before it. */
+static size_t moved(size_t offset, bool sticks, const Op *op) {
+    size_t removed = op->end - op->start, added = op->text.length;
+    size_t replaced = removed < added ? removed : added;
+    if (is_before(offset, op->start, removed > 0 || sticks)) return offset;
+    if (replaced > 0 && is_before(offset, op->start + replaced, added < removed || sticks)) return offset;
+    return is_before(offset, op->end, sticks) ? op->start + added : offset - removed + added;
+}
+
+static void move_marks(Document *document, const Op *op) {
+    for (size_t i = 0; i < document->mark_count; i++) {
+        Mark *mark = &document->marks[i];
+        mark->start = moved(mark->start, mark->stick == 0 || mark->stick == 2, op);
+        mark->end = moved(mark->end, mark->stick == 1 || mark->stick == 2, op);
+        if (mark->end < mark->start) mark->end = mark->start;
+    }
+}
+
+static Mark *mark_of(Document *document, Number id) {
+    for (size_t i = 0; id < document->next_id && i < document->mark_count; i++)
+        if (document->marks[i].id == id) return &document->marks[i];
+    return NULL;
+}
+
+/* Takes out the marks that go, or lets them stay. */
+static void settle(Document *document, bool stay) {
+    size_t kept = 0;
+    for (size_t i = 0; i < document->mark_count; i++) {
+        if (document->marks[i].goes && !stay) continue;
+        document->marks[kept] = document->marks[i];
+        document->marks[kept++].goes = false;
+    }
+    document->mark_count = kept;
+}
+
+static bool removals(Document *document, const char **at, Number owner, bool *known) {
+    for (Number id; number(at, &id); word(at, ",")) {
+        Mark *mark = mark_of(document, id);
+        *known = *known && mark && mark->owner == owner && !mark->goes;
+        if (*known) mark->goes = true;
+    }
+    return word(at, "],\"add\":[");
+}
+
+static bool additions(Document *document, const char **at, Number owner, bool *inside) {
+    for (Mark mark = {.id = document->next_id, .owner = owner}; word(at, "{"); word(at, ","), mark.id++) {
+        if (!span(at, &mark.start, &mark.end) || !word(at, ",\"stick\":")) return false;
+        if (!number(at, &mark.stick) || !word(at, "}")) return false;
+        *inside = *inside && mark.start <= mark.end && mark.end <= document->text.length && mark.stick <= 3;
+        document->marks = grown(document->marks, document->mark_count, &document->mark_room, sizeof mark);
+        document->marks[document->mark_count++] = mark;
+    }
+    return word(at, "]") && closes(at);
+}
+
+static bool decorate(Document *document, const char **at) {
+    size_t before = document->mark_count;
+    bool known = true, inside = true;
+    Number owner;
+    bool reads = number(at, &owner) && word(at, ",\"remove\":[") && removals(document, at, owner, &known) &&
+                 additions(document, at, owner, &inside);
+    bool refused = !reads || !known || !inside;
+    if (refused) document->mark_count = before;
+    size_t added = document->mark_count - before;
+    settle(document, refused);
+    if (refused) return reads && printf(known ? "! range" : "! unknown");
+    printf("ok %lu %zu", document->next_id, added);
+    document->next_id += added;
+    return true;
+}
+
+static bool deco(Document *document, const char **at) {
+    Number id;
+    if (!number(at, &id) || !closes(at)) return false;
+    Mark *mark = mark_of(document, id);
+    if (!mark) return printf("! unknown") > 0;
+    return printf("ok %zu %zu %lu %lu", mark->start, mark->end, mark->stick, mark->owner) > 0;
+}
+
+/* ---- the text and its history */
+
+static void replace(Document *document, const Op *op) {
+    Units *text = &document->text;
+    size_t behind = op->start + op->text.length, length = text->length - op->end + behind;
+    text->at = grown(text->at, length, &text->room, sizeof *text->at);
+    if (behind != op->end) memmove(text->at + behind, text->at + op->end, 2 * (text->length - op->end));
+    if (op->text.length) memcpy(text->at + op->start, op->text.at, 2 * op->text.length);
+    text->length = length;
+    move_marks(document, op);
+}
+
+static void replace_and_keep(Document *document, const Op *op) {
+    Units removed = {.length = op->end - op->start};
+    removed.at = grown(NULL, removed.length, &removed.room, sizeof *removed.at);
+    if (removed.length) memcpy(removed.at, document->text.at + op->start, 2 * removed.length);
+    document->changes = grown(document->changes, document->done, &document->change_room, sizeof(Change));
+    document->changes[document->done++] = (Change){op->start, removed, op->text, document->begins};
+    document->total = document->done;
+    document->begins = false;
+    replace(document, op);
+}
+
+static bool next_version(Document *document) {
+    document->version++;
+    return printf("ok %lu %zu %zu", document->version, document->text.length, line_count(&document->text)) > 0;
+}
+
+static bool open_text(Document *document, const char **at) {
+    Units units;
+    if (!text(at, &units) || !closes(at)) return false;
+    *document = (Document){.text = units, .next_id = 1, .begins = true};
+    return next_version(document);
+}
+
+/* The ops of an edit, each of which has room in `all`. */
+static bool read_ops(const char **at, Op **all, size_t *count) {
+    size_t room = 0;
+    do {
+        *all = grown(*all, *count, &room, sizeof(Op));
+        Op *op = &(*all)[(*count)++];
+        if (!word(at, "{") || !span(at, &op->start, &op->end) || !word(at, ",\"text\":")) return false;
+        if (!text(at, &op->text) || !word(at, "}")) return false;
+    } while (word(at, ","));
+    return word(at, "]") && closes(at);
+}
+
+static bool edit(Document *document, const char **at) {
+    Op *all = NULL;
+    size_t count = 0;
+    if (!read_ops(at, &all, &count)) return false;
+    for (size_t i = 0; i < count; i++) {
+        if (all[i].start > all[i].end || all[i].end > document->text.length) return refuse_range();
+        if (i > 0 && all[i].start < all[i - 1].end) fail("the ops of an edit do not rise");
+    }
+    for (size_t i = count; i-- > 0;) replace_and_keep(document, &all[i]);
+    free(all);
+    return next_version(document);
+}
+
+static bool undo(Document *document, const char **at) {
+    if (!closes(at)) return false;
+    if (document->done == 0) return printf("ok none") > 0;
+    const Change *change;
+    do {
+        change = &document->changes[--document->done];
+        replace(document, &(Op){change->start, change->start + change->added.length, change->removed});
+    } while (!change->begins);
+    document->begins = true;
+    return next_version(document);
+}
+
+static bool redo(Document *document, const char **at) {
+    if (!closes(at)) return false;
+    if (document->done == document->total) return printf("ok none") > 0;
+    do {
+        const Change *change = &document->changes[document->done++];
+        replace(document, &(Op){change->start, change->start + change->removed.length, change->added});
+    } while (document->done < document->total && !document->changes[document->done].begins);
+    return next_version(document);
+}
+
+static bool stop(Document *document, const char **at) {
+    if (!closes(at)) return false;
+    document->begins = true;
+    return printf("ok") > 0;
+}
+
+/* ---- questions about places */
+
+static bool line(Document *document, const char **at) {
+    Number n;
+    size_t start;
+    if (!number(at, &n) || !closes(at)) return false;
+    if (!line_start(&document->text, n, &start)) return refuse_range();
+    printf("ok \"");
+    for (size_t end = line_end(&document->text, start); start < end; start++) putchar(document->text.at[start]);
+    return putchar('"') == '"';
+}
+
+static bool position(Document *document, const char **at) {
+    Number offset;
+    if (!number(at, &offset) || !closes(at)) return false;
+    if (offset > document->text.length) return refuse_range();
+    size_t lines = 1, start = 0;
+    for (size_t i = 0; i < offset; i++)
+        if (document->text.at[i] == '\n') lines++, start = i + 1;
+    return printf("ok %zu %zu", lines, offset - start + 1) > 0;
+}
+
+/* Reads a position, and looks for its offset, which is NOWHERE where the text has no such position. */
+static bool place(const Document *document, const char **at, size_t *offset) {
+    Number line, col;
+    if (!number(at, &line) || !word(at, ",\"col\":") || !number(at, &col) || !closes(at)) return false;
+    bool is_there = line_start(&document->text, line, offset) && col > 0 &&
+                    col <= line_end(&document->text, *offset) - *offset + 1;
+    *offset = is_there ? *offset + col - 1 : NOWHERE;
+    return true;
+}
+
+static bool offset(Document *document, const char **at) {
+    size_t found;
+    if (!place(document, at, &found)) return false;
+    return found == NOWHERE ? refuse_range() : printf("ok %zu", found) > 0;
+}
+
+/* ---- brackets */
+
+/* Twice the kind and one, and one more for a closing bracket; 0 for what is none. */
+static const unsigned char CODES['}' + 1] = {['('] = 1, [')'] = 2, ['['] = 3, [']'] = 4, ['{'] = 5, ['}'] = 6};
+
+static void close_bracket(Bracket *all, size_t here, const size_t *stack, size_t *open) {
+    for (size_t depth = *open; depth-- > 0;) {
+        Bracket *opener = &all[stack[depth]];
+        if (opener->kind != all[here].kind) continue;
+        opener->status = 'o', opener->partner = here;
+        all[here].status = 'c', all[here].partner = stack[depth];
+        *open = depth;
+        break;
+    }
+    all[here].level = *open;
+}
+
+static void fold(Document *document) {
+    size_t stack[MOST_OPEN], open = 0, line = 1, start = 0, here = 0;
+    for (size_t at = 0; at < document->text.length; at++) {
+        uint16_t unit = document->text.at[at];
+        if (unit == '\n') line++, start = at + 1;
+        int code = unit < sizeof CODES ? CODES[unit] : 0;
+        bool opens = code % 2 == 1;
+        if (code == 0 || (opens && open == MOST_OPEN)) continue;
+        document->brackets = grown(document->brackets, here, &document->bracket_room, sizeof(Bracket));
+        document->brackets[here] = (Bracket){at, line, at - start + 1, open, 0, (code - 1) / 2, opens ? 'u' : 'x'};
+        if (opens) stack[open++] = here;
+        else close_bracket(document->brackets, here, stack, &open);
+        here++;
+    }
+    document->bracket_count = here;
+}
+
+static bool brackets(Document *document, const char **at) {
+    Number from, to;
+    if (!number(at, &from) || !word(at, ",\"to\":") || !number(at, &to) || !closes(at)) return false;
+    if (from == 0 || from > to || to > line_count(&document->text)) return refuse_range();
+    fold(document);
+    printf("ok");
+    for (const Bracket *b = document->brackets; b < document->brackets + document->bracket_count; b++)
+        if (from <= b->line && b->line <= to)
+            printf(" %zu %zu 1 %d %c %zu", b->line, b->col, b->kind, b->status, b->level);
+    return true;
+}
+
+static bool match(Document *document, const char **at) {
+    size_t offset;
+    if (!place(document, at, &offset)) return false;
+    if (offset == NOWHERE) return refuse_range();
+    fold(document);
+    const Bracket *all = document->brackets, *found = all, *end = all + document->bracket_count;
+    while (found < end && found->at < offset) found++;
+    bool is_paired = found < end && found->at == offset && (found->status == 'o' || found->status == 'c');
+    if (!is_paired) return printf("ok none") > 0;
+    return printf("ok %zu %zu 1", all[found->partner].line, all[found->partner].col) > 0;
+}
+
+static bool level(Document *document, const char **at) {
+    size_t offset, open = 0;
+    if (!place(document, at, &offset)) return false;
+    if (offset == NOWHERE) return refuse_range();
+    fold(document);
+    for (size_t i = 0; i < document->bracket_count && document->brackets[i].at < offset; i++) {
+        const Bracket *b = &document->brackets[i];
+        open = b->level + (b->status == 'o' || b->status == 'u');
+    }
+    return printf("ok %zu", open) > 0;
+}
+
+/* ---- the loop */
+
+/* What a line begins with, and what reads the rest and answers it: false where the rest is not as wanted. */
+static const struct { const char *head; bool (*answer)(Document *, const char **); } COMMANDS[] = {
+    {"{\"cmd\":\"edit\",\"ops\":[", edit},        {"{\"cmd\":\"position\",\"offset\":", position},
+    {"{\"cmd\":\"offset\",\"line\":", offset},    {"{\"cmd\":\"line\",\"n\":", line},
+    {"{\"cmd\":\"brackets\",\"from\":", brackets}, {"{\"cmd\":\"match\",\"line\":", match},
+    {"{\"cmd\":\"level\",\"line\":", level},      {"{\"cmd\":\"decorate\",\"owner\":", decorate},
+    {"{\"cmd\":\"deco\",\"id\":", deco},          {"{\"cmd\":\"open\",\"text\":", open_text},
+    {"{\"cmd\":\"undo\"", undo},                  {"{\"cmd\":\"redo\"", redo},
+    {"{\"cmd\":\"stop\"", stop},
+};
+
+static bool answer(Document *document, const char *line) {
+    for (size_t i = 0; i < sizeof COMMANDS / sizeof *COMMANDS; i++) {
+        const char *at = line;
+        if (word(&at, COMMANDS[i].head)) return COMMANDS[i].answer(document, &at);
+    }
+    return false;
+}
+
+int main(void) {
+    Document document = {.version = 1, .next_id = 1, .begins = true};
+    char *line = NULL;
+    size_t room = 0;
+    setvbuf(stdin, NULL, _IOFBF, BUFFER_BYTES);
+    setvbuf(stdout, NULL, _IOFBF, BUFFER_BYTES);
+    while (getline(&line, &room, stdin) > 0) {
+        if (!answer(&document, line)) printf("! syntax");
+        putchar('\n');
+        if (fflush(stdout) != 0) fail("a write failed");
+    }
+    return 0;
+}

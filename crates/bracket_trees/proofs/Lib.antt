@@ -1,0 +1,15 @@
+pub mod Glue
+pub mod ItemLists
+pub mod Weights
+pub mod LineWeights
+pub mod TreeParse
+pub mod KindSets
+pub mod Telling
+pub mod Levels
+pub mod Whole
+pub mod Places
+pub mod Longest
+pub mod BracketAt
+pub mod LeafWeights
+pub mod TreeLeaves
+pub mod PartedLeaves

@@ -1,0 +1,9 @@
+pub mod Tree
+pub mod TreeCode
+pub mod Items
+pub mod Weights
+pub mod Leaves
+pub mod Told
+pub mod Places
+mod Examples
+pub mod Found

@@ -1,0 +1,45 @@
+-- The marks of runs.
+use Rattle.std.specs.Prelude.{ℕ, ◌+◌, ◌-◌, ◌^◌, ◌≤◌, Bool, true, false, List, [], ◌∷◌, replicate}
+use Rattle.mark_rules.specs.declared.Mark.{Mark}
+use Rattle.mark_rules.specs.declared.Mark.TheVariants.{Kept, New}
+use Rattle.mark_rules.specs.Marks.{kept_marks}
+use Rattle.line_hunks.specs.declared.run.Run.{Run}
+
+abbrev pub is_new : Mark → Bool
+is_new New = true
+is_new (Kept number) = false
+
+-- of the line so many lines behind one with this mark, in one run
+abbrev pub later_mark : Mark → ℕ → Mark
+later_mark New lines = New
+later_mark (Kept number) lines = Kept (number + lines)
+
+-- so many lines from one with this mark on
+abbrev pub marks_from : Mark → ℕ → List Mark
+marks_from New lines = replicate lines New
+marks_from (Kept number) lines = kept_marks number lines
+
+abbrev pub run_marks : Run → List Mark
+run_marks run = marks_from run.first run.lines
+
+abbrev pub new_lines : ℕ → Run
+new_lines lines = record { first = New; lines = lines }
+
+-- so many of its lines, and the others
+abbrev pub head_of : Run → ℕ → Run
+head_of run lines = record { first = run.first; lines = lines }
+
+abbrev pub tail_of : Run → ℕ → Run
+tail_of run lines = record { first = later_mark run.first lines; lines = run.lines - lines }
+
+abbrev pub lines_in : List Run → ℕ
+lines_in [] = 0
+lines_in (run ∷ runs) = run.lines + lines_in runs
+
+-- the number behind the last one
+abbrev pub numbers_end : Mark → ℕ → ℕ
+numbers_end New lines = lines
+numbers_end (Kept number) lines = number + lines
+
+abbrev pub IsInRange : Run → Type 0
+IsInRange run = numbers_end run.first run.lines ≤ 2 ^ 62

@@ -1,0 +1,118 @@
+//! The marks of a text's lines.
+
+ghost use Rattle.std.specs.Prelude.{◌≡◌, ◌+◌, ◌-◌, ◌^◌, ◌<◌, ◌≤◌, [], ◌∷◌, drop, length, not, OnOk};
+ghost use Rattle.mark_rules.specs.declared.Mark.TheVariants.{New};
+ghost use Rattle.mark_rules.specs.Marks.{clean_marks, edited_marks, mark_at, kept_run, has_new, Rises};
+
+use crate::runs::Runs;
+use mark_rules::Mark;
+use std::alloc::{AllocError, Global};
+use std::marker::Model;
+
+/// One mark for each line of a text, from its first line on. Lines are counted from 1; there is at least one, and fewer
+/// than 2^62.
+///
+/// They are kept as runs, with a gap where the text was edited last. Looking up a line halves the runs. An edit costs time
+/// in the runs between its place and the last one's, and typing at one place makes no more of them.
+#[derive(Drop)]
+pub struct Hunks {
+    runs: Runs,
+}
+
+impl Model for Hunks {
+    ghost use Rattle.std.specs.Prelude.{◌-◌, ◌/◌};
+    ghost use Rattle.mark_rules.specs.Marks.{Rises};
+    ghost use Rattle.line_hunks.specs.Hunks.{Shown};
+    ghost use Rattle.line_hunks.specs.Runs.{all_marks, run_count, room_of, IsWhole};
+
+    ghost Value = { Shown };
+
+    ghost view = { λ h. record { marks = all_marks h.runs; spare = (room_of h.runs - run_count h.runs) / 2 } };
+
+    ghost invariant = { λ h. IsWhole h.runs × Rises (all_marks h.runs) };
+}
+
+impl Hunks {
+    /// One line, which is new. Takes no memory.
+    pub fn new(alloc: Global) -> Hunks
+        ensures { result.marks ≡ New ∷ [] }
+    {
+        Hunks {
+            runs: Runs::new(alloc),
+        }
+    }
+
+    /// Makes room for so many edits. Only this takes memory. An error leaves the marks as they were, and room that was
+    /// there stays.
+    pub fn reserve(&mut self, edits: u64) -> Result<(), AllocError>
+        ensures room { OnOk result (edits ≤ self.new.spare) }
+        ensures marks { self.new.marks ≡ self.old.marks }
+        ensures kept { self.old.spare ≤ self.new.spare }
+    {
+        self.runs.reserve(edits)
+    }
+
+    /// The lines from line `first` on, `old` of them, became `new` other ones. Neither is 0. Takes no memory.
+    pub fn edit(&mut self, first: u64, old: u64, new: u64)
+        requires room { 0 < self.old.spare }
+        requires first { 1 ≤ first }
+        requires some { 1 ≤ old }
+        requires within { first - 1 + old ≤ length self.old.marks }
+        requires new { 1 ≤ new }
+        requires fits { length self.old.marks - old + new < 2 ^ 62 }
+        ensures marks { self.new.marks ≡ edited_marks first old new self.old.marks }
+        ensures room { self.old.spare ≤ self.new.spare + 1 }
+    {
+        self.runs.edit(first, old, new);
+    }
+
+    /// The text, now of so many lines, was parsed: each line is kept.
+    pub fn clean(&mut self, lines: u64)
+        requires some { 1 ≤ lines }
+        requires fits { lines < 2 ^ 62 }
+        ensures marks { self.new.marks ≡ clean_marks lines }
+        ensures room { self.old.spare ≤ self.new.spare }
+    {
+        self.runs.clean(lines);
+    }
+
+    /// How many lines the text has.
+    pub fn lines(&self) -> u64
+        ensures lines { result ≡ length self.now.marks }
+        ensures some { 1 ≤ result }
+        ensures fits { result < 2 ^ 62 }
+        ensures rises { Rises self.now.marks }
+    {
+        self.runs.lines()
+    }
+
+    /// The mark of line `n`.
+    pub fn mark(&self, n: u64) -> Mark
+        requires some { 1 ≤ n }
+        requires within { n ≤ length self.now.marks }
+        ensures { result ≡ mark_at n self.now.marks }
+    {
+        let place = self.runs.place(n);
+        place.run.mark(place.before)
+    }
+
+    /// How many lines from line `n` on are kept one after another; 0 where line `n` is new.
+    pub fn kept_from(&self, n: u64) -> u64
+        requires some { 1 ≤ n }
+        requires within { n ≤ length self.now.marks }
+        ensures { result ≡ kept_run (drop (n - 1) self.now.marks) }
+    {
+        let place = self.runs.place(n);
+        match place.run.first {
+            Mark::Kept(_) => place.run.lines - place.before,
+            Mark::New => 0,
+        }
+    }
+
+    /// Whether no line is new.
+    pub fn is_clean(&self) -> bool
+        ensures { result ≡ not (has_new self.now.marks) }
+    {
+        self.runs.is_clean()
+    }
+}

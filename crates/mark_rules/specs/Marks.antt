@@ -1,0 +1,53 @@
+-- The marks of a text's lines, the first line's first. Lines are counted from 1.
+use Rattle.std.specs.Prelude.{ℕ, zero, suc, ◌+◌, ◌-◌, ◌≡◌, ◌≤◌, ◌==◌, ⊤, Bool, true, false, if◌then◌else◌, List, [], ◌∷◌, ◌++◌, take, drop, replicate, slice_index_or}
+use Rattle.mark_rules.specs.declared.Mark.{Mark}
+use Rattle.mark_rules.specs.declared.Mark.TheVariants.{Kept, New}
+
+-- so many kept lines one after another, from this number on
+abbrev pub kept_marks : ℕ → ℕ → List Mark
+kept_marks number zero = []
+kept_marks number (suc lines) = Kept number ∷ kept_marks (suc number) lines
+
+-- after a parse of so many lines
+abbrev pub clean_marks : ℕ → List Mark
+clean_marks lines = kept_marks 1 lines
+
+-- after `old` lines from line `first` on became `new` other ones
+abbrev pub edited_marks : ℕ → ℕ → ℕ → List Mark → List Mark
+edited_marks first old new marks = take (first - 1) marks ++ replicate new New ++ drop (first - 1 + old) marks
+
+-- the mark of line n
+abbrev pub mark_at : ℕ → List Mark → Mark
+mark_at n marks = slice_index_or marks (n - 1) New
+
+-- how many marks from the front on are kept with this number and those that follow it
+abbrev pub numbered : ℕ → List Mark → ℕ
+numbered number [] = 0
+numbered number (New ∷ marks) = 0
+numbered number (Kept i ∷ marks) = if i == number then suc (numbered (suc number) marks) else 0
+
+-- how many lines from the front on are kept one after another
+abbrev pub kept_run : List Mark → ℕ
+kept_run [] = 0
+kept_run (New ∷ marks) = 0
+kept_run (Kept i ∷ marks) = suc (numbered (suc i) marks)
+
+abbrev pub has_new : List Mark → Bool
+has_new [] = false
+has_new (New ∷ marks) = true
+has_new (Kept i ∷ marks) = has_new marks
+
+-- if the line behind kept line i is kept, it is the one behind it in the old text too
+abbrev pub GoesOn : ℕ → List Mark → Type 0
+GoesOn i [] = ⊤
+GoesOn i (New ∷ marks) = ⊤
+GoesOn i (Kept j ∷ marks) = j ≡ suc i
+
+-- the numbers of the kept lines rise, from `least` or more on, and by one between neighbours
+abbrev pub RisesFrom : ℕ → List Mark → Type 0
+RisesFrom least [] = ⊤
+RisesFrom least (New ∷ marks) = RisesFrom least marks
+RisesFrom least (Kept i ∷ marks) = (least ≤ i) × GoesOn i marks × RisesFrom (suc i) marks
+
+abbrev pub Rises : List Mark → Type 0
+Rises marks = RisesFrom 1 marks

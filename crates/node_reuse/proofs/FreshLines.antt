@@ -1,0 +1,142 @@
+-- A reader that enters a line whose content was scanned, goes on to the next line, or stands at the end.
+use Rattle.std.proofs.Common.{◌≡◌, ℕ, zero, suc, ◌+◌, ◌-◌, ◌<◌, ◌≤◌, true, List, [], ◌∷◌, length, get_or, drop, refl, ap, sym, ◌∙◌, subst, arith, inr, drop-cons}
+use Rattle.std.specs.Prelude.{slice_index}
+use Rattle.std.proofs.lemmas.List.{length-drop, nil_from_length}
+use Rattle.text_lengths.specs.declared.Length.{Length}
+use Rattle.text_lengths.specs.Length.{length_of}
+use Rattle.bracket_rules.specs.declared.Token.{Token}
+use Rattle.bracket_rules.specs.declared.TheConstants.{MOST_OPEN}
+use Rattle.bracket_rules.specs.Table.{Table, is_table, token, tokens_of}
+use Rattle.bracket_rules.specs.Rows.{Row, HasRow, row, empty_row, glue, text_rows}
+use Rattle.bracket_rules.proofs.Tokens.{tokens_of-in_line}
+use Rattle.bracket_trees.specs.Tree.{text}
+use Rattle.bracket_trees.specs.Weights.{glue_weights, AreCovered}
+use Rattle.bracket_trees.specs.Places.{rows_from}
+use Rattle.bracket_trees.proofs.Glue.{empty_glue}
+use Rattle.bracket_trees.proofs.LineWeights.{AreCovered-same}
+use Rattle.bracket_nodes.specs.Source.{GivesNode, IsOver}
+use Rattle.bracket_nodes.specs.ScannedLines.{moved_back}
+use Rattle.reuse_rules.specs.Following.{Reached}
+use Rattle.reuse_rules.proofs.Followings.{Reached-rows, Reached-line}
+use Rattle.node_reuse.specs.Texts.{text_weights}
+use Rattle.node_reuse.specs.Ahead.{ahead_at, fresh_left, break_before, rows_before, IsFresh}
+use Rattle.node_reuse.proofs.FreshSteps.{rows_at, fits_text, break_next}
+
+-- ---- the line's break
+
+some_row : (rows : List Row) → 0 < length rows → HasRow rows
+some_row [] h = absurd (omega arith)
+some_row (r ∷ rows) h = tt
+
+some_break : (rows : List Row) → 0 < length rows → break_before rows ≡ 1
+some_break [] h = absurd (omega arith)
+some_break (r ∷ rows) h = refl
+
+break_rows : (c n : ℕ) (rest : List Row) → 0 < length rest → rows_before c [] n rest ≡ glue (empty_row ∷ empty_row ∷ []) rest
+break_rows c n [] h = absurd (omega arith)
+break_rows c n (x ∷ rest) h = ap (λ (y : List Row). empty_row ∷ y) (sym (empty_glue (x ∷ rest) tt))
+
+covered_break : (weights : List ℕ) (i left : ℕ) → suc i < length weights → 1 ≤ left
+    → AreCovered (glue_weights (1 ∷ 0 ∷ []) ((slice_index weights (suc i) - 0) ∷ drop (suc (suc i)) weights)) (left ∷ drop (suc i) weights)
+covered_break weights i left h k =
+    let next : drop (suc i) weights ≡ slice_index weights (suc i) ∷ drop (suc (suc i)) weights = drop-cons weights (suc i) 0 h in
+    subst (λ (x : List ℕ). AreCovered (1 ∷ (0 + (slice_index weights (suc i) - 0)) ∷ drop (suc (suc i)) weights) (left ∷ x)) (sym next)
+    (k, (omega arith, AreCovered-same (drop (suc (suc i)) weights)))
+
+pub break_given : (now : List Row) (weights : List ℕ) (p : Length) (n kinds level : ℕ) → level ≤ MOST_OPEN → IsFresh now weights p [] n
+    → length weights ≡ length now → suc p.lines < length now
+    → GivesNode (ahead_at now weights p (fresh_left weights p))
+    (ahead_at now weights (length_of (suc p.lines) 0) (fresh_left weights (length_of (suc p.lines) 0))) kinds level (text (length_of 1 0))
+break_given now weights p n kinds level room f same more =
+    let rest = drop (suc p.lines) now in
+    let some : 0 < length rest = omega (arith, length-drop (suc p.lines) now) in
+    let one : break_before rest ≡ 1 = some_break rest some in
+    let within : p.columns ≤ n = f.line in
+    let weight = f.weight in
+    let left : 1 ≤ slice_index weights p.lines - p.columns = omega arith in
+    let after : rows_from (length_of (suc p.lines) 0) now ≡ rest = Reached-rows now (length_of (suc p.lines) 0) rest (break_next now weights p n f more) in
+    record {
+      tree = inr (refl, refl);
+      some = refl;
+      fits = fits_text kinds level 1 0 room;
+      spells =
+          rows_at now weights p [] n f ∙ break_rows p.columns n rest some ∙ ap (glue (empty_row ∷ empty_row ∷ [])) (sym after);
+      weighs = covered_break weights p.lines (slice_index weights p.lines - p.columns) (omega arith) left;
+      rest = subst HasRow (sym after) (some_row rest some);
+    }
+
+-- ---- the end
+
+-- nothing is left of the last line
+pub fresh_over : (now : List Row) (weights : List ℕ) (p : Length) (n left : ℕ) → IsFresh now weights p [] n → length weights ≡ length now
+    → length now ≤ suc p.lines → n ≤ p.columns → IsOver (ahead_at now weights p left)
+fresh_over now weights p n left f same last end =
+    let none : drop (suc p.lines) now ≡ [] = nil_from_length (drop (suc p.lines) now) (omega (arith, length-drop (suc p.lines) now)) in
+    let columns : n - p.columns ≡ 0 = omega arith in
+    record {
+      empty =
+          rows_at now weights p [] n f ∙ ap (rows_before p.columns [] n) none ∙ ap (λ (m : ℕ). row [] m ∷ []) columns;
+      last = nil_from_length (drop (suc p.lines) weights) (omega (arith, length-drop (suc p.lines) weights));
+    }
+
+-- ---- a line is entered
+
+moved_back-zero : (ts : List Token) → moved_back 0 ts ≡ ts
+moved_back-zero [] = refl
+moved_back-zero (t ∷ ts) =
+    let at : t.at - 0 ≡ t.at = omega arith in
+    let here : token (t.at - 0) t.len t.kind t.opening ≡ t = ap (λ (n : ℕ). token n t.len t.kind t.opening) at in
+    let rest : moved_back 0 ts ≡ ts = moved_back-zero ts in
+    cc
+
+pub length-text_rows : (table : Table) (xs : List (List ℕ)) → length (text_rows table xs) ≡ length xs
+length-text_rows table [] = refl
+length-text_rows table (x ∷ []) = refl
+length-text_rows table (x ∷ y ∷ xs) = ap suc (length-text_rows table (y ∷ xs))
+
+pub length-text_weights : (xs : List (List ℕ)) → length (text_weights xs) ≡ length xs
+length-text_weights [] = refl
+length-text_weights (x ∷ []) = refl
+length-text_weights (x ∷ y ∷ xs) = ap suc (length-text_weights (y ∷ xs))
+
+before_more : (c : ℕ) (ts : List Token) (n : ℕ) (rest : List Row) → 0 < length rest → rows_before c ts n rest ≡ row (moved_back c ts) 0 ∷ rest
+before_more c ts n [] h = absurd (omega arith)
+before_more c ts n (r ∷ rest) h = refl
+
+-- the row of a line, and those that follow it
+text_row : (table : Table) (xs : List (List ℕ)) (i : ℕ) → i < length xs
+    → drop i (text_rows table xs)
+    ≡ rows_before 0 (tokens_of table (get_or xs i [])) (length (get_or xs i [])) (drop (suc i) (text_rows table xs))
+text_row table [] i h = absurd (omega arith)
+text_row table (x ∷ []) zero h =
+    let columns : length x ≡ length x - 0 = omega arith in
+    ap (λ (ts : List Token). row ts (length x) ∷ []) (sym (moved_back-zero (tokens_of table x)))
+    ∙ ap (λ (n : ℕ). row (moved_back 0 (tokens_of table x)) n ∷ []) columns
+text_row table (x ∷ []) (suc i) h = absurd (omega arith)
+text_row table (x ∷ y ∷ xs) zero h =
+    ap (λ (ts : List Token). row ts 0 ∷ text_rows table (y ∷ xs)) (sym (moved_back-zero (tokens_of table x)))
+    ∙ sym (before_more 0 (tokens_of table x) (length x) (text_rows table (y ∷ xs)) (omega (arith, length-text_rows table (y ∷ xs))))
+text_row table (x ∷ y ∷ xs) (suc i) h = text_row table (y ∷ xs) i (omega arith)
+
+text_weight : (table : Table) (xs : List (List ℕ)) (i : ℕ) → i < length xs
+    → slice_index (text_weights xs) i ≡ length (get_or xs i []) + break_before (drop (suc i) (text_rows table xs))
+text_weight table [] i h = absurd (omega arith)
+text_weight table (x ∷ []) zero h = omega arith
+text_weight table (x ∷ []) (suc i) h = absurd (omega arith)
+text_weight table (x ∷ y ∷ xs) zero h =
+    let one : break_before (text_rows table (y ∷ xs)) ≡ 1 = some_break (text_rows table (y ∷ xs)) (omega (arith, length-text_rows table (y ∷ xs))) in
+    ap (λ (n : ℕ). length x + n) (sym one)
+text_weight table (x ∷ y ∷ xs) (suc i) h = text_weight table (y ∷ xs) i (omega arith)
+
+-- at the start of a line its tokens are those of its content
+pub fresh_start : (table : Table) (xs : List (List ℕ)) (i : ℕ) → is_table table ≡ true → i < length xs
+    → Reached (text_rows table xs) (length_of i 0) (rows_from (length_of i 0) (text_rows table xs))
+    → IsFresh (text_rows table xs) (text_weights xs) (length_of i 0) (tokens_of table (get_or xs i [])) (length (get_or xs i []))
+fresh_start table xs i is h r =
+    let now = text_rows table xs in
+    let ahead : drop i now ≡ rows_from (length_of i 0) now = Reached-line now i (rows_from (length_of i 0) now) r in
+    record {
+      reached = subst (Reached now (length_of i 0)) (sym ahead ∙ text_row table xs i h) r;
+      line = tokens_of-in_line table (get_or xs i []) is;
+      weight = text_weight table xs i h;
+    }

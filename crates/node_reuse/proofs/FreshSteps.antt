@@ -1,0 +1,190 @@
+-- The steps of a reader in a line whose content was scanned.
+use Rattle.std.proofs.Common.{◌≡◌, ℕ, suc, ◌+◌, ◌-◌, ◌<◌, ◌≤◌, true, false, List, [], ◌∷◌, ◌++◌, length, drop, refl, ap, sym, ◌∙◌, subst, arith, inl}
+use Rattle.std.specs.Prelude.{slice_index}
+use Rattle.std.proofs.lemmas.List.{length-drop}
+use Rattle.text_lengths.specs.declared.Length.{Length}
+use Rattle.text_lengths.specs.Length.{length_of, length_plus}
+use Rattle.text_lengths.proofs.Lengths.{same_length}
+use Rattle.bracket_rules.specs.declared.Token.{Token}
+use Rattle.bracket_rules.specs.declared.TheConstants.{MOST_OPEN}
+use Rattle.bracket_rules.specs.Table.{token, AreInLine}
+use Rattle.bracket_rules.specs.Rows.{Row, HasRow, row, empty_row, shifted, glue}
+use Rattle.bracket_trees.specs.Tree.{text, wide, bracket_row}
+use Rattle.bracket_trees.specs.Told.{Fits}
+use Rattle.bracket_trees.specs.Places.{IsBounded, rows_from}
+use Rattle.bracket_trees.proofs.Glue.{empty_glue}
+use Rattle.bracket_trees.proofs.LineWeights.{AreCovered-same}
+use Rattle.bracket_nodes.specs.Source.{GivesNode, GivesBracket}
+use Rattle.bracket_nodes.specs.ScannedLines.{moved_back}
+use Rattle.bracket_nodes.proofs.ScannedSteps.{line_end}
+use Rattle.reuse_rules.specs.Following.{Reached}
+use Rattle.reuse_rules.proofs.Followings.{Reached-next, Reached-rows}
+use Rattle.node_reuse.specs.Ahead.{ahead_at, fresh_left, rows_before, IsFresh}
+
+-- ---- rows
+
+AreInLine-from : (c d n : ℕ) (ts : List Token) → c ≤ d → AreInLine d n ts → AreInLine c n ts
+AreInLine-from c d n [] h k = omega arith
+AreInLine-from c d n (t ∷ ts) h k = let first : d ≤ t.at = k.0 in (omega arith, k.1, k.2, k.3)
+
+shifted-moved_back : (c d n : ℕ) (ts : List Token) → c ≤ d → AreInLine d n ts → shifted (d - c) (moved_back d ts) ≡ moved_back c ts
+shifted-moved_back c d n [] h k = refl
+shifted-moved_back c d n (t ∷ ts) h k =
+    let first : d ≤ t.at = k.0 in
+    let at : (d - c) + (t.at - d) ≡ t.at - c = omega arith in
+    let here : token ((d - c) + (t.at - d)) t.len t.kind t.opening ≡ token (t.at - c) t.len t.kind t.opening =
+    ap (λ (m : ℕ). token m t.len t.kind t.opening) at in
+    let later : d ≤ t.at + t.len = omega arith in
+    let rest : shifted (d - c) (moved_back d ts) ≡ moved_back c ts =
+    shifted-moved_back c d n ts h (AreInLine-from d (t.at + t.len) n ts later k.3) in
+    cc
+
+HasRow-before : (c : ℕ) (ts : List Token) (n : ℕ) (rest : List Row) → HasRow (rows_before c ts n rest)
+HasRow-before c ts n [] = tt
+HasRow-before c ts n (r ∷ rest) = tt
+
+same_row : (x y : List Token) (m n : ℕ) → x ≡ y → m ≡ n → row x m ≡ row y n
+same_row x y m n p q = ap (λ (z : List Token). row z m) p ∙ ap (row y) q
+
+-- the rows from column c on are some brackets up to column d, and the rows from there
+cut : (c d n : ℕ) (front ts all : List Token) (rest : List Row) → c ≤ d → d ≤ n
+    → moved_back c all ≡ front ++ shifted (d - c) (moved_back d ts)
+    → rows_before c all n rest ≡ glue (row front (d - c) ∷ []) (rows_before d ts n rest)
+cut c d n front ts all [] h k e =
+    let columns : n - c ≡ (d - c) + (n - d) = omega arith in
+    ap (λ (r : Row). r ∷ []) (same_row (moved_back c all) (front ++ shifted (d - c) (moved_back d ts)) (n - c) ((d - c) + (n - d)) e columns)
+cut c d n front ts all (r ∷ rest) h k e = ap (λ (x : List Token). row x 0 ∷ r ∷ rest) e
+
+pub fits_text : (kinds level lines columns : ℕ) → level ≤ MOST_OPEN → Fits kinds level (text (length_of lines columns))
+fits_text kinds level lines columns h = record {
+  closed = refl;
+  uncapped = refl;
+  apart = λ k m. let clash : false ≡ true = m in cc;
+  room = omega arith;
+}
+
+-- ---- steps within the line
+
+-- where the reader stands behind a part of the line
+moved_on : (now : List Row) (weights : List ℕ) (p : Length) (d n : ℕ) (ts us : List Token) (front : List Token) → p.columns ≤ d
+    → IsFresh now weights p ts n → IsBounded (row front (d - p.columns) ∷ []) → AreInLine d n us
+    → moved_back p.columns ts ≡ front ++ shifted (d - p.columns) (moved_back d us)
+    → IsFresh now weights (length_of p.lines d) us n
+moved_on now weights p d n ts us front h f b k e =
+    let rest = drop (suc p.lines) now in
+    let within : d ≤ n = line_end d n us k in
+    let parts : rows_before p.columns ts n rest ≡ glue (row front (d - p.columns) ∷ []) (rows_before d us n rest) =
+    cut p.columns d n front us ts rest h within e in
+    let place : length_plus p (length_of 0 (d - p.columns)) ≡ length_of p.lines d =
+    same_length (length_plus p (length_of 0 (d - p.columns))) (length_of p.lines d) (omega arith) (omega arith) in
+    record {
+      reached =
+          subst (λ (x : Length). Reached now x (rows_before d us n rest)) place
+          (Reached-next now p (row front (d - p.columns) ∷ []) (rows_before d us n rest) tt (HasRow-before d us n rest) b
+          (subst (Reached now p) parts f.reached));
+      line = k;
+      weight = f.weight;
+    }
+
+pub rows_at : (now : List Row) (weights : List ℕ) (p : Length) (ts : List Token) (n : ℕ) → IsFresh now weights p ts n
+    → rows_from p now ≡ rows_before p.columns ts n (drop (suc p.lines) now)
+rows_at now weights p ts n f = Reached-rows now p (rows_before p.columns ts n (drop (suc p.lines) now)) f.reached
+
+-- what is read of the line is taken off what is left of it
+less_left : (w c d n : ℕ) → c ≤ d → d ≤ n → n ≤ w → (d - c) + (w - d) ≤ w - c
+less_left w c d n h k g = omega arith
+
+columns_within : (now : List Row) (weights : List ℕ) (p : Length) (ts : List Token) (n : ℕ) → IsFresh now weights p ts n → n ≤ slice_index weights p.lines
+columns_within now weights p ts n f = let w = f.weight in omega arith
+
+pub gap_next : (now : List Row) (weights : List ℕ) (p : Length) (d n : ℕ) (ts : List Token) → IsFresh now weights p ts n → p.columns < d → AreInLine d n ts
+    → IsFresh now weights (length_of p.lines d) ts n
+gap_next now weights p d n ts f h k =
+    let below : p.columns ≤ d = omega arith in
+    moved_on now weights p d n ts ts [] below f tt k (sym (shifted-moved_back p.columns d n ts below k))
+
+pub gap_given : (now : List Row) (weights : List ℕ) (p : Length) (d n kinds level : ℕ) (ts : List Token) → level ≤ MOST_OPEN → IsFresh now weights p ts n
+    → p.columns < d → AreInLine d n ts
+    → GivesNode (ahead_at now weights p (fresh_left weights p)) (ahead_at now weights (length_of p.lines d) (fresh_left weights (length_of p.lines d)))
+    kinds level (text (wide (d - p.columns)))
+gap_given now weights p d n kinds level ts room f h k =
+    let below : p.columns ≤ d = omega arith in
+    let within : d ≤ n = line_end d n ts k in
+    let rest = drop (suc p.lines) now in
+    let g : IsFresh now weights (length_of p.lines d) ts n = gap_next now weights p d n ts f h k in
+    let parts : rows_before p.columns ts n rest ≡ glue (row [] (d - p.columns) ∷ []) (rows_before d ts n rest) =
+    cut p.columns d n [] ts ts rest below within (sym (shifted-moved_back p.columns d n ts below k)) in
+    let after : rows_from (length_of p.lines d) now ≡ rows_before d ts n rest = rows_at now weights (length_of p.lines d) ts n g in
+    let weight = less_left (slice_index weights p.lines) p.columns d n below within (columns_within now weights p ts n f) in
+    record {
+      tree = inl (refl, omega arith);
+      some = refl;
+      fits = fits_text kinds level 0 (d - p.columns) room;
+      spells = rows_at now weights p ts n f ∙ parts ∙ ap (glue (row [] (d - p.columns) ∷ [])) (sym after);
+      weighs = (weight, AreCovered-same (drop (suc p.lines) weights));
+      rest = subst HasRow (sym after) (HasRow-before d ts n rest);
+    }
+
+token_parts : (c n : ℕ) (t : Token) (ts : List Token) → t.at ≡ c → AreInLine (c + t.len) n ts
+    → moved_back c (t ∷ ts) ≡ token 0 t.len t.kind t.opening ∷ shifted ((c + t.len) - c) (moved_back (c + t.len) ts)
+token_parts c n t ts e k =
+    let start : t.at - c ≡ 0 = omega arith in
+    ap (λ (m : ℕ). token m t.len t.kind t.opening ∷ moved_back c ts) start
+    ∙ ap (λ (x : List Token). token 0 t.len t.kind t.opening ∷ x) (sym (shifted-moved_back c (c + t.len) n ts (omega arith) k))
+
+pub bracket_next : (now : List Row) (weights : List ℕ) (p : Length) (n : ℕ) (t : Token) (ts : List Token) → IsFresh now weights p (t ∷ ts) n → t.at ≤ p.columns
+    → IsFresh now weights (length_of p.lines (p.columns + t.len)) ts n
+bracket_next now weights p n t ts f h =
+    let l : AreInLine p.columns n (t ∷ ts) = f.line in
+    let first : p.columns ≤ t.at = l.0 in
+    let some : 0 < t.len = l.1 in
+    let here : t.at ≡ p.columns = omega arith in
+    let line : AreInLine (p.columns + t.len) n ts = rw (← here) l.3 in
+    moved_on now weights p (p.columns + t.len) n (t ∷ ts) ts (token 0 t.len t.kind t.opening ∷ []) (omega arith) f
+    (omega arith, tt) line (token_parts p.columns n t ts here line)
+
+pub bracket_given : (now : List Row) (weights : List ℕ) (p : Length) (n : ℕ) (t : Token) (ts : List Token) → IsFresh now weights p (t ∷ ts) n → t.at ≤ p.columns
+    → GivesBracket (ahead_at now weights p (fresh_left weights p))
+    (ahead_at now weights (length_of p.lines (p.columns + t.len)) (fresh_left weights (length_of p.lines (p.columns + t.len)))) t.kind t.len t.opening
+bracket_given now weights p n t ts f h =
+    let l : AreInLine p.columns n (t ∷ ts) = f.line in
+    let first : p.columns ≤ t.at = l.0 in
+    let here : t.at ≡ p.columns = omega arith in
+    let d = p.columns + t.len in
+    let line : AreInLine d n ts = rw (← here) l.3 in
+    let rest = drop (suc p.lines) now in
+    let below : p.columns ≤ d = omega arith in
+    let within : d ≤ n = line_end d n ts line in
+    let width : d - p.columns ≡ t.len = omega arith in
+    let g : IsFresh now weights (length_of p.lines d) ts n = bracket_next now weights p n t ts f h in
+    let parts : rows_before p.columns (t ∷ ts) n rest ≡ glue (row (token 0 t.len t.kind t.opening ∷ []) (d - p.columns) ∷ []) (rows_before d ts n rest) =
+    cut p.columns d n (token 0 t.len t.kind t.opening ∷ []) ts (t ∷ ts) rest below within (token_parts p.columns n t ts here line) in
+    let after : rows_from (length_of p.lines d) now ≡ rows_before d ts n rest = rows_at now weights (length_of p.lines d) ts n g in
+    let weight = less_left (slice_index weights p.lines) p.columns d n below within (columns_within now weights p (t ∷ ts) n f) in
+    record {
+      has_kind = l.2;
+      wide = l.1;
+      spells =
+          rows_at now weights p (t ∷ ts) n f ∙ parts
+          ∙ ap (λ (m : ℕ). glue (row (token 0 t.len t.kind t.opening ∷ []) m ∷ []) (rows_before d ts n rest)) width
+          ∙ ap (glue (bracket_row t.kind t.len t.opening)) (sym after);
+      weighs = (omega arith, AreCovered-same (drop (suc p.lines) weights));
+      rest = subst HasRow (sym after) (HasRow-before d ts n rest);
+    }
+
+-- ---- the line's break
+
+-- a reader at the break comes to the start of the next line
+pub break_next : (now : List Row) (weights : List ℕ) (p : Length) (n : ℕ) → IsFresh now weights p [] n → suc p.lines < length now
+    → Reached now (length_of (suc p.lines) 0) (drop (suc p.lines) now)
+break_next now weights p n f h = at_rest (drop (suc p.lines) now) f.reached (omega (arith, length-drop (suc p.lines) now))
+  where
+    at_rest : (rest : List Row) → Reached now p (rows_before p.columns [] n rest) → 0 < length rest → Reached now (length_of (suc p.lines) 0) rest
+    at_rest [] r some = absurd (omega arith)
+    at_rest (x ∷ rest) r some =
+        let parts : empty_row ∷ x ∷ rest ≡ glue (empty_row ∷ empty_row ∷ []) (x ∷ rest) =
+        ap (λ (y : List Row). empty_row ∷ y) (sym (empty_glue (x ∷ rest) tt)) in
+        let place : length_plus p (length_of 1 0) ≡ length_of (suc p.lines) 0 =
+        same_length (length_plus p (length_of 1 0)) (length_of (suc p.lines) 0) (omega arith) refl in
+        subst (λ (y : Length). Reached now y (x ∷ rest)) place
+        (Reached-next now p (empty_row ∷ empty_row ∷ []) (x ∷ rest) tt tt tt (subst (Reached now p) parts r))

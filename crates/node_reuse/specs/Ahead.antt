@@ -1,0 +1,40 @@
+-- What is ahead of a reader of the text of now, and what it knows of the line that it reads.
+use Rattle.std.specs.Prelude.{◌≡◌, ℕ, suc, ◌+◌, ◌-◌, List, [], ◌∷◌, drop, slice_index}
+use Rattle.text_lengths.specs.declared.Length.{Length}
+use Rattle.bracket_rules.specs.declared.Token.{Token}
+use Rattle.bracket_rules.specs.Rows.{Row, row}
+use Rattle.bracket_rules.specs.Table.{AreInLine}
+use Rattle.bracket_trees.specs.Places.{rows_from}
+use Rattle.bracket_nodes.specs.ScannedLines.{moved_back}
+use Rattle.bracket_nodes.specs.Source.{Ahead}
+use Rattle.reuse_rules.specs.Following.{Reached}
+
+-- the rows from place p on, what is left of its line, and what each line after it may weigh
+abbrev pub ahead_at : List Row → List ℕ → Length → ℕ → Ahead
+ahead_at now weights p left = record {
+  rows = rows_from p now;
+  line = left;
+  later = drop (suc p.lines) weights;
+}
+
+-- what is left of a line that was not entered, or whose content is read: what it may weigh less what was read of it
+abbrev pub fresh_left : List ℕ → Length → ℕ
+fresh_left weights p = slice_index weights p.lines - p.columns
+
+-- ---- a line whose content was scanned
+
+-- one for the break, where rows follow
+abbrev pub break_before : List Row → ℕ
+break_before [] = 0
+break_before (r ∷ rows) = 1
+
+-- the rows from a column of a line on, where these tokens of its columns are left, and those rows follow
+abbrev pub rows_before : ℕ → List Token → ℕ → List Row → List Row
+rows_before column tokens columns [] = row (moved_back column tokens) (columns - column) ∷ []
+rows_before column tokens columns (r ∷ rows) = row (moved_back column tokens) 0 ∷ r ∷ rows
+
+-- the reader stands at place p of a line of so many columns, and those tokens of the line are left
+pub record IsFresh (now : List Row) (weights : List ℕ) (p : Length) (tokens : List Token) (columns : ℕ) : Type 0 where
+  pub reached : Reached now p (rows_before p.columns tokens columns (drop (suc p.lines) now))
+  pub line : AreInLine p.columns columns tokens
+  pub weight : slice_index weights p.lines ≡ columns + break_before (drop (suc p.lines) now)

@@ -1,0 +1,5 @@
+pub mod OldText
+pub mod Texts
+pub mod Ahead
+pub mod Reading
+mod Examples

@@ -1,0 +1,59 @@
+-- What a reader of the text of now knows at a place: of the old text, and of the line that it reads.
+use Rattle.std.specs.Prelude.{◌≡◌, ℕ, ◌+◌, ◌-◌, Bool, true, false, List, Option, Some, None, length}
+use Rattle.text_lengths.specs.declared.Length.{Length}
+use Rattle.text_lengths.specs.Length.{length_of}
+use Rattle.bracket_rules.specs.declared.Token.{Token}
+use Rattle.bracket_rules.specs.Rows.{Row}
+use Rattle.bracket_trees.specs.Tree.{Tree, tree_rows, IsTree}
+use Rattle.bracket_trees.specs.Places.{rows_from}
+use Rattle.mark_rules.specs.declared.Mark.{Mark}
+use Rattle.mark_rules.specs.declared.Mark.TheVariants.{Kept, New}
+use Rattle.mark_rules.specs.Marks.{mark_at}
+use Rattle.reuse_rules.specs.Agreement.{Agrees}
+use Rattle.reuse_rules.specs.Following.{Reached, Follows}
+use Rattle.bracket_trees.specs.Leaves.{weight_left}
+use Rattle.node_reuse.specs.Texts.{IsLightBy}
+use Rattle.node_reuse.specs.Ahead.{fresh_left, IsFresh}
+
+-- ---- the old text
+
+abbrev pub AllNew : List Mark → Type 0
+AllNew marks = (n i : ℕ) → mark_at n marks ≡ Kept i → ⊥
+
+-- the tree of the old text agrees with the rows of now under the marks, and is no heavier in a kept line than that may be
+pub record Stays (old : Tree) (marks : List Mark) (now : List Row) (weights : List ℕ) : Type 0 where
+  pub tree : IsTree old
+  pub agrees : Agrees (tree_rows old) marks now
+  pub light : IsLightBy old marks weights
+
+-- where there is no tree, no line is kept
+abbrev pub StaysIfThere : Option Tree → List Mark → List Row → List ℕ → Type 0
+StaysIfThere None marks now weights = AllNew marks
+StaysIfThere (Some old) marks now weights = Stays old marks now weights
+
+-- ---- the line that is read
+
+-- at place p, in a line that is kept as this one, the reader follows the old text
+pub record IsFollowing (old : Tree) (marks : List Mark) (now : List Row) (weights : List ℕ) (p : Length) (line : ℕ) : Type 0 where
+  pub tree : IsTree old
+  pub light : IsLightBy old marks weights
+  pub count : length weights ≡ length now
+  pub reached : Reached now p (rows_from p now)
+  pub follows : Follows old marks p (rows_from p now) line
+
+-- A line with this mark, where the reader stands at place p: a new line is read from its start on, once these tokens and
+-- columns of it are known; in a kept one the reader follows the old text.
+abbrev pub IsInLine : Mark → Option Tree → List Mark → List Row → List ℕ → Length → Bool → List Token → ℕ → Type 0
+IsInLine New old marks now weights p false tokens columns = p.columns ≡ 0
+IsInLine New old marks now weights p true tokens columns = IsFresh now weights p tokens columns
+IsInLine (Kept i) None marks now weights p entered tokens columns = ⊥
+IsInLine (Kept i) (Some old) marks now weights p entered tokens columns = IsFollowing old marks now weights p (i - 1)
+
+-- what is left of a line with this mark from place p on: in a kept one what the old line has left
+abbrev pub left_by : Mark → Option Tree → List ℕ → Length → ℕ
+left_by New old weights p = fresh_left weights p
+left_by (Kept i) None weights p = fresh_left weights p
+left_by (Kept i) (Some old) weights p = weight_left old (length_of (i - 1) p.columns)
+
+abbrev pub left_at : Option Tree → List Mark → List ℕ → Length → ℕ
+left_at old marks weights p = left_by (mark_at (p.lines + 1) marks) old weights p

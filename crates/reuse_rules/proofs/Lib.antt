@@ -1,0 +1,4 @@
+pub mod Agreements
+pub mod KeptRuns
+pub mod Followings
+pub mod EditedLines

@@ -1,0 +1,27 @@
+-- A reader that has come to a place of the text of now, and follows the old text there.
+use Rattle.std.specs.Prelude.{◌≡◌, ℕ, List, drop}
+use Rattle.text_lengths.specs.declared.Length.{Length}
+use Rattle.text_lengths.specs.Length.{length_of, no_length}
+use Rattle.bracket_rules.specs.Rows.{HasRow, Row, glue, rows_length}
+use Rattle.bracket_trees.specs.Tree.{Tree, tree_rows}
+use Rattle.bracket_trees.specs.Places.{IsEdge, IsBounded, rows_from}
+use Rattle.mark_rules.specs.declared.Mark.{Mark}
+use Rattle.mark_rules.specs.Marks.{kept_run}
+use Rattle.reuse_rules.specs.Agreement.{Alike}
+use Rattle.reuse_rules.specs.Reuse.{IsKeptAs}
+
+-- at place p of these rows, those are ahead
+pub record Reached (now : List Row) (p : Length) (ahead : List Row) : Type 0 where
+  pub done : List Row
+  pub spells : now ≡ glue done ahead
+  pub place : rows_length done ≡ p
+  pub has_done : HasRow done
+  pub has_ahead : HasRow ahead
+  pub bounded : IsBounded done
+
+-- The line of place p is kept as this old line, what is ahead is what stands there in the old text, as far as lines are
+-- kept, and something of the old tree starts there.
+pub record Follows (old : Tree) (marks : List Mark) (p : Length) (ahead : List Row) (line : ℕ) : Type 0 where
+  pub kept : IsKeptAs marks p line
+  pub alike : Alike (kept_run (drop p.lines marks)) (rows_from (length_of line p.columns) (tree_rows old)) ahead
+  pub edge : IsEdge no_length old (length_of line p.columns)

@@ -1,0 +1,4 @@
+pub mod Agreement
+pub mod Reuse
+pub mod Following
+pub mod Edits
