@@ -6,4 +6,6 @@ mod lines;
 #[cfg(test)]
 mod nodes;
 #[cfg(test)]
+mod snapshots;
+#[cfg(test)]
 mod texts;
