@@ -46,7 +46,8 @@ module _ (id n : ℕ) where
     last = sound.last;
   }
 
-IsRising-filter-by : (t : Bool) (test : Snapshot → Bool) (x : Snapshot) (xs : List Snapshot) → All (λ (later : Snapshot). x.id < later.id) xs → IsRising (filter test xs)
+IsRising-filter-by : (t : Bool) (test : Snapshot → Bool) (x : Snapshot) (xs : List Snapshot) → All (λ (later : Snapshot). x.id < later.id) xs
+    → IsRising (filter test xs)
     → IsRising (cond t (x ∷ filter test xs) (filter test xs))
 IsRising-filter-by true test x xs below rising = (All-filter test (λ (later : Snapshot). x.id < later.id) xs below, rising)
 IsRising-filter-by false test x xs below rising = rising

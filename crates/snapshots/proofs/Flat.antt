@@ -6,7 +6,7 @@ use Rattle.chunk_buffers.specs.Chunks.{LiesIn}
 use Rattle.snapshot_rules.specs.Refusals.{unknown, range}
 use Rattle.snapshot_rules.specs.Snapshots.{has_id, skipped, front, least_read, flat_peek, flat_skip, flat_close}
 use Rattle.snapshots.specs.Spans.{Spelled, spelled, snapshot_of, spells, passed}
-use Rattle.snapshots.specs.Shown.{Shown, shown, LieIn}
+use Rattle.snapshots.specs.Shown.{Shown, shown, LieIn, Lies}
 use Rattle.snapshots.proofs.Spelling.{spelled-without, LiesIn-without}
 
 module _ (b : List (List ℕ)) where
@@ -34,31 +34,33 @@ module _ (b : List (List ℕ)) where
   filter-shown id [] = refl
   filter-shown id (x ∷ xs) = filter-shown-by (spells id x) id x xs (filter-shown id xs) refl
 
-  skipped-shown-by : (t : Bool) (id n : ℕ) (x : Spelled) → All (LiesIn b) x.spans → spells id x ≡ t → snapshot_of b (passed id n x) ≡ skipped id n (snapshot_of b x)
+  skipped-shown-by : (t : Bool) (id n : ℕ) (x : Spelled) → Lies b x → spells id x ≡ t
+      → snapshot_of b (passed id n x) ≡ skipped id n (snapshot_of b x)
   skipped-shown-by true id n x lie e = rw e (ap (λ u. record { id = x.id; rest = u }) (spelled-without b n x.spans lie))
   skipped-shown-by false id n x lie e = rw e refl
 
-  pub skipped-shown : (id n : ℕ) (xs : List Spelled) → All (λ (s : Spelled). All (LiesIn b) s.spans) xs
+  pub skipped-shown : (id n : ℕ) (xs : List Spelled) → All (Lies b) xs
       → map (snapshot_of b) (map (passed id n) xs) ≡ map (skipped id n) (map (snapshot_of b) xs)
   skipped-shown id n [] all = refl
   skipped-shown id n (x ∷ xs) all =
-      ap₂ ◌∷◌ (skipped-shown-by (spells id x) id n x (All-head (λ (s : Spelled). All (LiesIn b) s.spans) x xs all) refl)
-      (skipped-shown id n xs (All-tail (λ (s : Spelled). All (LiesIn b) s.spans) x xs all))
+      ap₂ ◌∷◌ (skipped-shown-by (spells id x) id n x (All-head (Lies b) x xs all) refl)
+      (skipped-shown id n xs (All-tail (Lies b) x xs all))
 
   passed-lies-by : (t : Bool) (id n : ℕ) (x : Spelled) → All (LiesIn b) x.spans → spells id x ≡ t → All (LiesIn b) (passed id n x).spans
   passed-lies-by true id n x lie e = rw e (LiesIn-without b n x.spans lie)
   passed-lies-by false id n x lie e = rw e lie
 
-  pub skipped-shelf : (shelf : Shown) (id n : ℕ) (left : List Spelled) (next : ℕ) → LieIn b shelf → left ≡ map (passed id n) shelf.snapshots → next ≡ shelf.next_id
-      → shown b (record { snapshots = left; next_id = next }) ≡ flat_skip (shown b shelf) id n
-  skipped-shelf shelf id n left next lie left_is next_is = rw (left_is, next_is) (ap (λ xs. record { snapshots = xs; next_id = shelf.next_id }) (skipped-shown id n shelf.snapshots lie))
+  pub skipped-shelf : (shelf : Shown) (id n : ℕ) (left : List Spelled) (next : ℕ) → LieIn b shelf → left ≡ map (passed id n) shelf.snapshots
+      → next ≡ shelf.next_id → shown b (record { snapshots = left; next_id = next }) ≡ flat_skip (shown b shelf) id n
+  skipped-shelf shelf id n left next lie left_is next_is =
+      rw (left_is, next_is) (ap (λ xs. record { snapshots = xs; next_id = shelf.next_id }) (skipped-shown id n shelf.snapshots lie))
 
   pub passed-shelf : (shelf : Shown) (id n : ℕ) (left : List Spelled) → LieIn b shelf → left ≡ map (passed id n) shelf.snapshots
-      → All (λ (s : Spelled). All (LiesIn b) s.spans) left
+      → All (Lies b) left
   passed-shelf shelf id n left lie left_is =
-      All-same (λ (s : Spelled). All (LiesIn b) s.spans) left _ left_is
-      (All-map (λ (s : Spelled). All (LiesIn b) s.spans) (passed id n) shelf.snapshots
-      (All-weaker (λ (s : Spelled). All (LiesIn b) s.spans) (λ (s : Spelled). All (LiesIn b) (passed id n s).spans)
+      All-same (Lies b) left _ left_is
+      (All-map (Lies b) (passed id n) shelf.snapshots
+      (All-weaker (Lies b) (λ (s : Spelled). All (LiesIn b) (passed id n s).spans)
       (λ s each. passed-lies-by (spells id s) id n s each refl) shelf.snapshots lie))
 
   pub closed-unknown : (shelf : Shown) (id : ℕ) → list_any (spells id) shelf.snapshots ≡ false → flat_close (shown b shelf) id ≡ Err unknown

@@ -18,7 +18,8 @@ take-past n m x y is past = let e : n ≡ length x + (n - m) = omega (arith, is)
 
 module _ (b : List (List ℕ)) where
   pub length-units_at : (span : ChunkSpan) → LiesIn b span → length (units_at b span) ≡ span.units
-  length-units_at span lies = length-take-le span.units (drop span.start (buffer_at b span.buffer)) (omega (arith, length-drop span.start (buffer_at b span.buffer)))
+  length-units_at span lies =
+      length-take-le span.units (drop span.start (buffer_at b span.buffer)) (omega (arith, length-drop span.start (buffer_at b span.buffer)))
 
   units_at-rest : (span : ChunkSpan) (n : ℕ) → LiesIn b span → n ≤ span.units → units_at b (part_of span n span.units) ≡ drop n (units_at b span)
   units_at-rest span n lies within =
@@ -34,7 +35,8 @@ module _ (b : List (List ℕ)) where
       elim (cases_lt n span.units) [
         | inl inside ↦
             rw (lt-ltb n span.units inside)
-            (ap (λ u. u ++ spelled b spans) (units_at-rest span n lies (omega arith)) ∙ sym (drop-append-le n (units_at b span) (spelled b spans) (omega (arith, size))))
+            (ap (λ u. u ++ spelled b spans) (units_at-rest span n lies (omega arith))
+            ∙ sym (drop-append-le n (units_at b span) (spelled b spans) (omega (arith, size))))
         | inr past ↦
             rw (le-ltb n span.units past)
             (spelled-without (n - span.units) spans rest ∙ sym (drop-past n span.units (units_at b span) (spelled b spans) (sym size) past))
@@ -48,7 +50,8 @@ module _ (b : List (List ℕ)) where
       elim (cases_lt n span.units) [
         | inl inside ↦
             rw (lt-ltb n span.units inside)
-            (All-cons (LiesIn b) (part_of span n span.units) spans (record { buffer = lies.buffer; end = omega (arith, lies.end); fits = omega (arith, lies.fits) }) rest)
+            (All-cons (LiesIn b) (part_of span n span.units) spans
+            (record { buffer = lies.buffer; end = omega (arith, lies.end); fits = omega (arith, lies.fits) }) rest)
         | inr past ↦ rw (le-ltb n span.units past) (LiesIn-without (n - span.units) spans rest)
       ]
 
@@ -76,6 +79,7 @@ module _ (b : List (List ℕ)) where
       let next : suc i ≡ i + 1 = omega arith in
       let rest : drop i spans ≡ get_or spans i d ∷ drop (i + 1) spans = drop-cons spans i d inside ∙ ap (λ (k : ℕ). get_or spans i d ∷ drop k spans) next in
       rw (new_is, units_is, count_is)
-      (append_assoc out (take (min left (get_or spans i d).units) (units_at b (get_or spans i d))) (take (left - min left (get_or spans i d).units) (spelled b (drop (i + 1) spans)))
+      (append_assoc out (take (min left (get_or spans i d).units) (units_at b (get_or spans i d)))
+      (take (left - min left (get_or spans i d).units) (spelled b (drop (i + 1) spans)))
       ∙ ap (λ u. out ++ u) (sym (take-span left (get_or spans i d) (spelled b (drop (i + 1) spans)) (All-get_or (LiesIn b) spans i d inside all)))
       ∙ ap (λ ss. out ++ take left (spelled b ss)) (sym rest) ∙ so_far)

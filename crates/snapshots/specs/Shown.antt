@@ -14,6 +14,10 @@ pub record Shown : Type 0 where
 abbrev pub shown : List (List ℕ) → Shown → FlatShelf
 shown buffers shelf = record { snapshots = map (snapshot_of buffers) shelf.snapshots; next_id = shelf.next_id }
 
--- the spans of each open snapshot lie in these buffers
+-- the spans of the snapshot lie in these buffers
+abbrev pub Lies : List (List ℕ) → Spelled → Type 0
+Lies buffers s = All (LiesIn buffers) s.spans
+
+-- the spans of each open snapshot do
 abbrev pub LieIn : List (List ℕ) → Shown → Type 0
-LieIn buffers shelf = All (λ (s : Spelled). All (LiesIn buffers) s.spans) shelf.snapshots
+LieIn buffers shelf = All (Lies buffers) shelf.snapshots

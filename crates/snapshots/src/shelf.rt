@@ -108,7 +108,8 @@ impl Shelf {
     pub fn skip(&mut self, id: u64, n: u64)
         ensures change { (buffers : List (List ℕ)) → LieIn buffers self.old
             → shown buffers self.new ≡ flat_skip (shown buffers self.old) id n }
-        ensures inside { (buffers : List (List ℕ)) → LieIn buffers self.old → LieIn buffers self.new }
+        ensures inside { (buffers : List (List ℕ)) → LieIn buffers self.old
+            → LieIn buffers self.new }
     {
         pass_all(self.snapshots.as_mut_slice(), id, n);
     }
@@ -119,7 +120,8 @@ impl Shelf {
         ensures change { (buffers : List (List ℕ))
             → Closes result (shown buffers self.old) (shown buffers self.new)
             (flat_close (shown buffers self.old) id) }
-        ensures inside { (buffers : List (List ℕ)) → LieIn buffers self.old → LieIn buffers self.new }
+        ensures inside { (buffers : List (List ℕ)) → LieIn buffers self.old
+            → LieIn buffers self.new }
         ensures err { OnErr result (self.new ≡ self.old) }
     {
         if !self.is_open(id) {

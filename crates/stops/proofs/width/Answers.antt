@@ -18,7 +18,11 @@ pub loop-c-preserved : goal.loop-c-preserved
 loop-c-preserved c =
     let rest = length-append (encode_utf8 c.in-Some.c) (chars_rest c.next.new.self) in
     let char = units_within c.in-Some.c c.len_utf16.result c.len_utf16.ensures.bmp c.len_utf16.ensures.surrogate_pair in record {
-      units = omega (arith, c.loop-c.invariant.units, more_units c.in-Some.c c.len_utf16.result c.len_utf16.ensures.bmp c.len_utf16.ensures.surrogate_pair c.loop-c.yielded);
+      units = omega (
+        arith,
+        c.loop-c.invariant.units,
+        more_units c.in-Some.c c.len_utf16.result c.len_utf16.ensures.bmp c.len_utf16.ensures.surrogate_pair c.loop-c.yielded,
+      );
       within = omega (arith, ap length c.in-Some.ensures.steps.0, rest, char, c.loop-c.invariant.within);
     }
 

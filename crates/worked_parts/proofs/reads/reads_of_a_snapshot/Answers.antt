@@ -5,14 +5,14 @@ use Rattle.chunk_buffers.specs.declared.span.ChunkSpan.{ChunkSpan}
 use Rattle.chunk_buffers.specs.Chunks.{LiesIn, Extends}
 use Rattle.chunk_buffers.proofs.Spans.{LiesIn-extended}
 use Rattle.snapshots.specs.Spans.{Spelled}
-use Rattle.snapshots.specs.Shown.{Shown, LieIn}
+use Rattle.snapshots.specs.Shown.{Shown, LieIn, Lies}
 use Rattle.worked_parts.proofs.reads.reads_of_a_snapshot.Goals as goal
 
 -- the first snapshot of a shelf
 taken : (first b : List (List ℕ)) (front back : ChunkSpan) (old new : Shown) → old ≡ record { snapshots = []; next_id = 1 } → LiesIn first front → Extends first b
     → LiesIn b back → (LieIn b old → All (LiesIn b) (front ∷ back ∷ []) → LieIn b new) → LieIn b new
 taken first b front back old new none lies grown last takes =
-    takes (subst (LieIn b) (sym none) (All-nil (λ (s : Spelled). All (LiesIn b) s.spans)))
+    takes (subst (LieIn b) (sym none) (All-nil (Lies b)))
     (All-cons (LiesIn b) front (back ∷ []) (LiesIn-extended first b front grown lies) (All-cons (LiesIn b) back [] last (All-nil (LiesIn b))))
 
 pub peek-requires : goal.peek-requires

@@ -2,9 +2,8 @@ use Rattle.std.proofs.Common.{rules, not, filter, sym, subst, refl, ◌∙◌, a
 use Rattle.std.specs.List.{All}
 use Rattle.std.proofs.lemmas.List.Elements.{All-filter, All-same}
 use Rattle.std.proofs.lemmas.Fn.{filter_same}
-use Rattle.chunk_buffers.specs.Chunks.{LiesIn}
 use Rattle.snapshots.specs.Spans.{Spelled, spells}
-use Rattle.snapshots.specs.Shown.{Shown}
+use Rattle.snapshots.specs.Shown.{Shown, Lies}
 use Rattle.snapshots.proofs.Flat.{closed-unknown, closed-open}
 use Rattle.snapshots.proofs.shelf.Shelf.close.Goals as goal
 
@@ -20,6 +19,6 @@ returns-clause-change c = λ b.
 pub returns-clause-inside : goal.returns-clause-inside
 returns-clause-inside c = λ b lie.
     let left = filter_same _ (λ (s : Spelled). not (spells c.args.id s)) _ (λ x b f' k. search rules) _ _ c.retain.ensures.filtered in
-    All-same (λ (s : Spelled). All (LiesIn b) s.spans) _ _ left
-    (All-filter (λ (s : Spelled). not (spells c.args.id s)) (λ (s : Spelled). All (LiesIn b) s.spans) _
-    (subst (λ (t : Shown). All (λ (s : Spelled). All (LiesIn b) s.spans) t.snapshots) (sym c.self.view_is) lie))
+    All-same (Lies b) _ _ left
+    (All-filter (λ (s : Spelled). not (spells c.args.id s)) (Lies b) _
+    (subst (λ (t : Shown). All (Lies b) t.snapshots) (sym c.self.view_is) lie))

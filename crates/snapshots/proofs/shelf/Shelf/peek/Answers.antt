@@ -1,7 +1,6 @@
 use Rattle.std.proofs.Common.{rules, ◌≡◌, ◌++◌, refl, ◌∙◌, ap}
-use Rattle.std.specs.List.{All}
-use Rattle.chunk_buffers.specs.Chunks.{LiesIn}
-use Rattle.snapshots.specs.Spans.{Spelled, spelled, spells}
+use Rattle.snapshots.specs.Shown.{Lies}
+use Rattle.snapshots.specs.Spans.{spelled, spells}
 use Rattle.snapshot_rules.specs.Snapshots.{front}
 use Rattle.snapshots.proofs.Flat.{peeked-unknown, peeked-range, peeked-front, All-found}
 use Rattle.snapshots.proofs.shelf.Shelf.peek.Goals as goal
@@ -10,12 +9,13 @@ pub returns-in_default : goal.returns-in_default
 returns-in_default c = (refl, peeked-unknown c.args.chunks.now.buffers c.args.self.now c.args.id c.args.count (search rules))
 
 pub returns-then-count-lt-LEAST_READ : goal.returns-then-count-lt-LEAST_READ
-returns-then-count-lt-LEAST_READ c = (refl, peeked-range c.args.chunks.now.buffers c.args.self.now c.args.id c.args.count c.in-Some.kept.now (search rules) c.if-count-lt-LEAST_READ.true)
+returns-then-count-lt-LEAST_READ c =
+    (refl, peeked-range c.args.chunks.now.buffers c.args.self.now c.args.id c.args.count c.in-Some.kept.now (search rules) c.if-count-lt-LEAST_READ.true)
 
 pub push_front-requires : goal.push_front-requires
 push_front-requires c =
     rw c.rest.ensures
-    (All-found (λ (s : Spelled). All (LiesIn c.args.chunks.now.buffers) s.spans) (spells c.args.id) c.in-Some.kept.now c.args.self.now.snapshots c.requires (search rules))
+    (All-found (Lies c.args.chunks.now.buffers) (spells c.args.id) c.in-Some.kept.now c.args.self.now.snapshots c.requires (search rules))
 
 pub returns : goal.returns
 returns c =
