@@ -1,4 +1,4 @@
-use Rattle.std.proofs.Common.{◌≡◌, ◌+◌, ◌-◌, ◌<◌, ◌≤◌, ◌&&◌, ltb, true, get_or, ap, sym, ◌∙◌, arith}
+use Rattle.std.proofs.Common.{◌-◌, ◌&&◌, get_or, ap, sym, ◌∙◌, arith}
 use Rattle.std.specs.Char.Utf16.{is_high_surrogate, is_low_surrogate}
 use Rattle.std.proofs.lemmas.Bool.{lt-ltb}
 use Rattle.piece_tree.specs.Pieces.{pieces_of}

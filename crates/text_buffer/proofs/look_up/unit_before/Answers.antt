@@ -1,4 +1,4 @@
-use Rattle.std.proofs.Common.{◌≡◌, ◌+◌, ◌-◌, ◌<◌, ◌≤◌, sym, ◌∙◌, arith}
+use Rattle.std.proofs.Common.{◌-◌, sym, ◌∙◌, arith}
 use Rattle.text_buffer.proofs.Found.{found_inside, found_unit}
 use Rattle.text_buffer.proofs.look_up.unit_before.Goals as goal
 

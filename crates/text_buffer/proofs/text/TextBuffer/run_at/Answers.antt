@@ -1,4 +1,4 @@
-use Rattle.std.proofs.Common.{◌≡◌, ◌+◌, ◌-◌, ◌<◌, ◌≤◌, length, take, drop, ap, sym, ◌∙◌, subst, arith}
+use Rattle.std.proofs.Common.{◌-◌, length, take, drop, ap, sym, ◌∙◌, arith}
 use Rattle.chunk_buffers.specs.Chunks.{units_at}
 use Rattle.piece_tree.specs.Pieces.{pieces_of}
 use Rattle.text_buffer.proofs.Spelling.{length-spelled}
