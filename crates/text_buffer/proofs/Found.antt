@@ -230,11 +230,11 @@ module _ (b : List (List ℕ)) (entries : List Entry) (found : Found) (is : IsFo
         ∙ ap (λ (t : ℕ). count_to t mine) (sym place) ∙ count_to-moved s (offset - s) (break_ends 0 own_text))
 
     -- they are those before the piece, and those of its own that its starts tell
-    pub found_count : (offset own : ℕ) → found.before.units ≤ offset → offset < found.before.units + found.span.units
-        → own ≡ count_to (offset - found.before.units) (drop 1 (starts_of own_text))
-        → found.before.breaks + own ≡ count_to offset (break_ends 0 (spelled b (pieces_of entries)))
-    found_count offset own start end own_is =
-        ap (λ (n : ℕ). found.before.breaks + n) (own_is ∙ ap (λ s. count_to (offset - found.before.units) (drop 1 s)) (starts_of_is own_text))
+    pub found_count : (offset mine : ℕ) → found.before.units ≤ offset → offset < found.before.units + found.span.units
+        → mine ≡ count_to (offset - found.before.units) (drop 1 (starts_of own_text))
+        → found.before.breaks + mine ≡ count_to offset (break_ends 0 (spelled b (pieces_of entries)))
+    found_count offset mine start end mine_is =
+        ap (λ (n : ℕ). found.before.breaks + n) (mine_is ∙ ap (λ s. count_to (offset - found.before.units) (drop 1 s)) (starts_of_is own_text))
         ∙ sym (found_breaks_to offset start end)
 
     -- the start of the line after a break in the piece
