@@ -1,8 +1,7 @@
-use Rattle.std.proofs.Common.{◌≡◌, false, true, length, sym, ◌∙◌, subst, arith}
+use Rattle.std.proofs.Common.{◌≡◌, false, length, sym, ◌∙◌, subst, arith}
 use Rattle.std.specs.Prelude.{IsOk}
-use Rattle.std.specs.List.{list_all}
 use Rattle.decoration_rules.specs.declared.DecoError.TheVariants.{Unknown, Range, Limit}
-use Rattle.decoration_rules.specs.Decorations.{Decorations, RefusedFor, decorated, owns, is_unknown, is_too_much}
+use Rattle.decoration_rules.specs.Decorations.{Decorations, RefusedFor, decorated, is_unknown, is_too_much}
 use Rattle.decorations.proofs.Deltas.{unknown-not_owned, known-owned, decorated-unknown, decorated-bad, decorated-too_much, decorated-ok, is_too_much-by_length, removed-within}
 use Rattle.decorations.proofs.set.DecoSet.check.Given.{Over}
 use Rattle.decorations.proofs.set.DecoSet.check.Goals.{After-is_too_much}
