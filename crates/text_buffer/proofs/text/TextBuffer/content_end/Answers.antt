@@ -41,7 +41,7 @@ next_within g c =
 -- the line's content and its break, where the break is a pair or is none
 content_to_break : (g : Over) (c : After-break_at-found g) (d : Line) (pair : Bool)
     → (let end : ℕ = c.break_at-found.result.0.before.units + c.break_at-found.result.1 in
-      ends_with_pair (take (end - c.args.start) (drop c.args.start c.args.self.now.units)) ≡ pair)
+    ends_with_pair (take (end - c.args.start) (drop c.args.start c.args.self.now.units)) ≡ pair)
     → length (get_or (lines_of c.args.self.now.units) (c.args.line - 1) d).content + (if pair then 2 else 1) + c.args.start
     ≡ c.break_at-found.result.0.before.units + c.break_at-found.result.1
 content_to_break g c d pair seen =
@@ -66,7 +66,7 @@ returns-then-end-start-lt2-clause-within g c =
 -- the line ends with a pair where the part of the piece does
 pair_seen : (g : Over) (c : After-ends_with_pair g)
     → (let end : ℕ = c.break_at-found.result.0.before.units + c.break_at-found.result.1 in
-      ends_with_pair (take (end - c.args.start) (drop c.args.start c.args.self.now.units)) ≡ c.ends_with_pair.result)
+    ends_with_pair (take (end - c.args.start) (drop c.args.start c.args.self.now.units)) ≡ c.ends_with_pair.result)
 pair_seen g c =
     let start : ℕ = c.args.start in
     let own : ℕ = c.break_at-found.result.1 in
