@@ -8,11 +8,11 @@ ghost use Rattle.script_lines.specs.Reading.{Reads};
 ghost use Rattle.script_lines.specs.Commands.{open_in, place_in, op_of, op_in, some_ops_in, edit_in, decorate_in, bare_in, line_in, value_in, offset_in, position_command_in, deco_in, decos_in, brackets_in, match_in, level_in, commands, read_by, command_in, command_of};
 
 use crate::bracket::optional_table_at;
-use crate::decoration::new_decos_at;
 use crate::fields::{
-    LineFault, flag_at, has_only, ids_at, number_at, optional_number_at, position_in, positions_at,
-    span_at, text_at,
+    LineFault, expect_only, flag_at, has_only, number_at, optional_number_at, position_in,
+    positions_at, span_at, text_at,
 };
+use crate::items::{Item, all_of, list_at};
 use crate::lists::{Ids, NewDecos};
 use crate::op::{LineOp, LineOps, Place};
 use bracket_scan::BracketTable;
@@ -103,7 +103,8 @@ pub fn command_of(alloc: Global, line: &[u8]) -> Result<Command, LineFault>
 fn value_of(alloc: Global, line: &[u8]) -> Result<Value, LineFault>
     ensures utf8 { OnOk result (is_utf8 line.now ≡ true) }
     ensures ok { IfOk result (λ value. read line.now ≡ Some (view value)) }
-    ensures syntax { result ≡ Err LineFault.Syntax → is_utf8 line.now ≡ true → read line.now ≡ None }
+    ensures syntax { result ≡ Err LineFault.Syntax → is_utf8 line.now ≡ true
+        → read line.now ≡ None }
 {
     match Value::from_slice(alloc, line) {
         Ok(value) => Ok(value),
@@ -194,9 +195,7 @@ fn other_query_named(name: &str, value: &Value) -> Result<Command, LineFault>
 fn open_in(alloc: Global, value: &Value) -> Result<Command, LineFault>
     ensures { Reads result (open_in (view value.now)) }
 {
-    if !has_only(value, &["cmd", "text", "brackets"]) {
-        return Err(LineFault::Syntax);
-    }
+    expect_only(value, &["cmd", "text", "brackets"])?;
     let text = text_at(alloc, value, "text")?;
     let brackets = optional_table_at(alloc, value, "brackets")?;
     Ok(Command::Open { text, brackets })
@@ -205,9 +204,7 @@ fn open_in(alloc: Global, value: &Value) -> Result<Command, LineFault>
 fn edit_in(alloc: Global, value: &Value) -> Result<Command, LineFault>
     ensures { Reads result (edit_in (view value.now)) }
 {
-    if !has_only(value, &["cmd", "ops"]) {
-        return Err(LineFault::Syntax);
-    }
+    expect_only(value, &["cmd", "ops"])?;
     let field = value.get("ops").ok_or(LineFault::Syntax)?;
     let ops = field.as_array().ok_or(LineFault::Syntax)?;
     let ops = some_ops_in(alloc, ops.as_slice())?;
@@ -220,12 +217,15 @@ fn some_ops_in(alloc: Global, values: &[Value]) -> Result<LineOps, LineFault>
     if values.is_empty() {
         return Err(LineFault::Syntax);
     }
-    let mut ops = Vec::with_capacity(alloc, values.len()).map_err(|_| LineFault::Memory)?;
-    for value in values {
-        let op = op_in(alloc, value)?;
-        ops.push(op).map_err(|_| LineFault::Memory)?;
+    all_of(alloc, values)
+}
+
+impl Item for LineOp {
+    ghost reads = { op_in };
+
+    fn item_in(alloc: Global, value: &Value) -> Result<LineOp, LineFault> {
+        op_in(alloc, value)
     }
-    Ok(LineOps::from_vec(ops))
 }
 
 fn op_in(alloc: Global, value: &Value) -> Result<LineOp, LineFault>
@@ -260,30 +260,24 @@ fn place_in(value: &Value) -> Result<Place, LineFault>
 fn decorate_in(alloc: Global, value: &Value) -> Result<Command, LineFault>
     ensures { Reads result (decorate_in (view value.now)) }
 {
-    if !has_only(value, &["cmd", "owner", "remove", "add"]) {
-        return Err(LineFault::Syntax);
-    }
+    expect_only(value, &["cmd", "owner", "remove", "add"])?;
     let owner = number_at(value, "owner")?;
-    let remove = ids_at(alloc, value, "remove")?;
-    let add = new_decos_at(alloc, value, "add")?;
+    let remove = list_at(alloc, value, "remove")?;
+    let add = list_at(alloc, value, "add")?;
     Ok(Command::Decorate { owner, remove, add })
 }
 
 fn bare_in(value: &Value, command: Command) -> Result<Command, LineFault>
     ensures { Reads result (bare_in command (view value.now)) }
 {
-    if !has_only(value, &["cmd"]) {
-        return Err(LineFault::Syntax);
-    }
+    expect_only(value, &["cmd"])?;
     Ok(command)
 }
 
 fn line_in(value: &Value) -> Result<Command, LineFault>
     ensures { Reads result (line_in (view value.now)) }
 {
-    if !has_only(value, &["cmd", "n"]) {
-        return Err(LineFault::Syntax);
-    }
+    expect_only(value, &["cmd", "n"])?;
     let n = number_at(value, "n")?;
     Ok(Command::Line { n })
 }
@@ -291,9 +285,7 @@ fn line_in(value: &Value) -> Result<Command, LineFault>
 fn value_in(value: &Value) -> Result<Command, LineFault>
     ensures { Reads result (value_in (view value.now)) }
 {
-    if !has_only(value, &["cmd", "at"]) {
-        return Err(LineFault::Syntax);
-    }
+    expect_only(value, &["cmd", "at"])?;
     let at = span_at(value, "at")?;
     Ok(Command::Value { at })
 }
@@ -301,9 +293,7 @@ fn value_in(value: &Value) -> Result<Command, LineFault>
 fn offset_in(value: &Value) -> Result<Command, LineFault>
     ensures { Reads result (offset_in (view value.now)) }
 {
-    if !has_only(value, &["cmd", "line", "col"]) {
-        return Err(LineFault::Syntax);
-    }
+    expect_only(value, &["cmd", "line", "col"])?;
     let p = position_in(value)?;
     Ok(Command::Offset { p })
 }
@@ -311,9 +301,7 @@ fn offset_in(value: &Value) -> Result<Command, LineFault>
 fn position_command_in(value: &Value) -> Result<Command, LineFault>
     ensures { Reads result (position_command_in (view value.now)) }
 {
-    if !has_only(value, &["cmd", "offset"]) {
-        return Err(LineFault::Syntax);
-    }
+    expect_only(value, &["cmd", "offset"])?;
     let offset = number_at(value, "offset")?;
     Ok(Command::Position { offset })
 }
@@ -321,9 +309,7 @@ fn position_command_in(value: &Value) -> Result<Command, LineFault>
 fn deco_in(value: &Value) -> Result<Command, LineFault>
     ensures { Reads result (deco_in (view value.now)) }
 {
-    if !has_only(value, &["cmd", "id"]) {
-        return Err(LineFault::Syntax);
-    }
+    expect_only(value, &["cmd", "id"])?;
     let id = number_at(value, "id")?;
     Ok(Command::Deco { id })
 }
@@ -331,9 +317,7 @@ fn deco_in(value: &Value) -> Result<Command, LineFault>
 fn decos_in(value: &Value) -> Result<Command, LineFault>
     ensures { Reads result (decos_in (view value.now)) }
 {
-    if !has_only(value, &["cmd", "at", "owner"]) {
-        return Err(LineFault::Syntax);
-    }
+    expect_only(value, &["cmd", "at", "owner"])?;
     let at = span_at(value, "at")?;
     let owner = optional_number_at(value, "owner")?;
     Ok(Command::Decos { at, owner })
@@ -342,9 +326,7 @@ fn decos_in(value: &Value) -> Result<Command, LineFault>
 fn brackets_in(value: &Value) -> Result<Command, LineFault>
     ensures { Reads result (brackets_in (view value.now)) }
 {
-    if !has_only(value, &["cmd", "from", "to"]) {
-        return Err(LineFault::Syntax);
-    }
+    expect_only(value, &["cmd", "from", "to"])?;
     let from = number_at(value, "from")?;
     let to = number_at(value, "to")?;
     Ok(Command::Brackets { from, to })
@@ -353,9 +335,7 @@ fn brackets_in(value: &Value) -> Result<Command, LineFault>
 fn match_in(value: &Value) -> Result<Command, LineFault>
     ensures { Reads result (match_in (view value.now)) }
 {
-    if !has_only(value, &["cmd", "line", "col"]) {
-        return Err(LineFault::Syntax);
-    }
+    expect_only(value, &["cmd", "line", "col"])?;
     let p = position_in(value)?;
     Ok(Command::Match { p })
 }
@@ -363,9 +343,7 @@ fn match_in(value: &Value) -> Result<Command, LineFault>
 fn level_in(value: &Value) -> Result<Command, LineFault>
     ensures { Reads result (level_in (view value.now)) }
 {
-    if !has_only(value, &["cmd", "line", "col"]) {
-        return Err(LineFault::Syntax);
-    }
+    expect_only(value, &["cmd", "line", "col"])?;
     let p = position_in(value)?;
     Ok(Command::Level { p })
 }

@@ -167,8 +167,14 @@ impl TextBuffer {
         let Some(start) = start_of_line(&self.pieces, &self.chunks, n) else {
             return Ok(());
         };
-        push_line(&self.pieces, &self.chunks, start, out)?;
-        Ok(())
+        let before = out.len();
+        match push_line(&self.pieces, &self.chunks, start, out) {
+            Ok(_) => Ok(()),
+            Err(fault) => {
+                out.truncate(before);
+                Err(fault)
+            }
+        }
     }
 
     /// The position of the offset; None where the offset is no place of the text. Each node that is visited is a step.

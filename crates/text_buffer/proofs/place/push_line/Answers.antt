@@ -9,7 +9,7 @@ use Rattle.text_buffer.proofs.Spelling.{length-units_at}
 use Rattle.text_buffer.proofs.FirstLines.{first_content, first_some, first_within, some_break}
 use Rattle.text_buffer.proofs.Walks.{next_has}
 use Rattle.text_buffer.proofs.LineWalks.{passed_none, place_among, passed_more, copied_more, last_line, end_content, end_number, break_content, break_next, kept, copied_within, on_err_always}
-use Rattle.text_buffer.proofs.place.push_to_break.Goals as goal
+use Rattle.text_buffer.proofs.place.push_line.Goals as goal
 
 pub loop-out-init : goal.loop-out-init
 loop-out-init c = λ is. passed_none c.args.chunks.now.buffers c.args.pieces.now.entries c.args.start is c.args.out.now.items
@@ -26,23 +26,21 @@ returns-in_default-clause-content c = λ n line s at.
     let b = c.args.chunks.now.buffers in
     let entries = c.args.pieces.now.entries in
     let w = c.loop-out.invariant s.is in
-    let from = text_from b entries c.args.start s.is in
     let copied = c.in_ok-extend_from_slice.ensures.items ∙ ap (λ u. c.loop-out.out.items ++ u) c.units.ensures in
     let none = sym c.in_default.is ∙ c.next.ensures w.is.earlier w.is.later w.is.piece w.is.among in
     end_content c.args.pieces.now c.args.chunks.now n c.args.start s c.args.out.now.items _ _ line
-    (copied_more b entries from c.args.out.now.items c.loop-out.out.items c.loop-out.place w _ copied (sym c.breaks.ensures ∙ c.loop-out-test.true))
-    (last_line b entries from c.args.out.now.items c.loop-out.out.items c.loop-out.place w _ copied (sym c.breaks.ensures ∙ c.loop-out-test.true) none) at
+    (copied_more b entries (text_from b entries c.args.start s.is) c.args.out.now.items c.loop-out.out.items c.loop-out.place w _ copied (sym c.breaks.ensures ∙ c.loop-out-test.true))
+    (last_line b entries (text_from b entries c.args.start s.is) c.args.out.now.items c.loop-out.out.items c.loop-out.place w _ copied (sym c.breaks.ensures ∙ c.loop-out-test.true) none) at
 
 pub returns-in_default-clause-next : goal.returns-in_default-clause-next
 returns-in_default-clause-next c = λ n s.
     let b = c.args.chunks.now.buffers in
     let entries = c.args.pieces.now.entries in
     let w = c.loop-out.invariant s.is in
-    let from = text_from b entries c.args.start s.is in
     let copied = c.in_ok-extend_from_slice.ensures.items ∙ ap (λ u. c.loop-out.out.items ++ u) c.units.ensures in
     let none = sym c.in_default.is ∙ c.next.ensures w.is.earlier w.is.later w.is.piece w.is.among in
     end_number c.args.pieces.now c.args.chunks.now n c.args.start s _
-    (last_line b entries from c.args.out.now.items c.loop-out.out.items c.loop-out.place w _ copied (sym c.breaks.ensures ∙ c.loop-out-test.true) none)
+    (last_line b entries (text_from b entries c.args.start s.is) c.args.out.now.items c.loop-out.out.items c.loop-out.place w _ copied (sym c.breaks.ensures ∙ c.loop-out-test.true) none)
 
 pub loop-out-preserved : goal.loop-out-preserved
 loop-out-preserved c = λ is.

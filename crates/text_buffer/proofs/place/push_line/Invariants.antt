@@ -2,7 +2,7 @@ use Rattle.std.proofs.Common.{◌+◌, ◌-◌, length}
 use Rattle.piece_tree.specs.Pieces.{pieces_of, unit_count}
 use Rattle.text_buffer.specs.Places.{IsPlace, text_from}
 use Rattle.text_buffer.proofs.LineWalks.{Passed}
-use Rattle.text_buffer.proofs.place.push_to_break.Given as goal
+use Rattle.text_buffer.proofs.place.push_line.Given as goal
 
 abbrev pub invariant-loop-out : goal.invariant-loop-out
 invariant-loop-out l =
