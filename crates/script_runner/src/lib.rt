@@ -6,6 +6,7 @@ mod decoration_replies;
 mod line;
 mod look_up;
 mod ops;
+mod outcome;
 mod reply;
 mod running;
 mod serving;
