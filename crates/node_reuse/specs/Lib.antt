@@ -2,4 +2,5 @@ pub mod OldText
 pub mod Texts
 pub mod Ahead
 pub mod Reading
+pub mod ParsedTree
 mod Examples

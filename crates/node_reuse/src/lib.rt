@@ -4,8 +4,10 @@
 mod fresh;
 mod lines;
 mod old;
+mod reparse;
 
 pub use bracket_rules::Token;
 pub use fresh::scanned_line;
 pub use lines::Lines;
 pub use old::OldReader;
+pub use reparse::Parsed;
