@@ -7,3 +7,5 @@ pub mod KeptSteps
 pub mod KeptEnds
 pub mod LineStarts
 pub mod LightLines
+pub mod Unasked
+pub mod FreshReader

@@ -1,5 +1,5 @@
 -- A reader of the text of now: what it sees, what it keeps true from call to call, and which lines it has yet to ask for.
-use Rattle.std.specs.Prelude.{◌≡◌, ℕ, suc, ◌+◌, Bool, true, false, List, [], ◌∷◌, length, drop}
+use Rattle.std.specs.Prelude.{◌≡◌, ℕ, suc, ◌+◌, ◌<◌, Bool, true, false, List, [], ◌∷◌, length, drop}
 use Rattle.text_lengths.specs.declared.Length.{Length}
 use Rattle.bracket_rules.specs.declared.Token.{Token}
 use Rattle.bracket_rules.specs.Rows.{Row, text_rows}
@@ -89,6 +89,11 @@ pub record StandsAt (s : Sight) (p : Length) (line : Line) : Type 0 where
   pub in_line : IsInLine (mark_of s p) s.old.tree s.marks (sight_rows s) (sight_weights s) p line.scanned (tokens_left line) line.columns
   pub is_new : line.scanned ≡ true → mark_of s p ≡ New
   pub asked : line.asked + length (unasked s.marks p line.scanned) ≡ length (new_lines s.marks)
+
+-- the line of place p is the last one, or it is not
+abbrev pub IsLast : Sight → Length → Bool → Type 0
+IsLast s p true = length s.contents ≡ suc p.lines
+IsLast s p false = suc p.lines < length s.contents
 
 -- this came next, and the reader went on from place p to place q
 pub record ReadsOn (s : Sight) (p : Length) (from : Line) (q : Length) (to : Line) (opened level : ℕ) (next : Next) : Type 0 where

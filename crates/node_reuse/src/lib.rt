@@ -1,6 +1,7 @@
 //! The bracket tree of a text whose lines changed in part: what of the old tree may be taken over.
 #![tactic(auto)]
 
+mod fresh;
 mod line;
 mod lines;
 mod old;

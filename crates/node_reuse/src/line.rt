@@ -1,5 +1,5 @@
 // The line of a text that is read.
-ghost use Rattle.std.specs.Prelude.{◌≡◌, ◌+◌, ◌^◌, ◌<◌, ◌≤◌, ◌++◌, [], true, false, length, IfOk, OnOk};
+ghost use Rattle.std.specs.Prelude.{◌≡◌, ◌+◌, ◌^◌, ◌<◌, ◌≤◌, ◌++◌, ◌∷◌, [], drop, true, false, length, IfOk, OnOk, IfSome, IfNone};
 ghost use Rattle.bracket_rules.specs.Table.{is_table, tokens_of};
 ghost use Rattle.node_reuse.specs.Texts.{content_at};
 ghost use Rattle.node_reuse.specs.Reader.{asked_if, tokens_left};
@@ -21,6 +21,22 @@ pub(crate) struct Line {
     pub tokens: Vec<Token>,
     pub next: usize,
     pub columns: u64,
+}
+
+impl Line {
+    // The next of its brackets.
+    pub fn token(&self) -> Option<Token>
+        ensures some { IfSome result (λ token. tokens_left self.now
+            ≡ token ∷ drop (self.now.next + 1) self.now.tokens.items) }
+        ensures none { IfNone result (tokens_left self.now ≡ []) }
+    {
+        let tokens = self.tokens.as_slice();
+        if self.next < tokens.len() {
+            Some(tokens[self.next])
+        } else {
+            None
+        }
+    }
 }
 
 // No line yet. An empty one is scanned, which takes no memory: what scans is a table.

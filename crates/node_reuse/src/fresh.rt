@@ -1,0 +1,74 @@
+// What comes in a new line.
+ghost use Rattle.std.specs.Prelude.{◌≡◌, ◌-◌, ◌^◌, ◌<◌, ◌≤◌, ℕ, true, IfOk, OnErr};
+ghost use Rattle.bracket_rules.specs.Table.{AreInLine};
+ghost use Rattle.bracket_trees.specs.Tree.{text, wide};
+ghost use Rattle.node_reuse.specs.Reader.{Sight, tokens_left, StandsAt, IsLast, ReadsOn};
+
+use crate::line::Line;
+use bracket_nodes::{Next, text_node};
+use bracket_rules::MOST_OPEN;
+use std::alloc::{AllocError, Global};
+use text_lengths::Length;
+
+const LINE_BREAK: Length = Length {
+    lines: 1,
+    columns: 0,
+};
+
+// What comes next in a line that was scanned, whether or not it is the last one: a bracket, the columns before it, the
+// break, or the end of the text. An error leaves the reader where it was.
+pub(crate) fn next_of_line(
+    alloc: Global,
+    last: bool,
+    place: &mut Length,
+    line: &mut Line,
+) -> Result<Next, AllocError>
+    requires scanned { line.old.scanned ≡ true }
+    requires in_line { AreInLine place.old.columns line.old.columns (tokens_left line.old) }
+    requires fits { place.old.lines < 2 ^ 62 }
+    ensures reads { (s : Sight) (opened level : ℕ) → level ≤ MOST_OPEN
+        → StandsAt s place.old line.old → IsLast s place.old last
+        → IfOk result (ReadsOn s place.old line.old place.new line.new opened level) }
+    ensures stays { OnErr result (place.new ≡ place.old) }
+    ensures scanned { OnErr result (line.new.scanned ≡ true) }
+{
+    let columns = line.columns;
+    if let Some(token) = line.token() {
+        if place.columns < token.at {
+            return gap(alloc, place, token.at);
+        }
+        line.next += 1;
+        place.columns += token.len;
+        return Ok(Next::Bracket(token.kind, token.len, token.opening));
+    }
+    if !last {
+        let node = text_node(alloc, LINE_BREAK)?;
+        line.scanned = false;
+        place.lines += 1;
+        place.columns = 0;
+        return Ok(Next::Ready(node));
+    }
+    if place.columns < columns {
+        return gap(alloc, place, columns);
+    }
+    Ok(Next::End)
+}
+
+// The columns of a line up to this one.
+fn gap(alloc: Global, place: &mut Length, column: u64) -> Result<Next, AllocError>
+    requires { place.old.columns < column }
+    ensures gap { IfOk result (λ next. next ≡ Next.Ready (text (wide (column - place.old.columns)))) }
+    ensures lines { place.new.lines ≡ place.old.lines }
+    ensures column { IfOk result (λ _. place.new.columns ≡ column) }
+    ensures stays { OnErr result (place.new ≡ place.old) }
+{
+    let node = text_node(
+        alloc,
+        Length {
+            lines: 0,
+            columns: column - place.columns,
+        },
+    )?;
+    place.columns = column;
+    Ok(Next::Ready(node))
+}
