@@ -90,7 +90,7 @@ left_new s p e = ap (λ (m : Mark). left_by m s.old.tree (sight_weights s) p) e
 unasked_scanned : (s : Sight) (p : Length) (b : Bool) → b ≡ true → unasked s.marks p b ≡ new_lines_at (suc p.lines) s.marks
 unasked_scanned s p b e = ap (unasked s.marks p) e
 
-unasked_unscanned : (s : Sight) (p : Length) (b : Bool) → b ≡ false → unasked s.marks p b ≡ new_lines_at p.lines s.marks
+pub unasked_unscanned : (s : Sight) (p : Length) (b : Bool) → b ≡ false → unasked s.marks p b ≡ new_lines_at p.lines s.marks
 unasked_unscanned s p b e = ap (unasked s.marks p) e
 
 -- the reader comes to another column of the line

@@ -9,3 +9,4 @@ pub mod LineStarts
 pub mod LightLines
 pub mod Unasked
 pub mod FreshReader
+pub mod KeptReader

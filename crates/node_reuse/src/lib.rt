@@ -2,6 +2,7 @@
 #![tactic(auto)]
 
 mod fresh;
+mod kept;
 mod line;
 mod lines;
 mod old;
