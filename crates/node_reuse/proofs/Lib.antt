@@ -10,3 +10,4 @@ pub mod LightLines
 pub mod Unasked
 pub mod FreshReader
 pub mod KeptReader
+pub mod ReaderCalls

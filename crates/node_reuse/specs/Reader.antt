@@ -25,6 +25,9 @@ pub record Sight : Type 0 where
   pub old : OldText
   pub marks : List Mark
 
+abbrev pub sight : Table → List (List ℕ) → OldText → List Mark → Sight
+sight table contents old marks = record { table = table; contents = contents; old = old; marks = marks }
+
 abbrev pub sight_rows : Sight → List Row
 sight_rows s = text_rows s.table s.contents
 
@@ -53,10 +56,13 @@ abbrev pub asked_if : Bool → ℕ → List ℕ
 asked_if false n = []
 asked_if true n = n ∷ []
 
--- the lines that were asked for, and the borrows by which they are read, tell what else a source has to say
+-- the lines that were asked for so far, and by which borrows lines are read
 pub record Asked : Type 0 where
   pub lines : List ℕ
   pub borrows : List ℕ
+
+abbrev pub asked_so : List ℕ → List ℕ → Asked
+asked_so lines borrows = record { lines = lines; borrows = borrows }
 
 abbrev pub asking_at : Sight → Asked → Length → Bool → Asking
 asking_at s asked p scanned = record {

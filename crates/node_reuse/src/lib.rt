@@ -6,6 +6,7 @@ mod kept;
 mod line;
 mod lines;
 mod old;
+mod reader;
 mod reparse;
 
 pub use bracket_rules::Token;
