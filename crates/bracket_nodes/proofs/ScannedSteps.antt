@@ -23,11 +23,11 @@ line_end column columns (t ∷ ts) h =
     let first : column ≤ t.at = h.0 in
     omega arith
 
-AreInLine-from : (c d n : ℕ) (ts : List Token) → c ≤ d → AreInLine d n ts → AreInLine c n ts
+pub AreInLine-from : (c d n : ℕ) (ts : List Token) → c ≤ d → AreInLine d n ts → AreInLine c n ts
 AreInLine-from c d n [] h k = omega arith
 AreInLine-from c d n (t ∷ ts) h k = let first : d ≤ t.at = k.0 in (omega arith, k.1, k.2, k.3)
 
-shifted-moved_back : (c d n : ℕ) (ts : List Token) → c ≤ d → AreInLine d n ts → shifted (d - c) (moved_back d ts) ≡ moved_back c ts
+pub shifted-moved_back : (c d n : ℕ) (ts : List Token) → c ≤ d → AreInLine d n ts → shifted (d - c) (moved_back d ts) ≡ moved_back c ts
 shifted-moved_back c d n [] h k = refl
 shifted-moved_back c d n (t ∷ ts) h k =
     let first : d ≤ t.at = k.0 in

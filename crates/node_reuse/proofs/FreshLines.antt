@@ -77,6 +77,7 @@ fresh_over now weights p n left f same last end =
       empty =
           rows_at now weights p [] n f ∙ ap (rows_before p.columns [] n) none ∙ ap (λ (m : ℕ). row [] m ∷ []) columns;
       last = nil_from_length (drop (suc p.lines) weights) (omega (arith, length-drop (suc p.lines) weights));
+      asked = refl;
     }
 
 -- ---- a line is entered

@@ -16,28 +16,12 @@ use Rattle.bracket_trees.proofs.Glue.{empty_glue}
 use Rattle.bracket_trees.proofs.LineWeights.{AreCovered-same}
 use Rattle.bracket_nodes.specs.Source.{GivesNode, GivesBracket}
 use Rattle.bracket_nodes.specs.ScannedLines.{moved_back}
-use Rattle.bracket_nodes.proofs.ScannedSteps.{line_end}
+use Rattle.bracket_nodes.proofs.ScannedSteps.{line_end, shifted-moved_back}
 use Rattle.reuse_rules.specs.Following.{Reached}
 use Rattle.reuse_rules.proofs.Followings.{Reached-next, Reached-rows}
 use Rattle.node_reuse.specs.Ahead.{ahead_at, fresh_left, rows_before, IsFresh}
 
 -- ---- rows
-
-AreInLine-from : (c d n : ℕ) (ts : List Token) → c ≤ d → AreInLine d n ts → AreInLine c n ts
-AreInLine-from c d n [] h k = omega arith
-AreInLine-from c d n (t ∷ ts) h k = let first : d ≤ t.at = k.0 in (omega arith, k.1, k.2, k.3)
-
-shifted-moved_back : (c d n : ℕ) (ts : List Token) → c ≤ d → AreInLine d n ts → shifted (d - c) (moved_back d ts) ≡ moved_back c ts
-shifted-moved_back c d n [] h k = refl
-shifted-moved_back c d n (t ∷ ts) h k =
-    let first : d ≤ t.at = k.0 in
-    let at : (d - c) + (t.at - d) ≡ t.at - c = omega arith in
-    let here : token ((d - c) + (t.at - d)) t.len t.kind t.opening ≡ token (t.at - c) t.len t.kind t.opening =
-    ap (λ (m : ℕ). token m t.len t.kind t.opening) at in
-    let later : d ≤ t.at + t.len = omega arith in
-    let rest : shifted (d - c) (moved_back d ts) ≡ moved_back c ts =
-    shifted-moved_back c d n ts h (AreInLine-from d (t.at + t.len) n ts later k.3) in
-    cc
 
 HasRow-before : (c : ℕ) (ts : List Token) (n : ℕ) (rest : List Row) → HasRow (rows_before c ts n rest)
 HasRow-before c ts n [] = tt
