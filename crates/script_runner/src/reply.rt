@@ -17,9 +17,7 @@ use crate::look_up::{offset_at, position_at};
 use crate::ops::ops_at;
 use crate::outcome::{Refused, Reply};
 use model_core::{BracketTable, Model};
-use script_lines::{
-    Command, LineOps, Refusal, Short, command_of, long_begin, long_end, long_text,
-};
+use script_lines::{Command, LineOps, Refusal, Short, command_of, long_begin, long_end, long_text};
 use std::alloc::{AllocError, Global};
 use text_lengths::{Position, Span};
 

@@ -69,7 +69,9 @@ impl Progress {
             ≡ min (self.old.memory + (if is_for_memory outcome.now then 1 else 0)) greatest_count }
     {
         self.refused = self.refused.saturating_add(u64::from(outcome.is_err()));
-        self.memory = self.memory.saturating_add(u64::from(is_for_memory(outcome)));
+        self.memory = self
+            .memory
+            .saturating_add(u64::from(is_for_memory(outcome)));
     }
 }
 
