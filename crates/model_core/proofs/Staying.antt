@@ -194,8 +194,8 @@ marked_turn_on ms now cs i c inside is =
 
 -- so many ops leave a new line; none leaves the marks
 pub MarkedBy : ℕ → List Mark → List Mark → Type 0
-MarkedBy zero old new = new ≡ old
-MarkedBy (suc ops) old new = has_new new ≡ true
+MarkedBy zero before after = after ≡ before
+MarkedBy (suc ops) before after = has_new after ≡ true
 
 marked_more : (n a b : ℕ) (old mid new : List Mark) → n ≡ b + a → MarkedBy a old mid → MarkedBy b mid new → MarkedBy n old new
 unfolding MarkedBy
@@ -230,10 +230,19 @@ marked_step_on marks before (c ∷ cs) lead =
     marked_more (op_count On (c ∷ cs)) (length c.batch) (op_count On cs) marks mid (marked_on mid (changes_on after cs)) (omega (arith, op_count-cons On c cs))
     (marked_ops 0 before c.batch marks (fit_on before after c lead.0).standing) (marked_step_on mid after cs lead.1)
 
-pub kept_by : (ops : ℕ) (tree : Option Tree) (old new : List Mark) → MarkedBy ops old new → KeptBy ops (is_some (fresh_tree tree old)) (is_some (fresh_tree tree new))
+kept_by : (ops : ℕ) (tree : Option Tree) (before after : List Mark) → MarkedBy ops before after → KeptBy ops (is_some (fresh_tree tree before)) (is_some (fresh_tree tree after))
 unfolding MarkedBy
-kept_by zero tree old new marked = ap (λ marks. is_some (fresh_tree tree marks)) marked
-kept_by (suc ops) tree old new marked = rw marked refl
+kept_by zero tree before after marked = ap (λ marks. is_some (fresh_tree tree marks)) marked
+kept_by (suc ops) tree before after marked = rw marked refl
+
+-- of the same tree and marks
+pub kept_as : (n ops : ℕ) (old_tree tree : Option Tree) (before after marks : List Mark) (was : Bool) → n ≡ ops → tree ≡ old_tree → marks ≡ after
+    → is_some (fresh_tree old_tree before) ≡ was → MarkedBy n before after → KeptBy ops was (is_some (fresh_tree tree marks))
+kept_as n ops old_tree tree before after marks was count trees are old marked =
+    subst (λ k. KeptBy k was (is_some (fresh_tree tree marks))) count
+    (subst (λ b. KeptBy n b (is_some (fresh_tree tree marks))) old
+    (subst (λ t. KeptBy n (is_some (fresh_tree old_tree before)) (is_some (fresh_tree t marks))) (sym trees)
+    (subst (λ ms. KeptBy n (is_some (fresh_tree old_tree before)) (is_some (fresh_tree old_tree ms))) (sym are) (kept_by n old_tree before after marked))))
 
 -- ---- a parse
 
