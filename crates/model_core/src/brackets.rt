@@ -35,6 +35,8 @@ pub(crate) fn renew(
     ensures marks { OnOk result (last.new.marks ≡ clean_marks (length last.old.marks)) }
     ensures same { is_some (fresh_tree last.old.tree last.old.marks) ≡ true
         → last.new.tree ≡ last.old.tree }
+    ensures same_marks { is_some (fresh_tree last.old.tree last.old.marks) ≡ true
+        → last.new.marks ≡ last.old.marks }
     ensures sure { OnErr result (is_some (fresh_tree last.old.tree last.old.marks) ≡ false) }
     ensures tree { OnErr result (last.new.tree ≡ last.old.tree) }
     ensures kept { OnErr result (last.new.marks ≡ last.old.marks) }

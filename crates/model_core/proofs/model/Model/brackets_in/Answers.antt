@@ -1,10 +1,13 @@
-use Rattle.std.proofs.Common.{◌≡◌, ℕ, true, List, Ok, ap, sym, is_some, arith}
+use Rattle.std.proofs.Common.{◌≡◌, ℕ, true, List, Ok, length, ap, sym, subst, ◌∙◌, is_some, arith}
+use Rattle.std.specs.Option.{option_copied}
+use Rattle.mark_rules.specs.Marks.{clean_marks}
 use Rattle.std.proofs.lemmas.Grind.{common_steps}
 use Rattle.bracket_rules.specs.declared.Entry.{Entry}
 use Rattle.bracket_rules.specs.Table.{is_table}
 use Rattle.document_rules.specs.Brackets.{flat_brackets, IsSmall}
 use Rattle.std.specs.List.{All}
-use Rattle.model_core.specs.State.{ModelState}
+use Rattle.model_core.specs.State.{ModelState, fresh_tree}
+use Rattle.model_core.proofs.Staying.{stays_parsed, stays_as, clean_where_fresh}
 use Rattle.model_core.proofs.Kept.{kept_table, flat_small, on_ok}
 use Rattle.model_core.proofs.model.Model.brackets_in.Goals as goal
 use Rattle.model_core.proofs.model.Model.brackets_in.Goals.{After-self}
@@ -21,9 +24,17 @@ small c table from to entries rule =
 pub returns-in-Some-clause-small : goal.returns-in-Some-clause-small
 returns-in-Some-clause-small c = λ entries rule.
     let m = c.self.inside in
-    let kept : is_some m.tree ≡ true = ap is_some c.in-Some.is in
-    let table = kept_table m.tree m.table m.text.units kept c.self.invariant.4 in
+    let tree = fresh_tree m.last.tree m.last.marks in
+    let kept : is_some tree ≡ true = ap is_some (sym c.fresh.ensures ∙ ap option_copied c.in-Some.is) in
+    let table = kept_table tree m.table m.text.units kept c.self.invariant.4.kept in
     on_ok c.map_err.result _ (small (goal.at.returns-in-Some-clause-small c).After-self table c.args.from c.args.to entries rule)
+
+pub returns-in-Some-clause-lines : goal.returns-in-Some-clause-lines
+returns-in-Some-clause-lines c =
+    let m = c.self.inside in
+    let kept : is_some (fresh_tree m.last.tree m.last.marks) ≡ true = ap is_some (sym c.fresh.ensures ∙ ap option_copied c.in-Some.is) in
+    let clean = clean_where_fresh m.last.tree m.last.marks m.table m.text.units kept c.self.invariant.4 in
+    on_ok c.map_err.result _ (subst (λ (s : ModelState). s.marks ≡ clean_marks (length s.marks)) c.self.view_is clean)
 
 pub returns-in_ok-map_err-in-None-clause-small : goal.returns-in_ok-map_err-in-None-clause-small
 returns-in_ok-map_err-in-None-clause-small c = λ entries rule.
