@@ -2,6 +2,7 @@
 
 ghost use Rattle.std.specs.Prelude.{◌≡◌, ◌+◌, ◌<◌, ◌≤◌, ◌^◌, ◌∷◌, [], None, Some, false, true, length, is_some, replicate, IfOk, OnOk};
 ghost use Rattle.std.specs.Option.{option_copied};
+ghost use Rattle.batch_rules.specs.Batches.{most_units};
 ghost use Rattle.text_rules.specs.Edits.{edited};
 ghost use Rattle.text_rules.specs.Lines.{lines_of};
 ghost use Rattle.bracket_trees.specs.Tree.{IsTree};
@@ -114,4 +115,21 @@ impl LastParse {
         self.hunks.clean(lines);
         self.tree = Some(tree);
     }
+}
+
+/// The text of these units, which was not parsed yet.
+pub(crate) fn unparsed(
+    alloc: Global,
+    units: &[u16],
+) -> Result<(TextBuffer, LastParse), AllocError>
+    requires { length units.now ≤ most_units }
+    ensures units { IfOk result (λ made. made.0.units ≡ units.now) }
+    ensures spans { IfOk result (λ made. length made.0.spans ≤ 1) }
+    ensures tree { IfOk result (λ made. made.1.tree ≡ None) }
+    ensures marks { IfOk result (λ made.
+        made.1.marks ≡ replicate (length (lines_of units.now)) New) }
+{
+    let text = TextBuffer::of_units(alloc, units)?;
+    let last = LastParse::of_new_lines(alloc, text.line_count())?;
+    Ok((text, last))
 }

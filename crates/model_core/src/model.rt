@@ -20,7 +20,7 @@ ghost use Rattle.document_rules.specs.Document.{new_document, flat_open, flat_ed
 ghost use Rattle.model_core.specs.Errors.{error_of, refusal_of};
 
 use crate::brackets::{parse_text, renew};
-use crate::last_parse::LastParse;
+use crate::last_parse::{LastParse, unparsed};
 use crate::change::{Change, Way, apply, make_again, reserve_for, take_back};
 use crate::places::{is_position, place_of, told};
 use bracket_nodes::Entry;
@@ -123,9 +123,9 @@ impl Model {
         if text.len() as u64 > MOST_TEXT_UNITS {
             return Err(ModelError::Limit);
         }
-        let text = TextBuffer::of_units(self.alloc, text).map_err(|_| ModelError::Memory)?;
-        let last = LastParse::of_new_lines(self.alloc, text.line_count())
-            .map_err(|_| ModelError::Memory)?;
+        let Ok((text, last)) = unparsed(self.alloc, text) else {
+            return Err(ModelError::Memory);
+        };
         self.text = text;
         self.version = 1;
         self.alternative = 1;
