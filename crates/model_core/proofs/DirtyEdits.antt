@@ -3,9 +3,9 @@ use Rattle.std.proofs.Common.{◌≡◌, ℕ, ◌+◌, ◌-◌, ◌<◌, ◌≤�
 use Rattle.std.proofs.lemmas.List.{length-map, length-drop, take-map, drop-map}
 use Rattle.std.proofs.lemmas.List.Sums.{prefix_len-le-length}
 use Rattle.text_lengths.specs.declared.Span.{Span}
-use Rattle.text_rules.specs.Lines.{Line, lines_of, line_feed, carriage_return, begins_with}
-use Rattle.text_rules.specs.Dirty.{is_after_return, replaced, first_dirty, old_dirty, new_dirty}
-use Rattle.text_rules.specs.Breaks.{ends_break, break_ends, ends_with, joins_pair}
+use Rattle.text_rules.specs.Lines.{lines_of, line_feed, carriage_return, begins_with}
+use Rattle.text_rules.specs.Dirty.{replaced, first_dirty, old_dirty, new_dirty}
+use Rattle.text_rules.specs.Breaks.{ends_break, break_ends, ends_with}
 use Rattle.text_rules.proofs.Breaks.{line_count_is, break_ends_few}
 use Rattle.text_rules.proofs.DirtyLines.{one_if, after_return_is, first_is, last_is, f_within, lines_before, lines_after, new_is}
 use Rattle.reuse_rules.specs.Edits.{IsEdited}

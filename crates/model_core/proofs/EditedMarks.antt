@@ -1,11 +1,11 @@
 -- Marks of lines that were edited.
-use Rattle.std.proofs.Common.{◌≡◌, ℕ, zero, suc, ◌+◌, ◌-◌, ◌<◌, ◌≤◌, Bool, true, false, ◌||◌, List, [], ◌∷◌, ◌++◌, length, take, drop, Option, Some, refl, ap, sym, ◌∙◌, arith}
+use Rattle.std.proofs.Common.{◌≡◌, ℕ, zero, suc, ◌+◌, ◌-◌, ◌<◌, ◌≤◌, Bool, true, false, ◌||◌, List, [], ◌∷◌, ◌++◌, length, take, drop, Some, refl, ap, ◌∙◌, arith}
 use Rattle.std.specs.Prelude.{replicate, slice_index_or, ⊤}
 use Rattle.std.proofs.Math.Bool.{or-true}
 use Rattle.std.proofs.lemmas.List.{length-append, length-take-le, length-drop, length-replicate}
 use Rattle.mark_rules.specs.declared.Mark.{Mark}
 use Rattle.mark_rules.specs.declared.Mark.TheVariants.{Kept, New}
-use Rattle.mark_rules.specs.Marks.{mark_at, kept_marks, clean_marks, edited_marks, has_new, GoesOn, RisesFrom, Rises}
+use Rattle.mark_rules.specs.Marks.{kept_marks, clean_marks, edited_marks, has_new, GoesOn, RisesFrom, Rises}
 use Rattle.mark_rules.proofs.MarkLaws.{has_new-append, has_new-kept_marks}
 use Rattle.bracket_trees.specs.Tree.{Tree}
 use Rattle.model_core.specs.State.{fresh_tree}

@@ -1,5 +1,5 @@
 -- The tree of the last parse stays with the text: after edits, after steps back and on, and after a parse.
-use Rattle.std.proofs.Common.{◌≡◌, ℕ, zero, suc, ◌+◌, ◌-◌, ◌<◌, ◌≤◌, Bool, true, false, cond, List, [], ◌∷◌, length, map, drop, slice_index_or, Option, Some, None, is_some, refl, ap, sym, subst, ◌∙◌, arith}
+use Rattle.std.proofs.Common.{◌≡◌, ℕ, zero, suc, ◌+◌, ◌-◌, ◌<◌, ◌≤◌, Bool, true, false, cond, List, [], ◌∷◌, length, drop, slice_index_or, Option, Some, None, is_some, refl, ap, sym, subst, ◌∙◌, arith}
 use Rattle.std.specs.Prelude.{replicate}
 use Rattle.std.proofs.Math.Seq.{drop-cons}
 use Rattle.std.proofs.lemmas.List.{length-map, length-replicate}
@@ -7,7 +7,7 @@ use Rattle.text_rules.specs.declared.Op.{Op}
 use Rattle.text_rules.specs.Lines.{Line, lines_of}
 use Rattle.text_rules.specs.Dirty.{first_dirty, old_dirty, new_dirty}
 use Rattle.text_rules.specs.Edits.{edited}
-use Rattle.batch_rules.specs.Batches.{applied_from, inverse_from, StandFrom, edited_backwards}
+use Rattle.batch_rules.specs.Batches.{applied_from, StandFrom, edited_backwards}
 use Rattle.batch_rules.proofs.Backwards.{backwards_is_one_pass, backwards_step}
 use Rattle.bracket_rules.specs.Table.{Table, is_table}
 use Rattle.bracket_rules.specs.Rows.{Row, text_rows}

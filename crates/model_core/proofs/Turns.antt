@@ -1,5 +1,5 @@
 -- One turn of each walk: the ops of a batch from the last to the first, and the changes of a step either way.
-use Rattle.std.proofs.Common.{◌≡◌, ℕ, zero, suc, ◌+◌, ◌-◌, ◌*◌, ◌<◌, ◌≤◌, List, [], ◌∷◌, length, drop, get_or, slice_index_or, refl, ap, sym, subst, ◌∙◌, arith}
+use Rattle.std.proofs.Common.{◌≡◌, ℕ, zero, suc, ◌+◌, ◌-◌, ◌<◌, ◌≤◌, List, [], ◌∷◌, length, drop, get_or, slice_index_or, refl, ap, sym, subst, ◌∙◌, arith}
 use Rattle.std.proofs.Math.Seq.{drop-cons}
 use Rattle.std.specs.List.{All}
 use Rattle.std.specs.Prelude.{sum_by}
@@ -7,7 +7,7 @@ use Rattle.std.proofs.lemmas.List.Elements.{All-nil, All-cons}
 use Rattle.std.proofs.lemmas.List.Sums.{sum_by-cons, sum_by-drop_more, sum_by-take-drop}
 use Rattle.text_rules.specs.declared.Op.{Op}
 use Rattle.text_rules.specs.Edits.{edited}
-use Rattle.batch_rules.specs.Batches.{most_units, applied_from, inverse_from, text_units, StandFrom, edited_backwards}
+use Rattle.batch_rules.specs.Batches.{most_units, applied_from, text_units, StandFrom, edited_backwards}
 use Rattle.batch_rules.proofs.Backwards.{backwards_step, backwards_few, IsStep}
 use Rattle.batch_rules.proofs.Standing.{text_units_applied, text_units_inverse}
 use Rattle.batch_rules.proofs.Inverses.{inverse_stands_from_start, length-inverse_from}

@@ -1,12 +1,11 @@
-use Rattle.std.proofs.Common.{◌≡◌, ℕ, ◌+◌, ◌-◌, ◌≤◌, List, [], ◌++◌, length, map, drop, take, refl, ap, sym, ◌∙◌, subst, arith}
+use Rattle.std.proofs.Common.{◌≡◌, ℕ, ◌-◌, List, [], ◌++◌, length, map, drop, take, refl, ap, sym, ◌∙◌, arith}
 use Rattle.std.proofs.lemmas.List.{drop_all}
-use Rattle.text_rules.specs.declared.Op.{Op}
 use Rattle.text_rules.specs.Edits.{edited}
 use Rattle.decoration_rules.specs.Moves.{moved_mark}
 use Rattle.decoration_rules.specs.Marks.{in_order}
-use Rattle.batch_rules.specs.Batches.{text_units, edited_backwards, applied_from}
+use Rattle.batch_rules.specs.Batches.{text_units, edited_backwards}
 use Rattle.batch_rules.proofs.Backwards.{backwards_is_one_pass}
-use Rattle.model_core.specs.Carrying.{edit_with, carried_with, AreIn}
+use Rattle.model_core.specs.Carrying.{edit_with, carried_with}
 use Rattle.text_rules.specs.Lines.{lines_of}
 use Rattle.model_core.specs.LineMarks.{marked_backwards}
 use Rattle.model_core.proofs.Staying.{marked_turn}

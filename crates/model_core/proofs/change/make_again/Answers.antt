@@ -1,11 +1,7 @@
-use Rattle.std.proofs.Common.{◌≡◌, ℕ, false, ◌+◌, ◌-◌, ◌≤◌, List, [], ◌∷◌, length, drop, slice_index_or, ap, sym, ◌∙◌, subst, arith, refl}
-use Rattle.std.proofs.Math.Seq.{drop-cons}
+use Rattle.std.proofs.Common.{false, ◌+◌, length, drop, ap, sym, ◌∙◌, subst, arith}
 use Rattle.std.proofs.lemmas.List.{drop_all}
-use Rattle.text_rules.specs.declared.Op.{Op}
-use Rattle.batch_rules.specs.Batches.{text_units, applied_from, StandFrom}
-use Rattle.model_core.specs.declared.change.Change.{Change}
-use Rattle.model_core.specs.declared.change.Way.TheVariants.{On}
-use Rattle.model_core.specs.History.{text_on, changes_on, LeadOn, op_count, unit_count}
+use Rattle.batch_rules.specs.Batches.{text_units, applied_from}
+use Rattle.model_core.specs.History.{text_on, changes_on, LeadOn}
 use Rattle.model_core.specs.Carrying.{carried_with, decorations_on}
 use Rattle.model_core.proofs.Carries.{decorations_on-cut}
 use Rattle.model_core.specs.LineMarks.{marked_backwards, marked_on}

@@ -1,10 +1,8 @@
-use Rattle.std.proofs.Common.{◌≡◌, ℕ, suc, true, ◌+◌, ◌-◌, ◌≤◌, List, [], length, drop, refl, ap, sym, ◌∙◌, subst, arith}
+use Rattle.std.proofs.Common.{◌≡◌, ℕ, suc, true, ◌+◌, ◌-◌, [], length, drop, refl, ap, sym, ◌∙◌, arith}
 use Rattle.std.proofs.lemmas.List.{drop_all}
-use Rattle.text_rules.specs.declared.Op.{Op}
-use Rattle.batch_rules.specs.Batches.{text_units, applied_from, StandFrom}
-use Rattle.model_core.specs.declared.change.Change.{Change}
+use Rattle.batch_rules.specs.Batches.{text_units, applied_from}
 use Rattle.model_core.specs.declared.change.Way.TheVariants.{Back}
-use Rattle.model_core.specs.History.{text_back, changes_back, op_count, unit_count}
+use Rattle.model_core.specs.History.{text_back, changes_back, op_count}
 use Rattle.model_core.specs.Carrying.{carried_with, decorations_back}
 use Rattle.model_core.proofs.Carries.{decorations_back-cut}
 use Rattle.model_core.specs.LineMarks.{marked_backwards, marked_back}

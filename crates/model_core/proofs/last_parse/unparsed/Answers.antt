@@ -1,4 +1,4 @@
-use Rattle.std.proofs.Common.{◌≡◌, length, ap, arith}
+use Rattle.std.proofs.Common.{length, ap, arith}
 use Rattle.text_rules.proofs.Breaks.{line_count_is}
 use Rattle.model_core.proofs.DirtyEdits.{few_lines}
 use Rattle.model_core.proofs.last_parse.unparsed.Goals as goal

@@ -1,4 +1,4 @@
-use Rattle.std.proofs.Common.{◌≡◌, ℕ, List, length, ap, sym, subst, ◌∙◌, arith}
+use Rattle.std.proofs.Common.{◌≡◌, length, ap, sym, subst, ◌∙◌, arith}
 use Rattle.text_lengths.specs.declared.Dirty.{Dirty}
 use Rattle.text_rules.specs.Lines.{lines_of}
 use Rattle.text_rules.specs.Edits.{edited}

@@ -1,15 +1,13 @@
 use Rattle.std.proofs.Common.{◌≡◌, ◌+◌, ◌*◌, ◌≤◌, length, is_some, true, ap, sym, subst, ◌∙◌, Ok, arith}
 use Rattle.std.proofs.lemmas.Grind.{common_steps}
-use Rattle.std.specs.List.{All}
 use Rattle.unit_text.specs.Units.{IsPaired}
-use Rattle.batch_rules.specs.Batches.{most_units, checked_batch, sorted_ops, applied_from, inverse_from, text_units}
+use Rattle.batch_rules.specs.Batches.{checked_batch, sorted_ops, applied_from, inverse_from, text_units}
 use Rattle.batch_rules.proofs.Order.{length-sorted_ops}
 use Rattle.batch_rules.proofs.Standing.{accepted, text_units_applied}
 use Rattle.undo_rules.specs.Stack.{pushed}
 use Rattle.document_rules.specs.Document.{greatest_version, flat_edit}
 use Rattle.document_rules.proofs.PairedStates.{IsPairedState-edit}
 use Rattle.model_core.specs.State.{ModelState, fresh_tree}
-use Rattle.model_core.specs.History.{history_of, IsHistory}
 use Rattle.model_core.specs.Carrying.{carried_with}
 use Rattle.model_core.proofs.Editing.{edited_history, edited_document, edited_paired}
 use Rattle.model_core.specs.LineMarks.{marked_backwards}

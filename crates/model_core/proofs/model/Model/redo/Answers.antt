@@ -1,20 +1,18 @@
-use Rattle.std.proofs.Common.{◌≡◌, refl, true, ◌+◌, ◌<◌, ◌≤◌, length, is_some, slice_get, Option, Some, None, Ok, Err, ap, sym, subst, ◌∙◌, arith, inl, inr}
+use Rattle.std.proofs.Common.{◌≡◌, refl, true, ◌+◌, ◌<◌, ◌≤◌, length, is_some, slice_get, Some, None, Ok, Err, ap, sym, ◌∙◌, arith}
 use Rattle.std.proofs.lemmas.Grind.{common_steps}
-use Rattle.batch_rules.specs.Batches.{most_units, text_units}
-use Rattle.undo_rules.specs.Stack.{Step, redone}
+use Rattle.undo_rules.specs.Stack.{redone}
 use Rattle.edit_stack.specs.Element.{step_of}
 use Rattle.document_rules.specs.Refusals.{limit}
 use Rattle.document_rules.specs.Document.{greatest_version, flat_redo}
 use Rattle.document_rules.proofs.PairedStates.{IsPairedState-redo}
 use Rattle.model_core.specs.State.{ModelState, next_op_count, fresh_tree}
-use Rattle.model_core.specs.declared.change.Change.{Change}
 use Rattle.model_core.specs.declared.change.Way.TheVariants.{On}
-use Rattle.model_core.specs.History.{text_on, changes_on, LeadOn, ops_by, op_count}
+use Rattle.model_core.specs.History.{text_on, changes_on, op_count}
 use Rattle.model_core.specs.Carrying.{decorations_on}
 use Rattle.model_core.specs.LineMarks.{marked_on, redone_marks}
 use Rattle.model_core.proofs.Staying.{stays_as, stays_on, marked_step_on, kept_as}
 use Rattle.model_core.proofs.Turns.{few_on}
-use Rattle.model_core.proofs.Stepping.{redo_of, nothing_to_redo, fits_on, IsRedo}
+use Rattle.model_core.proofs.Stepping.{redo_of, nothing_to_redo, fits_on}
 use Rattle.model_core.proofs.model.Model.redo.Goals as goal
 use Rattle.model_core.proofs.model.Model.redo.Goals.{After-make_again}
 

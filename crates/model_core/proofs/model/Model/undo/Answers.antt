@@ -1,20 +1,18 @@
-use Rattle.std.proofs.Common.{◌≡◌, refl, true, ◌+◌, ◌<◌, ◌≤◌, length, is_some, slice_get, Option, Some, None, Ok, Err, ap, sym, subst, ◌∙◌, arith, inl, inr}
+use Rattle.std.proofs.Common.{◌≡◌, refl, true, ◌+◌, ◌<◌, ◌≤◌, length, is_some, slice_get, Some, None, Ok, Err, ap, sym, ◌∙◌, arith}
 use Rattle.std.proofs.lemmas.Grind.{common_steps}
-use Rattle.batch_rules.specs.Batches.{most_units, text_units}
-use Rattle.undo_rules.specs.Stack.{Step, undone}
+use Rattle.undo_rules.specs.Stack.{undone}
 use Rattle.edit_stack.specs.Element.{step_of}
 use Rattle.document_rules.specs.Refusals.{limit}
 use Rattle.document_rules.specs.Document.{greatest_version, flat_undo}
 use Rattle.document_rules.proofs.PairedStates.{IsPairedState-undo}
 use Rattle.model_core.specs.State.{ModelState, next_op_count, fresh_tree}
-use Rattle.model_core.specs.declared.change.Change.{Change}
 use Rattle.model_core.specs.declared.change.Way.TheVariants.{Back}
-use Rattle.model_core.specs.History.{text_back, changes_back, LeadBack, ops_by, op_count}
+use Rattle.model_core.specs.History.{text_back, changes_back, op_count}
 use Rattle.model_core.specs.Carrying.{decorations_back}
 use Rattle.model_core.specs.LineMarks.{marked_back, undone_marks}
 use Rattle.model_core.proofs.Staying.{stays_as, stays_back, marked_step_back, kept_as}
 use Rattle.model_core.proofs.Turns.{few_back}
-use Rattle.model_core.proofs.Stepping.{undo_of, nothing_to_undo, fits_back, IsUndo}
+use Rattle.model_core.proofs.Stepping.{undo_of, nothing_to_undo, fits_back}
 use Rattle.model_core.proofs.model.Model.undo.Goals as goal
 use Rattle.model_core.proofs.model.Model.undo.Goals.{After-take_back}
 
