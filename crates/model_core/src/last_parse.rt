@@ -118,10 +118,7 @@ impl LastParse {
 }
 
 /// The text of these units, which was not parsed yet.
-pub(crate) fn unparsed(
-    alloc: Global,
-    units: &[u16],
-) -> Result<(TextBuffer, LastParse), AllocError>
+pub(crate) fn unparsed(alloc: Global, units: &[u16]) -> Result<(TextBuffer, LastParse), AllocError>
     requires { length units.now ≤ most_units }
     ensures units { IfOk result (λ made. made.0.units ≡ units.now) }
     ensures spans { IfOk result (λ made. length made.0.spans ≤ 1) }

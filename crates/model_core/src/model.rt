@@ -20,8 +20,8 @@ ghost use Rattle.document_rules.specs.Document.{new_document, flat_open, flat_ed
 ghost use Rattle.model_core.specs.Errors.{error_of, refusal_of};
 
 use crate::brackets::{parse_text, renew};
-use crate::last_parse::{LastParse, unparsed};
 use crate::change::{Change, Way, apply, make_again, reserve_for, take_back};
+use crate::last_parse::{LastParse, unparsed};
 use crate::places::{is_position, place_of, told};
 use bracket_nodes::Entry;
 use bracket_scan::BracketTable;
@@ -164,7 +164,13 @@ impl Model {
             .reserve(count, batch.text_units())
             .map_err(|_| ModelError::Memory)?;
         self.last.reserve(count).map_err(|_| ModelError::Memory)?;
-        apply(&mut self.text, &mut self.decorations, &mut self.last, batch.ops(), true);
+        apply(
+            &mut self.text,
+            &mut self.decorations,
+            &mut self.last,
+            batch.ops(),
+            true,
+        );
         self.history
             .push(Change { batch, inverse }, self.alternative, version);
         self.version = version;
@@ -204,8 +210,15 @@ impl Model {
         };
         let version = raised(self.version, 1).ok_or(ModelError::Limit)?;
         let changes = step.changes();
-        reserve_for(&mut self.text, &mut self.last, changes, Way::Back).map_err(|_| ModelError::Memory)?;
-        take_back(&mut self.text, &mut self.decorations, &mut self.last, changes);
+        reserve_for(&mut self.text, &mut self.last, changes, Way::Back).map_err(
+            |_| ModelError::Memory,
+        )?;
+        take_back(
+            &mut self.text,
+            &mut self.decorations,
+            &mut self.last,
+            changes,
+        );
         self.version = version;
         self.alternative = step.alt_before();
         self.history.undone();
@@ -232,8 +245,15 @@ impl Model {
         };
         let version = raised(self.version, 1).ok_or(ModelError::Limit)?;
         let changes = step.changes();
-        reserve_for(&mut self.text, &mut self.last, changes, Way::On).map_err(|_| ModelError::Memory)?;
-        make_again(&mut self.text, &mut self.decorations, &mut self.last, changes);
+        reserve_for(&mut self.text, &mut self.last, changes, Way::On).map_err(
+            |_| ModelError::Memory,
+        )?;
+        make_again(
+            &mut self.text,
+            &mut self.decorations,
+            &mut self.last,
+            changes,
+        );
         self.version = version;
         self.alternative = step.alt_after();
         self.history.redone();

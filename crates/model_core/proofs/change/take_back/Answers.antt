@@ -14,7 +14,13 @@ pub loop-done-init : goal.loop-done-init
 loop-done-init c =
     let changes = c.args.changes.now in
     let none : drop (length changes - 0) changes ≡ [] = drop_all (length changes - 0) changes (omega arith) in
-    record { units = sym (ap (text_back c.args.text.now.units) none); pieces = omega arith; edits = omega arith; room = omega arith; carried = sym (ap (decorations_back c.args.decorations.now) none); inside = c.requires.inside;
+    record {
+      units = sym (ap (text_back c.args.text.now.units) none);
+      pieces = omega arith;
+      edits = omega arith;
+      room = omega arith;
+      carried = sym (ap (decorations_back c.args.decorations.now) none);
+      inside = c.requires.inside;
       marks = sym (ap (λ d. marked_back c.args.last.now.marks (changes_back c.args.text.now.units d)) none);
       lines = c.requires.lines;
       spare = omega arith;
