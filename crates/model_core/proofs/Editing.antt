@@ -1,15 +1,15 @@
 -- An accepted batch: what it leaves, and what the flat document has then.
-use Rattle.std.proofs.Common.{◌≡◌, ℕ, ◌+◌, ◌<◌, ◌≤◌, false, true, nat_le, List, length, Ok, refl, ap, sym, subst, ◌∙◌, arith}
+use Rattle.std.proofs.Common.{◌≡◌, ℕ, ◌+◌, ◌≤◌, false, true, nat_le, List, length, Ok, refl, arith}
 use Rattle.std.specs.List.{All}
 use Rattle.std.proofs.lemmas.Bool.{lt-leb}
 use Rattle.unit_text.specs.Units.{IsPaired}
 use Rattle.text_rules.specs.declared.Op.{Op}
 use Rattle.batch_rules.specs.Batches.{most_units, checked_batch, applied_from, inverse_from}
-use Rattle.batch_rules.proofs.Standing.{IsAccepted, accepted}
+use Rattle.batch_rules.proofs.Standing.{accepted}
 use Rattle.batch_rules.proofs.Pairs.{IsPaired-applied, HasPairedText}
 use Rattle.batch_rules.proofs.Order.{All-sorted_ops}
 use Rattle.undo_rules.specs.Stack.{Stack, pushed}
-use Rattle.document_rules.specs.Document.{FlatState, flat_edit, greatest_version, edited_by}
+use Rattle.document_rules.specs.Document.{flat_edit, greatest_version}
 use Rattle.model_core.specs.declared.change.Change.{Change}
 use Rattle.model_core.specs.History.{history_of, Leads, IsHistory}
 use Rattle.bracket_rules.specs.Table.{Table}

@@ -8,3 +8,6 @@ pub mod Inside
 pub mod Kept
 pub mod Scans
 pub mod TreeLength
+pub mod DirtyEdits
+pub mod EditedMarks
+pub mod Staying

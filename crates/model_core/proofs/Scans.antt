@@ -1,5 +1,5 @@
 -- The lines of a text that were scanned one after another, and that they can be parsed.
-use Rattle.std.proofs.Common.{◌≡◌, ℕ, ◌+◌, ◌-◌, ◌<◌, ◌≤◌, ◌==◌, ◌^◌, Bool, true, false, ◌&&◌, ◌||◌, if◌then◌else◌, Some, List, [], ◌∷◌, ◌++◌, length, map, take, get_or, sum, subst, sym, arith}
+use Rattle.std.proofs.Common.{◌≡◌, ℕ, ◌+◌, ◌-◌, ◌<◌, ◌≤◌, ◌==◌, ◌^◌, Bool, true, false, ◌&&◌, ◌||◌, if◌then◌else◌, Some, List, [], ◌∷◌, ◌++◌, length, map, take, get_or, sum, refl, ap, subst, sym, ◌∙◌, arith}
 use Rattle.std.proofs.lemmas.Bool.{ne_eqb}
 use Rattle.std.proofs.lemmas.List.{map_more}
 use Rattle.std.proofs.lemmas.Option.{slice_get-get_or}
@@ -12,6 +12,7 @@ use Rattle.bracket_trees.proofs.LineWeights.{sum-cons}
 use Rattle.bracket_nodes.specs.declared.scanned.ScannedLine.{ScannedLine}
 use Rattle.bracket_nodes.specs.ScannedLines.{AreLines, AreScans, scanned_rows, scanned_weights}
 use Rattle.bracket_nodes.proofs.Scans.{scanned_rows-text, AreLines-from_scans}
+use Rattle.node_reuse.specs.Texts.{text_weights}
 use Rattle.document_rules.specs.Brackets.{line_contents}
 
 abbrev pub contents : List Line → List (List ℕ)
@@ -88,12 +89,25 @@ some_contents : (lines : List Line) → 0 < length lines → 0 < length (content
 some_contents [] some = absurd (omega arith)
 some_contents (line ∷ lines) some = omega arith
 
+-- their columns and breaks are what the lines may weigh
+scanned_weights-text : (table : Table) (xs : List (List ℕ)) (scans : List ScannedLine) → AreScans table xs scans → scanned_weights scans ≡ text_weights xs
+scanned_weights-text table [] [] h = refl
+scanned_weights-text table [] (l ∷ scans) h = elim h [ ]
+scanned_weights-text table (x ∷ xs) [] h = elim h [ ]
+scanned_weights-text table (x ∷ []) (l ∷ []) h = ap (λ (columns : ℕ). columns ∷ []) h.1
+scanned_weights-text table (x ∷ []) (l ∷ m ∷ scans) h = elim h.2 [ ]
+scanned_weights-text table (x ∷ y ∷ xs) (l ∷ []) h = elim h.2 [ ]
+scanned_weights-text table (x ∷ y ∷ xs) (l ∷ m ∷ scans) h =
+    ap (λ (columns : ℕ). (columns + 1) ∷ scanned_weights (m ∷ scans)) h.1
+    ∙ ap (λ (weights : List ℕ). (length x + 1) ∷ weights) (scanned_weights-text table (y ∷ xs) (m ∷ scans) h.2)
+
 -- lines that can be parsed, to the tree of the text
 pub record AreScansOf (table : Table) (x : List ℕ) (scans : List ScannedLine) : Type 0 where
   pub some : 0 < length scans
   pub lines : AreLines scans
   pub fits : sum (scanned_weights scans) < 2 ^ 64
   pub rows : scanned_rows scans ≡ text_rows table (line_contents x)
+  pub weights : scanned_weights scans ≡ text_weights (line_contents x)
 
 pub scans_of_text : (table : Table) (x : List ℕ) (scans : List ScannedLine) → is_table table ≡ true → length x ≤ most_units
     → AreScans table (line_contents x) scans → AreScansOf table x scans
@@ -104,4 +118,5 @@ scans_of_text table x scans t small h =
       lines = AreLines-from_scans table (line_contents x) scans t h;
       fits = omega (arith, sum-scans table (lines_of x) scans h, spread-text x);
       rows = scanned_rows-text table (line_contents x) scans (some_contents (lines_of x) some) h;
+      weights = scanned_weights-text table (line_contents x) scans h;
     }

@@ -1,17 +1,19 @@
 -- A step that is undone or redone: what it leaves, and what the flat document has then.
-use Rattle.std.proofs.Common.{◌≡◌, ℕ, zero, ◌+◌, ◌<◌, ◌≤◌, true, false, Bool, List, [], ◌∷◌, length, slice_get, Option, Some, None, Ok, Err, refl, ap, sym, subst, ◌∙◌, arith}
+use Rattle.std.proofs.Common.{◌≡◌, ℕ, ◌+◌, ◌<◌, ◌≤◌, Bool, List, [], ◌∷◌, length, slice_get, Some, None, Ok, Err, refl, ap, sym, subst, arith}
 use Rattle.std.proofs.lemmas.Bool.{lt-leb, le-leb}
 use Rattle.batch_rules.specs.Batches.{most_units, applied_from}
-use Rattle.undo_rules.specs.Stack.{Step, Stack, undone, undone_lists, redone, redone_lists}
+use Rattle.undo_rules.specs.Stack.{Step, Stack, undone, redone}
 use Rattle.document_rules.specs.Refusals.{limit}
 use Rattle.document_rules.specs.Document.{FlatState, flat_undo, flat_redo, greatest_version}
 use Rattle.model_core.specs.declared.change.Change.{Change}
 use Rattle.model_core.specs.declared.change.Way.TheVariants.{Back, On}
 use Rattle.model_core.specs.State.{next_op_count}
-use Rattle.model_core.specs.History.{text_back, text_on, undo_steps, redo_steps, op_count, history_of, Leads, LeadBack, LeadOn, StepsLeadBack, StepsLeadOn, IsHistory}
+use Rattle.model_core.specs.History.{text_back, text_on, changes_back, changes_on, undo_steps, redo_steps, op_count, history_of, LeadBack, LeadOn, IsHistory}
 use Rattle.bracket_rules.specs.Table.{Table}
 use Rattle.decoration_rules.specs.Decorations.{Decorations}
 use Rattle.model_core.specs.Carrying.{decorations_back, decorations_on}
+use Rattle.mark_rules.specs.declared.Mark.{Mark}
+use Rattle.model_core.specs.LineMarks.{marked_back, marked_on, undone_marks, redone_marks}
 use Rattle.model_core.proofs.Turns.{ops_back, ops_on}
 use Rattle.model_core.proofs.Carries.{carried_back-kept, carried_on-kept}
 use Rattle.model_core.proofs.Histories.{text_before-back, text_after-on, history-undone, IsHistory-undone, history-redone, IsHistory-redone}
@@ -48,6 +50,7 @@ pub record IsUndo (now : List ℕ) (version alternative : ℕ) (d : Decorations)
   pub refused : greatest_version < version + 1 → flat_undo (document_of now version alternative d table s) ≡ Err limit
   pub some : 0 < length s.undo
   pub ops : next_op_count (undo_steps now s.undo) ≡ op_count Back step.changes
+  pub marks : (ms : List Mark) → undone_marks ms (undo_steps now s.undo) ≡ marked_back ms (changes_back now step.changes)
 
 undo_first : (now : List ℕ) (version alternative : ℕ) (d : Decorations) (table : Table) (step : Step Change) (rest redo : List (Step Change)) (is_open : Bool)
     → IsHistory now (record { undo = step ∷ rest; redo = redo; is_open = is_open })
@@ -60,6 +63,7 @@ undo_first now version alternative d table step rest redo is_open old =
       refused = λ last. rw (le-leb greatest_version version (omega (arith, last))) refl;
       some = omega arith;
       ops = ops_back now step.changes old.back.0;
+      marks = λ ms. refl;
     }
 
 pub undo_of : (now : List ℕ) (version alternative : ℕ) (d : Decorations) (table : Table) (s : Stack Change) (step : Step Change) → slice_get s.undo 0 ≡ Some step → IsHistory now s → IsUndo now version alternative d table s step
@@ -80,6 +84,7 @@ pub record IsRedo (now : List ℕ) (version alternative : ℕ) (d : Decorations)
   pub refused : greatest_version < version + 1 → flat_redo (document_of now version alternative d table s) ≡ Err limit
   pub some : 0 < length s.redo
   pub ops : next_op_count (redo_steps now s.redo) ≡ op_count On step.changes
+  pub marks : (ms : List Mark) → redone_marks ms (redo_steps now s.redo) ≡ marked_on ms (changes_on now step.changes)
 
 redo_first : (now : List ℕ) (version alternative : ℕ) (d : Decorations) (table : Table) (step : Step Change) (undo rest : List (Step Change)) (is_open : Bool)
     → IsHistory now (record { undo = undo; redo = step ∷ rest; is_open = is_open })
@@ -92,6 +97,7 @@ redo_first now version alternative d table step undo rest is_open old =
       refused = λ last. rw (le-leb greatest_version version (omega (arith, last))) refl;
       some = omega arith;
       ops = ops_on now step.changes;
+      marks = λ ms. refl;
     }
 
 pub redo_of : (now : List ℕ) (version alternative : ℕ) (d : Decorations) (table : Table) (s : Stack Change) (step : Step Change) → slice_get s.redo 0 ≡ Some step → IsHistory now s → IsRedo now version alternative d table s step

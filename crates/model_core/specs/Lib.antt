@@ -2,4 +2,6 @@ pub mod Errors
 pub mod State
 pub mod History
 pub mod Carrying
+pub mod LineMarks
+pub mod Staying
 mod Examples

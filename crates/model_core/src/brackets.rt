@@ -7,31 +7,42 @@ ghost use Rattle.bracket_rules.specs.Rows.{text_rows};
 ghost use Rattle.bracket_rules.specs.Table.{is_table, tokens_of};
 ghost use Rattle.bracket_trees.specs.Told.{IsTreeOf};
 ghost use Rattle.bracket_trees.specs.Tree.{tree_length};
+ghost use Rattle.bracket_trees.specs.Weights.{tree_weights, AreCovered};
 ghost use Rattle.bracket_nodes.specs.ScannedLines.{AreScans};
 ghost use Rattle.document_rules.specs.Brackets.{line_contents};
-ghost use Rattle.model_core.specs.State.{IsKept};
+ghost use Rattle.mark_rules.specs.Marks.{clean_marks};
+ghost use Rattle.node_reuse.specs.Texts.{text_weights};
+ghost use Rattle.model_core.specs.State.{fresh_tree};
+ghost use Rattle.model_core.specs.Staying.{StaysWith};
 
+use crate::last_parse::LastParse;
 use bracket_nodes::{Node, ScannedLine, parse_lines};
 use bracket_scan::BracketTable;
 use std::alloc::{AllocError, Global};
 use text_buffer::TextBuffer;
 
-/// Parses the text, where no tree of it is kept. An error comes only there, and leaves it so.
+/// Parses the text, where no tree of it is kept. An error comes only there, and leaves all as it was.
 pub(crate) fn renew(
     alloc: Global,
-    tree: &mut Option<Node>,
+    last: &mut LastParse,
     table: &BracketTable,
     text: &TextBuffer,
 ) -> Result<(), AllocError>
     requires small { length text.now.units ≤ most_units }
-    requires kept { IsKept tree.old table.now text.now.units }
-    ensures kept { IsKept tree.new table.now text.now.units }
-    ensures fresh { OnOk result (is_some tree.new ≡ true) }
-    ensures sure { OnErr result (is_some tree.old ≡ false) }
-    ensures none { OnErr result (is_some tree.new ≡ false) }
+    requires stays { StaysWith last.old.tree last.old.marks table.now text.now.units }
+    ensures stays { StaysWith last.new.tree last.new.marks table.now text.now.units }
+    ensures fresh { OnOk result (is_some (fresh_tree last.new.tree last.new.marks) ≡ true) }
+    ensures marks { OnOk result (last.new.marks ≡ clean_marks (length last.old.marks)) }
+    ensures same { is_some (fresh_tree last.old.tree last.old.marks) ≡ true
+        → last.new.tree ≡ last.old.tree }
+    ensures same_marks { is_some (fresh_tree last.old.tree last.old.marks) ≡ true
+        → last.new.marks ≡ last.old.marks }
+    ensures sure { OnErr result (is_some (fresh_tree last.old.tree last.old.marks) ≡ false) }
+    ensures tree { OnErr result (last.new.tree ≡ last.old.tree) }
+    ensures kept { OnErr result (last.new.marks ≡ last.old.marks) }
 {
-    if tree.is_none() {
-        *tree = Some(parse_text(alloc, table, text)?);
+    if last.fresh().is_none() {
+        last.put(parse_text(alloc, table, text)?);
     }
     Ok(())
 }
@@ -45,6 +56,8 @@ pub(crate) fn parse_text(
     requires { length text.now.units ≤ most_units }
     ensures tree { IfOk result (IsTreeOf (text_rows table.now (line_contents text.now.units))) }
     ensures length { IfOk result (λ tree. tree_length tree ≡ text_length text.now.units) }
+    ensures light { IfOk result (λ tree.
+        AreCovered (tree_weights tree) (text_weights (line_contents text.now.units))) }
     ensures table { OnOk result (is_table table.now ≡ true) }
 {
     let lines = scanned_lines(alloc, table, text)?;

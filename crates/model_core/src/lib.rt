@@ -3,6 +3,7 @@
 
 mod brackets;
 mod change;
+mod last_parse;
 mod model;
 mod places;
 

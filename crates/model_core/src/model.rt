@@ -1,6 +1,6 @@
 //! The document and its calls.
 
-ghost use Rattle.std.specs.Prelude.{◌≡◌, ◌≤◌, ◌-◌, [], true, false, List, length, IfSome, OnOk, OnErr, Ok, Err};
+ghost use Rattle.std.specs.Prelude.{◌≡◌, ◌≤◌, ◌-◌, ◌∷◌, [], true, false, List, length, replicate, None, IfSome, OnOk, OnErr, Ok, Err};
 ghost use Rattle.std.specs.List.{All};
 ghost use Rattle.text_buffer.specs.Costs.{WithinLookUps};
 ghost use Rattle.unit_text.specs.Units.{IsPaired};
@@ -10,14 +10,20 @@ ghost use Rattle.document_rules.specs.Outcomes.{Changes, ChangesWith, Moves, App
 ghost use Rattle.bracket_rules.specs.Table.{standard_table};
 ghost use Rattle.document_rules.specs.Brackets.{flat_brackets, flat_match, flat_level, IsSmall};
 ghost use Rattle.document_rules.specs.Paired.{IsPairedState};
-ghost use Rattle.model_core.specs.State.{KeptAfter, KeptAfterMove, GrownAfter, GrownAfterMove, next_op_count};
+ghost use Rattle.text_rules.specs.Lines.{lines_of};
+ghost use Rattle.batch_rules.specs.Batches.{sorted_ops};
+ghost use Rattle.mark_rules.specs.declared.Mark.TheVariants.{New};
+ghost use Rattle.mark_rules.specs.Marks.{clean_marks};
+ghost use Rattle.model_core.specs.LineMarks.{marked_backwards, undone_marks, redone_marks};
+ghost use Rattle.model_core.specs.State.{LeftAfter, LeftAfterMove, KeptAfter, KeptAfterMove, GrownAfter, GrownAfterMove, next_op_count};
 ghost use Rattle.document_rules.specs.Document.{new_document, flat_open, flat_edit, flat_stop, flat_undo, flat_redo, flat_decorate, flat_deco, flat_decos, flat_line, flat_value, flat_position, flat_offset, flat_line_count};
 ghost use Rattle.model_core.specs.Errors.{error_of, refusal_of};
 
 use crate::brackets::{parse_text, renew};
 use crate::change::{Change, Way, apply, make_again, reserve_for, take_back};
+use crate::last_parse::{LastParse, unparsed};
 use crate::places::{is_position, place_of, told};
-use bracket_nodes::{Entry, Node};
+use bracket_nodes::Entry;
 use bracket_scan::BracketTable;
 use decorations::{Deco, DecoError, DecoSet, NewDeco};
 use document_rules::ModelError;
@@ -40,8 +46,7 @@ pub struct Model {
     alternative: u64,
     decorations: DecoSet,
     table: BracketTable,
-    /// The bracket tree, while it is that of the text of now.
-    tree: Option<Node>,
+    last: LastParse,
     history: EditStack<Change>,
 }
 
@@ -49,11 +54,16 @@ impl std::marker::Model for Model {
     ghost use Rattle.std.specs.Prelude.{◌≤◌, length, is_some};
     ghost use Rattle.batch_rules.specs.Batches.{most_units};
     ghost use Rattle.document_rules.specs.Document.{greatest_version};
-    ghost use Rattle.model_core.specs.State.{ModelState, IsKept};
+    ghost use Rattle.std.specs.Coded.{codes};
+    ghost use Rattle.bracket_trees.specs.TreeCode.{tree_code};
+    ghost use Rattle.model_core.specs.State.{ModelState, fresh_tree};
+    ghost use Rattle.model_core.specs.Staying.{StaysWith};
     ghost use Rattle.model_core.specs.History.{history_of, IsHistory};
     ghost use Rattle.model_core.specs.Carrying.{AreIn};
 
     ghost Value = { ModelState };
+
+    ghost coded = { Prim.hlevel (codes, tree_code) };
 
     ghost view = { λ m. record {
       document = record {
@@ -64,19 +74,23 @@ impl std::marker::Model for Model {
         table = m.table;
         history = history_of m.text.units m.history.stack;
       };
-      fresh = is_some m.tree;
+      tree = m.last.tree;
+      marks = m.last.marks;
+      fresh = is_some (fresh_tree m.last.tree m.last.marks);
       pieces = length m.text.spans;
     } };
 
     ghost invariant = { λ m. (length m.text.units ≤ most_units) × (m.version ≤ greatest_version)
         × IsHistory m.text.units m.history.stack × AreIn (length m.text.units) m.decorations
-        × IsKept m.tree m.table m.text.units };
+        × StaysWith m.last.tree m.last.marks m.table m.text.units };
 }
 
 impl Model {
     /// An empty document, of version 1.
     pub fn new(alloc: Global) -> Model
         ensures document { result.document ≡ new_document [] standard_table }
+        ensures tree { result.tree ≡ None }
+        ensures marks { result.marks ≡ New ∷ [] }
         ensures fresh { result.fresh ≡ false }
         ensures pieces { result.pieces ≡ 0 }
     {
@@ -87,7 +101,7 @@ impl Model {
             alternative: 1,
             decorations: DecoSet::new(alloc),
             table: BracketTable::standard(),
-            tree: None,
+            last: LastParse::none(alloc),
             history: EditStack::new(alloc),
         }
     }
@@ -99,20 +113,25 @@ impl Model {
             (flat_open text.now table) }
         ensures paired_state { IsPaired text.now → IsPairedState self.old.document
             → IsPairedState self.new.document }
-        ensures fresh { KeptAfter result self.old.fresh self.new.fresh }
+        ensures tree { LeftAfter result None self.old.tree self.new.tree }
+        ensures marks { LeftAfter result (replicate (length (lines_of text.now)) New)
+            self.old.marks self.new.marks }
+        ensures fresh { LeftAfter result false self.old.fresh self.new.fresh }
         ensures pieces { OnOk result (self.new.pieces ≤ 1) }
         ensures kept_pieces { OnErr result (self.new.pieces ≡ self.old.pieces) }
     {
         if text.len() as u64 > MOST_TEXT_UNITS {
             return Err(ModelError::Limit);
         }
-        let text = TextBuffer::of_units(self.alloc, text).map_err(|_| ModelError::Memory)?;
+        let Ok((text, last)) = unparsed(self.alloc, text) else {
+            return Err(ModelError::Memory);
+        };
         self.text = text;
         self.version = 1;
         self.alternative = 1;
         self.decorations = DecoSet::new(self.alloc);
         self.table = table;
-        self.tree = None;
+        self.last = last;
         self.history = EditStack::new(self.alloc);
         Ok(())
     }
@@ -127,7 +146,11 @@ impl Model {
             → IsPaired self.new.document.units }
         ensures paired_state { All (λ op. IsPaired op.text) ops.now
             → IsPairedState self.old.document → IsPairedState self.new.document }
-        ensures fresh { KeptAfter result self.old.fresh self.new.fresh }
+        ensures tree { self.new.tree ≡ self.old.tree }
+        ensures marks { LeftAfter result
+            (marked_backwards self.old.document.units (sorted_ops ops.now) self.old.marks)
+            self.old.marks self.new.marks }
+        ensures fresh { KeptAfter (length ops.now) result self.old.fresh self.new.fresh }
         ensures pieces { GrownAfter (length ops.now) result self.old.pieces self.new.pieces }
     {
         let batch = Batch::checked(self.alloc, ops, &self.text).map_err(error_of)?;
@@ -136,15 +159,22 @@ impl Model {
             .inverse(self.alloc, &self.text)
             .map_err(|_| ModelError::Memory)?;
         self.history.reserve().map_err(|_| ModelError::Memory)?;
+        let count = batch.ops().len() as u64;
         self.text
-            .reserve(batch.ops().len() as u64, batch.text_units())
+            .reserve(count, batch.text_units())
             .map_err(|_| ModelError::Memory)?;
-        apply(&mut self.text, &mut self.decorations, batch.ops(), true);
+        self.last.reserve(count).map_err(|_| ModelError::Memory)?;
+        apply(
+            &mut self.text,
+            &mut self.decorations,
+            &mut self.last,
+            batch.ops(),
+            true,
+        );
         self.history
             .push(Change { batch, inverse }, self.alternative, version);
         self.version = version;
         self.alternative = version;
-        self.tree = None;
         Ok(())
     }
 
@@ -152,6 +182,8 @@ impl Model {
     pub fn stop(&mut self)
         ensures document { self.new.document ≡ flat_stop self.old.document }
         ensures paired_state { IsPairedState self.old.document → IsPairedState self.new.document }
+        ensures tree { self.new.tree ≡ self.old.tree }
+        ensures marks { self.new.marks ≡ self.old.marks }
         ensures fresh { self.new.fresh ≡ self.old.fresh }
         ensures pieces { self.new.pieces ≡ self.old.pieces }
     {
@@ -164,7 +196,12 @@ impl Model {
         ensures document { Moves result self.old.document self.new.document
             (flat_undo self.old.document) }
         ensures paired_state { IsPairedState self.old.document → IsPairedState self.new.document }
-        ensures fresh { KeptAfterMove result self.old.fresh self.new.fresh }
+        ensures tree { self.new.tree ≡ self.old.tree }
+        ensures marks { LeftAfterMove result
+            (undone_marks self.old.marks self.old.document.history.undo)
+            self.old.marks self.new.marks }
+        ensures fresh { KeptAfterMove (next_op_count self.old.document.history.undo) result
+            self.old.fresh self.new.fresh }
         ensures pieces { GrownAfterMove (next_op_count self.old.document.history.undo) result
             self.old.pieces self.new.pieces }
     {
@@ -173,11 +210,17 @@ impl Model {
         };
         let version = raised(self.version, 1).ok_or(ModelError::Limit)?;
         let changes = step.changes();
-        reserve_for(&mut self.text, changes, Way::Back).map_err(|_| ModelError::Memory)?;
-        take_back(&mut self.text, &mut self.decorations, changes);
+        reserve_for(&mut self.text, &mut self.last, changes, Way::Back).map_err(
+            |_| ModelError::Memory,
+        )?;
+        take_back(
+            &mut self.text,
+            &mut self.decorations,
+            &mut self.last,
+            changes,
+        );
         self.version = version;
         self.alternative = step.alt_before();
-        self.tree = None;
         self.history.undone();
         Ok(true)
     }
@@ -188,7 +231,12 @@ impl Model {
         ensures document { Moves result self.old.document self.new.document
             (flat_redo self.old.document) }
         ensures paired_state { IsPairedState self.old.document → IsPairedState self.new.document }
-        ensures fresh { KeptAfterMove result self.old.fresh self.new.fresh }
+        ensures tree { self.new.tree ≡ self.old.tree }
+        ensures marks { LeftAfterMove result
+            (redone_marks self.old.marks self.old.document.history.redo)
+            self.old.marks self.new.marks }
+        ensures fresh { KeptAfterMove (next_op_count self.old.document.history.redo) result
+            self.old.fresh self.new.fresh }
         ensures pieces { GrownAfterMove (next_op_count self.old.document.history.redo) result
             self.old.pieces self.new.pieces }
     {
@@ -197,11 +245,17 @@ impl Model {
         };
         let version = raised(self.version, 1).ok_or(ModelError::Limit)?;
         let changes = step.changes();
-        reserve_for(&mut self.text, changes, Way::On).map_err(|_| ModelError::Memory)?;
-        make_again(&mut self.text, &mut self.decorations, changes);
+        reserve_for(&mut self.text, &mut self.last, changes, Way::On).map_err(
+            |_| ModelError::Memory,
+        )?;
+        make_again(
+            &mut self.text,
+            &mut self.decorations,
+            &mut self.last,
+            changes,
+        );
         self.version = version;
         self.alternative = step.alt_after();
-        self.tree = None;
         self.history.redone();
         Ok(true)
     }
@@ -220,6 +274,8 @@ impl Model {
             self.old.document self.new.document
             (flat_decorate self.old.document owner remove.now add.now) }
         ensures paired_state { IsPairedState self.old.document → IsPairedState self.new.document }
+        ensures tree { self.new.tree ≡ self.old.tree }
+        ensures marks { self.new.marks ≡ self.old.marks }
         ensures fresh { self.new.fresh ≡ self.old.fresh }
         ensures pieces { self.new.pieces ≡ self.old.pieces }
     {
@@ -262,7 +318,7 @@ impl Model {
     pub fn is_fresh(&self) -> bool
         ensures { result ≡ self.now.fresh }
     {
-        self.tree.is_some()
+        self.last.fresh().is_some()
     }
 
     /// Appends the brackets of the lines `from` to `to`, both counted from 1 and both included, in the order of the text.
@@ -281,13 +337,18 @@ impl Model {
             → OnOk result (All (λ e. IsSmall e.place) entries) }
         ensures document { self.new.document ≡ self.old.document }
         ensures pieces { self.new.pieces ≡ self.old.pieces }
+        ensures same { self.old.fresh ≡ true → self.new.tree ≡ self.old.tree }
+        ensures tree { OnErr result (self.new.tree ≡ self.old.tree) }
+        ensures lines { OnOk result (self.new.marks ≡ clean_marks (length self.old.marks)) }
+        ensures same_marks { self.old.fresh ≡ true → self.new.marks ≡ self.old.marks }
+        ensures marks { OnErr result (self.new.marks ≡ self.old.marks) }
         ensures fresh { OnOk result (self.new.fresh ≡ true) }
         ensures kept { OnErr result (self.new.fresh ≡ self.old.fresh) }
     {
         if from == 0 || to < from || self.text.line_count() < to {
             return Err(ModelError::Range);
         }
-        match &self.tree {
+        match self.last.fresh() {
             Some(tree) => tree
                 .entries(from - 1, to - 1, out)
                 .map_err(|_| ModelError::Memory),
@@ -297,7 +358,7 @@ impl Model {
                 )?;
                 tree.entries(from - 1, to - 1, out)
                     .map_err(|_| ModelError::Memory)?;
-                self.tree = Some(tree);
+                self.last.put(tree);
                 Ok(())
             }
         }
@@ -310,6 +371,11 @@ impl Model {
         ensures partner { Gives result (flat_match self.old.document p) }
         ensures document { self.new.document ≡ self.old.document }
         ensures pieces { self.new.pieces ≡ self.old.pieces }
+        ensures same { self.old.fresh ≡ true → self.new.tree ≡ self.old.tree }
+        ensures tree { OnErr result (self.new.tree ≡ self.old.tree) }
+        ensures lines { OnOk result (self.new.marks ≡ clean_marks (length self.old.marks)) }
+        ensures same_marks { self.old.fresh ≡ true → self.new.marks ≡ self.old.marks }
+        ensures marks { OnErr result (self.new.marks ≡ self.old.marks) }
         ensures fresh { OnOk result (self.new.fresh ≡ true) }
         ensures kept { OnErr result (self.new.fresh ≡ self.old.fresh) }
         ensures sure { self.old.fresh ≡ true → ¬ (result ≡ Err ModelError.Memory) }
@@ -317,8 +383,8 @@ impl Model {
         if !is_position(&self.text, p) {
             return Err(ModelError::Range);
         }
-        renew(self.alloc, &mut self.tree, &self.table, &self.text).map_err(|_| ModelError::Memory)?;
-        match &self.tree {
+        renew(self.alloc, &mut self.last, &self.table, &self.text).map_err(|_| ModelError::Memory)?;
+        match self.last.fresh() {
             Some(tree) => Ok(told(tree.partner_of(place_of(p)))),
             None => unreachable!(),
         }
@@ -330,6 +396,11 @@ impl Model {
         ensures level { Gives result (flat_level self.old.document p) }
         ensures document { self.new.document ≡ self.old.document }
         ensures pieces { self.new.pieces ≡ self.old.pieces }
+        ensures same { self.old.fresh ≡ true → self.new.tree ≡ self.old.tree }
+        ensures tree { OnErr result (self.new.tree ≡ self.old.tree) }
+        ensures lines { OnOk result (self.new.marks ≡ clean_marks (length self.old.marks)) }
+        ensures same_marks { self.old.fresh ≡ true → self.new.marks ≡ self.old.marks }
+        ensures marks { OnErr result (self.new.marks ≡ self.old.marks) }
         ensures fresh { OnOk result (self.new.fresh ≡ true) }
         ensures kept { OnErr result (self.new.fresh ≡ self.old.fresh) }
         ensures sure { self.old.fresh ≡ true → ¬ (result ≡ Err ModelError.Memory) }
@@ -337,8 +408,8 @@ impl Model {
         if !is_position(&self.text, p) {
             return Err(ModelError::Range);
         }
-        renew(self.alloc, &mut self.tree, &self.table, &self.text).map_err(|_| ModelError::Memory)?;
-        match &self.tree {
+        renew(self.alloc, &mut self.last, &self.table, &self.text).map_err(|_| ModelError::Memory)?;
+        match self.last.fresh() {
             Some(tree) => Ok(tree.level_at(place_of(p))),
             None => unreachable!(),
         }

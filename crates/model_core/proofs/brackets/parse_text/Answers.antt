@@ -1,7 +1,9 @@
-use Rattle.std.proofs.Common.{List, subst}
+use Rattle.std.proofs.Common.{ℕ, List, subst}
 use Rattle.std.specs.Prelude.{IfOk}
 use Rattle.bracket_rules.specs.Rows.{Row}
 use Rattle.bracket_trees.specs.Told.{IsTreeOf}
+use Rattle.bracket_trees.specs.Tree.{Tree}
+use Rattle.bracket_trees.specs.Weights.{tree_weights, AreCovered}
 use Rattle.model_core.proofs.TreeLength.{IfOk-length}
 use Rattle.model_core.proofs.Scans.{AreScansOf, scans_of_text}
 use Rattle.model_core.proofs.brackets.parse_text.Goals as goal
@@ -31,3 +33,8 @@ returns-clause-length c =
     IfOk-length c.args.table.now c.args.text.now.units c.parse_lines.result
     (subst (λ (rows : List Row). IfOk c.parse_lines.result (IsTreeOf rows))
     (scans (goal.at.returns-clause-length c).After-deref).rows c.parse_lines.ensures.tree)
+
+pub returns-clause-light : goal.returns-clause-light
+returns-clause-light c =
+    subst (λ (weights : List ℕ). IfOk c.parse_lines.result (λ (tree : Tree). AreCovered (tree_weights tree) weights))
+    (scans (goal.at.returns-clause-light c).After-deref).weights c.parse_lines.ensures.light

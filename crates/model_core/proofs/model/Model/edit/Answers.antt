@@ -1,18 +1,29 @@
-use Rattle.std.proofs.Common.{◌≡◌, ◌+◌, ◌*◌, ◌≤◌, length, true, ap, sym, subst, ◌∙◌, Ok, arith}
+use Rattle.std.proofs.Common.{◌≡◌, ◌+◌, ◌*◌, ◌≤◌, length, is_some, true, ap, sym, subst, ◌∙◌, Ok, arith}
 use Rattle.std.proofs.lemmas.Grind.{common_steps}
-use Rattle.std.specs.List.{All}
 use Rattle.unit_text.specs.Units.{IsPaired}
-use Rattle.batch_rules.specs.Batches.{most_units, checked_batch, applied_from, inverse_from, text_units}
+use Rattle.batch_rules.specs.Batches.{checked_batch, sorted_ops, applied_from, inverse_from, text_units}
 use Rattle.batch_rules.proofs.Order.{length-sorted_ops}
 use Rattle.batch_rules.proofs.Standing.{accepted, text_units_applied}
 use Rattle.undo_rules.specs.Stack.{pushed}
 use Rattle.document_rules.specs.Document.{greatest_version, flat_edit}
 use Rattle.document_rules.proofs.PairedStates.{IsPairedState-edit}
-use Rattle.model_core.specs.State.{ModelState}
-use Rattle.model_core.specs.History.{history_of, IsHistory}
+use Rattle.model_core.specs.State.{ModelState, fresh_tree}
 use Rattle.model_core.specs.Carrying.{carried_with}
 use Rattle.model_core.proofs.Editing.{edited_history, edited_document, edited_paired}
+use Rattle.model_core.specs.LineMarks.{marked_backwards}
+use Rattle.model_core.proofs.Staying.{stays_as, stays_applied, marked_ops, kept_as}
 use Rattle.model_core.proofs.model.Model.edit.Goals as goal
+use Rattle.model_core.proofs.model.Model.edit.Goals.{After-apply}
+
+tree_after : (c : After-apply) → c.apply.new.last.tree ≡ c.self.inside.last.tree
+tree_after c = c.apply.ensures.tree ∙ c.reserve-3.ensures.tree
+
+marks_after : (c : After-apply) → c.apply.new.last.marks ≡ marked_backwards c.self.inside.text.units c.in_ok-batch.batch c.self.inside.last.marks
+marks_after c =
+    let reserved = c.reserve-3.new.self.marks in
+    c.apply.ensures.marks ∙ ap (λ x. marked_backwards x c.ops-2.result.now reserved) c.reserve-2.ensures.same
+    ∙ ap (λ ops. marked_backwards c.self.inside.text.units ops reserved) c.ops-2.ensures.ops
+    ∙ ap (marked_backwards c.self.inside.text.units c.in_ok-batch.batch) c.reserve-3.ensures.marks
 
 pub text_units-requires : goal.text_units-requires
 text_units-requires c =
@@ -42,7 +53,9 @@ invariant_of-self-2 c =
       version,
       rw (text, stack) (edited_history x c.args.ops.now sorted c.in_ok-inverse.inverse rule c.self.invariant.0 inverse c.self.inside.history.stack c.self.inside.alternative c.in_ok-version.version c.self.invariant.2),
       c.apply.ensures.inside,
-      tt,
+      stays_as c.self.inside.last.tree c.apply.new.last.tree (marked_backwards x sorted c.self.inside.last.marks) c.apply.new.last.marks c.self.inside.table
+          (applied_from 0 x sorted) c.apply.new.text.units (tree_after (goal.at.invariant_of-self-2 c).After-apply) (marks_after (goal.at.invariant_of-self-2 c).After-apply) text
+          (stays_applied c.self.inside.last.tree c.self.inside.last.marks c.self.inside.table x sorted ok.standing c.self.invariant.4),
     )
 
 pub returns-clause-document : goal.returns-clause-document
@@ -81,3 +94,27 @@ returns-clause-paired c =
 pub returns-clause-paired_state : goal.returns-clause-paired_state
 returns-clause-paired_state c =
     λ texts paired. IsPairedState-edit (Ok tt) c.args.self.now.document _ c.args.ops.now (returns-clause-document c) texts paired
+
+pub returns-clause-tree : goal.returns-clause-tree
+returns-clause-tree c = tree_after (goal.at.returns-clause-tree c).After-apply ∙ ap (λ (m : ModelState). m.tree) c.self.view_is
+
+pub returns-clause-marks : goal.returns-clause-marks
+returns-clause-marks c =
+    let x = c.self.inside.text.units in
+    let rule : checked_batch x c.args.ops.now ≡ Ok c.in_ok-batch.batch = grind (arith, common_steps) in
+    let ok = accepted x c.args.ops.now c.in_ok-batch.batch rule in
+    marks_after (goal.at.returns-clause-marks c).After-apply ∙ ap (λ ops. marked_backwards x ops c.self.inside.last.marks) ok.in_order
+    ∙ ap (λ (m : ModelState). marked_backwards m.document.units (sorted_ops c.args.ops.now) m.marks) c.self.view_is
+
+pub returns-clause-fresh : goal.returns-clause-fresh
+returns-clause-fresh c =
+    let x = c.self.inside.text.units in
+    let last = c.self.inside.last in
+    let sorted = c.in_ok-batch.batch in
+    let rule : checked_batch x c.args.ops.now ≡ Ok sorted = grind (arith, common_steps) in
+    let ok = accepted x c.args.ops.now sorted rule in
+    let count : length sorted ≡ length c.args.ops.now = ap length ok.in_order ∙ length-sorted_ops c.args.ops.now in
+    let after = (goal.at.returns-clause-fresh c).After-apply in
+    let was : is_some (fresh_tree last.tree last.marks) ≡ c.args.self.now.fresh = ap (λ (m : ModelState). m.fresh) c.self.view_is in
+    kept_as (length sorted) (length c.args.ops.now) last.tree c.apply.new.last.tree last.marks (marked_backwards x sorted last.marks) c.apply.new.last.marks c.args.self.now.fresh
+    count (tree_after after) (marks_after after) was (marked_ops 0 x sorted last.marks ok.standing)

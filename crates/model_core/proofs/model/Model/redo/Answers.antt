@@ -1,25 +1,36 @@
-use Rattle.std.proofs.Common.{◌≡◌, refl, true, ◌+◌, ◌<◌, ◌≤◌, length, slice_get, Option, Some, None, Ok, Err, ap, sym, subst, ◌∙◌, arith, inl, inr}
+use Rattle.std.proofs.Common.{◌≡◌, refl, true, ◌+◌, ◌<◌, ◌≤◌, length, is_some, slice_get, Some, None, Ok, Err, ap, sym, ◌∙◌, arith}
 use Rattle.std.proofs.lemmas.Grind.{common_steps}
-use Rattle.batch_rules.specs.Batches.{most_units, text_units}
-use Rattle.undo_rules.specs.Stack.{Step, redone}
+use Rattle.undo_rules.specs.Stack.{redone}
 use Rattle.edit_stack.specs.Element.{step_of}
 use Rattle.document_rules.specs.Refusals.{limit}
 use Rattle.document_rules.specs.Document.{greatest_version, flat_redo}
 use Rattle.document_rules.proofs.PairedStates.{IsPairedState-redo}
-use Rattle.model_core.specs.State.{ModelState, next_op_count}
-use Rattle.model_core.specs.declared.change.Change.{Change}
+use Rattle.model_core.specs.State.{ModelState, next_op_count, fresh_tree}
 use Rattle.model_core.specs.declared.change.Way.TheVariants.{On}
-use Rattle.model_core.specs.History.{text_on, LeadOn, ops_by, op_count}
+use Rattle.model_core.specs.History.{text_on, changes_on, op_count}
 use Rattle.model_core.specs.Carrying.{decorations_on}
+use Rattle.model_core.specs.LineMarks.{marked_on, redone_marks}
+use Rattle.model_core.proofs.Staying.{stays_as, stays_on, marked_step_on, kept_as}
 use Rattle.model_core.proofs.Turns.{few_on}
-use Rattle.model_core.proofs.Stepping.{redo_of, nothing_to_redo, fits_on, IsRedo}
+use Rattle.model_core.proofs.Stepping.{redo_of, nothing_to_redo, fits_on}
 use Rattle.model_core.proofs.model.Model.redo.Goals as goal
+use Rattle.model_core.proofs.model.Model.redo.Goals.{After-make_again}
+
+tree_after : (c : After-make_again) → c.make_again.new.last.tree ≡ c.self.inside.last.tree
+tree_after c = c.make_again.ensures.tree ∙ c.reserve_for.ensures.tree
+
+marks_after : (c : After-make_again) → c.make_again.new.last.marks ≡ marked_on c.self.inside.last.marks (changes_on c.self.inside.text.units (step_of c.in-Some.step.now).changes)
+marks_after c =
+    let reserved = c.reserve_for.new.last.marks in
+    c.make_again.ensures.marks ∙ ap (λ x. marked_on reserved (changes_on x c.changes-changes.result.now)) c.reserve_for.ensures.same
+    ∙ ap (λ cs. marked_on reserved (changes_on c.self.inside.text.units cs)) c.changes-changes.ensures
+    ∙ ap (λ ms. marked_on ms (changes_on c.self.inside.text.units (step_of c.in-Some.step.now).changes)) c.reserve_for.ensures.marks
 
 pub returns-in_default : goal.returns-in_default
 returns-in_default c =
     let m = c.self.inside in
     let none : slice_get m.history.stack.redo 0 ≡ None = grind (arith, common_steps) in
-    record { document = (sym (ap (λ (s : ModelState). flat_redo s.document) c.self.view_is) ∙ nothing_to_redo m.text.units m.version m.alternative m.decorations m.table m.history.stack none, refl); paired_state = λ paired. paired; fresh = refl; pieces = refl }
+    record { document = (sym (ap (λ (s : ModelState). flat_redo s.document) c.self.view_is) ∙ nothing_to_redo m.text.units m.version m.alternative m.decorations m.table m.history.stack none, refl); paired_state = λ paired. paired; tree = refl; marks = refl; fresh = refl; pieces = refl }
 
 pub returns-in_err-version : goal.returns-in_err-version
 returns-in_err-version c =
@@ -59,7 +70,9 @@ invariant_of-self-2 c =
       version,
       rw (text, stack) step.history,
       c.make_again.ensures.inside,
-      tt,
+      stays_as m.last.tree c.make_again.new.last.tree (marked_on m.last.marks (changes_on m.text.units shown.changes)) c.make_again.new.last.marks m.table
+          (text_on m.text.units shown.changes) c.make_again.new.text.units (tree_after (goal.at.invariant_of-self-2 c).After-make_again) (marks_after (goal.at.invariant_of-self-2 c).After-make_again) text
+          (stays_on m.last.tree m.last.marks m.table m.text.units shown.changes step.lead c.self.invariant.4),
     )
 
 pub returns-clause-document : goal.returns-clause-document
@@ -91,3 +104,29 @@ returns-clause-pieces c =
 pub returns-clause-paired_state : goal.returns-clause-paired_state
 returns-clause-paired_state c =
     λ paired. IsPairedState-redo (Ok true) c.args.self.now.document _ (returns-clause-document c) paired
+
+pub returns-clause-tree : goal.returns-clause-tree
+returns-clause-tree c = tree_after (goal.at.returns-clause-tree c).After-make_again ∙ ap (λ (s : ModelState). s.tree) c.self.view_is
+
+pub returns-clause-marks : goal.returns-clause-marks
+returns-clause-marks c =
+    let m = c.self.inside in
+    let shown = step_of c.in-Some.step.now in
+    let next : slice_get m.history.stack.redo 0 ≡ Some shown = grind (arith, common_steps) in
+    let step = redo_of m.text.units m.version m.alternative m.decorations m.table m.history.stack shown next c.self.invariant.2 in
+    marks_after (goal.at.returns-clause-marks c).After-make_again ∙ sym (step.marks m.last.marks)
+    ∙ ap (λ (s : ModelState). redone_marks s.marks s.document.history.redo) c.self.view_is
+
+pub returns-clause-fresh : goal.returns-clause-fresh
+returns-clause-fresh c =
+    let m = c.self.inside in
+    let shown = step_of c.in-Some.step.now in
+    let next : slice_get m.history.stack.redo 0 ≡ Some shown = grind (arith, common_steps) in
+    let step = redo_of m.text.units m.version m.alternative m.decorations m.table m.history.stack shown next c.self.invariant.2 in
+    let count : op_count On shown.changes ≡ next_op_count c.args.self.now.document.history.redo =
+    sym step.ops ∙ ap (λ (s : ModelState). next_op_count s.document.history.redo) c.self.view_is in
+    let was : is_some (fresh_tree m.last.tree m.last.marks) ≡ c.args.self.now.fresh = ap (λ (s : ModelState). s.fresh) c.self.view_is in
+    let after = (goal.at.returns-clause-fresh c).After-make_again in
+    kept_as (op_count On shown.changes) (next_op_count c.args.self.now.document.history.redo) m.last.tree c.make_again.new.last.tree m.last.marks
+    (marked_on m.last.marks (changes_on m.text.units shown.changes)) c.make_again.new.last.marks c.args.self.now.fresh count (tree_after after) (marks_after after) was
+    (marked_step_on m.last.marks m.text.units shown.changes step.lead)
