@@ -128,10 +128,10 @@ kept_node s p line kinds level n h kept scanned reusable = either (cases_lt l.li
         node_goes_on old.tree s.marks (sight_rows s) (sight_weights s) p old.line kinds level n old.follows node k in
         let left : unasked s.marks q line.scanned ≡ unasked s.marks p line.scanned = run_left s p q line.scanned l.lines scanned refl (omega arith) in
         record {
-          comes = λ asked. node_seen s asked p q line.scanned line.scanned kinds level (weight_left old.tree (length_of old.line p.columns))
+          comes = λ asked. node_seen s asked p q line line kinds level (weight_left old.tree (length_of old.line p.columns))
               (weight_left old.tree (length_of (old.line + l.lines) q.columns)) n here (left_kept s q old.tree (old.line + l.lines) old.whole f.follows.kept)
               (node_given old.tree s.marks (sight_rows s) (sight_weights s) p old.line kinds level n old.follows node k);
-          asks = λ asked. asks_same s asked p q line.scanned line.scanned left;
+          asks = λ asked. asks_same s asked p q line line left refl;
           stands = kept_stands s p q line old.tree (old.line + l.lines) h scanned old.whole f left;
         }
 
@@ -145,9 +145,9 @@ kept_node s p line kinds level n h kept scanned reusable = either (cases_lt l.li
         let left : unasked s.marks q line.scanned ≡ unasked s.marks p line.scanned = run_left s p q line.scanned l.lines scanned refl all in
         let took = node_took old.tree s.marks (sight_rows s) (sight_weights s) p old.line kinds level n old.follows node in
         record {
-          comes = λ asked. node_seen_at_start s asked p q line.scanned line.scanned kinds level (weight_left old.tree (length_of old.line p.columns)) n line h
+          comes = λ asked. node_seen_at_start s asked p q line line kinds level (weight_left old.tree (length_of old.line p.columns)) n line h
               start here (node_turned old.tree s.marks (sight_rows s) (sight_weights s) p old.line kinds level (l.lines - 1) n old.follows node lines none);
-          asks = λ asked. asks_same s asked p q line.scanned line.scanned left;
+          asks = λ asked. asks_same s asked p q line line left refl;
           stands = start_stands s p q line line h start took.reached scanned refl left;
         }
       where
@@ -187,11 +187,11 @@ kept_bracket s p line kinds level found h kept scanned o =
         bracket_goes_on old.tree s.marks (sight_rows s) (sight_weights s) p old.line b old.follows r.bracket place in
         let left : unasked s.marks q line.scanned ≡ unasked s.marks p line.scanned = run_left s p q line.scanned 0 scanned refl (omega arith) in
         record {
-          comes = λ asked. bracket_seen s asked p q line.scanned line.scanned b.kind b.len (weight_left old.tree (length_of old.line p.columns))
+          comes = λ asked. bracket_seen s asked p q line line b.kind b.len (weight_left old.tree (length_of old.line p.columns))
               (weight_left old.tree (length_of (old.line + 0) q.columns)) b.opening
               (left_kept s p old.tree old.line old.whole old.follows.follows.kept) (left_kept s q old.tree (old.line + 0) old.whole f.follows.kept)
               (bracket_given old.tree s.marks (sight_rows s) (sight_weights s) p old.line b old.follows r.bracket place);
-          asks = λ asked. asks_same s asked p q line.scanned line.scanned left;
+          asks = λ asked. asks_same s asked p q line line left refl;
           stands = kept_stands s p q line old.tree (old.line + 0) h scanned old.whole f left;
         }
 
@@ -214,6 +214,6 @@ kept_end s p line kinds level room h kept scanned none no_bracket =
     unasked_unscanned s p line.scanned scanned ∙ kept_last s.marks p.lines last (run_some s.marks p.lines (old.line + 1) old.follows.follows.kept) in
     record {
       comes = λ asked. record { over = record { empty = over.empty; last = over.last; asked = asked_all }; rows = refl; weights = refl };
-      asks = λ asked. asks_same s asked p p line.scanned line.scanned refl;
+      asks = λ asked. asks_same s asked p p line line refl refl;
       stands = h;
     }
