@@ -1,6 +1,6 @@
 -- The steps of a reader in a line that is kept.
 use Rattle.std.proofs.Common.{◌≡◌, ◌⊎◌, ℕ, zero, suc, ◌+◌, ◌-◌, ◌<◌, ◌≤◌, Bool, true, false, Option, Some, None, List, [], length, drop, refl, ap, sym, ◌∙◌, subst, arith, inl, inr}
-use Rattle.std.proofs.lemmas.Bool.{cases_lt, lt-ltb}
+use Rattle.std.proofs.lemmas.Bool.{cases_lt}
 use Rattle.std.proofs.lemmas.List.{length-drop}
 use Rattle.text_lengths.specs.declared.Length.{Length}
 use Rattle.text_lengths.specs.Length.{length_of, no_length, length_plus}
@@ -23,7 +23,7 @@ use Rattle.node_reuse.specs.Ahead.{ahead_at}
 use Rattle.node_reuse.specs.Reading.{IsInLine, IsFollowing, left_by, left_at}
 use Rattle.node_reuse.specs.Reader.{Sight, sight_rows, sight_weights, mark_of, IsKept, unasked, new_lines_at, tokens_left, StandsAt, ReadsOn}
 use Rattle.node_reuse.proofs.OldPlaces.{same_line, seen}
-use Rattle.node_reuse.proofs.KeptSteps.{OldNode, node_took, node_goes_on, node_given, node_turned, reached_within}
+use Rattle.node_reuse.proofs.KeptSteps.{OldNode, node_took, node_goes_on, node_given, node_turned, columns_zero, reached_within}
 use Rattle.node_reuse.proofs.KeptEnds.{run_some, bracket_goes_on, bracket_given, kept_over}
 use Rattle.node_reuse.proofs.FreshLines.{length-text_weights}
 use Rattle.node_reuse.proofs.Unasked.{run_unasked, kept_last}
@@ -90,9 +90,6 @@ kept_stands s p q line t m h scanned whole f left = record {
 columns_none : (lines columns run : ℕ) → lines_touched lines columns ≤ run → run ≤ lines → columns ≡ 0
 columns_none lines zero run h k = refl
 columns_none lines (suc columns) run h k = absurd (omega arith)
-
-columns_zero : (p l : Length) → 0 < l.lines → l.columns ≡ 0 → (length_plus p l).columns ≡ 0
-columns_zero p l h e = rw (lt-ltb 0 l.lines h) e
 
 pub kept_node : (s : Sight) (p : Length) (line : Line) (kinds level : ℕ) (n : Tree) → StandsAt s p line → IsKept s p → line.scanned ≡ false
     → IsReusable s.old p kinds level n → ReadsOn s p line (length_plus p (tree_length n)) line kinds level (Ready n)
@@ -208,8 +205,12 @@ kept_end s p line kinds level room h kept scanned none no_bracket =
     let count = h.counted in
     let texts = old.follows.count in
     let last : length s.marks ≡ suc p.lines =
-    omega (arith, length-drop (suc p.lines) (sight_weights s), length-text_weights s.contents,
-      reached_within (sight_rows s) p (rows_from p (sight_rows s)) h.reached) in
+    omega (
+      arith,
+      length-drop (suc p.lines) (sight_weights s),
+      length-text_weights s.contents,
+      reached_within (sight_rows s) p (rows_from p (sight_rows s)) h.reached,
+    ) in
     let asked_all : unasked s.marks p line.scanned ≡ [] =
     unasked_unscanned s p line.scanned scanned ∙ kept_last s.marks p.lines last (run_some s.marks p.lines (old.line + 1) old.follows.follows.kept) in
     record {

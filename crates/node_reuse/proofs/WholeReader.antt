@@ -1,7 +1,6 @@
 -- A reader at the start of the text, and at its end.
-use Rattle.std.proofs.Common.{◌≡◌, ℕ, ◌-◌, ◌<◌, ◌≤◌, ◌^◌, Bool, true, false, List, [], ◌∷◌, ◌++◌, length, drop, sum, refl, ap, sym, ◌∙◌, subst, arith}
+use Rattle.std.proofs.Common.{◌≡◌, ℕ, ◌-◌, ◌<◌, ◌≤◌, ◌^◌, Bool, true, false, List, [], ◌∷◌, length, drop, sum, refl, ap, sym, ◌∙◌, subst, arith}
 use Rattle.std.specs.Prelude.{slice_index}
-use Rattle.std.proofs.lemmas.List.{append-nil}
 use Rattle.text_lengths.specs.Length.{no_length}
 use Rattle.bracket_rules.specs.Rows.{Row, HasRow, text_rows}
 use Rattle.bracket_rules.specs.Table.{Table, is_table}
@@ -10,8 +9,7 @@ use Rattle.bracket_trees.specs.Tree.{Tree}
 use Rattle.bracket_trees.specs.Weights.{tree_weights, AreCovered}
 use Rattle.bracket_trees.specs.Places.{rows_from}
 use Rattle.bracket_trees.proofs.LineWeights.{AreCovered-same, AreCovered-then, AreCovered-sum}
-use Rattle.bracket_nodes.specs.Source.{Asking, GoesOn, weights_ahead, weight_ahead}
-use Rattle.mark_rules.specs.declared.Mark.{Mark}
+use Rattle.bracket_nodes.specs.Source.{weights_ahead, weight_ahead}
 use Rattle.reuse_rules.specs.Following.{Reached}
 use Rattle.reuse_rules.proofs.Followings.{Reached-start, Reached-rows}
 use Rattle.node_reuse.specs.declared.line.Line.{Line}
@@ -88,25 +86,5 @@ pub whole_light : (s : Sight) (asked : Asked) (line : Line) (t : Tree) → 0 < l
 whole_light s asked line t some stays h =
     AreCovered-then (tree_weights t) (weights_ahead (seen_at s asked no_length line)) (sight_weights s) h (start_covered s some stays)
 
--- all lines were asked for, or some of them
-pub all_asked : (marks : List Mark) (b : Bool) (a c : Asking) → b ≡ false → a.left ≡ unasked marks no_length b → GoesOn a c → c.left ≡ []
-    → c.asked ≡ a.asked ++ new_lines marks
-all_asked marks b a c scanned start h none =
-    sym (append-nil c.asked) ∙ ap (λ (x : List ℕ). c.asked ++ x) (sym none) ∙ h.asked
-    ∙ ap (λ (x : List ℕ). a.asked ++ x) (start ∙ ap (unasked marks no_length) scanned)
-
-pub some_asked : (marks : List Mark) (b : Bool) (a c : Asking) → b ≡ false → a.left ≡ unasked marks no_length b → GoesOn a c
-    → AsksFront (new_lines marks) a.asked c.asked
-some_asked marks b a c scanned start h =
-    (c.left, h.asked ∙ ap (λ (x : List ℕ). a.asked ++ x) (start ∙ ap (unasked marks no_length) scanned))
-
 pub none_asked : (lines asked : List ℕ) → AsksFront lines asked asked
 none_asked lines asked = (lines, refl)
-
-pub all_counted : (marks : List Mark) (b : Bool) (a c : Asking) → b ≡ false → a.left ≡ unasked marks no_length b → a.count ≡ 0 → GoesOn a c → c.left ≡ []
-    → c.count ≡ length (new_lines marks)
-all_counted marks b a c scanned start none h empty =
-    let told = h.count in
-    let no_more : length c.left ≡ 0 = ap length empty in
-    let all : length a.left ≡ length (new_lines marks) = ap length (start ∙ ap (unasked marks no_length) scanned) in
-    omega arith

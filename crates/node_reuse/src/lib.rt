@@ -9,7 +9,6 @@ mod old;
 mod parsed;
 mod reader;
 
-
 pub use bracket_rules::Token;
 pub use lines::Lines;
 pub use old::{Old, OldReader};

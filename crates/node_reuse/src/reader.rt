@@ -40,7 +40,7 @@ impl<O: Old, Q: Lines, L: Ledger> Source for Reader<'_, '_, '_, '_, '_, '_, O, Q
     ghost ahead = { λ r. seen_at
         (sight r.table.now (Q.state r.lines.now).contents (O.text r.text.now) r.hunks.now.marks)
         (asked_so (Q.state r.lines.now).asked
-            (r.lines.ghost_name ∷ r.steps.ghost_name ∷ r.line.ghost_name ∷ []))
+        (r.lines.ghost_name ∷ r.steps.ghost_name ∷ r.line.ghost_name ∷ []))
         r.place r.line.now };
 
     ghost stands = { λ r. StandsAt
@@ -92,8 +92,8 @@ fn enter<Q: Lines>(
     ensures asks { (s : Sight) (p : Length) (borrows : List ℕ) → p.lines + 1 ≡ n
         → mark_of s p ≡ New → StandsAt s p line.old
         → GoesOn
-            (asking_at s (asked_so (Q.state lines.old).asked borrows) p line.old)
-            (asking_at s (asked_so (Q.state lines.new).asked borrows) p line.new) }
+        (asking_at s (asked_so (Q.state lines.old).asked borrows) p line.old)
+        (asking_at s (asked_so (Q.state lines.new).asked borrows) p line.new) }
     ensures scanned { OnOk result (line.new.scanned ≡ true) }
     ensures contents { (Q.state lines.new).contents ≡ (Q.state lines.old).contents }
 {

@@ -104,7 +104,7 @@ returns-clause-comes g c =
     let borrows : List ℕ = self.lines.ghost_name ∷ self.steps.ghost_name ∷ self.line.ghost_name ∷ [] in
     let count : c.lines-count.result ≡ length s.contents = c.lines-count.ensures.lines ∙ c.requires.stands.counted in
     let reads = c.next_of_line.ensures.reads s c.args.opened c.args.level c.requires.level stands
-      (last_line s self.place c.lines-count.result count (lines_within s self.place self.line.now c.requires.stands)) in
+    (last_line s self.place c.lines-count.result count (lines_within s self.place self.line.now c.requires.stands)) in
     new_comes c.next_of_line.result s.table s.contents (g.Q.Lines.state c.enter.new.lines).contents s.old s.marks c.enter.ensures.contents
     (g.Q.Lines.state self.lines.now).asked (g.Q.Lines.state c.enter.new.lines).asked borrows self.place c.next_of_line.new.place self.line.now c.enter.new.line
     c.next_of_line.new.line c.args.opened c.args.level reads
@@ -118,7 +118,7 @@ returns-clause-stands g c =
     let borrows : List ℕ = self.lines.ghost_name ∷ self.steps.ghost_name ∷ self.line.ghost_name ∷ [] in
     let count : c.lines-count.result ≡ length s.contents = c.lines-count.ensures.lines ∙ c.requires.stands.counted in
     let reads = c.next_of_line.ensures.reads s c.args.opened c.args.level c.requires.level stands
-      (last_line s self.place c.lines-count.result count (lines_within s self.place self.line.now c.requires.stands)) in
+    (last_line s self.place c.lines-count.result count (lines_within s self.place self.line.now c.requires.stands)) in
     new_stands c.next_of_line.result s.table s.contents (g.Q.Lines.state c.enter.new.lines).contents s.old s.marks c.enter.ensures.contents
     (g.Q.Lines.state self.lines.now).asked (g.Q.Lines.state c.enter.new.lines).asked borrows self.place c.next_of_line.new.place self.line.now c.enter.new.line
     c.next_of_line.new.line c.args.opened c.args.level reads
@@ -132,9 +132,8 @@ returns-clause-asks g c =
     let borrows : List ℕ = self.lines.ghost_name ∷ self.steps.ghost_name ∷ self.line.ghost_name ∷ [] in
     let count : c.lines-count.result ≡ length s.contents = c.lines-count.ensures.lines ∙ c.requires.stands.counted in
     let reads = c.next_of_line.ensures.reads s c.args.opened c.args.level c.requires.level stands
-      (last_line s self.place c.lines-count.result count (lines_within s self.place self.line.now c.requires.stands)) in
+    (last_line s self.place c.lines-count.result count (lines_within s self.place self.line.now c.requires.stands)) in
     new_asks c.next_of_line.result s.table s.contents (g.Q.Lines.state c.enter.new.lines).contents s.old s.marks c.enter.ensures.contents
     (g.Q.Lines.state self.lines.now).asked (g.Q.Lines.state c.enter.new.lines).asked borrows self.place c.next_of_line.new.place self.line.now c.enter.new.line
     c.next_of_line.new.line c.args.opened c.args.level reads
     c.next_of_line.ensures.same_place c.next_of_line.ensures.same_line (c.enter.ensures.asks s self.place borrows refl new c.requires.stands)
-
