@@ -184,10 +184,15 @@ asks_width mid new kinds level t (AtClosing j v) l = l.stops.wide
 -- ---- what is asked for
 
 pub GoesOn-same : (a : Asking) → GoesOn a a
-GoesOn-same a = record { contents = refl; asked = refl; borrows = refl }
+GoesOn-same a = record { contents = refl; asked = refl; count = refl; borrows = refl }
 
 pub GoesOn-then : (a b c : Asking) → GoesOn a b → GoesOn b c → GoesOn a c
-GoesOn-then a b c h k = record { contents = k.contents ∙ h.contents; asked = k.asked ∙ h.asked; borrows = k.borrows ∙ h.borrows }
+GoesOn-then a b c h k = record {
+  contents = k.contents ∙ h.contents;
+  asked = k.asked ∙ h.asked;
+  count = k.count ∙ h.count;
+  borrows = k.borrows ∙ h.borrows;
+}
 
 -- ---- the loop
 

@@ -1,5 +1,5 @@
 -- What a source of brackets has ahead, what it gives, and what is parsed of it.
-use Rattle.std.specs.Prelude.{◌≡◌, ℕ, ◌+◌, ◌<◌, ◌≤◌, Bool, true, false, ◌==◌, if◌then◌else◌, List, [], ◌∷◌, ◌++◌, sum, Some, None, ⊤}
+use Rattle.std.specs.Prelude.{◌≡◌, ℕ, ◌+◌, ◌<◌, ◌≤◌, Bool, true, false, ◌==◌, if◌then◌else◌, List, [], ◌∷◌, ◌++◌, length, sum, Some, None, ⊤}
 use Rattle.bracket_rules.specs.declared.TheConstants.{MOST_PAIRS}
 use Rattle.bracket_rules.specs.Rows.{Row, HasRow, empty_row, glue}
 use Rattle.bracket_trees.specs.Tree.{Tree, pair, stray, nothing, bracket_row, tree_rows, weight, is_nothing, IsTree, items}
@@ -12,12 +12,14 @@ use Rattle.bracket_nodes.specs.declared.parser.Stop.TheVariants.{AtEnd, AtClosin
 use Rattle.bracket_nodes.specs.declared.parser.Taken.{Taken}
 use Rattle.bracket_nodes.specs.declared.parser.Taken.TheVariants.{One, Last, Nothing}
 
--- The lines of a text that a source reads: their contents, the numbers of those that it asked for, in order, and of those
--- that it has yet to ask for. The last field tells proofs by which borrows it reads.
+-- The lines of a text that a source reads: their contents, the numbers of those that were asked for, in order, and of
+-- those that it has yet to ask for, and how many it says that it asked for. The last field tells proofs by which borrows
+-- it reads.
 pub record Asking : Type 0 where
   pub contents : List (List ℕ)
   pub asked : List ℕ
   pub left : List ℕ
+  pub count : ℕ
   pub borrows : List ℕ
 
 -- The rows from here to the end of the text, and what the leaves of each line may weigh: of what is left of the line
@@ -39,12 +41,13 @@ weight_ahead a = sum (weights_ahead a)
 
 -- a source that asks for no line
 abbrev pub asks_nothing : Asking
-asks_nothing = record { contents = []; asked = []; left = []; borrows = [] }
+asks_nothing = record { contents = []; asked = []; left = []; count = 0; borrows = [] }
 
 -- what is asked for is taken from the front of what is left
 pub record GoesOn (old new : Asking) : Type 0 where
   pub contents : new.contents ≡ old.contents
   pub asked : new.asked ++ new.left ≡ old.asked ++ old.left
+  pub count : new.count + length new.left ≡ old.count + length old.left
   pub borrows : new.borrows ≡ old.borrows
 
 -- ---- what a source gives

@@ -30,11 +30,11 @@ use Rattle.node_reuse.proofs.Unasked.{none_unasked}
 
 -- ---- what a source gives, with what it has yet to ask for
 
-pub node_seen : (s : Sight) (asked : Asked) (p q : Length) (b d : Bool) (kinds level l m : ℕ) (t : Tree)
+pub node_seen : (s : Sight) (asked : Asked) (p q : Length) (from to : Line) (kinds level l m : ℕ) (t : Tree)
     → left_at s.old.tree s.marks (sight_weights s) p ≡ l → left_at s.old.tree s.marks (sight_weights s) q ≡ m
     → GivesNode (ahead_at (sight_rows s) (sight_weights s) p l) (ahead_at (sight_rows s) (sight_weights s) q m) kinds level t
-    → GivesNode (seen_at s asked p b) (seen_at s asked q d) kinds level t
-node_seen s asked p q b d kinds level l m t e f g = record {
+    → GivesNode (seen_at s asked p from) (seen_at s asked q to) kinds level t
+node_seen s asked p q from to kinds level l m t e f g = record {
   tree = g.tree;
   some = g.some;
   fits = g.fits;
@@ -47,11 +47,11 @@ node_seen s asked p q b d kinds level l m t e f g = record {
   rest = g.rest;
 }
 
-pub bracket_seen : (s : Sight) (asked : Asked) (p q : Length) (b d : Bool) (k w l m : ℕ) (opening : Bool)
+pub bracket_seen : (s : Sight) (asked : Asked) (p q : Length) (from to : Line) (k w l m : ℕ) (opening : Bool)
     → left_at s.old.tree s.marks (sight_weights s) p ≡ l → left_at s.old.tree s.marks (sight_weights s) q ≡ m
     → GivesBracket (ahead_at (sight_rows s) (sight_weights s) p l) (ahead_at (sight_rows s) (sight_weights s) q m) k w opening
-    → GivesBracket (seen_at s asked p b) (seen_at s asked q d) k w opening
-bracket_seen s asked p q b d k w l m opening e f g = record {
+    → GivesBracket (seen_at s asked p from) (seen_at s asked q to) k w opening
+bracket_seen s asked p q from to k w l m opening e f g = record {
   has_kind = g.has_kind;
   wide = g.wide;
   spells = g.spells;
@@ -64,9 +64,14 @@ bracket_seen s asked p q b d k w l m opening e f g = record {
 }
 
 -- the same lines are left
-pub asks_same : (s : Sight) (asked : Asked) (p q : Length) (b d : Bool) → unasked s.marks q d ≡ unasked s.marks p b
-    → GoesOn (asking_at s asked p b) (asking_at s asked q d)
-asks_same s asked p q b d e = record { contents = refl; asked = ap (λ (x : List ℕ). asked.lines ++ x) e; borrows = refl }
+pub asks_same : (s : Sight) (asked : Asked) (p q : Length) (from to : Line) → unasked s.marks q to.scanned ≡ unasked s.marks p from.scanned
+    → to.asked ≡ from.asked → GoesOn (asking_at s asked p from) (asking_at s asked q to)
+asks_same s asked p q from to left count = record {
+  contents = refl;
+  asked = ap (λ (x : List ℕ). asked.lines ++ x) left;
+  count = ap (λ (n : ℕ). n + length (unasked s.marks q to.scanned)) count ∙ ap (λ (x : List ℕ). from.asked + length x) left;
+  borrows = refl;
+}
 
 -- a reader in a line stands within the text
 pub lines_within : (s : Sight) (p : Length) (line : Line) → StandsAt s p line → p.lines < length s.contents
@@ -129,10 +134,10 @@ fresh_gap s p line d kinds level room h e g k =
     let here : IsFresh rows weights p (tokens_left line) line.columns = fresh_line s p line h e in
     let next : IsFresh rows weights (length_of p.lines d) (tokens_left line) line.columns = gap_next rows weights p d line.columns (tokens_left line) here g k in
     record {
-      comes = λ asked. node_seen s asked p (length_of p.lines d) line.scanned line.scanned kinds level (fresh_left weights p)
+      comes = λ asked. node_seen s asked p (length_of p.lines d) line line kinds level (fresh_left weights p)
           (fresh_left weights (length_of p.lines d)) (text (wide (d - p.columns))) (left_new s p (h.is_new e)) (column_left s p line h e d line e refl next)
           (gap_given rows weights p d line.columns kinds level (tokens_left line) room here g k);
-      asks = λ asked. asks_same s asked p (length_of p.lines d) line.scanned line.scanned (column_unasked s p line h e d line e refl next);
+      asks = λ asked. asks_same s asked p (length_of p.lines d) line line (column_unasked s p line h e d line e refl next) refl;
       stands = column_stands s p line h e d line e refl next;
     }
 
@@ -157,10 +162,10 @@ fresh_bracket s p line to t kinds level h e split at scanned counted columns =
     subst (λ (n : ℕ). IsFresh rows weights (length_of p.lines d) (tokens_left to) n) (sym columns)
     (bracket_next rows weights p line.columns t (tokens_left to) here at) in
     record {
-      comes = λ asked. bracket_seen s asked p (length_of p.lines d) line.scanned to.scanned t.kind t.len (fresh_left weights p)
+      comes = λ asked. bracket_seen s asked p (length_of p.lines d) line to t.kind t.len (fresh_left weights p)
           (fresh_left weights (length_of p.lines d)) t.opening (left_new s p (h.is_new e)) (column_left s p line h e d to scanned counted next)
           (bracket_given rows weights p line.columns t (tokens_left to) here at);
-      asks = λ asked. asks_same s asked p (length_of p.lines d) line.scanned to.scanned (column_unasked s p line h e d to scanned counted next);
+      asks = λ asked. asks_same s asked p (length_of p.lines d) line to (column_unasked s p line h e d to scanned counted next) counted;
       stands = column_stands s p line h e d to scanned counted next;
     }
 
@@ -183,13 +188,13 @@ start_stands s p q line to h start r scanned counted left = record {
 }
 
 -- what gives a node that ends at the start of a line, where that line may weigh more than what is left of it
-pub node_seen_at_start : (s : Sight) (asked : Asked) (p q : Length) (b d : Bool) (kinds level l : ℕ) (t : Tree) (line : Line) → StandsAt s p line
+pub node_seen_at_start : (s : Sight) (asked : Asked) (p q : Length) (from to : Line) (kinds level l : ℕ) (t : Tree) (line : Line) → StandsAt s p line
     → q.columns ≡ 0 → left_at s.old.tree s.marks (sight_weights s) p ≡ l
     → GivesNode (ahead_at (sight_rows s) (sight_weights s) p l) (ahead_at (sight_rows s) (sight_weights s) q (fresh_left (sight_weights s) q)) kinds level t
-    → GivesNode (seen_at s asked p b) (seen_at s asked q d) kinds level t
-node_seen_at_start s asked p q b d kinds level l t line h start e g =
+    → GivesNode (seen_at s asked p from) (seen_at s asked q to) kinds level t
+node_seen_at_start s asked p q from to kinds level l t line h start e g =
     let left = left_at s.old.tree s.marks (sight_weights s) q in
-    node_seen s asked p q b d kinds level l left t e refl
+    node_seen s asked p q from to kinds level l left t e refl
     (lighter (ahead_at (sight_rows s) (sight_weights s) p l) (ahead_at (sight_rows s) (sight_weights s) q (fresh_left (sight_weights s) q)) kinds level t left
     (start_is_light s.old.tree s.marks (sight_rows s) (sight_weights s) q h.stays start) g)
 
@@ -208,9 +213,9 @@ fresh_break s p line to kinds level room h e none more scanned counted =
     let left : unasked s.marks q to.scanned ≡ unasked s.marks p line.scanned =
     unasked_unscanned s q to.scanned scanned ∙ sym (unasked_scanned s p line.scanned e) in
     record {
-      comes = λ asked. node_seen_at_start s asked p q line.scanned to.scanned kinds level (fresh_left weights p) (text (length_of 1 0)) line h refl
+      comes = λ asked. node_seen_at_start s asked p q line to kinds level (fresh_left weights p) (text (length_of 1 0)) line h refl
           (left_new s p (h.is_new e)) (break_given rows weights p line.columns kinds level room here (same_count s) count);
-      asks = λ asked. asks_same s asked p q line.scanned to.scanned left;
+      asks = λ asked. asks_same s asked p q line to left counted;
       stands = start_stands s p q line to h refl reached scanned counted left;
     }
 
@@ -229,6 +234,6 @@ fresh_end s p line kinds level h e none last end =
     let asked_all : unasked s.marks p line.scanned ≡ [] = unasked_scanned s p line.scanned e ∙ none_unasked s.marks (suc p.lines) (omega arith) in
     record {
       comes = λ asked. record { over = record { empty = over.empty; last = over.last; asked = asked_all }; rows = refl; weights = refl };
-      asks = λ asked. asks_same s asked p p line.scanned line.scanned refl;
+      asks = λ asked. asks_same s asked p p line line refl refl;
       stands = h;
     }

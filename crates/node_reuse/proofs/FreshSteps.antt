@@ -1,5 +1,5 @@
 -- The steps of a reader in a line whose content was scanned.
-use Rattle.std.proofs.Common.{◌≡◌, ℕ, suc, ◌+◌, ◌-◌, ◌<◌, ◌≤◌, true, false, List, [], ◌∷◌, ◌++◌, length, drop, refl, ap, sym, ◌∙◌, subst, arith, inl}
+use Rattle.std.proofs.Common.{◌≡◌, ℕ, suc, ◌+◌, ◌-◌, ◌<◌, ◌≤◌, List, [], ◌∷◌, ◌++◌, length, drop, refl, ap, sym, ◌∙◌, subst, arith, inl}
 use Rattle.std.specs.Prelude.{slice_index}
 use Rattle.std.proofs.lemmas.List.{length-drop}
 use Rattle.text_lengths.specs.declared.Length.{Length}
@@ -10,13 +10,12 @@ use Rattle.bracket_rules.specs.declared.TheConstants.{MOST_OPEN}
 use Rattle.bracket_rules.specs.Table.{token, AreInLine}
 use Rattle.bracket_rules.specs.Rows.{Row, HasRow, row, empty_row, shifted, glue}
 use Rattle.bracket_trees.specs.Tree.{text, wide, bracket_row}
-use Rattle.bracket_trees.specs.Told.{Fits}
 use Rattle.bracket_trees.specs.Places.{IsBounded, rows_from}
 use Rattle.bracket_trees.proofs.Glue.{empty_glue}
 use Rattle.bracket_trees.proofs.LineWeights.{AreCovered-same}
 use Rattle.bracket_nodes.specs.Source.{GivesNode, GivesBracket}
 use Rattle.bracket_nodes.specs.ScannedLines.{moved_back}
-use Rattle.bracket_nodes.proofs.ScannedSteps.{line_end, shifted-moved_back}
+use Rattle.bracket_nodes.proofs.ScannedSteps.{line_end, shifted-moved_back, same_row, fits_text}
 use Rattle.reuse_rules.specs.Following.{Reached}
 use Rattle.reuse_rules.proofs.Followings.{Reached-next, Reached-rows}
 use Rattle.node_reuse.specs.Ahead.{ahead_at, fresh_left, rows_before, IsFresh}
@@ -27,9 +26,6 @@ HasRow-before : (c : ℕ) (ts : List Token) (n : ℕ) (rest : List Row) → HasR
 HasRow-before c ts n [] = tt
 HasRow-before c ts n (r ∷ rest) = tt
 
-same_row : (x y : List Token) (m n : ℕ) → x ≡ y → m ≡ n → row x m ≡ row y n
-same_row x y m n p q = ap (λ (z : List Token). row z m) p ∙ ap (row y) q
-
 -- the rows from column c on are some brackets up to column d, and the rows from there
 cut : (c d n : ℕ) (front ts all : List Token) (rest : List Row) → c ≤ d → d ≤ n
     → moved_back c all ≡ front ++ shifted (d - c) (moved_back d ts)
@@ -38,14 +34,6 @@ cut c d n front ts all [] h k e =
     let columns : n - c ≡ (d - c) + (n - d) = omega arith in
     ap (λ (r : Row). r ∷ []) (same_row (moved_back c all) (front ++ shifted (d - c) (moved_back d ts)) (n - c) ((d - c) + (n - d)) e columns)
 cut c d n front ts all (r ∷ rest) h k e = ap (λ (x : List Token). row x 0 ∷ r ∷ rest) e
-
-pub fits_text : (kinds level lines columns : ℕ) → level ≤ MOST_OPEN → Fits kinds level (text (length_of lines columns))
-fits_text kinds level lines columns h = record {
-  closed = refl;
-  uncapped = refl;
-  apart = λ k m. let clash : false ≡ true = m in cc;
-  room = omega arith;
-}
 
 -- ---- steps within the line
 

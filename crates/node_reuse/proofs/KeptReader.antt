@@ -1,6 +1,6 @@
 -- The steps of a reader in a line that is kept.
 use Rattle.std.proofs.Common.{◌≡◌, ◌⊎◌, ℕ, zero, suc, ◌+◌, ◌-◌, ◌<◌, ◌≤◌, Bool, true, false, Option, Some, None, List, [], length, drop, refl, ap, sym, ◌∙◌, subst, arith, inl, inr}
-use Rattle.std.proofs.lemmas.Bool.{cases_lt, lt-ltb}
+use Rattle.std.proofs.lemmas.Bool.{cases_lt}
 use Rattle.std.proofs.lemmas.List.{length-drop}
 use Rattle.text_lengths.specs.declared.Length.{Length}
 use Rattle.text_lengths.specs.Length.{length_of, no_length, length_plus}
@@ -23,7 +23,7 @@ use Rattle.node_reuse.specs.Ahead.{ahead_at}
 use Rattle.node_reuse.specs.Reading.{IsInLine, IsFollowing, left_by, left_at}
 use Rattle.node_reuse.specs.Reader.{Sight, sight_rows, sight_weights, mark_of, IsKept, unasked, new_lines_at, tokens_left, StandsAt, ReadsOn}
 use Rattle.node_reuse.proofs.OldPlaces.{same_line, seen}
-use Rattle.node_reuse.proofs.KeptSteps.{OldNode, node_took, node_goes_on, node_given, node_turned, reached_within}
+use Rattle.node_reuse.proofs.KeptSteps.{OldNode, node_took, node_goes_on, node_given, node_turned, columns_zero, reached_within}
 use Rattle.node_reuse.proofs.KeptEnds.{run_some, bracket_goes_on, bracket_given, kept_over}
 use Rattle.node_reuse.proofs.FreshLines.{length-text_weights}
 use Rattle.node_reuse.proofs.Unasked.{run_unasked, kept_last}
@@ -91,9 +91,6 @@ columns_none : (lines columns run : ℕ) → lines_touched lines columns ≤ run
 columns_none lines zero run h k = refl
 columns_none lines (suc columns) run h k = absurd (omega arith)
 
-columns_zero : (p l : Length) → 0 < l.lines → l.columns ≡ 0 → (length_plus p l).columns ≡ 0
-columns_zero p l h e = rw (lt-ltb 0 l.lines h) e
-
 pub kept_node : (s : Sight) (p : Length) (line : Line) (kinds level : ℕ) (n : Tree) → StandsAt s p line → IsKept s p → line.scanned ≡ false
     → IsReusable s.old p kinds level n → ReadsOn s p line (length_plus p (tree_length n)) line kinds level (Ready n)
 kept_node s p line kinds level n h kept scanned reusable = either (cases_lt l.lines run)
@@ -128,10 +125,10 @@ kept_node s p line kinds level n h kept scanned reusable = either (cases_lt l.li
         node_goes_on old.tree s.marks (sight_rows s) (sight_weights s) p old.line kinds level n old.follows node k in
         let left : unasked s.marks q line.scanned ≡ unasked s.marks p line.scanned = run_left s p q line.scanned l.lines scanned refl (omega arith) in
         record {
-          comes = λ asked. node_seen s asked p q line.scanned line.scanned kinds level (weight_left old.tree (length_of old.line p.columns))
+          comes = λ asked. node_seen s asked p q line line kinds level (weight_left old.tree (length_of old.line p.columns))
               (weight_left old.tree (length_of (old.line + l.lines) q.columns)) n here (left_kept s q old.tree (old.line + l.lines) old.whole f.follows.kept)
               (node_given old.tree s.marks (sight_rows s) (sight_weights s) p old.line kinds level n old.follows node k);
-          asks = λ asked. asks_same s asked p q line.scanned line.scanned left;
+          asks = λ asked. asks_same s asked p q line line left refl;
           stands = kept_stands s p q line old.tree (old.line + l.lines) h scanned old.whole f left;
         }
 
@@ -145,9 +142,9 @@ kept_node s p line kinds level n h kept scanned reusable = either (cases_lt l.li
         let left : unasked s.marks q line.scanned ≡ unasked s.marks p line.scanned = run_left s p q line.scanned l.lines scanned refl all in
         let took = node_took old.tree s.marks (sight_rows s) (sight_weights s) p old.line kinds level n old.follows node in
         record {
-          comes = λ asked. node_seen_at_start s asked p q line.scanned line.scanned kinds level (weight_left old.tree (length_of old.line p.columns)) n line h
+          comes = λ asked. node_seen_at_start s asked p q line line kinds level (weight_left old.tree (length_of old.line p.columns)) n line h
               start here (node_turned old.tree s.marks (sight_rows s) (sight_weights s) p old.line kinds level (l.lines - 1) n old.follows node lines none);
-          asks = λ asked. asks_same s asked p q line.scanned line.scanned left;
+          asks = λ asked. asks_same s asked p q line line left refl;
           stands = start_stands s p q line line h start took.reached scanned refl left;
         }
       where
@@ -187,11 +184,11 @@ kept_bracket s p line kinds level found h kept scanned o =
         bracket_goes_on old.tree s.marks (sight_rows s) (sight_weights s) p old.line b old.follows r.bracket place in
         let left : unasked s.marks q line.scanned ≡ unasked s.marks p line.scanned = run_left s p q line.scanned 0 scanned refl (omega arith) in
         record {
-          comes = λ asked. bracket_seen s asked p q line.scanned line.scanned b.kind b.len (weight_left old.tree (length_of old.line p.columns))
+          comes = λ asked. bracket_seen s asked p q line line b.kind b.len (weight_left old.tree (length_of old.line p.columns))
               (weight_left old.tree (length_of (old.line + 0) q.columns)) b.opening
               (left_kept s p old.tree old.line old.whole old.follows.follows.kept) (left_kept s q old.tree (old.line + 0) old.whole f.follows.kept)
               (bracket_given old.tree s.marks (sight_rows s) (sight_weights s) p old.line b old.follows r.bracket place);
-          asks = λ asked. asks_same s asked p q line.scanned line.scanned left;
+          asks = λ asked. asks_same s asked p q line line left refl;
           stands = kept_stands s p q line old.tree (old.line + 0) h scanned old.whole f left;
         }
 
@@ -208,12 +205,16 @@ kept_end s p line kinds level room h kept scanned none no_bracket =
     let count = h.counted in
     let texts = old.follows.count in
     let last : length s.marks ≡ suc p.lines =
-    omega (arith, length-drop (suc p.lines) (sight_weights s), length-text_weights s.contents,
-      reached_within (sight_rows s) p (rows_from p (sight_rows s)) h.reached) in
+    omega (
+      arith,
+      length-drop (suc p.lines) (sight_weights s),
+      length-text_weights s.contents,
+      reached_within (sight_rows s) p (rows_from p (sight_rows s)) h.reached,
+    ) in
     let asked_all : unasked s.marks p line.scanned ≡ [] =
     unasked_unscanned s p line.scanned scanned ∙ kept_last s.marks p.lines last (run_some s.marks p.lines (old.line + 1) old.follows.follows.kept) in
     record {
       comes = λ asked. record { over = record { empty = over.empty; last = over.last; asked = asked_all }; rows = refl; weights = refl };
-      asks = λ asked. asks_same s asked p p line.scanned line.scanned refl;
+      asks = λ asked. asks_same s asked p p line line refl refl;
       stands = h;
     }

@@ -11,3 +11,4 @@ pub mod Unasked
 pub mod FreshReader
 pub mod KeptReader
 pub mod ReaderCalls
+pub mod WholeReader

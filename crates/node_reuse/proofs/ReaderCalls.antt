@@ -29,7 +29,7 @@ use Rattle.node_reuse.proofs.Unasked.{new_unasked, new_count}
 -- ---- what a call in a line comes to
 
 pub reads_comes : {E : Type 0} (r : Result Next E) (s : Sight) (asked : Asked) (p q : Length) (from to : Line) (kinds level : ℕ)
-    → IfOk r (ReadsOn s p from q to kinds level) → IfOk r (Comes (seen_at s asked p from.scanned) (seen_at s asked q to.scanned) kinds level)
+    → IfOk r (ReadsOn s p from q to kinds level) → IfOk r (Comes (seen_at s asked p from) (seen_at s asked q to) kinds level)
 reads_comes (Ok n) s asked p q from to kinds level h = h.comes asked
 reads_comes (Err e) s asked p q from to kinds level h = tt
 
@@ -39,25 +39,25 @@ reads_stands (Ok n) s p q from to kinds level h = h.stands
 reads_stands (Err e) s p q from to kinds level h = tt
 
 pub reads_asks : {E : Type 0} (r : Result Next E) (s : Sight) (asked : Asked) (p q : Length) (from to : Line) (kinds level : ℕ)
-    → IfOk r (ReadsOn s p from q to kinds level) → OnErr r (q ≡ p) → OnErr r (to.scanned ≡ from.scanned)
-    → GoesOn (asking_at s asked p from.scanned) (asking_at s asked q to.scanned)
-reads_asks (Ok n) s asked p q from to kinds level h place scanned = h.asks asked
-reads_asks (Err e) s asked p q from to kinds level h place scanned =
-    asks_same s asked p q from.scanned to.scanned (ap (λ (x : Length). unasked s.marks x to.scanned) place ∙ ap (unasked s.marks p) scanned)
+    → IfOk r (ReadsOn s p from q to kinds level) → OnErr r (q ≡ p) → OnErr r (to ≡ from) → GoesOn (asking_at s asked p from) (asking_at s asked q to)
+reads_asks (Ok n) s asked p q from to kinds level h place line = h.asks asked
+reads_asks (Err e) s asked p q from to kinds level h place line =
+    asks_same s asked p q from to (ap (λ (x : Length). unasked s.marks x to.scanned) place ∙ ap (λ (l : Line). unasked s.marks p l.scanned) line)
+    (ap (λ (l : Line). l.asked) line)
 
 -- what comes does not rest on which lines were asked for before
-pub comes_from : (s : Sight) (asked before : Asked) (p : Length) (b d : Bool) (new : Ahead) (kinds level : ℕ) (n : Next)
-    → Comes (seen_at s asked p b) new kinds level n → Comes (seen_at s before p d) new kinds level n
-comes_from s asked before p b d new kinds level End h = record { over = h.over; rows = h.rows; weights = h.weights }
-comes_from s asked before p b d new kinds level (Ready t) h =
+pub comes_from : (s : Sight) (asked before : Asked) (p : Length) (from start : Line) (new : Ahead) (kinds level : ℕ) (n : Next)
+    → Comes (seen_at s asked p from) new kinds level n → Comes (seen_at s before p start) new kinds level n
+comes_from s asked before p from start new kinds level End h = record { over = h.over; rows = h.rows; weights = h.weights }
+comes_from s asked before p from start new kinds level (Ready t) h =
     record { tree = h.tree; some = h.some; fits = h.fits; spells = h.spells; weighs = h.weighs; rest = h.rest }
-comes_from s asked before p b d new kinds level (Bracket k w opening) h =
+comes_from s asked before p from start new kinds level (Bracket k w opening) h =
     record { has_kind = h.has_kind; wide = h.wide; spells = h.spells; weighs = h.weighs; rest = h.rest }
 
-pub comes_from_if : {E : Type 0} (r : Result Next E) (s : Sight) (asked before : Asked) (p : Length) (b d : Bool) (new : Ahead) (kinds level : ℕ)
-    → IfOk r (Comes (seen_at s asked p b) new kinds level) → IfOk r (Comes (seen_at s before p d) new kinds level)
-comes_from_if (Ok n) s asked before p b d new kinds level h = comes_from s asked before p b d new kinds level n h
-comes_from_if (Err e) s asked before p b d new kinds level h = tt
+pub comes_from_if : {E : Type 0} (r : Result Next E) (s : Sight) (asked before : Asked) (p : Length) (from start : Line) (new : Ahead) (kinds level : ℕ)
+    → IfOk r (Comes (seen_at s asked p from) new kinds level) → IfOk r (Comes (seen_at s before p start) new kinds level)
+comes_from_if (Ok n) s asked before p from start new kinds level h = comes_from s asked before p from start new kinds level n h
+comes_from_if (Err e) s asked before p from start new kinds level h = tt
 
 -- ---- a line is entered
 
@@ -106,46 +106,58 @@ entered_stands s p line to h unscanned new tokens columns scanned counted =
 
 pub entered_if : {A E : Type 0} (r : Result A E) (s : Sight) (p : Length) (n : ℕ) (line to : Line) → p.lines + 1 ≡ n → StandsAt s p line → line.scanned ≡ false
     → mark_of s p ≡ New → OnOk r (tokens_left to ≡ tokens_of s.table (content_at n s.contents)) → OnOk r (to.columns ≡ length (content_at n s.contents))
-    → OnOk r (to.scanned ≡ true) → OnOk r (to.asked ≡ line.asked + 1) → OnOk r (StandsAt s p to)
+    → OnOk r (to.scanned ≡ true) → to.asked ≡ line.asked + length (asked_if to.scanned n) → OnOk r (StandsAt s p to)
 entered_if (Ok x) s p n line to e h unscanned new tokens columns scanned counted =
-    entered_stands s p line to h unscanned new (rw e tokens) (rw e columns) scanned counted
+    entered_stands s p line to h unscanned new (rw e tokens) (rw e columns) scanned
+    (counted ∙ ap (λ (b : Bool). line.asked + length (asked_if b n)) scanned)
 entered_if (Err x) s p n line to e h unscanned new tokens columns scanned counted = tt
 
 -- the line was asked for, or it is still to be asked for
-pub entered_asks : (s : Sight) (p : Length) (n : ℕ) (line : Line) (b : Bool) (old new borrows : List ℕ) → p.lines + 1 ≡ n → StandsAt s p line
-    → line.scanned ≡ false → mark_of s p ≡ New → new ≡ old ++ asked_if b n
-    → GoesOn (asking_at s (asked_so old borrows) p line.scanned) (asking_at s (asked_so new borrows) p b)
-entered_asks s p n line b old new borrows number h unscanned new_mark e = record { contents = refl; asked = told b e; borrows = refl }
+pub entered_asks : (s : Sight) (p : Length) (n : ℕ) (line to : Line) (old new borrows : List ℕ) → p.lines + 1 ≡ n → StandsAt s p line
+    → line.scanned ≡ false → mark_of s p ≡ New → new ≡ old ++ asked_if to.scanned n → to.asked ≡ line.asked + length (asked_if to.scanned n)
+    → GoesOn (asking_at s (asked_so old borrows) p line) (asking_at s (asked_so new borrows) p to)
+entered_asks s p n line to old new borrows number h unscanned new_mark e f = record {
+  contents = refl;
+  asked = told to.scanned e;
+  count = counted to.scanned f;
+  borrows = refl;
+}
   where
     left : unasked s.marks p line.scanned ≡ new_lines_at p.lines s.marks
     left = unasked_unscanned s p line.scanned unscanned
 
-    told : (b : Bool) → new ≡ old ++ asked_if b n → new ++ unasked s.marks p b ≡ old ++ unasked s.marks p line.scanned
-    told false f = ap (λ (x : List ℕ). x ++ new_lines_at p.lines s.marks) (f ∙ append-nil old) ∙ ap (λ (x : List ℕ). old ++ x) (sym left)
-    told true f =
+    first : new_lines_at p.lines s.marks ≡ suc p.lines ∷ new_lines_at (suc p.lines) s.marks
+    first =
         let count = h.counted in
         let within : p.lines < length s.marks = omega (arith, lines_within s p line h) in
-        let count_on : n ≡ suc p.lines = omega arith in
-        ap (λ (x : List ℕ). x ++ new_lines_at (suc p.lines) s.marks) (f ∙ ap (λ (m : ℕ). old ++ m ∷ []) count_on)
-        ∙ append_assoc old (suc p.lines ∷ []) (new_lines_at (suc p.lines) s.marks)
-        ∙ ap (λ (x : List ℕ). old ++ x) (sym (left ∙ new_unasked s.marks p.lines within new_mark))
+        new_unasked s.marks p.lines within new_mark
+
+    told : (b : Bool) → new ≡ old ++ asked_if b n → new ++ unasked s.marks p b ≡ old ++ unasked s.marks p line.scanned
+    told false g = ap (λ (x : List ℕ). x ++ new_lines_at p.lines s.marks) (g ∙ append-nil old) ∙ ap (λ (x : List ℕ). old ++ x) (sym left)
+    told true g =
+        let on : n ≡ suc p.lines = omega arith in
+        ap (λ (x : List ℕ). x ++ new_lines_at (suc p.lines) s.marks) (g ∙ ap (λ (m : ℕ). old ++ m ∷ []) on)
+        ∙ append_assoc old (suc p.lines ∷ []) (new_lines_at (suc p.lines) s.marks) ∙ ap (λ (x : List ℕ). old ++ x) (sym (left ∙ first))
+
+    counted : (b : Bool) → to.asked ≡ line.asked + length (asked_if b n)
+        → to.asked + length (unasked s.marks p b) ≡ line.asked + length (unasked s.marks p line.scanned)
+    counted false g = let same : length (unasked s.marks p line.scanned) ≡ length (new_lines_at p.lines s.marks) = ap length left in omega arith
+    counted true g =
+        let all : length (unasked s.marks p line.scanned) ≡ suc (length (new_lines_at (suc p.lines) s.marks)) = ap length (left ∙ first) in
+        omega arith
 
 -- ---- a call in a new line, whose lines have the same contents afterwards
-
-err_same : {A E : Type 0} (r : Result A E) (a b : Bool) → OnErr r (a ≡ true) → b ≡ true → OnErr r (a ≡ b)
-err_same (Ok x) a b h e = tt
-err_same (Err x) a b h e = h ∙ sym e
 
 module _ {E : Type 0} (r : Result Next E) (table : Table) (before after : List (List ℕ)) (old : OldText) (marks : List Mark) (same : after ≡ before)
     (asked told borrows : List ℕ) (p q : Length) (start from to : Line) (kinds level : ℕ)
     (reads : IfOk r (ReadsOn (sight table before old marks) p from q to kinds level)) where
-  pub new_comes : IfOk r (Comes (seen_at (sight table before old marks) (asked_so asked borrows) p start.scanned)
-      (seen_at (sight table after old marks) (asked_so told borrows) q to.scanned) kinds level)
+  pub new_comes : IfOk r (Comes (seen_at (sight table before old marks) (asked_so asked borrows) p start)
+      (seen_at (sight table after old marks) (asked_so told borrows) q to) kinds level)
   new_comes =
       let s = sight table before old marks in
-      subst (λ (x : List (List ℕ)). IfOk r (Comes (seen_at s (asked_so asked borrows) p start.scanned)
-      (seen_at (sight table x old marks) (asked_so told borrows) q to.scanned) kinds level)) (sym same)
-      (comes_from_if r s (asked_so told borrows) (asked_so asked borrows) p from.scanned start.scanned (seen_at s (asked_so told borrows) q to.scanned) kinds level
+      subst (λ (x : List (List ℕ)). IfOk r (Comes (seen_at s (asked_so asked borrows) p start)
+      (seen_at (sight table x old marks) (asked_so told borrows) q to) kinds level)) (sym same)
+      (comes_from_if r s (asked_so told borrows) (asked_so asked borrows) p from start (seen_at s (asked_so told borrows) q to) kinds level
       (reads_comes r s (asked_so told borrows) p q from to kinds level reads))
 
   pub new_stands : OnOk r (StandsAt (sight table after old marks) q to)
@@ -153,25 +165,25 @@ module _ {E : Type 0} (r : Result Next E) (table : Table) (before after : List (
       subst (λ (x : List (List ℕ)). OnOk r (StandsAt (sight table x old marks) q to)) (sym same)
       (reads_stands r (sight table before old marks) p q from to kinds level reads)
 
-  pub new_asks : OnErr r (q ≡ p) → OnErr r (to.scanned ≡ true) → from.scanned ≡ true
-      → GoesOn (asking_at (sight table before old marks) (asked_so asked borrows) p start.scanned)
-      (asking_at (sight table before old marks) (asked_so told borrows) p from.scanned)
-      → GoesOn (asking_at (sight table before old marks) (asked_so asked borrows) p start.scanned)
-      (asking_at (sight table after old marks) (asked_so told borrows) q to.scanned)
-  new_asks place scanned entered asks =
+  pub new_asks : OnErr r (q ≡ p) → OnErr r (to ≡ from)
+      → GoesOn (asking_at (sight table before old marks) (asked_so asked borrows) p start)
+      (asking_at (sight table before old marks) (asked_so told borrows) p from)
+      → GoesOn (asking_at (sight table before old marks) (asked_so asked borrows) p start)
+      (asking_at (sight table after old marks) (asked_so told borrows) q to)
+  new_asks place line asks =
       let s = sight table before old marks in
-      subst (λ (x : List (List ℕ)). GoesOn (asking_at s (asked_so asked borrows) p start.scanned)
-      (asking_at (sight table x old marks) (asked_so told borrows) q to.scanned)) (sym same)
-      (GoesOn-then (asking_at s (asked_so asked borrows) p start.scanned) (asking_at s (asked_so told borrows) p from.scanned)
-      (asking_at s (asked_so told borrows) q to.scanned) asks
-      (reads_asks r s (asked_so told borrows) p q from to kinds level reads place (err_same r to.scanned from.scanned scanned entered)))
+      subst (λ (x : List (List ℕ)). GoesOn (asking_at s (asked_so asked borrows) p start)
+      (asking_at (sight table x old marks) (asked_so told borrows) q to)) (sym same)
+      (GoesOn-then (asking_at s (asked_so asked borrows) p start) (asking_at s (asked_so told borrows) p from)
+      (asking_at s (asked_so told borrows) q to) asks
+      (reads_asks r s (asked_so told borrows) p q from to kinds level reads place line))
 
 -- a line that was not entered, whatever was asked for
-pub failed_asks : (table : Table) (before after : List (List ℕ)) (old : OldText) (marks : List Mark) → after ≡ before → (asked told : Asked) (p : Length) (b d : Bool)
-    → GoesOn (asking_at (sight table before old marks) asked p b) (asking_at (sight table before old marks) told p d)
-    → GoesOn (asking_at (sight table before old marks) asked p b) (asking_at (sight table after old marks) told p d)
-failed_asks table before after old marks same asked told p b d h =
-    subst (λ (x : List (List ℕ)). GoesOn (asking_at (sight table before old marks) asked p b) (asking_at (sight table x old marks) told p d)) (sym same) h
+pub failed_asks : (table : Table) (before after : List (List ℕ)) (old : OldText) (marks : List Mark) → after ≡ before → (asked told : Asked) (p : Length) (from to : Line)
+    → GoesOn (asking_at (sight table before old marks) asked p from) (asking_at (sight table before old marks) told p to)
+    → GoesOn (asking_at (sight table before old marks) asked p from) (asking_at (sight table after old marks) told p to)
+failed_asks table before after old marks same asked told p from to h =
+    subst (λ (x : List (List ℕ)). GoesOn (asking_at (sight table before old marks) asked p from) (asking_at (sight table x old marks) told p to)) (sym same) h
 
 -- ---- the last line
 

@@ -64,22 +64,23 @@ pub record Asked : Type 0 where
 abbrev pub asked_so : List ℕ → List ℕ → Asked
 asked_so lines borrows = record { lines = lines; borrows = borrows }
 
-abbrev pub asking_at : Sight → Asked → Length → Bool → Asking
-asking_at s asked p scanned = record {
+abbrev pub asking_at : Sight → Asked → Length → Line → Asking
+asking_at s asked p line = record {
   contents = s.contents;
   asked = asked.lines;
-  left = unasked s.marks p scanned;
+  left = unasked s.marks p line.scanned;
+  count = line.asked;
   borrows = asked.borrows;
 }
 
 -- ---- where it stands
 
-abbrev pub seen_at : Sight → Asked → Length → Bool → Ahead
-seen_at s asked p scanned = record {
+abbrev pub seen_at : Sight → Asked → Length → Line → Ahead
+seen_at s asked p line = record {
   rows = rows_from p (sight_rows s);
   line = left_at s.old.tree s.marks (sight_weights s) p;
   later = drop (suc p.lines) (sight_weights s);
-  asking = asking_at s asked p scanned;
+  asking = asking_at s asked p line;
 }
 
 abbrev pub tokens_left : Line → List Token
@@ -103,6 +104,6 @@ IsLast s p false = suc p.lines < length s.contents
 
 -- this came next, and the reader went on from place p to place q
 pub record ReadsOn (s : Sight) (p : Length) (from : Line) (q : Length) (to : Line) (opened level : ℕ) (next : Next) : Type 0 where
-  pub comes : (asked : Asked) → Comes (seen_at s asked p from.scanned) (seen_at s asked q to.scanned) opened level next
-  pub asks : (asked : Asked) → GoesOn (asking_at s asked p from.scanned) (asking_at s asked q to.scanned)
+  pub comes : (asked : Asked) → Comes (seen_at s asked p from) (seen_at s asked q to) opened level next
+  pub asks : (asked : Asked) → GoesOn (asking_at s asked p from) (asking_at s asked q to)
   pub stands : StandsAt s q to

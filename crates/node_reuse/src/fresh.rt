@@ -29,8 +29,8 @@ pub(crate) fn next_of_line(
     ensures reads { (s : Sight) (opened level : ℕ) → level ≤ MOST_OPEN
         → StandsAt s place.old line.old → IsLast s place.old last
         → IfOk result (ReadsOn s place.old line.old place.new line.new opened level) }
-    ensures stays { OnErr result (place.new ≡ place.old) }
-    ensures scanned { OnErr result (line.new.scanned ≡ true) }
+    ensures same_place { OnErr result (place.new ≡ place.old) }
+    ensures same_line { OnErr result (line.new ≡ line.old) }
 {
     let columns = line.columns;
     if let Some(token) = line.token() {
@@ -60,7 +60,7 @@ fn gap(alloc: Global, place: &mut Length, column: u64) -> Result<Next, AllocErro
     ensures gap { IfOk result (λ next. next ≡ Next.Ready (text (wide (column - place.old.columns)))) }
     ensures lines { place.new.lines ≡ place.old.lines }
     ensures column { IfOk result (λ _. place.new.columns ≡ column) }
-    ensures stays { OnErr result (place.new ≡ place.old) }
+    ensures same_place { OnErr result (place.new ≡ place.old) }
 {
     let node = text_node(
         alloc,

@@ -25,7 +25,7 @@ pub(crate) fn next_of_old<O: Old, L: Ledger>(
     ensures reads { (s : Sight) (line : Line) → s.old ≡ O.text old.now → IsKept s place.old
         → line.scanned ≡ false → StandsAt s place.old line
         → IfOk result (ReadsOn s place.old line place.new line opened level) }
-    ensures stays { OnErr result (place.new ≡ place.old) }
+    ensures same_place { OnErr result (place.new ≡ place.old) }
 {
     if let Some(node) = old.longest_at(*place, opened, level, steps) {
         let length = node.length();

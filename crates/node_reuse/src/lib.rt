@@ -6,10 +6,10 @@ mod kept;
 mod line;
 mod lines;
 mod old;
+mod parsed;
 mod reader;
-mod reparse;
 
 pub use bracket_rules::Token;
 pub use lines::Lines;
 pub use old::{Old, OldReader};
-pub use reparse::Parsed;
+pub use parsed::{Parsed, reparse};

@@ -75,7 +75,8 @@ pub(crate) fn scan<Q: Lines>(
     ensures columns { OnOk result
         (line.new.columns ≡ length (content_at n (Q.state lines.old).contents)) }
     ensures scanned { OnOk result (line.new.scanned ≡ true) }
-    ensures count { OnOk result (line.new.asked ≡ line.old.asked + 1) }
+    ensures count { line.new.asked
+        ≡ line.old.asked + length (asked_if line.new.scanned n) }
     ensures asked { (Q.state lines.new).asked
         ≡ (Q.state lines.old).asked ++ asked_if line.new.scanned n }
     ensures contents { (Q.state lines.new).contents ≡ (Q.state lines.old).contents }

@@ -22,7 +22,7 @@ use text_lengths::Length;
 
 // A reader of the text of now.
 #[derive(Drop)]
-pub(crate) struct Reader<'o, 'h, 't, 'q, 's, O, Q, L: Ledger> {
+pub(crate) struct Reader<'o, 'h, 't, 'q, 's, 'l, O, Q, L: Ledger> {
     pub text: &'o O,
     pub hunks: &'h Hunks,
     pub table: &'t BracketTable,
@@ -30,21 +30,22 @@ pub(crate) struct Reader<'o, 'h, 't, 'q, 's, O, Q, L: Ledger> {
     pub steps: &'s mut Steps<L>,
     // Where it stands; lines are counted from 0.
     pub place: Length,
-    pub line: Line,
+    pub line: &'l mut Line,
 }
 
-impl<O: Old, Q: Lines, L: Ledger> Source for Reader<'_, '_, '_, '_, '_, O, Q, L> {
+impl<O: Old, Q: Lines, L: Ledger> Source for Reader<'_, '_, '_, '_, '_, '_, O, Q, L> {
     ghost use Rattle.std.specs.Prelude.{[], ◌∷◌};
     ghost use Rattle.node_reuse.specs.Reader.{sight, asked_so, seen_at, StandsAt};
 
     ghost ahead = { λ r. seen_at
         (sight r.table.now (Q.state r.lines.now).contents (O.text r.text.now) r.hunks.now.marks)
-        (asked_so (Q.state r.lines.now).asked (r.lines.ghost_name ∷ r.steps.ghost_name ∷ []))
-        r.place r.line.scanned };
+        (asked_so (Q.state r.lines.now).asked
+        (r.lines.ghost_name ∷ r.steps.ghost_name ∷ r.line.ghost_name ∷ []))
+        r.place r.line.now };
 
     ghost stands = { λ r. StandsAt
         (sight r.table.now (Q.state r.lines.now).contents (O.text r.text.now) r.hunks.now.marks)
-        r.place r.line };
+        r.place r.line.now };
 
     fn next(&mut self, alloc: Global, opened: Kinds, level: u64) -> Result<Next, AllocError> {
         let count = self.hunks.lines();
@@ -52,8 +53,8 @@ impl<O: Old, Q: Lines, L: Ledger> Source for Reader<'_, '_, '_, '_, '_, O, Q, L>
         if is_kept(self.hunks, number, self.line.scanned) {
             return next_of_old(self.text, &mut self.place, opened, level, self.steps);
         }
-        enter(self.table, self.lines, number, &mut self.line)?;
-        next_of_line(alloc, number == count, &mut self.place, &mut self.line)
+        enter(self.table, self.lines, number, self.line)?;
+        next_of_line(alloc, number == count, &mut self.place, self.line)
     }
 }
 
@@ -91,8 +92,8 @@ fn enter<Q: Lines>(
     ensures asks { (s : Sight) (p : Length) (borrows : List ℕ) → p.lines + 1 ≡ n
         → mark_of s p ≡ New → StandsAt s p line.old
         → GoesOn
-            (asking_at s (asked_so (Q.state lines.old).asked borrows) p line.old.scanned)
-            (asking_at s (asked_so (Q.state lines.new).asked borrows) p line.new.scanned) }
+        (asking_at s (asked_so (Q.state lines.old).asked borrows) p line.old)
+        (asking_at s (asked_so (Q.state lines.new).asked borrows) p line.new) }
     ensures scanned { OnOk result (line.new.scanned ≡ true) }
     ensures contents { (Q.state lines.new).contents ≡ (Q.state lines.old).contents }
 {

@@ -8,5 +8,5 @@ returns-clause-stands g c = λ s p table contents number new h.
 
 pub returns-clause-asks : goal.returns-clause-asks
 returns-clause-asks g c = λ s p borrows number new h.
-    entered_asks s p c.args.n c.args.line.now c.scan.new.line.scanned (g.Q.Lines.state c.args.lines.now).asked (g.Q.Lines.state c.scan.new.lines).asked borrows
-    number h c.if-line.false new c.scan.ensures.asked
+    entered_asks s p c.args.n c.args.line.now c.scan.new.line (g.Q.Lines.state c.args.lines.now).asked (g.Q.Lines.state c.scan.new.lines).asked borrows
+    number h c.if-line.false new c.scan.ensures.asked c.scan.ensures.count
