@@ -19,8 +19,8 @@ pub(crate) fn decorate_reply(
     remove: Ids,
     add: NewDecos,
 ) -> Result<Reply, Refused>
-    ensures answer { Answers (step model.old.document (Command.Decorate owner remove add)) model.old.document
-        (bytes_of_outcome result) model.new.document }
+    ensures answer { Answers (step model.old.document (Command.Decorate owner remove add))
+        model.old.document (bytes_of_outcome result) model.new.document }
     ensures accepted { IfOk result (λ reply. is_refused (bytes_of reply) ≡ false) }
 {
     let added = add.as_slice();

@@ -89,8 +89,8 @@ fn open_reply(
     text: &[u16],
     brackets: Option<BracketTable>,
 ) -> Result<Reply, Refused>
-    ensures answer { Answers (step model.old.document (Command.Open text.now brackets)) model.old.document
-        (bytes_of_outcome result) model.new.document }
+    ensures answer { Answers (step model.old.document (Command.Open text.now brackets))
+        model.old.document (bytes_of_outcome result) model.new.document }
     ensures accepted { IfOk result (λ reply. is_refused (bytes_of reply) ≡ false) }
 {
     model.open_doc(text, table_of(brackets))?;
@@ -183,7 +183,8 @@ fn offset_reply(model: &Model, p: Position) -> Result<Reply, Refused>
 }
 
 fn position_reply(model: &Model, offset: u64) -> Result<Reply, Refused>
-    ensures answer { bytes_of_outcome result ≡ position_answer (flat_position model.now.document offset) }
+    ensures answer { bytes_of_outcome result
+        ≡ position_answer (flat_position model.now.document offset) }
     ensures accepted { IfOk result (λ reply. is_refused (bytes_of reply) ≡ false) }
 {
     let p = position_at(model, offset).ok_or(Refused(Refusal::Range))?;

@@ -63,10 +63,10 @@ impl Progress {
     /// Counts a refusal, and one for want of memory.
     fn count(&mut self, outcome: &Result<Reply, Refused>)
         ensures line { self.new.line ≡ self.old.line }
-        ensures refused { self.new.refused
-            ≡ min (self.old.refused + (if is_err outcome.now then 1 else 0)) greatest_count }
-        ensures memory { self.new.memory
-            ≡ min (self.old.memory + (if is_for_memory outcome.now then 1 else 0)) greatest_count }
+        ensures refused { self.new.refused ≡ min
+            (self.old.refused + (if is_err outcome.now then 1 else 0)) greatest_count }
+        ensures memory { self.new.memory ≡ min
+            (self.old.memory + (if is_for_memory outcome.now then 1 else 0)) greatest_count }
     {
         self.refused = self.refused.saturating_add(u64::from(outcome.is_err()));
         self.memory = self
