@@ -14,7 +14,7 @@ use Rattle.bracket_trees.proofs.Whole.{IsTreeOf-from_Tells}
 use Rattle.bracket_nodes.specs.declared.parser.Stop.{Stop}
 use Rattle.bracket_nodes.specs.declared.parser.Stop.TheVariants.{AtEnd, AtClosing}
 use Rattle.bracket_nodes.specs.declared.parser.Taken.TheVariants.{One, Last, Nothing}
-use Rattle.bracket_nodes.specs.Source.{Ahead, Asking, GoesOn, Ends, weights_ahead, weight_ahead, GivesNode, GivesBracket, rows_after, weights_after, Listed, Parsed, Takes, closing_taken, pair_taken, HasWidth, Reads}
+use Rattle.bracket_nodes.specs.Source.{Ahead, Asking, AsksOn, Ends, weights_ahead, weight_ahead, GivesNode, GivesBracket, rows_after, weights_after, Listed, Parsed, Takes, closing_taken, pair_taken, HasWidth, Reads}
 
 same_ahead : (kinds level : ℕ) (from from' rest : List Row) (ts : List Tree) → from ≡ from' → Tells kinds level from' rest ts → Tells kinds level from rest ts
 same_ahead kinds level from from' rest ts h t = subst (λ (x : List Row). Tells kinds level x rest ts) (sym h) t
@@ -183,11 +183,11 @@ asks_width mid new kinds level t (AtClosing j v) l = l.stops.wide
 
 -- ---- what is asked for
 
-pub GoesOn-same : (a : Asking) → GoesOn a a
-GoesOn-same a = record { contents = refl; asked = refl; count = refl; borrows = refl }
+pub AsksOn-same : (a : Asking) → AsksOn a a
+AsksOn-same a = record { contents = refl; asked = refl; count = refl; borrows = refl }
 
-pub GoesOn-then : (a b c : Asking) → GoesOn a b → GoesOn b c → GoesOn a c
-GoesOn-then a b c h k = record {
+pub AsksOn-then : (a b c : Asking) → AsksOn a b → AsksOn b c → AsksOn a c
+AsksOn-then a b c h k = record {
   contents = k.contents ∙ h.contents;
   asked = k.asked ∙ h.asked;
   count = k.count ∙ h.count;

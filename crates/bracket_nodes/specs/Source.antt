@@ -44,7 +44,7 @@ abbrev pub asks_nothing : Asking
 asks_nothing = record { contents = []; asked = []; left = []; count = 0; borrows = [] }
 
 -- what is asked for is taken from the front of what is left
-pub record GoesOn (old new : Asking) : Type 0 where
+pub record AsksOn (old new : Asking) : Type 0 where
   pub contents : new.contents ≡ old.contents
   pub asked : new.asked ++ new.left ≡ old.asked ++ old.left
   pub count : new.count + length new.left ≡ old.count + length old.left

@@ -4,7 +4,7 @@ ghost use Rattle.bracket_rules.specs.Rows.{HasRow};
 ghost use Rattle.bracket_trees.specs.Told.{IsTreeOf};
 ghost use Rattle.bracket_trees.specs.Tree.{IsLone, is_missing, weight};
 ghost use Rattle.bracket_trees.specs.Weights.{tree_weights, AreCovered};
-ghost use Rattle.bracket_nodes.specs.Source.{GoesOn, Listed, Takes, HasWidth, weights_ahead, weight_ahead, stop_width, closing_taken, pair_taken};
+ghost use Rattle.bracket_nodes.specs.Source.{AsksOn, Listed, Takes, HasWidth, weights_ahead, weight_ahead, stop_width, closing_taken, pair_taken};
 
 use crate::joiner::Joiner;
 use crate::kinds::Kinds;
@@ -27,7 +27,7 @@ pub enum Next {
 /// A text as brackets and ready nodes, from its start to its end. Some of its lines it may have to
 /// ask for.
 pub trait Source {
-    ghost use Rattle.bracket_nodes.specs.Source.{Ahead, Comes, GoesOn};
+    ghost use Rattle.bracket_nodes.specs.Source.{Ahead, Comes, AsksOn};
 
     ghost ahead: { Self → Ahead };
 
@@ -41,7 +41,7 @@ pub trait Source {
         requires stands { stands self.old }
         ensures comes { IfOk result (Comes (ahead self.old) (ahead self.new) opened level) }
         ensures stands { OnOk result (stands self.new) }
-        ensures asks { GoesOn (ahead self.old).asking (ahead self.new).asking };
+        ensures asks { AsksOn (ahead self.old).asking (ahead self.new).asking };
 }
 
 // Why a list stopped.
@@ -77,7 +77,7 @@ pub fn parse<S: Source>(alloc: Global, source: &mut S) -> Result<Node, AllocErro
     ensures light { IfOk result (λ tree.
         AreCovered (tree_weights tree) (weights_ahead (S.ahead source.old))) }
     ensures stands { OnOk result (S.stands source.new) }
-    ensures asks { GoesOn (S.ahead source.old).asking (S.ahead source.new).asking }
+    ensures asks { AsksOn (S.ahead source.old).asking (S.ahead source.new).asking }
     ensures whole { OnOk result ((S.ahead source.new).asking.left ≡ []) }
 {
     let part = parse_list(alloc, source, Kinds::none(), 0)?;
@@ -99,7 +99,7 @@ fn parse_list<S: Source>(
     ensures listed { IfOk result (λ part.
         Listed (S.ahead source.old) (S.ahead source.new) opened level part.list part.stop) }
     ensures stands { OnOk result (S.stands source.new) }
-    ensures asks { GoesOn (S.ahead source.old).asking (S.ahead source.new).asking }
+    ensures asks { AsksOn (S.ahead source.old).asking (S.ahead source.new).asking }
 {
     let mut joiner = Joiner::new(alloc);
     loop {
@@ -131,7 +131,7 @@ fn take<S: Source>(
     requires fits { weight_ahead (S.ahead source.old) < 2 ^ 64 }
     ensures takes { IfOk result (Takes (S.ahead source.old) (S.ahead source.new) opened level) }
     ensures stands { OnOk result (S.stands source.new) }
-    ensures asks { GoesOn (S.ahead source.old).asking (S.ahead source.new).asking }
+    ensures asks { AsksOn (S.ahead source.old).asking (S.ahead source.new).asking }
 {
     match source.next(alloc, opened, level)? {
         Next::End => Ok(Taken::Nothing(Stop::AtEnd)),

@@ -12,7 +12,7 @@ use Rattle.bracket_trees.specs.Weights.{glue_weights, tree_weights, AreCovered}
 use Rattle.bracket_trees.specs.Places.{rows_from}
 use Rattle.bracket_nodes.specs.declared.parser.Next.{Next}
 use Rattle.bracket_nodes.specs.declared.parser.Next.TheVariants.{End, Ready, Bracket}
-use Rattle.bracket_nodes.specs.Source.{GivesNode, GivesBracket, IsOver, GoesOn}
+use Rattle.bracket_nodes.specs.Source.{GivesNode, GivesBracket, IsOver, AsksOn}
 use Rattle.mark_rules.specs.declared.Mark.{Mark}
 use Rattle.mark_rules.specs.declared.Mark.TheVariants.{New}
 use Rattle.reuse_rules.specs.Following.{Reached}
@@ -65,7 +65,7 @@ bracket_seen s asked p q from to k w l m opening e f g = record {
 
 -- the same lines are left
 pub asks_same : (s : Sight) (asked : Asked) (p q : Length) (from to : Line) → unasked s.marks q to.scanned ≡ unasked s.marks p from.scanned
-    → to.asked ≡ from.asked → GoesOn (asking_at s asked p from) (asking_at s asked q to)
+    → to.asked ≡ from.asked → AsksOn (asking_at s asked p from) (asking_at s asked q to)
 asks_same s asked p q from to left count = record {
   contents = refl;
   asked = ap (λ (x : List ℕ). asked.lines ++ x) left;

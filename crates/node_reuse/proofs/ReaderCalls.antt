@@ -11,8 +11,8 @@ use Rattle.bracket_rules.specs.Table.{Table, tokens_of}
 use Rattle.bracket_trees.specs.Places.{rows_from}
 use Rattle.bracket_nodes.specs.declared.parser.Next.{Next}
 use Rattle.bracket_nodes.specs.declared.parser.Next.TheVariants.{End, Ready, Bracket}
-use Rattle.bracket_nodes.specs.Source.{Ahead, Comes, GoesOn}
-use Rattle.bracket_nodes.proofs.Parsing.{GoesOn-then}
+use Rattle.bracket_nodes.specs.Source.{Ahead, Comes, AsksOn}
+use Rattle.bracket_nodes.proofs.Parsing.{AsksOn-then}
 use Rattle.mark_rules.specs.declared.Mark.{Mark}
 use Rattle.mark_rules.specs.declared.Mark.TheVariants.{New}
 use Rattle.reuse_rules.specs.Following.{Reached}
@@ -39,7 +39,7 @@ reads_stands (Ok n) s p q from to kinds level h = h.stands
 reads_stands (Err e) s p q from to kinds level h = tt
 
 pub reads_asks : {E : Type 0} (r : Result Next E) (s : Sight) (asked : Asked) (p q : Length) (from to : Line) (kinds level : ℕ)
-    → IfOk r (ReadsOn s p from q to kinds level) → OnErr r (q ≡ p) → OnErr r (to ≡ from) → GoesOn (asking_at s asked p from) (asking_at s asked q to)
+    → IfOk r (ReadsOn s p from q to kinds level) → OnErr r (q ≡ p) → OnErr r (to ≡ from) → AsksOn (asking_at s asked p from) (asking_at s asked q to)
 reads_asks (Ok n) s asked p q from to kinds level h place line = h.asks asked
 reads_asks (Err e) s asked p q from to kinds level h place line =
     asks_same s asked p q from to (ap (λ (x : Length). unasked s.marks x to.scanned) place ∙ ap (λ (l : Line). unasked s.marks p l.scanned) line)
@@ -115,7 +115,7 @@ entered_if (Err x) s p n line to e h unscanned new tokens columns scanned counte
 -- the line was asked for, or it is still to be asked for
 pub entered_asks : (s : Sight) (p : Length) (n : ℕ) (line to : Line) (old new borrows : List ℕ) → p.lines + 1 ≡ n → StandsAt s p line
     → line.scanned ≡ false → mark_of s p ≡ New → new ≡ old ++ asked_if to.scanned n → to.asked ≡ line.asked + length (asked_if to.scanned n)
-    → GoesOn (asking_at s (asked_so old borrows) p line) (asking_at s (asked_so new borrows) p to)
+    → AsksOn (asking_at s (asked_so old borrows) p line) (asking_at s (asked_so new borrows) p to)
 entered_asks s p n line to old new borrows number h unscanned new_mark e f = record {
   contents = refl;
   asked = told to.scanned e;
@@ -166,24 +166,24 @@ module _ {E : Type 0} (r : Result Next E) (table : Table) (before after : List (
       (reads_stands r (sight table before old marks) p q from to kinds level reads)
 
   pub new_asks : OnErr r (q ≡ p) → OnErr r (to ≡ from)
-      → GoesOn (asking_at (sight table before old marks) (asked_so asked borrows) p start)
+      → AsksOn (asking_at (sight table before old marks) (asked_so asked borrows) p start)
       (asking_at (sight table before old marks) (asked_so told borrows) p from)
-      → GoesOn (asking_at (sight table before old marks) (asked_so asked borrows) p start)
+      → AsksOn (asking_at (sight table before old marks) (asked_so asked borrows) p start)
       (asking_at (sight table after old marks) (asked_so told borrows) q to)
   new_asks place line asks =
       let s = sight table before old marks in
-      subst (λ (x : List (List ℕ)). GoesOn (asking_at s (asked_so asked borrows) p start)
+      subst (λ (x : List (List ℕ)). AsksOn (asking_at s (asked_so asked borrows) p start)
       (asking_at (sight table x old marks) (asked_so told borrows) q to)) (sym same)
-      (GoesOn-then (asking_at s (asked_so asked borrows) p start) (asking_at s (asked_so told borrows) p from)
+      (AsksOn-then (asking_at s (asked_so asked borrows) p start) (asking_at s (asked_so told borrows) p from)
       (asking_at s (asked_so told borrows) q to) asks
       (reads_asks r s (asked_so told borrows) p q from to kinds level reads place line))
 
 -- a line that was not entered, whatever was asked for
 pub failed_asks : (table : Table) (before after : List (List ℕ)) (old : OldText) (marks : List Mark) → after ≡ before → (asked told : Asked) (p : Length) (from to : Line)
-    → GoesOn (asking_at (sight table before old marks) asked p from) (asking_at (sight table before old marks) told p to)
-    → GoesOn (asking_at (sight table before old marks) asked p from) (asking_at (sight table after old marks) told p to)
+    → AsksOn (asking_at (sight table before old marks) asked p from) (asking_at (sight table before old marks) told p to)
+    → AsksOn (asking_at (sight table before old marks) asked p from) (asking_at (sight table after old marks) told p to)
 failed_asks table before after old marks same asked told p from to h =
-    subst (λ (x : List (List ℕ)). GoesOn (asking_at (sight table before old marks) asked p from) (asking_at (sight table x old marks) told p to)) (sym same) h
+    subst (λ (x : List (List ℕ)). AsksOn (asking_at (sight table before old marks) asked p from) (asking_at (sight table x old marks) told p to)) (sym same) h
 
 -- ---- the last line
 

@@ -6,7 +6,7 @@ use Rattle.bracket_rules.specs.Rows.{Row, text_rows}
 use Rattle.bracket_rules.specs.Table.{Table, is_table}
 use Rattle.bracket_trees.specs.Places.{rows_from}
 use Rattle.bracket_nodes.specs.declared.parser.Next.{Next}
-use Rattle.bracket_nodes.specs.Source.{Ahead, Asking, Comes, GoesOn}
+use Rattle.bracket_nodes.specs.Source.{Ahead, Asking, Comes, AsksOn}
 use Rattle.mark_rules.specs.declared.Mark.{Mark}
 use Rattle.mark_rules.specs.declared.Mark.TheVariants.{Kept, New}
 use Rattle.mark_rules.specs.Marks.{mark_at}
@@ -105,5 +105,5 @@ IsLast s p false = suc p.lines < length s.contents
 -- this came next, and the reader went on from place p to place q
 pub record ReadsOn (s : Sight) (p : Length) (from : Line) (q : Length) (to : Line) (opened level : ℕ) (next : Next) : Type 0 where
   pub comes : (asked : Asked) → Comes (seen_at s asked p from) (seen_at s asked q to) opened level next
-  pub asks : (asked : Asked) → GoesOn (asking_at s asked p from) (asking_at s asked q to)
+  pub asks : (asked : Asked) → AsksOn (asking_at s asked p from) (asking_at s asked q to)
   pub stands : StandsAt s q to

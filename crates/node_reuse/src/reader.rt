@@ -3,7 +3,7 @@ ghost use Rattle.std.specs.Prelude.{◌≡◌, ◌+◌, ◌<◌, ◌≤◌, ◌^
 ghost use Rattle.text_lengths.specs.declared.Length.{Length};
 ghost use Rattle.mark_rules.specs.declared.Mark.TheVariants.{Kept, New};
 ghost use Rattle.mark_rules.specs.Marks.{mark_at};
-ghost use Rattle.bracket_nodes.specs.Source.{GoesOn};
+ghost use Rattle.bracket_nodes.specs.Source.{AsksOn};
 ghost use Rattle.node_reuse.specs.Reader.{Sight, mark_of, asked_so, asking_at, StandsAt};
 
 use crate::fresh::next_of_line;
@@ -91,7 +91,7 @@ fn enter<Q: Lines>(
         → StandsAt s p line.old → OnOk result (StandsAt s p line.new) }
     ensures asks { (s : Sight) (p : Length) (borrows : List ℕ) → p.lines + 1 ≡ n
         → mark_of s p ≡ New → StandsAt s p line.old
-        → GoesOn
+        → AsksOn
         (asking_at s (asked_so (Q.state lines.old).asked borrows) p line.old)
         (asking_at s (asked_so (Q.state lines.new).asked borrows) p line.new) }
     ensures scanned { OnOk result (line.new.scanned ≡ true) }
