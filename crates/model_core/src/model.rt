@@ -138,7 +138,8 @@ impl Model {
 
     /// Carries out the edits at once, which makes the next version. `Range` where a span is none of the text; else
     /// `Overlap` where two spans overlap; else `Limit` where the new text or the version would pass its limit. All
-    /// memory is taken before the first change.
+    /// memory is taken before the first change. The tree of the last parse stays, and each line that an edit touches is
+    /// marked as new.
     pub fn edit(&mut self, ops: &[Op]) -> Result<(), ModelError>
         ensures document { Changes result self.old.document self.new.document
             (flat_edit self.old.document ops.now) }
@@ -314,7 +315,7 @@ impl Model {
             .map_err(|_| ModelError::Memory)
     }
 
-    /// Whether the bracket tree of the text of now is kept.
+    /// Whether the tree of the last parse is that of the text of now: no line was touched since.
     pub fn is_fresh(&self) -> bool
         ensures { result ≡ self.now.fresh }
     {
@@ -322,8 +323,8 @@ impl Model {
     }
 
     /// Appends the brackets of the lines `from` to `to`, both counted from 1 and both included, in the order of the text.
-    /// `Range` where one of the lines is not there, or `from` is above `to`; after an error `out` is as it was, and so is
-    /// the kept tree.
+    /// `Range` where one of the lines is not there, or `from` is above `to`; after an error `out` is as it was, and so are
+    /// the tree of the last parse and the marks.
     pub fn brackets_in(
         &mut self,
         from: u64,
@@ -337,7 +338,7 @@ impl Model {
             → OnOk result (All (λ e. IsSmall e.place) entries) }
         ensures document { self.new.document ≡ self.old.document }
         ensures pieces { self.new.pieces ≡ self.old.pieces }
-        ensures same { self.old.fresh ≡ true → self.new.tree ≡ self.old.tree }
+        ensures same_tree { self.old.fresh ≡ true → self.new.tree ≡ self.old.tree }
         ensures tree { OnErr result (self.new.tree ≡ self.old.tree) }
         ensures lines { OnOk result (self.new.marks ≡ clean_marks (length self.old.marks)) }
         ensures same_marks { self.old.fresh ≡ true → self.new.marks ≡ self.old.marks }
@@ -365,13 +366,13 @@ impl Model {
     }
 
     /// Where the other bracket of a pair starts, and how many units it has, where one of the two starts at the position;
-    /// None where none does. `Range` where the position is none of the text. It takes no memory where a tree is kept, and
-    /// an error leaves the kept tree as it was.
+    /// None where none does. `Range` where the position is none of the text. It takes no memory where the tree of the last
+    /// parse is that of the text of now, and an error leaves tree and marks as they were.
     pub fn match_at(&mut self, p: Position) -> Result<Option<(Position, u64)>, ModelError>
         ensures partner { Gives result (flat_match self.old.document p) }
         ensures document { self.new.document ≡ self.old.document }
         ensures pieces { self.new.pieces ≡ self.old.pieces }
-        ensures same { self.old.fresh ≡ true → self.new.tree ≡ self.old.tree }
+        ensures same_tree { self.old.fresh ≡ true → self.new.tree ≡ self.old.tree }
         ensures tree { OnErr result (self.new.tree ≡ self.old.tree) }
         ensures lines { OnOk result (self.new.marks ≡ clean_marks (length self.old.marks)) }
         ensures same_marks { self.old.fresh ≡ true → self.new.marks ≡ self.old.marks }
@@ -391,12 +392,13 @@ impl Model {
     }
 
     /// How many brackets are open after those that start before the position. `Range` where it is none of the text. It
-    /// takes no memory where a tree is kept, and an error leaves the kept tree as it was.
+    /// takes no memory where the tree of the last parse is that of the text of now, and an error leaves tree and marks as
+    /// they were.
     pub fn level_at(&mut self, p: Position) -> Result<u64, ModelError>
         ensures level { Gives result (flat_level self.old.document p) }
         ensures document { self.new.document ≡ self.old.document }
         ensures pieces { self.new.pieces ≡ self.old.pieces }
-        ensures same { self.old.fresh ≡ true → self.new.tree ≡ self.old.tree }
+        ensures same_tree { self.old.fresh ≡ true → self.new.tree ≡ self.old.tree }
         ensures tree { OnErr result (self.new.tree ≡ self.old.tree) }
         ensures lines { OnOk result (self.new.marks ≡ clean_marks (length self.old.marks)) }
         ensures same_marks { self.old.fresh ≡ true → self.new.marks ≡ self.old.marks }
