@@ -1,5 +1,5 @@
 -- Sources and sinks that no call was made of yet.
-use Rattle.std.specs.Prelude.{ℕ, List, Option, Some, None, false}
+use Rattle.std.specs.Prelude.{ℕ, List, Option, None, false}
 use Rattle.script_streams.specs.Streams.{SourceState, SinkState, Tally}
 
 -- a source before its first read, with what is left where it tells that
@@ -13,7 +13,3 @@ fresh_sink room taken = record { taken = taken; room = room; faults = 0; tally =
 -- the tally of no bytes
 abbrev pub no_tally : Tally
 no_tally = record { count = 0; sum = 0 }
-
--- a sink before its first write that keeps a tally and tells no bytes
-abbrev pub fresh_tally_sink : SinkState
-fresh_tally_sink = record { taken = None; room = 0; faults = 0; tally = Some no_tally }

@@ -1,0 +1,5 @@
+pub mod Lines
+pub mod Draws
+pub mod Script
+pub mod Tallies
+mod Examples
