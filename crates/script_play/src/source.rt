@@ -20,10 +20,11 @@ pub struct PlaySource {
 impl Model for PlaySource {
     ghost use Rattle.std.specs.Prelude.{Some};
     ghost use Rattle.script_streams.specs.Streams.{SourceState};
+    ghost use Rattle.script_play.specs.Supply.{left_of};
 
     ghost Value = { SourceState };
 
-    ghost view = { λ s. record { left = Some s.supply; given = s.given; ended = s.ended; faults = 0 } };
+    ghost view = { λ s. record { left = Some (left_of s.supply); given = s.given; ended = s.ended; faults = 0 } };
 }
 
 impl PlaySource {

@@ -1,40 +1,31 @@
 //! A script that is given piece by piece.
 
-ghost use Rattle.std.specs.Prelude.{◌≡◌, ◌<◌, ◌≤◌, ◌++◌, [], length, min, take};
+ghost use Rattle.std.specs.Prelude.{◌≡◌, ◌+◌, ◌*◌, ◌<◌, ◌≤◌, ◌++◌, [], length, min, take};
+ghost use Rattle.arrayvec.specs.ArrayVec.{array_vec_len};
+ghost use Rattle.script_play.specs.declared.TheConstants.{MOST_LINES};
 ghost use Rattle.script_play.specs.Script.{script, IsCount};
 
 use crate::line::{Line, line_bytes};
 use crate::play::Play;
 use arrayvec::ArrayVec;
-use std::marker::Model;
 
-/// The line that is being given, and what the lines after it come from. Contracts see all that is left.
+/// The line that is being given, and what the lines after it come from.
 #[derive(Drop)]
 pub(crate) struct Supply {
-    line: ArrayVec<u8, 128>,
-    given: usize,
-    lines_left: u32,
-    play: Play,
-}
-
-impl Model for Supply {
-    ghost use Rattle.std.specs.Prelude.{ℕ, ◌≤◌, ◌+◌, ◌*◌, List, ◌++◌, drop};
-    ghost use Rattle.arrayvec.specs.ArrayVec.{array_vec_len};
-    ghost use Rattle.script_play.specs.Script.{lines_from};
-    ghost use Rattle.script_play.specs.declared.TheConstants.{MOST_LINES};
-
-    ghost Value = { List ℕ };
-
-    ghost view = { λ s. drop s.given s.line.items ++ lines_from s.lines_left s.play };
-
-    ghost invariant = { λ s. (s.given ≤ array_vec_len s.line)
-        × (s.play.units + 4 * s.lines_left ≤ 4 * MOST_LINES) };
+    pub line: ArrayVec<u8, 128>,
+    pub given: usize,
+    pub lines_left: u32,
+    pub play: Play,
+    ghost within: { given ≤ array_vec_len line },
+    ghost small: { play.units + 4 * lines_left ≤ 4 * MOST_LINES },
 }
 
 impl Supply {
+    ghost use Rattle.script_play.specs.Supply.{left_of};
+
     pub(crate) fn new(count: u32, seed: u64) -> Supply
         requires { IsCount count }
-        ensures { result ≡ script count seed }
+        ensures { left_of result ≡ script count seed }
     {
         let play = Play {
             x: seed,
@@ -60,8 +51,8 @@ impl Supply {
     /// Gives what is left, as far as the buffer reaches.
     pub(crate) fn give(&mut self, buf: &mut [u8]) -> usize
         ensures within { result ≤ length buf.new }
-        ensures given { self.old ≡ take result buf.new ++ self.new }
-        ensures all { result < length buf.new → self.new ≡ [] }
+        ensures given { left_of self.old ≡ take result buf.new ++ left_of self.new }
+        ensures all { result < length buf.new → left_of self.new ≡ [] }
     {
         let mut count = 0;
         while count < buf.len() {
@@ -77,17 +68,27 @@ impl Supply {
     /// Gives something of what is left, where the buffer is not empty.
     fn give_some(&mut self, buf: &mut [u8]) -> usize
         ensures within { result ≤ length buf.new }
-        ensures given { self.old ≡ take result buf.new ++ self.new }
-        ensures end { result ≡ 0 → 0 < length buf.new → self.new ≡ [] }
+        ensures given { left_of self.old ≡ take result buf.new ++ left_of self.new }
+        ensures end { result ≡ 0 → 0 < length buf.new → left_of self.new ≡ [] }
     {
-        if self.given == self.line.len() && self.lines_left > 0 {
-            self.lines_left -= 1;
-            self.line = line_bytes(&self.play.next_line());
-            self.given = 0;
-        }
+        self.refill();
         let count = copy_front(&self.line.as_slice()[self.given..], buf);
         self.given += count;
         count
+    }
+
+    /// Makes the next line where the last one is given.
+    fn refill(&mut self)
+        ensures left { left_of self.new ≡ left_of self.old }
+        ensures end { self.new.given ≡ array_vec_len self.new.line → self.new.lines_left ≡ 0 }
+    {
+        if self.given < self.line.len() || self.lines_left == 0 {
+            return;
+        }
+        let line = self.play.next_line();
+        self.line = line_bytes(&line);
+        self.given = 0;
+        self.lines_left -= 1;
     }
 }
 
