@@ -45,7 +45,8 @@ impl Source for PlaySource {
     ghost state = { λ s. record s { faults = 0 } };
 
     fn read(&mut self, buf: &mut [u8]) -> Result<usize, Failed>
-        ensures reads { Reads result (record self.old { faults = 0 }) (record self.new { faults = 0 }) buf.new }
+        ensures reads { Reads result (record self.old { faults = 0 })
+            (record self.new { faults = 0 }) buf.new }
         ensures sure { IsOk result }
     {
         let count = self.supply.give(buf);
