@@ -6,8 +6,7 @@ pub mod Stepping
 pub mod Carries
 pub mod Inside
 pub mod Kept
-pub mod Scans
-pub mod TreeLength
+pub mod TextLines
 pub mod DirtyEdits
 pub mod EditedMarks
 pub mod Staying

@@ -6,6 +6,7 @@ use Rattle.bracket_rules.specs.Rows.{text_rows}
 use Rattle.bracket_trees.specs.Told.{IsTreeOf}
 use Rattle.mark_rules.specs.declared.Mark.{Mark}
 use Rattle.mark_rules.specs.Marks.{has_new}
+use Rattle.node_reuse.specs.ParsedTree.{ParsedTree}
 use Rattle.undo_rules.specs.Stack.{Step}
 use Rattle.document_rules.specs.declared.ModelError.{ModelError}
 use Rattle.document_rules.specs.Document.{FlatChange, FlatState}
@@ -14,7 +15,9 @@ use Rattle.document_rules.specs.Brackets.{line_contents}
 pub record ModelState : Type 0 where
   -- the flat document that the model stands for
   pub document : FlatState
-  -- the bracket tree of the last parse, be it of the text of now or of an earlier one
+  -- the last parse, be it of the text of now or of an earlier one: its tree, and how many lines it asked for
+  pub parsed : Option ParsedTree
+  -- its bracket tree
   pub tree : Option Tree
   -- what each line of the text of now is to that parse; new, where there was none
   pub marks : List Mark
@@ -22,6 +25,16 @@ pub record ModelState : Type 0 where
   pub fresh : Bool
   -- in how many pieces the text lies
   pub pieces : ℕ
+
+-- the tree of a parse, where there was one
+abbrev pub parsed_tree : Option ParsedTree → Option Tree
+parsed_tree None = None
+parsed_tree (Some parsed) = Some parsed.tree
+
+-- there is a parse, and it asked for so many lines
+abbrev pub HasAsked : Option ParsedTree → ℕ → Type 0
+HasAsked None lines = ⊥
+HasAsked (Some parsed) lines = parsed.asked ≡ lines
 
 -- the tree of the last parse, where no line is new
 abbrev pub fresh_tree : Option Tree → List Mark → Option Tree

@@ -5,6 +5,7 @@ use Rattle.bracket_rules.specs.Table.{Table}
 use Rattle.bracket_rules.specs.Rows.{text_rows}
 use Rattle.bracket_trees.specs.Tree.{Tree}
 use Rattle.mark_rules.specs.declared.Mark.{Mark}
+use Rattle.node_reuse.specs.ParsedTree.{ParsedTree}
 use Rattle.node_reuse.specs.Texts.{text_weights}
 use Rattle.node_reuse.specs.Reading.{StaysIfThere}
 use Rattle.document_rules.specs.Brackets.{line_contents}
@@ -12,6 +13,8 @@ use Rattle.model_core.specs.State.{fresh_tree, IsKept}
 
 -- what contracts see of it
 pub record ParseState : Type 0 where
+  -- its tree, and how many lines it asked for
+  pub parsed : Option ParsedTree
   pub tree : Option Tree
   -- one for each line of the text of now
   pub marks : List Mark

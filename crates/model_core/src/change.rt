@@ -70,6 +70,7 @@ pub(crate) fn apply(
     ensures marks { last.new.marks ≡ marked_backwards text.old.units ops.now last.old.marks }
     ensures lines { length last.new.marks ≡ length (lines_of text.new.units) }
     ensures spare { last.old.spare ≤ last.new.spare + length ops.now }
+    ensures parsed { last.new.parsed ≡ last.old.parsed }
     ensures tree { last.new.tree ≡ last.old.tree }
 {
     for done in 0..ops.len() {
@@ -112,6 +113,7 @@ pub(crate) fn take_back(
     ensures inside { AreIn (length text.new.units) decorations.new }
     ensures marks { last.new.marks
         ≡ marked_back last.old.marks (changes_back text.old.units changes.now) }
+    ensures parsed { last.new.parsed ≡ last.old.parsed }
     ensures tree { last.new.tree ≡ last.old.tree }
 {
     for done in 0..changes.len() {
@@ -141,6 +143,7 @@ pub(crate) fn make_again(
     ensures inside { AreIn (length text.new.units) decorations.new }
     ensures marks { last.new.marks
         ≡ marked_on last.old.marks (changes_on text.old.units changes.now) }
+    ensures parsed { last.new.parsed ≡ last.old.parsed }
     ensures tree { last.new.tree ≡ last.old.tree }
 {
     for change in changes {
@@ -162,6 +165,7 @@ pub(crate) fn reserve_for(
     ensures spare { OnOk result (op_count way changes.now ≤ last.new.spare) }
     ensures same { text.new.units ≡ text.old.units }
     ensures spans { text.new.spans ≡ text.old.spans }
+    ensures parsed { last.new.parsed ≡ last.old.parsed }
     ensures tree { last.new.tree ≡ last.old.tree }
     ensures marks { last.new.marks ≡ last.old.marks }
 {

@@ -1,4 +1,4 @@
-//! The bracket tree of the last parse, and what each line of the text of now is to it.
+//! The last parse of the text, and what each line of the text of now is to it.
 
 ghost use Rattle.std.specs.Prelude.{◌≡◌, ◌+◌, ◌<◌, ◌≤◌, ◌^◌, ◌∷◌, [], None, Some, false, true, length, is_some, replicate, IfOk, OnOk};
 ghost use Rattle.std.specs.Option.{option_copied};
@@ -13,62 +13,72 @@ ghost use Rattle.model_core.specs.LineMarks.{marked_by};
 
 use bracket_nodes::Node;
 use line_hunks::Hunks;
+use node_reuse::{OldReader, Parsed};
 use std::alloc::{AllocError, Global};
 use std::marker::Model;
 use text_buffer::TextBuffer;
 use text_rules::Op;
 
-/// The tree of the last parse, where there was one, and a mark for each line of the text of now.
+/// The last parse, where there was one, and a mark for each line of the text of now.
 #[derive(Drop)]
 pub(crate) struct LastParse {
-    tree: Option<Node>,
+    parsed: Option<Parsed>,
     hunks: Hunks,
 }
 
 impl Model for LastParse {
     ghost use Rattle.std.specs.Coded.{codes};
     ghost use Rattle.bracket_trees.specs.TreeCode.{tree_code};
+    ghost use Rattle.node_reuse.specs.ParsedTree.{parsed_tree_code};
+    ghost use Rattle.model_core.specs.State.{parsed_tree};
     ghost use Rattle.model_core.specs.Staying.{ParseState};
 
     ghost Value = { ParseState };
 
-    ghost coded = { Prim.hlevel (codes, tree_code) };
+    ghost coded = { Prim.hlevel (codes, tree_code, parsed_tree_code) };
 
     ghost view = { λ p. record {
-      tree = p.tree;
+      parsed = p.parsed;
+      tree = parsed_tree p.parsed;
       marks = p.hunks.marks;
       spare = p.hunks.spare;
     } };
 }
 
 impl LastParse {
-    /// No tree, for a text of one line.
+    /// No parse, for a text of one line.
     pub(crate) fn none(alloc: Global) -> LastParse
+        ensures parsed { result.parsed ≡ None }
         ensures tree { result.tree ≡ None }
         ensures marks { result.marks ≡ New ∷ [] }
     {
         LastParse {
-            tree: None,
+            parsed: None,
             hunks: Hunks::new(alloc),
         }
     }
 
-    /// No tree, for a text of so many lines.
+    /// No parse, for a text of so many lines.
     pub(crate) fn of_new_lines(alloc: Global, lines: u64) -> Result<LastParse, AllocError>
         requires some { 1 ≤ lines }
         requires fits { lines < 2 ^ 62 }
+        ensures parsed { IfOk result (λ last. last.parsed ≡ None) }
         ensures tree { IfOk result (λ last. last.tree ≡ None) }
         ensures marks { IfOk result (λ last. last.marks ≡ replicate lines New) }
     {
         let mut hunks = Hunks::new(alloc);
         hunks.reserve(1)?;
         hunks.edit(1, 1, lines);
-        Ok(LastParse { tree: None, hunks })
+        Ok(LastParse {
+            parsed: None,
+            hunks,
+        })
     }
 
-    /// Makes room for so many edits. An error leaves tree and marks as they were.
+    /// Makes room for so many edits. An error leaves parse and marks as they were.
     pub(crate) fn reserve(&mut self, edits: u64) -> Result<(), AllocError>
         ensures room { OnOk result (edits ≤ self.new.spare) }
+        ensures parsed { self.new.parsed ≡ self.old.parsed }
         ensures tree { self.new.tree ≡ self.old.tree }
         ensures marks { self.new.marks ≡ self.old.marks }
     {
@@ -85,6 +95,7 @@ impl LastParse {
         ensures marks { self.new.marks ≡ marked_by text.now.units op.now self.old.marks }
         ensures lines { length self.new.marks ≡ length (lines_of (edited text.now.units op.now)) }
         ensures room { self.old.spare ≤ self.new.spare + 1 }
+        ensures parsed { self.new.parsed ≡ self.old.parsed }
         ensures tree { self.new.tree ≡ self.old.tree }
     {
         let dirty = text.dirty_lines(op.span, op.text.as_slice());
@@ -96,24 +107,56 @@ impl LastParse {
         ensures { option_copied result ≡ fresh_tree self.now.tree self.now.marks }
     {
         if self.hunks.is_clean() {
-            self.tree.as_ref()
+            self.tree()
         } else {
             None
         }
     }
 
-    /// Puts the tree of the text of now in place of the old one.
-    pub(crate) fn put(&mut self, tree: Node)
-        ensures tree { self.new.tree ≡ Some tree }
+    /// The last parse, where there was one.
+    pub(crate) fn parsed(&self) -> Option<&Parsed>
+        ensures { option_copied result ≡ self.now.parsed }
+    {
+        self.parsed.as_ref()
+    }
+
+    /// The tree of the last parse, under the marks.
+    pub(crate) fn old(&self) -> OldReader<'_>
+        ensures tree { result.tree ≡ self.now.tree }
+        ensures marks { result.marks ≡ self.now.marks }
+    {
+        OldReader::new(self.tree(), &self.hunks)
+    }
+
+    /// What each line of the text of now is to the last parse.
+    pub(crate) fn hunks(&self) -> &Hunks
+        ensures { result.now.marks ≡ self.now.marks }
+    {
+        &self.hunks
+    }
+
+    fn tree(&self) -> Option<&Node>
+        ensures { option_copied result ≡ self.now.tree }
+    {
+        match &self.parsed {
+            Some(parsed) => Some(parsed.tree()),
+            None => None,
+        }
+    }
+
+    /// Puts the parse of the text of now in place of the old one.
+    pub(crate) fn put(&mut self, parsed: Parsed)
+        ensures parsed { self.new.parsed ≡ Some parsed }
+        ensures tree { self.new.tree ≡ Some parsed.tree }
         ensures marks { self.new.marks ≡ clean_marks (length self.old.marks) }
-        ensures fresh { fresh_tree self.new.tree self.new.marks ≡ Some tree }
-        ensures rules { IsTree tree }
+        ensures fresh { fresh_tree self.new.tree self.new.marks ≡ Some parsed.tree }
+        ensures rules { IsTree parsed.tree }
     {
         // It tells that the tree meets the rules of nodes.
-        let _length = tree.length();
+        let _length = parsed.tree().length();
         let lines = self.hunks.lines();
         self.hunks.clean(lines);
-        self.tree = Some(tree);
+        self.parsed = Some(parsed);
     }
 }
 
@@ -122,6 +165,7 @@ pub(crate) fn unparsed(alloc: Global, units: &[u16]) -> Result<(TextBuffer, Last
     requires { length units.now ≤ most_units }
     ensures units { IfOk result (λ made. made.0.units ≡ units.now) }
     ensures spans { IfOk result (λ made. length made.0.spans ≤ 1) }
+    ensures parsed { IfOk result (λ made. made.1.parsed ≡ None) }
     ensures tree { IfOk result (λ made. made.1.tree ≡ None) }
     ensures marks { IfOk result (λ made.
         made.1.marks ≡ replicate (length (lines_of units.now)) New) }

@@ -2,6 +2,8 @@
 
 ghost use Rattle.std.specs.Prelude.{◌≡◌, ◌≤◌, ◌-◌, ◌∷◌, [], true, false, List, length, replicate, None, IfSome, OnOk, OnErr, Ok, Err};
 ghost use Rattle.std.specs.List.{All};
+ghost use Rattle.std.specs.Option.{option_copied};
+ghost use Rattle.node_reuse.specs.Texts.{new_lines};
 ghost use Rattle.text_buffer.specs.Costs.{WithinLookUps};
 ghost use Rattle.unit_text.specs.Units.{IsPaired};
 ghost use Rattle.decoration_rules.specs.Moves.{IsSpanIn};
@@ -15,11 +17,11 @@ ghost use Rattle.batch_rules.specs.Batches.{sorted_ops};
 ghost use Rattle.mark_rules.specs.declared.Mark.TheVariants.{New};
 ghost use Rattle.mark_rules.specs.Marks.{clean_marks};
 ghost use Rattle.model_core.specs.LineMarks.{marked_backwards, undone_marks, redone_marks};
-ghost use Rattle.model_core.specs.State.{LeftAfter, LeftAfterMove, KeptAfter, KeptAfterMove, GrownAfter, GrownAfterMove, next_op_count};
+ghost use Rattle.model_core.specs.State.{LeftAfter, LeftAfterMove, KeptAfter, KeptAfterMove, GrownAfter, GrownAfterMove, HasAsked, next_op_count};
 ghost use Rattle.document_rules.specs.Document.{new_document, flat_open, flat_edit, flat_stop, flat_undo, flat_redo, flat_decorate, flat_deco, flat_decos, flat_line, flat_value, flat_position, flat_offset, flat_line_count};
 ghost use Rattle.model_core.specs.Errors.{error_of, refusal_of};
 
-use crate::brackets::{parse_text, renew};
+use crate::brackets::{parse_again, renew};
 use crate::change::{Change, Way, apply, make_again, reserve_for, take_back};
 use crate::last_parse::{LastParse, unparsed};
 use crate::places::{is_position, place_of, told};
@@ -29,6 +31,7 @@ use decorations::{Deco, DecoError, DecoSet, NewDeco};
 use document_rules::ModelError;
 use edit_batches::{Batch, BatchError, MOST_TEXT_UNITS};
 use edit_stack::EditStack;
+use node_reuse::Parsed;
 use std::alloc::Global;
 use std::sync::ledger::Ledger;
 use steps::Steps;
@@ -56,6 +59,7 @@ impl std::marker::Model for Model {
     ghost use Rattle.document_rules.specs.Document.{greatest_version};
     ghost use Rattle.std.specs.Coded.{codes};
     ghost use Rattle.bracket_trees.specs.TreeCode.{tree_code};
+    ghost use Rattle.node_reuse.specs.ParsedTree.{parsed_tree_code};
     ghost use Rattle.model_core.specs.State.{ModelState, fresh_tree};
     ghost use Rattle.model_core.specs.Staying.{StaysWith};
     ghost use Rattle.model_core.specs.History.{history_of, IsHistory};
@@ -63,7 +67,7 @@ impl std::marker::Model for Model {
 
     ghost Value = { ModelState };
 
-    ghost coded = { Prim.hlevel (codes, tree_code) };
+    ghost coded = { Prim.hlevel (codes, tree_code, parsed_tree_code) };
 
     ghost view = { λ m. record {
       document = record {
@@ -74,6 +78,7 @@ impl std::marker::Model for Model {
         table = m.table;
         history = history_of m.text.units m.history.stack;
       };
+      parsed = m.last.parsed;
       tree = m.last.tree;
       marks = m.last.marks;
       fresh = is_some (fresh_tree m.last.tree m.last.marks);
@@ -89,6 +94,7 @@ impl Model {
     /// An empty document, of version 1.
     pub fn new(alloc: Global) -> Model
         ensures document { result.document ≡ new_document [] standard_table }
+        ensures parsed { result.parsed ≡ None }
         ensures tree { result.tree ≡ None }
         ensures marks { result.marks ≡ New ∷ [] }
         ensures fresh { result.fresh ≡ false }
@@ -113,6 +119,7 @@ impl Model {
             (flat_open text.now table) }
         ensures paired_state { IsPaired text.now → IsPairedState self.old.document
             → IsPairedState self.new.document }
+        ensures parsed { LeftAfter result None self.old.parsed self.new.parsed }
         ensures tree { LeftAfter result None self.old.tree self.new.tree }
         ensures marks { LeftAfter result (replicate (length (lines_of text.now)) New)
             self.old.marks self.new.marks }
@@ -147,6 +154,7 @@ impl Model {
             → IsPaired self.new.document.units }
         ensures paired_state { All (λ op. IsPaired op.text) ops.now
             → IsPairedState self.old.document → IsPairedState self.new.document }
+        ensures parsed { self.new.parsed ≡ self.old.parsed }
         ensures tree { self.new.tree ≡ self.old.tree }
         ensures marks { LeftAfter result
             (marked_backwards self.old.document.units (sorted_ops ops.now) self.old.marks)
@@ -183,6 +191,7 @@ impl Model {
     pub fn stop(&mut self)
         ensures document { self.new.document ≡ flat_stop self.old.document }
         ensures paired_state { IsPairedState self.old.document → IsPairedState self.new.document }
+        ensures parsed { self.new.parsed ≡ self.old.parsed }
         ensures tree { self.new.tree ≡ self.old.tree }
         ensures marks { self.new.marks ≡ self.old.marks }
         ensures fresh { self.new.fresh ≡ self.old.fresh }
@@ -197,6 +206,7 @@ impl Model {
         ensures document { Moves result self.old.document self.new.document
             (flat_undo self.old.document) }
         ensures paired_state { IsPairedState self.old.document → IsPairedState self.new.document }
+        ensures parsed { self.new.parsed ≡ self.old.parsed }
         ensures tree { self.new.tree ≡ self.old.tree }
         ensures marks { LeftAfterMove result
             (undone_marks self.old.marks self.old.document.history.undo)
@@ -232,6 +242,7 @@ impl Model {
         ensures document { Moves result self.old.document self.new.document
             (flat_redo self.old.document) }
         ensures paired_state { IsPairedState self.old.document → IsPairedState self.new.document }
+        ensures parsed { self.new.parsed ≡ self.old.parsed }
         ensures tree { self.new.tree ≡ self.old.tree }
         ensures marks { LeftAfterMove result
             (redone_marks self.old.marks self.old.document.history.redo)
@@ -275,6 +286,7 @@ impl Model {
             self.old.document self.new.document
             (flat_decorate self.old.document owner remove.now add.now) }
         ensures paired_state { IsPairedState self.old.document → IsPairedState self.new.document }
+        ensures parsed { self.new.parsed ≡ self.old.parsed }
         ensures tree { self.new.tree ≡ self.old.tree }
         ensures marks { self.new.marks ≡ self.old.marks }
         ensures fresh { self.new.fresh ≡ self.old.fresh }
@@ -315,6 +327,14 @@ impl Model {
             .map_err(|_| ModelError::Memory)
     }
 
+    /// The last parse of the text, be it of the text of now or of an earlier one. None before the first one since `new`
+    /// or `open_doc`.
+    pub fn parsed(&self) -> Option<&Parsed>
+        ensures { option_copied result ≡ self.now.parsed }
+    {
+        self.last.parsed()
+    }
+
     /// Whether the tree of the last parse is that of the text of now: no line was touched since.
     pub fn is_fresh(&self) -> bool
         ensures { result ≡ self.now.fresh }
@@ -338,7 +358,11 @@ impl Model {
             → OnOk result (All (λ e. IsSmall e.place) entries) }
         ensures document { self.new.document ≡ self.old.document }
         ensures pieces { self.new.pieces ≡ self.old.pieces }
+        ensures same { self.old.fresh ≡ true → self.new.parsed ≡ self.old.parsed }
         ensures same_tree { self.old.fresh ≡ true → self.new.tree ≡ self.old.tree }
+        ensures asked { self.old.fresh ≡ false
+            → OnOk result (HasAsked self.new.parsed (length (new_lines self.old.marks))) }
+        ensures parsed { OnErr result (self.new.parsed ≡ self.old.parsed) }
         ensures tree { OnErr result (self.new.tree ≡ self.old.tree) }
         ensures lines { OnOk result (self.new.marks ≡ clean_marks (length self.old.marks)) }
         ensures same_marks { self.old.fresh ≡ true → self.new.marks ≡ self.old.marks }
@@ -354,12 +378,14 @@ impl Model {
                 .entries(from - 1, to - 1, out)
                 .map_err(|_| ModelError::Memory),
             None => {
-                let tree = parse_text(self.alloc, &self.table, &self.text).map_err(
+                let parsed = parse_again(self.alloc, &self.last, &self.table, &self.text).map_err(
                     |_| ModelError::Memory,
                 )?;
-                tree.entries(from - 1, to - 1, out)
+                parsed
+                    .tree()
+                    .entries(from - 1, to - 1, out)
                     .map_err(|_| ModelError::Memory)?;
-                self.last.put(tree);
+                self.last.put(parsed);
                 Ok(())
             }
         }
@@ -372,7 +398,11 @@ impl Model {
         ensures partner { Gives result (flat_match self.old.document p) }
         ensures document { self.new.document ≡ self.old.document }
         ensures pieces { self.new.pieces ≡ self.old.pieces }
+        ensures same { self.old.fresh ≡ true → self.new.parsed ≡ self.old.parsed }
         ensures same_tree { self.old.fresh ≡ true → self.new.tree ≡ self.old.tree }
+        ensures asked { self.old.fresh ≡ false
+            → OnOk result (HasAsked self.new.parsed (length (new_lines self.old.marks))) }
+        ensures parsed { OnErr result (self.new.parsed ≡ self.old.parsed) }
         ensures tree { OnErr result (self.new.tree ≡ self.old.tree) }
         ensures lines { OnOk result (self.new.marks ≡ clean_marks (length self.old.marks)) }
         ensures same_marks { self.old.fresh ≡ true → self.new.marks ≡ self.old.marks }
@@ -398,7 +428,11 @@ impl Model {
         ensures level { Gives result (flat_level self.old.document p) }
         ensures document { self.new.document ≡ self.old.document }
         ensures pieces { self.new.pieces ≡ self.old.pieces }
+        ensures same { self.old.fresh ≡ true → self.new.parsed ≡ self.old.parsed }
         ensures same_tree { self.old.fresh ≡ true → self.new.tree ≡ self.old.tree }
+        ensures asked { self.old.fresh ≡ false
+            → OnOk result (HasAsked self.new.parsed (length (new_lines self.old.marks))) }
+        ensures parsed { OnErr result (self.new.parsed ≡ self.old.parsed) }
         ensures tree { OnErr result (self.new.tree ≡ self.old.tree) }
         ensures lines { OnOk result (self.new.marks ≡ clean_marks (length self.old.marks)) }
         ensures same_marks { self.old.fresh ≡ true → self.new.marks ≡ self.old.marks }

@@ -4,14 +4,14 @@ use Rattle.model_core.specs.State.{fresh_tree}
 use Rattle.model_core.proofs.Staying.{stays_parsed, stays_as, clean_where_fresh}
 use Rattle.model_core.proofs.brackets.renew.Goals as goal
 
-pub returns-in_ok-parse_text-clause-stays : goal.returns-in_ok-parse_text-clause-stays
-returns-in_ok-parse_text-clause-stays c =
+pub returns-in_ok-parse_again-clause-stays : goal.returns-in_ok-parse_again-clause-stays
+returns-in_ok-parse_again-clause-stays c =
     let table = c.args.table.now in
     let x = c.args.text.now.units in
     let old = c.args.last.now.marks in
-    let t = c.in_ok-parse_text.field-0 in
+    let parsed = c.in_ok-parse_again.field-0 in
     stays_as _ c.put.new.self.tree _ c.put.new.self.marks table _ x c.put.ensures.tree c.put.ensures.marks refl
-    (stays_parsed t old table x c.requires.stays.count c.in_ok-parse_text.ensures.table c.put.ensures.rules c.in_ok-parse_text.ensures.tree c.in_ok-parse_text.ensures.light)
+    (stays_parsed parsed.tree old table x c.requires.stays.count c.in_ok-parse_again.ensures.table c.put.ensures.rules c.in_ok-parse_again.ensures.tree c.in_ok-parse_again.ensures.light)
 
 pub returns-else-is_none-clause-marks : goal.returns-else-is_none-clause-marks
 returns-else-is_none-clause-marks c =

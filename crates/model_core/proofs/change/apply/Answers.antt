@@ -27,6 +27,7 @@ loop-done-init c =
       marks = sym (ap (λ o. marked_backwards c.args.text.now.units o c.args.last.now.marks) none);
       lines = c.requires.lines;
       spare = omega arith;
+      parsed = refl;
       tree = refl;
     }
 
@@ -104,6 +105,7 @@ loop-done-preserved c =
           c.loop-done-test.true c.index-ops-ops.is c.loop-done.invariant.units c.loop-done.invariant.marks;
       lines = c.mark.ensures.lines ∙ ap (λ u. length (lines_of u)) (sym left);
       spare = omega (arith, c.loop-done.invariant.spare, c.mark.ensures.room);
+      parsed = c.mark.ensures.parsed ∙ c.loop-done.invariant.parsed;
       tree = c.mark.ensures.tree ∙ c.loop-done.invariant.tree;
     }
 

@@ -17,5 +17,6 @@ invariant-loop-done l = record {
   marks : l.last.marks ≡ marked_backwards l.fn.text.units (drop (length l.ops - l.done) l.ops) l.fn.last.marks;
   lines : length l.last.marks ≡ length (lines_of l.text.units);
   spare : l.fn.last.spare ≤ l.last.spare + l.done;
+  parsed : l.last.parsed ≡ l.fn.last.parsed;
   tree : l.last.tree ≡ l.fn.last.tree;
 }

@@ -60,6 +60,7 @@ loop-change-preserved c =
           ∙ c.loop-change.invariant.marks;
       lines = c.apply.ensures.lines;
       spare = omega (arith, c.loop-change.invariant.spare, c.apply.ensures.spare, now.ops, ap length c.ops.ensures.ops);
+      parsed = c.apply.ensures.parsed ∙ c.loop-change.invariant.parsed;
       tree = c.apply.ensures.tree ∙ c.loop-change.invariant.tree;
     }
 

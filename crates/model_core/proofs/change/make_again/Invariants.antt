@@ -18,5 +18,6 @@ invariant-loop-change l = record {
   marks : marked_on l.last.marks (changes_on l.text.units (drop l.change-index l.changes)) ≡ marked_on l.fn.last.marks (changes_on l.fn.text.units l.changes);
   lines : length l.last.marks ≡ length (lines_of l.text.units);
   spare : op_count On (drop l.change-index l.changes) ≤ l.last.spare;
+  parsed : l.last.parsed ≡ l.fn.last.parsed;
   tree : l.last.tree ≡ l.fn.last.tree;
 }

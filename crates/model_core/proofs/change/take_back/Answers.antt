@@ -24,6 +24,7 @@ loop-done-init c =
       marks = sym (ap (λ d. marked_back c.args.last.now.marks (changes_back c.args.text.now.units d)) none);
       lines = c.requires.lines;
       spare = omega arith;
+      parsed = refl;
       tree = refl;
     }
 
@@ -77,6 +78,7 @@ loop-done-preserved c =
           c.requires.lead c.loop-done-test.true c.index-changes-changes.is c.loop-done.invariant.units c.loop-done.invariant.marks;
       lines = c.apply.ensures.lines;
       spare = omega (arith, c.loop-done.invariant.spare, c.apply.ensures.spare, now.ops, ap length c.ops.ensures.ops);
+      parsed = c.apply.ensures.parsed ∙ c.loop-done.invariant.parsed;
       tree = c.apply.ensures.tree ∙ c.loop-done.invariant.tree;
     }
 

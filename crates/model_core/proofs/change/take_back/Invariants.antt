@@ -18,5 +18,6 @@ invariant-loop-done l = record {
   marks : l.last.marks ≡ marked_back l.fn.last.marks (changes_back l.fn.text.units (drop (length l.changes - l.done) l.changes));
   lines : length l.last.marks ≡ length (lines_of l.text.units);
   spare : l.fn.last.spare ≤ l.last.spare + op_count Back (drop (length l.changes - l.done) l.changes);
+  parsed : l.last.parsed ≡ l.fn.last.parsed;
   tree : l.last.tree ≡ l.fn.last.tree;
 }

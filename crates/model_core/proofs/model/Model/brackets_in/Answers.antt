@@ -44,7 +44,7 @@ pub invariant_of-self : goal.invariant_of-self
 invariant_of-self c =
     let m = c.self.inside in
     let x = m.text.units in
-    let t = c.in_ok-tree-in-None.tree in
+    let t = c.in_ok-parsed-in-None.parsed.tree in
     let table : is_table m.table ≡ true = grind (arith, common_steps) in
     let tells : IsTreeOf (text_rows m.table (line_contents x)) t = grind (arith, common_steps) in
     let light : AreCovered (tree_weights t) (text_weights (line_contents x)) = grind (arith, common_steps) in (

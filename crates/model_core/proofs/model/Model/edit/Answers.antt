@@ -15,6 +15,9 @@ use Rattle.model_core.proofs.Staying.{stays_as, stays_applied, marked_ops, kept_
 use Rattle.model_core.proofs.model.Model.edit.Goals as goal
 use Rattle.model_core.proofs.model.Model.edit.Goals.{After-apply}
 
+parsed_after : (c : After-apply) → c.apply.new.last.parsed ≡ c.self.inside.last.parsed
+parsed_after c = c.apply.ensures.parsed ∙ c.reserve-3.ensures.parsed
+
 tree_after : (c : After-apply) → c.apply.new.last.tree ≡ c.self.inside.last.tree
 tree_after c = c.apply.ensures.tree ∙ c.reserve-3.ensures.tree
 
@@ -94,6 +97,9 @@ returns-clause-paired c =
 pub returns-clause-paired_state : goal.returns-clause-paired_state
 returns-clause-paired_state c =
     λ texts paired. IsPairedState-edit (Ok tt) c.args.self.now.document _ c.args.ops.now (returns-clause-document c) texts paired
+
+pub returns-clause-parsed : goal.returns-clause-parsed
+returns-clause-parsed c = parsed_after (goal.at.returns-clause-parsed c).After-apply ∙ ap (λ (m : ModelState). m.parsed) c.self.view_is
 
 pub returns-clause-tree : goal.returns-clause-tree
 returns-clause-tree c = tree_after (goal.at.returns-clause-tree c).After-apply ∙ ap (λ (m : ModelState). m.tree) c.self.view_is

@@ -16,6 +16,9 @@ use Rattle.model_core.proofs.Stepping.{undo_of, nothing_to_undo, fits_back}
 use Rattle.model_core.proofs.model.Model.undo.Goals as goal
 use Rattle.model_core.proofs.model.Model.undo.Goals.{After-take_back}
 
+parsed_after : (c : After-take_back) → c.take_back.new.last.parsed ≡ c.self.inside.last.parsed
+parsed_after c = c.take_back.ensures.parsed ∙ c.reserve_for.ensures.parsed
+
 tree_after : (c : After-take_back) → c.take_back.new.last.tree ≡ c.self.inside.last.tree
 tree_after c = c.take_back.ensures.tree ∙ c.reserve_for.ensures.tree
 
@@ -30,7 +33,7 @@ pub returns-in_default : goal.returns-in_default
 returns-in_default c =
     let m = c.self.inside in
     let none : slice_get m.history.stack.undo 0 ≡ None = grind (arith, common_steps) in
-    record { document = (sym (ap (λ (s : ModelState). flat_undo s.document) c.self.view_is) ∙ nothing_to_undo m.text.units m.version m.alternative m.decorations m.table m.history.stack none, refl); paired_state = λ paired. paired; tree = refl; marks = refl; fresh = refl; pieces = refl }
+    record { document = (sym (ap (λ (s : ModelState). flat_undo s.document) c.self.view_is) ∙ nothing_to_undo m.text.units m.version m.alternative m.decorations m.table m.history.stack none, refl); paired_state = λ paired. paired; parsed = refl; tree = refl; marks = refl; fresh = refl; pieces = refl }
 
 pub returns-in_err-version : goal.returns-in_err-version
 returns-in_err-version c =
@@ -104,6 +107,9 @@ returns-clause-pieces c =
 pub returns-clause-paired_state : goal.returns-clause-paired_state
 returns-clause-paired_state c =
     λ paired. IsPairedState-undo (Ok true) c.args.self.now.document _ (returns-clause-document c) paired
+
+pub returns-clause-parsed : goal.returns-clause-parsed
+returns-clause-parsed c = parsed_after (goal.at.returns-clause-parsed c).After-take_back ∙ ap (λ (s : ModelState). s.parsed) c.self.view_is
 
 pub returns-clause-tree : goal.returns-clause-tree
 returns-clause-tree c = tree_after (goal.at.returns-clause-tree c).After-take_back ∙ ap (λ (s : ModelState). s.tree) c.self.view_is
