@@ -1,5 +1,5 @@
 -- No call brings a lone surrogate into a document that has none, where the texts that it is given have none.
-use Rattle.std.proofs.Common.{◌≡◌, ℕ, ◌+◌, ◌<◌, not, map, drop, filter, find, option_map, arith, Bool, true, false, nat_lt, nat_le, if◌then◌else◌, List, [], ◌∷◌, ◌++◌, length, Option, Some, Result, Ok, Err, refl, sym, subst}
+use Rattle.std.proofs.Common.{◌≡◌, ℕ, ◌+◌, ◌<◌, not, map, drop, filter, find, option_map, arith, Bool, true, false, nat_lt, nat_le, if◌then◌else◌, List, [], ◌∷◌, ◌++◌, length, Option, Some, Result, Ok, Err, refl, ap, sym, subst}
 use Rattle.std.specs.Prelude.{⊤, All}
 use Rattle.std.proofs.lemmas.Bool.{eqb-true, ne_eqb}
 use Rattle.std.proofs.lemmas.List.Elements.{All-nil, All-cons, All-head, All-tail, All-push, All-filter}
@@ -95,6 +95,9 @@ front_taken : (is_few : Bool) (count : ℕ) (rest units : List ℕ) (why : Shelf
 front_taken true count rest units why e = absurd cc
 front_taken false count rest units why e = cc
 
+skipped_by : (t : Bool) (id n : ℕ) (x : Snapshot) → has_id id x ≡ t → skipped id n x ≡ (if t then record x { rest = drop n x.rest } else x)
+skipped_by t id n x e = ap (λ b. if b then record x { rest = drop n x.rest } else x) e
+
 -- snapshots of other ids stay
 paired_others : (id n own : ℕ) (xs : List Snapshot) → own ≡ id → All (λ (later : Snapshot). own < later.id) xs → All HasPairedRest xs
     → All HasPairedRest (map (skipped id n) xs)
@@ -102,9 +105,9 @@ paired_others id n own [] same above kept = kept
 paired_others id n own (x ∷ xs) same above kept =
     let more : own < x.id = All-head (λ (later : Snapshot). own < later.id) x xs above in
     let other : has_id id x ≡ false = ne_eqb x.id id (λ e. omega (arith, more, same, e)) in
-    rw other
-    (All-cons HasPairedRest x (map (skipped id n) xs) (All-head HasPairedRest x xs kept)
-    (paired_others id n own xs same (All-tail (λ (later : Snapshot). own < later.id) x xs above) (All-tail HasPairedRest x xs kept)))
+    All-cons HasPairedRest (skipped id n x) (map (skipped id n) xs)
+    (subst HasPairedRest (sym (skipped_by false id n x other)) (All-head HasPairedRest x xs kept))
+    (paired_others id n own xs same (All-tail (λ (later : Snapshot). own < later.id) x xs above) (All-tail HasPairedRest x xs kept))
 
 paired_skipped-by : (t : Bool) (id count : ℕ) (units : List ℕ) (x : Snapshot) (xs : List Snapshot) → has_id id x ≡ t → IsRising (x ∷ xs)
     → All HasPairedRest (x ∷ xs) → front_of count (option_map (λ snapshot. snapshot.rest) (find (has_id id) (x ∷ xs))) ≡ Ok units
@@ -114,11 +117,12 @@ paired_skipped-by true id count units x xs e rising kept taken later =
     let is : front count x.rest ≡ units = front_taken (nat_lt count least_read) count x.rest units _ (rw e at taken) in
     let rest : IsPaired (drop (length units) x.rest) =
     subst (λ (u : List ℕ). IsPaired (drop (length u) x.rest)) is (IsPaired-front x.rest count (All-head HasPairedRest x xs kept)).1 in
-    rw e
-    (All-cons HasPairedRest (record x { rest = drop (length units) x.rest }) (map (skipped id (length units)) xs) rest
-    (paired_others id (length units) x.id xs (eqb-true x.id id e) rising.0 (All-tail HasPairedRest x xs kept)))
+    All-cons HasPairedRest (skipped id (length units) x) (map (skipped id (length units)) xs)
+    (subst HasPairedRest (sym (skipped_by true id (length units) x e)) rest)
+    (paired_others id (length units) x.id xs (eqb-true x.id id e) rising.0 (All-tail HasPairedRest x xs kept))
 paired_skipped-by false id count units x xs e rising kept taken later =
-    rw e (All-cons HasPairedRest x (map (skipped id (length units)) xs) (All-head HasPairedRest x xs kept) (later (rw e at taken)))
+    All-cons HasPairedRest (skipped id (length units) x) (map (skipped id (length units)) xs)
+    (subst HasPairedRest (sym (skipped_by false id (length units) x e)) (All-head HasPairedRest x xs kept)) (later (rw e at taken))
 
 -- what a read took of a snapshot is skipped
 paired_skipped : (id count : ℕ) (units : List ℕ) (xs : List Snapshot) → IsRising xs → All HasPairedRest xs
