@@ -1,7 +1,7 @@
-use Rattle.std.proofs.Common.{◌≡◌, ap, sym, subst, ◌∙◌}
-use Rattle.std.specs.List.{All, flat_map}
+use Rattle.std.proofs.Common.{◌≡◌, ap, sym, subst, ◌∙◌, arith}
+use Rattle.std.specs.List.{All}
 use Rattle.std.proofs.lemmas.Grind.{common_steps}
-use Rattle.chunk_buffers.specs.Chunks.{units_at, LiesIn}
+use Rattle.chunk_buffers.specs.Chunks.{LiesIn}
 use Rattle.document_rules.specs.Paired.{IsPairedState}
 use Rattle.snapshots.specs.Spans.{spelled}
 use Rattle.model_core.specs.State.{ModelState}
