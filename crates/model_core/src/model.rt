@@ -336,9 +336,7 @@ impl Model {
         ensures pieces { self.new.pieces ≡ self.old.pieces }
     {
         let mut spans = Vec::new(self.alloc);
-        self.text
-            .spans(&mut spans)
-            .map_err(|_| ModelError::Memory)?;
+        self.text.spans(&mut spans).map_err(|_| ModelError::Memory)?;
         self.shelf.take(spans.as_slice()).map_err(shelf_error_of)
     }
 
@@ -350,7 +348,9 @@ impl Model {
             (flat_peek_of self.now.document id count) }
     {
         let chunks = self.text.chunks();
-        self.shelf.peek(id, count, chunks, out).map_err(shelf_error_of)
+        self.shelf
+            .peek(id, count, chunks, out)
+            .map_err(shelf_error_of)
     }
 
     /// The first `n` units of what is left of the snapshot were read. Nothing changes where no snapshot of this id is
