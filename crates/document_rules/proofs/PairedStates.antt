@@ -75,7 +75,10 @@ pub no_snapshots : IsPairedShelf empty_shelf
 no_snapshots = All-nil HasPairedRest
 
 paired_taken : (is_full : Bool) (shelf g : FlatShelf) (units : List ℕ) (why : ShelfRefusal)
-    → (if is_full then Err why else Ok (record { snapshots = shelf.snapshots ++ record { id = shelf.next_id; rest = units } ∷ []; next_id = shelf.next_id + 1 })) ≡ Ok g
+    → (if is_full then Err why else Ok (record {
+      snapshots = shelf.snapshots ++ record { id = shelf.next_id; rest = units } ∷ [];
+      next_id = shelf.next_id + 1;
+    })) ≡ Ok g
     → IsPaired units → IsPairedShelf shelf → IsPairedShelf g
 paired_taken true shelf g units why done h kept = absurd cc
 paired_taken false shelf g units why done h kept =

@@ -48,11 +48,35 @@ abbrev one_edit : FlatState
 one_edit = after_batch (new_document (codes "a") standard_table) (op 1 1 (codes "b") ∷ []) (op 1 1 (codes "b") ∷ [])
 
 an_undo_goes_back_to_the_old_text : flat_undo one_edit
-    ≡ Ok (Some (record { units = codes "a"; version = 3; alternative = 1; decorations = no_decorations; table = standard_table; history = record { undo = []; redo = one_edit.history.undo; is_open = false }; shelf = empty_shelf }))
+    ≡ Ok (Some (record {
+      units = codes "a";
+      version = 3;
+      alternative = 1;
+      decorations = no_decorations;
+      table = standard_table;
+      history = record { undo = []; redo = one_edit.history.undo; is_open = false };
+      shelf = empty_shelf;
+    }))
 an_undo_goes_back_to_the_old_text = refl
 
-a_redo_makes_the_step_again : flat_redo (record { units = codes "a"; version = 3; alternative = 1; decorations = no_decorations; table = standard_table; history = record { undo = []; redo = one_edit.history.undo; is_open = false }; shelf = empty_shelf })
-    ≡ Ok (Some (record { units = codes "ab"; version = 4; alternative = 2; decorations = no_decorations; table = standard_table; history = record { undo = one_edit.history.undo; redo = []; is_open = false }; shelf = empty_shelf }))
+a_redo_makes_the_step_again : flat_redo (record {
+  units = codes "a";
+  version = 3;
+  alternative = 1;
+  decorations = no_decorations;
+  table = standard_table;
+  history = record { undo = []; redo = one_edit.history.undo; is_open = false };
+  shelf = empty_shelf;
+})
+    ≡ Ok (Some (record {
+      units = codes "ab";
+      version = 4;
+      alternative = 2;
+      decorations = no_decorations;
+      table = standard_table;
+      history = record { undo = one_edit.history.undo; redo = []; is_open = false };
+      shelf = empty_shelf;
+    }))
 a_redo_makes_the_step_again = refl
 
 -- two edits without a stop are one step
@@ -60,7 +84,15 @@ abbrev two_edits : FlatState
 two_edits = after_batch one_edit (op 2 2 (codes "c") ∷ []) (op 2 2 (codes "c") ∷ [])
 
 an_undo_takes_back_the_whole_step : flat_undo two_edits
-    ≡ Ok (Some (record { units = codes "a"; version = 4; alternative = 1; decorations = no_decorations; table = standard_table; history = record { undo = []; redo = two_edits.history.undo; is_open = false }; shelf = empty_shelf }))
+    ≡ Ok (Some (record {
+      units = codes "a";
+      version = 4;
+      alternative = 1;
+      decorations = no_decorations;
+      table = standard_table;
+      history = record { undo = []; redo = two_edits.history.undo; is_open = false };
+      shelf = empty_shelf;
+    }))
 an_undo_takes_back_the_whole_step = refl
 
 no_undo_at_the_last_version : flat_undo (record one_edit { version = greatest_version }) ≡ Err limit

@@ -27,7 +27,8 @@ module _ (x : List ℕ) (ops sorted back : List Op) (rule : checked_batch x ops 
       let ok = accepted x ops sorted rule in
       record { standing = ok.standing; on = refl; inverse = inverse; fits_before = fits; fits_after = ok.fits }
 
-  pub edited_history : (s : Stack Change) (alternative version : ℕ) → IsHistory x s → IsHistory (applied_from 0 x sorted) (pushed s (record { batch = sorted; inverse = back }) alternative version)
+  pub edited_history : (s : Stack Change) (alternative version : ℕ) → IsHistory x s
+      → IsHistory (applied_from 0 x sorted) (pushed s (record { batch = sorted; inverse = back }) alternative version)
   edited_history s alternative version = IsHistory-pushed s (record { batch = sorted; inverse = back }) x (applied_from 0 x sorted) alternative version leads
 
   pub edited_document : (s : Stack Change) (d : Decorations) (table : Table) (shelf : FlatShelf) (version alternative : ℕ) → version + 1 ≤ greatest_version
@@ -47,7 +48,8 @@ module _ (x : List ℕ) (ops sorted back : List Op) (rule : checked_batch x ops 
       let history = history-pushed s (record { batch = sorted; inverse = back }) x (applied_from 0 x sorted) alternative (version + 1) leads in
       rw (rule, below, history, ok.in_order) refl
 
-pub edited_paired : (x : List ℕ) (ops sorted : List Op) → checked_batch x ops ≡ Ok sorted → IsPaired x → All HasPairedText ops → IsPaired (applied_from 0 x sorted)
+pub edited_paired : (x : List ℕ) (ops sorted : List Op) → checked_batch x ops ≡ Ok sorted → IsPaired x → All HasPairedText ops
+    → IsPaired (applied_from 0 x sorted)
 edited_paired x ops sorted rule paired texts =
     let ok = accepted x ops sorted rule in
     IsPaired-applied x sorted ok.standing ok.good (rw ok.in_order (All-sorted_ops HasPairedText ops texts)) paired

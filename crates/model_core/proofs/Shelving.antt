@@ -32,7 +32,8 @@ module _ (old new : List (List ℕ)) (shelf : Shown) (grown : Extends old new) (
   }
 
 module _ (buffers : List (List ℕ)) (old new : Shown) (lie : LieIn buffers new) (kept : IsShelf buffers old) where
-  pub IsShelf-taken : (result : Result ℕ ShelfError) (units : List ℕ) → Takes result (shown buffers old) (shown buffers new) (flat_take (shown buffers old) units)
+  pub IsShelf-taken : (result : Result ℕ ShelfError) (units : List ℕ)
+      → Takes result (shown buffers old) (shown buffers new) (flat_take (shown buffers old) units)
       → IsShelf buffers new
   IsShelf-taken (Ok id) units taken =
       record { inside = lie; sound = IsSound-take (shown buffers old) (shown buffers new) units kept.sound taken.0 }
@@ -60,7 +61,8 @@ module _ (f : FlatState) (new : FlatShelf) (h : IsPairedState f) where
       IsPairedState-snapshot f.shelf.next_id (Ok id) f (record f { shelf = new }) (ap (with_shelf f) rule, taken.1) h
   taken_paired (Err e) units is taken = same_paired taken.0
 
-  pub skipped_paired : (id n count : ℕ) (units : List ℕ) → IsSound f.shelf → new ≡ flat_skip f.shelf id n → flat_peek_of f id count ≡ Ok units → n ≡ length units
+  pub skipped_paired : (id n count : ℕ) (units : List ℕ) → IsSound f.shelf → new ≡ flat_skip f.shelf id n → flat_peek_of f id count ≡ Ok units
+      → n ≡ length units
       → IsPairedState (record f { shelf = new })
   skipped_paired id n count units sound is taken all =
       IsPairedState-skip f (record f { shelf = new }) id n count units sound (ap (λ s. record f { shelf = s }) is) taken all h

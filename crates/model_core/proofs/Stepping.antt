@@ -67,13 +67,15 @@ undo_first now version alternative d table shelf step rest redo is_open old =
       marks = λ ms. refl;
     }
 
-pub undo_of : (now : List ℕ) (version alternative : ℕ) (d : Decorations) (table : Table) (shelf : FlatShelf) (s : Stack Change) (step : Step Change) → slice_get s.undo 0 ≡ Some step → IsHistory now s → IsUndo now version alternative d table shelf s step
+pub undo_of : (now : List ℕ) (version alternative : ℕ) (d : Decorations) (table : Table) (shelf : FlatShelf) (s : Stack Change) (step : Step Change)
+    → slice_get s.undo 0 ≡ Some step → IsHistory now s → IsUndo now version alternative d table shelf s step
 undo_of now version alternative d table shelf s step next old =
     let split = first_of s.undo step next in
     subst (λ u. IsHistory now (record { undo = u; redo = s.redo; is_open = s.is_open }) → IsUndo now version alternative d table shelf (record { undo = u; redo = s.redo; is_open = s.is_open }) step)
     (sym split.1) (undo_first now version alternative d table shelf step split.0 s.redo s.is_open) old
 
-pub nothing_to_undo : (now : List ℕ) (version alternative : ℕ) (d : Decorations) (table : Table) (shelf : FlatShelf) (s : Stack Change) → slice_get s.undo 0 ≡ None → flat_undo (document_of now version alternative d table shelf s) ≡ Ok None
+pub nothing_to_undo : (now : List ℕ) (version alternative : ℕ) (d : Decorations) (table : Table) (shelf : FlatShelf) (s : Stack Change)
+    → slice_get s.undo 0 ≡ None → flat_undo (document_of now version alternative d table shelf s) ≡ Ok None
 nothing_to_undo now version alternative d table shelf s none = rw (none_of s.undo none) refl
 
 -- what a redo does
@@ -101,11 +103,13 @@ redo_first now version alternative d table shelf step undo rest is_open old =
       marks = λ ms. refl;
     }
 
-pub redo_of : (now : List ℕ) (version alternative : ℕ) (d : Decorations) (table : Table) (shelf : FlatShelf) (s : Stack Change) (step : Step Change) → slice_get s.redo 0 ≡ Some step → IsHistory now s → IsRedo now version alternative d table shelf s step
+pub redo_of : (now : List ℕ) (version alternative : ℕ) (d : Decorations) (table : Table) (shelf : FlatShelf) (s : Stack Change) (step : Step Change)
+    → slice_get s.redo 0 ≡ Some step → IsHistory now s → IsRedo now version alternative d table shelf s step
 redo_of now version alternative d table shelf s step next old =
     let split = first_of s.redo step next in
     subst (λ u. IsHistory now (record { undo = s.undo; redo = u; is_open = s.is_open }) → IsRedo now version alternative d table shelf (record { undo = s.undo; redo = u; is_open = s.is_open }) step)
     (sym split.1) (redo_first now version alternative d table shelf step s.undo split.0 s.is_open) old
 
-pub nothing_to_redo : (now : List ℕ) (version alternative : ℕ) (d : Decorations) (table : Table) (shelf : FlatShelf) (s : Stack Change) → slice_get s.redo 0 ≡ None → flat_redo (document_of now version alternative d table shelf s) ≡ Ok None
+pub nothing_to_redo : (now : List ℕ) (version alternative : ℕ) (d : Decorations) (table : Table) (shelf : FlatShelf) (s : Stack Change)
+    → slice_get s.redo 0 ≡ None → flat_redo (document_of now version alternative d table shelf s) ≡ Ok None
 nothing_to_redo now version alternative d table shelf s none = rw (none_of s.redo none) refl

@@ -90,7 +90,8 @@ impl std::marker::Model for Model {
 
     ghost invariant = { λ m. (length m.text.units ≤ most_units) × (m.version ≤ greatest_version)
         × IsHistory m.text.units m.history.stack × AreIn (length m.text.units) m.decorations
-        × StaysWith m.last.tree m.last.marks m.table m.text.units × IsShelf m.text.buffers m.shelf };
+        × StaysWith m.last.tree m.last.marks m.table m.text.units
+        × IsShelf m.text.buffers m.shelf };
 }
 
 impl Model {
