@@ -10,3 +10,4 @@ pub mod TextLines
 pub mod DirtyEdits
 pub mod EditedMarks
 pub mod Staying
+pub mod Shelving

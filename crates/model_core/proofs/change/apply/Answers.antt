@@ -11,6 +11,7 @@ use Rattle.model_core.specs.LineMarks.{marked_backwards}
 use Rattle.model_core.proofs.Staying.{marked_turn}
 use Rattle.model_core.proofs.Turns.{turn}
 use Rattle.model_core.proofs.Carries.{carried_turn, carried_with-none}
+use Rattle.chunk_buffers.proofs.Spans.{Extends-refl, Extends-trans}
 use Rattle.model_core.proofs.change.apply.Goals as goal
 
 pub loop-done-init : goal.loop-done-init
@@ -29,6 +30,7 @@ loop-done-init c =
       spare = omega arith;
       parsed = refl;
       tree = refl;
+      grown = Extends-refl c.args.text.now.buffers;
     }
 
 pub accept-requires-clause-upright : goal.accept-requires-clause-upright
@@ -107,6 +109,7 @@ loop-done-preserved c =
       spare = omega (arith, c.loop-done.invariant.spare, c.mark.ensures.room);
       parsed = c.mark.ensures.parsed ∙ c.loop-done.invariant.parsed;
       tree = c.mark.ensures.tree ∙ c.loop-done.invariant.tree;
+      grown = Extends-trans c.args.text.now.buffers c.loop-done.text.buffers c.replace.new.self.buffers c.loop-done.invariant.grown c.replace.ensures.grown;
     }
 
 pub returns-clause-units : goal.returns-clause-units
