@@ -9,6 +9,7 @@ use Rattle.batch_rules.proofs.Standing.{accepted}
 use Rattle.batch_rules.proofs.Pairs.{IsPaired-applied, HasPairedText}
 use Rattle.batch_rules.proofs.Order.{All-sorted_ops}
 use Rattle.undo_rules.specs.Stack.{Stack, pushed}
+use Rattle.snapshot_rules.specs.Snapshots.{FlatShelf}
 use Rattle.document_rules.specs.Document.{flat_edit, greatest_version}
 use Rattle.model_core.specs.declared.change.Change.{Change}
 use Rattle.model_core.specs.History.{history_of, Leads, IsHistory}
@@ -29,8 +30,8 @@ module _ (x : List ℕ) (ops sorted back : List Op) (rule : checked_batch x ops 
   pub edited_history : (s : Stack Change) (alternative version : ℕ) → IsHistory x s → IsHistory (applied_from 0 x sorted) (pushed s (record { batch = sorted; inverse = back }) alternative version)
   edited_history s alternative version = IsHistory-pushed s (record { batch = sorted; inverse = back }) x (applied_from 0 x sorted) alternative version leads
 
-  pub edited_document : (s : Stack Change) (d : Decorations) (table : Table) (version alternative : ℕ) → version + 1 ≤ greatest_version
-      → flat_edit (record { units = x; version = version; alternative = alternative; decorations = d; table = table; history = history_of x s }) ops
+  pub edited_document : (s : Stack Change) (d : Decorations) (table : Table) (shelf : FlatShelf) (version alternative : ℕ) → version + 1 ≤ greatest_version
+      → flat_edit (record { units = x; version = version; alternative = alternative; decorations = d; table = table; history = history_of x s; shelf = shelf }) ops
       ≡ Ok (record {
         units = applied_from 0 x sorted;
         version = version + 1;
@@ -38,8 +39,9 @@ module _ (x : List ℕ) (ops sorted back : List Op) (rule : checked_batch x ops 
         decorations = carried_with true d sorted;
         table = table;
         history = history_of (applied_from 0 x sorted) (pushed s (record { batch = sorted; inverse = back }) alternative (version + 1));
+        shelf = shelf;
       })
-  edited_document s d table version alternative few =
+  edited_document s d table shelf version alternative few =
       let ok = accepted x ops sorted rule in
       let below : nat_le greatest_version version ≡ false = lt-leb greatest_version version (omega (arith, few)) in
       let history = history-pushed s (record { batch = sorted; inverse = back }) x (applied_from 0 x sorted) alternative (version + 1) leads in

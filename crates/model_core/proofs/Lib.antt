@@ -11,3 +11,4 @@ pub mod TreeLength
 pub mod DirtyEdits
 pub mod EditedMarks
 pub mod Staying
+pub mod Shelving

@@ -4,4 +4,5 @@ pub mod History
 pub mod Carrying
 pub mod LineMarks
 pub mod Staying
+pub mod Shelving
 mod Examples

@@ -5,6 +5,7 @@ ghost use Rattle.std.specs.List.{All};
 ghost use Rattle.batch_rules.specs.Batches.{most_units, applied_from, text_units, StandFrom};
 ghost use Rattle.model_core.specs.History.{text_back, text_on, changes_back, changes_on, LeadBack, LeadOn, ops_by, op_count, unit_count};
 ghost use Rattle.model_core.specs.State.{GrownBy};
+ghost use Rattle.chunk_buffers.specs.Chunks.{Extends};
 ghost use Rattle.text_rules.specs.Lines.{lines_of};
 ghost use Rattle.model_core.specs.LineMarks.{marked_backwards, marked_back, marked_on};
 ghost use Rattle.model_core.specs.Carrying.{edit_with, carried_with, decorations_back, decorations_on, AreIn};
@@ -71,6 +72,7 @@ pub(crate) fn apply(
     ensures lines { length last.new.marks ≡ length (lines_of text.new.units) }
     ensures spare { last.old.spare ≤ last.new.spare + length ops.now }
     ensures tree { last.new.tree ≡ last.old.tree }
+    ensures grown { Extends text.old.buffers text.new.buffers }
 {
     for done in 0..ops.len() {
         let op = &ops[ops.len() - 1 - done];
@@ -113,6 +115,7 @@ pub(crate) fn take_back(
     ensures marks { last.new.marks
         ≡ marked_back last.old.marks (changes_back text.old.units changes.now) }
     ensures tree { last.new.tree ≡ last.old.tree }
+    ensures grown { Extends text.old.buffers text.new.buffers }
 {
     for done in 0..changes.len() {
         let change = &changes[changes.len() - 1 - done];
@@ -142,6 +145,7 @@ pub(crate) fn make_again(
     ensures marks { last.new.marks
         ≡ marked_on last.old.marks (changes_on text.old.units changes.now) }
     ensures tree { last.new.tree ≡ last.old.tree }
+    ensures grown { Extends text.old.buffers text.new.buffers }
 {
     for change in changes {
         apply(text, decorations, last, change.batch.ops(), false);
@@ -163,6 +167,7 @@ pub(crate) fn reserve_for(
     ensures same { text.new.units ≡ text.old.units }
     ensures spans { text.new.spans ≡ text.old.spans }
     ensures tree { last.new.tree ≡ last.old.tree }
+    ensures grown { Extends text.old.buffers text.new.buffers }
     ensures marks { last.new.marks ≡ last.old.marks }
 {
     let mut edits: u64 = 0;

@@ -1,6 +1,6 @@
 //! The document and its calls.
 
-ghost use Rattle.std.specs.Prelude.{◌≡◌, ◌≤◌, ◌-◌, ◌∷◌, [], true, false, List, length, replicate, None, IfSome, OnOk, OnErr, Ok, Err};
+ghost use Rattle.std.specs.Prelude.{◌≡◌, ℕ, ◌≤◌, ◌-◌, ◌∷◌, [], true, false, List, length, replicate, None, IfSome, OnOk, OnErr, Ok, Err};
 ghost use Rattle.std.specs.List.{All};
 ghost use Rattle.text_buffer.specs.Costs.{WithinLookUps};
 ghost use Rattle.unit_text.specs.Units.{IsPaired};
@@ -17,7 +17,9 @@ ghost use Rattle.mark_rules.specs.Marks.{clean_marks};
 ghost use Rattle.model_core.specs.LineMarks.{marked_backwards, undone_marks, redone_marks};
 ghost use Rattle.model_core.specs.State.{LeftAfter, LeftAfterMove, KeptAfter, KeptAfterMove, GrownAfter, GrownAfterMove, next_op_count};
 ghost use Rattle.document_rules.specs.Document.{new_document, flat_open, flat_edit, flat_stop, flat_undo, flat_redo, flat_decorate, flat_deco, flat_decos, flat_line, flat_value, flat_position, flat_offset, flat_line_count};
-ghost use Rattle.model_core.specs.Errors.{error_of, refusal_of};
+ghost use Rattle.document_rules.specs.Snapshots.{flat_snapshot, flat_peek_of, flat_skipped, flat_close_of};
+ghost use Rattle.document_rules.specs.Stops.{flat_stops};
+ghost use Rattle.model_core.specs.Errors.{error_of, refusal_of, shelf_error_of};
 
 use crate::brackets::{parse_text, renew};
 use crate::change::{Change, Way, apply, make_again, reserve_for, take_back};
@@ -29,15 +31,17 @@ use decorations::{Deco, DecoError, DecoSet, NewDeco};
 use document_rules::ModelError;
 use edit_batches::{Batch, BatchError, MOST_TEXT_UNITS};
 use edit_stack::EditStack;
+use snapshots::{Shelf, ShelfError};
 use std::alloc::Global;
 use std::sync::ledger::Ledger;
 use steps::Steps;
+use stops::stops;
 use text_buffer::TextBuffer;
 use text_lengths::{Position, Span, raised};
 use text_rules::Op;
 use unit_text::Flat;
 
-/// A document: its text, which version of it that is, and what can be undone and redone.
+/// A document: its text, which version of it that is, what can be undone and redone, and texts of earlier moments.
 #[derive(Drop)]
 pub struct Model {
     alloc: Global,
@@ -48,6 +52,7 @@ pub struct Model {
     table: BracketTable,
     last: LastParse,
     history: EditStack<Change>,
+    shelf: Shelf,
 }
 
 impl std::marker::Model for Model {
@@ -60,6 +65,8 @@ impl std::marker::Model for Model {
     ghost use Rattle.model_core.specs.Staying.{StaysWith};
     ghost use Rattle.model_core.specs.History.{history_of, IsHistory};
     ghost use Rattle.model_core.specs.Carrying.{AreIn};
+    ghost use Rattle.snapshots.specs.Shown.{shown};
+    ghost use Rattle.model_core.specs.Shelving.{IsShelf};
 
     ghost Value = { ModelState };
 
@@ -73,6 +80,7 @@ impl std::marker::Model for Model {
         decorations = m.decorations;
         table = m.table;
         history = history_of m.text.units m.history.stack;
+        shelf = shown m.text.buffers m.shelf;
       };
       tree = m.last.tree;
       marks = m.last.marks;
@@ -82,7 +90,7 @@ impl std::marker::Model for Model {
 
     ghost invariant = { λ m. (length m.text.units ≤ most_units) × (m.version ≤ greatest_version)
         × IsHistory m.text.units m.history.stack × AreIn (length m.text.units) m.decorations
-        × StaysWith m.last.tree m.last.marks m.table m.text.units };
+        × StaysWith m.last.tree m.last.marks m.table m.text.units × IsShelf m.text.buffers m.shelf };
 }
 
 impl Model {
@@ -103,6 +111,7 @@ impl Model {
             table: BracketTable::standard(),
             last: LastParse::none(alloc),
             history: EditStack::new(alloc),
+            shelf: Shelf::new(alloc),
         }
     }
 
@@ -133,6 +142,7 @@ impl Model {
         self.table = table;
         self.last = last;
         self.history = EditStack::new(self.alloc);
+        self.shelf = Shelf::new(self.alloc);
         Ok(())
     }
 
@@ -314,6 +324,64 @@ impl Model {
             .map_err(|_| ModelError::Memory)
     }
 
+    /// Keeps the text of now, to be read from its front, and answers its id. No unit is copied, and edits leave what is
+    /// kept. `Limit` where 64 are open, or where the id would pass 2^63 - 1.
+    pub fn snapshot(&mut self) -> Result<u64, ModelError>
+        ensures document { ChangesWith self.old.document.shelf.next_id result
+            self.old.document self.new.document (flat_snapshot self.old.document) }
+        ensures paired_state { IsPairedState self.old.document → IsPairedState self.new.document }
+        ensures tree { self.new.tree ≡ self.old.tree }
+        ensures marks { self.new.marks ≡ self.old.marks }
+        ensures fresh { self.new.fresh ≡ self.old.fresh }
+        ensures pieces { self.new.pieces ≡ self.old.pieces }
+    {
+        let mut spans = Vec::new(self.alloc);
+        self.text
+            .spans(&mut spans)
+            .map_err(|_| ModelError::Memory)?;
+        self.shelf.take(spans.as_slice()).map_err(shelf_error_of)
+    }
+
+    /// Appends the first `count` units of what is left of the snapshot, or all where fewer are left; one fewer where the
+    /// last one would be a high surrogate with its low one behind it. They are left until `skip` passes them. `Unknown`
+    /// where no snapshot of this id is open; else `Range` where the count is below 2. After an error `out` is as it was.
+    pub fn peek(&self, id: u64, count: u64, out: &mut Vec<u16>) -> Result<(), ModelError>
+        ensures { Appends result out.old.items out.new.items
+            (flat_peek_of self.now.document id count) }
+    {
+        self.shelf
+            .peek(id, count, self.text.chunks(), out)
+            .map_err(shelf_error_of)
+    }
+
+    /// The first `n` units of what is left of the snapshot were read. Nothing changes where no snapshot of this id is
+    /// open. It takes no memory.
+    pub fn skip(&mut self, id: u64, n: u64)
+        ensures document { self.new.document ≡ flat_skipped self.old.document id n }
+        ensures paired_state { (count : ℕ) (units : List ℕ)
+            → flat_peek_of self.old.document id count ≡ Ok units → n ≡ length units
+            → IsPairedState self.old.document → IsPairedState self.new.document }
+        ensures tree { self.new.tree ≡ self.old.tree }
+        ensures marks { self.new.marks ≡ self.old.marks }
+        ensures fresh { self.new.fresh ≡ self.old.fresh }
+        ensures pieces { self.new.pieces ≡ self.old.pieces }
+    {
+        self.shelf.skip(id, n);
+    }
+
+    /// The snapshot is no longer open, and its id is not used again. `Unknown` where no snapshot of this id is open.
+    pub fn close(&mut self, id: u64) -> Result<(), ModelError>
+        ensures document { Changes result self.old.document self.new.document
+            (flat_close_of self.old.document id) }
+        ensures paired_state { IsPairedState self.old.document → IsPairedState self.new.document }
+        ensures tree { self.new.tree ≡ self.old.tree }
+        ensures marks { self.new.marks ≡ self.old.marks }
+        ensures fresh { self.new.fresh ≡ self.old.fresh }
+        ensures pieces { self.new.pieces ≡ self.old.pieces }
+    {
+        self.shelf.close(id).map_err(shelf_error_of)
+    }
+
     /// Whether the bracket tree of the text of now is kept.
     pub fn is_fresh(&self) -> bool
         ensures { result ≡ self.now.fresh }
@@ -440,6 +508,16 @@ impl Model {
         self.text.line(n, out).map_err(|_| ModelError::Memory)
     }
 
+    /// Appends the columns, counted from 1, at which a cursor may stop in the line of this number. `Range` where there is
+    /// no such line; after an error `out` is as it was.
+    pub fn stops(&self, n: u64, out: &mut Vec<u64>) -> Result<(), ModelError>
+        ensures { Appends result out.old.items out.new.items (flat_stops self.now.document n) }
+    {
+        let mut content = Vec::new(self.alloc);
+        self.line(n, &mut content)?;
+        stops(self.alloc, content.as_slice(), out).map_err(|_| ModelError::Memory)
+    }
+
     /// Appends the units of the span. `Range` where it is none of the text; after an error `out` is as it was.
     pub fn value(&self, span: Span, out: &mut Vec<u16>) -> Result<(), ModelError>
         ensures { Appends result out.old.items out.new.items (flat_value self.now.document span) }
@@ -500,5 +578,16 @@ fn refusal_of(error: DecoError) -> ModelError
         DecoError::Range => ModelError::Range,
         DecoError::Limit => ModelError::Limit,
         DecoError::Memory => ModelError::Memory,
+    }
+}
+
+fn shelf_error_of(error: ShelfError) -> ModelError
+    ensures { result ≡ shelf_error_of error }
+{
+    match error {
+        ShelfError::Unknown => ModelError::Unknown,
+        ShelfError::Range => ModelError::Range,
+        ShelfError::Limit => ModelError::Limit,
+        ShelfError::Memory => ModelError::Memory,
     }
 }

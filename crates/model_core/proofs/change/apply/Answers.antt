@@ -11,6 +11,7 @@ use Rattle.model_core.specs.LineMarks.{marked_backwards}
 use Rattle.model_core.proofs.Staying.{marked_turn}
 use Rattle.model_core.proofs.Turns.{turn}
 use Rattle.model_core.proofs.Carries.{carried_turn, carried_with-none}
+use Rattle.chunk_buffers.proofs.Spans.{Extends-refl, Extends-trans}
 use Rattle.model_core.proofs.change.apply.Goals as goal
 
 pub loop-done-init : goal.loop-done-init
@@ -28,6 +29,7 @@ loop-done-init c =
       lines = c.requires.lines;
       spare = omega arith;
       tree = refl;
+      grown = Extends-refl c.args.text.now.buffers;
     }
 
 pub accept-requires-clause-upright : goal.accept-requires-clause-upright
@@ -105,6 +107,7 @@ loop-done-preserved c =
       lines = c.mark.ensures.lines ∙ ap (λ u. length (lines_of u)) (sym left);
       spare = omega (arith, c.loop-done.invariant.spare, c.mark.ensures.room);
       tree = c.mark.ensures.tree ∙ c.loop-done.invariant.tree;
+      grown = Extends-trans c.args.text.now.buffers c.loop-done.text.buffers c.replace.new.self.buffers c.loop-done.invariant.grown c.replace.ensures.grown;
     }
 
 pub returns-clause-units : goal.returns-clause-units

@@ -3,6 +3,7 @@ use Rattle.batch_rules.specs.Batches.{text_units, edited_backwards}
 use Rattle.model_core.specs.State.{GrownBy}
 use Rattle.text_rules.specs.Lines.{lines_of}
 use Rattle.model_core.specs.LineMarks.{marked_backwards}
+use Rattle.chunk_buffers.specs.Chunks.{Extends}
 use Rattle.model_core.specs.Carrying.{carried_with, AreIn}
 use Rattle.model_core.proofs.change.apply.Given as goal
 
@@ -18,4 +19,5 @@ invariant-loop-done l = record {
   lines : length l.last.marks ≡ length (lines_of l.text.units);
   spare : l.fn.last.spare ≤ l.last.spare + l.done;
   tree : l.last.tree ≡ l.fn.last.tree;
+  grown : Extends l.fn.text.buffers l.text.buffers;
 }

@@ -7,6 +7,7 @@ use Rattle.model_core.proofs.Carries.{decorations_on-cut}
 use Rattle.model_core.specs.LineMarks.{marked_backwards, marked_on}
 use Rattle.model_core.proofs.Staying.{marked_turn_on}
 use Rattle.model_core.proofs.Turns.{turn_on_at, IsTurnOnAt}
+use Rattle.chunk_buffers.proofs.Spans.{Extends-trans}
 use Rattle.model_core.proofs.change.make_again.Goals as goal
 
 turn_now : (g : goal.After-ops) → IsTurnOnAt g.args.changes.now g.loop-change.change-index g.change-item.result g.loop-change.text.units
@@ -61,6 +62,7 @@ loop-change-preserved c =
       lines = c.apply.ensures.lines;
       spare = omega (arith, c.loop-change.invariant.spare, c.apply.ensures.spare, now.ops, ap length c.ops.ensures.ops);
       tree = c.apply.ensures.tree ∙ c.loop-change.invariant.tree;
+      grown = Extends-trans c.args.text.now.buffers c.loop-change.text.buffers c.apply.new.text.buffers c.loop-change.invariant.grown c.apply.ensures.grown;
     }
 
 pub returns-clause-units : goal.returns-clause-units

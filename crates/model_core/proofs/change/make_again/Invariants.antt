@@ -3,6 +3,7 @@ use Rattle.model_core.specs.declared.change.Way.TheVariants.{On}
 use Rattle.model_core.specs.History.{text_on, changes_on, LeadOn, op_count, unit_count}
 use Rattle.text_rules.specs.Lines.{lines_of}
 use Rattle.model_core.specs.LineMarks.{marked_on}
+use Rattle.chunk_buffers.specs.Chunks.{Extends}
 use Rattle.model_core.specs.Carrying.{decorations_on, AreIn}
 use Rattle.model_core.proofs.change.make_again.Given as goal
 
@@ -19,4 +20,5 @@ invariant-loop-change l = record {
   lines : length l.last.marks ≡ length (lines_of l.text.units);
   spare : op_count On (drop l.change-index l.changes) ≤ l.last.spare;
   tree : l.last.tree ≡ l.fn.last.tree;
+  grown : Extends l.fn.text.buffers l.text.buffers;
 }

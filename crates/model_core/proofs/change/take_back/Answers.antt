@@ -8,6 +8,7 @@ use Rattle.model_core.proofs.Carries.{decorations_back-cut}
 use Rattle.model_core.specs.LineMarks.{marked_backwards, marked_back}
 use Rattle.model_core.proofs.Staying.{marked_turn_back}
 use Rattle.model_core.proofs.Turns.{turn_back, IsTurnBack}
+use Rattle.chunk_buffers.proofs.Spans.{Extends-refl, Extends-trans}
 use Rattle.model_core.proofs.change.take_back.Goals as goal
 
 pub loop-done-init : goal.loop-done-init
@@ -25,6 +26,7 @@ loop-done-init c =
       lines = c.requires.lines;
       spare = omega arith;
       tree = refl;
+      grown = Extends-refl c.args.text.now.buffers;
     }
 
 turn_now : (g : goal.After-ops) → IsTurnBack g.args.text.now.units g.args.changes.now g.loop-done.done g.index-changes-changes.result g.loop-done.text.units
@@ -78,6 +80,7 @@ loop-done-preserved c =
       lines = c.apply.ensures.lines;
       spare = omega (arith, c.loop-done.invariant.spare, c.apply.ensures.spare, now.ops, ap length c.ops.ensures.ops);
       tree = c.apply.ensures.tree ∙ c.loop-done.invariant.tree;
+      grown = Extends-trans c.args.text.now.buffers c.loop-done.text.buffers c.apply.new.text.buffers c.loop-done.invariant.grown c.apply.ensures.grown;
     }
 
 pub returns-clause-units : goal.returns-clause-units

@@ -4,6 +4,7 @@ use Rattle.model_core.specs.History.{text_back, changes_back, op_count, unit_cou
 use Rattle.model_core.specs.State.{GrownBy}
 use Rattle.text_rules.specs.Lines.{lines_of}
 use Rattle.model_core.specs.LineMarks.{marked_back}
+use Rattle.chunk_buffers.specs.Chunks.{Extends}
 use Rattle.model_core.specs.Carrying.{decorations_back, AreIn}
 use Rattle.model_core.proofs.change.take_back.Given as goal
 
@@ -19,4 +20,5 @@ invariant-loop-done l = record {
   lines : length l.last.marks ≡ length (lines_of l.text.units);
   spare : l.fn.last.spare ≤ l.last.spare + op_count Back (drop (length l.changes - l.done) l.changes);
   tree : l.last.tree ≡ l.fn.last.tree;
+  grown : Extends l.fn.text.buffers l.text.buffers;
 }

@@ -54,6 +54,7 @@ invariant_of-self c =
       c.self.invariant.3,
       stays_as _ c.put.new.self.tree _ c.put.new.self.marks m.table _ x c.put.ensures.tree c.put.ensures.marks refl
           (stays_parsed t m.last.marks m.table x c.self.invariant.4.count table c.put.ensures.rules tells light),
+      c.self.invariant.5,
     )
 
 pub returns-in_ok-map_err-in-None-clause-small : goal.returns-in_ok-map_err-in-None-clause-small

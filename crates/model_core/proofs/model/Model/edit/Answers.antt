@@ -12,8 +12,19 @@ use Rattle.model_core.specs.Carrying.{carried_with}
 use Rattle.model_core.proofs.Editing.{edited_history, edited_document, edited_paired}
 use Rattle.model_core.specs.LineMarks.{marked_backwards}
 use Rattle.model_core.proofs.Staying.{stays_as, stays_applied, marked_ops, kept_as}
+use Rattle.chunk_buffers.specs.Chunks.{Extends}
+use Rattle.chunk_buffers.proofs.Spans.{Extends-trans}
+use Rattle.snapshots.specs.Shown as shelves
+use Rattle.model_core.proofs.Shelving.{shown-grown, IsShelf-grown}
 use Rattle.model_core.proofs.model.Model.edit.Goals as goal
 use Rattle.model_core.proofs.model.Model.edit.Goals.{After-apply}
+
+grown_after : (c : After-apply) → Extends c.self.inside.text.buffers c.apply.new.text.buffers
+grown_after c =
+    Extends-trans c.self.inside.text.buffers c.reserve-2.new.self.buffers c.apply.new.text.buffers c.reserve-2.ensures.grown c.apply.ensures.grown
+
+shelf_after : (c : After-apply) → shelves.shown c.apply.new.text.buffers c.self.inside.shelf ≡ shelves.shown c.self.inside.text.buffers c.self.inside.shelf
+shelf_after c = shown-grown c.self.inside.text.buffers c.apply.new.text.buffers c.self.inside.shelf (grown_after c) c.self.invariant.5
 
 tree_after : (c : After-apply) → c.apply.new.last.tree ≡ c.self.inside.last.tree
 tree_after c = c.apply.ensures.tree ∙ c.reserve-3.ensures.tree
@@ -56,6 +67,7 @@ invariant_of-self-2 c =
       stays_as c.self.inside.last.tree c.apply.new.last.tree (marked_backwards x sorted c.self.inside.last.marks) c.apply.new.last.marks c.self.inside.table
           (applied_from 0 x sorted) c.apply.new.text.units (tree_after (goal.at.invariant_of-self-2 c).After-apply) (marks_after (goal.at.invariant_of-self-2 c).After-apply) text
           (stays_applied c.self.inside.last.tree c.self.inside.last.marks c.self.inside.table x sorted ok.standing c.self.invariant.4),
+      IsShelf-grown c.self.inside.text.buffers c.apply.new.text.buffers c.self.inside.shelf (grown_after (goal.at.invariant_of-self-2 c).After-apply) c.self.invariant.5,
     )
 
 pub returns-clause-document : goal.returns-clause-document
@@ -68,9 +80,9 @@ returns-clause-document c =
     let stack : c.push.new.self.stack ≡ pushed c.self.inside.history.stack (record { batch = sorted; inverse = c.in_ok-inverse.inverse }) c.self.inside.alternative c.in_ok-version.version = grind (arith, common_steps) in
     let next : c.in_ok-version.version ≡ c.self.inside.version + 1 = grind (arith, common_steps) in
     let few : c.self.inside.version + 1 ≤ greatest_version = grind (arith, common_steps) in
-    let flat = edited_document x c.args.ops.now sorted c.in_ok-inverse.inverse rule c.self.invariant.0 inverse c.self.inside.history.stack c.self.inside.decorations c.self.inside.table c.self.inside.version c.self.inside.alternative few in
+    let flat = edited_document x c.args.ops.now sorted c.in_ok-inverse.inverse rule c.self.invariant.0 inverse c.self.inside.history.stack c.self.inside.decorations c.self.inside.table (shelves.shown c.self.inside.text.buffers c.self.inside.shelf) c.self.inside.version c.self.inside.alternative few in
     let decorations : c.apply.new.decorations ≡ carried_with true c.self.inside.decorations sorted = c.apply.ensures.decorations ∙ ap (carried_with true c.self.inside.decorations) c.ops-2.ensures.ops in
-    rw (text, decorations, stack, next) (sym (ap (λ (m : ModelState). flat_edit m.document c.args.ops.now) c.self.view_is) ∙ flat)
+    rw (text, decorations, stack, next, shelf_after (goal.at.returns-clause-document c).After-apply) (sym (ap (λ (m : ModelState). flat_edit m.document c.args.ops.now) c.self.view_is) ∙ flat)
 
 pub returns-clause-pieces : goal.returns-clause-pieces
 returns-clause-pieces c =

@@ -10,10 +10,12 @@ use Rattle.decoration_rules.specs.declared.Mark.{Mark}
 use Rattle.decoration_rules.specs.Decorations.{Decorations}
 use Rattle.decoration_rules.specs.Moves.{IsSpanIn, LieIn}
 use Rattle.undo_rules.specs.Stack.{Stack}
-use Rattle.document_rules.specs.Paired.{ArePairedSteps}
-use Rattle.document_rules.proofs.PairedStates.{no_steps}
+use Rattle.document_rules.specs.Paired.{ArePairedSteps, IsPairedShelf}
+use Rattle.document_rules.proofs.PairedStates.{no_steps, no_snapshots}
 use Rattle.model_core.specs.declared.change.Change.{Change}
 use Rattle.model_core.specs.History.{IsHistory, undo_steps, redo_steps}
+use Rattle.snapshots.specs.Shown.{Shown, shown}
+use Rattle.model_core.proofs.Shelving.{IsShelf-none}
 use Rattle.model_core.proofs.model.Model.open_doc.Goals as goal
 
 pub invariant_of-self : goal.invariant_of-self
@@ -31,6 +33,7 @@ invariant_of-self c =
       },
       stays_as None c.in-Ok.last.tree (replicate lines New) c.in-Ok.last.marks c.args.table c.args.text.now c.in-Ok.text.units c.in-Ok.ensures.tree c.in-Ok.ensures.marks units
           (stays_unparsed c.args.table c.args.text.now lines refl),
+      IsShelf-none c.in-Ok.text.buffers c.new-3.result c.new-3.ensures,
     )
 
 pub returns-clause-paired_state : goal.returns-clause-paired_state
@@ -42,4 +45,5 @@ returns-clause-paired_state c =
       units = rw units paired;
       undo = subst (λ (s : Stack Change). ArePairedSteps (undo_steps x s.undo)) (sym c.new-2.ensures) no_steps;
       redo = subst (λ (s : Stack Change). ArePairedSteps (redo_steps x s.redo)) (sym c.new-2.ensures) no_steps;
+      shelf = subst (λ (s : Shown). IsPairedShelf (shown c.in-Ok.text.buffers s)) (sym c.new-3.ensures) no_snapshots;
     }
