@@ -349,9 +349,8 @@ impl Model {
         ensures { Appends result out.old.items out.new.items
             (flat_peek_of self.now.document id count) }
     {
-        self.shelf
-            .peek(id, count, self.text.chunks(), out)
-            .map_err(shelf_error_of)
+        let chunks = self.text.chunks();
+        self.shelf.peek(id, count, chunks, out).map_err(shelf_error_of)
     }
 
     /// The first `n` units of what is left of the snapshot were read. Nothing changes where no snapshot of this id is

@@ -1,11 +1,13 @@
-use Rattle.std.proofs.Common.{◌≡◌, ◌+◌, ◌*◌, ◌≤◌, length, is_some, true, ap, sym, subst, ◌∙◌, Ok, arith}
+use Rattle.std.proofs.Common.{◌≡◌, ◌+◌, ◌*◌, ◌≤◌, length, is_some, true, ap, sym, subst, ◌∙◌, Ok, Err, arith}
 use Rattle.std.proofs.lemmas.Grind.{common_steps}
 use Rattle.unit_text.specs.Units.{IsPaired}
 use Rattle.batch_rules.specs.Batches.{checked_batch, sorted_ops, applied_from, inverse_from, text_units}
 use Rattle.batch_rules.proofs.Order.{length-sorted_ops}
 use Rattle.batch_rules.proofs.Standing.{accepted, text_units_applied}
 use Rattle.undo_rules.specs.Stack.{pushed}
+use Rattle.document_rules.specs.declared.ModelError.TheVariants.{Memory}
 use Rattle.document_rules.specs.Document.{greatest_version, flat_edit}
+use Rattle.document_rules.specs.Paired.{IsPairedState}
 use Rattle.document_rules.proofs.PairedStates.{IsPairedState-edit}
 use Rattle.model_core.specs.State.{ModelState, fresh_tree}
 use Rattle.model_core.specs.Carrying.{carried_with}
@@ -42,6 +44,65 @@ text_units-requires c =
     let rule : checked_batch x c.args.ops.now ≡ Ok c.in_ok-batch.batch = grind (arith, common_steps) in
     let ok = accepted x c.args.ops.now c.in_ok-batch.batch rule in
     omega (arith, text_units_applied 0 x c.in_ok-batch.batch ok.standing, ok.fits)
+
+pub invariant_of-self-in_err-map_err-2 : goal.invariant_of-self-in_err-map_err-2
+invariant_of-self-in_err-map_err-2 c =
+    let m = c.self.inside in
+    let text = c.reserve-2.ensures.same in
+    let stack : c.reserve.new.self.stack ≡ m.history.stack = grind (arith, common_steps) in (
+      rw text c.self.invariant.0,
+      c.self.invariant.1,
+      rw (text, stack) c.self.invariant.2,
+      rw text c.self.invariant.3,
+      rw c.reserve-2.ensures.same c.self.invariant.4,
+      IsShelf-grown m.text.buffers c.reserve-2.new.self.buffers m.shelf c.reserve-2.ensures.grown c.self.invariant.5,
+    )
+
+pub returns-in_err-map_err-2-clause-document : goal.returns-in_err-map_err-2-clause-document
+returns-in_err-map_err-2-clause-document c =
+    let m = c.self.inside in
+    let stack : c.reserve.new.self.stack ≡ m.history.stack = grind (arith, common_steps) in
+    let shelf = shown-grown m.text.buffers c.reserve-2.new.self.buffers m.shelf c.reserve-2.ensures.grown c.self.invariant.5 in
+    let told : c.from_residual-in_err-map_err-2.result ≡ Err Memory = grind (arith, common_steps) in
+    rw told (rw (c.reserve-2.ensures.same, stack, shelf) (ap (λ (s : ModelState). s.document) c.self.view_is), tt)
+
+pub returns-in_err-map_err-2-clause-paired_state : goal.returns-in_err-map_err-2-clause-paired_state
+returns-in_err-map_err-2-clause-paired_state c =
+    λ texts paired.
+    let m = c.self.inside in
+    let stack : c.reserve.new.self.stack ≡ m.history.stack = grind (arith, common_steps) in
+    let shelf = shown-grown m.text.buffers c.reserve-2.new.self.buffers m.shelf c.reserve-2.ensures.grown c.self.invariant.5 in
+    rw (c.reserve-2.ensures.same, stack, shelf) (subst (λ (s : ModelState). IsPairedState s.document) (sym c.self.view_is) paired)
+
+pub invariant_of-self-in_err-map_err-3 : goal.invariant_of-self-in_err-map_err-3
+invariant_of-self-in_err-map_err-3 c =
+    let m = c.self.inside in
+    let text = c.reserve-2.ensures.same in
+    let stack : c.reserve.new.self.stack ≡ m.history.stack = grind (arith, common_steps) in (
+      rw text c.self.invariant.0,
+      c.self.invariant.1,
+      rw (text, stack) c.self.invariant.2,
+      rw text c.self.invariant.3,
+      stays_as m.last.tree c.reserve-3.new.self.tree m.last.marks c.reserve-3.new.self.marks m.table m.text.units c.reserve-2.new.self.units
+          c.reserve-3.ensures.tree c.reserve-3.ensures.marks text c.self.invariant.4,
+      IsShelf-grown m.text.buffers c.reserve-2.new.self.buffers m.shelf c.reserve-2.ensures.grown c.self.invariant.5,
+    )
+
+pub returns-in_err-map_err-3-clause-document : goal.returns-in_err-map_err-3-clause-document
+returns-in_err-map_err-3-clause-document c =
+    let m = c.self.inside in
+    let stack : c.reserve.new.self.stack ≡ m.history.stack = grind (arith, common_steps) in
+    let shelf = shown-grown m.text.buffers c.reserve-2.new.self.buffers m.shelf c.reserve-2.ensures.grown c.self.invariant.5 in
+    let told : c.from_residual-in_err-map_err-3.result ≡ Err Memory = grind (arith, common_steps) in
+    rw told (rw (c.reserve-2.ensures.same, stack, shelf) (ap (λ (s : ModelState). s.document) c.self.view_is), tt)
+
+pub returns-in_err-map_err-3-clause-paired_state : goal.returns-in_err-map_err-3-clause-paired_state
+returns-in_err-map_err-3-clause-paired_state c =
+    λ texts paired.
+    let m = c.self.inside in
+    let stack : c.reserve.new.self.stack ≡ m.history.stack = grind (arith, common_steps) in
+    let shelf = shown-grown m.text.buffers c.reserve-2.new.self.buffers m.shelf c.reserve-2.ensures.grown c.self.invariant.5 in
+    rw (c.reserve-2.ensures.same, stack, shelf) (subst (λ (s : ModelState). IsPairedState s.document) (sym c.self.view_is) paired)
 
 pub apply-requires-clause-small : goal.apply-requires-clause-small
 apply-requires-clause-small c =

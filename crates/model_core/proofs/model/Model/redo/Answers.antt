@@ -1,8 +1,10 @@
-use Rattle.std.proofs.Common.{◌≡◌, refl, true, ◌+◌, ◌<◌, ◌≤◌, length, is_some, slice_get, Some, None, Ok, Err, ap, sym, ◌∙◌, arith}
+use Rattle.std.proofs.Common.{◌≡◌, refl, true, ◌+◌, ◌<◌, ◌≤◌, length, is_some, slice_get, Some, None, Ok, Err, ap, sym, subst, ◌∙◌, arith}
 use Rattle.std.proofs.lemmas.Grind.{common_steps}
 use Rattle.undo_rules.specs.Stack.{redone}
 use Rattle.edit_stack.specs.Element.{step_of}
+use Rattle.document_rules.specs.declared.ModelError.TheVariants.{Memory}
 use Rattle.document_rules.specs.Refusals.{limit}
+use Rattle.document_rules.specs.Paired.{IsPairedState}
 use Rattle.document_rules.specs.Document.{greatest_version, flat_redo}
 use Rattle.document_rules.proofs.PairedStates.{IsPairedState-redo}
 use Rattle.model_core.specs.State.{ModelState, next_op_count, fresh_tree}
@@ -51,6 +53,33 @@ returns-in_err-version c =
     let last : greatest_version < m.version + 1 = grind (arith, common_steps) in
     let refused : flat_redo c.args.self.now.document ≡ Err limit = sym (ap (λ (s : ModelState). flat_redo s.document) c.self.view_is) ∙ step.refused last in
     grind (arith, common_steps)
+
+pub invariant_of-self : goal.invariant_of-self
+invariant_of-self c =
+    let m = c.self.inside in
+    let text = c.reserve_for.ensures.same in (
+      rw text c.self.invariant.0,
+      c.self.invariant.1,
+      rw text c.self.invariant.2,
+      rw text c.self.invariant.3,
+      stays_as m.last.tree c.reserve_for.new.last.tree m.last.marks c.reserve_for.new.last.marks m.table m.text.units c.reserve_for.new.text.units
+          c.reserve_for.ensures.tree c.reserve_for.ensures.marks text c.self.invariant.4,
+      IsShelf-grown m.text.buffers c.reserve_for.new.text.buffers m.shelf c.reserve_for.ensures.grown c.self.invariant.5,
+    )
+
+pub returns-in_err-map_err-clause-document : goal.returns-in_err-map_err-clause-document
+returns-in_err-map_err-clause-document c =
+    let m = c.self.inside in
+    let shelf = shown-grown m.text.buffers c.reserve_for.new.text.buffers m.shelf c.reserve_for.ensures.grown c.self.invariant.5 in
+    let told : c.from_residual-in_err-map_err.result ≡ Err Memory = grind (arith, common_steps) in
+    rw told (rw (c.reserve_for.ensures.same, shelf) (ap (λ (s : ModelState). s.document) c.self.view_is), tt)
+
+pub returns-in_err-map_err-clause-paired_state : goal.returns-in_err-map_err-clause-paired_state
+returns-in_err-map_err-clause-paired_state c =
+    λ paired.
+    let m = c.self.inside in
+    let shelf = shown-grown m.text.buffers c.reserve_for.new.text.buffers m.shelf c.reserve_for.ensures.grown c.self.invariant.5 in
+    rw (c.reserve_for.ensures.same, shelf) (subst (λ (s : ModelState). IsPairedState s.document) (sym c.self.view_is) paired)
 
 pub reserve_for-requires : goal.reserve_for-requires
 reserve_for-requires c =
