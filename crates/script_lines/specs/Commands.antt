@@ -12,7 +12,7 @@ use Rattle.script_lines.specs.Fields.{has_only, whole_number, number_at, optiona
 use Rattle.script_lines.specs.Decorations.{new_deco_in}
 use Rattle.script_lines.specs.Brackets.{optional_table_at}
 use Rattle.script_lines.specs.declared.command.Command.{Command}
-use Rattle.script_lines.specs.declared.command.Command.TheVariants.{Open, Edit, Decorate, Undo, Redo, Stop, Size, Version, Line, Value, Offset, Position, Deco, Decos, Brackets, Match, Level}
+use Rattle.script_lines.specs.declared.command.Command.TheVariants.{Open, Edit, Decorate, Undo, Redo, Stop, Size, Version, Line, Value, Offset, Position, Deco, Decos, Brackets, Match, Level, Snapshot, Read, Close, Stops}
 
 -- the command of two fields, where both are read
 abbrev pub both : {A B : Type 0} → (A → B → Command) → Option A → Option B → Option Command
@@ -105,6 +105,19 @@ match_in d = if has_only (codes "cmd" ∷ codes "line" ∷ codes "col" ∷ []) d
 abbrev pub level_in : Data → Option Command
 level_in d = if has_only (codes "cmd" ∷ codes "line" ∷ codes "col" ∷ []) d then option_map Level (position_in d) else None
 
+-- `{"cmd":"read","id":NUMBER,"count":NUMBER}`
+abbrev pub read_in : Data → Option Command
+read_in d = if has_only (codes "cmd" ∷ codes "id" ∷ codes "count" ∷ []) d
+    then both Read (number_at (codes "id") d) (number_at (codes "count") d) else None
+
+-- `{"cmd":"close","id":NUMBER}`
+abbrev pub close_in : Data → Option Command
+close_in d = if has_only (codes "cmd" ∷ codes "id" ∷ []) d then option_map Close (number_at (codes "id") d) else None
+
+-- `{"cmd":"stops","n":NUMBER}`
+abbrev pub stops_in : Data → Option Command
+stops_in d = if has_only (codes "cmd" ∷ codes "n" ∷ []) d then option_map Stops (number_at (codes "n") d) else None
+
 -- the name of a command, and what reads its fields
 pub record Row : Type 0 where
   pub name : List ℕ
@@ -133,6 +146,10 @@ commands =
     ∷ row (codes "brackets") brackets_in
     ∷ row (codes "match") match_in
     ∷ row (codes "level") level_in
+    ∷ row (codes "snapshot") (bare_in Snapshot)
+    ∷ row (codes "read") read_in
+    ∷ row (codes "close") close_in
+    ∷ row (codes "stops") stops_in
     ∷ []
 
 -- what the row of this name reads; nothing where there is none

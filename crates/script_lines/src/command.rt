@@ -5,7 +5,7 @@ ghost use Rattle.std.specs.Str.{is_utf8};
 ghost use Rattle.serde_json.specs.Read.{read};
 ghost use Rattle.serde_json.specs.View.{view, items_view};
 ghost use Rattle.script_lines.specs.Reading.{Reads};
-ghost use Rattle.script_lines.specs.Commands.{open_in, place_in, op_of, op_in, some_ops_in, edit_in, decorate_in, bare_in, line_in, value_in, offset_in, position_command_in, deco_in, decos_in, brackets_in, match_in, level_in, commands, read_by, command_in, command_of};
+ghost use Rattle.script_lines.specs.Commands.{open_in, place_in, op_of, op_in, some_ops_in, edit_in, decorate_in, bare_in, line_in, value_in, offset_in, position_command_in, deco_in, decos_in, brackets_in, match_in, level_in, read_in, close_in, stops_in, commands, read_by, command_in, command_of};
 
 use crate::bracket::optional_table_at;
 use crate::fields::{
@@ -88,6 +88,21 @@ pub enum Command {
     /// Asks how many brackets are open at the position.
     Level {
         p: Position,
+    },
+    /// Takes a snapshot of the text.
+    Snapshot,
+    /// Asks for the next units of the snapshot, at most `count` of them.
+    Read {
+        id: u64,
+        count: u64,
+    },
+    /// Gives up the snapshot.
+    Close {
+        id: u64,
+    },
+    /// Asks for the columns of the line of this number, counted from 1, at which a cursor may stop.
+    Stops {
+        n: u64,
     },
 }
 
@@ -188,6 +203,24 @@ fn other_query_named(name: &str, value: &Value) -> Result<Command, LineFault>
     }
     if name == "level" {
         return level_in(value);
+    }
+    snapshot_command_named(name, value)
+}
+
+fn snapshot_command_named(name: &str, value: &Value) -> Result<Command, LineFault>
+    ensures { Reads result (read_by (drop 17 commands) name.now (view value.now)) }
+{
+    if name == "snapshot" {
+        return bare_in(value, Command::Snapshot);
+    }
+    if name == "read" {
+        return read_in(value);
+    }
+    if name == "close" {
+        return close_in(value);
+    }
+    if name == "stops" {
+        return stops_in(value);
     }
     Err(LineFault::Syntax)
 }
@@ -346,4 +379,29 @@ fn level_in(value: &Value) -> Result<Command, LineFault>
     expect_only(value, &["cmd", "line", "col"])?;
     let p = position_in(value)?;
     Ok(Command::Level { p })
+}
+
+fn read_in(value: &Value) -> Result<Command, LineFault>
+    ensures { Reads result (read_in (view value.now)) }
+{
+    expect_only(value, &["cmd", "id", "count"])?;
+    let id = number_at(value, "id")?;
+    let count = number_at(value, "count")?;
+    Ok(Command::Read { id, count })
+}
+
+fn close_in(value: &Value) -> Result<Command, LineFault>
+    ensures { Reads result (close_in (view value.now)) }
+{
+    expect_only(value, &["cmd", "id"])?;
+    let id = number_at(value, "id")?;
+    Ok(Command::Close { id })
+}
+
+fn stops_in(value: &Value) -> Result<Command, LineFault>
+    ensures { Reads result (stops_in (view value.now)) }
+{
+    expect_only(value, &["cmd", "n"])?;
+    let n = number_at(value, "n")?;
+    Ok(Command::Stops { n })
 }

@@ -10,6 +10,7 @@ mod outcome;
 mod reply;
 mod running;
 mod serving;
+mod snapshot_replies;
 
 pub use running::run_words;
 pub use serving::{Served, serve};

@@ -16,6 +16,7 @@ use crate::line::PartialLine;
 use crate::look_up::{offset_at, position_at};
 use crate::ops::ops_at;
 use crate::outcome::{Refused, Reply};
+use crate::snapshot_replies::{close_reply, read_reply, snapshot_reply, stops_reply};
 use model_core::{BracketTable, Model};
 use script_lines::{Command, LineOps, Refusal, Short, command_of, long_begin, long_end, long_text};
 use std::alloc::{AllocError, Global};
@@ -81,6 +82,10 @@ fn carry_out(alloc: Global, model: &mut Model, command: Command) -> Result<Reply
         Command::Brackets { from, to } => brackets_reply(alloc, model, from, to),
         Command::Match { p } => match_reply(model, p),
         Command::Level { p } => level_reply(model, p),
+        Command::Snapshot => snapshot_reply(model),
+        Command::Read { id, count } => read_reply(alloc, model, id, count),
+        Command::Close { id } => close_reply(model, id),
+        Command::Stops { n } => stops_reply(alloc, model, n),
     }
 }
 
@@ -191,7 +196,7 @@ fn position_reply(model: &Model, offset: u64) -> Result<Reply, Refused>
     Ok(Reply::Short(Short::ok(&[p.line, p.column])))
 }
 
-fn text_reply(alloc: Global, units: &[u16]) -> Result<Vec<u8>, AllocError>
+pub(crate) fn text_reply(alloc: Global, units: &[u16]) -> Result<Vec<u8>, AllocError>
     ensures { IfOk result (λ reply. reply.items ≡ text_reply units.now) }
 {
     let mut reply = Vec::with_capacity(alloc, units.len() + 6)?;

@@ -2,12 +2,14 @@
 
 mod batches;
 mod decorated;
+mod kept;
 mod nested;
 mod texts;
 
 use crate::runs::{ALL, expect_run};
 use batches::BATCHES;
 use decorated::{DECORATED, EACH_MODE, FOUR_MODES};
+use kept::KEPT;
 use nested::NESTED;
 use std::alloc::{AllocError, Global};
 use std::process::Abort;
@@ -16,12 +18,13 @@ use texts::TEXTS;
 
 /// The rows with which each script of a table begins, and the table. A blank line stands between two transcripts: a
 /// name, and a row for each line of the script, which has the reply behind `=>`.
-const TABLES: [(&str, &str); 5] = [
+const TABLES: [(&str, &str); 6] = [
     ("", TEXTS),
     ("", BATCHES),
     (FOUR_MODES, EACH_MODE),
     ("", DECORATED),
     ("", NESTED),
+    ("", KEPT),
 ];
 
 #[test]
