@@ -4,24 +4,24 @@ ghost use Rattle.std.specs.Prelude.{◌≡◌, []};
 
 use node_reuse::Lines;
 use std::alloc::AllocError;
-use text_buffer::TextBuffer;
+use text_buffer::{LineReader, TextBuffer};
 use trails::Trail;
 
 /// The lines of a text, and the numbers of those that were asked for, which only proofs read.
 #[derive(Drop)]
 pub(crate) struct TextLines<'t> {
-    text: &'t TextBuffer,
+    lines: LineReader<'t>,
     asked: Trail,
 }
 
 impl<'t> TextLines<'t> {
     /// The lines of the text, of which none was asked for.
     pub(crate) fn new(text: &'t TextBuffer) -> TextLines<'t>
-        ensures text { result.text.now ≡ text.now }
+        ensures units { result.lines ≡ text.now.units }
         ensures asked { result.asked.numbers ≡ [] }
     {
         TextLines {
-            text,
+            lines: text.lines(),
             asked: Trail::new(),
         }
     }
@@ -31,12 +31,12 @@ impl Lines for TextLines<'_> {
     ghost use Rattle.document_rules.specs.Brackets.{line_contents};
 
     ghost state = { λ lines. record {
-      contents = line_contents lines.text.now.units;
+      contents = line_contents lines.lines;
       asked = lines.asked.numbers;
     } };
 
     fn line(&mut self, n: u64, out: &mut Vec<u16>) -> Result<(), AllocError> {
-        self.text.line(n, out)?;
+        self.lines.line(n, out)?;
         self.asked = self.asked.and(&n);
         Ok(())
     }

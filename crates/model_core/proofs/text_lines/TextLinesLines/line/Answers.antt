@@ -6,7 +6,7 @@ use Rattle.model_core.proofs.text_lines.TextLinesLines.line.Goals as goal
 
 pub returns-clause-content : goal.returns-clause-content
 returns-clause-content c =
-    let x = c.args.self.now.text.now.units in
+    let x = c.args.self.now.lines in
     let n = c.args.n in
     let there : n ≤ length (lines_of x) = omega (arith, c.requires.there, length-map (lines_of x) (λ (line : Line). line.content)) in
     c.in_ok-line.ensures.ok (the_line x n c.requires.first there) (line_is x n c.requires.first there)
