@@ -23,6 +23,7 @@ use Rattle.model_core.proofs.model.Model.edit.Goals.{After-apply}
 
 parsed_after : (c : After-apply) → c.apply.new.last.parsed ≡ c.self.inside.last.parsed
 parsed_after c = c.apply.ensures.parsed ∙ c.reserve-3.ensures.parsed
+
 grown_after : (c : After-apply) → Extends c.self.inside.text.buffers c.apply.new.text.buffers
 grown_after c =
     Extends-trans c.self.inside.text.buffers c.reserve-2.new.self.buffers c.apply.new.text.buffers c.reserve-2.ensures.grown c.apply.ensures.grown
