@@ -12,8 +12,6 @@ mod first_body;
 #[cfg(test)]
 mod library;
 #[cfg(test)]
-mod reparse;
-#[cfg(test)]
 mod runs;
 #[cfg(test)]
 mod transcripts;
