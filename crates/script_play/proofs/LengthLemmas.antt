@@ -15,10 +15,10 @@ use Rattle.script_play.specs.Script.{edit_line, decorate_line, chosen_line, next
 
 length-parts : (a b c d e : List ℕ) → length (a ++ b ++ c ++ d ++ e) ≡ length a + (length b + (length c + (length d + length e)))
 length-parts a b c d e =
-    omega (arith, length-append a (b ++ c ++ d ++ e), length-append b (c ++ d ++ e), length-append c (d ++ e), length-append d e)
+    omega (arith, length-append (a ++ b ++ c ++ d) e, length-append (a ++ b ++ c) d, length-append (a ++ b) c, length-append a b)
 
 length-three : (a b c : List ℕ) → length (a ++ b ++ c) ≡ length a + (length b + length c)
-length-three a b c = omega (arith, length-append a (b ++ c), length-append b c)
+length-three a b c = omega (arith, length-append (a ++ b) c, length-append a b)
 
 short_number : (n : ℕ) → n < 2 ^ 33 → length (decimal n) ≤ 20
 short_number n small = length-decimal-le 20 n (omega arith) (omega arith) (omega arith)
@@ -108,7 +108,7 @@ few_chosen choice old =
     (few_choice (choice == 13) _ _ tt (few_choice (choice == 14) _ _ (few_offset old) tt)))))))
 
 few_next : (old : Play) → HasFewDigits (next_line old).0
-few_next old = few_choice old.pending _ _ tt (few_chosen _ _)
+few_next old = few_choice old.pending _ _ tt (few_chosen (drawn (next old.x) 16) (record old { x = next old.x }))
 
 -- ---- the script
 

@@ -98,7 +98,7 @@ fn show<K: Sink>(summary: &Summary, out: &mut K) -> Status
 }
 
 /// `commands C refused R units U lines L bytes B sum S` and LF.
-fn line_of(summary: &Summary) -> ArrayVec<u8, 160>
+fn line_of(summary: &Summary) -> ArrayVec<u8, 192>
     ensures { result.items ≡ line_of summary.now }
 {
     let mut line = ArrayVec::new();
@@ -113,8 +113,8 @@ fn line_of(summary: &Summary) -> ArrayVec<u8, 160>
 }
 
 /// Puts a word and its number behind what is there.
-fn push_part(line: &mut ArrayVec<u8, 160>, word: &[u8], number: u64)
-    requires { array_vec_len line.old + length word.now + 20 ≤ 160 }
+fn push_part(line: &mut ArrayVec<u8, 192>, word: &[u8], number: u64)
+    requires { array_vec_len line.old + length word.now + 20 ≤ 192 }
     ensures bytes { line.new.items ≡ line.old.items ++ part word.now number }
     ensures most { array_vec_len line.new ≤ array_vec_len line.old + length word.now + 20 }
 {
