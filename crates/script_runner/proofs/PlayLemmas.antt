@@ -1,5 +1,5 @@
 -- What playing a script comes to.
-use Rattle.std.proofs.Common.{◌≡◌, ◌⊎◌, inl, inr, ℕ, ◌+◌, ◌*◌, ◌%◌, ◌^◌, ◌<◌, ◌≤◌, List, ◌++◌, length, sum, length-append, Option, Some, None, refl, ap, sym, ◌∙◌, subst, arith}
+use Rattle.std.proofs.Common.{◌≡◌, inl, inr, ℕ, ◌+◌, ◌*◌, ◌%◌, ◌^◌, ◌<◌, ◌≤◌, List, ◌++◌, length, sum, length-append, Option, Some, None, refl, ap, sym, ◌∙◌, subst, arith}
 use Rattle.document_rules.specs.Document.{FlatState, empty_document, flat_line_count}
 use Rattle.script_streams.specs.Streams.{SourceState, SinkState, Tally, IsTally, tally_after, Gave, Rose}
 use Rattle.script_streams.specs.Fresh.{no_tally}
@@ -7,14 +7,12 @@ use Rattle.script_play.specs.Script.{script, IsCount}
 use Rattle.script_play.specs.Tallies.{tally_sink}
 use Rattle.script_play.proofs.LengthLemmas.{length-script}
 use Rattle.script_runner.specs.declared.playing.Summary.{Summary}
-use Rattle.script_runner.specs.declared.running.Status.{Status}
-use Rattle.script_runner.specs.declared.running.Status.TheVariants as status
 use Rattle.script_runner.specs.declared.serving.Served.{Served}
 use Rattle.script_runner.specs.declared.serving.Served.TheVariants.{Ended, ReadFault, WriteFault, TooLong}
 use Rattle.script_runner.specs.Script.{all_lines, written, Transcript}
 use Rattle.script_runner.specs.Serving.{Serves, ServedAll}
-use Rattle.script_runner.specs.Runs.{most_script_bytes, EndsWith}
-use Rattle.script_runner.specs.Playing.{SumsUp, Shows, Plays, HasEnded}
+use Rattle.script_runner.specs.Runs.{most_script_bytes}
+use Rattle.script_runner.specs.Playing.{SumsUp, HasEnded}
 use Rattle.script_runner.proofs.RunLemmas.{whole_script}
 
 -- ---- the only way out
@@ -74,8 +72,7 @@ module _ (count seed : ℕ) (end : FlatState) (src src' : SourceState) (before a
     sum_is = let summed : after.sum ≡ (before.sum + sum (written served.replies)) % 2 ^ 32 = ap (λ t. t.sum) tally_is in
         omega (arith, summed, sum_before)
 
-    -- where no reply is `! memory`, these are the numbers
-    pub sums_up : (s : Summary) → s.count ≡ count → s.refused ≡ refused → s.units ≡ length end.units → s.lines ≡ flat_line_count end
+    sums_up : (s : Summary) → s.count ≡ count → s.refused ≡ refused → s.units ≡ length end.units → s.lines ≡ flat_line_count end
         → s.bytes ≡ after.count → s.total ≡ after.sum → SumsUp s count seed
     sums_up s count_kept refused_kept units lines bytes total = record {
       replies = served.replies;
@@ -90,25 +87,10 @@ module _ (count seed : ℕ) (end : FlatState) (src src' : SourceState) (before a
       total_is = total ∙ sum_is;
     }
 
--- ---- the line that is shown
-
-pub plays_from : (s : Status) (summary : Summary) (count seed : ℕ) (out out' : SinkState) → SumsUp summary count seed → Shows s summary out out'
-    → Plays s count seed out out'
-plays_from status.Answered summary count seed out out' sums shown = (summary, sums, shown)
-plays_from status.Refused summary count seed out out' sums shown = (summary, sums, shown)
-plays_from status.WriteFault summary count seed out out' sums shown = (summary, sums, shown)
-plays_from status.Usage summary count seed out out' sums shown = shown
-plays_from status.Memory summary count seed out out' sums shown = absurd shown
-plays_from status.ReadFault summary count seed out out' sums shown = shown
-plays_from status.TooLong summary count seed out out' sums shown = shown
-
--- where no write fails, the line was written, or memory was wanting
-pub play_complete : (number count seed : ℕ) (out out' : SinkState) → out'.faults ≡ 0 → EndsWith number (λ s. Plays s count seed out out')
-    → (number ≤ 1) ⊎ (number ≡ 3)
-play_complete number count seed out out' none (status.Answered, is, plays) = inl (omega arith)
-play_complete number count seed out out' none (status.Refused, is, plays) = inl (omega arith)
-play_complete number count seed out out' none (status.Memory, is, plays) = inr is
-play_complete number count seed out out' none (status.WriteFault, is, (s, sums, cut)) = absurd (never_rose out.faults out'.faults none cut.faults)
-play_complete number count seed out out' none (status.Usage, is, plays) = absurd plays
-play_complete number count seed out out' none (status.ReadFault, is, plays) = absurd plays
-play_complete number count seed out out' none (status.TooLong, is, plays) = absurd plays
+  -- where no reply is `! memory`, these are the numbers
+  pub summed_up : (served : Served) (refused : ℕ) → served ≡ Ended refused 0 → before ≡ no_tally
+      → Serves served most_script_bytes empty_document end src src' (tally_sink before) (tally_sink after)
+      → (s : Summary) → s.count ≡ count → s.refused ≡ refused → s.units ≡ length end.units → s.lines ≡ flat_line_count end
+      → s.bytes ≡ after.count → s.total ≡ after.sum → SumsUp s count seed
+  summed_up served refused is fresh serves =
+      sums_up refused fresh (subst (λ served. Serves served most_script_bytes empty_document end src src' (tally_sink before) (tally_sink after)) is serves)

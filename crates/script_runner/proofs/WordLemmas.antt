@@ -28,31 +28,39 @@ choice_by most word n false false a s =
 choice : (most : ℕ) (word : List ℕ) (n : ℕ) → Choice most word n
 choice most word n = choice_by most word n _ _ refl refl
 
-module _ {E : Type 0} (most : ℕ) (word : List ℕ) (within : most < 2 ^ 64) where
-  read_as : (r : Result ℕ E) → ParsesUnsigned 64 10 word r → (n : ℕ) → n ≤ most → word ≡ decimal n → r ≡ Ok n
-  read_as r parses n le e = parse-decimal 64 n word r (omega arith) (omega arith) e parses
+read_as : (most : ℕ) (word : List ℕ) → most < 2 ^ 64 → (r : Result ℕ ℕ) → ParsesUnsigned 64 10 word r → (n : ℕ) → n ≤ most → word ≡ decimal n → r ≡ Ok n
+read_as most word within r parses n le e = parse-decimal 64 n word r (omega arith) (omega arith) e parses
 
-  value_is : (n : ℕ) → n ≤ most → word ≡ decimal n → digits_value 10 word ≡ n
-  value_is n le e = ap (λ w. digits_value 10 w) e ∙ digits_value-decimal own n (omega arith)
+value_is : (most : ℕ) (word : List ℕ) → most < 2 ^ 64 → (n : ℕ) → n ≤ most → word ≡ decimal n → digits_value 10 word ≡ n
+value_is most word within n le e = ap (λ w. digits_value 10 w) e ∙ digits_value-decimal own n (omega arith)
 
-  ok_by : (n : ℕ) → ParsesUnsigned {E = E} 64 10 word (Ok n) → Choice most word n → Choice most word (digits_value 10 word)
+value_of : Result ℕ ℕ → ℕ
+value_of (Ok n) = n
+value_of (Err e) = e
+
+same_value : (m n : ℕ) (r : Result ℕ ℕ) → r ≡ Ok m → r ≡ Ok n → m ≡ n
+unfolding value_of
+same_value m n r first second = ap value_of (sym first ∙ second)
+
+-- which error comes does not matter here: a number stands in its place
+module _ (most : ℕ) (word : List ℕ) (within : most < 2 ^ 64) where
+  ok_by : (n : ℕ) → ParsesUnsigned {E = ℕ} 64 10 word (Ok n) → Choice most word n → Choice most word (digits_value 10 word)
       → number_if most word n ≡ number_in most word
-  ok_by n parses (chosen le e is) c = ap (λ m. number_if most word m) (sym (value_is n le e))
-  ok_by n parses (refused no is) (refused no' is') = is ∙ sym is'
-  ok_by n parses (refused no is) (chosen le' e' is') =
-      let same : Ok {E = E} n ≡ Ok (digits_value 10 word) = read_as (Ok n) parses (digits_value 10 word) le' e' in
-      cc
+  ok_by n parses (chosen le e is) c = ap (λ m. number_if most word m) (sym (value_is most word within n le e))
+  ok_by n parses (refused never is) (refused never' is') = is ∙ sym is'
+  ok_by n parses (refused never is) (chosen le' e' is') =
+      ap (λ m. number_if most word m) (same_value n (digits_value 10 word) (Ok n) refl (read_as most word within (Ok n) parses (digits_value 10 word) le' e'))
 
   -- a word that is read as a number is that number, if it spells it
-  pub number_from_ok : (n : ℕ) → ParsesUnsigned {E = E} 64 10 word (Ok n) → number_if most word n ≡ number_in most word
+  pub number_from_ok : (n : ℕ) → ParsesUnsigned {E = ℕ} 64 10 word (Ok n) → number_if most word n ≡ number_in most word
   number_from_ok n parses = ok_by n parses (choice most word n) (choice most word (digits_value 10 word))
 
-  err_by : (e : E) → ParsesUnsigned 64 10 word (Err e) → Choice most word (digits_value 10 word) → None ≡ number_in most word
-  err_by e parses (refused no is) = sym is
-  err_by e parses (chosen le is_it is) =
-      let same : Err e ≡ Ok (digits_value 10 word) = read_as (Err e) parses (digits_value 10 word) le is_it in
-      absurd (cc same)
+  err_by : ParsesUnsigned {E = ℕ} 64 10 word (Err 0) → Choice most word (digits_value 10 word) → None ≡ number_in most word
+  err_by parses (refused never is) = sym is
+  err_by parses (chosen le e is) =
+      let same : Err 0 ≡ Ok (digits_value 10 word) = read_as most word within (Err 0) parses (digits_value 10 word) le e in
+      cc
 
   -- a word that is not read as a number spells none
-  pub number_from_err : (e : E) → ParsesUnsigned 64 10 word (Err e) → None ≡ number_in most word
-  number_from_err e parses = err_by e parses (choice most word (digits_value 10 word))
+  pub number_from_err : ParsesUnsigned {E = ℕ} 64 10 word (Err 0) → None ≡ number_in most word
+  number_from_err parses = err_by parses (choice most word (digits_value 10 word))

@@ -7,3 +7,4 @@ pub mod Words
 pub mod Playing
 pub mod Runs
 mod Examples
+mod PlayExamples

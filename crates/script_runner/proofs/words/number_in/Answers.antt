@@ -8,4 +8,4 @@ returns-in-Ok-clause-number c =
 
 pub returns-in-Err-clause-number : goal.returns-in-Err-clause-number
 returns-in-Err-clause-number c =
-    number_from_err c.args.most c.args.word.now (omega (arith, c.ranges.most.fits)) _ c.in-Err.ensures.value.0
+    number_from_err c.args.most c.args.word.now (omega (arith, c.ranges.most.fits)) c.in-Err.ensures.value.0
