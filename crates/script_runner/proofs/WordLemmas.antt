@@ -1,5 +1,5 @@
 -- The numbers that words spell.
-use Rattle.std.proofs.Common.{◌≡◌, ℕ, ◌^◌, ◌<◌, ◌≤◌, ◌&&◌, not, nat_lt, Bool, true, false, cond, List, Option, Some, None, Result, Ok, Err, refl, ap, sym, ◌∙◌, arith}
+use Rattle.std.proofs.Common.{◌≡◌, ℕ, ◌^◌, ◌<◌, ◌≤◌, ◌&&◌, not, nat_lt, Bool, true, false, List, Some, None, Result, Ok, Err, is_err, refl, ap, sym, ◌∙◌, arith}
 use Rattle.std.specs.Fmt.{decimal}
 use Rattle.std.specs.Str.{bytes_eq}
 use Rattle.std.specs.Str.Parse.{digits_value, AllDigits, ParsesUnsigned}
@@ -42,6 +42,9 @@ same_value : (m n : ℕ) (r : Result ℕ ℕ) → r ≡ Ok m → r ≡ Ok n → 
 unfolding value_of
 same_value m n r first second = ap value_of (sym first ∙ second)
 
+no_error : (r : Result ℕ ℕ) (n : ℕ) → r ≡ Ok n → is_err r ≡ false
+no_error r n e = ap (λ x. is_err x) e
+
 -- which error comes does not matter here: a number stands in its place
 module _ (most : ℕ) (word : List ℕ) (within : most < 2 ^ 64) where
   ok_by : (n : ℕ) → ParsesUnsigned {E = ℕ} 64 10 word (Ok n) → Choice most word n → Choice most word (digits_value 10 word)
@@ -58,7 +61,7 @@ module _ (most : ℕ) (word : List ℕ) (within : most < 2 ^ 64) where
   err_by : ParsesUnsigned {E = ℕ} 64 10 word (Err 0) → Choice most word (digits_value 10 word) → None ≡ number_in most word
   err_by parses (refused never is) = sym is
   err_by parses (chosen le e is) =
-      let same : Err 0 ≡ Ok (digits_value 10 word) = read_as most word within (Err 0) parses (digits_value 10 word) le e in
+      let wrong : true ≡ false = no_error (Err 0) (digits_value 10 word) (read_as most word within (Err 0) parses (digits_value 10 word) le e) in
       cc
 
   -- a word that is not read as a number spells none
