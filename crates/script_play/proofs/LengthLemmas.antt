@@ -54,14 +54,22 @@ HasFewDigits Size = ⊤
 short_line : (line : Line) → HasFewDigits line → length (line_bytes line) ≤ 200
 short_line Open few = omega arith
 short_line (Edit start end text) few =
-    omega (arith, length-parts (codes "{\"cmd\":\"edit\",\"ops\":[{\"at\":") (span start end) (codes ",\"text\":") (spelled text) (codes "}]}\n"),
-    short_span start end few.0 few.1, short_text text)
+    omega (
+      arith,
+      length-parts (codes "{\"cmd\":\"edit\",\"ops\":[{\"at\":") (span start end) (codes ",\"text\":") (spelled text) (codes "}]}\n"),
+      short_span start end few.0 few.1,
+      short_text text,
+    )
 short_line Undo few = omega arith
 short_line Redo few = omega arith
 short_line Stop few = omega arith
 short_line (Decorate start end stick) few =
-    omega (arith, length-parts (codes "{\"cmd\":\"decorate\",\"owner\":1,\"remove\":[],\"add\":[{\"at\":") (span start end) (codes ",\"stick\":") (decimal stick) (codes "}]}\n"),
-    short_span start end few.0 few.1, short_number stick few.2)
+    omega (
+      arith,
+      length-parts (codes "{\"cmd\":\"decorate\",\"owner\":1,\"remove\":[],\"add\":[{\"at\":") (span start end) (codes ",\"stick\":") (decimal stick) (codes "}]}\n"),
+      short_span start end few.0 few.1,
+      short_number stick few.2,
+    )
 short_line (Position offset) few = omega (arith, length-three (codes "{\"cmd\":\"position\",\"offset\":") (decimal offset) (codes "}\n"), short_number offset few)
 short_line Level few = omega arith
 short_line Brackets few = omega arith
@@ -90,9 +98,11 @@ few_edit old =
 
 few_decorate : (old : Play) → HasFewDigits (decorate_line old).0
 few_decorate old =
-    let from = drawn-lt (next old.x) (old.units + 1) (next-lt old.x) in
-    (small _ from, small_end _ _ _ from (drawn-lt (next (next old.x)) 8 (next-lt (next old.x))),
-    small _ (drawn-lt (next (next (next old.x))) 4 (next-lt (next (next old.x)))))
+    let from = drawn-lt (next old.x) (old.units + 1) (next-lt old.x) in (
+      small _ from,
+      small_end _ _ _ from (drawn-lt (next (next old.x)) 8 (next-lt (next old.x))),
+      small _ (drawn-lt (next (next (next old.x))) 4 (next-lt (next (next old.x)))),
+    )
 
 few_offset : (old : Play) → drawn (next old.x) (old.units + 1) < 2 ^ 33
 few_offset old = small _ (drawn-lt (next old.x) (old.units + 1) (next-lt old.x))
@@ -116,8 +126,12 @@ length-lines_from : (count : ℕ) (old : Play) → length (lines_from count old)
 unfolding lines_from
 length-lines_from zero old = omega arith
 length-lines_from (suc count) old =
-    omega (arith, length-append (line_bytes (next_line old).0) (lines_from count (next_line old).1), short_line (next_line old).0 (few_next old),
-    length-lines_from count (next_line old).1)
+    omega (
+      arith,
+      length-append (line_bytes (next_line old).0) (lines_from count (next_line old).1),
+      short_line (next_line old).0 (few_next old),
+      length-lines_from count (next_line old).1,
+    )
 
 -- a script has at most 200 bytes a line
 pub length-script : (count seed : ℕ) → length (script count seed) ≤ 200 * count
