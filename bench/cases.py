@@ -35,7 +35,7 @@ class Scale(NamedTuple):
     """How large and how long the cases are."""
 
     texts: list[tuple[int, int]]  # units, and how many questions that go over all of them the flat baseline gets
-    nested: list[tuple[int, int]]  # units, and how many times all brackets are parsed anew
+    nested: list[tuple[int, int]]  # units, and after how many edits the flat baseline parses all brackets
     count: int  # lines to be timed, where a line takes little
     enough: float  # seconds of processor time after which a case is not run again
 
@@ -263,18 +263,19 @@ def nested_cases(scale: Scale) -> Iterator[Case]:
             name = "brackets of 60 lines" if command == "brackets" else command
             yield Case(f"{name}, tree kept", size_of(units), [*document, at("level", 1, 1)], lines, refused, 3 * flat)
     for name, asked in (("level, match", ("level", "match")), ("brackets of 60 lines", ("brackets",))):
-        for units, rounds in scale.nested:
+        for units, flat in scale.nested:
             document, last = nested(units)
-            lines, refused = after_edits(units, last, asked, rounds)
-            yield Case(f"edit, then {name}", size_of(units), document, lines, refused, len(lines))
+            lines, refused = after_edits(units, last, asked, scale.count // 25)
+            flat_lines = flat * (1 + len(asked))
+            yield Case(f"edit, then {name}", size_of(units), [*document, at("level", 1, 1)], lines, refused, flat_lines)
 
 
 def parse_cases() -> Iterator[Case]:
-    """What changes or parses all brackets: one opened before all others, and the first question."""
+    """What changes the level of all brackets: one opened before all others; and the first question."""
     document = opened(("f(x[i])".ljust(59) + "\n") * 42_000)
-    lines = [edit(op(0, 0, "{")), brackets(1, 60)] * 5
-    refused = [edit(op(1, 0, "{")), brackets(60, 1)] * 5
-    yield Case("{ typed first, then 60 lines", "2.5 MB", document, lines, refused, len(lines))
+    lines = [edit(op(0, 0, "{")), brackets(1, 60)] * 100
+    refused = [edit(op(1, 0, "{")), brackets(60, 1)] * 100
+    yield Case("{ typed first, then 60 lines", "2.5 MB", [*document, at("level", 1, 1)], lines, refused, 10)
     block = ["{"] * 4 + ["(a)"] * 5 + ["}"] * 4 + [""]
     text = "".join(block[n % 14].ljust(27 + (n % 7 < 4)) + "\n" for n in range(35_000))
     lines, refused = ([asked("level", 35_000, 1)] for asked in (at, nowhere))

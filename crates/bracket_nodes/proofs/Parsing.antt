@@ -2,7 +2,7 @@
 use Rattle.std.proofs.Common.{◌≡◌, ℕ, suc, sum, ◌+◌, ◌<◌, ◌≤◌, ◌≢◌, ◌⊎◌, Bool, true, false, cond, eqb, Some, None, List, [], ◌∷◌, ◌++◌, refl, ap, sym, ◌∙◌, subst, arith, inl, inr}
 use Rattle.std.proofs.lemmas.Bool.Decides.{eqb_tells}
 use Rattle.bracket_rules.specs.declared.TheConstants.{MOST_OPEN}
-use Rattle.bracket_rules.specs.Rows.{Row, HasRow, empty_row, glue}
+use Rattle.bracket_rules.specs.Rows.{Row, HasRow, glue}
 use Rattle.bracket_trees.specs.Tree.{Tree, pair, stray, capped, bracket_row, tree_rows, weight, is_missing, IsLone, items}
 use Rattle.bracket_trees.specs.Weights.{glue_weights, tree_weights, all_weights, AreCovered}
 use Rattle.bracket_trees.specs.Told.{has_kind, with_kind, Tells, IsTreeOf}
@@ -14,7 +14,7 @@ use Rattle.bracket_trees.proofs.Whole.{IsTreeOf-from_Tells}
 use Rattle.bracket_nodes.specs.declared.parser.Stop.{Stop}
 use Rattle.bracket_nodes.specs.declared.parser.Stop.TheVariants.{AtEnd, AtClosing}
 use Rattle.bracket_nodes.specs.declared.parser.Taken.TheVariants.{One, Last, Nothing}
-use Rattle.bracket_nodes.specs.Source.{Ahead, IsOver, weights_ahead, weight_ahead, GivesNode, GivesBracket, rows_after, weights_after, Listed, Parsed, Takes, closing_taken, pair_taken, HasWidth, Reads}
+use Rattle.bracket_nodes.specs.Source.{Ahead, Asking, AsksOn, Ends, weights_ahead, weight_ahead, GivesNode, GivesBracket, rows_after, weights_after, Listed, Parsed, Takes, closing_taken, pair_taken, HasWidth, Reads}
 
 same_ahead : (kinds level : ℕ) (from from' rest : List Row) (ts : List Tree) → from ≡ from' → Tells kinds level from' rest ts → Tells kinds level from rest ts
 same_ahead kinds level from from' rest ts h t = subst (λ (x : List Row). Tells kinds level x rest ts) (sym h) t
@@ -51,16 +51,16 @@ bracket_weighs old new k w opening h = omega (arith, weight_after (w ∷ []) old
 
 -- ---- what the source gives
 
-pub Takes-end : (old new : Ahead) (kinds level : ℕ) → IsOver old → new ≡ old → Takes old new kinds level (Nothing AtEnd)
-Takes-end old new kinds level h e =
-    let new_rows : new.rows ≡ empty_row ∷ [] = ap (λ (a : Ahead). a.rows) e ∙ h.empty in
-    let has_row : HasRow new.rows = rw new_rows tt in
+pub Takes-end : (old new : Ahead) (kinds level : ℕ) → Ends old new → Takes old new kinds level (Nothing AtEnd)
+unfolding weight_ahead
+Takes-end old new kinds level h =
+    let has_row : HasRow new.rows = subst HasRow (sym h.over.empty) tt in
     record {
-      tells = same_ahead kinds level old.rows new.rows new.rows [] (h.empty ∙ sym new_rows) (Tells-none kinds level new.rows has_row);
-      stops = subst IsOver (sym e) h;
-      weighs = subst (λ (a : Ahead). AreCovered (glue_weights (0 ∷ []) (weights_after AtEnd a)) (weights_ahead old)) (sym e)
-          (nothing_after (weights_after AtEnd old) (weights_ahead old) tt (nothing_after (weights_ahead old) (weights_ahead old) tt (AreCovered-same (weights_ahead old))));
-      together = let same : weight_ahead new ≡ weight_ahead old = ap weight_ahead e in omega arith;
+      tells = same_ahead kinds level old.rows new.rows new.rows [] h.rows (Tells-none kinds level new.rows has_row);
+      stops = h.over;
+      weighs = subst (λ (ws : List ℕ). AreCovered (glue_weights (0 ∷ []) (weights_after AtEnd new)) ws) (sym h.weights)
+          (nothing_after (weights_after AtEnd new) (weights_ahead new) tt (nothing_after (weights_ahead new) (weights_ahead new) tt (AreCovered-same (weights_ahead new))));
+      together = let same : sum (weights_ahead old) ≡ sum (weights_ahead new) = ap sum h.weights in omega arith;
       rest = has_row;
     }
 
@@ -181,6 +181,19 @@ pub asks_width : (mid new : Ahead) (kinds level : ℕ) (t : Tree) (stop : Stop) 
 asks_width mid new kinds level t AtEnd l = tt
 asks_width mid new kinds level t (AtClosing j v) l = l.stops.wide
 
+-- ---- what is asked for
+
+pub AsksOn-same : (a : Asking) → AsksOn a a
+AsksOn-same a = record { contents = refl; asked = refl; count = refl; borrows = refl }
+
+pub AsksOn-then : (a b c : Asking) → AsksOn a b → AsksOn b c → AsksOn a c
+AsksOn-then a b c h k = record {
+  contents = k.contents ∙ h.contents;
+  asked = k.asked ∙ h.asked;
+  count = k.count ∙ h.count;
+  borrows = k.borrows ∙ h.borrows;
+}
+
 -- ---- the loop
 
 pub Reads-start : (start : Ahead) (kinds level : ℕ) → HasRow start.rows → Reads start start kinds level [] 0
@@ -237,6 +250,11 @@ covered_front a n old h k =
     AreCovered-then a (glue_weights a (n ∷ [])) old
     (subst (λ (ws : List ℕ). AreCovered ws (glue_weights a (n ∷ []))) (glue_zero a h)
     (AreCovered-glue a a (0 ∷ []) (n ∷ []) (AreCovered-same a) (omega arith, tt))) k
+
+-- no line is left to ask for
+pub whole_asked : (start new : Ahead) (t : Tree) (stop : Stop) → Listed start new 0 0 t stop → new.asking.left ≡ []
+whole_asked start new t AtEnd l = l.stops.asked
+whole_asked start new t (AtClosing j v) l = let clash : false ≡ true = sym (has_kind-none j) ∙ l.stops.is_open in cc
 
 -- the tree of a whole text weighs no more than its lines
 pub whole_light : (start new : Ahead) (t : Tree) (stop : Stop) → Listed start new 0 0 t stop → AreCovered (tree_weights t) (weights_ahead start)

@@ -23,11 +23,11 @@ line_end column columns (t ∷ ts) h =
     let first : column ≤ t.at = h.0 in
     omega arith
 
-AreInLine-from : (c d n : ℕ) (ts : List Token) → c ≤ d → AreInLine d n ts → AreInLine c n ts
+pub AreInLine-from : (c d n : ℕ) (ts : List Token) → c ≤ d → AreInLine d n ts → AreInLine c n ts
 AreInLine-from c d n [] h k = omega arith
 AreInLine-from c d n (t ∷ ts) h k = let first : d ≤ t.at = k.0 in (omega arith, k.1, k.2, k.3)
 
-shifted-moved_back : (c d n : ℕ) (ts : List Token) → c ≤ d → AreInLine d n ts → shifted (d - c) (moved_back d ts) ≡ moved_back c ts
+pub shifted-moved_back : (c d n : ℕ) (ts : List Token) → c ≤ d → AreInLine d n ts → shifted (d - c) (moved_back d ts) ≡ moved_back c ts
 shifted-moved_back c d n [] h k = refl
 shifted-moved_back c d n (t ∷ ts) h k =
     let first : d ≤ t.at = k.0 in
@@ -43,7 +43,7 @@ pub HasRow-rows_left : (column : ℕ) (ts : List Token) (columns : ℕ) (lines :
 HasRow-rows_left column ts columns [] = tt
 HasRow-rows_left column ts columns (l ∷ lines) = tt
 
-same_row : (x y : List Token) (m n : ℕ) → x ≡ y → m ≡ n → row x m ≡ row y n
+pub same_row : (x y : List Token) (m n : ℕ) → x ≡ y → m ≡ n → row x m ≡ row y n
 same_row x y m n p q = ap (λ (z : List Token). row z m) p ∙ ap (row y) q
 
 -- the rows from column c on are some brackets up to column d, and the rows from there
@@ -60,7 +60,7 @@ cut c d n front ts all (l ∷ m ∷ lines) h k e =
 
 -- ---- what the source gives
 
-fits_text : (kinds level lines columns : ℕ) → level ≤ MOST_OPEN → Fits kinds level (text (length_of lines columns))
+pub fits_text : (kinds level lines columns : ℕ) → level ≤ MOST_OPEN → Fits kinds level (text (length_of lines columns))
 fits_text kinds level lines columns h = record {
   closed = refl;
   uncapped = refl;

@@ -7,7 +7,7 @@ use Rattle.bracket_rules.proofs.Tokens.{tokens_of-in_line}
 use Rattle.bracket_nodes.specs.declared.scanned.ScannedLine.{ScannedLine}
 use Rattle.bracket_nodes.specs.ScannedLines.{AreLines, AreScans, moved_back, rows_left, scanned_rows}
 
-moved_back-zero : (ts : List Token) → moved_back 0 ts ≡ ts
+pub moved_back-zero : (ts : List Token) → moved_back 0 ts ≡ ts
 moved_back-zero [] = refl
 moved_back-zero (t ∷ ts) =
     let at : t.at - 0 ≡ t.at = omega arith in

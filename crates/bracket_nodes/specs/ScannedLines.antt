@@ -4,7 +4,7 @@ use Rattle.bracket_rules.specs.declared.Token.{Token}
 use Rattle.bracket_rules.specs.Rows.{Row, row, empty_row}
 use Rattle.bracket_rules.specs.Table.{Table, token, tokens_of, AreInLine}
 use Rattle.bracket_nodes.specs.declared.scanned.ScannedLine.{ScannedLine}
-use Rattle.bracket_nodes.specs.Source.{Ahead}
+use Rattle.bracket_nodes.specs.Source.{Ahead, asks_nothing}
 
 abbrev pub AreLines : List ScannedLine → Type 0
 AreLines [] = ⊤
@@ -47,4 +47,5 @@ ahead_of column tokens columns lines = record {
   rows = rows_left column tokens columns lines;
   line = with_break (columns - column) lines;
   later = scanned_weights lines;
+  asking = asks_nothing;
 }

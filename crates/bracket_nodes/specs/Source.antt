@@ -1,5 +1,5 @@
 -- What a source of brackets has ahead, what it gives, and what is parsed of it.
-use Rattle.std.specs.Prelude.{◌≡◌, ℕ, ◌+◌, ◌<◌, ◌≤◌, Bool, true, false, ◌==◌, if◌then◌else◌, List, [], ◌∷◌, sum, Some, None, ⊤}
+use Rattle.std.specs.Prelude.{◌≡◌, ℕ, ◌+◌, ◌<◌, ◌≤◌, Bool, true, false, ◌==◌, if◌then◌else◌, List, [], ◌∷◌, ◌++◌, length, sum, Some, None, ⊤}
 use Rattle.bracket_rules.specs.declared.TheConstants.{MOST_PAIRS}
 use Rattle.bracket_rules.specs.Rows.{Row, HasRow, empty_row, glue}
 use Rattle.bracket_trees.specs.Tree.{Tree, pair, stray, nothing, bracket_row, tree_rows, weight, is_nothing, IsTree, items}
@@ -12,12 +12,23 @@ use Rattle.bracket_nodes.specs.declared.parser.Stop.TheVariants.{AtEnd, AtClosin
 use Rattle.bracket_nodes.specs.declared.parser.Taken.{Taken}
 use Rattle.bracket_nodes.specs.declared.parser.Taken.TheVariants.{One, Last, Nothing}
 
+-- The lines of a text that a source reads: their contents, the numbers of those that were asked for, in order, and of
+-- those that it has yet to ask for, and how many it says that it asked for. The last field tells proofs by which borrows
+-- it reads.
+pub record Asking : Type 0 where
+  pub contents : List (List ℕ)
+  pub asked : List ℕ
+  pub left : List ℕ
+  pub count : ℕ
+  pub borrows : List ℕ
+
 -- The rows from here to the end of the text, and what the leaves of each line may weigh: of what is left of the line
--- that is read, and of each line after it.
+-- that is read, and of each line after it. Some of the lines may have to be asked for.
 pub record Ahead : Type 0 where
   pub rows : List Row
   pub line : ℕ
   pub later : List ℕ
+  pub asking : Asking
 
 abbrev pub weights_ahead : Ahead → List ℕ
 weights_ahead a = a.line ∷ a.later
@@ -25,6 +36,19 @@ weights_ahead a = a.line ∷ a.later
 -- what all of these lines may weigh together
 unfoldable pub weight_ahead : Ahead → ℕ
 weight_ahead a = sum (weights_ahead a)
+
+-- ---- what a source asks for
+
+-- a source that asks for no line
+abbrev pub asks_nothing : Asking
+asks_nothing = record { contents = []; asked = []; left = []; count = 0; borrows = [] }
+
+-- what is asked for is taken from the front of what is left
+pub record AsksOn (old new : Asking) : Type 0 where
+  pub contents : new.contents ≡ old.contents
+  pub asked : new.asked ++ new.left ≡ old.asked ++ old.left
+  pub count : new.count + length new.left ≡ old.count + length old.left
+  pub borrows : new.borrows ≡ old.borrows
 
 -- ---- what a source gives
 
@@ -44,13 +68,20 @@ pub record GivesBracket (old new : Ahead) (kind width : ℕ) (opening : Bool) : 
   pub weighs : AreCovered (glue_weights (width ∷ []) (weights_ahead new)) (weights_ahead old)
   pub rest : HasRow new.rows
 
--- neither a unit nor a line is left
+-- neither a unit nor a line is left, and none is yet to be asked for
 pub record IsOver (a : Ahead) : Type 0 where
   pub empty : a.rows ≡ empty_row ∷ []
   pub last : a.later ≡ []
+  pub asked : a.asking.left ≡ []
+
+-- the source came to the end, and took nothing from the text
+pub record Ends (old new : Ahead) : Type 0 where
+  pub over : IsOver new
+  pub rows : old.rows ≡ new.rows
+  pub weights : weights_ahead old ≡ weights_ahead new
 
 abbrev pub Comes : Ahead → Ahead → ℕ → ℕ → Next → Type 0
-Comes old new kinds level End = IsOver old × (new ≡ old)
+Comes old new kinds level End = Ends old new
 Comes old new kinds level (Ready node) = GivesNode old new kinds level node
 Comes old new kinds level (Bracket kind width opening) = GivesBracket old new kind width opening
 

@@ -1,10 +1,10 @@
 // The parser: it makes a tree of what a source gives.
-ghost use Rattle.std.specs.Prelude.{◌≡◌, ◌+◌, ◌<◌, ◌≤◌, ◌^◌, false, IfOk};
+ghost use Rattle.std.specs.Prelude.{◌≡◌, ◌+◌, ◌<◌, ◌≤◌, ◌^◌, [], false, IfOk, OnOk};
 ghost use Rattle.bracket_rules.specs.Rows.{HasRow};
 ghost use Rattle.bracket_trees.specs.Told.{IsTreeOf};
 ghost use Rattle.bracket_trees.specs.Tree.{IsLone, is_missing, weight};
 ghost use Rattle.bracket_trees.specs.Weights.{tree_weights, AreCovered};
-ghost use Rattle.bracket_nodes.specs.Source.{Listed, Takes, HasWidth, weights_ahead, weight_ahead, stop_width, closing_taken, pair_taken};
+ghost use Rattle.bracket_nodes.specs.Source.{AsksOn, Listed, Takes, HasWidth, weights_ahead, weight_ahead, stop_width, closing_taken, pair_taken};
 
 use crate::joiner::Joiner;
 use crate::kinds::Kinds;
@@ -24,17 +24,24 @@ pub enum Next {
     Bracket(u64, u64, bool),
 }
 
-/// A text as brackets and ready nodes, from its start to its end.
+/// A text as brackets and ready nodes, from its start to its end. Some of its lines it may have to
+/// ask for.
 pub trait Source {
-    ghost use Rattle.bracket_nodes.specs.Source.{Ahead, Comes};
+    ghost use Rattle.bracket_nodes.specs.Source.{Ahead, Comes, AsksOn};
 
     ghost ahead: { Self → Ahead };
 
+    // What a source keeps true as long as no call of it fails.
+    ghost stands: { Self → Type 0 };
+
     /// What comes next, where brackets of these kinds are open, `level` of them; it is taken off
-    /// the source.
+    /// the source. After an error nothing more may be taken.
     fn next(&mut self, alloc: Global, opened: Kinds, level: u64) -> Result<Next, AllocError>
-        requires { level ≤ MOST_OPEN }
-        ensures { IfOk result (Comes (ahead self.old) (ahead self.new) opened level) };
+        requires level { level ≤ MOST_OPEN }
+        requires stands { stands self.old }
+        ensures comes { IfOk result (Comes (ahead self.old) (ahead self.new) opened level) }
+        ensures stands { OnOk result (stands self.new) }
+        ensures asks { AsksOn (ahead self.old).asking (ahead self.new).asking };
 }
 
 // Why a list stopped.
@@ -61,13 +68,17 @@ pub(crate) struct Part {
 }
 
 /// The tree of the text that the source has ahead. In no line its leaves weigh more than the source
-/// has there.
+/// has there. Each line that was left to ask for was asked for; after an error some of them were.
 pub fn parse<S: Source>(alloc: Global, source: &mut S) -> Result<Node, AllocError>
+    requires stands { S.stands source.old }
     requires some { HasRow (S.ahead source.old).rows }
     requires fits { weight_ahead (S.ahead source.old) < 2 ^ 64 }
     ensures tree { IfOk result (IsTreeOf (S.ahead source.old).rows) }
     ensures light { IfOk result (λ tree.
         AreCovered (tree_weights tree) (weights_ahead (S.ahead source.old))) }
+    ensures stands { OnOk result (S.stands source.new) }
+    ensures asks { AsksOn (S.ahead source.old).asking (S.ahead source.new).asking }
+    ensures whole { OnOk result ((S.ahead source.new).asking.left ≡ []) }
 {
     let part = parse_list(alloc, source, Kinds::none(), 0)?;
     Ok(part.list)
@@ -82,10 +93,13 @@ fn parse_list<S: Source>(
     level: u64,
 ) -> Result<Part, AllocError>
     requires level { level ≤ MOST_OPEN }
+    requires stands { S.stands source.old }
     requires some { HasRow (S.ahead source.old).rows }
     requires fits { weight_ahead (S.ahead source.old) < 2 ^ 64 }
-    ensures { IfOk result (λ part.
+    ensures listed { IfOk result (λ part.
         Listed (S.ahead source.old) (S.ahead source.new) opened level part.list part.stop) }
+    ensures stands { OnOk result (S.stands source.new) }
+    ensures asks { AsksOn (S.ahead source.old).asking (S.ahead source.new).asking }
 {
     let mut joiner = Joiner::new(alloc);
     loop {
@@ -112,9 +126,12 @@ fn take<S: Source>(
     level: u64,
 ) -> Result<Taken, AllocError>
     requires level { level ≤ MOST_OPEN }
+    requires stands { S.stands source.old }
     requires some { HasRow (S.ahead source.old).rows }
     requires fits { weight_ahead (S.ahead source.old) < 2 ^ 64 }
-    ensures { IfOk result (Takes (S.ahead source.old) (S.ahead source.new) opened level) }
+    ensures takes { IfOk result (Takes (S.ahead source.old) (S.ahead source.new) opened level) }
+    ensures stands { OnOk result (S.stands source.new) }
+    ensures asks { AsksOn (S.ahead source.old).asking (S.ahead source.new).asking }
 {
     match source.next(alloc, opened, level)? {
         Next::End => Ok(Taken::Nothing(Stop::AtEnd)),

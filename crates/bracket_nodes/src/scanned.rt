@@ -50,9 +50,12 @@ impl<'a> Model for ScannedText<'a> {
 }
 
 impl<'a> Source for ScannedText<'a> {
+    ghost use Rattle.std.specs.Prelude.{⊤};
     ghost use Rattle.bracket_nodes.specs.Source.{Ahead};
 
     ghost ahead = { λ s. s };
+
+    ghost stands = { λ _. ⊤ };
 
     fn next(&mut self, alloc: Global, _opened: Kinds, _level: u64) -> Result<Next, AllocError> {
         if let [token, rest @ ..] = self.tokens {

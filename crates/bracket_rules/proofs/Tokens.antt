@@ -1,35 +1,21 @@
 -- The tokens of a line stand in order in the line, and their kinds are those of the table.
-use Rattle.std.proofs.Common.{◌≡◌, ℕ, zero, suc, ◌+◌, ◌-◌, ◌<◌, ◌≤◌, Bool, true, false, cond, ◌&&◌, ltb, leb, Option, Some, None, List, [], ◌∷◌, ◌++◌, length, take, refl, ap, sym, arith, length-take, subst, inl, inr}
+use Rattle.std.proofs.Common.{◌≡◌, ℕ, zero, suc, ◌+◌, ◌-◌, ◌<◌, ◌≤◌, Bool, true, false, cond, ◌&&◌, Option, Some, None, List, [], ◌∷◌, ◌++◌, length, take, refl, ap, sym, arith, length-take, subst}
 use Rattle.std.specs.Prelude.{nat_eq, nat_lt, IfSome}
 use Rattle.std.specs.Cmp.Lexicographic.{pointwise}
 use Rattle.std.specs.List.{list_all, starts_with}
 use Rattle.std.specs.Option.{option_to_list}
-use Rattle.std.proofs.lemmas.Bool.Decides.{leb_tells}
+use Rattle.std.proofs.lemmas.Bool.{and_parts, leb-true}
 use Rattle.bracket_rules.specs.declared.Token.{Token}
 use Rattle.bracket_rules.specs.declared.TheConstants.{MOST_PAIRS}
-use Rattle.bracket_rules.specs.Table.{Table, texts_of, is_bracket_text, are_distinct, is_table, token, standing, longer, longest, units_after_first, tokens_from, tokens_of, AreInLine}
-
-and_first : (a b : Bool) → (a && b) ≡ true → a ≡ true
-and_first true b h = refl
-and_first false b h = h
-
-and_second : (a b : Bool) → (a && b) ≡ true → b ≡ true
-and_second true b h = h
-and_second false b h = cc
+use Rattle.bracket_rules.specs.Table.{Table, texts_of, is_bracket_text, is_table, token, standing, longer, longest, units_after_first, tokens_from, tokens_of, AreInLine}
 
 -- ---- what a table says of its texts and of its length
 
 pub has_texts : (pairs : Table) → is_table pairs ≡ true → list_all is_bracket_text (texts_of pairs) ≡ true
-has_texts pairs h =
-    and_second (ltb 0 (length pairs) && leb (length pairs) MOST_PAIRS) (list_all is_bracket_text (texts_of pairs))
-    (and_first ((ltb 0 (length pairs) && leb (length pairs) MOST_PAIRS) && list_all is_bracket_text (texts_of pairs)) (are_distinct (texts_of pairs)) h)
+has_texts pairs h = (and_parts _ _ (and_parts _ _ h).0).1
 
 pub has_few_pairs : (pairs : Table) → is_table pairs ≡ true → length pairs ≤ MOST_PAIRS
-has_few_pairs pairs h =
-    let counted = and_first (ltb 0 (length pairs) && leb (length pairs) MOST_PAIRS) (list_all is_bracket_text (texts_of pairs))
-    (and_first ((ltb 0 (length pairs) && leb (length pairs) MOST_PAIRS) && list_all is_bracket_text (texts_of pairs)) (are_distinct (texts_of pairs)) h) in
-    let few : leb (length pairs) MOST_PAIRS ≡ true = and_second (ltb 0 (length pairs)) (leb (length pairs) MOST_PAIRS) counted in
-    elim (leb_tells (length pairs) MOST_PAIRS) [ inl few_pairs ↦ few_pairs.1 | inr many ↦ cc ]
+has_few_pairs pairs h = leb-true (length pairs) MOST_PAIRS (and_parts _ _ (and_parts _ _ (and_parts _ _ h).0).0).1
 
 -- ---- the longest text at a place
 
@@ -44,7 +30,7 @@ pointwise_length : (x y : List ℕ) → pointwise nat_eq x y ≡ true → length
 pointwise_length [] [] h = refl
 pointwise_length [] (v ∷ y) h = cc
 pointwise_length (u ∷ x) [] h = cc
-pointwise_length (u ∷ x) (v ∷ y) h = ap suc (pointwise_length x y (and_second (nat_eq u v) (pointwise nat_eq x y) h))
+pointwise_length (u ∷ x) (v ∷ y) h = ap suc (pointwise_length x y (and_parts (nat_eq u v) (pointwise nat_eq x y) h).1)
 
 fits_from : (text units : List ℕ) → starts_with nat_eq units text ≡ true → length text ≤ length units
 fits_from text units h =
@@ -78,12 +64,13 @@ longest-there_from : (at kind kinds : ℕ) (ps : Table) (units : List ℕ) → l
 longest-there_from at kind kinds [] units h k = tt
 longest-there_from at kind kinds (p ∷ ps) units h k =
     let below : kind < kinds = omega arith in
-    let others = and_second (is_bracket_text p.0) (is_bracket_text p.1 && list_all is_bracket_text (texts_of ps)) h in
+    let texts = and_parts (is_bracket_text p.0) (is_bracket_text p.1 && list_all is_bracket_text (texts_of ps)) h in
+    let others = and_parts (is_bracket_text p.1) (list_all is_bracket_text (texts_of ps)) texts.1 in
     longer-there at (length units) kinds _ _
-    (standing-there at kind kinds true p.0 units (and_first (is_bracket_text p.0) _ h) below)
+    (standing-there at kind kinds true p.0 units texts.0 below)
     (longer-there at (length units) kinds _ _
-    (standing-there at kind kinds false p.1 units (and_first (is_bracket_text p.1) (list_all is_bracket_text (texts_of ps)) others) below)
-    (longest-there_from at (suc kind) kinds ps units (and_second (is_bracket_text p.1) (list_all is_bracket_text (texts_of ps)) others) (omega arith)))
+    (standing-there at kind kinds false p.1 units others.0 below)
+    (longest-there_from at (suc kind) kinds ps units others.1 (omega arith)))
 
 pub longest-there : (at : ℕ) (table : Table) (units : List ℕ) → is_table table ≡ true
     → IfSome (longest at 0 table units) (IsThere at (length units) MOST_PAIRS)

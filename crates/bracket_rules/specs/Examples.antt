@@ -8,7 +8,8 @@ use Rattle.bracket_rules.specs.Table.{Table, standard_table}
 use Rattle.bracket_rules.specs.Parse.{spot, bracket_entries, bracket_partner, bracket_level}
 use Rattle.bracket_rules.specs.Rows.{text_brackets}
 
-abbrev entry : ℕ → ℕ → ℕ → ℕ → Status → ℕ → Entry
+-- an entry by its numbers
+abbrev pub entry : ℕ → ℕ → ℕ → ℕ → Status → ℕ → Entry
 entry line column len kind status level = record {
   place = length_of line column;
   len = len;

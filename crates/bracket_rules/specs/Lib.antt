@@ -1,4 +1,4 @@
 pub mod Table
 pub mod Parse
 pub mod Rows
-mod Examples
+pub mod Examples

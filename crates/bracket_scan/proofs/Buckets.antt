@@ -1,6 +1,7 @@
 -- Only the texts that begin in the bucket of a unit can stand where this unit is.
 use Rattle.std.proofs.Common.{◌≡◌, ℕ, suc, ◌+◌, ◌%◌, ◌<◌, ◌≤◌, Bool, true, false, ◌&&◌, eqb, get_or, drop, Option, Some, None, List, [], ◌∷◌, ◌++◌, length, refl, ap, sym, ◌∙◌, arith, append_assoc, inl, inr, add-one}
 use Rattle.std.specs.List.{All, list_all}
+use Rattle.std.proofs.lemmas.Bool.{and_parts}
 use Rattle.std.proofs.lemmas.Bool.Decides.{eqb_tells, nat_tests}
 use Rattle.std.proofs.lemmas.List.{get_or_at, length_push}
 use Rattle.std.proofs.lemmas.List.Elements.{All-nil, All-cons, All-append}
@@ -61,14 +62,6 @@ one_text pairs at kind opening (v ∷ text) u units h k = either (eqb (v % BUCKE
 
 -- ---- all texts of a table
 
-pub and_first : (a b : Bool) → (a && b) ≡ true → a ≡ true
-and_first true b h = refl
-and_first false b h = h
-
-pub and_second : (a b : Bool) → (a && b) ≡ true → b ≡ true
-and_second true b h = h
-and_second false b h = cc
-
 longest_among-from : (pre ps : Table) (at kind u : ℕ) (units : List ℕ)
     → length pre ≡ kind → list_all is_bracket_text (texts_of ps) ≡ true
     → longest_among (pre ++ ps) at (starts_in (u % BUCKETS) kind ps) (u ∷ units) ≡ longest at kind ps (u ∷ units)
@@ -76,14 +69,13 @@ longest_among-from pre [] at kind u units h k = refl
 longest_among-from pre (p ∷ ps) at kind u units h k =
     let pairs : Table = pre ++ p ∷ ps in
     let bucket : ℕ = u % BUCKETS in
-    let opening : is_bracket_text p.0 ≡ true = and_first (is_bracket_text p.0) _ k in
-    let others : (is_bracket_text p.1 && list_all is_bracket_text (texts_of ps)) ≡ true = and_second (is_bracket_text p.0) _ k in
-    let closing : is_bracket_text p.1 ≡ true = and_first (is_bracket_text p.1) _ others in
+    let texts = and_parts (is_bracket_text p.0) (is_bracket_text p.1 && list_all is_bracket_text (texts_of ps)) k in
+    let others = and_parts (is_bracket_text p.1) (list_all is_bracket_text (texts_of ps)) texts.1 in
     let here = get_or_at pre p ps ([], []) kind h in
-    let first = one_text pairs at kind true p.0 u units (ap (λ (q : List ℕ × List ℕ). q.0) here) opening in
-    let second = one_text pairs at kind false p.1 u units (ap (λ (q : List ℕ × List ℕ). q.1) here) closing in
+    let first = one_text pairs at kind true p.0 u units (ap (λ (q : List ℕ × List ℕ). q.0) here) texts.0 in
+    let second = one_text pairs at kind false p.1 u units (ap (λ (q : List ℕ × List ℕ). q.1) here) others.0 in
     let next : length (pre ++ p ∷ []) ≡ suc kind = length_push pre p ∙ add-one _ ∙ ap suc h in
-    let rest = longest_among-from (pre ++ p ∷ []) ps at (suc kind) u units next (and_second (is_bracket_text p.1) _ others) in
+    let rest = longest_among-from (pre ++ p ∷ []) ps at (suc kind) u units next others.1 in
     let whole : (pre ++ p ∷ []) ++ ps ≡ pairs = append_assoc pre (p ∷ []) ps in
     let rest' : longest_among pairs at (starts_in bucket (suc kind) ps) (u ∷ units) ≡ longest at (suc kind) ps (u ∷ units) =
     ap (λ (x : Table). longest_among x at (starts_in bucket (suc kind) ps) (u ∷ units)) (sym whole) ∙ rest in

@@ -1,4 +1,5 @@
 pub mod Glue
+pub mod Adding
 pub mod ItemLists
 pub mod Weights
 pub mod LineWeights

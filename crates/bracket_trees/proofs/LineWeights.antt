@@ -5,6 +5,7 @@ use Rattle.std.proofs.lemmas.List.Sums.{sum_by-cons}
 use Rattle.bracket_rules.specs.Rows.{Row, glue}
 use Rattle.bracket_trees.specs.Tree.{Tree, text, pair, stray, capped, nothing, two, three, width_of, weight, items, all_weight, tree_rows, gap_rows, bracket_row, closing_rows}
 use Rattle.bracket_trees.specs.Weights.{glue_weights, gap_weights, tree_weights, all_weights, AreCovered}
+use Rattle.bracket_trees.proofs.Adding.{AddsUp, added-append, added-items}
 
 -- every text has a line
 abbrev pub HasWeight : List ℕ → Type 0
@@ -198,30 +199,22 @@ pub HasWeight-all : (ts : List Tree) → HasWeight (all_weights ts)
 HasWeight-all [] = tt
 HasWeight-all (t ∷ ts) = HasWeight-glue (tree_weights t) (all_weights ts) (HasWeight-tree t)
 
+adds_weights : AddsUp glue_weights tree_weights all_weights
+adds_weights = record {
+  one_more = λ t ts. refl;
+  none_before = λ ts. zero_glue (all_weights ts) (HasWeight-all ts);
+  none_after = λ t. glue_zero (tree_weights t) (HasWeight-tree t);
+  in_turn = glue_weights-assoc;
+  of_nothing = refl;
+  of_two = λ a b. refl;
+  of_three = λ a b c. glue_weights-assoc (tree_weights a) (tree_weights b) (tree_weights c);
+}
+
 pub all_weights-append : (xs ys : List Tree) → all_weights (xs ++ ys) ≡ glue_weights (all_weights xs) (all_weights ys)
-all_weights-append [] ys = sym (zero_glue (all_weights ys) (HasWeight-all ys))
-all_weights-append (x ∷ xs) ys =
-    ap (glue_weights (tree_weights x)) (all_weights-append xs ys) ∙ sym (glue_weights-assoc (tree_weights x) (all_weights xs) (all_weights ys))
+all_weights-append = added-append adds_weights
 
 pub all_weights-items : (t : Tree) → all_weights (items t) ≡ tree_weights t
-all_weights-items (text l) = glue_zero (tree_weights (text l)) (HasWeight-tree (text l))
-all_weights-items (pair k o i c) = glue_zero (tree_weights (pair k o i c)) (HasWeight-tree (pair k o i c))
-all_weights-items (stray k w) = glue_zero (tree_weights (stray k w)) tt
-all_weights-items (capped k w) = glue_zero (tree_weights (capped k w)) tt
-all_weights-items nothing = refl
-all_weights-items (two a b) =
-    let both = all_weights-append (items a) (items b) in
-    let first = all_weights-items a in
-    let second = all_weights-items b in
-    cc
-all_weights-items (three a b c) =
-    let rest = all_weights-append (items b) (items c) in
-    let all = all_weights-append (items a) (items b ++ items c) in
-    let first = all_weights-items a in
-    let second = all_weights-items b in
-    let third = all_weights-items c in
-    let order = glue_weights-assoc (tree_weights a) (tree_weights b) (tree_weights c) in
-    cc
+all_weights-items = added-items adds_weights
 
 pub sum-all_weights : (ts : List Tree) → sum (all_weights ts) ≡ all_weight ts
 sum-all_weights [] = omega arith

@@ -1,6 +1,8 @@
 -- How trees come to tell what a parse tells: none, one after another, one that fits, and each kind of bracket.
-use Rattle.std.proofs.Common.{◌≡◌, ℕ, suc, ◌+◌, ◌≤◌, ◌<◌, ◌≢◌, Bool, true, false, ◌||◌, eqb, Option, Some, None, List, [], ◌∷◌, ◌++◌, length, refl, ap, sym, ◌∙◌, arith, inl, inr}
+use Rattle.std.proofs.Common.{◌≡◌, ℕ, suc, ◌+◌, ◌≤◌, ◌<◌, ◌≢◌, Bool, true, false, eqb, Option, Some, None, List, [], ◌∷◌, ◌++◌, length, refl, ap, sym, ◌∙◌, arith, inl, inr}
 use Rattle.std.specs.Prelude.{is_some}
+use Rattle.std.proofs.Math.Bool.{or-false}
+use Rattle.std.proofs.lemmas.Bool.{or_from}
 use Rattle.std.proofs.lemmas.Bool.Decides.{eqb_tells}
 use Rattle.std.proofs.lemmas.List.{append-nil}
 use Rattle.text_lengths.specs.declared.Length.{Length}
@@ -12,8 +14,9 @@ use Rattle.bracket_rules.specs.Rows.{Row, HasRow, empty_row, glue, placed, rows_
 use Rattle.bracket_trees.specs.Tree.{Tree, pair, stray, capped, wide, tree_length, inside_start, inside_end, tree_tokens, tree_entries, bracket_row, closing_rows, tree_rows, is_missing, nesting, IsLone, IsTree, items}
 use Rattle.bracket_trees.specs.Items.{all_length, entries_at, all_entries, all_rows, any_missing}
 use Rattle.bracket_trees.specs.Told.{has_kind, with_kind, IsStack, Fits, prepend, Tells}
+use Rattle.bracket_trees.proofs.Adding.{spread-append}
 use Rattle.bracket_trees.proofs.Glue.{HasRow-glue, HasRow-tree_rows, glue_empty, empty_glue, glue_assoc, placed-glue, placed-tree, placed-bracket, rows_length-tree}
-use Rattle.bracket_trees.proofs.ItemLists.{all_length-append, all_length-items, spread-append, all_entries-items, all_rows-append, all_rows-items, any_missing-append, any_missing-items, or_false}
+use Rattle.bracket_trees.proofs.ItemLists.{all_length-append, all_length-items, all_entries-items, all_rows-append, all_rows-items, any_missing-append, any_missing-items}
 use Rattle.bracket_trees.proofs.TreeParse.{FitsOn, taken, prepend-prepend, parse-event, event_opens, event_too_deep, parse-closing, told-paired}
 use Rattle.bracket_trees.proofs.KindSets.{has_kind-with_same, has_kind-with_kind, IsStack-push}
 
@@ -25,9 +28,6 @@ Tells-none kinds level rest h = record {
   story = λ p stack s. ap (λ (q : Length). parse stack (placed q rest)) (sym (plus_none p));
   closes_none = λ k o. refl;
 }
-
-no_more : (a b : Bool) → a ≡ false → b ≡ false → (a || b) ≡ false
-no_more a b h k = rw (h, k) refl
 
 pub Tells-append : (kinds level : ℕ) (ahead mid rest : List Row) (xs ys : List Tree)
     → Tells kinds level ahead mid xs → Tells kinds level mid rest ys → Tells kinds level ahead rest (xs ++ ys)
@@ -44,7 +44,7 @@ Tells-append kinds level ahead mid rest xs ys h k = record {
       ∙ ap (λ (x : List Judged). prepend x (parse stack (placed (length_plus q (all_length ys)) rest))) (sym (spread-append (entries_at level) p xs ys))
       ∙ ap (λ (x : Length). prepend (all_entries p level (xs ++ ys)) (parse stack (placed x rest))) place;
   closes_none = λ j o.
-      any_missing-append j xs ys ∙ no_more (any_missing j xs) (any_missing j ys) (h.closes_none j o) (k.closes_none j o);
+      any_missing-append j xs ys ∙ or_from (any_missing j xs) (any_missing j ys) (h.closes_none j o) (k.closes_none j o);
 }
 
 -- ---- a tree that fits
@@ -153,7 +153,7 @@ missing_of_pair : (kinds level k o : ℕ) (ahead rest : List Row) (i : Tree) (c 
     → Tells (with_kind kinds k) (suc level) ahead rest (items i)
     → has_kind kinds j ≡ true → any_missing j (pair k o i c ∷ []) ≡ false
 missing_of_pair kinds level k o ahead rest i c j h open_kind =
-    or_false (is_missing j i) ∙ sym (any_missing-items j i) ∙ h.closes_none j (has_kind-with_kind kinds k j open_kind)
+    or-false (is_missing j i) ∙ sym (any_missing-items j i) ∙ h.closes_none j (has_kind-with_kind kinds k j open_kind)
 
 -- what is inside a pair does not miss the pair's kind
 pub not_missing_inside : (kinds level k : ℕ) (ahead rest : List Row) (i : Tree)

@@ -1,5 +1,6 @@
 -- A tree that fits a stack may stand for its tokens: the parse goes on after its entries.
-use Rattle.std.proofs.Common.{◌≡◌, ℕ, suc, ◌+◌, ◌≤◌, ◌<◌, max, Bool, true, false, ◌&&◌, ◌||◌, eqb, Some, None, List, [], ◌∷◌, ◌++◌, length, refl, ap, sym, ◌∙◌, arith, append_assoc, inl, inr}
+use Rattle.std.proofs.Common.{◌≡◌, ℕ, suc, ◌+◌, ◌≤◌, ◌<◌, max, true, false, eqb, Some, None, List, [], ◌∷◌, ◌++◌, length, refl, ap, sym, ◌∙◌, arith, append_assoc, inl, inr}
+use Rattle.std.proofs.lemmas.Bool.{and_parts, or_parts, or_left, or_right}
 use Rattle.std.proofs.lemmas.Bool.Decides.{eqb_tells}
 use Rattle.std.proofs.lemmas.Grind.{common_steps}
 use Rattle.text_lengths.specs.declared.Length.{Length}
@@ -89,45 +90,17 @@ FitsOn-inside stack p k o i w h f = record {
   room = let room : length stack + suc (nesting i) ≤ MOST_OPEN = f.room in omega arith;
 }
 
-and_first : (a b : Bool) → (a && b) ≡ true → a ≡ true
-and_first true b h = refl
-and_first false b h = h
-
-and_second : (a b : Bool) → (a && b) ≡ true → b ≡ true
-and_second true b h = h
-and_second false b h = cc
-
-or_first : (a b : Bool) → (a || b) ≡ false → a ≡ false
-or_first true b h = cc
-or_first false b h = refl
-
-or_second : (a b : Bool) → (a || b) ≡ false → b ≡ false
-or_second true b h = cc
-or_second false b h = h
-
-or_left : (a b : Bool) → a ≡ true → (a || b) ≡ true
-or_left true b h = refl
-or_left false b h = cc
-
-or_right : (a b : Bool) → b ≡ true → (a || b) ≡ true
-or_right true b h = refl
-or_right false b h = h
-
-pub FitsOn-first : (stack : List Bracket) (a b : Tree) → FitsOn stack (two a b) → FitsOn stack a
-FitsOn-first stack a b f = record {
-  closed = and_first (is_closed a) (is_closed b) f.closed;
-  uncapped = or_first (is_capped a) (is_capped b) f.uncapped;
-  apart = λ k m. f.apart k (or_left (is_missing k a) (is_missing k b) m);
-  room = let room : length stack + max (nesting a) (nesting b) ≤ MOST_OPEN = f.room in omega arith;
-}
-
-pub FitsOn-second : (stack : List Bracket) (a b : Tree) → FitsOn stack (two a b) → FitsOn stack b
-FitsOn-second stack a b f = record {
-  closed = and_second (is_closed a) (is_closed b) f.closed;
-  uncapped = or_second (is_capped a) (is_capped b) f.uncapped;
-  apart = λ k m. f.apart k (or_right (is_missing k a) (is_missing k b) m);
-  room = let room : length stack + max (nesting a) (nesting b) ≤ MOST_OPEN = f.room in omega arith;
-}
+-- both parts of a list fit where the list does
+FitsOn-both : (stack : List Bracket) (a b : Tree) → FitsOn stack (two a b) → FitsOn stack a × FitsOn stack b
+FitsOn-both stack a b f =
+    let closed = and_parts (is_closed a) (is_closed b) f.closed in
+    let uncapped = or_parts (is_capped a) (is_capped b) f.uncapped in
+    let missing_first = λ (k : ℕ). or_left (is_missing k a) (is_missing k b) in
+    let missing_second = λ (k : ℕ). or_right (is_missing k a) (is_missing k b) in
+    let room : length stack + max (nesting a) (nesting b) ≤ MOST_OPEN = f.room in (
+      record { closed = closed.0; uncapped = uncapped.0; apart = λ k m. f.apart k (missing_first k m); room = omega arith },
+      record { closed = closed.1; uncapped = uncapped.1; apart = λ k m. f.apart k (missing_second k m); room = omega arith },
+    )
 
 -- a list of three fits as one of two whose second is a list of two
 FitsOn-three : (stack : List Bracket) (a b c : Tree) → FitsOn stack (three a b c) → FitsOn stack (two a (two b c))
@@ -167,17 +140,18 @@ taken stack p (capped k w) us h f = let uncapped : true ≡ false = f.uncapped i
 taken stack p nothing us h f = refl
 taken stack p (two a b) us h f =
     let q : Length = length_plus p (tree_length a) in
+    let fits = FitsOn-both stack a b f in
     taken-both stack (tree_tokens p a) (tree_tokens q b) us (tree_entries p (length stack) a) (tree_entries q (length stack) b)
-    (taken stack p a (tree_tokens q b ++ us) h.1.0 (FitsOn-first stack a b f))
-    (taken stack q b us h.1.1 (FitsOn-second stack a b f))
+    (taken stack p a (tree_tokens q b ++ us) h.1.0 fits.0)
+    (taken stack q b us h.1.1 fits.1)
 taken stack p (three a b c) us h f =
     let q : Length = length_plus p (tree_length a) in
     let r : Length = length_plus q (tree_length b) in
-    let g = FitsOn-three stack a b c f in
-    let rest = FitsOn-second stack a (two b c) g in
+    let fits = FitsOn-both stack a (two b c) (FitsOn-three stack a b c f) in
+    let rest = FitsOn-both stack b c fits.1 in
     taken-both stack (tree_tokens p a) (tree_tokens q b ++ tree_tokens r c) us
     (tree_entries p (length stack) a) (tree_entries q (length stack) b ++ tree_entries r (length stack) c)
-    (taken stack p a ((tree_tokens q b ++ tree_tokens r c) ++ us) h.1.0 (FitsOn-first stack a (two b c) g))
+    (taken stack p a ((tree_tokens q b ++ tree_tokens r c) ++ us) h.1.0 fits.0)
     (taken-both stack (tree_tokens q b) (tree_tokens r c) us (tree_entries q (length stack) b) (tree_entries r (length stack) c)
-    (taken stack q b (tree_tokens r c ++ us) h.1.1.0 (FitsOn-first stack b c rest))
-    (taken stack r c us h.1.1.1 (FitsOn-second stack b c rest)))
+    (taken stack q b (tree_tokens r c ++ us) h.1.1.0 rest.0)
+    (taken stack r c us h.1.1.1 rest.1))

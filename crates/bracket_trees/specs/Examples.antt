@@ -1,25 +1,15 @@
 -- Worked examples of what a tree shows, as computed theorems. Places are (lines, columns) from (0, 0).
-use Rattle.std.specs.Prelude.{◌≡◌, ℕ, ◌≤◌, false, [], ◌∷◌, Some, refl}
+use Rattle.std.specs.Prelude.{◌≡◌, ◌≤◌, false, [], ◌∷◌, Some, refl}
 use Rattle.std.proofs.Common.{inl, inr}
 use Rattle.text_lengths.specs.Length.{length_of, no_length}
-use Rattle.bracket_rules.specs.declared.Entry.{Entry}
-use Rattle.bracket_rules.specs.declared.Status.{Status}
 use Rattle.bracket_rules.specs.declared.Status.TheVariants.{PairedOpening, PairedClosing, Unexpected}
+use Rattle.bracket_rules.specs.Examples.{entry}
 use Rattle.bracket_rules.specs.Table.{token}
 use Rattle.bracket_rules.specs.Parse.{entries_of}
 use Rattle.bracket_trees.specs.Tree.{text, pair, stray, capped, three, tree_story}
 use Rattle.bracket_trees.specs.Weights.{glue_weights, tree_weights, AreCovered}
 use Rattle.bracket_trees.specs.Places.{touched}
 use Rattle.bracket_trees.specs.Found.{IsTokenAt}
-
-abbrev entry : ℕ → ℕ → ℕ → ℕ → Status → ℕ → Entry
-entry line column len kind status level = record {
-  place = length_of line column;
-  len = len;
-  kind = kind;
-  status = status;
-  level = level;
-}
 
 -- `(` and `)` round `]`, and a bracket beyond the most that may be open
 entries_of_pair :

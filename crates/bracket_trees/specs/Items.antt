@@ -1,10 +1,10 @@
 -- What the nodes of a list show together, one after another.
-use Rattle.std.specs.Prelude.{ℕ, max, Bool, true, false, ◌&&◌, ◌||◌, List, [], ◌∷◌, ◌++◌}
+use Rattle.std.specs.Prelude.{ℕ, Bool, false, ◌||◌, List, [], ◌∷◌, ◌++◌}
 use Rattle.text_lengths.specs.declared.Length.{Length}
 use Rattle.text_lengths.specs.Length.{no_length, length_plus}
 use Rattle.bracket_rules.specs.Parse.{Bracket, Judged}
 use Rattle.bracket_rules.specs.Rows.{Row, empty_row, glue}
-use Rattle.bracket_trees.specs.Tree.{Tree, tree_length, tree_tokens, tree_entries, tree_rows, is_missing, is_closed, is_capped, nesting}
+use Rattle.bracket_trees.specs.Tree.{Tree, tree_length, tree_tokens, tree_entries, tree_rows, is_missing}
 
 abbrev pub all_length : List Tree → Length
 all_length [] = no_length
@@ -31,15 +31,3 @@ all_rows (t ∷ ts) = glue (tree_rows t) (all_rows ts)
 abbrev pub any_missing : ℕ → List Tree → Bool
 any_missing k [] = false
 any_missing k (t ∷ ts) = is_missing k t || any_missing k ts
-
-abbrev pub all_closed : List Tree → Bool
-all_closed [] = true
-all_closed (t ∷ ts) = is_closed t && all_closed ts
-
-abbrev pub any_capped : List Tree → Bool
-any_capped [] = false
-any_capped (t ∷ ts) = is_capped t || any_capped ts
-
-abbrev pub most_nesting : List Tree → ℕ
-most_nesting [] = 0
-most_nesting (t ∷ ts) = max (nesting t) (most_nesting ts)

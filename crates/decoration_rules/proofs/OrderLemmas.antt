@@ -23,23 +23,24 @@ abbrev pub Has : List Mark → Mark → Type 0
 Has [] q = ⊥
 Has (m ∷ ms) q = (m ≡ q) ⊎ Has ms q
 
-pub list_all-at : (p : Mark → Bool) (xs : List Mark) (q : Mark) → list_all p xs ≡ true → Has xs q → p q ≡ true
-list_all-at p [] q all has = absurd has
-list_all-at p (x ∷ xs) q all has = elim has [
-  | inl here ↦ subst (λ (m : Mark). p m ≡ true) here (and_parts (p x) (list_all p xs) all).0
-  | inr there ↦ list_all-at p xs q (and_parts (p x) (list_all p xs) all).1 there
+-- what a list says of its first mark and of its rest, it says of each mark that it has
+each-at : (Says : List Mark → Type 0) (Is : Mark → Type 0) → ((x : Mark) (xs : List Mark) → Says (x ∷ xs) → Is x × Says xs)
+    → (xs : List Mark) (q : Mark) → Says xs → Has xs q → Is q
+each-at Says Is parts [] q says has = absurd has
+each-at Says Is parts (x ∷ xs) q says has = elim has [
+  | inl here ↦ subst Is here (parts x xs says).0
+  | inr there ↦ each-at Says Is parts xs q (parts x xs says).1 there
 ]
+
+pub list_all-at : (p : Mark → Bool) (xs : List Mark) (q : Mark) → list_all p xs ≡ true → Has xs q → p q ≡ true
+list_all-at p = each-at (λ xs. list_all p xs ≡ true) (λ m. p m ≡ true) (λ x xs all. and_parts (p x) (list_all p xs) all)
 
 pub list_all-from : (p : Mark → Bool) (xs : List Mark) → ((q : Mark) → Has xs q → p q ≡ true) → list_all p xs ≡ true
 list_all-from p [] each = refl
 list_all-from p (x ∷ xs) each = and_from (p x) (list_all p xs) (each x (inl refl)) (list_all-from p xs (λ q has. each q (inr has)))
 
 pub list_any-at : (p : Mark → Bool) (xs : List Mark) (q : Mark) → list_any p xs ≡ false → Has xs q → p q ≡ false
-list_any-at p [] q none has = absurd has
-list_any-at p (x ∷ xs) q none has = elim has [
-  | inl here ↦ subst (λ (m : Mark). p m ≡ false) here (or_parts (p x) (list_any p xs) none).0
-  | inr there ↦ list_any-at p xs q (or_parts (p x) (list_any p xs) none).1 there
-]
+list_any-at p = each-at (λ xs. list_any p xs ≡ false) (λ m. p m ≡ false) (λ x xs none. or_parts (p x) (list_any p xs) none)
 
 pub list_any-none : (p : Mark → Bool) (xs : List Mark) → ((q : Mark) → Has xs q → p q ≡ false) → list_any p xs ≡ false
 list_any-none p [] each = refl

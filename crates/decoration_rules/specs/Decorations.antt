@@ -1,5 +1,5 @@
 -- The decorations of a document: what is asked of them, and the rule of their change.
-use Rattle.std.specs.Prelude.{ℕ, ◌≡◌, ◌+◌, ◌-◌, ◌^◌, ◌<◌, ◌≤◌, ◌==◌, ◌&&◌, ◌||◌, Bool, true, false, not, nat_lt, if◌then◌else◌, List, [], ◌∷◌, ◌++◌, length, map, filter, Option, Some, None, option_map, unwrap_or, Result, Ok, Err, ⊤}
+use Rattle.std.specs.Prelude.{ℕ, ◌≡◌, ◌+◌, ◌-◌, ◌<◌, ◌≤◌, ◌==◌, ◌&&◌, ◌||◌, Bool, true, false, not, nat_lt, if◌then◌else◌, List, [], ◌∷◌, ◌++◌, length, map, filter, Option, Some, None, option_map, unwrap_or, Result, Ok, Err, ⊤}
 use Rattle.std.specs.List.{list_any, All}
 use Rattle.text_lengths.specs.declared.Span.{Span}
 use Rattle.text_lengths.specs.declared.TheConstants.{GREATEST_NUMBER}

@@ -1,7 +1,8 @@
 -- No call brings a lone surrogate into a document that has none, where the texts that it is given have none.
-use Rattle.std.proofs.Common.{◌≡◌, ℕ, ◌+◌, Bool, true, false, nat_lt, nat_le, if◌then◌else◌, List, [], ◌∷◌, ◌++◌, length, Option, Some, Result, Ok, Err, refl, sym, subst}
+use Rattle.std.proofs.Common.{◌≡◌, ℕ, ◌+◌, ◌<◌, not, map, drop, filter, find, option_map, arith, Bool, true, false, nat_lt, nat_le, if◌then◌else◌, List, [], ◌∷◌, ◌++◌, length, Option, Some, Result, Ok, Err, refl, ap, sym, subst}
 use Rattle.std.specs.Prelude.{⊤, All}
-use Rattle.std.proofs.lemmas.List.Elements.{All-nil, All-cons, All-head, All-tail, All-push}
+use Rattle.std.proofs.lemmas.Bool.{eqb-true, ne_eqb}
+use Rattle.std.proofs.lemmas.List.Elements.{All-nil, All-cons, All-head, All-tail, All-push, All-filter}
 use Rattle.unit_text.specs.Units.{IsPaired}
 use Rattle.text_rules.specs.declared.Op.{Op}
 use Rattle.batch_rules.specs.Refusals.{BatchRefusal}
@@ -14,14 +15,21 @@ use Rattle.decoration_rules.specs.Refusals.{DecoRefusal}
 use Rattle.decoration_rules.specs.declared.NewDeco.{NewDeco}
 use Rattle.decoration_rules.specs.Decorations.{Decorations, decorated}
 use Rattle.undo_rules.specs.Stack.{Step, Stack, joined, new_step, undone_lists, redone_lists, undone, redone}
+use Rattle.snapshot_rules.specs.Refusals.{ShelfRefusal}
+use Rattle.snapshot_rules.specs.Snapshots.{Snapshot, FlatShelf, IsRising, IsSound, empty_shelf, has_id, skipped, front, front_of, least_read, is_full, is_open, flat_take, flat_peek, flat_close}
+use Rattle.snapshot_rules.proofs.Fronts.{IsPaired-front}
 use Rattle.document_rules.specs.declared.ModelError.{ModelError}
 use Rattle.document_rules.specs.Refusals.{FlatRefusal, limit}
 use Rattle.document_rules.specs.Document.{greatest_version, FlatChange, FlatState, new_document, flat_open, after_batch, edited_by, flat_edit, text_before, text_after, carried_back, carried_on, returned, undone_step, flat_undo, redone_step, flat_redo, with_decorations, flat_decorate}
 use Rattle.document_rules.specs.Outcomes.{Changes, ChangesWith, Moves}
-use Rattle.document_rules.specs.Paired.{IsPairedChange, ArePairedSteps, IsPairedState}
+use Rattle.document_rules.specs.Snapshots.{with_shelf, flat_snapshot, units_read, flat_peek_of, flat_skipped, flat_close_of}
+use Rattle.document_rules.specs.Paired.{IsPairedChange, ArePairedSteps, IsPairedShelf, IsPairedState}
 
 abbrev IsPairedStep : Step FlatChange → Type 0
 IsPairedStep step = All IsPairedChange step.changes
+
+abbrev HasPairedRest : Snapshot → Type 0
+HasPairedRest snapshot = IsPaired snapshot.rest
 
 -- ---- lists of steps
 
@@ -61,6 +69,73 @@ paired_after now [] h kept = h
 paired_after now (change ∷ changes) h kept =
     paired_after change.after changes (All-head IsPairedChange change changes kept).after (All-tail IsPairedChange change changes kept)
 
+-- ---- the shelf
+
+pub no_snapshots : IsPairedShelf empty_shelf
+no_snapshots = All-nil HasPairedRest
+
+paired_taken : (is_full : Bool) (shelf g : FlatShelf) (units : List ℕ) (why : ShelfRefusal)
+    → (if is_full then Err why else Ok (record {
+      snapshots = shelf.snapshots ++ record { id = shelf.next_id; rest = units } ∷ [];
+      next_id = shelf.next_id + 1;
+    })) ≡ Ok g
+    → IsPaired units → IsPairedShelf shelf → IsPairedShelf g
+paired_taken true shelf g units why done h kept = absurd cc
+paired_taken false shelf g units why done h kept =
+    let is : record { snapshots = shelf.snapshots ++ record { id = shelf.next_id; rest = units } ∷ []; next_id = shelf.next_id + 1 } ≡ g = cc in
+    subst IsPairedShelf is (All-push HasPairedRest shelf.snapshots (record { id = shelf.next_id; rest = units }) kept h)
+
+paired_closed : (is_there : Bool) (shelf g : FlatShelf) (id : ℕ) (why : ShelfRefusal)
+    → (if is_there then Ok (record shelf { snapshots = filter (λ snapshot. not (has_id id snapshot)) shelf.snapshots }) else Err why) ≡ Ok g
+    → IsPairedShelf shelf → IsPairedShelf g
+paired_closed false shelf g id why done kept = absurd cc
+paired_closed true shelf g id why done kept =
+    let is : record shelf { snapshots = filter (λ snapshot. not (has_id id snapshot)) shelf.snapshots } ≡ g = cc in
+    subst IsPairedShelf is (All-filter (λ snapshot. not (has_id id snapshot)) HasPairedRest shelf.snapshots kept)
+
+front_taken : (is_few : Bool) (count : ℕ) (rest units : List ℕ) (why : ShelfRefusal) → (if is_few then Err why else Ok (front count rest)) ≡ Ok units
+    → front count rest ≡ units
+front_taken true count rest units why e = absurd cc
+front_taken false count rest units why e = cc
+
+skipped_by : (t : Bool) (id n : ℕ) (x : Snapshot) → has_id id x ≡ t → skipped id n x ≡ (if t then record x { rest = drop n x.rest } else x)
+skipped_by t id n x e = ap (λ b. if b then record x { rest = drop n x.rest } else x) e
+
+-- snapshots of other ids stay
+paired_others : (id n own : ℕ) (xs : List Snapshot) → own ≡ id → All (λ (later : Snapshot). own < later.id) xs → All HasPairedRest xs
+    → All HasPairedRest (map (skipped id n) xs)
+paired_others id n own [] same above kept = kept
+paired_others id n own (x ∷ xs) same above kept =
+    let more : own < x.id = All-head (λ (later : Snapshot). own < later.id) x xs above in
+    let other : has_id id x ≡ false = ne_eqb x.id id (λ e. omega (arith, more, same, e)) in
+    All-cons HasPairedRest (skipped id n x) (map (skipped id n) xs)
+    (subst HasPairedRest (sym (skipped_by false id n x other)) (All-head HasPairedRest x xs kept))
+    (paired_others id n own xs same (All-tail (λ (later : Snapshot). own < later.id) x xs above) (All-tail HasPairedRest x xs kept))
+
+paired_skipped-by : (t : Bool) (id count : ℕ) (units : List ℕ) (x : Snapshot) (xs : List Snapshot) → has_id id x ≡ t → IsRising (x ∷ xs)
+    → All HasPairedRest (x ∷ xs) → front_of count (option_map (λ snapshot. snapshot.rest) (find (has_id id) (x ∷ xs))) ≡ Ok units
+    → (front_of count (option_map (λ snapshot. snapshot.rest) (find (has_id id) xs)) ≡ Ok units → All HasPairedRest (map (skipped id (length units)) xs))
+    → All HasPairedRest (map (skipped id (length units)) (x ∷ xs))
+paired_skipped-by true id count units x xs e rising kept taken later =
+    let is : front count x.rest ≡ units = front_taken (nat_lt count least_read) count x.rest units _ (rw e at taken) in
+    let rest : IsPaired (drop (length units) x.rest) =
+    subst (λ (u : List ℕ). IsPaired (drop (length u) x.rest)) is (IsPaired-front x.rest count (All-head HasPairedRest x xs kept)).1 in
+    All-cons HasPairedRest (skipped id (length units) x) (map (skipped id (length units)) xs)
+    (subst HasPairedRest (sym (skipped_by true id (length units) x e)) rest)
+    (paired_others id (length units) x.id xs (eqb-true x.id id e) rising.0 (All-tail HasPairedRest x xs kept))
+paired_skipped-by false id count units x xs e rising kept taken later =
+    All-cons HasPairedRest (skipped id (length units) x) (map (skipped id (length units)) xs)
+    (subst HasPairedRest (sym (skipped_by false id (length units) x e)) (All-head HasPairedRest x xs kept)) (later (rw e at taken))
+
+-- what a read took of a snapshot is skipped
+paired_skipped : (id count : ℕ) (units : List ℕ) (xs : List Snapshot) → IsRising xs → All HasPairedRest xs
+    → front_of count (option_map (λ snapshot. snapshot.rest) (find (has_id id) xs)) ≡ Ok units
+    → All HasPairedRest (map (skipped id (length units)) xs)
+paired_skipped id count units [] rising kept taken = kept
+paired_skipped id count units (x ∷ xs) rising kept taken =
+    paired_skipped-by (has_id id x) id count units x xs refl rising kept taken
+    (paired_skipped id count units xs rising.1 (All-tail HasPairedRest x xs kept))
+
 -- ---- the rules
 
 accepted_value : (refused : Bool) (new f : FlatState) (e : FlatRefusal) → (if refused then Err e else Ok new) ≡ Ok f → IsPairedState new → IsPairedState f
@@ -74,7 +149,7 @@ accepted_move false new f e same h = let is : new ≡ f = cc in subst IsPairedSt
 pub opened_paired : (text : List ℕ) (table : Table) (f : FlatState) → flat_open text table ≡ Ok f → IsPaired text → IsPairedState f
 opened_paired text table f e h =
     accepted_value (nat_lt most_units (length text)) (new_document text table) f limit e
-    (record { units = h; undo = All-nil IsPairedStep; redo = All-nil IsPairedStep })
+    (record { units = h; undo = All-nil IsPairedStep; redo = All-nil IsPairedStep; shelf = All-nil HasPairedRest })
 
 after_batch_paired : (f : FlatState) (ops sorted : List Op) → checked_batch f.units ops ≡ Ok sorted → IsPairedState f → All HasPairedText ops → IsPairedState (after_batch f ops sorted)
 after_batch_paired f ops sorted rule h texts =
@@ -87,6 +162,7 @@ after_batch_paired f ops sorted rule h texts =
       undo = paired_joined f.history.is_open f.history.undo (record { before = f.units; ops = sorted; after = applied f.units ops }) f.alternative (f.version + 1)
           h.undo (record { before = h.units; texts = in_order; after = after });
       redo = All-nil IsPairedStep;
+      shelf = h.shelf;
     }
 
 edited_by_paired : (f g : FlatState) (ops : List Op) (r : Result (List Op) BatchRefusal) → checked_batch f.units ops ≡ r → edited_by f ops r ≡ Ok g
@@ -104,7 +180,7 @@ undone_step_paired f g (step ∷ steps) kept done h =
     let lists = paired_undone f.history.undo f.history.redo h.undo h.redo in
     accepted_move (nat_le greatest_version f.version)
     (returned f (text_before f.units step.changes) step.alt_before (carried_back f.decorations step.changes) (undone f.history)) g limit done
-    (record { units = paired_before f.units step.changes h.units (All-head IsPairedStep step steps kept); undo = lists.undo; redo = lists.redo })
+    (record { units = paired_before f.units step.changes h.units (All-head IsPairedStep step steps kept); undo = lists.undo; redo = lists.redo; shelf = h.shelf })
 
 pub undone_paired : (f g : FlatState) → flat_undo f ≡ Ok (Some g) → IsPairedState f → IsPairedState g
 undone_paired f g done h = undone_step_paired f g f.history.undo h.undo done h
@@ -115,7 +191,7 @@ redone_step_paired f g (step ∷ steps) kept done h =
     let lists = paired_redone f.history.undo f.history.redo f.history.is_open h.undo h.redo in
     accepted_move (nat_le greatest_version f.version)
     (returned f (text_after f.units step.changes) step.alt_after (carried_on f.decorations step.changes) (redone f.history)) g limit done
-    (record { units = paired_after f.units step.changes h.units (All-head IsPairedStep step steps kept); undo = lists.undo; redo = lists.redo })
+    (record { units = paired_after f.units step.changes h.units (All-head IsPairedStep step steps kept); undo = lists.undo; redo = lists.redo; shelf = h.shelf })
 
 pub redone_paired : (f g : FlatState) → flat_redo f ≡ Ok (Some g) → IsPairedState f → IsPairedState g
 redone_paired f g done h = redone_step_paired f g f.history.redo h.redo done h
@@ -153,10 +229,41 @@ with_decorations_paired : (f g : FlatState) (d : Result Decorations DecoRefusal)
 with_decorations_paired f g (Err e) done h = absurd cc
 with_decorations_paired f g (Ok d) done h =
     let same : record f { decorations = d } ≡ g = cc in
-    subst IsPairedState same (record { units = h.units; undo = h.undo; redo = h.redo })
+    subst IsPairedState same (record { units = h.units; undo = h.undo; redo = h.redo; shelf = h.shelf })
 
 pub IsPairedState-decorate : (answer : ℕ) (result : Result ℕ ModelError) (old new : FlatState) (owner : ℕ) (remove : List ℕ) (add : List NewDeco)
     → ChangesWith answer result old new (flat_decorate old owner remove add) → IsPairedState old → IsPairedState new
 IsPairedState-decorate answer (Ok n) old new owner remove add done h =
     with_decorations_paired old new (decorated old.decorations owner remove add old.units) done.0 h
 IsPairedState-decorate answer (Err e) old new owner remove add done h = subst IsPairedState (sym done.0) h
+
+with_shelf_paired : (f g : FlatState) (r : Result FlatShelf ShelfRefusal) → with_shelf f r ≡ Ok g → ((shelf : FlatShelf) → r ≡ Ok shelf → IsPairedShelf shelf)
+    → IsPairedState f → IsPairedState g
+with_shelf_paired f g (Err e) done by_rule h = absurd cc
+with_shelf_paired f g (Ok shelf) done by_rule h =
+    let same : record f { shelf = shelf } ≡ g = cc in
+    subst IsPairedState same (record { units = h.units; undo = h.undo; redo = h.redo; shelf = by_rule shelf refl })
+
+pub IsPairedState-snapshot : (answer : ℕ) (result : Result ℕ ModelError) (old new : FlatState) → ChangesWith answer result old new (flat_snapshot old)
+    → IsPairedState old → IsPairedState new
+IsPairedState-snapshot answer (Ok n) old new done h =
+    with_shelf_paired old new (flat_take old.shelf old.units) done.0 (λ shelf e. paired_taken (is_full old.shelf) old.shelf shelf old.units _ e h.units h.shelf) h
+IsPairedState-snapshot answer (Err e) old new done h = subst IsPairedState (sym done.0) h
+
+pub IsPairedState-close : (result : Result ⊤ ModelError) (old new : FlatState) (id : ℕ) → Changes result old new (flat_close_of old id)
+    → IsPairedState old → IsPairedState new
+IsPairedState-close (Ok x) old new id done h =
+    with_shelf_paired old new (flat_close old.shelf id) done (λ shelf e. paired_closed (is_open old.shelf id) old.shelf shelf id _ e h.shelf) h
+IsPairedState-close (Err e) old new id done h = subst IsPairedState (sym done.0) h
+
+peeked : (r : Result (List ℕ) ShelfRefusal) (units : List ℕ) → units_read r ≡ Ok units → r ≡ Ok units
+peeked (Err e) units done = absurd cc
+peeked (Ok read) units done = cc
+
+-- the units that a read took are skipped
+pub IsPairedState-skip : (old new : FlatState) (id n count : ℕ) (units : List ℕ) → IsSound old.shelf → new ≡ flat_skipped old id n
+    → flat_peek_of old id count ≡ Ok units → n ≡ length units → IsPairedState old → IsPairedState new
+IsPairedState-skip old new id n count units sound is taken all h =
+    let rest : All HasPairedRest (map (skipped id (length units)) old.shelf.snapshots) =
+    paired_skipped id count units old.shelf.snapshots sound.rising h.shelf (peeked (flat_peek old.shelf id count) units taken) in
+    rw (is, all) (record { units = h.units; undo = h.undo; redo = h.redo; shelf = rest })

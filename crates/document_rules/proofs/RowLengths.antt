@@ -1,5 +1,5 @@
 -- The rows of brackets of a text are as long as the text.
-use Rattle.std.proofs.Common.{◌≡◌, ℕ, suc, ◌-◌, List, [], ◌∷◌, length, map, refl, ap, sym, ◌∙◌, arith}
+use Rattle.std.proofs.Common.{◌≡◌, ℕ, suc, ◌-◌, List, [], ◌∷◌, length, map, refl, ap, ◌∙◌, arith}
 use Rattle.text_lengths.specs.declared.Length.{Length}
 use Rattle.text_lengths.specs.Length.{length_of}
 use Rattle.text_rules.specs.Lines.{Line, lines_of, last_content, length_of_lines, text_length}

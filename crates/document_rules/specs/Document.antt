@@ -1,6 +1,6 @@
 -- The flat document: one list of units and one of decorations, changed by the rule of each call. What can be undone is
 -- kept as whole texts.
-use Rattle.std.specs.Prelude.{ℕ, ◌+◌, ◌-◌, ◌^◌, false, nat_lt, nat_le, if◌then◌else◌, List, [], ◌∷◌, length, map, take, drop, Option, Some, None, Result, Ok, Err}
+use Rattle.std.specs.Prelude.{ℕ, ◌+◌, ◌-◌, false, nat_lt, nat_le, if◌then◌else◌, List, [], ◌∷◌, length, map, take, drop, Option, Some, None, Result, Ok, Err}
 use Rattle.text_lengths.specs.declared.Position.{Position}
 use Rattle.text_lengths.specs.declared.Span.{Span}
 use Rattle.text_lengths.specs.declared.TheConstants.{GREATEST_NUMBER}
@@ -21,6 +21,7 @@ use Rattle.decoration_rules.specs.Refusals as undecorated
 use Rattle.decoration_rules.specs.Marks.{carried}
 use Rattle.decoration_rules.specs.Decorations.{Decorations, no_decorations, decorated, deco_at, decos_in}
 use Rattle.undo_rules.specs.Stack.{Step, Stack, empty_stack, pushed, stopped, undone, redone}
+use Rattle.snapshot_rules.specs.Snapshots.{FlatShelf, empty_shelf}
 use Rattle.document_rules.specs.Refusals.{FlatRefusal, unknown, range, overlap, limit}
 
 abbrev pub greatest_version : ℕ
@@ -43,11 +44,20 @@ pub record FlatState : Type 0 where
   pub table : Table
   -- what can be undone and redone
   pub history : Stack FlatChange
+  -- the texts of earlier moments that are read from their fronts
+  pub shelf : FlatShelf
 
 -- a new document with this text and these brackets
 abbrev pub new_document : List ℕ → Table → FlatState
-new_document units table =
-    record { units = units; version = 1; alternative = 1; decorations = no_decorations; table = table; history = empty_stack }
+new_document units table = record {
+  units = units;
+  version = 1;
+  alternative = 1;
+  decorations = no_decorations;
+  table = table;
+  history = empty_stack;
+  shelf = empty_shelf;
+}
 
 -- the document before any text was opened
 abbrev pub empty_document : FlatState

@@ -8,8 +8,11 @@ use Rattle.bracket_rules.specs.Table.{standard_table}
 use Rattle.bracket_rules.specs.declared.Entry.{Entry}
 use Rattle.bracket_rules.specs.declared.Status.{Status}
 use Rattle.bracket_rules.specs.declared.Status.TheVariants.{PairedOpening, PairedClosing, Unclosed, Unexpected}
+use Rattle.snapshot_rules.specs.Snapshots.{empty_shelf}
+use Rattle.document_rules.specs.Snapshots.{flat_snapshot, flat_peek_of, flat_skipped, flat_close_of}
+use Rattle.document_rules.specs.Stops.{flat_stops}
 use Rattle.document_rules.specs.Brackets.{flat_brackets, flat_match, flat_level}
-use Rattle.document_rules.specs.Refusals.{FlatRefusal, range, overlap, limit}
+use Rattle.document_rules.specs.Refusals.{FlatRefusal, unknown, range, overlap, limit}
 use Rattle.document_rules.specs.Document.{FlatState, new_document, after_batch, flat_edit, flat_undo, flat_redo, flat_decorate, flat_deco, flat_decos, carried_on, flat_line, flat_value, flat_position, flat_offset, flat_line_count, greatest_version}
 
 abbrev op : ℕ → ℕ → List ℕ → Op
@@ -27,6 +30,7 @@ an_edit_over_a_break : flat_edit (new_document (codes "ab\ncd") standard_table) 
         redo = [];
         is_open = true;
       };
+      shelf = empty_shelf;
     })
 an_edit_over_a_break = refl
 
@@ -44,11 +48,35 @@ abbrev one_edit : FlatState
 one_edit = after_batch (new_document (codes "a") standard_table) (op 1 1 (codes "b") ∷ []) (op 1 1 (codes "b") ∷ [])
 
 an_undo_goes_back_to_the_old_text : flat_undo one_edit
-    ≡ Ok (Some (record { units = codes "a"; version = 3; alternative = 1; decorations = no_decorations; table = standard_table; history = record { undo = []; redo = one_edit.history.undo; is_open = false } }))
+    ≡ Ok (Some (record {
+      units = codes "a";
+      version = 3;
+      alternative = 1;
+      decorations = no_decorations;
+      table = standard_table;
+      history = record { undo = []; redo = one_edit.history.undo; is_open = false };
+      shelf = empty_shelf;
+    }))
 an_undo_goes_back_to_the_old_text = refl
 
-a_redo_makes_the_step_again : flat_redo (record { units = codes "a"; version = 3; alternative = 1; decorations = no_decorations; table = standard_table; history = record { undo = []; redo = one_edit.history.undo; is_open = false } })
-    ≡ Ok (Some (record { units = codes "ab"; version = 4; alternative = 2; decorations = no_decorations; table = standard_table; history = record { undo = one_edit.history.undo; redo = []; is_open = false } }))
+a_redo_makes_the_step_again : flat_redo (record {
+  units = codes "a";
+  version = 3;
+  alternative = 1;
+  decorations = no_decorations;
+  table = standard_table;
+  history = record { undo = []; redo = one_edit.history.undo; is_open = false };
+  shelf = empty_shelf;
+})
+    ≡ Ok (Some (record {
+      units = codes "ab";
+      version = 4;
+      alternative = 2;
+      decorations = no_decorations;
+      table = standard_table;
+      history = record { undo = one_edit.history.undo; redo = []; is_open = false };
+      shelf = empty_shelf;
+    }))
 a_redo_makes_the_step_again = refl
 
 -- two edits without a stop are one step
@@ -56,7 +84,15 @@ abbrev two_edits : FlatState
 two_edits = after_batch one_edit (op 2 2 (codes "c") ∷ []) (op 2 2 (codes "c") ∷ [])
 
 an_undo_takes_back_the_whole_step : flat_undo two_edits
-    ≡ Ok (Some (record { units = codes "a"; version = 4; alternative = 1; decorations = no_decorations; table = standard_table; history = record { undo = []; redo = two_edits.history.undo; is_open = false } }))
+    ≡ Ok (Some (record {
+      units = codes "a";
+      version = 4;
+      alternative = 1;
+      decorations = no_decorations;
+      table = standard_table;
+      history = record { undo = []; redo = two_edits.history.undo; is_open = false };
+      shelf = empty_shelf;
+    }))
 an_undo_takes_back_the_whole_step = refl
 
 no_undo_at_the_last_version : flat_undo (record one_edit { version = greatest_version }) ≡ Err limit
@@ -160,3 +196,35 @@ level_after_a_pair = refl
 
 level_at_the_end : flat_level (new_document (codes "([)]{") standard_table) (record { line = 1; column = 6 }) ≡ Ok 1
 level_at_the_end = refl
+
+-- `hi`, which was put on the shelf
+abbrev hi : FlatState
+hi = record (new_document (codes "hi") standard_table) { shelf = record { snapshots = record { id = 1; rest = codes "hi" } ∷ []; next_id = 2 } }
+
+a_snapshot_of_the_text_of_now : flat_snapshot (new_document (codes "hi") standard_table) ≡ Ok hi
+a_snapshot_of_the_text_of_now = refl
+
+-- ... and then became `Xhi`
+abbrev hi_edited : FlatState
+hi_edited = after_batch hi (op 0 0 (codes "X") ∷ []) (op 0 0 (codes "X") ∷ [])
+
+an_edit_leaves_the_snapshot : flat_peek_of hi_edited 1 2 ≡ Ok (codes "hi")
+an_edit_leaves_the_snapshot = refl
+
+what_was_read_is_read_once : flat_peek_of (flat_skipped hi_edited 1 2) 1 2 ≡ Ok []
+what_was_read_is_read_once = refl
+
+no_such_snapshot : flat_peek_of hi 2 2 ≡ Err unknown
+no_such_snapshot = refl
+
+a_read_of_one_unit : flat_peek_of hi 1 1 ≡ Err range
+a_read_of_one_unit = refl
+
+a_snapshot_is_closed : flat_close_of hi 1 ≡ Ok (record (new_document (codes "hi") standard_table) { shelf = record { snapshots = []; next_id = 2 } })
+a_snapshot_is_closed = refl
+
+no_snapshot_to_close : flat_close_of (new_document (codes "hi") standard_table) 1 ≡ Err unknown
+no_snapshot_to_close = refl
+
+no_stops_past_the_last_line : flat_stops (new_document (codes "hi") standard_table) 2 ≡ Err range
+no_stops_past_the_last_line = refl

@@ -3,4 +3,6 @@ pub mod Outcomes
 pub mod Document
 pub mod Paired
 pub mod Brackets
+pub mod Snapshots
+pub mod Stops
 mod Examples

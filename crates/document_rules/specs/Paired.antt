@@ -3,6 +3,7 @@ use Rattle.std.specs.Prelude.{List, All}
 use Rattle.unit_text.specs.Units.{IsPaired}
 use Rattle.text_rules.specs.declared.Op.{Op}
 use Rattle.undo_rules.specs.Stack.{Step}
+use Rattle.snapshot_rules.specs.Snapshots.{Snapshot, FlatShelf}
 use Rattle.document_rules.specs.Document.{FlatChange, FlatState}
 
 -- a batch whose new texts, and the whole texts before and after it, have no lone surrogate
@@ -15,8 +16,13 @@ pub record IsPairedChange (change : FlatChange) : Type 0 where
 abbrev pub ArePairedSteps : List (Step FlatChange) → Type 0
 ArePairedSteps steps = All (λ (step : Step FlatChange). All IsPairedChange step.changes) steps
 
--- no text of the document has a lone surrogate: neither that of now, nor one that can be undone or redone
+-- snapshots of whose texts nothing is left to read that has a lone surrogate
+abbrev pub IsPairedShelf : FlatShelf → Type 0
+IsPairedShelf shelf = All (λ (snapshot : Snapshot). IsPaired snapshot.rest) shelf.snapshots
+
+-- no text of the document has a lone surrogate: neither that of now, nor one that can be undone, redone or read
 pub record IsPairedState (f : FlatState) : Type 0 where
   pub units : IsPaired f.units
   pub undo : ArePairedSteps f.history.undo
   pub redo : ArePairedSteps f.history.redo
+  pub shelf : IsPairedShelf f.shelf

@@ -52,11 +52,15 @@ IsById-without id (x ∷ xs) ordered =
     (λ _. (list_all-filter (λ mark. not (has_id id mark)) (λ later. ltb x.id later.id) xs ordered.0, IsById-without id xs ordered.1))
     (λ _. IsById-without id xs ordered.1)
 
-pub remove-tree : (id : ℕ) (m : Mark) (marks by_id : List Mark) → IsTree marks by_id → is_live marks id ≡ true
-    → m ≡ get_or by_id (prefix_len (λ other. ltb other.id id) by_id) m
-    → (prefix_len (λ other. stands_before other m) marks < length marks)
+-- a mark is taken out of both lists
+abbrev pub IsRemoval : ℕ → Mark → List Mark → List Mark → Type 0
+IsRemoval id m marks by_id =
+    (prefix_len (λ other. stands_before other m) marks < length marks)
     × IsTree (remove marks (prefix_len (λ other. stands_before other m) marks)) (remove by_id (prefix_len (λ other. ltb other.id id) by_id))
     × (remove marks (prefix_len (λ other. stands_before other m) marks) ≡ without id marks)
+
+pub remove-tree : (id : ℕ) (m : Mark) (marks by_id : List Mark) → IsTree marks by_id → is_live marks id ≡ true
+    → m ≡ get_or by_id (prefix_len (λ other. ltb other.id id) by_id) m → IsRemoval id m marks by_id
 remove-tree id m marks by_id tree live read =
     let live_id : is_live by_id id ≡ true = live-same id marks by_id (tree-same marks by_id tree) live in
     let found : IsFoundAt id by_id = found_at id by_id tree.ordered live_id in

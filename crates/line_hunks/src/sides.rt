@@ -1,8 +1,8 @@
 //! The two sides of an edit.
 
-ghost use Rattle.std.specs.Prelude.{◌≡◌, false, ◌+◌, ◌^◌, ◌<◌, ◌≤◌, ◌∷◌, length, drop};
+ghost use Rattle.std.specs.Prelude.{◌≡◌, ◌+◌, ◌^◌, ◌<◌, ◌≤◌, ◌∷◌, length, drop};
 ghost use Rattle.mark_rules.specs.declared.Mark.TheVariants.{New};
-ghost use Rattle.line_hunks.specs.Run.{is_new, new_lines, lines_in, IsInRange};
+ghost use Rattle.line_hunks.specs.Run.{new_lines, lines_in, IsInRange};
 ghost use Rattle.line_hunks.specs.Runs.{marks_before, marks_behind, StandsBy};
 
 use crate::run::Run;
@@ -48,30 +48,15 @@ pub(crate) fn set_aside(side: &mut RunStack, run: Run) -> u64
 {
     match run.first {
         Mark::New => run.lines,
-        Mark::Kept(_) => set_kept_aside(side, run),
-    }
-}
-
-/// The same of lines that are kept.
-fn set_kept_aside(side: &mut RunStack, run: Run) -> u64
-    requires kept { is_new run.first ≡ false }
-    requires room { length side.old.runs < side.old.room }
-    requires fits { lines_in side.old.runs + run.lines < 2 ^ 62 }
-    requires range { IsInRange run }
-    requires apart { StandsBy run.first side.old.runs }
-    ensures up { marks_before side.new.runs (new_lines result) ≡ marks_before side.old.runs run }
-    ensures down { marks_behind (new_lines result) side.new.runs ≡ marks_behind run side.old.runs }
-    ensures lines { result + lines_in side.new.runs ≡ run.lines + lines_in side.old.runs }
-    ensures apart { StandsBy New side.new.runs }
-    ensures count { length side.new.runs ≤ length side.old.runs + 1 }
-    ensures room { side.old.room ≤ side.new.room }
-{
-    if run.lines > 0 {
-        side.push(run);
-        return 0;
-    }
-    match side.pop() {
-        Some(beside) => beside.lines,
-        None => 0,
+        Mark::Kept(_) => {
+            if run.lines > 0 {
+                side.push(run);
+                return 0;
+            }
+            match side.pop() {
+                Some(beside) => beside.lines,
+                None => 0,
+            }
+        }
     }
 }

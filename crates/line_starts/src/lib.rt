@@ -15,7 +15,8 @@ use unit_text::{CARRIAGE_RETURN, LINE_FEED};
 pub fn find_starts(units: &[u16], out: &mut Vec<u64>) -> Result<(), AllocError>
     ensures ok { OnOk result (out.new.items ≡ out.old.items ++ starts_of units.now) }
     ensures err { OnErr result (out.new.items ≡ out.old.items) }
-    ensures with_room { vec_len out.old + (length units.now + 1) ≤ vec_capacity out.old → IsOk result }
+    ensures with_room { vec_len out.old + (length units.now + 1) ≤ vec_capacity out.old
+        → IsOk result }
     ensures capacity { vec_capacity out.old ≤ vec_capacity out.new }
 {
     let before = out.len();

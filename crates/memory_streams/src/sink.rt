@@ -21,13 +21,19 @@ pub struct MemSink {
 }
 
 impl Model for MemSink {
+    ghost use Rattle.std.specs.Prelude.{None};
     ghost use Rattle.memory_streams.specs.Planned.{PlannedSink};
     ghost use Rattle.memory_streams.specs.Tray.{bytes_told};
 
     ghost Value = { PlannedSink };
 
     ghost view = { λ s. record {
-      state = record { taken = bytes_told s.tray; room = s.tray.room; faults = s.faults };
+      state = record {
+        taken = bytes_told s.tray;
+        room = s.tray.room;
+        faults = s.faults;
+        tally = None;
+      };
       each = s.each;
       plan = s.plan.faults.items;
       calls = s.plan.calls;

@@ -31,7 +31,8 @@ impl Tray {
 
     /// Puts the piece behind what is there. It takes no memory.
     pub(crate) fn put(&mut self, piece: &[u8])
-        ensures told { bytes_told self.new ≡ told_with self.old.room (bytes_told self.old) piece.now }
+        ensures told { bytes_told self.new
+            ≡ told_with self.old.room (bytes_told self.old) piece.now }
         ensures room { self.new.room ≡ self.old.room }
     {
         let fits = piece.len() <= self.room - self.bytes.len();

@@ -1,5 +1,5 @@
 -- Decorations that move as ops are carried out one by one, and as steps are undone and redone.
-use Rattle.std.proofs.Common.{◌≡◌, ℕ, zero, suc, ◌+◌, ◌-◌, ◌*◌, ◌^◌, ◌<◌, ◌≤◌, Bool, true, false, List, [], ◌∷◌, ◌++◌, length, map, take, drop, get_or, slice_index_or, Result, Ok, Err, refl, ap, sym, subst, ◌∙◌, arith}
+use Rattle.std.proofs.Common.{◌≡◌, ℕ, suc, ◌+◌, ◌-◌, ◌^◌, ◌<◌, ◌≤◌, Bool, true, false, List, [], ◌∷◌, ◌++◌, length, map, take, drop, get_or, slice_index_or, Result, Ok, Err, refl, ap, sym, subst, ◌∙◌, arith}
 use Rattle.std.specs.List.{All}
 use Rattle.std.proofs.Math.Seq.{drop-cons}
 use Rattle.std.proofs.lemmas.List.{length-append, length-take-le, length-drop}
@@ -7,7 +7,6 @@ use Rattle.text_rules.specs.declared.Op.{Op}
 use Rattle.text_rules.specs.Edits.{edited}
 use Rattle.batch_rules.specs.Batches.{applied_from, inverse_from}
 use Rattle.decoration_rules.specs.declared.Mark.{Mark}
-use Rattle.decoration_rules.specs.declared.Edit.{Edit}
 use Rattle.decoration_rules.specs.declared.NewDeco.{NewDeco}
 use Rattle.decoration_rules.specs.declared.DecoError.{DecoError}
 use Rattle.decoration_rules.specs.Moves.{offset_limit, moved_mark, LieIn}
@@ -15,9 +14,9 @@ use Rattle.decoration_rules.specs.Marks.{in_order, carried}
 use Rattle.decoration_rules.specs.Decorations.{Decorations, IsSound, Decorates, decorated}
 use Rattle.decoration_rules.proofs.InText.{LieIn-moved, LieIn-decorated, moved_mark-fits}
 use Rattle.decoration_rules.proofs.MarkLists.{carried-none, carried-first}
-use Rattle.document_rules.specs.Document.{FlatChange, edit_of, carried_by, carried_back, carried_on, unforced}
+use Rattle.document_rules.specs.Document.{edit_of, carried_by, carried_back, carried_on, unforced}
 use Rattle.model_core.specs.declared.change.Change.{Change}
-use Rattle.model_core.specs.History.{text_back, changes_back, changes_on, Leads, LeadBack}
+use Rattle.model_core.specs.History.{text_back, changes_back, changes_on, LeadBack}
 use Rattle.model_core.specs.Carrying.{edit_with, carried_with, decorations_back, decorations_on, AreIn}
 
 -- no op moves nothing

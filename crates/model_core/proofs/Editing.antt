@@ -1,15 +1,16 @@
 -- An accepted batch: what it leaves, and what the flat document has then.
-use Rattle.std.proofs.Common.{◌≡◌, ℕ, ◌+◌, ◌<◌, ◌≤◌, false, true, nat_le, List, length, Ok, refl, ap, sym, subst, ◌∙◌, arith}
+use Rattle.std.proofs.Common.{◌≡◌, ℕ, ◌+◌, ◌≤◌, false, true, nat_le, List, length, Ok, refl, arith}
 use Rattle.std.specs.List.{All}
 use Rattle.std.proofs.lemmas.Bool.{lt-leb}
 use Rattle.unit_text.specs.Units.{IsPaired}
 use Rattle.text_rules.specs.declared.Op.{Op}
 use Rattle.batch_rules.specs.Batches.{most_units, checked_batch, applied_from, inverse_from}
-use Rattle.batch_rules.proofs.Standing.{IsAccepted, accepted}
+use Rattle.batch_rules.proofs.Standing.{accepted}
 use Rattle.batch_rules.proofs.Pairs.{IsPaired-applied, HasPairedText}
 use Rattle.batch_rules.proofs.Order.{All-sorted_ops}
 use Rattle.undo_rules.specs.Stack.{Stack, pushed}
-use Rattle.document_rules.specs.Document.{FlatState, flat_edit, greatest_version, edited_by}
+use Rattle.snapshot_rules.specs.Snapshots.{FlatShelf}
+use Rattle.document_rules.specs.Document.{flat_edit, greatest_version}
 use Rattle.model_core.specs.declared.change.Change.{Change}
 use Rattle.model_core.specs.History.{history_of, Leads, IsHistory}
 use Rattle.bracket_rules.specs.Table.{Table}
@@ -26,11 +27,12 @@ module _ (x : List ℕ) (ops sorted back : List Op) (rule : checked_batch x ops 
       let ok = accepted x ops sorted rule in
       record { standing = ok.standing; on = refl; inverse = inverse; fits_before = fits; fits_after = ok.fits }
 
-  pub edited_history : (s : Stack Change) (alternative version : ℕ) → IsHistory x s → IsHistory (applied_from 0 x sorted) (pushed s (record { batch = sorted; inverse = back }) alternative version)
+  pub edited_history : (s : Stack Change) (alternative version : ℕ) → IsHistory x s
+      → IsHistory (applied_from 0 x sorted) (pushed s (record { batch = sorted; inverse = back }) alternative version)
   edited_history s alternative version = IsHistory-pushed s (record { batch = sorted; inverse = back }) x (applied_from 0 x sorted) alternative version leads
 
-  pub edited_document : (s : Stack Change) (d : Decorations) (table : Table) (version alternative : ℕ) → version + 1 ≤ greatest_version
-      → flat_edit (record { units = x; version = version; alternative = alternative; decorations = d; table = table; history = history_of x s }) ops
+  pub edited_document : (s : Stack Change) (d : Decorations) (table : Table) (shelf : FlatShelf) (version alternative : ℕ) → version + 1 ≤ greatest_version
+      → flat_edit (record { units = x; version = version; alternative = alternative; decorations = d; table = table; history = history_of x s; shelf = shelf }) ops
       ≡ Ok (record {
         units = applied_from 0 x sorted;
         version = version + 1;
@@ -38,14 +40,16 @@ module _ (x : List ℕ) (ops sorted back : List Op) (rule : checked_batch x ops 
         decorations = carried_with true d sorted;
         table = table;
         history = history_of (applied_from 0 x sorted) (pushed s (record { batch = sorted; inverse = back }) alternative (version + 1));
+        shelf = shelf;
       })
-  edited_document s d table version alternative few =
+  edited_document s d table shelf version alternative few =
       let ok = accepted x ops sorted rule in
       let below : nat_le greatest_version version ≡ false = lt-leb greatest_version version (omega (arith, few)) in
       let history = history-pushed s (record { batch = sorted; inverse = back }) x (applied_from 0 x sorted) alternative (version + 1) leads in
       rw (rule, below, history, ok.in_order) refl
 
-pub edited_paired : (x : List ℕ) (ops sorted : List Op) → checked_batch x ops ≡ Ok sorted → IsPaired x → All HasPairedText ops → IsPaired (applied_from 0 x sorted)
+pub edited_paired : (x : List ℕ) (ops sorted : List Op) → checked_batch x ops ≡ Ok sorted → IsPaired x → All HasPairedText ops
+    → IsPaired (applied_from 0 x sorted)
 edited_paired x ops sorted rule paired texts =
     let ok = accepted x ops sorted rule in
     IsPaired-applied x sorted ok.standing ok.good (rw ok.in_order (All-sorted_ops HasPairedText ops texts)) paired

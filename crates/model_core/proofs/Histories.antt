@@ -1,15 +1,11 @@
 -- The texts that kept batches lead to, when one is pushed, undone or redone.
-use Rattle.std.proofs.Common.{◌≡◌, ℕ, zero, suc, ◌+◌, ◌≤◌, Bool, true, false, List, [], ◌∷◌, ◌++◌, length, refl, ap, sym, subst, ◌∙◌, arith}
-use Rattle.std.specs.List.{All}
-use Rattle.text_rules.specs.declared.Op.{Op}
-use Rattle.batch_rules.specs.Batches.{most_units, applied_from, inverse_from, StandFrom, text_units}
+use Rattle.std.proofs.Common.{◌≡◌, ℕ, Bool, true, false, List, [], ◌∷◌, ◌++◌, refl, ap, sym, subst, ◌∙◌}
+use Rattle.batch_rules.specs.Batches.{applied_from}
 use Rattle.batch_rules.proofs.Inverses.{inverse_gives_back}
-use Rattle.batch_rules.proofs.Standing.{text_units_applied, text_units_inverse}
 use Rattle.undo_rules.specs.Stack.{Step, Stack, joined, pushed, undone_lists, redone_lists}
-use Rattle.document_rules.specs.Document.{FlatChange, text_before, text_after}
+use Rattle.document_rules.specs.Document.{text_before, text_after}
 use Rattle.model_core.specs.declared.change.Change.{Change}
-use Rattle.model_core.specs.declared.change.Way.TheVariants.{Back, On}
-use Rattle.model_core.specs.History.{text_back, text_on, changes_back, changes_on, undo_steps, redo_steps, history_of, Leads, LeadBack, LeadOn, StepsLeadBack, StepsLeadOn, IsHistory, ops_by}
+use Rattle.model_core.specs.History.{text_back, text_on, changes_back, changes_on, undo_steps, redo_steps, history_of, Leads, LeadBack, LeadOn, StepsLeadBack, StepsLeadOn, IsHistory}
 
 -- A step and one change more.
 

@@ -6,5 +6,8 @@ pub mod Stepping
 pub mod Carries
 pub mod Inside
 pub mod Kept
-pub mod Scans
-pub mod TreeLength
+pub mod TextLines
+pub mod DirtyEdits
+pub mod EditedMarks
+pub mod Staying
+pub mod Shelving

@@ -1,25 +1,28 @@
 -- A step that is undone or redone: what it leaves, and what the flat document has then.
-use Rattle.std.proofs.Common.{◌≡◌, ℕ, zero, ◌+◌, ◌<◌, ◌≤◌, true, false, Bool, List, [], ◌∷◌, length, slice_get, Option, Some, None, Ok, Err, refl, ap, sym, subst, ◌∙◌, arith}
+use Rattle.std.proofs.Common.{◌≡◌, ℕ, ◌+◌, ◌<◌, ◌≤◌, Bool, List, [], ◌∷◌, length, slice_get, Some, None, Ok, Err, refl, ap, sym, subst, arith}
 use Rattle.std.proofs.lemmas.Bool.{lt-leb, le-leb}
 use Rattle.batch_rules.specs.Batches.{most_units, applied_from}
-use Rattle.undo_rules.specs.Stack.{Step, Stack, undone, undone_lists, redone, redone_lists}
+use Rattle.undo_rules.specs.Stack.{Step, Stack, undone, redone}
 use Rattle.document_rules.specs.Refusals.{limit}
+use Rattle.snapshot_rules.specs.Snapshots.{FlatShelf}
 use Rattle.document_rules.specs.Document.{FlatState, flat_undo, flat_redo, greatest_version}
 use Rattle.model_core.specs.declared.change.Change.{Change}
 use Rattle.model_core.specs.declared.change.Way.TheVariants.{Back, On}
 use Rattle.model_core.specs.State.{next_op_count}
-use Rattle.model_core.specs.History.{text_back, text_on, undo_steps, redo_steps, op_count, history_of, Leads, LeadBack, LeadOn, StepsLeadBack, StepsLeadOn, IsHistory}
+use Rattle.model_core.specs.History.{text_back, text_on, changes_back, changes_on, undo_steps, redo_steps, op_count, history_of, LeadBack, LeadOn, IsHistory}
 use Rattle.bracket_rules.specs.Table.{Table}
 use Rattle.decoration_rules.specs.Decorations.{Decorations}
 use Rattle.model_core.specs.Carrying.{decorations_back, decorations_on}
+use Rattle.mark_rules.specs.declared.Mark.{Mark}
+use Rattle.model_core.specs.LineMarks.{marked_back, marked_on, undone_marks, redone_marks}
 use Rattle.model_core.proofs.Turns.{ops_back, ops_on}
 use Rattle.model_core.proofs.Carries.{carried_back-kept, carried_on-kept}
 use Rattle.model_core.proofs.Histories.{text_before-back, text_after-on, history-undone, IsHistory-undone, history-redone, IsHistory-redone}
 
 -- the flat document of a text and the kept batches
-abbrev pub document_of : List ℕ → ℕ → ℕ → Decorations → Table → Stack Change → FlatState
-document_of now version alternative d table s =
-    record { units = now; version = version; alternative = alternative; decorations = d; table = table; history = history_of now s }
+abbrev pub document_of : List ℕ → ℕ → ℕ → Decorations → Table → FlatShelf → Stack Change → FlatState
+document_of now version alternative d table shelf s =
+    record { units = now; version = version; alternative = alternative; decorations = d; table = table; history = history_of now s; shelf = shelf }
 
 first_of : {A : Type 0} (xs : List A) (x : A) → slice_get xs 0 ≡ Some x → (rest : List A) × (xs ≡ x ∷ rest)
 first_of [] x is = absurd cc
@@ -40,19 +43,20 @@ fits_on now [] fits lead = fits
 fits_on now (c ∷ cs) fits lead = fits_on (applied_from 0 now c.batch) cs lead.0.fits_after lead.1
 
 -- what an undo does
-pub record IsUndo (now : List ℕ) (version alternative : ℕ) (d : Decorations) (table : Table) (s : Stack Change) (step : Step Change) : Type 0 where
+pub record IsUndo (now : List ℕ) (version alternative : ℕ) (d : Decorations) (table : Table) (shelf : FlatShelf) (s : Stack Change) (step : Step Change) : Type 0 where
   pub lead : LeadBack now step.changes
   pub history : IsHistory (text_back now step.changes) (undone s)
   pub accepted : version + 1 ≤ greatest_version
-      → flat_undo (document_of now version alternative d table s) ≡ Ok (Some (document_of (text_back now step.changes) (version + 1) step.alt_before (decorations_back d step.changes) table (undone s)))
-  pub refused : greatest_version < version + 1 → flat_undo (document_of now version alternative d table s) ≡ Err limit
+      → flat_undo (document_of now version alternative d table shelf s) ≡ Ok (Some (document_of (text_back now step.changes) (version + 1) step.alt_before (decorations_back d step.changes) table shelf (undone s)))
+  pub refused : greatest_version < version + 1 → flat_undo (document_of now version alternative d table shelf s) ≡ Err limit
   pub some : 0 < length s.undo
   pub ops : next_op_count (undo_steps now s.undo) ≡ op_count Back step.changes
+  pub marks : (ms : List Mark) → undone_marks ms (undo_steps now s.undo) ≡ marked_back ms (changes_back now step.changes)
 
-undo_first : (now : List ℕ) (version alternative : ℕ) (d : Decorations) (table : Table) (step : Step Change) (rest redo : List (Step Change)) (is_open : Bool)
+undo_first : (now : List ℕ) (version alternative : ℕ) (d : Decorations) (table : Table) (shelf : FlatShelf) (step : Step Change) (rest redo : List (Step Change)) (is_open : Bool)
     → IsHistory now (record { undo = step ∷ rest; redo = redo; is_open = is_open })
-    → IsUndo now version alternative d table (record { undo = step ∷ rest; redo = redo; is_open = is_open }) step
-undo_first now version alternative d table step rest redo is_open old =
+    → IsUndo now version alternative d table shelf (record { undo = step ∷ rest; redo = redo; is_open = is_open }) step
+undo_first now version alternative d table shelf step rest redo is_open old =
     record {
       lead = old.back.0;
       history = IsHistory-undone rest redo step now old.back old.on;
@@ -60,31 +64,35 @@ undo_first now version alternative d table step rest redo is_open old =
       refused = λ last. rw (le-leb greatest_version version (omega (arith, last))) refl;
       some = omega arith;
       ops = ops_back now step.changes old.back.0;
+      marks = λ ms. refl;
     }
 
-pub undo_of : (now : List ℕ) (version alternative : ℕ) (d : Decorations) (table : Table) (s : Stack Change) (step : Step Change) → slice_get s.undo 0 ≡ Some step → IsHistory now s → IsUndo now version alternative d table s step
-undo_of now version alternative d table s step next old =
+pub undo_of : (now : List ℕ) (version alternative : ℕ) (d : Decorations) (table : Table) (shelf : FlatShelf) (s : Stack Change) (step : Step Change)
+    → slice_get s.undo 0 ≡ Some step → IsHistory now s → IsUndo now version alternative d table shelf s step
+undo_of now version alternative d table shelf s step next old =
     let split = first_of s.undo step next in
-    subst (λ u. IsHistory now (record { undo = u; redo = s.redo; is_open = s.is_open }) → IsUndo now version alternative d table (record { undo = u; redo = s.redo; is_open = s.is_open }) step)
-    (sym split.1) (undo_first now version alternative d table step split.0 s.redo s.is_open) old
+    subst (λ u. IsHistory now (record { undo = u; redo = s.redo; is_open = s.is_open }) → IsUndo now version alternative d table shelf (record { undo = u; redo = s.redo; is_open = s.is_open }) step)
+    (sym split.1) (undo_first now version alternative d table shelf step split.0 s.redo s.is_open) old
 
-pub nothing_to_undo : (now : List ℕ) (version alternative : ℕ) (d : Decorations) (table : Table) (s : Stack Change) → slice_get s.undo 0 ≡ None → flat_undo (document_of now version alternative d table s) ≡ Ok None
-nothing_to_undo now version alternative d table s none = rw (none_of s.undo none) refl
+pub nothing_to_undo : (now : List ℕ) (version alternative : ℕ) (d : Decorations) (table : Table) (shelf : FlatShelf) (s : Stack Change)
+    → slice_get s.undo 0 ≡ None → flat_undo (document_of now version alternative d table shelf s) ≡ Ok None
+nothing_to_undo now version alternative d table shelf s none = rw (none_of s.undo none) refl
 
 -- what a redo does
-pub record IsRedo (now : List ℕ) (version alternative : ℕ) (d : Decorations) (table : Table) (s : Stack Change) (step : Step Change) : Type 0 where
+pub record IsRedo (now : List ℕ) (version alternative : ℕ) (d : Decorations) (table : Table) (shelf : FlatShelf) (s : Stack Change) (step : Step Change) : Type 0 where
   pub lead : LeadOn now step.changes
   pub history : IsHistory (text_on now step.changes) (redone s)
   pub accepted : version + 1 ≤ greatest_version
-      → flat_redo (document_of now version alternative d table s) ≡ Ok (Some (document_of (text_on now step.changes) (version + 1) step.alt_after (decorations_on d step.changes) table (redone s)))
-  pub refused : greatest_version < version + 1 → flat_redo (document_of now version alternative d table s) ≡ Err limit
+      → flat_redo (document_of now version alternative d table shelf s) ≡ Ok (Some (document_of (text_on now step.changes) (version + 1) step.alt_after (decorations_on d step.changes) table shelf (redone s)))
+  pub refused : greatest_version < version + 1 → flat_redo (document_of now version alternative d table shelf s) ≡ Err limit
   pub some : 0 < length s.redo
   pub ops : next_op_count (redo_steps now s.redo) ≡ op_count On step.changes
+  pub marks : (ms : List Mark) → redone_marks ms (redo_steps now s.redo) ≡ marked_on ms (changes_on now step.changes)
 
-redo_first : (now : List ℕ) (version alternative : ℕ) (d : Decorations) (table : Table) (step : Step Change) (undo rest : List (Step Change)) (is_open : Bool)
+redo_first : (now : List ℕ) (version alternative : ℕ) (d : Decorations) (table : Table) (shelf : FlatShelf) (step : Step Change) (undo rest : List (Step Change)) (is_open : Bool)
     → IsHistory now (record { undo = undo; redo = step ∷ rest; is_open = is_open })
-    → IsRedo now version alternative d table (record { undo = undo; redo = step ∷ rest; is_open = is_open }) step
-redo_first now version alternative d table step undo rest is_open old =
+    → IsRedo now version alternative d table shelf (record { undo = undo; redo = step ∷ rest; is_open = is_open }) step
+redo_first now version alternative d table shelf step undo rest is_open old =
     record {
       lead = old.on.0;
       history = IsHistory-redone undo rest step is_open now old.back old.on;
@@ -92,13 +100,16 @@ redo_first now version alternative d table step undo rest is_open old =
       refused = λ last. rw (le-leb greatest_version version (omega (arith, last))) refl;
       some = omega arith;
       ops = ops_on now step.changes;
+      marks = λ ms. refl;
     }
 
-pub redo_of : (now : List ℕ) (version alternative : ℕ) (d : Decorations) (table : Table) (s : Stack Change) (step : Step Change) → slice_get s.redo 0 ≡ Some step → IsHistory now s → IsRedo now version alternative d table s step
-redo_of now version alternative d table s step next old =
+pub redo_of : (now : List ℕ) (version alternative : ℕ) (d : Decorations) (table : Table) (shelf : FlatShelf) (s : Stack Change) (step : Step Change)
+    → slice_get s.redo 0 ≡ Some step → IsHistory now s → IsRedo now version alternative d table shelf s step
+redo_of now version alternative d table shelf s step next old =
     let split = first_of s.redo step next in
-    subst (λ u. IsHistory now (record { undo = s.undo; redo = u; is_open = s.is_open }) → IsRedo now version alternative d table (record { undo = s.undo; redo = u; is_open = s.is_open }) step)
-    (sym split.1) (redo_first now version alternative d table step s.undo split.0 s.is_open) old
+    subst (λ u. IsHistory now (record { undo = s.undo; redo = u; is_open = s.is_open }) → IsRedo now version alternative d table shelf (record { undo = s.undo; redo = u; is_open = s.is_open }) step)
+    (sym split.1) (redo_first now version alternative d table shelf step s.undo split.0 s.is_open) old
 
-pub nothing_to_redo : (now : List ℕ) (version alternative : ℕ) (d : Decorations) (table : Table) (s : Stack Change) → slice_get s.redo 0 ≡ None → flat_redo (document_of now version alternative d table s) ≡ Ok None
-nothing_to_redo now version alternative d table s none = rw (none_of s.redo none) refl
+pub nothing_to_redo : (now : List ℕ) (version alternative : ℕ) (d : Decorations) (table : Table) (shelf : FlatShelf) (s : Stack Change)
+    → slice_get s.redo 0 ≡ None → flat_redo (document_of now version alternative d table shelf s) ≡ Ok None
+nothing_to_redo now version alternative d table shelf s none = rw (none_of s.redo none) refl

@@ -1,5 +1,5 @@
 -- One turn of each walk: the ops of a batch from the last to the first, and the changes of a step either way.
-use Rattle.std.proofs.Common.{◌≡◌, ℕ, zero, suc, ◌+◌, ◌-◌, ◌*◌, ◌<◌, ◌≤◌, List, [], ◌∷◌, length, drop, get_or, slice_index_or, refl, ap, sym, subst, ◌∙◌, arith}
+use Rattle.std.proofs.Common.{◌≡◌, ℕ, zero, suc, ◌+◌, ◌-◌, ◌<◌, ◌≤◌, List, [], ◌∷◌, length, drop, get_or, slice_index_or, refl, ap, sym, subst, ◌∙◌, arith}
 use Rattle.std.proofs.Math.Seq.{drop-cons}
 use Rattle.std.specs.List.{All}
 use Rattle.std.specs.Prelude.{sum_by}
@@ -7,7 +7,7 @@ use Rattle.std.proofs.lemmas.List.Elements.{All-nil, All-cons}
 use Rattle.std.proofs.lemmas.List.Sums.{sum_by-cons, sum_by-drop_more, sum_by-take-drop}
 use Rattle.text_rules.specs.declared.Op.{Op}
 use Rattle.text_rules.specs.Edits.{edited}
-use Rattle.batch_rules.specs.Batches.{most_units, applied_from, inverse_from, text_units, StandFrom, edited_backwards}
+use Rattle.batch_rules.specs.Batches.{most_units, applied_from, text_units, StandFrom, edited_backwards}
 use Rattle.batch_rules.proofs.Backwards.{backwards_step, backwards_few, IsStep}
 use Rattle.batch_rules.proofs.Standing.{text_units_applied, text_units_inverse}
 use Rattle.batch_rules.proofs.Inverses.{inverse_stands_from_start, length-inverse_from}
@@ -53,7 +53,7 @@ turn x ops done op now standing inside is text =
     let next : length ops - done ≡ suc (length ops - 1 - done) = omega arith in
     turn_at x ops (length ops - 1 - done) done op now standing (omega arith) (omega arith) next is (text ∙ ap (λ (k : ℕ). edited_backwards x (drop k ops)) next)
 
-op_count-cons : (way : Way) (c : Change) (cs : List Change) → op_count way (c ∷ cs) ≡ length (ops_by way c) + op_count way cs
+pub op_count-cons : (way : Way) (c : Change) (cs : List Change) → op_count way (c ∷ cs) ≡ length (ops_by way c) + op_count way cs
 op_count-cons way c cs = sum_by-cons {X = Change} (λ d. length (ops_by way d)) c cs
 
 unit_count-cons : (way : Way) (c : Change) (cs : List Change) → unit_count way (c ∷ cs) ≡ text_units (ops_by way c) + unit_count way cs
@@ -65,7 +65,7 @@ pub record IsFit (way : Way) (c : Change) (now : List ℕ) : Type 0 where
   pub few : length now ≤ most_units
   pub units : text_units (ops_by way c) ≤ most_units
 
-fit_back : (before after : List ℕ) (c : Change) → Leads before c after → IsFit Back c after
+pub fit_back : (before after : List ℕ) (c : Change) → Leads before c after → IsFit Back c after
 fit_back before after c leads =
     record {
       standing = rw (leads.on, leads.inverse) (inverse_stands_from_start before c.batch leads.standing);
@@ -73,7 +73,7 @@ fit_back before after c leads =
       units = rw leads.inverse (omega (arith, text_units_inverse 0 0 before c.batch leads.standing, leads.fits_before));
     }
 
-fit_on : (before after : List ℕ) (c : Change) → Leads before c after → IsFit On c before
+pub fit_on : (before after : List ℕ) (c : Change) → Leads before c after → IsFit On c before
 fit_on before after c leads =
     record {
       standing = leads.standing;

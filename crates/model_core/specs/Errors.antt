@@ -3,6 +3,8 @@ use Rattle.batch_rules.specs.declared.BatchError.{BatchError}
 use Rattle.batch_rules.specs.declared.BatchError.TheVariants as batch
 use Rattle.decoration_rules.specs.declared.DecoError.{DecoError}
 use Rattle.decoration_rules.specs.declared.DecoError.TheVariants as decoration
+use Rattle.snapshot_rules.specs.declared.ShelfError.{ShelfError}
+use Rattle.snapshot_rules.specs.declared.ShelfError.TheVariants as shelf
 use Rattle.document_rules.specs.declared.ModelError.{ModelError}
 use Rattle.document_rules.specs.declared.ModelError.TheVariants.{Unknown, Range, Overlap, Limit, Memory}
 
@@ -17,3 +19,9 @@ refusal_of decoration.Unknown = Unknown
 refusal_of decoration.Range = Range
 refusal_of decoration.Limit = Limit
 refusal_of decoration.Memory = Memory
+
+abbrev pub shelf_error_of : ShelfError → ModelError
+shelf_error_of shelf.Unknown = Unknown
+shelf_error_of shelf.Range = Range
+shelf_error_of shelf.Limit = Limit
+shelf_error_of shelf.Memory = Memory

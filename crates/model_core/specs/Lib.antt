@@ -2,4 +2,7 @@ pub mod Errors
 pub mod State
 pub mod History
 pub mod Carrying
+pub mod LineMarks
+pub mod Staying
+pub mod Shelving
 mod Examples

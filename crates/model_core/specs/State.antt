@@ -1,9 +1,12 @@
 -- What contracts see of a model.
-use Rattle.std.specs.Prelude.{◌≡◌, ℕ, ◌+◌, ◌*◌, ◌≤◌, Bool, true, false, List, [], ◌∷◌, length, sum_by, Option, Some, None, Result, Ok, Err, ⊤}
+use Rattle.std.specs.Prelude.{◌≡◌, ℕ, zero, suc, ◌+◌, ◌*◌, ◌≤◌, Bool, true, false, if◌then◌else◌, List, [], ◌∷◌, length, sum_by, Option, Some, None, Result, Ok, Err, ⊤}
 use Rattle.bracket_rules.specs.Table.{Table, is_table}
 use Rattle.bracket_trees.specs.Tree.{Tree}
 use Rattle.bracket_rules.specs.Rows.{text_rows}
 use Rattle.bracket_trees.specs.Told.{IsTreeOf}
+use Rattle.mark_rules.specs.declared.Mark.{Mark}
+use Rattle.mark_rules.specs.Marks.{has_new}
+use Rattle.node_reuse.specs.ParsedTree.{ParsedTree}
 use Rattle.undo_rules.specs.Stack.{Step}
 use Rattle.document_rules.specs.declared.ModelError.{ModelError}
 use Rattle.document_rules.specs.Document.{FlatChange, FlatState}
@@ -12,25 +15,60 @@ use Rattle.document_rules.specs.Brackets.{line_contents}
 pub record ModelState : Type 0 where
   -- the flat document that the model stands for
   pub document : FlatState
-  -- whether the bracket tree of the text of now is kept
+  -- the last parse, be it of the text of now or of an earlier one: its tree, and how many lines it asked for
+  pub parsed : Option ParsedTree
+  -- its bracket tree
+  pub tree : Option Tree
+  -- what each line of the text of now is to that parse; new, where there was none
+  pub marks : List Mark
+  -- whether that tree is the one of the text of now
   pub fresh : Bool
   -- in how many pieces the text lies
   pub pieces : ℕ
 
--- a kept tree is that of the text of now
+-- the tree of a parse, where there was one
+abbrev pub parsed_tree : Option ParsedTree → Option Tree
+parsed_tree None = None
+parsed_tree (Some parsed) = Some parsed.tree
+
+-- there is a parse, and it asked for so many lines
+abbrev pub HasAsked : Option ParsedTree → ℕ → Type 0
+HasAsked None lines = ⊥
+HasAsked (Some parsed) lines = parsed.asked ≡ lines
+
+-- the tree of the last parse, where no line is new
+abbrev pub fresh_tree : Option Tree → List Mark → Option Tree
+fresh_tree tree marks = if has_new marks then None else tree
+
+-- a tree of the text of now
 abbrev pub IsKept : Option Tree → Table → List ℕ → Type 0
 IsKept None table x = ⊤
 IsKept (Some tree) table x = (is_table table ≡ true) × IsTreeOf (text_rows table (line_contents x)) tree
 
--- Whether the tree is kept after a call: an accepted change drops it, and what changes nothing leaves it.
-abbrev pub KeptAfter : Result ⊤ ModelError → Bool → Bool → Type 0
-KeptAfter (Ok x) old new = new ≡ false
-KeptAfter (Err e) old new = new ≡ old
+-- so many ops leave no tree of the text of now; none leaves what was there
+abbrev pub KeptBy : ℕ → Bool → Bool → Type 0
+KeptBy zero old new = new ≡ old
+KeptBy (suc ops) old new = new ≡ false
 
-abbrev pub KeptAfterMove : Result Bool ModelError → Bool → Bool → Type 0
-KeptAfterMove (Ok true) old new = new ≡ false
-KeptAfterMove (Ok false) old new = new ≡ old
-KeptAfterMove (Err e) old new = new ≡ old
+-- Whether the tree is that of the text of now after a call of so many ops: what changes nothing leaves it so.
+abbrev pub KeptAfter : ℕ → Result ⊤ ModelError → Bool → Bool → Type 0
+KeptAfter ops (Ok x) old new = KeptBy ops old new
+KeptAfter ops (Err e) old new = new ≡ old
+
+abbrev pub KeptAfterMove : ℕ → Result Bool ModelError → Bool → Bool → Type 0
+KeptAfterMove ops (Ok true) old new = KeptBy ops old new
+KeptAfterMove ops (Ok false) old new = new ≡ old
+KeptAfterMove ops (Err e) old new = new ≡ old
+
+-- What a call leaves, where an accepted one leaves this: what changes nothing leaves what was there.
+abbrev pub LeftAfter : {X : Type 0} → Result ⊤ ModelError → X → X → X → Type 0
+LeftAfter (Ok x) accepted old new = new ≡ accepted
+LeftAfter (Err e) accepted old new = new ≡ old
+
+abbrev pub LeftAfterMove : {X : Type 0} → Result Bool ModelError → X → X → X → Type 0
+LeftAfterMove (Ok true) accepted old new = new ≡ accepted
+LeftAfterMove (Ok false) accepted old new = new ≡ old
+LeftAfterMove (Err e) accepted old new = new ≡ old
 
 -- so many ops add six pieces each at most
 abbrev pub GrownBy : ℕ → ℕ → ℕ → Type 0

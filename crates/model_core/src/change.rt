@@ -3,10 +3,14 @@
 ghost use Rattle.std.specs.Prelude.{◌≡◌, ◌+◌, ◌*◌, ◌<◌, ◌≤◌, ◌^◌, length, OnOk};
 ghost use Rattle.std.specs.List.{All};
 ghost use Rattle.batch_rules.specs.Batches.{most_units, applied_from, text_units, StandFrom};
-ghost use Rattle.model_core.specs.History.{text_back, text_on, LeadBack, LeadOn, ops_by, op_count, unit_count};
+ghost use Rattle.model_core.specs.History.{text_back, text_on, changes_back, changes_on, LeadBack, LeadOn, ops_by, op_count, unit_count};
 ghost use Rattle.model_core.specs.State.{GrownBy};
+ghost use Rattle.chunk_buffers.specs.Chunks.{Extends};
+ghost use Rattle.text_rules.specs.Lines.{lines_of};
+ghost use Rattle.model_core.specs.LineMarks.{marked_backwards, marked_back, marked_on};
 ghost use Rattle.model_core.specs.Carrying.{edit_with, carried_with, decorations_back, decorations_on, AreIn};
 
+use crate::last_parse::LastParse;
 use decorations::{DecoSet, Edit};
 use edit_batches::Batch;
 use std::alloc::AllocError;
@@ -41,13 +45,21 @@ impl Change {
     }
 }
 
-/// Carries out the ops, for which there is room, and moves the decorations with them; forced ones only where they are
-/// wanted.
-pub(crate) fn apply(text: &mut TextBuffer, decorations: &mut DecoSet, ops: &[Op], forces: bool)
+/// Carries out the ops, for which there is room. Decorations move with them, forced ones only where they are wanted, and
+/// the lines that they touch are marked.
+pub(crate) fn apply(
+    text: &mut TextBuffer,
+    decorations: &mut DecoSet,
+    last: &mut LastParse,
+    ops: &[Op],
+    forces: bool,
+)
     requires standing { StandFrom 0 text.old.units ops.now }
-    requires small { length text.old.units + text_units ops.now < 2 ^ 62 }
+    requires small { length text.old.units + text_units ops.now + 1 < 2 ^ 62 }
     requires edits { length ops.now ≤ text.old.spare_edits }
     requires room { text_units ops.now + 3 * length ops.now ≤ text.old.spare_units }
+    requires lines { length last.old.marks ≡ length (lines_of text.old.units) }
+    requires spare { length ops.now ≤ last.old.spare }
     requires inside { AreIn (length text.old.units) decorations.old }
     ensures units { text.new.units ≡ applied_from 0 text.old.units ops.now }
     ensures pieces { GrownBy (length ops.now) (length text.old.spans) (length text.new.spans) }
@@ -56,10 +68,17 @@ pub(crate) fn apply(text: &mut TextBuffer, decorations: &mut DecoSet, ops: &[Op]
         ≤ text.new.spare_units + (text_units ops.now + 3 * length ops.now) }
     ensures decorations { decorations.new ≡ carried_with forces decorations.old ops.now }
     ensures inside { AreIn (length text.new.units) decorations.new }
+    ensures marks { last.new.marks ≡ marked_backwards text.old.units ops.now last.old.marks }
+    ensures lines { length last.new.marks ≡ length (lines_of text.new.units) }
+    ensures spare { last.old.spare ≤ last.new.spare + length ops.now }
+    ensures parsed { last.new.parsed ≡ last.old.parsed }
+    ensures tree { last.new.tree ≡ last.old.tree }
+    ensures grown { Extends text.old.buffers text.new.buffers }
 {
     for done in 0..ops.len() {
         let op = &ops[ops.len() - 1 - done];
         decorations.accept(&edit_with(op, forces));
+        last.mark(text, op);
         text.replace(op.span, op.text.as_slice());
     }
 }
@@ -76,45 +95,70 @@ fn edit_with(op: &Op, forces: bool) -> Edit
 }
 
 /// Takes the changes back, the last of them first. There is room for it.
-pub(crate) fn take_back(text: &mut TextBuffer, decorations: &mut DecoSet, changes: &[Change])
+pub(crate) fn take_back(
+    text: &mut TextBuffer,
+    decorations: &mut DecoSet,
+    last: &mut LastParse,
+    changes: &[Change],
+)
     requires lead { LeadBack text.old.units changes.now }
     requires edits { op_count Way.Back changes.now ≤ text.old.spare_edits }
     requires room { unit_count Way.Back changes.now + 3 * op_count Way.Back changes.now
         ≤ text.old.spare_units }
+    requires lines { length last.old.marks ≡ length (lines_of text.old.units) }
+    requires spare { op_count Way.Back changes.now ≤ last.old.spare }
     requires inside { AreIn (length text.old.units) decorations.old }
     ensures units { text.new.units ≡ text_back text.old.units changes.now }
     ensures pieces { GrownBy (op_count Way.Back changes.now)
         (length text.old.spans) (length text.new.spans) }
     ensures decorations { decorations.new ≡ decorations_back decorations.old changes.now }
     ensures inside { AreIn (length text.new.units) decorations.new }
+    ensures marks { last.new.marks
+        ≡ marked_back last.old.marks (changes_back text.old.units changes.now) }
+    ensures parsed { last.new.parsed ≡ last.old.parsed }
+    ensures tree { last.new.tree ≡ last.old.tree }
+    ensures grown { Extends text.old.buffers text.new.buffers }
 {
     for done in 0..changes.len() {
         let change = &changes[changes.len() - 1 - done];
-        apply(text, decorations, change.inverse.ops(), true);
+        apply(text, decorations, last, change.inverse.ops(), true);
     }
 }
 
 /// Makes the changes again, the first of them first. There is room for it.
-pub(crate) fn make_again(text: &mut TextBuffer, decorations: &mut DecoSet, changes: &[Change])
+pub(crate) fn make_again(
+    text: &mut TextBuffer,
+    decorations: &mut DecoSet,
+    last: &mut LastParse,
+    changes: &[Change],
+)
     requires lead { LeadOn text.old.units changes.now }
     requires edits { op_count Way.On changes.now ≤ text.old.spare_edits }
     requires room { unit_count Way.On changes.now + 3 * op_count Way.On changes.now
         ≤ text.old.spare_units }
+    requires lines { length last.old.marks ≡ length (lines_of text.old.units) }
+    requires spare { op_count Way.On changes.now ≤ last.old.spare }
     requires inside { AreIn (length text.old.units) decorations.old }
     ensures units { text.new.units ≡ text_on text.old.units changes.now }
     ensures pieces { GrownBy (op_count Way.On changes.now)
         (length text.old.spans) (length text.new.spans) }
     ensures decorations { decorations.new ≡ decorations_on decorations.old changes.now }
     ensures inside { AreIn (length text.new.units) decorations.new }
+    ensures marks { last.new.marks
+        ≡ marked_on last.old.marks (changes_on text.old.units changes.now) }
+    ensures parsed { last.new.parsed ≡ last.old.parsed }
+    ensures tree { last.new.tree ≡ last.old.tree }
+    ensures grown { Extends text.old.buffers text.new.buffers }
 {
     for change in changes {
-        apply(text, decorations, change.batch.ops(), false);
+        apply(text, decorations, last, change.batch.ops(), false);
     }
 }
 
-/// Makes room to lead the text along the changes this way. An error leaves the text as it was.
+/// Makes room to lead the text along the changes this way. An error leaves the text and the marks as they were.
 pub(crate) fn reserve_for(
     text: &mut TextBuffer,
+    last: &mut LastParse,
     changes: &[Change],
     way: Way,
 ) -> Result<(), AllocError>
@@ -122,8 +166,13 @@ pub(crate) fn reserve_for(
     ensures edits { OnOk result (op_count way changes.now ≤ text.new.spare_edits) }
     ensures room { OnOk result
         (unit_count way changes.now + 3 * op_count way changes.now ≤ text.new.spare_units) }
+    ensures spare { OnOk result (op_count way changes.now ≤ last.new.spare) }
     ensures same { text.new.units ≡ text.old.units }
     ensures spans { text.new.spans ≡ text.old.spans }
+    ensures parsed { last.new.parsed ≡ last.old.parsed }
+    ensures tree { last.new.tree ≡ last.old.tree }
+    ensures grown { Extends text.old.buffers text.new.buffers }
+    ensures marks { last.new.marks ≡ last.old.marks }
 {
     let mut edits: u64 = 0;
     let mut units: u64 = 0;
@@ -134,5 +183,6 @@ pub(crate) fn reserve_for(
             .ok_or(AllocError)?;
         units = units.checked_add(batch.text_units()).ok_or(AllocError)?;
     }
-    text.reserve(edits, units)
+    text.reserve(edits, units)?;
+    last.reserve(edits)
 }

@@ -1,7 +1,9 @@
 //! The document and its calls.
 
-ghost use Rattle.std.specs.Prelude.{◌≡◌, ◌≤◌, ◌-◌, [], true, false, List, length, IfSome, OnOk, OnErr, Ok, Err};
+ghost use Rattle.std.specs.Prelude.{◌≡◌, ℕ, ◌≤◌, ◌-◌, ◌∷◌, [], true, false, List, length, replicate, None, IfSome, OnOk, OnErr, Ok, Err};
 ghost use Rattle.std.specs.List.{All};
+ghost use Rattle.std.specs.Option.{option_copied};
+ghost use Rattle.node_reuse.specs.Texts.{new_lines};
 ghost use Rattle.text_buffer.specs.Costs.{WithinLookUps};
 ghost use Rattle.unit_text.specs.Units.{IsPaired};
 ghost use Rattle.decoration_rules.specs.Moves.{IsSpanIn};
@@ -10,28 +12,39 @@ ghost use Rattle.document_rules.specs.Outcomes.{Changes, ChangesWith, Moves, App
 ghost use Rattle.bracket_rules.specs.Table.{standard_table};
 ghost use Rattle.document_rules.specs.Brackets.{flat_brackets, flat_match, flat_level, IsSmall};
 ghost use Rattle.document_rules.specs.Paired.{IsPairedState};
-ghost use Rattle.model_core.specs.State.{KeptAfter, KeptAfterMove, GrownAfter, GrownAfterMove, next_op_count};
+ghost use Rattle.text_rules.specs.Lines.{lines_of};
+ghost use Rattle.batch_rules.specs.Batches.{sorted_ops};
+ghost use Rattle.mark_rules.specs.declared.Mark.TheVariants.{New};
+ghost use Rattle.mark_rules.specs.Marks.{clean_marks};
+ghost use Rattle.model_core.specs.LineMarks.{marked_backwards, undone_marks, redone_marks};
+ghost use Rattle.model_core.specs.State.{LeftAfter, LeftAfterMove, KeptAfter, KeptAfterMove, GrownAfter, GrownAfterMove, HasAsked, next_op_count};
 ghost use Rattle.document_rules.specs.Document.{new_document, flat_open, flat_edit, flat_stop, flat_undo, flat_redo, flat_decorate, flat_deco, flat_decos, flat_line, flat_value, flat_position, flat_offset, flat_line_count};
-ghost use Rattle.model_core.specs.Errors.{error_of, refusal_of};
+ghost use Rattle.document_rules.specs.Snapshots.{flat_snapshot, flat_peek_of, flat_skipped, flat_close_of};
+ghost use Rattle.document_rules.specs.Stops.{flat_stops};
+ghost use Rattle.model_core.specs.Errors.{error_of, refusal_of, shelf_error_of};
 
-use crate::brackets::{parse_text, renew};
+use crate::brackets::{parse_again, renew};
 use crate::change::{Change, Way, apply, make_again, reserve_for, take_back};
+use crate::last_parse::{LastParse, unparsed};
 use crate::places::{is_position, place_of, told};
-use bracket_nodes::{Entry, Node};
+use bracket_nodes::Entry;
 use bracket_scan::BracketTable;
 use decorations::{Deco, DecoError, DecoSet, NewDeco};
 use document_rules::ModelError;
 use edit_batches::{Batch, BatchError, MOST_TEXT_UNITS};
 use edit_stack::EditStack;
+use node_reuse::Parsed;
+use snapshots::{Shelf, ShelfError};
 use std::alloc::Global;
 use std::sync::ledger::Ledger;
 use steps::Steps;
+use stops::stops;
 use text_buffer::TextBuffer;
 use text_lengths::{Position, Span, raised};
 use text_rules::Op;
 use unit_text::Flat;
 
-/// A document: its text, which version of it that is, and what can be undone and redone.
+/// A document: its text, which version of it that is, what can be undone and redone, and texts of earlier moments.
 #[derive(Drop)]
 pub struct Model {
     alloc: Global,
@@ -40,20 +53,28 @@ pub struct Model {
     alternative: u64,
     decorations: DecoSet,
     table: BracketTable,
-    /// The bracket tree, while it is that of the text of now.
-    tree: Option<Node>,
+    last: LastParse,
     history: EditStack<Change>,
+    shelf: Shelf,
 }
 
 impl std::marker::Model for Model {
     ghost use Rattle.std.specs.Prelude.{◌≤◌, length, is_some};
     ghost use Rattle.batch_rules.specs.Batches.{most_units};
     ghost use Rattle.document_rules.specs.Document.{greatest_version};
-    ghost use Rattle.model_core.specs.State.{ModelState, IsKept};
+    ghost use Rattle.std.specs.Coded.{codes};
+    ghost use Rattle.bracket_trees.specs.TreeCode.{tree_code};
+    ghost use Rattle.node_reuse.specs.ParsedTree.{parsed_tree_code};
+    ghost use Rattle.model_core.specs.State.{ModelState, fresh_tree};
+    ghost use Rattle.model_core.specs.Staying.{StaysWith};
     ghost use Rattle.model_core.specs.History.{history_of, IsHistory};
     ghost use Rattle.model_core.specs.Carrying.{AreIn};
+    ghost use Rattle.snapshots.specs.Shown.{shown};
+    ghost use Rattle.model_core.specs.Shelving.{IsShelf};
 
     ghost Value = { ModelState };
+
+    ghost coded = { Prim.hlevel (codes, tree_code, parsed_tree_code) };
 
     ghost view = { λ m. record {
       document = record {
@@ -63,20 +84,28 @@ impl std::marker::Model for Model {
         decorations = m.decorations;
         table = m.table;
         history = history_of m.text.units m.history.stack;
+        shelf = shown m.text.buffers m.shelf;
       };
-      fresh = is_some m.tree;
+      parsed = m.last.parsed;
+      tree = m.last.tree;
+      marks = m.last.marks;
+      fresh = is_some (fresh_tree m.last.tree m.last.marks);
       pieces = length m.text.spans;
     } };
 
     ghost invariant = { λ m. (length m.text.units ≤ most_units) × (m.version ≤ greatest_version)
         × IsHistory m.text.units m.history.stack × AreIn (length m.text.units) m.decorations
-        × IsKept m.tree m.table m.text.units };
+        × StaysWith m.last.tree m.last.marks m.table m.text.units
+        × IsShelf m.text.buffers m.shelf };
 }
 
 impl Model {
     /// An empty document, of version 1.
     pub fn new(alloc: Global) -> Model
         ensures document { result.document ≡ new_document [] standard_table }
+        ensures parsed { result.parsed ≡ None }
+        ensures tree { result.tree ≡ None }
+        ensures marks { result.marks ≡ New ∷ [] }
         ensures fresh { result.fresh ≡ false }
         ensures pieces { result.pieces ≡ 0 }
     {
@@ -87,8 +116,9 @@ impl Model {
             alternative: 1,
             decorations: DecoSet::new(alloc),
             table: BracketTable::standard(),
-            tree: None,
+            last: LastParse::none(alloc),
             history: EditStack::new(alloc),
+            shelf: Shelf::new(alloc),
         }
     }
 
@@ -99,27 +129,35 @@ impl Model {
             (flat_open text.now table) }
         ensures paired_state { IsPaired text.now → IsPairedState self.old.document
             → IsPairedState self.new.document }
-        ensures fresh { KeptAfter result self.old.fresh self.new.fresh }
+        ensures parsed { LeftAfter result None self.old.parsed self.new.parsed }
+        ensures tree { LeftAfter result None self.old.tree self.new.tree }
+        ensures marks { LeftAfter result (replicate (length (lines_of text.now)) New)
+            self.old.marks self.new.marks }
+        ensures fresh { LeftAfter result false self.old.fresh self.new.fresh }
         ensures pieces { OnOk result (self.new.pieces ≤ 1) }
         ensures kept_pieces { OnErr result (self.new.pieces ≡ self.old.pieces) }
     {
         if text.len() as u64 > MOST_TEXT_UNITS {
             return Err(ModelError::Limit);
         }
-        let text = TextBuffer::of_units(self.alloc, text).map_err(|_| ModelError::Memory)?;
+        let Ok((text, last)) = unparsed(self.alloc, text) else {
+            return Err(ModelError::Memory);
+        };
         self.text = text;
         self.version = 1;
         self.alternative = 1;
         self.decorations = DecoSet::new(self.alloc);
         self.table = table;
-        self.tree = None;
+        self.last = last;
         self.history = EditStack::new(self.alloc);
+        self.shelf = Shelf::new(self.alloc);
         Ok(())
     }
 
     /// Carries out the edits at once, which makes the next version. `Range` where a span is none of the text; else
     /// `Overlap` where two spans overlap; else `Limit` where the new text or the version would pass its limit. All
-    /// memory is taken before the first change.
+    /// memory is taken before the first change. The tree of the last parse stays, and each line that an edit touches is
+    /// marked as new.
     pub fn edit(&mut self, ops: &[Op]) -> Result<(), ModelError>
         ensures document { Changes result self.old.document self.new.document
             (flat_edit self.old.document ops.now) }
@@ -127,7 +165,12 @@ impl Model {
             → IsPaired self.new.document.units }
         ensures paired_state { All (λ op. IsPaired op.text) ops.now
             → IsPairedState self.old.document → IsPairedState self.new.document }
-        ensures fresh { KeptAfter result self.old.fresh self.new.fresh }
+        ensures parsed { self.new.parsed ≡ self.old.parsed }
+        ensures tree { self.new.tree ≡ self.old.tree }
+        ensures marks { LeftAfter result
+            (marked_backwards self.old.document.units (sorted_ops ops.now) self.old.marks)
+            self.old.marks self.new.marks }
+        ensures fresh { KeptAfter (length ops.now) result self.old.fresh self.new.fresh }
         ensures pieces { GrownAfter (length ops.now) result self.old.pieces self.new.pieces }
     {
         let batch = Batch::checked(self.alloc, ops, &self.text).map_err(error_of)?;
@@ -136,15 +179,22 @@ impl Model {
             .inverse(self.alloc, &self.text)
             .map_err(|_| ModelError::Memory)?;
         self.history.reserve().map_err(|_| ModelError::Memory)?;
+        let count = batch.ops().len() as u64;
         self.text
-            .reserve(batch.ops().len() as u64, batch.text_units())
+            .reserve(count, batch.text_units())
             .map_err(|_| ModelError::Memory)?;
-        apply(&mut self.text, &mut self.decorations, batch.ops(), true);
+        self.last.reserve(count).map_err(|_| ModelError::Memory)?;
+        apply(
+            &mut self.text,
+            &mut self.decorations,
+            &mut self.last,
+            batch.ops(),
+            true,
+        );
         self.history
             .push(Change { batch, inverse }, self.alternative, version);
         self.version = version;
         self.alternative = version;
-        self.tree = None;
         Ok(())
     }
 
@@ -152,6 +202,9 @@ impl Model {
     pub fn stop(&mut self)
         ensures document { self.new.document ≡ flat_stop self.old.document }
         ensures paired_state { IsPairedState self.old.document → IsPairedState self.new.document }
+        ensures parsed { self.new.parsed ≡ self.old.parsed }
+        ensures tree { self.new.tree ≡ self.old.tree }
+        ensures marks { self.new.marks ≡ self.old.marks }
         ensures fresh { self.new.fresh ≡ self.old.fresh }
         ensures pieces { self.new.pieces ≡ self.old.pieces }
     {
@@ -164,7 +217,13 @@ impl Model {
         ensures document { Moves result self.old.document self.new.document
             (flat_undo self.old.document) }
         ensures paired_state { IsPairedState self.old.document → IsPairedState self.new.document }
-        ensures fresh { KeptAfterMove result self.old.fresh self.new.fresh }
+        ensures parsed { self.new.parsed ≡ self.old.parsed }
+        ensures tree { self.new.tree ≡ self.old.tree }
+        ensures marks { LeftAfterMove result
+            (undone_marks self.old.marks self.old.document.history.undo)
+            self.old.marks self.new.marks }
+        ensures fresh { KeptAfterMove (next_op_count self.old.document.history.undo) result
+            self.old.fresh self.new.fresh }
         ensures pieces { GrownAfterMove (next_op_count self.old.document.history.undo) result
             self.old.pieces self.new.pieces }
     {
@@ -173,11 +232,17 @@ impl Model {
         };
         let version = raised(self.version, 1).ok_or(ModelError::Limit)?;
         let changes = step.changes();
-        reserve_for(&mut self.text, changes, Way::Back).map_err(|_| ModelError::Memory)?;
-        take_back(&mut self.text, &mut self.decorations, changes);
+        reserve_for(&mut self.text, &mut self.last, changes, Way::Back).map_err(
+            |_| ModelError::Memory,
+        )?;
+        take_back(
+            &mut self.text,
+            &mut self.decorations,
+            &mut self.last,
+            changes,
+        );
         self.version = version;
         self.alternative = step.alt_before();
-        self.tree = None;
         self.history.undone();
         Ok(true)
     }
@@ -188,7 +253,13 @@ impl Model {
         ensures document { Moves result self.old.document self.new.document
             (flat_redo self.old.document) }
         ensures paired_state { IsPairedState self.old.document → IsPairedState self.new.document }
-        ensures fresh { KeptAfterMove result self.old.fresh self.new.fresh }
+        ensures parsed { self.new.parsed ≡ self.old.parsed }
+        ensures tree { self.new.tree ≡ self.old.tree }
+        ensures marks { LeftAfterMove result
+            (redone_marks self.old.marks self.old.document.history.redo)
+            self.old.marks self.new.marks }
+        ensures fresh { KeptAfterMove (next_op_count self.old.document.history.redo) result
+            self.old.fresh self.new.fresh }
         ensures pieces { GrownAfterMove (next_op_count self.old.document.history.redo) result
             self.old.pieces self.new.pieces }
     {
@@ -197,11 +268,17 @@ impl Model {
         };
         let version = raised(self.version, 1).ok_or(ModelError::Limit)?;
         let changes = step.changes();
-        reserve_for(&mut self.text, changes, Way::On).map_err(|_| ModelError::Memory)?;
-        make_again(&mut self.text, &mut self.decorations, changes);
+        reserve_for(&mut self.text, &mut self.last, changes, Way::On).map_err(
+            |_| ModelError::Memory,
+        )?;
+        make_again(
+            &mut self.text,
+            &mut self.decorations,
+            &mut self.last,
+            changes,
+        );
         self.version = version;
         self.alternative = step.alt_after();
-        self.tree = None;
         self.history.redone();
         Ok(true)
     }
@@ -220,6 +297,9 @@ impl Model {
             self.old.document self.new.document
             (flat_decorate self.old.document owner remove.now add.now) }
         ensures paired_state { IsPairedState self.old.document → IsPairedState self.new.document }
+        ensures parsed { self.new.parsed ≡ self.old.parsed }
+        ensures tree { self.new.tree ≡ self.old.tree }
+        ensures marks { self.new.marks ≡ self.old.marks }
         ensures fresh { self.new.fresh ≡ self.old.fresh }
         ensures pieces { self.new.pieces ≡ self.old.pieces }
     {
@@ -258,16 +338,84 @@ impl Model {
             .map_err(|_| ModelError::Memory)
     }
 
-    /// Whether the bracket tree of the text of now is kept.
+    /// Keeps the text of now, to be read from its front, and answers its id. No unit is copied, and edits leave what is
+    /// kept. `Limit` where 64 are open, or where the id would pass 2^63 - 1.
+    pub fn snapshot(&mut self) -> Result<u64, ModelError>
+        ensures document { ChangesWith self.old.document.shelf.next_id result
+            self.old.document self.new.document (flat_snapshot self.old.document) }
+        ensures paired_state { IsPairedState self.old.document → IsPairedState self.new.document }
+        ensures parsed { self.new.parsed ≡ self.old.parsed }
+        ensures tree { self.new.tree ≡ self.old.tree }
+        ensures marks { self.new.marks ≡ self.old.marks }
+        ensures fresh { self.new.fresh ≡ self.old.fresh }
+        ensures pieces { self.new.pieces ≡ self.old.pieces }
+    {
+        let mut spans = Vec::new(self.alloc);
+        self.text.spans(&mut spans).map_err(|_| ModelError::Memory)?;
+        self.shelf.take(spans.as_slice()).map_err(shelf_error_of)
+    }
+
+    /// Appends the first `count` units of what is left of the snapshot, or all where fewer are left; one fewer where the
+    /// last one would be a high surrogate with its low one behind it. They are left until `skip` passes them. `Unknown`
+    /// where no snapshot of this id is open; else `Range` where the count is below 2. After an error `out` is as it was.
+    pub fn peek(&self, id: u64, count: u64, out: &mut Vec<u16>) -> Result<(), ModelError>
+        ensures { Appends result out.old.items out.new.items
+            (flat_peek_of self.now.document id count) }
+    {
+        let chunks = self.text.chunks();
+        self.shelf
+            .peek(id, count, chunks, out)
+            .map_err(shelf_error_of)
+    }
+
+    /// The first `n` units of what is left of the snapshot were read. Nothing changes where no snapshot of this id is
+    /// open. It takes no memory.
+    pub fn skip(&mut self, id: u64, n: u64)
+        ensures document { self.new.document ≡ flat_skipped self.old.document id n }
+        ensures paired_state { (count : ℕ) (units : List ℕ)
+            → flat_peek_of self.old.document id count ≡ Ok units → n ≡ length units
+            → IsPairedState self.old.document → IsPairedState self.new.document }
+        ensures parsed { self.new.parsed ≡ self.old.parsed }
+        ensures tree { self.new.tree ≡ self.old.tree }
+        ensures marks { self.new.marks ≡ self.old.marks }
+        ensures fresh { self.new.fresh ≡ self.old.fresh }
+        ensures pieces { self.new.pieces ≡ self.old.pieces }
+    {
+        self.shelf.skip(id, n);
+    }
+
+    /// The snapshot is no longer open, and its id is not used again. `Unknown` where no snapshot of this id is open.
+    pub fn close(&mut self, id: u64) -> Result<(), ModelError>
+        ensures document { Changes result self.old.document self.new.document
+            (flat_close_of self.old.document id) }
+        ensures paired_state { IsPairedState self.old.document → IsPairedState self.new.document }
+        ensures parsed { self.new.parsed ≡ self.old.parsed }
+        ensures tree { self.new.tree ≡ self.old.tree }
+        ensures marks { self.new.marks ≡ self.old.marks }
+        ensures fresh { self.new.fresh ≡ self.old.fresh }
+        ensures pieces { self.new.pieces ≡ self.old.pieces }
+    {
+        self.shelf.close(id).map_err(shelf_error_of)
+    }
+
+    /// The last parse of the text, be it of the text of now or of an earlier one. None before the first one since `new`
+    /// or `open_doc`.
+    pub fn parsed(&self) -> Option<&Parsed>
+        ensures { option_copied result ≡ self.now.parsed }
+    {
+        self.last.parsed()
+    }
+
+    /// Whether the tree of the last parse is that of the text of now: no line was touched since.
     pub fn is_fresh(&self) -> bool
         ensures { result ≡ self.now.fresh }
     {
-        self.tree.is_some()
+        self.last.fresh().is_some()
     }
 
     /// Appends the brackets of the lines `from` to `to`, both counted from 1 and both included, in the order of the text.
-    /// `Range` where one of the lines is not there, or `from` is above `to`; after an error `out` is as it was, and so is
-    /// the kept tree.
+    /// `Range` where one of the lines is not there, or `from` is above `to`; after an error `out` is as it was, and so are
+    /// the tree of the last parse and the marks.
     pub fn brackets_in(
         &mut self,
         from: u64,
@@ -281,35 +429,55 @@ impl Model {
             → OnOk result (All (λ e. IsSmall e.place) entries) }
         ensures document { self.new.document ≡ self.old.document }
         ensures pieces { self.new.pieces ≡ self.old.pieces }
+        ensures same { self.old.fresh ≡ true → self.new.parsed ≡ self.old.parsed }
+        ensures same_tree { self.old.fresh ≡ true → self.new.tree ≡ self.old.tree }
+        ensures asked { self.old.fresh ≡ false
+            → OnOk result (HasAsked self.new.parsed (length (new_lines self.old.marks))) }
+        ensures parsed { OnErr result (self.new.parsed ≡ self.old.parsed) }
+        ensures tree { OnErr result (self.new.tree ≡ self.old.tree) }
+        ensures lines { OnOk result (self.new.marks ≡ clean_marks (length self.old.marks)) }
+        ensures same_marks { self.old.fresh ≡ true → self.new.marks ≡ self.old.marks }
+        ensures marks { OnErr result (self.new.marks ≡ self.old.marks) }
         ensures fresh { OnOk result (self.new.fresh ≡ true) }
         ensures kept { OnErr result (self.new.fresh ≡ self.old.fresh) }
     {
         if from == 0 || to < from || self.text.line_count() < to {
             return Err(ModelError::Range);
         }
-        match &self.tree {
+        match self.last.fresh() {
             Some(tree) => tree
                 .entries(from - 1, to - 1, out)
                 .map_err(|_| ModelError::Memory),
             None => {
-                let tree = parse_text(self.alloc, &self.table, &self.text).map_err(
+                let parsed = parse_again(self.alloc, &self.last, &self.table, &self.text).map_err(
                     |_| ModelError::Memory,
                 )?;
-                tree.entries(from - 1, to - 1, out)
+                parsed
+                    .tree()
+                    .entries(from - 1, to - 1, out)
                     .map_err(|_| ModelError::Memory)?;
-                self.tree = Some(tree);
+                self.last.put(parsed);
                 Ok(())
             }
         }
     }
 
     /// Where the other bracket of a pair starts, and how many units it has, where one of the two starts at the position;
-    /// None where none does. `Range` where the position is none of the text. It takes no memory where a tree is kept, and
-    /// an error leaves the kept tree as it was.
+    /// None where none does. `Range` where the position is none of the text. It takes no memory where the tree of the last
+    /// parse is that of the text of now, and an error leaves tree and marks as they were.
     pub fn match_at(&mut self, p: Position) -> Result<Option<(Position, u64)>, ModelError>
         ensures partner { Gives result (flat_match self.old.document p) }
         ensures document { self.new.document ≡ self.old.document }
         ensures pieces { self.new.pieces ≡ self.old.pieces }
+        ensures same { self.old.fresh ≡ true → self.new.parsed ≡ self.old.parsed }
+        ensures same_tree { self.old.fresh ≡ true → self.new.tree ≡ self.old.tree }
+        ensures asked { self.old.fresh ≡ false
+            → OnOk result (HasAsked self.new.parsed (length (new_lines self.old.marks))) }
+        ensures parsed { OnErr result (self.new.parsed ≡ self.old.parsed) }
+        ensures tree { OnErr result (self.new.tree ≡ self.old.tree) }
+        ensures lines { OnOk result (self.new.marks ≡ clean_marks (length self.old.marks)) }
+        ensures same_marks { self.old.fresh ≡ true → self.new.marks ≡ self.old.marks }
+        ensures marks { OnErr result (self.new.marks ≡ self.old.marks) }
         ensures fresh { OnOk result (self.new.fresh ≡ true) }
         ensures kept { OnErr result (self.new.fresh ≡ self.old.fresh) }
         ensures sure { self.old.fresh ≡ true → ¬ (result ≡ Err ModelError.Memory) }
@@ -317,19 +485,29 @@ impl Model {
         if !is_position(&self.text, p) {
             return Err(ModelError::Range);
         }
-        renew(self.alloc, &mut self.tree, &self.table, &self.text).map_err(|_| ModelError::Memory)?;
-        match &self.tree {
+        renew(self.alloc, &mut self.last, &self.table, &self.text).map_err(|_| ModelError::Memory)?;
+        match self.last.fresh() {
             Some(tree) => Ok(told(tree.partner_of(place_of(p)))),
             None => unreachable!(),
         }
     }
 
     /// How many brackets are open after those that start before the position. `Range` where it is none of the text. It
-    /// takes no memory where a tree is kept, and an error leaves the kept tree as it was.
+    /// takes no memory where the tree of the last parse is that of the text of now, and an error leaves tree and marks as
+    /// they were.
     pub fn level_at(&mut self, p: Position) -> Result<u64, ModelError>
         ensures level { Gives result (flat_level self.old.document p) }
         ensures document { self.new.document ≡ self.old.document }
         ensures pieces { self.new.pieces ≡ self.old.pieces }
+        ensures same { self.old.fresh ≡ true → self.new.parsed ≡ self.old.parsed }
+        ensures same_tree { self.old.fresh ≡ true → self.new.tree ≡ self.old.tree }
+        ensures asked { self.old.fresh ≡ false
+            → OnOk result (HasAsked self.new.parsed (length (new_lines self.old.marks))) }
+        ensures parsed { OnErr result (self.new.parsed ≡ self.old.parsed) }
+        ensures tree { OnErr result (self.new.tree ≡ self.old.tree) }
+        ensures lines { OnOk result (self.new.marks ≡ clean_marks (length self.old.marks)) }
+        ensures same_marks { self.old.fresh ≡ true → self.new.marks ≡ self.old.marks }
+        ensures marks { OnErr result (self.new.marks ≡ self.old.marks) }
         ensures fresh { OnOk result (self.new.fresh ≡ true) }
         ensures kept { OnErr result (self.new.fresh ≡ self.old.fresh) }
         ensures sure { self.old.fresh ≡ true → ¬ (result ≡ Err ModelError.Memory) }
@@ -337,8 +515,8 @@ impl Model {
         if !is_position(&self.text, p) {
             return Err(ModelError::Range);
         }
-        renew(self.alloc, &mut self.tree, &self.table, &self.text).map_err(|_| ModelError::Memory)?;
-        match &self.tree {
+        renew(self.alloc, &mut self.last, &self.table, &self.text).map_err(|_| ModelError::Memory)?;
+        match self.last.fresh() {
             Some(tree) => Ok(tree.level_at(place_of(p))),
             None => unreachable!(),
         }
@@ -367,6 +545,16 @@ impl Model {
             return Err(ModelError::Range);
         }
         self.text.line(n, out).map_err(|_| ModelError::Memory)
+    }
+
+    /// Appends the columns, counted from 1, at which a cursor may stop in the line of this number. `Range` where there is
+    /// no such line; after an error `out` is as it was.
+    pub fn stops(&self, n: u64, out: &mut Vec<u64>) -> Result<(), ModelError>
+        ensures { Appends result out.old.items out.new.items (flat_stops self.now.document n) }
+    {
+        let mut content = Vec::new(self.alloc);
+        self.line(n, &mut content)?;
+        stops(self.alloc, content.as_slice(), out).map_err(|_| ModelError::Memory)
     }
 
     /// Appends the units of the span. `Range` where it is none of the text; after an error `out` is as it was.
@@ -429,5 +617,16 @@ fn refusal_of(error: DecoError) -> ModelError
         DecoError::Range => ModelError::Range,
         DecoError::Limit => ModelError::Limit,
         DecoError::Memory => ModelError::Memory,
+    }
+}
+
+fn shelf_error_of(error: ShelfError) -> ModelError
+    ensures { result ≡ shelf_error_of error }
+{
+    match error {
+        ShelfError::Unknown => ModelError::Unknown,
+        ShelfError::Range => ModelError::Range,
+        ShelfError::Limit => ModelError::Limit,
+        ShelfError::Memory => ModelError::Memory,
     }
 }

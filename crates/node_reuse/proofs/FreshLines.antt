@@ -6,7 +6,7 @@ use Rattle.text_lengths.specs.declared.Length.{Length}
 use Rattle.text_lengths.specs.Length.{length_of}
 use Rattle.bracket_rules.specs.declared.Token.{Token}
 use Rattle.bracket_rules.specs.declared.TheConstants.{MOST_OPEN}
-use Rattle.bracket_rules.specs.Table.{Table, is_table, token, tokens_of}
+use Rattle.bracket_rules.specs.Table.{Table, is_table, tokens_of}
 use Rattle.bracket_rules.specs.Rows.{Row, HasRow, row, empty_row, glue, text_rows}
 use Rattle.bracket_rules.proofs.Tokens.{tokens_of-in_line}
 use Rattle.bracket_trees.specs.Tree.{text}
@@ -20,7 +20,9 @@ use Rattle.reuse_rules.specs.Following.{Reached}
 use Rattle.reuse_rules.proofs.Followings.{Reached-rows, Reached-line}
 use Rattle.node_reuse.specs.Texts.{text_weights}
 use Rattle.node_reuse.specs.Ahead.{ahead_at, fresh_left, break_before, rows_before, IsFresh}
-use Rattle.node_reuse.proofs.FreshSteps.{rows_at, fits_text, break_next}
+use Rattle.bracket_nodes.proofs.ScannedSteps.{fits_text}
+use Rattle.bracket_nodes.proofs.Scans.{moved_back-zero}
+use Rattle.node_reuse.proofs.FreshSteps.{rows_at, break_next}
 
 -- ---- the line's break
 
@@ -77,17 +79,10 @@ fresh_over now weights p n left f same last end =
       empty =
           rows_at now weights p [] n f ∙ ap (rows_before p.columns [] n) none ∙ ap (λ (m : ℕ). row [] m ∷ []) columns;
       last = nil_from_length (drop (suc p.lines) weights) (omega (arith, length-drop (suc p.lines) weights));
+      asked = refl;
     }
 
 -- ---- a line is entered
-
-moved_back-zero : (ts : List Token) → moved_back 0 ts ≡ ts
-moved_back-zero [] = refl
-moved_back-zero (t ∷ ts) =
-    let at : t.at - 0 ≡ t.at = omega arith in
-    let here : token (t.at - 0) t.len t.kind t.opening ≡ t = ap (λ (n : ℕ). token n t.len t.kind t.opening) at in
-    let rest : moved_back 0 ts ≡ ts = moved_back-zero ts in
-    cc
 
 pub length-text_rows : (table : Table) (xs : List (List ℕ)) → length (text_rows table xs) ≡ length xs
 length-text_rows table [] = refl

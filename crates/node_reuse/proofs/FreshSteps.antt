@@ -1,5 +1,5 @@
 -- The steps of a reader in a line whose content was scanned.
-use Rattle.std.proofs.Common.{◌≡◌, ℕ, suc, ◌+◌, ◌-◌, ◌<◌, ◌≤◌, true, false, List, [], ◌∷◌, ◌++◌, length, drop, refl, ap, sym, ◌∙◌, subst, arith, inl}
+use Rattle.std.proofs.Common.{◌≡◌, ℕ, suc, ◌+◌, ◌-◌, ◌<◌, ◌≤◌, List, [], ◌∷◌, ◌++◌, length, drop, refl, ap, sym, ◌∙◌, subst, arith, inl}
 use Rattle.std.specs.Prelude.{slice_index}
 use Rattle.std.proofs.lemmas.List.{length-drop}
 use Rattle.text_lengths.specs.declared.Length.{Length}
@@ -10,41 +10,21 @@ use Rattle.bracket_rules.specs.declared.TheConstants.{MOST_OPEN}
 use Rattle.bracket_rules.specs.Table.{token, AreInLine}
 use Rattle.bracket_rules.specs.Rows.{Row, HasRow, row, empty_row, shifted, glue}
 use Rattle.bracket_trees.specs.Tree.{text, wide, bracket_row}
-use Rattle.bracket_trees.specs.Told.{Fits}
 use Rattle.bracket_trees.specs.Places.{IsBounded, rows_from}
 use Rattle.bracket_trees.proofs.Glue.{empty_glue}
 use Rattle.bracket_trees.proofs.LineWeights.{AreCovered-same}
 use Rattle.bracket_nodes.specs.Source.{GivesNode, GivesBracket}
 use Rattle.bracket_nodes.specs.ScannedLines.{moved_back}
-use Rattle.bracket_nodes.proofs.ScannedSteps.{line_end}
+use Rattle.bracket_nodes.proofs.ScannedSteps.{line_end, shifted-moved_back, same_row, fits_text}
 use Rattle.reuse_rules.specs.Following.{Reached}
 use Rattle.reuse_rules.proofs.Followings.{Reached-next, Reached-rows}
 use Rattle.node_reuse.specs.Ahead.{ahead_at, fresh_left, rows_before, IsFresh}
 
 -- ---- rows
 
-AreInLine-from : (c d n : ℕ) (ts : List Token) → c ≤ d → AreInLine d n ts → AreInLine c n ts
-AreInLine-from c d n [] h k = omega arith
-AreInLine-from c d n (t ∷ ts) h k = let first : d ≤ t.at = k.0 in (omega arith, k.1, k.2, k.3)
-
-shifted-moved_back : (c d n : ℕ) (ts : List Token) → c ≤ d → AreInLine d n ts → shifted (d - c) (moved_back d ts) ≡ moved_back c ts
-shifted-moved_back c d n [] h k = refl
-shifted-moved_back c d n (t ∷ ts) h k =
-    let first : d ≤ t.at = k.0 in
-    let at : (d - c) + (t.at - d) ≡ t.at - c = omega arith in
-    let here : token ((d - c) + (t.at - d)) t.len t.kind t.opening ≡ token (t.at - c) t.len t.kind t.opening =
-    ap (λ (m : ℕ). token m t.len t.kind t.opening) at in
-    let later : d ≤ t.at + t.len = omega arith in
-    let rest : shifted (d - c) (moved_back d ts) ≡ moved_back c ts =
-    shifted-moved_back c d n ts h (AreInLine-from d (t.at + t.len) n ts later k.3) in
-    cc
-
 HasRow-before : (c : ℕ) (ts : List Token) (n : ℕ) (rest : List Row) → HasRow (rows_before c ts n rest)
 HasRow-before c ts n [] = tt
 HasRow-before c ts n (r ∷ rest) = tt
-
-same_row : (x y : List Token) (m n : ℕ) → x ≡ y → m ≡ n → row x m ≡ row y n
-same_row x y m n p q = ap (λ (z : List Token). row z m) p ∙ ap (row y) q
 
 -- the rows from column c on are some brackets up to column d, and the rows from there
 cut : (c d n : ℕ) (front ts all : List Token) (rest : List Row) → c ≤ d → d ≤ n
@@ -54,14 +34,6 @@ cut c d n front ts all [] h k e =
     let columns : n - c ≡ (d - c) + (n - d) = omega arith in
     ap (λ (r : Row). r ∷ []) (same_row (moved_back c all) (front ++ shifted (d - c) (moved_back d ts)) (n - c) ((d - c) + (n - d)) e columns)
 cut c d n front ts all (r ∷ rest) h k e = ap (λ (x : List Token). row x 0 ∷ r ∷ rest) e
-
-pub fits_text : (kinds level lines columns : ℕ) → level ≤ MOST_OPEN → Fits kinds level (text (length_of lines columns))
-fits_text kinds level lines columns h = record {
-  closed = refl;
-  uncapped = refl;
-  apart = λ k m. let clash : false ≡ true = m in cc;
-  room = omega arith;
-}
 
 -- ---- steps within the line
 

@@ -151,12 +151,16 @@ kept_over old marks now weights p line kinds level left f room none no_bracket =
         let empty : rows_from p now ≡ empty_row ∷ [] = ends_alike old marks p (rows_from p now) line f.tree f.follows whole in
         let last : length now ≡ suc p.lines = reached_end now p (subst (Reached now p) empty f.reached) in
         let count = f.count in
-        record { empty = empty; last = nil_from_length (drop (suc p.lines) weights) (omega (arith, length-drop (suc p.lines) weights)) }
+        record {
+          empty = empty;
+          last = nil_from_length (drop (suc p.lines) weights) (omega (arith, length-drop (suc p.lines) weights));
+          asked = refl;
+        }
 
 -- ---- less is left
 
 abbrev pub with_left : Ahead → ℕ → Ahead
-with_left a left = record { rows = a.rows; line = left; later = a.later }
+with_left a left = record a { line = left }
 
 -- what gives a node gives it too where less of the line is left behind it
 pub lighter : (old new : Ahead) (kinds level : ℕ) (t : Tree) (left : ℕ) → left ≤ new.line → GivesNode old new kinds level t

@@ -144,6 +144,10 @@ run_within : (lines columns run : ℕ) → lines_touched lines columns ≤ run �
 run_within lines zero run h e = h
 run_within lines (suc columns) run h e = absurd (omega arith)
 
+-- a text that ends just after a break ends at the start of a line
+pub columns_zero : (p l : Length) → 0 < l.lines → l.columns ≡ 0 → (length_plus p l).columns ≡ 0
+columns_zero p l h e = rw (lt-ltb 0 l.lines h) e
+
 -- what is left behind a node that ends at the start of a line, which is not entered
 pub node_turned : (old : Tree) (marks : List Mark) (now : List Row) (weights : List ℕ) (p : Length) (line kinds level k : ℕ) (n : Tree)
     → IsFollowing old marks now weights p line → OldNode old marks p line kinds level n → (tree_length n).lines ≡ suc k → (tree_length n).columns ≡ 0
@@ -179,6 +183,3 @@ node_turned old marks now weights p line kinds level k n f h e c =
       weighs = subst (λ (a : List ℕ). AreCovered (glue_weights (tree_weights n) a) (weight_left old q ∷ drop (suc p.lines) weights)) next covered;
       rest = t.has_rest;
     }
-  where
-    columns_zero : (p l : Length) → 0 < l.lines → l.columns ≡ 0 → (length_plus p l).columns ≡ 0
-    columns_zero p l h e = rw (lt-ltb 0 l.lines h) e

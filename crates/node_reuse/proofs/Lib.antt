@@ -1,4 +1,5 @@
 pub mod OldPlaces
+pub mod OldRoom
 pub mod FreshSteps
 pub mod FreshLines
 pub mod KeptCovers
@@ -6,3 +7,8 @@ pub mod KeptSteps
 pub mod KeptEnds
 pub mod LineStarts
 pub mod LightLines
+pub mod Unasked
+pub mod FreshReader
+pub mod KeptReader
+pub mod ReaderCalls
+pub mod WholeReader

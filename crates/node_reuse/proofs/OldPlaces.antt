@@ -44,7 +44,7 @@ kept_place marks p number r e =
     let some : 1 ≤ number = kept_from_one marks (p.lines + 1) number r e in
     record { kept = sym e ∙ ap Kept (omega arith); column = refl }
 
-same_line : (marks : List Mark) (p : Length) (m n : ℕ) → IsKeptAs marks p m → IsKeptAs marks p n → m ≡ n
+pub same_line : (marks : List Mark) (p : Length) (m n : ℕ) → IsKeptAs marks p m → IsKeptAs marks p n → m ≡ n
 same_line marks p m n h k = let same : m + 1 ≡ n + 1 = ap number_of (sym h ∙ k) in omega arith
 
 old_place_is : (marks : List Mark) (p q : Length) → IsOldPlace marks p q → q ≡ length_of q.lines p.columns

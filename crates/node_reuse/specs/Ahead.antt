@@ -6,15 +6,17 @@ use Rattle.bracket_rules.specs.Rows.{Row, row}
 use Rattle.bracket_rules.specs.Table.{AreInLine}
 use Rattle.bracket_trees.specs.Places.{rows_from}
 use Rattle.bracket_nodes.specs.ScannedLines.{moved_back}
-use Rattle.bracket_nodes.specs.Source.{Ahead}
+use Rattle.bracket_nodes.specs.Source.{Ahead, asks_nothing}
 use Rattle.reuse_rules.specs.Following.{Reached}
 
--- the rows from place p on, what is left of its line, and what each line after it may weigh
+-- the rows from place p on, what is left of its line, and what each line after it may weigh, where no line is yet to be
+-- asked for
 abbrev pub ahead_at : List Row → List ℕ → Length → ℕ → Ahead
 ahead_at now weights p left = record {
   rows = rows_from p now;
   line = left;
   later = drop (suc p.lines) weights;
+  asking = asks_nothing;
 }
 
 -- what is left of a line that was not entered, or whose content is read: what it may weigh less what was read of it

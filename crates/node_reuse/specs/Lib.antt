@@ -2,4 +2,6 @@ pub mod OldText
 pub mod Texts
 pub mod Ahead
 pub mod Reading
+pub mod Reader
+pub mod ParsedTree
 mod Examples

@@ -1,5 +1,5 @@
 -- What contracts see of an old text, and what of its tree may be taken over at a place of the text of now.
-use Rattle.std.specs.Prelude.{◌≡◌, ℕ, false, List, Option, Some, None, refl}
+use Rattle.std.specs.Prelude.{◌≡◌, ℕ, ◌<◌, ◌^◌, false, List, Option, Some, None, refl}
 use Rattle.std.specs.Coded.{Coded, code_by, coded_ℕ, coded_list, coded×, coded_option}
 use Rattle.text_lengths.specs.declared.Length.{Length}
 use Rattle.text_lengths.specs.Length.{is_before}
@@ -22,6 +22,11 @@ pub record IsOldPlace (marks : List Mark) (p q : Length) : Type 0 where
 -- the line of place p is new
 abbrev pub IsNewLine : List Mark → Length → Type 0
 IsNewLine marks p = (line : ℕ) → IsKeptAs marks p line → ⊥
+
+-- lines and columns that 64 bits tell
+pub record Fits64 (p : Length) : Type 0 where
+  pub lines : p.lines < 2 ^ 64
+  pub columns : p.columns < 2 ^ 64
 
 -- ---- an old text
 

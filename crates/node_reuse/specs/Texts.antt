@@ -1,5 +1,5 @@
 -- The lines of a text of now: what they may weigh, and which of them are read.
-use Rattle.std.specs.Prelude.{◌≡◌, ◌⊎◌, ◌++◌, ℕ, suc, ◌+◌, ◌-◌, ◌≤◌, List, [], ◌∷◌, length, slice_index, slice_index_or}
+use Rattle.std.specs.Prelude.{◌≡◌, ◌++◌, ℕ, suc, ◌+◌, ◌-◌, ◌≤◌, List, [], ◌∷◌, length, slice_index, slice_index_or}
 use Rattle.text_lengths.specs.Length.{length_of}
 use Rattle.bracket_trees.specs.Tree.{Tree}
 use Rattle.mark_rules.specs.declared.Mark.{Mark}
@@ -41,6 +41,6 @@ pub record LinesState : Type 0 where
 abbrev pub content_at : ℕ → List (List ℕ) → List ℕ
 content_at n contents = slice_index_or contents (n - 1) []
 
--- line n was asked for, or none was
-abbrev pub AsksAtMost : List ℕ → ℕ → List ℕ → Type 0
-AsksAtMost old n new = (new ≡ old) ⊎ (new ≡ old ++ n ∷ [])
+-- a front of these lines was asked for, in order
+abbrev pub AsksFront : List ℕ → List ℕ → List ℕ → Type 0
+AsksFront lines old new = (left : List ℕ) × (new ++ left ≡ old ++ lines)

@@ -1,42 +1,74 @@
-//! The new lines of the text of now, read and scanned.
+// What comes in a new line.
+ghost use Rattle.std.specs.Prelude.{◌≡◌, ◌-◌, ◌^◌, ◌<◌, ◌≤◌, ℕ, true, IfOk, OnErr};
+ghost use Rattle.bracket_rules.specs.Table.{AreInLine};
+ghost use Rattle.bracket_trees.specs.Tree.{text, wide};
+ghost use Rattle.node_reuse.specs.Reader.{Sight, tokens_left, StandsAt, IsLast, ReadsOn};
 
-ghost use Rattle.std.specs.Prelude.{◌≡◌, ◌≤◌, ◌++◌, ◌∷◌, [], true, length, IfOk, OnOk, OnErr};
-ghost use Rattle.bracket_rules.specs.Table.{is_table, tokens_of};
-ghost use Rattle.node_reuse.specs.Texts.{content_at, AsksAtMost};
-
-use crate::lines::Lines;
-use bracket_nodes::ScannedLine;
-use bracket_scan::BracketTable;
+use crate::line::Line;
+use bracket_nodes::{Next, text_node};
+use bracket_rules::MOST_OPEN;
 use std::alloc::{AllocError, Global};
+use text_lengths::Length;
 
-/// Asks for line `n` once, from 1, and scans it; it is read into `content`. After an error the line may have been asked
-/// for.
-pub fn scanned_line<Q: Lines>(
+const LINE_BREAK: Length = Length {
+    lines: 1,
+    columns: 0,
+};
+
+// What comes next in a line that was scanned, whether or not it is the last one: a bracket, the columns before it, the
+// break, or the end of the text. An error leaves the reader where it was.
+pub(crate) fn next_of_line(
     alloc: Global,
-    table: &BracketTable,
-    lines: &mut Q,
-    n: u64,
-    content: &mut Vec<u16>,
-) -> Result<ScannedLine, AllocError>
-    requires first { 1 ≤ n }
-    requires there { n ≤ length (Q.state lines.old).contents }
-    ensures tokens { IfOk result (λ line.
-        line.tokens.items ≡ tokens_of table.now (content_at n (Q.state lines.old).contents)) }
-    ensures columns { IfOk result (λ line.
-        line.columns ≡ length (content_at n (Q.state lines.old).contents)) }
-    ensures table { OnOk result (is_table table.now ≡ true) }
-    ensures asked { OnOk result
-        ((Q.state lines.new).asked ≡ (Q.state lines.old).asked ++ n ∷ []) }
-    ensures failed { OnErr result
-        (AsksAtMost (Q.state lines.old).asked n (Q.state lines.new).asked) }
-    ensures contents { (Q.state lines.new).contents ≡ (Q.state lines.old).contents }
+    last: bool,
+    place: &mut Length,
+    line: &mut Line,
+) -> Result<Next, AllocError>
+    requires scanned { line.old.scanned ≡ true }
+    requires in_line { AreInLine place.old.columns line.old.columns (tokens_left line.old) }
+    requires fits { place.old.lines < 2 ^ 62 }
+    ensures reads { (s : Sight) (opened level : ℕ) → level ≤ MOST_OPEN
+        → StandsAt s place.old line.old → IsLast s place.old last
+        → IfOk result (ReadsOn s place.old line.old place.new line.new opened level) }
+    ensures same_place { OnErr result (place.new ≡ place.old) }
+    ensures same_line { OnErr result (line.new ≡ line.old) }
 {
-    content.clear();
-    lines.line(n, content)?;
-    let mut tokens = Vec::new(alloc);
-    table.scan(content, &mut tokens)?;
-    Ok(ScannedLine {
-        tokens,
-        columns: content.len() as u64,
-    })
+    let columns = line.columns;
+    if let Some(token) = line.token() {
+        if place.columns < token.at {
+            return gap(alloc, place, token.at);
+        }
+        line.next += 1;
+        place.columns += token.len;
+        return Ok(Next::Bracket(token.kind, token.len, token.opening));
+    }
+    if !last {
+        let node = text_node(alloc, LINE_BREAK)?;
+        line.scanned = false;
+        place.lines += 1;
+        place.columns = 0;
+        return Ok(Next::Ready(node));
+    }
+    if place.columns < columns {
+        return gap(alloc, place, columns);
+    }
+    Ok(Next::End)
+}
+
+// The columns of a line up to this one.
+fn gap(alloc: Global, place: &mut Length, column: u64) -> Result<Next, AllocError>
+    requires { place.old.columns < column }
+    ensures gap { IfOk result (λ next. next ≡ Next.Ready (text (wide (column - place.old.columns)))) }
+    ensures lines { place.new.lines ≡ place.old.lines }
+    ensures column { IfOk result (λ _. place.new.columns ≡ column) }
+    ensures same_place { OnErr result (place.new ≡ place.old) }
+{
+    let node = text_node(
+        alloc,
+        Length {
+            lines: 0,
+            columns: column - place.columns,
+        },
+    )?;
+    place.columns = column;
+    Ok(Next::Ready(node))
 }

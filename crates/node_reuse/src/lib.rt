@@ -2,10 +2,14 @@
 #![tactic(auto)]
 
 mod fresh;
+mod kept;
+mod line;
 mod lines;
 mod old;
+mod parsed;
+mod reader;
 
 pub use bracket_rules::Token;
-pub use fresh::scanned_line;
 pub use lines::Lines;
-pub use old::OldReader;
+pub use old::{Old, OldReader};
+pub use parsed::{Parsed, reparse};

@@ -14,7 +14,7 @@ use Rattle.reuse_rules.specs.Edits.{IsEdited}
 
 -- ---- rows of lines
 
-length-text_rows : (table : Table) (lines : List (List ℕ)) → length (text_rows table lines) ≡ length lines
+pub length-text_rows : (table : Table) (lines : List (List ℕ)) → length (text_rows table lines) ≡ length lines
 length-text_rows table [] = refl
 length-text_rows table (x ∷ []) = refl
 length-text_rows table (x ∷ y ∷ lines) = ap suc (length-text_rows table (y ∷ lines))

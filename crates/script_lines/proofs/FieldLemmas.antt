@@ -1,5 +1,5 @@
 -- The values of serde_json, and the definitions of fields.
-use Rattle.std.proofs.Common.{◌≡◌, ℕ, zero, suc, ◌+◌, ◌≤◌, ◌<◌, ◌&&◌, List, [], ◌∷◌, ◌++◌, length, map, take, get_or, Option, Some, None, refl, ap, sym, ◌∙◌, arith, String, string_bytes}
+use Rattle.std.proofs.Common.{◌≡◌, ℕ, zero, suc, ◌+◌, ◌<◌, ◌≢◌, ◌&&◌, List, [], ◌∷◌, ◌++◌, length, map, take, get_or, Option, Some, None, refl, ap, sym, ◌∙◌, arith, String, string_bytes}
 use Rattle.std.specs.declared.alloc.Global.{Global}
 use Rattle.std.specs.List.{list_any, list_all}
 use Rattle.std.specs.Str.{bytes_eq}
@@ -7,9 +7,8 @@ use Rattle.serde_json.specs.declared.value.Value.{Value}
 use Rattle.serde_json.specs.View.{view, items_view, members_view}
 use Rattle.serde_json.specs.Data.{Data, null, boolean, number, string, array, object, Members}
 use Rattle.serde_json.specs.Find.{as_object}
-use Rattle.script_lines.specs.Fields.{keys_among, has_only, all_of, span_in, positions_in}
+use Rattle.script_lines.specs.Fields.{keys_among, has_only, all_of, two_of, positions_in}
 use Rattle.script_lines.specs.Reading.{◌>>=◌}
-use Rattle.script_lines.specs.Brackets.{pair_of}
 use Rattle.script_lines.specs.Commands.{op_in, some_ops_in}
 
 pub keys_among-members_view : (names : List (List ℕ)) (es : List (String Global × Value))
@@ -18,16 +17,12 @@ keys_among-members_view names [] = refl
 keys_among-members_view names (e ∷ es) =
     ap (λ b. list_any (bytes_eq (string_bytes e.0)) names && b) (keys_among-members_view names es)
 
-pub span_in_fewer : (vs : List Value) → length vs < 2 → span_in (items_view vs) ≡ None
-span_in_fewer [] few = refl
-span_in_fewer (v ∷ []) few = refl
-span_in_fewer (v ∷ w ∷ vs) few = absurd (omega arith)
-
-pub span_in_more : (vs : List Value) → 3 ≤ length vs → span_in (items_view vs) ≡ None
-span_in_more [] many = absurd (omega arith)
-span_in_more (v ∷ []) many = absurd (omega arith)
-span_in_more (v ∷ w ∷ []) many = absurd (omega arith)
-span_in_more (v ∷ w ∷ x ∷ vs) many = refl
+-- what reads two items reads no other count of them
+pub two_of_other : {X : Type 0} (reads : Data → Data → Option X) (vs : List Value) → length vs ≢ 2 → two_of reads (items_view vs) ≡ None
+two_of_other reads [] other = refl
+two_of_other reads (v ∷ []) other = refl
+two_of_other reads (v ∷ w ∷ []) other = absurd (other refl)
+two_of_other reads (v ∷ w ∷ x ∷ vs) other = refl
 
 -- the fields of an object
 pub has_only-as_object : (names : List (List ℕ)) (d : Data) (ms : Members) → as_object d ≡ Some ms → has_only names d ≡ keys_among names ms
@@ -87,28 +82,10 @@ pub some_ops_in-some : (vs : List Value) → 0 < length vs → some_ops_in (item
 some_ops_in-some [] some = absurd (omega arith)
 some_ops_in-some (v ∷ vs) some = refl
 
-pub positions_in_fewer : (vs : List Value) → length vs < 4 → positions_in (items_view vs) ≡ None
-positions_in_fewer [] few = refl
-positions_in_fewer (a ∷ []) few = refl
-positions_in_fewer (a ∷ b ∷ []) few = refl
-positions_in_fewer (a ∷ b ∷ c ∷ []) few = refl
-positions_in_fewer (a ∷ b ∷ c ∷ d ∷ vs) few = absurd (omega arith)
-
-pub positions_in_more : (vs : List Value) → 5 ≤ length vs → positions_in (items_view vs) ≡ None
-positions_in_more [] many = absurd (omega arith)
-positions_in_more (a ∷ []) many = absurd (omega arith)
-positions_in_more (a ∷ b ∷ []) many = absurd (omega arith)
-positions_in_more (a ∷ b ∷ c ∷ []) many = absurd (omega arith)
-positions_in_more (a ∷ b ∷ c ∷ d ∷ []) many = absurd (omega arith)
-positions_in_more (a ∷ b ∷ c ∷ d ∷ e ∷ vs) many = refl
-
-pub pair_of_fewer : (vs : List Value) → length vs < 2 → pair_of (items_view vs) ≡ None
-pair_of_fewer [] few = refl
-pair_of_fewer (v ∷ []) few = refl
-pair_of_fewer (v ∷ w ∷ vs) few = absurd (omega arith)
-
-pub pair_of_more : (vs : List Value) → 3 ≤ length vs → pair_of (items_view vs) ≡ None
-pair_of_more [] many = absurd (omega arith)
-pair_of_more (v ∷ []) many = absurd (omega arith)
-pair_of_more (v ∷ w ∷ []) many = absurd (omega arith)
-pair_of_more (v ∷ w ∷ x ∷ vs) many = refl
+pub positions_in_other : (vs : List Value) → length vs ≢ 4 → positions_in (items_view vs) ≡ None
+positions_in_other [] other = refl
+positions_in_other (a ∷ []) other = refl
+positions_in_other (a ∷ b ∷ []) other = refl
+positions_in_other (a ∷ b ∷ c ∷ []) other = refl
+positions_in_other (a ∷ b ∷ c ∷ d ∷ []) other = absurd (other refl)
+positions_in_other (a ∷ b ∷ c ∷ d ∷ e ∷ vs) other = refl

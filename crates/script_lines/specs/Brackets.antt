@@ -1,10 +1,10 @@
 -- The bracket table that a line gives.
 use Rattle.std.specs.Prelude.{ℕ, List, Option, Some, None, option_map, option_and_then, if◌then◌else◌}
-use Rattle.serde_json.specs.Data.{Data, Items, no_items, item}
+use Rattle.serde_json.specs.Data.{Data, Items}
 use Rattle.serde_json.specs.Find.{get, as_array}
 use Rattle.bracket_rules.specs.Table.{Table, is_table}
 use Rattle.script_lines.specs.Reading.{◌>>=◌}
-use Rattle.script_lines.specs.Fields.{text_of, all_of}
+use Rattle.script_lines.specs.Fields.{text_of, two_of, list_in}
 
 abbrev pub two_texts : Data → Data → Option (List ℕ × List ℕ)
 two_texts a b = do
@@ -14,16 +14,10 @@ two_texts a b = do
 
 -- an array of two texts
 abbrev pub pair_of : Items → Option (List ℕ × List ℕ)
-pair_of no_items = None
-pair_of (item a no_items) = None
-pair_of (item a (item b no_items)) = two_texts a b
-pair_of (item a (item b (item c ds))) = None
+pair_of ds = two_of two_texts ds
 
 abbrev pub pair_in : Data → Option (List ℕ × List ℕ)
 pair_in d = option_and_then pair_of (as_array d)
-
-abbrev pub pairs_in : Items → Option Table
-pairs_in ds = all_of pair_in ds
 
 -- the pairs, where they are a table
 abbrev pub table_of : Table → Option Table
@@ -31,7 +25,7 @@ table_of pairs = if is_table pairs then Some pairs else None
 
 -- an array of pairs that are a table
 abbrev pub table_in : Data → Option Table
-table_in d = option_and_then table_of (option_and_then pairs_in (as_array d))
+table_in d = option_and_then table_of (list_in pair_in d)
 
 abbrev pub optional_table_of : Option Data → Option (Option Table)
 optional_table_of None = Some None

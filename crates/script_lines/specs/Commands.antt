@@ -8,21 +8,20 @@ use Rattle.script_lines.specs.declared.op.LineOp.{LineOp}
 use Rattle.script_lines.specs.declared.op.Place.{Place}
 use Rattle.script_lines.specs.declared.op.Place.TheVariants.{At, InRange}
 use Rattle.script_lines.specs.Reading.{◌>>=◌}
-use Rattle.script_lines.specs.Fields.{has_only, number_at, optional_number_at, all_of, ids_at, string_at, text_at, span_at, positions_at, position_in, flag_at}
-use Rattle.script_lines.specs.Decorations.{new_decos_at}
+use Rattle.script_lines.specs.Fields.{has_only, whole_number, number_at, optional_number_at, all_of, list_at, string_at, text_at, span_at, positions_at, position_in, flag_at}
+use Rattle.script_lines.specs.Decorations.{new_deco_in}
 use Rattle.script_lines.specs.Brackets.{optional_table_at}
 use Rattle.script_lines.specs.declared.command.Command.{Command}
-use Rattle.script_lines.specs.declared.command.Command.TheVariants.{Open, Edit, Decorate, Undo, Redo, Stop, Size, Version, Line, Value, Offset, Position, Deco, Decos, Brackets, Match, Level}
+use Rattle.script_lines.specs.declared.command.Command.TheVariants.{Open, Edit, Decorate, Undo, Redo, Stop, Size, Version, Line, Value, Offset, Position, Deco, Decos, Brackets, Match, Level, Snapshot, Read, Close, Stops}
 
-abbrev pub open_of : Data → Option Command
-open_of d = do
-  text ← text_at (codes "text") d
-  brackets ← optional_table_at (codes "brackets") d
-  Some (Open text brackets)
+-- the command of two fields, where both are read
+abbrev pub both : {A B : Type 0} → (A → B → Command) → Option A → Option B → Option Command
+both command a b = a >>= (λ x. b >>= (λ y. Some (command x y)))
 
 -- `{"cmd":"open","text":TEXT}`, with `"brackets":[[OPENING,CLOSING],..]` if the brackets are not those of the standard table
 abbrev pub open_in : Data → Option Command
-open_in d = if has_only (codes "cmd" ∷ codes "text" ∷ codes "brackets" ∷ []) d then open_of d else None
+open_in d = if has_only (codes "cmd" ∷ codes "text" ∷ codes "brackets" ∷ []) d
+    then both Open (text_at (codes "text") d) (optional_table_at (codes "brackets") d) else None
 
 -- where an op stands: at a span of offsets, or in a range of positions
 abbrev pub place_in : Data → Option Place
@@ -55,8 +54,8 @@ edit_in d = if has_only (codes "cmd" ∷ codes "ops" ∷ []) d
 abbrev pub decorate_of : Data → Option Command
 decorate_of d = do
   owner ← number_at (codes "owner") d
-  remove ← ids_at (codes "remove") d
-  add ← new_decos_at (codes "add") d
+  remove ← list_at whole_number (codes "remove") d
+  add ← list_at new_deco_in (codes "add") d
   Some (Decorate owner remove add)
 
 -- `{"cmd":"decorate","owner":NUMBER,"remove":[NUMBER,..],"add":[NEW,..]}`
@@ -88,25 +87,15 @@ position_command_in d =
 abbrev pub deco_in : Data → Option Command
 deco_in d = if has_only (codes "cmd" ∷ codes "id" ∷ []) d then option_map Deco (number_at (codes "id") d) else None
 
-abbrev pub decos_of : Data → Option Command
-decos_of d = do
-  at ← span_at (codes "at") d
-  owner ← optional_number_at (codes "owner") d
-  Some (Decos at owner)
-
 -- `{"cmd":"decos","at":[START,END]}`, with `"owner":NUMBER` if only those of one owner are wanted
 abbrev pub decos_in : Data → Option Command
-decos_in d = if has_only (codes "cmd" ∷ codes "at" ∷ codes "owner" ∷ []) d then decos_of d else None
-
-abbrev pub brackets_of : Data → Option Command
-brackets_of d = do
-  from ← number_at (codes "from") d
-  to ← number_at (codes "to") d
-  Some (Brackets from to)
+decos_in d = if has_only (codes "cmd" ∷ codes "at" ∷ codes "owner" ∷ []) d
+    then both Decos (span_at (codes "at") d) (optional_number_at (codes "owner") d) else None
 
 -- `{"cmd":"brackets","from":NUMBER,"to":NUMBER}`
 abbrev pub brackets_in : Data → Option Command
-brackets_in d = if has_only (codes "cmd" ∷ codes "from" ∷ codes "to" ∷ []) d then brackets_of d else None
+brackets_in d = if has_only (codes "cmd" ∷ codes "from" ∷ codes "to" ∷ []) d
+    then both Brackets (number_at (codes "from") d) (number_at (codes "to") d) else None
 
 -- `{"cmd":"match","line":NUMBER,"col":NUMBER}`
 abbrev pub match_in : Data → Option Command
@@ -115,6 +104,19 @@ match_in d = if has_only (codes "cmd" ∷ codes "line" ∷ codes "col" ∷ []) d
 -- `{"cmd":"level","line":NUMBER,"col":NUMBER}`
 abbrev pub level_in : Data → Option Command
 level_in d = if has_only (codes "cmd" ∷ codes "line" ∷ codes "col" ∷ []) d then option_map Level (position_in d) else None
+
+-- `{"cmd":"read","id":NUMBER,"count":NUMBER}`
+abbrev pub read_in : Data → Option Command
+read_in d = if has_only (codes "cmd" ∷ codes "id" ∷ codes "count" ∷ []) d
+    then both Read (number_at (codes "id") d) (number_at (codes "count") d) else None
+
+-- `{"cmd":"close","id":NUMBER}`
+abbrev pub close_in : Data → Option Command
+close_in d = if has_only (codes "cmd" ∷ codes "id" ∷ []) d then option_map Close (number_at (codes "id") d) else None
+
+-- `{"cmd":"stops","n":NUMBER}`
+abbrev pub stops_in : Data → Option Command
+stops_in d = if has_only (codes "cmd" ∷ codes "n" ∷ []) d then option_map Stops (number_at (codes "n") d) else None
 
 -- the name of a command, and what reads its fields
 pub record Row : Type 0 where
@@ -144,6 +146,10 @@ commands =
     ∷ row (codes "brackets") brackets_in
     ∷ row (codes "match") match_in
     ∷ row (codes "level") level_in
+    ∷ row (codes "snapshot") (bare_in Snapshot)
+    ∷ row (codes "read") read_in
+    ∷ row (codes "close") close_in
+    ∷ row (codes "stops") stops_in
     ∷ []
 
 -- what the row of this name reads; nothing where there is none

@@ -1,10 +1,9 @@
 -- The decorations that a line adds.
-use Rattle.std.specs.Prelude.{ℕ, List, [], ◌∷◌, Option, Some, None, option_and_then, codes, if◌then◌else◌}
-use Rattle.serde_json.specs.Data.{Data, Items}
-use Rattle.serde_json.specs.Find.{get, as_array}
+use Rattle.std.specs.Prelude.{[], ◌∷◌, Option, Some, None, codes, if◌then◌else◌}
+use Rattle.serde_json.specs.Data.{Data}
 use Rattle.decoration_rules.specs.declared.NewDeco.{NewDeco}
 use Rattle.script_lines.specs.Reading.{◌>>=◌}
-use Rattle.script_lines.specs.Fields.{has_only, number_at, span_at, flag_at, all_of}
+use Rattle.script_lines.specs.Fields.{has_only, number_at, span_at, flag_at}
 
 abbrev pub new_deco_of : Data → Option NewDeco
 new_deco_of d = do
@@ -16,10 +15,3 @@ new_deco_of d = do
 -- `{"at":[START,END],"stick":NUMBER}`, with `"collapse":true` if it is on
 abbrev pub new_deco_in : Data → Option NewDeco
 new_deco_in d = if has_only (codes "at" ∷ codes "stick" ∷ codes "collapse" ∷ []) d then new_deco_of d else None
-
--- any count of new decorations
-abbrev pub new_decos_in : Items → Option (List NewDeco)
-new_decos_in ds = all_of new_deco_in ds
-
-abbrev pub new_decos_at : List ℕ → Data → Option (List NewDeco)
-new_decos_at key d = option_and_then new_decos_in (option_and_then as_array (get key d))

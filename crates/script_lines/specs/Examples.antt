@@ -6,7 +6,7 @@ use Rattle.serde_json.specs.Data.{Data, null, number, string, array, object, uns
 use Rattle.script_lines.specs.Replies.{ok_reply}
 use Rattle.script_lines.specs.Decorations.{new_deco_in}
 use Rattle.script_lines.specs.Commands.{command_in}
-use Rattle.script_lines.specs.declared.command.Command.TheVariants.{Open, Decorate, Decos, Match, Level}
+use Rattle.script_lines.specs.declared.command.Command.TheVariants.{Open, Decorate, Decos, Match, Level, Read, Close, Stops}
 
 three_numbers : ok_reply (2 ∷ 3 ∷ 10 ∷ []) ≡ codes "ok 2 3 10\n"
 unfolding digits
@@ -109,3 +109,25 @@ match_at_position = refl
 
 level_at_position : command_in (at_position (codes "level")) ≡ Some (Level (record { line = 2; column = 3 }))
 level_at_position = refl
+
+-- ---- snapshots and stops
+
+-- `{"cmd":CMD,KEY:NUMBER}`, its keys in their order
+abbrev with_number : List ℕ → List ℕ → ℕ → Data
+with_number cmd key n = object (member (codes "cmd") (string cmd) (member key (whole n) no_members))
+
+a_read : command_in (object (member (codes "cmd") (string (codes "read")) (member (codes "count") (whole 9) (member (codes "id") (whole 1) no_members))))
+    ≡ Some (Read 1 9)
+a_read = refl
+
+read_without_count : command_in (with_number (codes "read") (codes "id") 1) ≡ None
+read_without_count = refl
+
+a_close : command_in (with_number (codes "close") (codes "id") 1) ≡ Some (Close 1)
+a_close = refl
+
+stops_of_a_line : command_in (with_number (codes "stops") (codes "n") 3) ≡ Some (Stops 3)
+stops_of_a_line = refl
+
+snapshot_of_a_number : command_in (with_number (codes "snapshot") (codes "id") 1) ≡ None
+snapshot_of_a_number = refl

@@ -46,12 +46,19 @@ all_of reads (item d ds) = do
   xs ← all_of reads ds
   Some (x ∷ xs)
 
--- an array of any count of whole numbers
-abbrev pub ids_in : Items → Option (List ℕ)
-ids_in ds = all_of whole_number ds
+-- an array of any count of items
+abbrev pub list_in : {X : Type 0} → (Data → Option X) → Data → Option (List X)
+list_in reads d = option_and_then (all_of reads) (as_array d)
 
-abbrev pub ids_at : List ℕ → Data → Option (List ℕ)
-ids_at key d = option_and_then ids_in (option_and_then as_array (get key d))
+abbrev pub list_at : {X : Type 0} → (Data → Option X) → List ℕ → Data → Option (List X)
+list_at reads key d = option_and_then (list_in reads) (get key d)
+
+-- what is read of exactly two items
+abbrev pub two_of : {X : Type 0} → (Data → Data → Option X) → Items → Option X
+two_of reads no_items = None
+two_of reads (item a no_items) = None
+two_of reads (item a (item b no_items)) = reads a b
+two_of reads (item a (item b (item c ds))) = None
 
 abbrev pub string_at : List ℕ → Data → Option (List ℕ)
 string_at key d = option_and_then as_str (get key d)
@@ -63,17 +70,15 @@ text_of d = option_map units_of (as_str d)
 abbrev pub text_at : List ℕ → Data → Option (List ℕ)
 text_at key d = option_and_then text_of (get key d)
 
-abbrev pub span_of : Option ℕ → Option ℕ → Option Span
-span_of None end = None
-span_of (Some start) None = None
-span_of (Some start) (Some end) = Some (record { start = start; end = end })
+abbrev pub span_of : Data → Data → Option Span
+span_of a b = do
+  start ← whole_number a
+  end ← whole_number b
+  Some (record { start = start; end = end })
 
 -- an array of two whole numbers
 abbrev pub span_in : Items → Option Span
-span_in no_items = None
-span_in (item a no_items) = None
-span_in (item a (item b no_items)) = span_of (whole_number a) (whole_number b)
-span_in (item a (item b (item c ds))) = None
+span_in ds = two_of span_of ds
 
 abbrev pub span_at : List ℕ → Data → Option Span
 span_at key d = option_and_then span_in (option_and_then as_array (get key d))

@@ -1,11 +1,12 @@
 //! Bracket tables as a line spells them.
 
-ghost use Rattle.std.specs.Prelude.{◌≡◌, Some, None, IfOk, Err};
+ghost use Rattle.std.specs.Prelude.{◌≡◌};
 ghost use Rattle.serde_json.specs.View.{view, items_view};
 ghost use Rattle.script_lines.specs.Reading.{Reads};
-ghost use Rattle.script_lines.specs.Brackets.{pair_of, pair_in, pairs_in, table_of, table_in, optional_table_at};
+ghost use Rattle.script_lines.specs.Brackets.{pair_of, pair_in, table_of, table_in, optional_table_at};
 
 use crate::fields::{LineFault, text_of};
+use crate::items::{Item, list_in};
 use bracket_scan::{BracketTable, TableError};
 use serde_json::Value;
 use std::alloc::Global;
@@ -30,8 +31,7 @@ pub(crate) fn optional_table_at(
 fn table_in(alloc: Global, value: &Value) -> Result<BracketTable, LineFault>
     ensures { Reads result (table_in (view value.now)) }
 {
-    let items = value.as_array().ok_or(LineFault::Syntax)?;
-    let pairs = pairs_in(alloc, items.as_slice())?;
+    let pairs = list_in::<(Units, Units)>(alloc, value)?;
     table_of(alloc, pairs.as_slice())
 }
 
@@ -45,16 +45,12 @@ fn table_of(alloc: Global, pairs: &[(Units, Units)]) -> Result<BracketTable, Lin
     }
 }
 
-fn pairs_in(alloc: Global, values: &[Value]) -> Result<Vec<(Units, Units)>, LineFault>
-    ensures ok { IfOk result (λ pairs. pairs_in (items_view values.now) ≡ Some pairs.items) }
-    ensures syntax { result ≡ Err LineFault.Syntax → pairs_in (items_view values.now) ≡ None }
-{
-    let mut pairs = Vec::with_capacity(alloc, values.len()).map_err(|_| LineFault::Memory)?;
-    for value in values {
-        let pair = pair_in(alloc, value)?;
-        pairs.push(pair).map_err(|_| LineFault::Memory)?;
+impl Item for (Units, Units) {
+    ghost reads = { pair_in };
+
+    fn item_in(alloc: Global, value: &Value) -> Result<(Units, Units), LineFault> {
+        pair_in(alloc, value)
     }
-    Ok(pairs)
 }
 
 fn pair_in(alloc: Global, value: &Value) -> Result<(Units, Units), LineFault>

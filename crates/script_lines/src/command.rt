@@ -5,14 +5,14 @@ ghost use Rattle.std.specs.Str.{is_utf8};
 ghost use Rattle.serde_json.specs.Read.{read};
 ghost use Rattle.serde_json.specs.View.{view, items_view};
 ghost use Rattle.script_lines.specs.Reading.{Reads};
-ghost use Rattle.script_lines.specs.Commands.{open_in, place_in, op_of, op_in, some_ops_in, edit_in, decorate_in, bare_in, line_in, value_in, offset_in, position_command_in, deco_in, decos_in, brackets_in, match_in, level_in, commands, read_by, command_in, command_of};
+ghost use Rattle.script_lines.specs.Commands.{open_in, place_in, op_of, op_in, some_ops_in, edit_in, decorate_in, bare_in, line_in, value_in, offset_in, position_command_in, deco_in, decos_in, brackets_in, match_in, level_in, read_in, close_in, stops_in, commands, read_by, command_in, command_of};
 
 use crate::bracket::optional_table_at;
-use crate::decoration::new_decos_at;
 use crate::fields::{
-    LineFault, flag_at, has_only, ids_at, number_at, optional_number_at, position_in, positions_at,
-    span_at, text_at,
+    LineFault, expect_only, flag_at, has_only, number_at, optional_number_at, position_in,
+    positions_at, span_at, text_at,
 };
+use crate::items::{Item, all_of, list_at};
 use crate::lists::{Ids, NewDecos};
 use crate::op::{LineOp, LineOps, Place};
 use bracket_scan::BracketTable;
@@ -89,6 +89,21 @@ pub enum Command {
     Level {
         p: Position,
     },
+    /// Takes a snapshot of the text.
+    Snapshot,
+    /// Asks for the next units of the snapshot, at most `count` of them.
+    Read {
+        id: u64,
+        count: u64,
+    },
+    /// Gives up the snapshot.
+    Close {
+        id: u64,
+    },
+    /// Asks for the columns of the line of this number, counted from 1, at which a cursor may stop.
+    Stops {
+        n: u64,
+    },
 }
 
 /// The command that the line spells. `Syntax` exactly where it spells none.
@@ -103,7 +118,8 @@ pub fn command_of(alloc: Global, line: &[u8]) -> Result<Command, LineFault>
 fn value_of(alloc: Global, line: &[u8]) -> Result<Value, LineFault>
     ensures utf8 { OnOk result (is_utf8 line.now ≡ true) }
     ensures ok { IfOk result (λ value. read line.now ≡ Some (view value)) }
-    ensures syntax { result ≡ Err LineFault.Syntax → is_utf8 line.now ≡ true → read line.now ≡ None }
+    ensures syntax { result ≡ Err LineFault.Syntax → is_utf8 line.now ≡ true
+        → read line.now ≡ None }
 {
     match Value::from_slice(alloc, line) {
         Ok(value) => Ok(value),
@@ -188,15 +204,31 @@ fn other_query_named(name: &str, value: &Value) -> Result<Command, LineFault>
     if name == "level" {
         return level_in(value);
     }
+    snapshot_command_named(name, value)
+}
+
+fn snapshot_command_named(name: &str, value: &Value) -> Result<Command, LineFault>
+    ensures { Reads result (read_by (drop 17 commands) name.now (view value.now)) }
+{
+    if name == "snapshot" {
+        return bare_in(value, Command::Snapshot);
+    }
+    if name == "read" {
+        return read_in(value);
+    }
+    if name == "close" {
+        return close_in(value);
+    }
+    if name == "stops" {
+        return stops_in(value);
+    }
     Err(LineFault::Syntax)
 }
 
 fn open_in(alloc: Global, value: &Value) -> Result<Command, LineFault>
     ensures { Reads result (open_in (view value.now)) }
 {
-    if !has_only(value, &["cmd", "text", "brackets"]) {
-        return Err(LineFault::Syntax);
-    }
+    expect_only(value, &["cmd", "text", "brackets"])?;
     let text = text_at(alloc, value, "text")?;
     let brackets = optional_table_at(alloc, value, "brackets")?;
     Ok(Command::Open { text, brackets })
@@ -205,9 +237,7 @@ fn open_in(alloc: Global, value: &Value) -> Result<Command, LineFault>
 fn edit_in(alloc: Global, value: &Value) -> Result<Command, LineFault>
     ensures { Reads result (edit_in (view value.now)) }
 {
-    if !has_only(value, &["cmd", "ops"]) {
-        return Err(LineFault::Syntax);
-    }
+    expect_only(value, &["cmd", "ops"])?;
     let field = value.get("ops").ok_or(LineFault::Syntax)?;
     let ops = field.as_array().ok_or(LineFault::Syntax)?;
     let ops = some_ops_in(alloc, ops.as_slice())?;
@@ -220,12 +250,15 @@ fn some_ops_in(alloc: Global, values: &[Value]) -> Result<LineOps, LineFault>
     if values.is_empty() {
         return Err(LineFault::Syntax);
     }
-    let mut ops = Vec::with_capacity(alloc, values.len()).map_err(|_| LineFault::Memory)?;
-    for value in values {
-        let op = op_in(alloc, value)?;
-        ops.push(op).map_err(|_| LineFault::Memory)?;
+    all_of(alloc, values)
+}
+
+impl Item for LineOp {
+    ghost reads = { op_in };
+
+    fn item_in(alloc: Global, value: &Value) -> Result<LineOp, LineFault> {
+        op_in(alloc, value)
     }
-    Ok(LineOps::from_vec(ops))
 }
 
 fn op_in(alloc: Global, value: &Value) -> Result<LineOp, LineFault>
@@ -260,30 +293,24 @@ fn place_in(value: &Value) -> Result<Place, LineFault>
 fn decorate_in(alloc: Global, value: &Value) -> Result<Command, LineFault>
     ensures { Reads result (decorate_in (view value.now)) }
 {
-    if !has_only(value, &["cmd", "owner", "remove", "add"]) {
-        return Err(LineFault::Syntax);
-    }
+    expect_only(value, &["cmd", "owner", "remove", "add"])?;
     let owner = number_at(value, "owner")?;
-    let remove = ids_at(alloc, value, "remove")?;
-    let add = new_decos_at(alloc, value, "add")?;
+    let remove = list_at(alloc, value, "remove")?;
+    let add = list_at(alloc, value, "add")?;
     Ok(Command::Decorate { owner, remove, add })
 }
 
 fn bare_in(value: &Value, command: Command) -> Result<Command, LineFault>
     ensures { Reads result (bare_in command (view value.now)) }
 {
-    if !has_only(value, &["cmd"]) {
-        return Err(LineFault::Syntax);
-    }
+    expect_only(value, &["cmd"])?;
     Ok(command)
 }
 
 fn line_in(value: &Value) -> Result<Command, LineFault>
     ensures { Reads result (line_in (view value.now)) }
 {
-    if !has_only(value, &["cmd", "n"]) {
-        return Err(LineFault::Syntax);
-    }
+    expect_only(value, &["cmd", "n"])?;
     let n = number_at(value, "n")?;
     Ok(Command::Line { n })
 }
@@ -291,9 +318,7 @@ fn line_in(value: &Value) -> Result<Command, LineFault>
 fn value_in(value: &Value) -> Result<Command, LineFault>
     ensures { Reads result (value_in (view value.now)) }
 {
-    if !has_only(value, &["cmd", "at"]) {
-        return Err(LineFault::Syntax);
-    }
+    expect_only(value, &["cmd", "at"])?;
     let at = span_at(value, "at")?;
     Ok(Command::Value { at })
 }
@@ -301,9 +326,7 @@ fn value_in(value: &Value) -> Result<Command, LineFault>
 fn offset_in(value: &Value) -> Result<Command, LineFault>
     ensures { Reads result (offset_in (view value.now)) }
 {
-    if !has_only(value, &["cmd", "line", "col"]) {
-        return Err(LineFault::Syntax);
-    }
+    expect_only(value, &["cmd", "line", "col"])?;
     let p = position_in(value)?;
     Ok(Command::Offset { p })
 }
@@ -311,9 +334,7 @@ fn offset_in(value: &Value) -> Result<Command, LineFault>
 fn position_command_in(value: &Value) -> Result<Command, LineFault>
     ensures { Reads result (position_command_in (view value.now)) }
 {
-    if !has_only(value, &["cmd", "offset"]) {
-        return Err(LineFault::Syntax);
-    }
+    expect_only(value, &["cmd", "offset"])?;
     let offset = number_at(value, "offset")?;
     Ok(Command::Position { offset })
 }
@@ -321,9 +342,7 @@ fn position_command_in(value: &Value) -> Result<Command, LineFault>
 fn deco_in(value: &Value) -> Result<Command, LineFault>
     ensures { Reads result (deco_in (view value.now)) }
 {
-    if !has_only(value, &["cmd", "id"]) {
-        return Err(LineFault::Syntax);
-    }
+    expect_only(value, &["cmd", "id"])?;
     let id = number_at(value, "id")?;
     Ok(Command::Deco { id })
 }
@@ -331,9 +350,7 @@ fn deco_in(value: &Value) -> Result<Command, LineFault>
 fn decos_in(value: &Value) -> Result<Command, LineFault>
     ensures { Reads result (decos_in (view value.now)) }
 {
-    if !has_only(value, &["cmd", "at", "owner"]) {
-        return Err(LineFault::Syntax);
-    }
+    expect_only(value, &["cmd", "at", "owner"])?;
     let at = span_at(value, "at")?;
     let owner = optional_number_at(value, "owner")?;
     Ok(Command::Decos { at, owner })
@@ -342,9 +359,7 @@ fn decos_in(value: &Value) -> Result<Command, LineFault>
 fn brackets_in(value: &Value) -> Result<Command, LineFault>
     ensures { Reads result (brackets_in (view value.now)) }
 {
-    if !has_only(value, &["cmd", "from", "to"]) {
-        return Err(LineFault::Syntax);
-    }
+    expect_only(value, &["cmd", "from", "to"])?;
     let from = number_at(value, "from")?;
     let to = number_at(value, "to")?;
     Ok(Command::Brackets { from, to })
@@ -353,9 +368,7 @@ fn brackets_in(value: &Value) -> Result<Command, LineFault>
 fn match_in(value: &Value) -> Result<Command, LineFault>
     ensures { Reads result (match_in (view value.now)) }
 {
-    if !has_only(value, &["cmd", "line", "col"]) {
-        return Err(LineFault::Syntax);
-    }
+    expect_only(value, &["cmd", "line", "col"])?;
     let p = position_in(value)?;
     Ok(Command::Match { p })
 }
@@ -363,9 +376,32 @@ fn match_in(value: &Value) -> Result<Command, LineFault>
 fn level_in(value: &Value) -> Result<Command, LineFault>
     ensures { Reads result (level_in (view value.now)) }
 {
-    if !has_only(value, &["cmd", "line", "col"]) {
-        return Err(LineFault::Syntax);
-    }
+    expect_only(value, &["cmd", "line", "col"])?;
     let p = position_in(value)?;
     Ok(Command::Level { p })
+}
+
+fn read_in(value: &Value) -> Result<Command, LineFault>
+    ensures { Reads result (read_in (view value.now)) }
+{
+    expect_only(value, &["cmd", "id", "count"])?;
+    let id = number_at(value, "id")?;
+    let count = number_at(value, "count")?;
+    Ok(Command::Read { id, count })
+}
+
+fn close_in(value: &Value) -> Result<Command, LineFault>
+    ensures { Reads result (close_in (view value.now)) }
+{
+    expect_only(value, &["cmd", "id"])?;
+    let id = number_at(value, "id")?;
+    Ok(Command::Close { id })
+}
+
+fn stops_in(value: &Value) -> Result<Command, LineFault>
+    ensures { Reads result (stops_in (view value.now)) }
+{
+    expect_only(value, &["cmd", "n"])?;
+    let n = number_at(value, "n")?;
+    Ok(Command::Stops { n })
 }

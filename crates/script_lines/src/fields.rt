@@ -1,14 +1,14 @@
 //! The fields of a JSON object.
 
-ghost use Rattle.std.specs.Prelude.{◌≡◌, map, string_bytes};
+ghost use Rattle.std.specs.Prelude.{◌≡◌, true, false, map, string_bytes, OnOk, OnErr, IfErr};
 ghost use Rattle.std.specs.BTreeMap.{keys};
 ghost use Rattle.std.specs.List.{list_any, list_all};
 ghost use Rattle.std.specs.Str.{bytes_eq};
 ghost use Rattle.serde_json.specs.View.{view, items_view};
 ghost use Rattle.script_lines.specs.Reading.{Reads};
-ghost use Rattle.script_lines.specs.Fields.{has_only, whole_number, number_at, optional_number_at, ids_in, ids_at, text_of, text_at, span_in, span_at, position_of, positions_in, positions_at, position_in, flag_at};
+ghost use Rattle.script_lines.specs.Fields.{has_only, whole_number, number_at, optional_number_at, text_of, text_at, span_in, span_at, position_of, positions_in, positions_at, position_in, flag_at};
 
-use crate::lists::Ids;
+use crate::items::Item;
 use serde_json::{Map, Value};
 use std::alloc::{AllocError, Global};
 use text_lengths::{Position, Span};
@@ -37,7 +37,8 @@ pub(crate) fn has_only(value: &Value, names: &[&str]) -> bool
 }
 
 fn are_names(members: &Map<String, Value>, names: &[&str]) -> bool
-    ensures { result ≡ list_all (λ key. list_any (bytes_eq (string_bytes key)) (map (λ name. name.now) names.now))
+    ensures { result ≡ list_all
+        (λ key. list_any (bytes_eq (string_bytes key)) (map (λ name. name.now) names.now))
         (keys members.now) }
 {
     members.keys().all(|key| is_one_of(key.as_str(), names))
@@ -52,6 +53,19 @@ fn is_one_of(key: &str, names: &[&str]) -> bool
         }
     }
     false
+}
+
+/// Refuses what is no object, or has a field beside those of the names.
+pub(crate) fn expect_only(value: &Value, names: &[&str]) -> Result<(), LineFault>
+    ensures only { OnOk result (has_only (map (λ name. name.now) names.now) (view value.now) ≡ true) }
+    ensures other { OnErr result (has_only (map (λ name. name.now) names.now) (view value.now) ≡ false) }
+    ensures syntax { IfErr result (λ fault. fault ≡ LineFault.Syntax) }
+{
+    if has_only(value, names) {
+        Ok(())
+    } else {
+        Err(LineFault::Syntax)
+    }
 }
 
 fn whole_number(value: &Value) -> Option<u64>
@@ -76,23 +90,12 @@ pub(crate) fn optional_number_at(value: &Value, key: &str) -> Result<Option<u64>
     }
 }
 
-pub(crate) fn ids_at(alloc: Global, value: &Value, key: &str) -> Result<Ids, LineFault>
-    ensures { Reads result (ids_at key.now (view value.now)) }
-{
-    let field = value.get(key).ok_or(LineFault::Syntax)?;
-    let items = field.as_array().ok_or(LineFault::Syntax)?;
-    ids_in(alloc, items.as_slice())
-}
+impl Item for u64 {
+    ghost reads = { whole_number };
 
-fn ids_in(alloc: Global, values: &[Value]) -> Result<Ids, LineFault>
-    ensures { Reads result (ids_in (items_view values.now)) }
-{
-    let mut ids = Vec::with_capacity(alloc, values.len()).map_err(|_| LineFault::Memory)?;
-    for value in values {
-        let id = whole_number(value).ok_or(LineFault::Syntax)?;
-        ids.push(id).map_err(|_| LineFault::Memory)?;
+    fn item_in(_alloc: Global, value: &Value) -> Result<u64, LineFault> {
+        whole_number(value).ok_or(LineFault::Syntax)
     }
-    Ok(Ids::from_vec(ids))
 }
 
 pub(crate) fn text_at(alloc: Global, value: &Value, key: &str) -> Result<Units, LineFault>

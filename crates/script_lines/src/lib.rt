@@ -5,6 +5,7 @@ mod bracket;
 mod command;
 mod decoration;
 mod fields;
+mod items;
 mod lists;
 mod long;
 mod op;
@@ -13,7 +14,7 @@ mod short;
 
 pub use command::{Command, command_of};
 pub use fields::LineFault;
-pub use lists::{Ids, NewDecos};
+pub use lists::{Ids, ListOf, NewDecos};
 pub use long::{long_begin, long_end, long_mark, long_number, long_text};
 pub use op::{LineOp, LineOps, Place};
 pub use reason::Refusal;

@@ -1,8 +1,6 @@
 //! Edits as a line spells them.
 
-ghost use Rattle.std.specs.Prelude.{◌≡◌};
-
-use std::marker::Model;
+use crate::lists::ListOf;
 use text_lengths::{Position, Span};
 use unit_text::Units;
 
@@ -23,33 +21,5 @@ pub struct LineOp {
     pub force: bool,
 }
 
-/// The edits of a line, in the order in which it has them. Contracts see the list of them.
-#[derive(Drop, Debug)]
-pub struct LineOps {
-    items: Vec<LineOp>,
-}
-
-impl Model for LineOps {
-    ghost use Rattle.std.specs.Prelude.{List};
-    ghost use Rattle.script_lines.specs.declared.op.LineOp.{LineOp};
-
-    ghost Value = { List LineOp };
-
-    ghost view = { λ ops. ops.items.items };
-}
-
-impl LineOps {
-    /// The edits of the vector, with no copy.
-    pub fn from_vec(items: Vec<LineOp>) -> LineOps
-        ensures { result ≡ items.items }
-    {
-        LineOps { items }
-    }
-
-    /// The vector of the edits, with no copy.
-    pub fn into_vec(self) -> Vec<LineOp>
-        ensures { result.items ≡ self }
-    {
-        self.items
-    }
-}
+/// The edits of a line.
+pub type LineOps = ListOf<LineOp>;

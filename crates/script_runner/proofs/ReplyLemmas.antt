@@ -17,13 +17,15 @@ use Rattle.document_rules.specs.Refusals.{FlatRefusal, unknown, range, overlap, 
 use Rattle.bracket_rules.specs.Table.{standard_table}
 use Rattle.document_rules.specs.Document.{FlatState, flat_open, flat_edit, flat_undo, flat_redo, flat_decorate, flat_deco, flat_decos, flat_line, flat_value, flat_position, flat_offset, flat_line_count}
 use Rattle.document_rules.specs.Brackets.{flat_brackets, flat_match, flat_level}
+use Rattle.document_rules.specs.Snapshots.{flat_snapshot, flat_peek_of, flat_close_of}
+use Rattle.document_rules.specs.Stops.{flat_stops}
 use Rattle.script_lines.specs.declared.command.Command.{Command}
 use Rattle.script_lines.specs.declared.command.Command.TheVariants as command
 use Rattle.script_lines.specs.declared.reason.Refusal.TheVariants as refusal
 use Rattle.script_lines.specs.Commands.{command_of}
 use Rattle.script_lines.specs.Replies.{number_part, text_part, ok_reply, none_reply, text_reply, refusal_reply}
 use Rattle.text_rules.specs.declared.Op.{Op}
-use Rattle.script_runner.specs.Step.{reason_of, memory_reply, ops_at, deco_numbers, changed, moved, decorated, edited_at, text_answer, offset_answer, position_answer, deco_answer, decos_answer, status_letter, entry_part, entries_reply, brackets_answer, match_answer, level_answer, step}
+use Rattle.script_runner.specs.Step.{reason_of, memory_reply, ops_at, deco_numbers, changed, moved, decorated, edited_at, text_answer, offset_answer, position_answer, deco_answer, decos_answer, status_letter, entry_part, entries_reply, brackets_answer, match_answer, level_answer, snapshot_answer, read_answer, close_answer, stops_answer, step}
 use Rattle.script_runner.specs.Script.{after_byte, IsInOneLine, IsOneLine, commanded, is_too_long, turn}
 use Rattle.script_runner.proofs.CutLemmas.{cut-append_line}
 
@@ -188,6 +190,22 @@ flat_level_answer : (rule : Result ℕ FlatRefusal) → IsFlatReply (level_answe
 flat_level_answer (Ok level) = flat_numbers (level ∷ [])
 flat_level_answer (Err why) = flat_refusal why
 
+flat_snapshot_answer : (f : FlatState) (rule : Result FlatState FlatRefusal) → IsFlatReply (snapshot_answer f rule).0
+flat_snapshot_answer f (Ok new) = flat_numbers (f.shelf.next_id ∷ [])
+flat_snapshot_answer f (Err why) = flat_refusal why
+
+flat_read_answer : (f : FlatState) (id : ℕ) (rule : Result (List ℕ) FlatRefusal) → IsFlatReply (read_answer f id rule).0
+flat_read_answer f id (Ok units) = flat_text units
+flat_read_answer f id (Err why) = flat_refusal why
+
+flat_close_answer : (f : FlatState) (rule : Result FlatState FlatRefusal) → IsFlatReply (close_answer f rule).0
+flat_close_answer f (Ok new) = flat_numbers []
+flat_close_answer f (Err why) = flat_refusal why
+
+flat_stops_answer : (rule : Result (List ℕ) FlatRefusal) → IsFlatReply (stops_answer rule)
+flat_stops_answer (Ok columns) = flat_numbers columns
+flat_stops_answer (Err why) = flat_refusal why
+
 flat_step : (f : FlatState) (c : Command) → IsFlatReply (step f c).0
 flat_step f (command.Open text brackets) = flat_changed f (flat_open text (unwrap_or brackets standard_table))
 flat_step f (command.Edit ops) = flat_edited f (ops_at f ops)
@@ -206,6 +224,10 @@ flat_step f (command.Decos span owner) = flat_decos_answer (flat_decos f span ow
 flat_step f (command.Brackets from to) = flat_brackets_answer (flat_brackets f from to)
 flat_step f (command.Match p) = flat_match_answer (flat_match f p)
 flat_step f (command.Level p) = flat_level_answer (flat_level f p)
+flat_step f command.Snapshot = flat_snapshot_answer f (flat_snapshot f)
+flat_step f (command.Read id count) = flat_read_answer f id (flat_peek_of f id count)
+flat_step f (command.Close id) = flat_close_answer f (flat_close_of f id)
+flat_step f (command.Stops n) = flat_stops_answer (flat_stops f n)
 
 flat_commanded : (f : FlatState) (c : Option Command) → IsFlatReply (commanded f c).0
 flat_commanded f None = flat_syntax

@@ -41,7 +41,7 @@ any_refused (reply ∷ replies) =
     let rest = any_refused replies in
     rw sum_by-cons (counted (is_refused reply) (refusals replies) (list_any is_refused replies) rest.0 rest.1)
 
-whole_script : (left : Option (List ℕ)) (script read : List ℕ) → Gave (Some script) left read → NothingLeft left → read ≡ script
+pub whole_script : (left : Option (List ℕ)) (script read : List ℕ) → Gave (Some script) left read → NothingLeft left → read ≡ script
 whole_script None script read gave none = absurd gave
 whole_script (Some rest) script read gave none = sym (gave ∙ ap (λ x. read ++ x) none ∙ append-nil read)
 

@@ -1,8 +1,8 @@
 -- Worked examples of the definitions.
 use Rattle.std.specs.Prelude.{◌≡◌, ◌∷◌, [], codes, refl, false, None}
-use Rattle.document_rules.specs.Document.{new_document, empty_document}
+use Rattle.document_rules.specs.Document.{FlatState, new_document, empty_document}
 use Rattle.bracket_rules.specs.Table.{standard_table}
-use Rattle.script_lines.specs.declared.command.Command.TheVariants.{Open, Edit, Undo, Version, Size, Line, Value, Offset, Brackets, Match, Level}
+use Rattle.script_lines.specs.declared.command.Command.TheVariants.{Open, Edit, Undo, Version, Size, Line, Value, Offset, Brackets, Match, Level, Snapshot, Read, Close, Stops}
 use Rattle.script_lines.specs.declared.command.Command.TheVariants as command
 use Rattle.script_lines.specs.declared.op.Place.TheVariants.{At, InRange}
 use Rattle.std.specs.Fmt.{digits}
@@ -78,3 +78,34 @@ the_partner_of_a_bracket = refl
 level_between_brackets : (step (new_document (codes "([)") standard_table) (Level (record { line = 1; column = 3 }))).0 ≡ codes "ok 2\n"
 unfolding digits
 level_between_brackets = refl
+
+abbrev hi : FlatState
+hi = new_document (codes "hi") standard_table
+
+-- with a snapshot, which has id 1
+abbrev kept : FlatState
+kept = (step hi Snapshot).1
+
+the_first_snapshot : (step hi Snapshot).0 ≡ codes "ok 1\n"
+unfolding digits
+the_first_snapshot = refl
+
+a_read : (step kept (Read 1 2)).0 ≡ codes "ok \"hi\"\n"
+unfolding utf16_chars encode
+a_read = refl
+
+nothing_is_left : (step (step kept (Read 1 2)).1 (Read 1 2)).0 ≡ codes "ok \"\"\n"
+unfolding utf16_chars encode
+nothing_is_left = refl
+
+a_read_of_one_unit : step kept (Read 1 1) ≡ (codes "! range\n", kept)
+a_read_of_one_unit = refl
+
+a_close : (step kept (Close 1)).0 ≡ codes "ok\n"
+a_close = refl
+
+no_such_snapshot : step kept (Close 2) ≡ (codes "! unknown\n", kept)
+no_such_snapshot = refl
+
+no_such_line_has_stops : step hi (Stops 2) ≡ (codes "! range\n", hi)
+no_such_line_has_stops = refl

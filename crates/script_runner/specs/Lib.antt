@@ -3,5 +3,8 @@ pub mod Script
 pub mod Bytes
 pub mod Progress
 pub mod Serving
+pub mod Words
+pub mod Playing
 pub mod Runs
 mod Examples
+mod PlayExamples

@@ -1,6 +1,5 @@
 -- What a run of the program does, by the status that it ends with.
-use Rattle.std.specs.Prelude.{◌≡◌, ℕ, suc, ◌+◌, ◌^◌, ◌≤◌, Bool, false, nat_lt, if◌then◌else◌, List, [], ◌∷◌, ◌++◌, length, Some, codes}
-use Rattle.std.specs.Str.{bytes_eq}
+use Rattle.std.specs.Prelude.{◌≡◌, ℕ, suc, ◌+◌, ◌^◌, ◌≤◌, nat_lt, if◌then◌else◌, List, ◌++◌, length, Some, codes}
 use Rattle.std.specs.List.{list_any}
 use Rattle.document_rules.specs.Document.{FlatState, empty_document}
 use Rattle.script_streams.specs.Streams.{SourceState, SinkState, Wrote, Rose, StartsWith}
@@ -10,12 +9,6 @@ use Rattle.script_runner.specs.declared.serving.Served.{Served}
 use Rattle.script_runner.specs.declared.serving.Served.TheVariants.{Ended, ReadFault, WriteFault, TooLong}
 use Rattle.script_runner.specs.Script.{all_lines, written, is_refused, Transcript}
 use Rattle.script_runner.specs.Serving.{ServedAll, ServedToReadFault, ServedToWriteFault, ServedToLimit}
-
--- the one word `run`
-abbrev pub is_run : List (List ℕ) → Bool
-is_run [] = false
-is_run (word ∷ []) = bytes_eq word (codes "run")
-is_run (word ∷ other ∷ words) = false
 
 abbrev pub usage_line : List ℕ
 usage_line = codes "usage: textmodel run | textmodel play COUNT SEED\n"

@@ -7,8 +7,10 @@ use Rattle.decoration_rules.specs.declared.Deco.{Deco}
 use Rattle.std.specs.List.{flat_map}
 use Rattle.document_rules.specs.Refusals.{FlatRefusal, unknown, range, overlap, limit}
 use Rattle.document_rules.specs.Document.{FlatState, flat_open, flat_edit, flat_undo, flat_redo, flat_stop, flat_decorate, flat_deco, flat_decos, flat_line, flat_value, flat_position, flat_offset, flat_line_count}
+use Rattle.document_rules.specs.Snapshots.{flat_snapshot, flat_peek_of, flat_skipped, flat_close_of}
+use Rattle.document_rules.specs.Stops.{flat_stops}
 use Rattle.script_lines.specs.declared.command.Command.{Command}
-use Rattle.script_lines.specs.declared.command.Command.TheVariants.{Open, Edit, Decorate, Undo, Redo, Stop, Size, Version, Line, Value, Offset, Decos, Brackets, Match, Level}
+use Rattle.script_lines.specs.declared.command.Command.TheVariants.{Open, Edit, Decorate, Undo, Redo, Stop, Size, Version, Line, Value, Offset, Decos, Brackets, Match, Level, Snapshot, Read, Close, Stops}
 use Rattle.script_lines.specs.declared.command.Command.TheVariants as command
 use Rattle.script_lines.specs.declared.op.LineOp.{LineOp}
 use Rattle.script_lines.specs.declared.op.Place.{Place}
@@ -113,6 +115,26 @@ abbrev pub level_answer : Result ℕ FlatRefusal → List ℕ
 level_answer (Ok level) = ok_reply (level ∷ [])
 level_answer (Err why) = refusal_reply (reason_of why)
 
+-- `ok ID`, or why no snapshot was taken
+abbrev pub snapshot_answer : FlatState → Result FlatState FlatRefusal → List ℕ × FlatState
+snapshot_answer old (Ok new) = (ok_reply (old.shelf.next_id ∷ []), new)
+snapshot_answer old (Err why) = (refusal_reply (reason_of why), old)
+
+-- `ok "TEXT"`, and the units of the answer are read then; or why there are none
+abbrev pub read_answer : FlatState → ℕ → Result (List ℕ) FlatRefusal → List ℕ × FlatState
+read_answer old id (Ok units) = (text_reply units, flat_skipped old id (length units))
+read_answer old id (Err why) = (refusal_reply (reason_of why), old)
+
+-- `ok`, or why nothing was closed
+abbrev pub close_answer : FlatState → Result FlatState FlatRefusal → List ℕ × FlatState
+close_answer old (Ok new) = (ok_reply [], new)
+close_answer old (Err why) = (refusal_reply (reason_of why), old)
+
+-- `ok` and for each cluster ` COL`, or why there are none
+abbrev pub stops_answer : Result (List ℕ) FlatRefusal → List ℕ
+stops_answer (Ok columns) = ok_reply columns
+stops_answer (Err why) = refusal_reply (reason_of why)
+
 abbrev pub span_between : Option ℕ → Option ℕ → Option Span
 span_between None end = None
 span_between (Some start) None = None
@@ -154,6 +176,10 @@ step f (Decos span owner) = (decos_answer (flat_decos f span owner), f)
 step f (Brackets from to) = (brackets_answer (flat_brackets f from to), f)
 step f (Match p) = (match_answer (flat_match f p), f)
 step f (Level p) = (level_answer (flat_level f p), f)
+step f Snapshot = snapshot_answer f (flat_snapshot f)
+step f (Read id count) = read_answer f id (flat_peek_of f id count)
+step f (Close id) = close_answer f (flat_close_of f id)
+step f (Stops n) = (stops_answer (flat_stops f n), f)
 
 -- The reply is this one, and the document is as it says; or it is `! memory`, and the document is as before.
 pub data Answers (flat : List ℕ × FlatState) (old : FlatState) (reply : List ℕ) (new : FlatState) : Type 0 where

@@ -1,37 +1,32 @@
 //! Replies to the commands on brackets.
 
-ghost use Rattle.std.specs.Prelude.{◌≡◌, ◌++◌, IfOk, OnOk};
+ghost use Rattle.std.specs.Prelude.{◌≡◌, ◌++◌, false, IfOk, OnOk};
 ghost use Rattle.std.specs.List.{All};
 ghost use Rattle.document_rules.specs.Brackets.{IsSmall};
 ghost use Rattle.script_runner.specs.Step.{status_letter, entry_part, entries_reply, step, Answers};
-ghost use Rattle.script_runner.specs.Bytes.{bytes_of, ThisOrMemory};
+ghost use Rattle.script_runner.specs.Script.{is_refused};
+ghost use Rattle.script_runner.specs.Bytes.{bytes_of, bytes_of_outcome};
 
-use crate::reply::{Reply, refusal_of, refused};
+use crate::outcome::{Refused, Reply};
 use model_core::{Entry, Model, Status};
-use script_lines::{Command, Refusal, Short, long_begin, long_end, long_mark, long_number};
+use script_lines::{Command, Short, long_begin, long_end, long_mark, long_number};
 use std::alloc::{AllocError, Global};
 use text_lengths::Position;
 
-pub(crate) fn brackets_reply(alloc: Global, model: &mut Model, from: u64, to: u64) -> Reply
-    ensures { Answers (step model.old.document (Command.Brackets from to)) model.old.document
-        (bytes_of result) model.new.document }
+pub(crate) fn brackets_reply(
+    alloc: Global,
+    model: &mut Model,
+    from: u64,
+    to: u64,
+) -> Result<Reply, Refused>
+    ensures answer { Answers (step model.old.document (Command.Brackets from to)) model.old.document
+        (bytes_of_outcome result) model.new.document }
+    ensures accepted { IfOk result (λ reply. is_refused (bytes_of reply) ≡ false) }
 {
     let mut entries = Vec::new(alloc);
-    match model.brackets_in(from, to, &mut entries) {
-        Ok(()) => list_or_memory(alloc, entries.as_slice()),
-        Err(error) => refused(refusal_of(error)),
-    }
-}
-
-/// `ok` and the brackets, or `! memory`.
-fn list_or_memory(alloc: Global, entries: &[Entry]) -> Reply
-    requires { All (λ e. IsSmall e.place) entries.now }
-    ensures { ThisOrMemory (entries_reply entries.now) (bytes_of result) }
-{
-    match list_reply(alloc, entries) {
-        Ok(reply) => Reply::Long(reply),
-        Err(AllocError) => refused(Refusal::Memory),
-    }
+    model.brackets_in(from, to, &mut entries)?;
+    let reply = list_reply(alloc, entries.as_slice())?;
+    Ok(Reply::Long(reply))
 }
 
 fn list_reply(alloc: Global, entries: &[Entry]) -> Result<Vec<u8>, AllocError>
@@ -70,25 +65,24 @@ fn status_letter(status: Status) -> u8
     }
 }
 
-pub(crate) fn match_reply(model: &mut Model, p: Position) -> Reply
-    ensures { Answers (step model.old.document (Command.Match p)) model.old.document
-        (bytes_of result) model.new.document }
+pub(crate) fn match_reply(model: &mut Model, p: Position) -> Result<Reply, Refused>
+    ensures answer { Answers (step model.old.document (Command.Match p)) model.old.document
+        (bytes_of_outcome result) model.new.document }
+    ensures accepted { IfOk result (λ reply. is_refused (bytes_of reply) ≡ false) }
 {
-    match model.match_at(p) {
-        Ok(Some((partner, len))) => {
-            Reply::Short(Short::ok(&[partner.line, partner.column, len]))
+    match model.match_at(p)? {
+        Some((partner, len)) => {
+            Ok(Reply::Short(Short::ok(&[partner.line, partner.column, len])))
         }
-        Ok(None) => Reply::Short(Short::none()),
-        Err(error) => refused(refusal_of(error)),
+        None => Ok(Reply::Short(Short::none())),
     }
 }
 
-pub(crate) fn level_reply(model: &mut Model, p: Position) -> Reply
-    ensures { Answers (step model.old.document (Command.Level p)) model.old.document
-        (bytes_of result) model.new.document }
+pub(crate) fn level_reply(model: &mut Model, p: Position) -> Result<Reply, Refused>
+    ensures answer { Answers (step model.old.document (Command.Level p)) model.old.document
+        (bytes_of_outcome result) model.new.document }
+    ensures accepted { IfOk result (λ reply. is_refused (bytes_of reply) ≡ false) }
 {
-    match model.level_at(p) {
-        Ok(level) => Reply::Short(Short::ok(&[level])),
-        Err(error) => refused(refusal_of(error)),
-    }
+    let level = model.level_at(p)?;
+    Ok(Reply::Short(Short::ok(&[level])))
 }

@@ -6,9 +6,13 @@ mod decoration_replies;
 mod line;
 mod look_up;
 mod ops;
+mod outcome;
+mod playing;
 mod reply;
 mod running;
 mod serving;
+mod snapshot_replies;
+mod words;
 
 pub use running::run_words;
 pub use serving::{Served, serve};

@@ -1,18 +1,22 @@
-//! The program's words, and what each run of it does.
+//! What a run of the program does.
 
-ghost use Rattle.std.specs.Prelude.{◌≡◌, ◌≢◌, ◌≤◌, ◌<◌, ◌⊎◌, ℕ, List, true, false, Some, map, string_bytes, vec_len, IfOk, length};
+ghost use Rattle.std.specs.Prelude.{◌≡◌, ◌≢◌, ◌≤◌, ◌<◌, ◌⊎◌, ℕ, List, Some, map, string_bytes, vec_len, IfOk, length};
 ghost use Rattle.document_rules.specs.Document.{FlatState};
 ghost use Rattle.script_runner.specs.Step.{memory_reply};
 ghost use Rattle.script_runner.specs.Script.{turn, Transcript, IsDecided};
-ghost use Rattle.script_runner.specs.Runs.{is_run, most_script_bytes, number_of, status_after, EndsWith, ShowsUsage, Runs, IsAnswered, IsTold};
+ghost use Rattle.script_runner.specs.Words.{words_command};
+ghost use Rattle.script_runner.specs.Playing.{Plays};
+ghost use Rattle.script_runner.specs.Runs.{most_script_bytes, number_of, status_after, EndsWith, ShowsUsage, Runs, IsAnswered, IsTold};
 
+use crate::playing::play;
 use crate::serving::{Served, serve};
+use crate::words::{Words, words_of};
 use model_core::Model;
 use script_streams::{Sink, Source, write_whole};
 use std::alloc::{AllocError, Global};
 
 /// The most bytes of a script.
-const MOST_SCRIPT_BYTES: u64 = 0x100_0000_0000;
+pub(crate) const MOST_SCRIPT_BYTES: u64 = 0x100_0000_0000;
 
 /// How many bytes are read at once.
 const READ_BYTES: usize = 0x1_0000;
@@ -21,7 +25,7 @@ const USAGE: &str = "usage: textmodel run | textmodel play COUNT SEED\n";
 
 /// The status that the program ends with.
 #[derive(Clone, Copy)]
-enum Status {
+pub(crate) enum Status {
     /// The script was read to its end, and every reply was written; none begins with `!`.
     Answered = 0,
     /// The same, and some reply begins with `!`.
@@ -40,6 +44,10 @@ enum Status {
 /// was refused; 2 where the words are no command, with the usage line on `err`; 3 where there was no memory to begin
 /// with, and nothing was read or written; 4 where a read and 5 where a write failed; 6 where the script is longer than
 /// the limit of 2^40 - 1 bytes. The words come without the program's name.
+///
+/// `run` answers the script of `src` on `out`. `play COUNT SEED` answers the script that the two numbers stand for, with
+/// at most [`MOST_LINES`](script_play::MOST_LINES) lines, and writes one line on `out` that sums the replies up; 3 also
+/// where a reply is `! memory`, and nothing is written then; never 4 nor 6.
 pub fn run_words<S: Source, K: Sink, E: Sink>(
     alloc: Global,
     words: &[String],
@@ -49,12 +57,14 @@ pub fn run_words<S: Source, K: Sink, E: Sink>(
 ) -> u8
     // The program answers as the flat document does: where the source tells what it holds and `out` what it took, the
     // bytes written for a script that was answered are the replies to all of its lines, one by one, by a new document.
-    ensures headline { is_run (map string_bytes words.now) ≡ true → result ≤ 1 → (script before after : List ℕ)
+    ensures headline { words_command (map string_bytes words.now) ≡ Words.Run → result ≤ 1
+        → (script before after : List ℕ)
         → (S.state src.old).left ≡ Some script → (K.state out.old).taken ≡ Some before
         → (K.state out.new).taken ≡ Some after → IsAnswered script before after result }
 
     // A sink that told what it took before tells the replies too, where it has room for them.
-    ensures told { is_run (map string_bytes words.now) ≡ true → result ≤ 1 → (script before : List ℕ)
+    ensures told { words_command (map string_bytes words.now) ≡ Words.Run → result ≤ 1
+        → (script before : List ℕ)
         → (S.state src.old).left ≡ Some script → (K.state out.old).taken ≡ Some before
         → IsTold script before (K.state out.old) (K.state out.new) result }
 
@@ -64,40 +74,45 @@ pub fn run_words<S: Source, K: Sink, E: Sink>(
         → Transcript start lines replies end → IsDecided start lines replies end }
 
     // What stands at each status, for streams that tell and for others.
-    ensures run { is_run (map string_bytes words.now) ≡ true → EndsWith result (λ status.
+    ensures run { words_command (map string_bytes words.now) ≡ Words.Run → EndsWith result (λ status.
         Runs status (S.state src.old) (S.state src.new) (K.state out.old) (K.state out.new)) }
-    ensures usage { is_run (map string_bytes words.now) ≡ false → EndsWith result (λ status.
+    ensures play { (count seed : ℕ) → words_command (map string_bytes words.now) ≡ Words.Play count seed
+        → EndsWith result (λ status. Plays status count seed (K.state out.old) (K.state out.new)) }
+    ensures usage { words_command (map string_bytes words.now) ≡ Words.NoCommand → EndsWith result (λ status.
         ShowsUsage status (E.state err.old) (E.state err.new)) }
 
     // Each command leaves alone what is not its own.
-    ensures run_leaves_err { is_run (map string_bytes words.now) ≡ true → err.new ≡ err.old }
-    ensures usage_leaves_source { is_run (map string_bytes words.now) ≡ false → src.new ≡ src.old }
-    ensures usage_leaves_out { is_run (map string_bytes words.now) ≡ false → out.new ≡ out.old }
+    ensures run_leaves_err { words_command (map string_bytes words.now) ≡ Words.Run → err.new ≡ err.old }
+    ensures play_leaves_source { (count seed : ℕ)
+        → words_command (map string_bytes words.now) ≡ Words.Play count seed → src.new ≡ src.old }
+    ensures play_leaves_err { (count seed : ℕ)
+        → words_command (map string_bytes words.now) ≡ Words.Play count seed → err.new ≡ err.old }
+    ensures usage_leaves_source { words_command (map string_bytes words.now) ≡ Words.NoCommand
+        → src.new ≡ src.old }
+    ensures usage_leaves_out { words_command (map string_bytes words.now) ≡ Words.NoCommand
+        → out.new ≡ out.old }
 
-    // Where no fault can come, a script within the limit is answered, unless there is no memory to begin with.
-    ensures complete { is_run (map string_bytes words.now) ≡ true → ((s : S) → (S.state s).faults ≡ 0)
+    // Where no fault can come, a script within the limit is answered, unless there is no memory to begin with; and one
+    // that is played is, unless memory is wanting.
+    ensures complete { words_command (map string_bytes words.now) ≡ Words.Run
+        → ((s : S) → (S.state s).faults ≡ 0)
         → ((k : K) → (K.state k).faults ≡ 0) → (script : List ℕ) → (S.state src.old).left ≡ Some script
         → length script < most_script_bytes → (result ≤ 1) ⊎ (result ≡ 3) }
+    ensures play_complete { (count seed : ℕ)
+        → words_command (map string_bytes words.now) ≡ Words.Play count seed
+        → ((k : K) → (K.state k).faults ≡ 0) → (result ≤ 1) ⊎ (result ≡ 3) }
 {
-    if !is_run(words) {
-        return number_of(usage(err));
+    match words_of(words) {
+        Words::Run => number_of(run(alloc, src, out)),
+        Words::Play { count, seed } => number_of(play(alloc, count, seed, out)),
+        Words::NoCommand => number_of(usage(err)),
     }
-    number_of(run(alloc, src, out))
 }
 
 fn number_of(status: Status) -> u8
     ensures { result ≡ number_of status }
 {
     status as u8
-}
-
-fn is_run(words: &[String]) -> bool
-    ensures { result ≡ is_run (map string_bytes words.now) }
-{
-    match words {
-        [word] => word.as_str() == "run",
-        _ => false,
-    }
 }
 
 fn usage<E: Sink>(err: &mut E) -> Status
@@ -145,7 +160,7 @@ fn status_after(served: Served) -> Status
 }
 
 /// Room on the heap for what is read at once.
-fn read_buffer(alloc: Global) -> Result<Vec<u8>, AllocError>
+pub(crate) fn read_buffer(alloc: Global) -> Result<Vec<u8>, AllocError>
     ensures { IfOk result (λ buf. vec_len buf ≡ READ_BYTES) }
 {
     vec![in alloc; 0; READ_BYTES]

@@ -1,16 +1,19 @@
 //! A script served line by line.
 
-ghost use Rattle.std.specs.Prelude.{◌≡◌, ◌<◌, ◌+◌, length, min, [], ◌∷◌, ◌++◌, IfNone, IfSome};
+ghost use Rattle.std.specs.Prelude.{◌≡◌, ◌<◌, ◌+◌, length, min, [], ◌∷◌, ◌++◌, if◌then◌else◌, is_err, IfNone, IfSome};
 ghost use Rattle.script_streams.specs.Streams.{greatest_count};
-ghost use Rattle.script_runner.specs.Script.{is_refused, IsInOneLine};
-ghost use Rattle.script_runner.specs.Progress.{IsLineSoFar, refusals, memory_refusals, AnswersLine, AnswersPiece};
+ghost use Rattle.script_runner.specs.Bytes.{is_for_memory};
+ghost use Rattle.script_runner.specs.Script.{IsInOneLine};
+ghost use Rattle.script_runner.specs.Progress.{IsLineSoFar, AnswersLine, AnswersPiece};
 ghost use Rattle.script_runner.specs.Serving.{Serves, Finishes};
 
 use crate::line::PartialLine;
+use crate::outcome::{Refused, Reply, write_outcome};
 use crate::reply::reply_to;
 use memchr::memchr;
 use model_core::Model;
-use script_streams::{Failed, Sink, Source, write_whole};
+use script_lines::Refusal;
+use script_streams::{Failed, Sink, Source};
 use std::alloc::Global;
 
 /// How serving a script ended.
@@ -57,27 +60,25 @@ impl Progress {
         }
     }
 
-    /// Counts a reply that begins with `!`, and one that is `! memory`.
-    fn count(&mut self, reply: &[u8])
+    /// Counts a refusal, and one for want of memory.
+    fn count(&mut self, outcome: &Result<Reply, Refused>)
         ensures line { self.new.line ≡ self.old.line }
-        ensures refused { self.new.refused
-            ≡ min (self.old.refused + refusals (reply.now ∷ [])) greatest_count }
-        ensures memory { self.new.memory
-            ≡ min (self.old.memory + memory_refusals (reply.now ∷ [])) greatest_count }
+        ensures refused { self.new.refused ≡ min
+            (self.old.refused + (if is_err outcome.now then 1 else 0)) greatest_count }
+        ensures memory { self.new.memory ≡ min
+            (self.old.memory + (if is_for_memory outcome.now then 1 else 0)) greatest_count }
     {
-        let is_memory = reply == b"! memory\n".as_slice();
-        self.refused = self.refused.saturating_add(u64::from(is_refused(reply)));
-        self.memory = self.memory.saturating_add(u64::from(is_memory));
+        self.refused = self.refused.saturating_add(u64::from(outcome.is_err()));
+        self.memory = self
+            .memory
+            .saturating_add(u64::from(is_for_memory(outcome)));
     }
 }
 
-fn is_refused(reply: &[u8]) -> bool
-    ensures { result ≡ is_refused reply.now }
+fn is_for_memory(outcome: &Result<Reply, Refused>) -> bool
+    ensures { result ≡ is_for_memory outcome.now }
 {
-    match reply.first() {
-        Some(byte) => *byte == b'!',
-        None => false,
-    }
+    matches!(outcome, Err(Refused(Refusal::Memory)))
 }
 
 /// Reads the script line by line, carries out each command, and writes its whole reply before the next command. Takes
@@ -135,9 +136,9 @@ fn answer_line<K: Sink>(
     ensures { AnswersLine result model.old.document progress.old model.new.document progress.new
         (K.state out.old) (K.state out.new) }
 {
-    let reply = reply_to(alloc, model, &progress.line);
-    write_whole(out, reply.as_slice())?;
-    progress.count(reply.as_slice());
+    let outcome = reply_to(alloc, model, &progress.line);
+    write_outcome(&outcome, out)?;
+    progress.count(&outcome);
     progress.line.clear();
     Ok(())
 }

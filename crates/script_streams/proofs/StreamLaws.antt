@@ -1,7 +1,8 @@
 -- What came off a source and went to a sink, one call after another.
-use Rattle.std.proofs.Common.{◌≡◌, ℕ, ◌<◌, List, [], ◌++◌, take, drop, length, length-append, Option, Some, None, append_assoc, refl, ap, sym, ◌∙◌, subst, arith}
+use Rattle.std.proofs.Common.{◌≡◌, ℕ, ◌+◌, ◌^◌, ◌%◌, ◌<◌, List, [], ◌++◌, sum, take, drop, length, length-append, Option, Some, None, append_assoc, refl, ap, sym, ◌∙◌, subst, arith}
 use Rattle.std.proofs.lemmas.List.{append-nil, take-append-drop, nil_from_length}
-use Rattle.script_streams.specs.Streams.{SinkState, Gave, Took, Wrote, Rose, Taken, TakenWhole, Cut}
+use Rattle.std.proofs.lemmas.List.Sums.{sum_by-append}
+use Rattle.script_streams.specs.Streams.{SinkState, Tally, IsTally, tally_after, Gave, Took, Wrote, Rose, Taken, TakenWhole, Cut}
 
 pub Gave-nothing : (left : Option (List ℕ)) → Gave left left []
 Gave-nothing None = tt
@@ -23,11 +24,29 @@ Took-append a None (Some c) xs ys first second = absurd second
 Took-append None (Some b) (Some c) xs ys first second = absurd first
 Took-append (Some a) (Some b) (Some c) xs ys first second = second ∙ ap (λ z. z ++ ys) first ∙ append_assoc a xs ys
 
+-- the tally of two writes, one after the other, is that of both
+pub tally_after-append : (t : Tally) (xs ys : List ℕ) → tally_after (tally_after t xs) ys ≡ tally_after t (xs ++ ys)
+tally_after-append t xs ys =
+    let count : ((t.count + length xs) % 2 ^ 32 + length ys) % 2 ^ 32 ≡ (t.count + length (xs ++ ys)) % 2 ^ 32 = omega (arith, length-append xs ys) in
+    let total : ((t.sum + sum xs) % 2 ^ 32 + sum ys) % 2 ^ 32 ≡ (t.sum + sum (xs ++ ys)) % 2 ^ 32 = omega (arith, sum_by-append (λ (x : ℕ). x) xs ys) in
+    cc
+
+-- what is after some bytes is a tally
+pub tally_after-is : (t : Tally) (xs : List ℕ) → IsTally (tally_after t xs)
+tally_after-is t xs = record { count = omega arith; sum = omega arith }
+
+pub tally_after-nothing : (t : Tally) → IsTally t → tally_after t [] ≡ t
+tally_after-nothing t is =
+    let count : (t.count + 0) % 2 ^ 32 ≡ t.count = omega arith in
+    let total : (t.sum + 0) % 2 ^ 32 ≡ t.sum = omega arith in
+    rw (count, total)
+
 pub Wrote-nothing : (s : SinkState) → Wrote s s []
 Wrote-nothing s = record {
   took = Took-nothing s.taken;
   told = λ before is fits. is ∙ ap Some (sym (append-nil before));
   room = refl;
+  tally = λ before is whole. is ∙ ap Some (sym (tally_after-nothing before whole));
 }
 
 pub Wrote-append : (a b c : SinkState) (xs ys : List ℕ) → Wrote a b xs → Wrote b c ys → Wrote a c (xs ++ ys)
@@ -38,6 +57,9 @@ Wrote-append a b c xs ys first second = record {
       second.told (before ++ xs) mid (omega (arith, fits, first.room, length-append before xs, length-append xs ys))
       ∙ ap Some (append_assoc before xs ys);
   room = second.room ∙ first.room;
+  tally = λ before is whole.
+      second.tally (tally_after before xs) (first.tally before is whole) (tally_after-is before xs)
+      ∙ ap Some (tally_after-append before xs ys);
 }
 
 -- of the text, what stands before rest was written

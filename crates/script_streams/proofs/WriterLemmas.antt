@@ -38,9 +38,10 @@ told_after (Some x) (Some y) before bytes same is took = cc
 -- a sink over such a writer still tells what it told
 pub Wrote-over_writer : {W : Type 0} (contents : W → Option (List ℕ)) (old new : W) (faults faults' : ℕ) (bytes : List ℕ)
     → TellsAlwaysOrNever contents → Took (contents old) (contents new) bytes
-    → Wrote (record { taken = contents old; room = 0; faults = faults }) (record { taken = contents new; room = 0; faults = faults' }) bytes
+    → Wrote (record { taken = contents old; room = 0; faults = faults; tally = None }) (record { taken = contents new; room = 0; faults = faults'; tally = None }) bytes
 Wrote-over_writer contents old new faults faults' bytes always took = record {
   took = took;
   told = λ before is fits. told_after (contents old) (contents new) before bytes (always old new) is took;
   room = refl;
+  tally = λ before is whole. absurd (cc is);
 }

@@ -1,5 +1,5 @@
 -- What contracts see of the source of a script and of the sink of its replies, and what a call may do to them.
-use Rattle.std.specs.Prelude.{◌≡◌, ℕ, ◌+◌, ◌-◌, ◌^◌, ◌<◌, ◌≤◌, ◌⊎◌, min, List, [], ◌++◌, length, take, Bool, false, ◌&&◌, ◌==◌, nat_lt, Option, Some, None, Result, Ok, Err, ⊤}
+use Rattle.std.specs.Prelude.{◌≡◌, ℕ, ◌+◌, ◌-◌, ◌^◌, ◌%◌, ◌<◌, ◌≤◌, ◌⊎◌, min, List, [], ◌++◌, length, take, sum, Bool, false, ◌&&◌, ◌==◌, nat_lt, Option, Some, None, Result, Ok, Err, ⊤}
 use Rattle.script_streams.specs.declared.Failed.{Failed}
 
 pub record SourceState : Type 0 where
@@ -12,6 +12,11 @@ pub record SourceState : Type 0 where
   -- how many of its reads failed, counted likewise
   pub faults : ℕ
 
+-- how many bytes a sink took, and their sum, both modulo 2^32
+pub record Tally : Type 0 where
+  pub count : ℕ
+  pub sum : ℕ
+
 pub record SinkState : Type 0 where
   -- the bytes that the sink took, where it tells them
   pub taken : Option (List ℕ)
@@ -19,6 +24,8 @@ pub record SinkState : Type 0 where
   pub room : ℕ
   -- how many of its writes failed; the number stands still at the greatest one of 64 bits
   pub faults : ℕ
+  -- the tally of the bytes that the sink took, where it keeps one
+  pub tally : Option Tally
 
 abbrev pub greatest_count : ℕ
 greatest_count = 2 ^ 64 - 1
@@ -44,6 +51,16 @@ Took before None bytes = ⊤
 Took None (Some after) bytes = ⊥
 Took (Some before) (Some after) bytes = after ≡ before ++ bytes
 
+-- both numbers of a tally are below 2^32
+pub record IsTally (tally : Tally) : Type 0 where
+  pub count : tally.count < 2 ^ 32
+  pub sum : tally.sum < 2 ^ 32
+
+-- the tally after these bytes more
+abbrev pub tally_after : Tally → List ℕ → Tally
+tally_after before bytes =
+    record { count = (before.count + length bytes) % 2 ^ 32; sum = (before.sum + sum bytes) % 2 ^ 32 }
+
 -- these bytes came to the end of what a sink took
 pub record Wrote (old new : SinkState) (bytes : List ℕ) : Type 0 where
   -- as far as it tells that
@@ -52,6 +69,9 @@ pub record Wrote (old new : SinkState) (bytes : List ℕ) : Type 0 where
   pub told : (before : List ℕ) → old.taken ≡ Some before → length before + length bytes ≤ old.room
       → new.taken ≡ Some (before ++ bytes)
   pub room : new.room ≡ old.room
+  -- where it told a tally, it tells the one after these bytes
+  pub tally : (before : Tally) → old.tally ≡ Some before → IsTally before
+      → new.tally ≡ Some (tally_after before bytes)
 
 abbrev pub StartsWith : List ℕ → List ℕ → Type 0
 StartsWith bytes front = (rest : List ℕ) × (bytes ≡ front ++ rest)

@@ -85,12 +85,13 @@ pub struct StdSink<W: Write> {
 }
 
 impl<W: Write> Model for StdSink<W> {
+    ghost use Rattle.std.specs.Prelude.{None};
     ghost use Rattle.script_streams.specs.Streams.{SinkState};
     ghost use Rattle.script_streams.specs.Writer.{TellsAlwaysOrNever};
 
     ghost Value = { SinkState };
 
-    ghost view = { λ s. record { taken = W.contents s.writer; room = 0; faults = s.faults } };
+    ghost view = { λ s. record { taken = W.contents s.writer; room = 0; faults = s.faults; tally = None } };
 
     ghost invariant = { λ _. TellsAlwaysOrNever W.contents };
 }

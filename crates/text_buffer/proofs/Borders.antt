@@ -1,16 +1,16 @@
 -- Borders between pieces at which no CR LF is split.
-use Rattle.std.proofs.Common.{◌≡◌, ℕ, zero, suc, ◌+◌, ◌-◌, ◌<◌, ◌≤◌, ◌&&◌, true, false, cond, Option, Some, None, List, [], ◌∷◌, ◌++◌, length, take, drop, refl, ap, sym, subst, ◌∙◌, inl, inr, append_assoc, arith}
+use Rattle.std.proofs.Common.{◌≡◌, ℕ, zero, suc, ◌+◌, ◌-◌, ◌<◌, ◌≤◌, ◌&&◌, false, List, [], ◌∷◌, ◌++◌, length, take, drop, refl, ap, sym, subst, ◌∙◌, inl, inr, arith}
 use Rattle.std.specs.List.{All}
 use Rattle.std.proofs.lemmas.Bool.{cases_lt, cases_eq}
 use Rattle.std.proofs.lemmas.List.{append-nil, length-append}
 use Rattle.std.proofs.lemmas.List.Elements.{All-head, All-tail, All-cons, All-nil}
-use Rattle.chunk_buffers.specs.Chunks.{units_at, LiesIn, part_of}
+use Rattle.chunk_buffers.specs.Chunks.{units_at, part_of}
 use Rattle.piece_tree.specs.declared.piece.Piece.{Piece}
-use Rattle.piece_tree.specs.Pieces.{unit_count, piece_of, IsPieceOf, front, back}
+use Rattle.piece_tree.specs.Pieces.{piece_of, IsPieceOf, front, back}
 use Rattle.piece_tree.proofs.Cuts.{front_past, back_past, front_none, back_none, front_part, back_part}
 use Rattle.text_rules.specs.Lines.{line_feed, carriage_return, begins_with}
 use Rattle.text_rules.specs.Breaks.{ends_with, joins_pair}
-use Rattle.text_rules.proofs.Breaks.{ends_with_push, and_false}
+use Rattle.text_rules.proofs.Breaks.{and_false}
 use Rattle.text_buffer.specs.Text.{spelled, IsUnsplit}
 use Rattle.text_buffer.proofs.Spelling.{spelled-append, spelled-front, length-units_at, back_of_piece}
 
@@ -39,6 +39,18 @@ module _ (b : List (List ℕ)) where
   some_units : (p : Piece) → IsPieceOf b p → 0 < p.span.units → 0 < length (units_at b p.span)
   some_units p is h = omega (arith, length-units_at b p.span is.inside)
 
+  some_spelled : (q : Piece) (ps : List Piece) → All (IsPieceOf b) (q ∷ ps) → All (λ (p : Piece). 0 < p.span.units) (q ∷ ps)
+      → 0 < length (spelled b (q ∷ ps))
+  some_spelled q ps all full =
+      let head = some_units q (All-head (IsPieceOf b) q ps all) (All-head (λ (p : Piece). 0 < p.span.units) q ps full) in
+      omega (arith, head, length-append (units_at b q.span) (spelled b ps))
+
+  -- what begins with pieces that have units begins as they do
+  begins_first : (q : Piece) (ps qs : List Piece) → 0 < length (spelled b (q ∷ ps))
+      → begins_with line_feed (spelled b ((q ∷ ps) ++ qs)) ≡ begins_with line_feed (spelled b (q ∷ ps))
+  begins_first q ps qs some =
+      ap (begins_with line_feed) (spelled-append b (q ∷ ps) qs) ∙ begins_with-append line_feed (spelled b (q ∷ ps)) (spelled b qs) some
+
   -- two lists of pieces that make no pair at their border
   pub unsplit-append : (ps qs : List Piece) → All (IsPieceOf b) ps → All (λ (p : Piece). 0 < p.span.units) ps → IsUnsplit b ps → IsUnsplit b qs
       → joins_pair (spelled b ps) (spelled b qs) ≡ false → IsUnsplit b (ps ++ qs)
@@ -47,16 +59,9 @@ module _ (b : List (List ℕ)) where
   unsplit-append (p ∷ q ∷ ps) qs all full a c border =
       let tail : All (IsPieceOf b) (q ∷ ps) = All-tail (IsPieceOf b) p (q ∷ ps) all in
       let full_tail : All (λ (r : Piece). 0 < r.span.units) (q ∷ ps) = All-tail (λ (r : Piece). 0 < r.span.units) p (q ∷ ps) full in
-      let some : 0 < length (spelled b (q ∷ ps)) =
-      omega (
-        arith,
-        length-append (units_at b q.span) (spelled b ps),
-        some_units q (All-head (IsPieceOf b) q ps tail) (All-head (λ (r : Piece). 0 < r.span.units) q ps full_tail),
-      ) in
-      let after : begins_with line_feed (spelled b ((q ∷ ps) ++ qs)) ≡ begins_with line_feed (spelled b (q ∷ ps)) =
-      ap (begins_with line_feed) (spelled-append b (q ∷ ps) qs) ∙ begins_with-append line_feed (spelled b (q ∷ ps)) (spelled b qs) some in
-      let last : ends_with carriage_return (units_at b p.span ++ spelled b (q ∷ ps)) ≡ ends_with carriage_return (spelled b (q ∷ ps)) =
-      ends_with-append carriage_return (units_at b p.span) (spelled b (q ∷ ps)) some in (
+      let some = some_spelled q ps tail full_tail in
+      let after = begins_first q ps qs some in
+      let last = ends_with-append carriage_return (units_at b p.span) (spelled b (q ∷ ps)) some in (
         ap (λ f. ends_with carriage_return (units_at b p.span) && f) after ∙ a.0,
         unsplit-append (q ∷ ps) qs tail full_tail a.1 c (ap (λ f. f && begins_with line_feed (spelled b qs)) (sym last) ∙ border),
       )
@@ -72,16 +77,9 @@ module _ (b : List (List ℕ)) where
   unsplit-parts (p ∷ q ∷ ps) qs all full a =
       let tail : All (IsPieceOf b) (q ∷ ps) = All-tail (IsPieceOf b) p (q ∷ ps) all in
       let full_tail : All (λ (r : Piece). 0 < r.span.units) (q ∷ ps) = All-tail (λ (r : Piece). 0 < r.span.units) p (q ∷ ps) full in
-      let some : 0 < length (spelled b (q ∷ ps)) =
-      omega (
-        arith,
-        length-append (units_at b q.span) (spelled b ps),
-        some_units q (All-head (IsPieceOf b) q ps tail) (All-head (λ (r : Piece). 0 < r.span.units) q ps full_tail),
-      ) in
-      let after : begins_with line_feed (spelled b ((q ∷ ps) ++ qs)) ≡ begins_with line_feed (spelled b (q ∷ ps)) =
-      ap (begins_with line_feed) (spelled-append b (q ∷ ps) qs) ∙ begins_with-append line_feed (spelled b (q ∷ ps)) (spelled b qs) some in
-      let last : ends_with carriage_return (units_at b p.span ++ spelled b (q ∷ ps)) ≡ ends_with carriage_return (spelled b (q ∷ ps)) =
-      ends_with-append carriage_return (units_at b p.span) (spelled b (q ∷ ps)) some in
+      let some = some_spelled q ps tail full_tail in
+      let after = begins_first q ps qs some in
+      let last = ends_with-append carriage_return (units_at b p.span) (spelled b (q ∷ ps)) some in
       let rest = unsplit-parts (q ∷ ps) qs tail full_tail a.1 in (
         ap (λ f. f && begins_with line_feed (spelled b qs)) last ∙ rest.0,
         ((ap (λ f. ends_with carriage_return (units_at b p.span) && f) (sym after) ∙ a.0, rest.1.0), rest.1.1),

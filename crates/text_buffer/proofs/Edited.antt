@@ -1,5 +1,5 @@
 -- The pieces of a text of which a part is replaced.
-use Rattle.std.proofs.Common.{◌≡◌, ℕ, ◌+◌, ◌-◌, ◌<◌, ◌≤◌, Bool, true, false, Option, Some, None, List, [], ◌∷◌, ◌++◌, length, take, drop, refl, ap, sym, subst, ◌∙◌, arith}
+use Rattle.std.proofs.Common.{◌≡◌, ℕ, ◌+◌, ◌-◌, ◌<◌, ◌≤◌, Bool, false, Option, Some, None, List, [], ◌++◌, length, take, drop, refl, ap, sym, subst, ◌∙◌, arith}
 use Rattle.std.specs.List.{All}
 use Rattle.std.specs.Option.{ForSome}
 use Rattle.std.proofs.lemmas.List.{append-nil, length-append, length-take-le, length-drop}
@@ -8,7 +8,7 @@ use Rattle.chunk_buffers.specs.declared.span.ChunkSpan.{ChunkSpan}
 use Rattle.chunk_buffers.specs.Chunks.{units_at, LiesIn, Extends}
 use Rattle.piece_tree.specs.declared.piece.Piece.{Piece}
 use Rattle.piece_tree.specs.Pieces.{unit_count, piece_of, piece_list, IsPieceOf, front, back, spliced}
-use Rattle.piece_tree.proofs.Cuts.{pieces-front, pieces-back, pieces-spliced}
+use Rattle.piece_tree.proofs.Cuts.{pieces-front, pieces-spliced}
 use Rattle.text_rules.specs.Lines.{line_feed, carriage_return}
 use Rattle.text_rules.specs.Breaks.{joins_pair, ends_with}
 use Rattle.text_rules.proofs.Breaks.{and_false}
@@ -16,7 +16,7 @@ use Rattle.text_buffer.specs.Text.{spelled, IsUnsplit, IsAdded, unit_if, one_if}
 use Rattle.text_buffer.proofs.Spelling.{spelled-append, spelled-front, spelled-back, length-units_at, length-spelled}
 use Rattle.text_buffer.proofs.Borders.{unsplit-append, unsplit-front, unsplit-back, full-front, full-back, length-parts}
 use Rattle.text_buffer.proofs.Extended.{pieces-extended, spelled-extended, unsplit-extended}
-use Rattle.text_buffer.proofs.Replacing.{replaced_text, front_border, back_border, joins_front, whole}
+use Rattle.text_buffer.proofs.Replacing.{replaced_text, front_border, back_border, joins_front}
 
 abbrev IsFull : Piece → Type 0
 IsFull p = 0 < p.span.units

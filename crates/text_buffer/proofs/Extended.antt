@@ -1,8 +1,8 @@
 -- Pieces of buffers that grow.
-use Rattle.std.proofs.Common.{◌≡◌, ℕ, ◌++◌, false, List, [], ◌∷◌, refl, ap, sym, ◌∙◌, subst}
+use Rattle.std.proofs.Common.{◌≡◌, ℕ, ◌++◌, List, [], ◌∷◌, refl, ap, sym, ◌∙◌}
 use Rattle.std.specs.List.{All}
 use Rattle.std.proofs.lemmas.List.Elements.{All-head, All-tail, All-weaker}
-use Rattle.chunk_buffers.specs.Chunks.{units_at, LiesIn, Extends}
+use Rattle.chunk_buffers.specs.Chunks.{units_at, Extends}
 use Rattle.chunk_buffers.proofs.Spans.{LiesIn-extended, units_at-extended}
 use Rattle.line_starts.specs.Starts.{break_count}
 use Rattle.piece_tree.specs.declared.piece.Piece.{Piece}

@@ -4,16 +4,17 @@ use Rattle.std.specs.List.{All}
 use Rattle.std.proofs.lemmas.List.{map-append, length-map, length-take-le, take_at, drop_at, take-append-le, drop-append-le, length-append, get_or_append_left, get_or-append_right, get_or-map}
 use Rattle.std.proofs.lemmas.List.Elements.{All-head, All-tail, All-take, All-drop, All-same}
 use Rattle.chunk_buffers.specs.Chunks.{Shown, units_at, LiesIn}
-use Rattle.line_starts.proofs.Starts.{break_count_is}
+use Rattle.line_starts.specs.Starts.{starts_of}
+use Rattle.line_starts.proofs.Starts.{break_count_is, starts_of_is}
 use Rattle.piece_tree.specs.declared.piece.Piece.{Piece}
 use Rattle.piece_tree.specs.declared.piece.Found.{Found}
 use Rattle.piece_tree.specs.Costs.{WithinLookUps}
-use Rattle.piece_tree.specs.Pieces.{Pieces, Entry, pieces_of, break_count_of, IsPieceOf, IsFound}
+use Rattle.piece_tree.specs.Pieces.{Pieces, Entry, pieces_of, unit_count, break_count_of, IsPieceOf, IsFound}
 use Rattle.piece_tree.proofs.Sums.{breaks-cons}
 use Rattle.text_rules.specs.Lines.{lines_of, line_start}
 use Rattle.text_rules.specs.Breaks.{ends_break, break_ends, joins_pair, count_to}
 use Rattle.text_rules.proofs.Breaks.{break_ends-append, break_ends_moved, line_count_is, line_start_is, count_to_all, count_to_none, count_to-append, count_to-later, count_to-moved}
-use Rattle.text_buffer.specs.Text.{Text, text_of, spelled, IsUnsplit, ends_with_pair}
+use Rattle.text_buffer.specs.Text.{Text, text_of, spelled, IsUnsplit, IsText, ends_with_pair}
 use Rattle.text_buffer.proofs.Spelling.{spelled-append, length-spelled, length-units_at, take-past, drop-past}
 use Rattle.text_buffer.proofs.Borders.{unsplit-parts, begins_with-take}
 use Rattle.text_buffer.proofs.Contents.{pair_of_line}
@@ -57,6 +58,23 @@ breaks_of_pieces b (p ∷ ps) all a =
 
 pub line_count_of_pieces : (b : List (List ℕ)) (ps : List Piece) → All (IsPieceOf b) ps → IsUnsplit b ps → break_count_of ps + 1 ≡ length (lines_of (spelled b ps))
 line_count_of_pieces b ps all a = omega (arith, breaks_of_pieces b ps all a, line_count_is (spelled b ps))
+
+-- what the pieces count, in the text that contracts see
+pub units_shown : (tree : Pieces) (chunks : Shown) (seen : Text) → IsText tree chunks → text_of tree chunks ≡ seen
+    → unit_count (pieces_of tree.entries) ≡ length seen.units
+units_shown tree chunks seen is shown =
+    omega (arith, length-spelled chunks.buffers (pieces_of tree.entries) is.pieces, ap (λ (t : Text). length t.units) shown)
+
+pub lines_shown : (tree : Pieces) (chunks : Shown) (seen : Text) → IsText tree chunks → text_of tree chunks ≡ seen
+    → break_count_of (pieces_of tree.entries) + 1 ≡ length (lines_of seen.units)
+lines_shown tree chunks seen is shown =
+    line_count_of_pieces chunks.buffers (pieces_of tree.entries) is.pieces is.unsplit ∙ ap (λ (t : Text). length (lines_of t.units)) shown
+
+pub breaks_shown : (tree : Pieces) (chunks : Shown) (seen : Text) (offset : ℕ) → IsText tree chunks → text_of tree chunks ≡ seen
+    → offset ≡ length seen.units → break_count_of (pieces_of tree.entries) ≡ count_to offset (break_ends 0 seen.units)
+breaks_shown tree chunks seen offset is shown at_end =
+    breaks_of_pieces chunks.buffers (pieces_of tree.entries) is.pieces is.unsplit ∙ ap (λ (t : Text). length (break_ends 0 t.units)) shown
+    ∙ sym (count_to_all 0 offset seen.units (omega (arith, at_end)))
 
 -- a look-up among the pieces is one among the spans that contracts see
 pub among_spans : (tree : Pieces) (chunks : Shown) (seen : Text) (look_ups nodes : ℕ) → text_of tree chunks ≡ seen
@@ -210,6 +228,14 @@ module _ (b : List (List ℕ)) (entries : List Entry) (found : Found) (is : IsFo
         ∙ ap (λ (n : ℕ). found.before.breaks + n)
         (count_to-later offset mine (break_ends (s + length own_text) later_text) none_after
         ∙ ap (λ (t : ℕ). count_to t mine) (sym place) ∙ count_to-moved s (offset - s) (break_ends 0 own_text))
+
+    -- they are those before the piece, and those of its own that its starts tell
+    pub found_count : (offset mine : ℕ) → found.before.units ≤ offset → offset < found.before.units + found.span.units
+        → mine ≡ count_to (offset - found.before.units) (drop 1 (starts_of own_text))
+        → found.before.breaks + mine ≡ count_to offset (break_ends 0 (spelled b (pieces_of entries)))
+    found_count offset mine start end mine_is =
+        ap (λ (n : ℕ). found.before.breaks + n) (mine_is ∙ ap (λ s. count_to (offset - found.before.units) (drop 1 s)) (starts_of_is own_text))
+        ∙ sym (found_breaks_to offset start end)
 
     -- the start of the line after a break in the piece
     pub found_line_start : (n : ℕ) → found.before.breaks < n → n ≤ found.before.breaks + found.breaks

@@ -1,5 +1,5 @@
 -- The last unit of a text, by its place.
-use Rattle.std.proofs.Common.{◌≡◌, ℕ, ◌-◌, ◌<◌, ◌≤◌, ◌==◌, ◌&&◌, Bool, true, false, List, ◌++◌, length, take, drop, get_or, refl, ap, sym, ◌∙◌, arith}
+use Rattle.std.proofs.Common.{◌≡◌, ℕ, ◌-◌, ◌<◌, ◌≤◌, ◌==◌, ◌&&◌, Bool, true, false, List, ◌++◌, length, take, get_or, refl, ap, ◌∙◌, arith}
 use Rattle.std.proofs.lemmas.List.{length-take-le, get_or-take}
 use Rattle.text_rules.specs.Lines.{line_feed, carriage_return, begins_with}
 use Rattle.text_rules.specs.Breaks.{ends_with, joins_pair}

@@ -1,14 +1,14 @@
 -- What the parts of a list of pieces spell.
-use Rattle.std.proofs.Common.{◌≡◌, ℕ, zero, suc, ◌+◌, ◌-◌, ◌<◌, ◌≤◌, leb, true, false, cond, Option, Some, None, List, [], ◌∷◌, ◌++◌, length, take, drop, get_or, map, refl, ap, sym, subst, ◌∙◌, inl, inr, add-zero, zero-add, append_assoc, arith}
-use Rattle.std.specs.List.{All, flat_map}
+use Rattle.std.proofs.Common.{◌≡◌, ℕ, zero, suc, ◌-◌, ◌≤◌, List, [], ◌∷◌, ◌++◌, length, take, drop, refl, ap, sym, ◌∙◌, inl, inr, append_assoc, arith}
+use Rattle.std.specs.List.{All}
 use Rattle.std.proofs.lemmas.Bool.{cases_lt, cases_eq}
-use Rattle.std.proofs.lemmas.List.{append-nil, take_all, drop_all, take_at, drop_at, drop-drop, take-append-le, drop-append-le, length-append, length-take, length-take-le, length-drop}
+use Rattle.std.proofs.lemmas.List.{append-nil, take_all, take-append-le, drop-append-le, length-append, length-take-le, length-drop}
 use Rattle.std.proofs.lemmas.List.Elements.{All-head, All-tail}
 use Rattle.chunk_buffers.specs.declared.span.ChunkSpan.{ChunkSpan}
 use Rattle.chunk_buffers.specs.Chunks.{units_at, LiesIn, part_of, buffer_at}
 use Rattle.chunk_buffers.proofs.Spans.{units_at-part}
 use Rattle.piece_tree.specs.declared.piece.Piece.{Piece}
-use Rattle.piece_tree.specs.Pieces.{unit_count, piece_of, IsPieceOf, front, back}
+use Rattle.piece_tree.specs.Pieces.{unit_count, IsPieceOf, front, back}
 use Rattle.piece_tree.proofs.Sums.{units-cons}
 use Rattle.piece_tree.proofs.Cuts.{front_past, back_past, front_none, back_none, front_part, back_part}
 use Rattle.text_buffer.specs.Text.{spelled}

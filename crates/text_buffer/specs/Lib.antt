@@ -1,3 +1,4 @@
 pub mod Text
 pub mod Places
+pub mod LookUps
 pub use Rattle.piece_tree.specs.Costs

@@ -1,5 +1,5 @@
 -- A text in pieces of buffers.
-use Rattle.std.specs.Prelude.{ℕ, ◌≡◌, ◌+◌, ◌<◌, Bool, false, ◌==◌, ◌&&◌, if◌then◌else◌, Option, Some, None, length, List, [], ◌∷◌, ◌++◌, map}
+use Rattle.std.specs.Prelude.{ℕ, ◌≡◌, ◌<◌, Bool, false, ◌==◌, ◌&&◌, if◌then◌else◌, Option, Some, None, length, List, [], ◌∷◌, map}
 use Rattle.std.specs.List.{All, flat_map}
 use Rattle.chunk_buffers.specs.declared.span.ChunkSpan.{ChunkSpan}
 use Rattle.chunk_buffers.specs.Chunks.{Shown, units_at, LiesIn}

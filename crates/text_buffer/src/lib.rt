@@ -2,9 +2,11 @@
 #![tactic(auto)]
 
 mod breaks;
+mod lines;
 mod look_up;
 mod place;
 mod text;
 mod walk;
 
+pub use lines::LineReader;
 pub use text::TextBuffer;

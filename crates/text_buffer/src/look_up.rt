@@ -7,6 +7,7 @@ ghost use Rattle.piece_tree.specs.Costs.{WithinLookUps};
 ghost use Rattle.unit_text.specs.Units.{cuts_pair};
 ghost use Rattle.text_rules.specs.Lines.{line_start};
 ghost use Rattle.text_buffer.specs.Text.{text_of, IsText};
+ghost use Rattle.text_buffer.specs.LookUps.{HasUnit};
 
 use chunk_buffers::Chunks;
 use piece_tree::{Found, PieceTree};
@@ -18,9 +19,7 @@ use unit_text::cuts_pair;
 /// The piece that has the unit at this offset, by a look-up that nobody counts.
 pub(crate) fn piece_at(pieces: &PieceTree, offset: u64) -> Found
     requires { offset < unit_count (pieces_of pieces.now.entries) }
-    ensures piece { IsFound pieces.now.entries result }
-    ensures start { result.before.units ≤ offset }
-    ensures end { offset < result.before.units + result.span.units }
+    ensures { HasUnit pieces.now.entries result offset }
 {
     piece_at_for::<Brand>(pieces, offset, Blank::new(1))
 }
@@ -30,9 +29,7 @@ fn piece_at_for<L: Ledger>(pieces: &PieceTree, offset: u64, blank: Blank) -> Fou
     requires name { blank.name ≡ L.name }
     requires parts { blank.parts ≡ L.parts }
     requires some { 0 < L.parts }
-    ensures piece { IsFound pieces.now.entries result }
-    ensures start { result.before.units ≤ offset }
-    ensures end { offset < result.before.units + result.span.units }
+    ensures { HasUnit pieces.now.entries result offset }
 {
     let mut steps = Steps::<L>::new(blank);
     pieces.find_offset(offset, &mut steps)
@@ -48,9 +45,7 @@ pub(crate) fn cuts_pair_at<L: Ledger>(
     steps: &mut Steps<L>,
 ) -> bool
     requires text { IsText pieces.now chunks.now }
-    requires piece { IsFound pieces.now.entries found.now }
-    requires start { found.now.before.units ≤ offset }
-    requires end { offset < found.now.before.units + found.now.span.units }
+    requires unit { HasUnit pieces.now.entries found.now offset }
     ensures pair { result ≡ cuts_pair (text_of pieces.now chunks.now).units offset }
     ensures cost { WithinLookUps 1 (length pieces.now.entries) (steps.new - steps.old) }
 {
@@ -70,10 +65,8 @@ fn unit_before<L: Ledger>(
     steps: &mut Steps<L>,
 ) -> u16
     requires text { IsText pieces.now chunks.now }
-    requires piece { IsFound pieces.now.entries found.now }
     requires some { 0 < offset }
-    requires start { found.now.before.units ≤ offset }
-    requires end { offset < found.now.before.units + found.now.span.units }
+    requires unit { HasUnit pieces.now.entries found.now offset }
     ensures unit { result ≡ slice_index (text_of pieces.now chunks.now).units (offset - 1) }
     ensures cost { WithinLookUps 1 (length pieces.now.entries) (steps.new - steps.old) }
 {
@@ -89,8 +82,8 @@ fn unit_in(chunks: &Chunks, found: &Found, offset: u64) -> u16
     requires inside { LiesIn chunks.now.buffers found.now.span }
     requires start { found.now.before.units ≤ offset }
     requires end { offset < found.now.before.units + found.now.span.units }
-    ensures { result
-        ≡ slice_index (units_at chunks.now.buffers found.now.span) (offset - found.now.before.units) }
+    ensures { result ≡ slice_index
+        (units_at chunks.now.buffers found.now.span) (offset - found.now.before.units) }
 {
     chunks.units(found.span)[(offset - found.before.units) as usize]
 }

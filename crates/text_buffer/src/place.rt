@@ -75,33 +75,9 @@ fn find_start<L: Ledger>(
 }
 
 /// Appends the content of the line that starts at the place, and goes on from each piece to the
-/// next one. Answers where the next line starts; None where this is the last. An error leaves `out`
-/// as it was.
+/// next one. Answers where the next line starts; None where this is the last. An error may leave
+/// some of the content behind.
 pub(crate) fn push_line(
-    pieces: &PieceTree,
-    chunks: &Chunks,
-    start: Place,
-    out: &mut Vec<u16>,
-) -> Result<Option<Place>, AllocError>
-    requires text { IsText pieces.now chunks.now }
-    requires place { IsPlace chunks.now.buffers pieces.now.entries start }
-    ensures content { (n : ℕ) (line : Line) → StartsAt pieces.now chunks.now n start
-        → line_at (text_of pieces.now chunks.now).units n ≡ Some line
-        → OnOk result (out.new.items ≡ out.old.items ++ line.content) }
-    ensures next { (n : ℕ) → StartsAt pieces.now chunks.now n start
-        → IfOk result (NextStartsAt pieces.now chunks.now n) }
-    ensures err { OnErr result (out.new.items ≡ out.old.items) }
-{
-    let before = out.len();
-    let next = push_to_break(pieces, chunks, start, out);
-    if next.is_err() {
-        out.truncate(before);
-    }
-    next
-}
-
-// `push_line`, where an error may leave some of the content behind.
-fn push_to_break(
     pieces: &PieceTree,
     chunks: &Chunks,
     start: Place,

@@ -13,6 +13,7 @@ ghost use Rattle.text_rules.specs.Breaks.{ends_with, joins_pair, count_to, break
 ghost use Rattle.text_buffer.specs.Text.{unit_if, one_if, IsAdded};
 
 use crate::breaks::ends_with_pair;
+use crate::lines::LineReader;
 use crate::look_up::{break_at, cuts_pair_at, piece_at};
 use crate::place::{push_line, start_of_line};
 use crate::walk::push_span;
@@ -156,6 +157,13 @@ impl TextBuffer {
         self.pieces.splice(start, end - start, added, &self.chunks);
     }
 
+    /// A reader of its lines, for one after another.
+    pub fn lines(&self) -> LineReader<'_>
+        ensures { result ≡ self.now.units }
+    {
+        LineReader::new(&self.pieces, &self.chunks)
+    }
+
     /// Appends the content of the line of this number, counted from 1. An error leaves `out` as it was.
     pub fn line(&self, n: u64, out: &mut Vec<u16>) -> Result<(), AllocError>
         requires first { 0 < n }
@@ -167,8 +175,14 @@ impl TextBuffer {
         let Some(start) = start_of_line(&self.pieces, &self.chunks, n) else {
             return Ok(());
         };
-        push_line(&self.pieces, &self.chunks, start, out)?;
-        Ok(())
+        let before = out.len();
+        match push_line(&self.pieces, &self.chunks, start, out) {
+            Ok(_) => Ok(()),
+            Err(fault) => {
+                out.truncate(before);
+                Err(fault)
+            }
+        }
     }
 
     /// The position of the offset; None where the offset is no place of the text. Each node that is visited is a step.

@@ -28,7 +28,8 @@ pub trait Flat {
     fn copy(&self, start: u64, end: u64, out: &mut Vec<u16>) -> Result<(), AllocError>
         requires ordered { start ≤ end }
         requires within { end ≤ length (units self.now) }
-        ensures ok { OnOk result (out.new.items ≡ out.old.items ++ take (end - start) (drop start (units self.now))) }
+        ensures ok { OnOk result (out.new.items
+            ≡ out.old.items ++ take (end - start) (drop start (units self.now))) }
         ensures err { OnErr result (out.new.items ≡ out.old.items) };
 }
 

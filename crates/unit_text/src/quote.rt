@@ -57,8 +57,8 @@ fn push_quoted_char(c: char, out: &mut Vec<u8>) -> Result<(), AllocError>
 
 fn push_control(byte: u8, out: &mut Vec<u8>) -> Result<(), AllocError>
     requires { byte < 32 }
-    ensures ok { OnOk result
-        (out.new.items ≡ out.old.items ++ codes "\\u00" ++ digit_char (byte / 16) ∷ digit_char (byte % 16) ∷ []) }
+    ensures ok { OnOk result (out.new.items
+        ≡ out.old.items ++ codes "\\u00" ++ digit_char (byte / 16) ∷ digit_char (byte % 16) ∷ []) }
     ensures err { OnErr result (out.new.items ≡ out.old.items) }
 {
     let escaped = [

@@ -2,8 +2,12 @@
 #![tactic(auto)]
 
 #[cfg(test)]
+mod columns;
+#[cfg(test)]
 mod lines;
 #[cfg(test)]
 mod nodes;
+#[cfg(test)]
+mod reads;
 #[cfg(test)]
 mod texts;

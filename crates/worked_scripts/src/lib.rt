@@ -12,6 +12,8 @@ mod first_body;
 #[cfg(test)]
 mod library;
 #[cfg(test)]
+mod playing;
+#[cfg(test)]
 mod runs;
 #[cfg(test)]
 mod transcripts;

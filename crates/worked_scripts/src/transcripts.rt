@@ -2,52 +2,55 @@
 
 mod batches;
 mod decorated;
+mod kept;
 mod nested;
 mod texts;
 
 use crate::runs::{ALL, expect_run};
 use batches::BATCHES;
-use decorated::DECORATED;
+use decorated::{DECORATED, EACH_MODE, FOUR_MODES};
+use kept::KEPT;
 use nested::NESTED;
 use std::alloc::{AllocError, Global};
 use std::process::Abort;
 use std::test::Fail;
 use texts::TEXTS;
 
-/// A script and its replies: below each line of the script stands the reply to it.
-pub struct Transcript {
-    pub name: &'static str,
-    pub lines: &'static str,
-}
+/// The rows with which each script of a table begins, and the table. A blank line stands between two transcripts: a
+/// name, and a row for each line of the script, which has the reply behind `=>`.
+const TABLES: [(&str, &str); 6] = [
+    ("", TEXTS),
+    ("", BATCHES),
+    (FOUR_MODES, EACH_MODE),
+    ("", DECORATED),
+    ("", NESTED),
+    ("", KEPT),
+];
 
 #[test]
 fn transcripts(rt: HostRuntime) -> Result<(), Fail> {
-    for table in [TEXTS, BATCHES, DECORATED, NESTED] {
-        for transcript in table {
-            expect_transcript(&rt, transcript.name, transcript.lines)?;
+    for (first_rows, table) in TABLES {
+        for transcript in table.trim().split("\n\n") {
+            let (name, rows) = transcript.split_once('\n').unwrap_or(("", transcript));
+            expect_replies(&rt, name, first_rows, rows)?;
         }
     }
     Ok(())
 }
 
-fn expect_transcript<R: AllocGlobal + Abort>(
+fn expect_replies<R: AllocGlobal + Abort>(
     rt: &R,
     name: &str,
-    lines: &str,
+    first_rows: &str,
+    rows: &str,
 ) -> Result<(), AllocError> {
     let alloc: Global = rt.alloc();
     let mut script = String::new(alloc);
     let mut replies = String::new(alloc);
-    let mut status = 0;
-    for (at, line) in lines.trim_start().lines().enumerate() {
-        let is_reply = at % 2 == 1;
-        if is_reply && line.starts_with('!') {
-            status = 1;
-        }
-        let side = if is_reply { &mut replies } else { &mut script };
-        side.push_str(line)?;
-        side.push('\n')?;
+    for row in first_rows.trim().lines().chain(rows.lines()) {
+        push_row(row, &mut script, &mut replies)?;
     }
+    let is_refused = replies.as_str().lines().any(|reply| reply.starts_with('!'));
     expect_run(
         rt,
         name,
@@ -55,6 +58,15 @@ fn expect_transcript<R: AllocGlobal + Abort>(
         ALL,
         ALL,
         replies.as_bytes(),
-        status,
+        u8::from(is_refused),
     )
+}
+
+/// A row without `=>` expects an empty reply, which no run gives.
+fn push_row(row: &str, script: &mut String, replies: &mut String) -> Result<(), AllocError> {
+    let (line, reply) = row.split_once(" => ").unwrap_or((row, ""));
+    script.push_str(line)?;
+    script.push('\n')?;
+    replies.push_str(reply)?;
+    replies.push('\n')
 }

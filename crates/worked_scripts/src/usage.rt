@@ -4,10 +4,22 @@ use crate::runs::run_line;
 use memory_streams::{MemSink, MemSource, SureSink};
 use std::test::Fail;
 
+const NO_COMMANDS: &[&str] = &[
+    "",
+    "walk",
+    "run x",
+    "play 1",
+    "play 1 2 3",
+    "play 10000001 0",
+    "play 01 0",
+    "play +1 0",
+    "play 1 18446744073709551616",
+];
+
 #[test]
 fn words_that_are_no_command(rt: HostRuntime) -> Result<(), Fail> {
     let usage = b"usage: textmodel run | textmodel play COUNT SEED\n".as_slice();
-    for line in ["run x", "", "walk", "play 10000001 0"] {
+    for line in NO_COMMANDS {
         let mut src = MemSource::new(rt.alloc(), b"", 1, &[])?;
         let mut out = MemSink::new(rt.alloc(), 64, 64, &[])?;
         let mut err = SureSink::new(rt.alloc(), 64, 64)?;

@@ -3,6 +3,7 @@ ghost use Rattle.std.specs.Prelude.{◌≡◌, ◌+◌, ◌^◌, ◌<◌, ◌≤
 ghost use Rattle.script_streams.specs.Streams.{Wrote};
 
 use memory_streams::{MemSink, SureSink, SureSource};
+use script_play::{PlaySource, TallySink};
 use script_streams::{Failed, Sink, Source, StdSink, StdSource, write_whole};
 use std::alloc::{AllocError, Global};
 use std::io;
@@ -91,7 +92,42 @@ fn sure_ones_meet_what_a_generic_caller_asks(rt: HostRuntime) -> Result<(), Fail
     let source = SureSource::new(rt.alloc(), b"", 1)?;
     let sink = SureSink::new(rt.alloc(), 0, 1)?;
     expect_sure(&source, &sink);
+    expect_sure(&PlaySource::new(0, 0), &TallySink::new());
     Ok(())
+}
+
+/// Five lines with the seed 7.
+const PLAYED: &str = r#"{"cmd":"open","text":""}
+{"cmd":"decos","at":[0,0]}
+{"cmd":"edit","ops":[{"at":[0,0],"text":"("}]}
+{"cmd":"undo"}
+{"cmd":"redo"}
+"#;
+
+/// Reads the text and the end after it, each time into this buffer.
+fn expect_text<S: Source>(rt: &impl Abort, source: &mut S, text: &str, buf: &mut [u8])
+    requires { 0 < length buf.old }
+{
+    for piece in text.as_bytes().chunks(buf.len()) {
+        match source.read(buf) {
+            Ok(count) => assert_eq!(rt; &buf[..count], piece),
+            Err(Failed) => assert!(rt; false, "a read failed"),
+        }
+    }
+    assert_eq!(rt; source.read(buf), Ok(0));
+}
+
+#[test]
+fn a_script_is_played(rt: HostRuntime) {
+    let mut in_pieces = PlaySource::new(5, 7);
+    expect_text(&rt, &mut in_pieces, PLAYED, &mut [0; 3]);
+
+    let mut at_once = PlaySource::new(5, 7);
+    expect_text(&rt, &mut at_once, PLAYED, &mut [0; 200]);
+
+    let mut sink = TallySink::new();
+    expect_writes(&rt, &mut sink, PLAYED, &[Some(129), Some(0)]);
+    assert_eq!(rt; (sink.count(), sink.sum()), (129, 9778));
 }
 
 /// Is interrupted by a signal, then reads and writes two bytes, and fails from then on.

@@ -8,7 +8,7 @@ use Rattle.bracket_trees.specs.Tree.{nothing}
 use Rattle.bracket_nodes.specs.SharedLists.{shared_items, shared_weight}
 use Rattle.bracket_nodes.specs.declared.parser.Taken.{Taken}
 use Rattle.bracket_nodes.specs.Source.{Ahead, Takes, closing_taken, pair_taken}
-use Rattle.bracket_nodes.proofs.Parsing.{Takes-ready, Takes-closing, Takes-capped, Takes-paired, asks_not_missing, Reads-start, Reads-one, Listed-after, bracket_weighs}
+use Rattle.bracket_nodes.proofs.Parsing.{Takes-end, AsksOn-same, AsksOn-then, Takes-ready, Takes-closing, Takes-capped, Takes-paired, asks_not_missing, Reads-start, Reads-one, Listed-after, bracket_weighs}
 use Rattle.bracket_nodes.proofs.parser.+parser.Goals as goal
 
 taken_as : {E : Type 0} (r : Result Taken E) (x : Taken) (P : Taken → Type 0) → IfOk r (λ y. y ≡ x) → P x → IfOk r P
@@ -16,49 +16,61 @@ taken_as r x P h p = IfOk-weaker r (λ (y : Taken). y ≡ x) P (λ y e. subst P 
 
 pub parse_list-loop-joiner-init : goal.parse_list-loop-joiner-init
 parse_list-loop-joiner-init g t c =
-    rw c.new-joiner.ensures (Reads-start (g.S.Source.ahead c.args.source.now) c.args.opened c.args.level c.requires.some)
+    let start : Ahead = g.S.Source.ahead c.args.source.now in
+    (rw c.new-joiner.ensures (Reads-start start c.args.opened c.args.level c.requires.some), c.requires.stands, AsksOn-same start.asking)
 
 pub parse_list-loop-joiner-preserved : goal.parse_list-loop-joiner-preserved
 parse_list-loop-joiner-preserved g t c =
-    let parsed = rw c.in-One.is at c.in_ok-node.ensures in
-    rw ((c.in_ok-push-in-One.ensures).in_order, (c.in_ok-push-in-One.ensures).weighs)
-    (Reads-one (g.S.Source.ahead c.args.source.now) (g.S.Source.ahead c.loop-joiner.source) (g.S.Source.ahead c.take.new.source) c.args.opened c.args.level
-    (shared_items c.loop-joiner.joiner.lists.items) (shared_weight c.loop-joiner.joiner.lists.items) c.in-One.node c.loop-joiner.invariant parsed)
+    let parsed = rw c.in-One.is at c.in_ok-node.ensures.takes in
+    let start : Ahead = g.S.Source.ahead c.args.source.now in
+    let now : Ahead = g.S.Source.ahead c.loop-joiner.source in
+    let new : Ahead = g.S.Source.ahead c.take.new.source in (
+      rw ((c.in_ok-push-in-One.ensures).in_order, (c.in_ok-push-in-One.ensures).weighs)
+          (Reads-one start now new c.args.opened c.args.level
+          (shared_items c.loop-joiner.joiner.lists.items) (shared_weight c.loop-joiner.joiner.lists.items) c.in-One.node c.loop-joiner.invariant.0 parsed),
+      c.in_ok-node.ensures.stands,
+      AsksOn-then start.asking now.asking new.asking c.loop-joiner.invariant.2 c.take.ensures.asks,
+    )
 
-pub parse_list-returns-in-Last : goal.parse_list-returns-in-Last
-parse_list-returns-in-Last g t c =
-    let listed = rw c.in-Last.is at c.in_ok-node.ensures in
+pub parse_list-returns-in-Last-clause-listed : goal.parse_list-returns-in-Last-clause-listed
+parse_list-returns-in-Last-clause-listed g t c =
+    let listed = rw c.in-Last.is at c.in_ok-node.ensures.takes in
     Listed-after (g.S.Source.ahead c.args.source.now) (g.S.Source.ahead c.loop-joiner.source) (g.S.Source.ahead c.take.new.source) c.args.opened c.args.level
     (shared_items c.loop-joiner.joiner.lists.items) (shared_weight c.loop-joiner.joiner.lists.items) c.in-Last.node c.in_ok-list-in-Last.list c.in-Last.stop
-    c.loop-joiner.invariant listed
+    c.loop-joiner.invariant.0 listed
     ((c.in_ok-list-in-Last.ensures).in_order ∙ (c.in_ok-push-in-Last.ensures).in_order)
     ((c.in_ok-list-in-Last.ensures).weighs ∙ (c.in_ok-push-in-Last.ensures).weighs)
 
-pub parse_list-returns-in-Nothing : goal.parse_list-returns-in-Nothing
-parse_list-returns-in-Nothing g t c =
-    let listed = rw c.in-Nothing.is at c.in_ok-node.ensures in
+pub parse_list-returns-in-Nothing-clause-listed : goal.parse_list-returns-in-Nothing-clause-listed
+parse_list-returns-in-Nothing-clause-listed g t c =
+    let listed = rw c.in-Nothing.is at c.in_ok-node.ensures.takes in
     Listed-after (g.S.Source.ahead c.args.source.now) (g.S.Source.ahead c.loop-joiner.source) (g.S.Source.ahead c.take.new.source) c.args.opened c.args.level
     (shared_items c.loop-joiner.joiner.lists.items) (shared_weight c.loop-joiner.joiner.lists.items) nothing c.in_ok-list-in-Nothing.list c.in-Nothing.stop
-    c.loop-joiner.invariant listed
+    c.loop-joiner.invariant.0 listed
     ((c.in_ok-list-in-Nothing.ensures).in_order ∙ sym (append-nil (shared_items c.loop-joiner.joiner.lists.items)))
     ((c.in_ok-list-in-Nothing.ensures).weighs ∙ sym (add-zero (shared_weight c.loop-joiner.joiner.lists.items)))
 
-pub take-returns-in-Ready : goal.take-returns-in-Ready
-take-returns-in-Ready g t c =
-    let given = rw c.in-Ready.is at c.in_ok-next.ensures in
+pub take-returns-in-End-clause-takes : goal.take-returns-in-End-clause-takes
+take-returns-in-End-clause-takes g t c =
+    let ends = rw c.in-End.is at c.in_ok-next.ensures.comes in
+    Takes-end (g.S.Source.ahead c.args.source.now) (g.S.Source.ahead c.next.new.self) c.args.opened c.args.level ends
+
+pub take-returns-in-Ready-clause-takes : goal.take-returns-in-Ready-clause-takes
+take-returns-in-Ready-clause-takes g t c =
+    let given = rw c.in-Ready.is at c.in_ok-next.ensures.comes in
     Takes-ready (g.S.Source.ahead c.args.source.now) (g.S.Source.ahead c.next.new.self) c.args.opened c.args.level c.in-Ready.node given
 
-pub take-returns-then-not-opening : goal.take-returns-then-not-opening
-take-returns-then-not-opening g t c =
-    let given = rw c.if-not-opening.true at (rw c.in-Bracket.is at c.in_ok-next.ensures) in
+pub take-returns-then-not-opening-clause-takes : goal.take-returns-then-not-opening-clause-takes
+take-returns-then-not-opening-clause-takes g t c =
+    let given = rw c.if-not-opening.true at (rw c.in-Bracket.is at c.in_ok-next.ensures.comes) in
     let old : Ahead = g.S.Source.ahead c.args.source.now in
     let new : Ahead = g.S.Source.ahead c.next.new.self in
     let takes = Takes-closing old new c.args.opened c.args.level c.in-Bracket.kind c.in-Bracket.width c.requires.level given in
     taken_as c.closing.result (closing_taken c.args.opened c.in-Bracket.kind c.in-Bracket.width) (Takes old new c.args.opened c.args.level) c.closing.ensures takes
 
-pub take-returns-then-level-eq-MOST_OPEN : goal.take-returns-then-level-eq-MOST_OPEN
-take-returns-then-level-eq-MOST_OPEN g t c =
-    let given = rw c.if-not-opening.false at (rw c.in-Bracket.is at c.in_ok-next.ensures) in
+pub take-returns-then-level-eq-MOST_OPEN-clause-takes : goal.take-returns-then-level-eq-MOST_OPEN-clause-takes
+take-returns-then-level-eq-MOST_OPEN-clause-takes g t c =
+    let given = rw c.if-not-opening.false at (rw c.in-Bracket.is at c.in_ok-next.ensures.comes) in
     let old : Ahead = g.S.Source.ahead c.args.source.now in
     let new : Ahead = g.S.Source.ahead c.next.new.self in
     let columns : c.wide.result.columns ≡ c.in-Bracket.width = ap (λ (l : Length). l.columns) c.wide.ensures in
@@ -67,29 +79,29 @@ take-returns-then-level-eq-MOST_OPEN g t c =
 
 pub take-parse_list-requires : goal.take-parse_list-requires
 take-parse_list-requires g t c κs within =
-    let given = rw c.if-not-opening.false at (rw c.in-Bracket.is at c.in_ok-next.ensures) in
+    let given = rw c.if-not-opening.false at (rw c.in-Bracket.is at c.in_ok-next.ensures.comes) in
     let weighs = bracket_weighs (g.S.Source.ahead c.args.source.now) (g.S.Source.ahead c.next.new.self) c.in-Bracket.kind c.in-Bracket.width true given in
     search (rules, weighs)
 
 pub take-paired-requires-clause-fits : goal.take-paired-requires-clause-fits
 take-paired-requires-clause-fits g t c =
-    let given = rw c.if-not-opening.false at (rw c.in-Bracket.is at c.in_ok-next.ensures) in
+    let given = rw c.if-not-opening.false at (rw c.in-Bracket.is at c.in_ok-next.ensures.comes) in
     let weighs = bracket_weighs (g.S.Source.ahead c.args.source.now) (g.S.Source.ahead c.next.new.self) c.in-Bracket.kind c.in-Bracket.width true given in
-    omega (arith, weighs, c.in_ok-part-in-Bracket.ensures.together, c.requires.fits)
+    omega (arith, weighs, c.in_ok-part-in-Bracket.ensures.listed.together, c.requires.fits)
 
 pub take-paired-requires-clause-not_missing : goal.take-paired-requires-clause-not_missing
 take-paired-requires-clause-not_missing g t c =
     asks_not_missing (g.S.Source.ahead c.next.new.self) (g.S.Source.ahead c.parse_list.new.source) c.args.opened c.args.level c.in-Bracket.kind
     c.in_ok-part-in-Bracket.part.list c.in_ok-part-in-Bracket.part.stop
-    (rw (← c.with.ensures, ← add-one c.args.level) c.in_ok-part-in-Bracket.ensures)
+    (rw (← c.with.ensures, ← add-one c.args.level) c.in_ok-part-in-Bracket.ensures.listed)
 
-pub take-returns-in_ok-part-in-Bracket : goal.take-returns-in_ok-part-in-Bracket
-take-returns-in_ok-part-in-Bracket g t c =
-    let given = rw c.if-not-opening.false at (rw c.in-Bracket.is at c.in_ok-next.ensures) in
+pub take-returns-in_ok-part-in-Bracket-clause-takes : goal.take-returns-in_ok-part-in-Bracket-clause-takes
+take-returns-in_ok-part-in-Bracket-clause-takes g t c =
+    let given = rw c.if-not-opening.false at (rw c.in-Bracket.is at c.in_ok-next.ensures.comes) in
     let old : Ahead = g.S.Source.ahead c.args.source.now in
     let new : Ahead = g.S.Source.ahead c.parse_list.new.source in
     let part = c.in_ok-part-in-Bracket.part in
     let below : c.args.level < MOST_OPEN = omega arith in
     taken_as c.paired.result (pair_taken c.in-Bracket.kind c.in-Bracket.width part.list part.stop) (Takes old new c.args.opened c.args.level) c.paired.ensures
     (Takes-paired old (g.S.Source.ahead c.next.new.self) new c.args.opened c.args.level c.in-Bracket.kind c.in-Bracket.width part.list part.stop below given
-    (rw (← c.with.ensures, ← add-one c.args.level) c.in_ok-part-in-Bracket.ensures))
+    (rw (← c.with.ensures, ← add-one c.args.level) c.in_ok-part-in-Bracket.ensures.listed))

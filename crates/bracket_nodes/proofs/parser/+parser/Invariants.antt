@@ -1,7 +1,7 @@
 use Rattle.std.proofs.Common.{◌+◌, ◌-◌, ◌*◌}
 use Rattle.bracket_rules.specs.declared.TheConstants.{MOST_OPEN}
 use Rattle.bracket_nodes.specs.SharedLists.{shared_items, shared_weight}
-use Rattle.bracket_nodes.specs.Source.{Reads, weight_ahead}
+use Rattle.bracket_nodes.specs.Source.{AsksOn, Reads, weight_ahead}
 use Rattle.bracket_nodes.proofs.parser.+parser.Given as goal
 
 abbrev pub decreases-parse_list : goal.decreases-parse_list
@@ -14,6 +14,8 @@ abbrev pub invariant-parse_list-loop-joiner : goal.invariant-parse_list-loop-joi
 invariant-parse_list-loop-joiner g l =
     Reads (g.S.Source.ahead l.initial.source) (g.S.Source.ahead l.source) l.opened l.level
     (shared_items l.joiner.lists.items) (shared_weight l.joiner.lists.items)
+    × g.S.Source.stands l.source
+    × AsksOn (g.S.Source.ahead l.initial.source).asking (g.S.Source.ahead l.source).asking
 
 abbrev pub decreases-parse_list-loop-joiner : goal.decreases-parse_list-loop-joiner
 decreases-parse_list-loop-joiner g l = weight_ahead (g.S.Source.ahead l.source)

@@ -1,14 +1,17 @@
-use Rattle.std.proofs.Common.{◌≡◌, ℕ, ◌+◌, ◌-◌, ◌≤◌, List, [], ◌++◌, length, map, drop, take, ap, sym, ◌∙◌, subst, arith}
+use Rattle.std.proofs.Common.{◌≡◌, ℕ, ◌-◌, List, [], ◌++◌, length, map, drop, take, refl, ap, sym, ◌∙◌, arith}
 use Rattle.std.proofs.lemmas.List.{drop_all}
-use Rattle.text_rules.specs.declared.Op.{Op}
 use Rattle.text_rules.specs.Edits.{edited}
 use Rattle.decoration_rules.specs.Moves.{moved_mark}
 use Rattle.decoration_rules.specs.Marks.{in_order}
-use Rattle.batch_rules.specs.Batches.{text_units, edited_backwards, applied_from}
+use Rattle.batch_rules.specs.Batches.{text_units, edited_backwards}
 use Rattle.batch_rules.proofs.Backwards.{backwards_is_one_pass}
-use Rattle.model_core.specs.Carrying.{edit_with, carried_with, AreIn}
+use Rattle.model_core.specs.Carrying.{edit_with, carried_with}
+use Rattle.text_rules.specs.Lines.{lines_of}
+use Rattle.model_core.specs.LineMarks.{marked_backwards}
+use Rattle.model_core.proofs.Staying.{marked_turn}
 use Rattle.model_core.proofs.Turns.{turn}
 use Rattle.model_core.proofs.Carries.{carried_turn, carried_with-none}
+use Rattle.chunk_buffers.proofs.Spans.{Extends-refl, Extends-trans}
 use Rattle.model_core.proofs.change.apply.Goals as goal
 
 pub loop-done-init : goal.loop-done-init
@@ -22,6 +25,12 @@ loop-done-init c =
       room = omega arith;
       carried = sym (ap (carried_with c.args.forces c.args.decorations.now) none ∙ carried_with-none c.args.forces c.args.decorations.now c.requires.inside.sound);
       inside = c.requires.inside;
+      marks = sym (ap (λ o. marked_backwards c.args.text.now.units o c.args.last.now.marks) none);
+      lines = c.requires.lines;
+      spare = omega arith;
+      parsed = refl;
+      tree = refl;
+      grown = Extends-refl c.args.text.now.buffers;
     }
 
 pub accept-requires-clause-upright : goal.accept-requires-clause-upright
@@ -35,6 +44,25 @@ accept-requires-clause-fits c =
     let moved = carried_turn c.args.forces c.args.decorations.now c.args.ops.now c.loop-done.done c.index-ops-ops.result c.loop-done.text.units c.loop-done.decorations c.requires.inside.sound c.loop-done.invariant.inside
     c.loop-done-test.true c.index-ops-ops.is c.loop-done.invariant.carried now.ordered now.within (omega (arith, now.few, c.requires.small)) in
     rw c.edit_with.ensures moved.fits
+
+pub mark-requires-clause-ordered : goal.mark-requires-clause-ordered
+mark-requires-clause-ordered c =
+    (turn c.args.text.now.units c.args.ops.now c.loop-done.done c.index-ops-ops.result _ c.requires.standing c.loop-done-test.true c.index-ops-ops.is c.loop-done.invariant.units).ordered
+
+pub mark-requires-clause-within : goal.mark-requires-clause-within
+mark-requires-clause-within c =
+    (turn c.args.text.now.units c.args.ops.now c.loop-done.done c.index-ops-ops.result _ c.requires.standing c.loop-done-test.true c.index-ops-ops.is c.loop-done.invariant.units).within
+
+pub mark-requires-clause-small : goal.mark-requires-clause-small
+mark-requires-clause-small c =
+    let now = turn c.args.text.now.units c.args.ops.now c.loop-done.done c.index-ops-ops.result _ c.requires.standing c.loop-done-test.true c.index-ops-ops.is c.loop-done.invariant.units in
+    omega (arith, now.few, c.requires.small)
+
+pub mark-requires-clause-lines : goal.mark-requires-clause-lines
+mark-requires-clause-lines c = c.loop-done.invariant.lines
+
+pub mark-requires-clause-room : goal.mark-requires-clause-room
+mark-requires-clause-room c = omega (arith, c.requires.spare, c.loop-done.invariant.spare, c.loop-done-test.true)
 
 pub replace-requires-clause-ordered : goal.replace-requires-clause-ordered
 replace-requires-clause-ordered c =
@@ -74,6 +102,14 @@ loop-done-preserved c =
       room = omega (arith, c.loop-done.invariant.room, c.replace.ensures.spare_units, now.units, ap length c.as_slice.ensures);
       carried = set ∙ sym moved.leaves;
       inside = record { sound = c.accept.ensures.sound; inside = rw (left, set) moved.inside };
+      marks = c.mark.ensures.marks
+          ∙ marked_turn c.args.text.now.units c.args.ops.now c.args.last.now.marks c.loop-done.done c.index-ops-ops.result c.loop-done.text.units c.loop-done.last.marks
+          c.loop-done-test.true c.index-ops-ops.is c.loop-done.invariant.units c.loop-done.invariant.marks;
+      lines = c.mark.ensures.lines ∙ ap (λ u. length (lines_of u)) (sym left);
+      spare = omega (arith, c.loop-done.invariant.spare, c.mark.ensures.room);
+      parsed = c.mark.ensures.parsed ∙ c.loop-done.invariant.parsed;
+      tree = c.mark.ensures.tree ∙ c.loop-done.invariant.tree;
+      grown = Extends-trans c.args.text.now.buffers c.loop-done.text.buffers c.replace.new.self.buffers c.loop-done.invariant.grown c.replace.ensures.grown;
     }
 
 pub returns-clause-units : goal.returns-clause-units
@@ -99,3 +135,12 @@ returns-clause-room c =
     let ops = c.args.ops.now in
     let all : length ops - c.loop-done.done ≡ 0 = omega arith in
     omega (arith, c.loop-done.invariant.room, ap (λ (k : ℕ). text_units (drop k ops)) all)
+
+pub returns-clause-marks : goal.returns-clause-marks
+returns-clause-marks c =
+    let ops = c.args.ops.now in
+    let all : length ops - c.loop-done.done ≡ 0 = omega arith in
+    c.loop-done.invariant.marks ∙ ap (λ (k : ℕ). marked_backwards c.args.text.now.units (drop k ops) c.args.last.now.marks) all
+
+pub returns-clause-spare : goal.returns-clause-spare
+returns-clause-spare c = omega (arith, c.loop-done.invariant.spare)

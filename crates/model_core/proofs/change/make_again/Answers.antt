@@ -1,14 +1,13 @@
-use Rattle.std.proofs.Common.{◌≡◌, ℕ, false, ◌+◌, ◌-◌, ◌≤◌, List, [], ◌∷◌, length, drop, slice_index_or, ap, sym, ◌∙◌, subst, arith, refl}
-use Rattle.std.proofs.Math.Seq.{drop-cons}
+use Rattle.std.proofs.Common.{false, ◌+◌, length, drop, ap, sym, ◌∙◌, subst, arith}
 use Rattle.std.proofs.lemmas.List.{drop_all}
-use Rattle.text_rules.specs.declared.Op.{Op}
-use Rattle.batch_rules.specs.Batches.{text_units, applied_from, StandFrom}
-use Rattle.model_core.specs.declared.change.Change.{Change}
-use Rattle.model_core.specs.declared.change.Way.TheVariants.{On}
-use Rattle.model_core.specs.History.{text_on, LeadOn, op_count, unit_count}
+use Rattle.batch_rules.specs.Batches.{text_units, applied_from}
+use Rattle.model_core.specs.History.{text_on, changes_on, LeadOn}
 use Rattle.model_core.specs.Carrying.{carried_with, decorations_on}
 use Rattle.model_core.proofs.Carries.{decorations_on-cut}
+use Rattle.model_core.specs.LineMarks.{marked_backwards, marked_on}
+use Rattle.model_core.proofs.Staying.{marked_turn_on}
 use Rattle.model_core.proofs.Turns.{turn_on_at, IsTurnOnAt}
+use Rattle.chunk_buffers.proofs.Spans.{Extends-trans}
 use Rattle.model_core.proofs.change.make_again.Goals as goal
 
 turn_now : (g : goal.After-ops) → IsTurnOnAt g.args.changes.now g.loop-change.change-index g.change-item.result g.loop-change.text.units
@@ -32,11 +31,22 @@ apply-requires-clause-room c =
     let now = turn_now c in
     omega (arith, c.loop-change.invariant.room, now.ops, now.units, ap length c.ops.ensures.ops, ap text_units c.ops.ensures.ops)
 
+pub apply-requires-clause-lines : goal.apply-requires-clause-lines
+apply-requires-clause-lines c = c.loop-change.invariant.lines
+
+pub apply-requires-clause-spare : goal.apply-requires-clause-spare
+apply-requires-clause-spare c =
+    let now = turn_now c in
+    omega (arith, c.loop-change.invariant.spare, now.ops, ap length c.ops.ensures.ops)
+
 pub loop-change-preserved : goal.loop-change-preserved
 loop-change-preserved c =
     let now = turn_on_at c.args.changes.now c.loop-change.change-index c.change-item.result c.loop-change.text.units c.loop-change-test.true c.change-item.is c.loop-change.invariant.lead in
     let text = c.apply.ensures.units ∙ ap (applied_from 0 c.loop-change.text.units) c.ops.ensures.ops in
     let moved = c.apply.ensures.decorations ∙ ap (carried_with false c.loop-change.decorations) c.ops.ensures.ops in
+    let rest = drop (c.loop-change.change-index + 1) c.args.changes.now in
+    let after = applied_from 0 c.loop-change.text.units c.change-item.result.batch in
+    let marked = c.apply.ensures.marks ∙ ap (λ ops. marked_backwards c.loop-change.text.units ops c.loop-change.last.marks) c.ops.ensures.ops in
     record {
       units = ap (λ t. text_on t (drop (c.loop-change.change-index + 1) c.args.changes.now)) text ∙ sym now.leaves ∙ c.loop-change.invariant.units;
       lead = subst (λ t. LeadOn t (drop (c.loop-change.change-index + 1) c.args.changes.now)) (sym text) now.lead;
@@ -46,6 +56,14 @@ loop-change-preserved c =
       carried = ap (λ d. decorations_on d (drop (c.loop-change.change-index + 1) c.args.changes.now)) moved
           ∙ sym (decorations_on-cut c.loop-change.decorations c.args.changes.now c.loop-change.change-index c.change-item.result c.loop-change-test.true c.change-item.is) ∙ c.loop-change.invariant.carried;
       inside = c.apply.ensures.inside;
+      marks = ap (λ t. marked_on c.apply.new.last.marks (changes_on t rest)) text ∙ ap (λ ms. marked_on ms (changes_on after rest)) marked
+          ∙ sym (marked_turn_on c.loop-change.last.marks c.loop-change.text.units c.args.changes.now c.loop-change.change-index c.change-item.result c.loop-change-test.true c.change-item.is)
+          ∙ c.loop-change.invariant.marks;
+      lines = c.apply.ensures.lines;
+      spare = omega (arith, c.loop-change.invariant.spare, c.apply.ensures.spare, now.ops, ap length c.ops.ensures.ops);
+      parsed = c.apply.ensures.parsed ∙ c.loop-change.invariant.parsed;
+      tree = c.apply.ensures.tree ∙ c.loop-change.invariant.tree;
+      grown = Extends-trans c.args.text.now.buffers c.loop-change.text.buffers c.apply.new.text.buffers c.loop-change.invariant.grown c.apply.ensures.grown;
     }
 
 pub returns-clause-units : goal.returns-clause-units
@@ -60,3 +78,8 @@ pub returns-clause-decorations : goal.returns-clause-decorations
 returns-clause-decorations c =
     let changes = c.args.changes.now in
     sym (ap (decorations_on c.loop-change.decorations) (drop_all c.loop-change.change-index changes (omega arith))) ∙ c.loop-change.invariant.carried
+
+pub returns-clause-marks : goal.returns-clause-marks
+returns-clause-marks c =
+    let changes = c.args.changes.now in
+    sym (ap (λ d. marked_on c.loop-change.last.marks (changes_on c.loop-change.text.units d)) (drop_all c.loop-change.change-index changes (omega arith))) ∙ c.loop-change.invariant.marks

@@ -1,6 +1,9 @@
 use Rattle.std.proofs.Common.{◌≡◌, ◌+◌, ◌*◌, ◌≤◌, length, drop}
 use Rattle.model_core.specs.declared.change.Way.TheVariants.{On}
-use Rattle.model_core.specs.History.{text_on, LeadOn, op_count, unit_count}
+use Rattle.model_core.specs.History.{text_on, changes_on, LeadOn, op_count, unit_count}
+use Rattle.text_rules.specs.Lines.{lines_of}
+use Rattle.model_core.specs.LineMarks.{marked_on}
+use Rattle.chunk_buffers.specs.Chunks.{Extends}
 use Rattle.model_core.specs.Carrying.{decorations_on, AreIn}
 use Rattle.model_core.proofs.change.make_again.Given as goal
 
@@ -13,4 +16,10 @@ invariant-loop-change l = record {
   room : unit_count On (drop l.change-index l.changes) + 3 * op_count On (drop l.change-index l.changes) ≤ l.text.spare_units;
   carried : decorations_on l.decorations (drop l.change-index l.changes) ≡ decorations_on l.fn.decorations l.changes;
   inside : AreIn (length l.text.units) l.decorations;
+  marks : marked_on l.last.marks (changes_on l.text.units (drop l.change-index l.changes)) ≡ marked_on l.fn.last.marks (changes_on l.fn.text.units l.changes);
+  lines : length l.last.marks ≡ length (lines_of l.text.units);
+  spare : op_count On (drop l.change-index l.changes) ≤ l.last.spare;
+  parsed : l.last.parsed ≡ l.fn.last.parsed;
+  tree : l.last.tree ≡ l.fn.last.tree;
+  grown : Extends l.fn.text.buffers l.text.buffers;
 }

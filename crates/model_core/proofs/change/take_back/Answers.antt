@@ -1,20 +1,34 @@
-use Rattle.std.proofs.Common.{◌≡◌, ℕ, suc, true, ◌+◌, ◌-◌, ◌≤◌, List, [], length, drop, ap, sym, ◌∙◌, subst, arith}
+use Rattle.std.proofs.Common.{◌≡◌, ℕ, suc, true, ◌+◌, ◌-◌, [], length, drop, refl, ap, sym, ◌∙◌, arith}
 use Rattle.std.proofs.lemmas.List.{drop_all}
-use Rattle.text_rules.specs.declared.Op.{Op}
-use Rattle.batch_rules.specs.Batches.{text_units, applied_from, StandFrom}
-use Rattle.model_core.specs.declared.change.Change.{Change}
+use Rattle.batch_rules.specs.Batches.{text_units, applied_from}
 use Rattle.model_core.specs.declared.change.Way.TheVariants.{Back}
-use Rattle.model_core.specs.History.{text_back, op_count, unit_count}
+use Rattle.model_core.specs.History.{text_back, changes_back, op_count}
 use Rattle.model_core.specs.Carrying.{carried_with, decorations_back}
 use Rattle.model_core.proofs.Carries.{decorations_back-cut}
+use Rattle.model_core.specs.LineMarks.{marked_backwards, marked_back}
+use Rattle.model_core.proofs.Staying.{marked_turn_back}
 use Rattle.model_core.proofs.Turns.{turn_back, IsTurnBack}
+use Rattle.chunk_buffers.proofs.Spans.{Extends-refl, Extends-trans}
 use Rattle.model_core.proofs.change.take_back.Goals as goal
 
 pub loop-done-init : goal.loop-done-init
 loop-done-init c =
     let changes = c.args.changes.now in
     let none : drop (length changes - 0) changes ≡ [] = drop_all (length changes - 0) changes (omega arith) in
-    record { units = sym (ap (text_back c.args.text.now.units) none); pieces = omega arith; edits = omega arith; room = omega arith; carried = sym (ap (decorations_back c.args.decorations.now) none); inside = c.requires.inside }
+    record {
+      units = sym (ap (text_back c.args.text.now.units) none);
+      pieces = omega arith;
+      edits = omega arith;
+      room = omega arith;
+      carried = sym (ap (decorations_back c.args.decorations.now) none);
+      inside = c.requires.inside;
+      marks = sym (ap (λ d. marked_back c.args.last.now.marks (changes_back c.args.text.now.units d)) none);
+      lines = c.requires.lines;
+      spare = omega arith;
+      parsed = refl;
+      tree = refl;
+      grown = Extends-refl c.args.text.now.buffers;
+    }
 
 turn_now : (g : goal.After-ops) → IsTurnBack g.args.text.now.units g.args.changes.now g.loop-done.done g.index-changes-changes.result g.loop-done.text.units
 turn_now c = turn_back c.args.text.now.units c.args.changes.now c.loop-done.done c.index-changes-changes.result c.loop-done.text.units c.requires.lead c.loop-done-test.true c.index-changes-changes.is c.loop-done.invariant.units
@@ -37,6 +51,14 @@ apply-requires-clause-room c =
     let now = turn_now c in
     omega (arith, c.requires.room, c.loop-done.invariant.room, now.ops, now.units, now.ops_left, now.units_left, ap length c.ops.ensures.ops, ap text_units c.ops.ensures.ops)
 
+pub apply-requires-clause-lines : goal.apply-requires-clause-lines
+apply-requires-clause-lines c = c.loop-done.invariant.lines
+
+pub apply-requires-clause-spare : goal.apply-requires-clause-spare
+apply-requires-clause-spare c =
+    let now = turn_now c in
+    omega (arith, c.requires.spare, c.loop-done.invariant.spare, now.ops, now.ops_left, ap length c.ops.ensures.ops)
+
 pub loop-done-preserved : goal.loop-done-preserved
 loop-done-preserved c =
     let now = turn_back c.args.text.now.units c.args.changes.now c.loop-done.done c.index-changes-changes.result c.loop-done.text.units c.requires.lead c.loop-done-test.true c.index-changes-changes.is c.loop-done.invariant.units in
@@ -53,6 +75,14 @@ loop-done-preserved c =
       room = omega (arith, c.loop-done.invariant.room, c.apply.ensures.room, now.ops, now.units, ap length c.ops.ensures.ops, ap text_units c.ops.ensures.ops);
       carried = c.apply.ensures.decorations ∙ ap (carried_with true c.loop-done.decorations) c.ops.ensures.ops ∙ ap (λ d. carried_with true d c.index-changes-changes.result.inverse) (c.loop-done.invariant.carried ∙ before) ∙ sym cut;
       inside = c.apply.ensures.inside;
+      marks = c.apply.ensures.marks ∙ ap (λ ops. marked_backwards c.loop-done.text.units ops c.loop-done.last.marks) c.ops.ensures.ops
+          ∙ marked_turn_back c.args.text.now.units changes c.args.last.now.marks c.loop-done.done c.index-changes-changes.result c.loop-done.text.units c.loop-done.last.marks
+          c.requires.lead c.loop-done-test.true c.index-changes-changes.is c.loop-done.invariant.units c.loop-done.invariant.marks;
+      lines = c.apply.ensures.lines;
+      spare = omega (arith, c.loop-done.invariant.spare, c.apply.ensures.spare, now.ops, ap length c.ops.ensures.ops);
+      parsed = c.apply.ensures.parsed ∙ c.loop-done.invariant.parsed;
+      tree = c.apply.ensures.tree ∙ c.loop-done.invariant.tree;
+      grown = Extends-trans c.args.text.now.buffers c.loop-done.text.buffers c.apply.new.text.buffers c.loop-done.invariant.grown c.apply.ensures.grown;
     }
 
 pub returns-clause-units : goal.returns-clause-units
@@ -72,3 +102,9 @@ returns-clause-decorations c =
     let changes = c.args.changes.now in
     let all : length changes - c.loop-done.done ≡ 0 = omega arith in
     c.loop-done.invariant.carried ∙ ap (λ (k : ℕ). decorations_back c.args.decorations.now (drop k changes)) all
+
+pub returns-clause-marks : goal.returns-clause-marks
+returns-clause-marks c =
+    let changes = c.args.changes.now in
+    let all : length changes - c.loop-done.done ≡ 0 = omega arith in
+    c.loop-done.invariant.marks ∙ ap (λ (k : ℕ). marked_back c.args.last.now.marks (changes_back c.args.text.now.units (drop k changes))) all

@@ -1,10 +1,12 @@
-use Rattle.std.proofs.Common.{◌≡◌, ◌+◌, ◌-◌, ◌<◌, ◌≤◌, ℕ, length, get_or, ap, sym, ◌∙◌, arith}
+use Rattle.std.proofs.Common.{◌+◌, ◌-◌, ◌<◌, ℕ, length, ap, sym, ◌∙◌, arith}
 use Rattle.chunk_buffers.specs.Chunks.{units_at}
 use Rattle.line_starts.proofs.Starts.{break_count_is}
 use Rattle.text_rules.specs.Breaks.{break_ends}
 use Rattle.text_rules.proofs.Breaks.{line_start_is}
 use Rattle.text_rules.proofs.Places.{line_start_within}
 use Rattle.text_buffer.proofs.Found.{break_ends_after, found_inside, found_size, found_line_start, own_breaks}
+use Rattle.text_buffer.proofs.look_up.break_at.Given.{Over}
+use Rattle.text_buffer.proofs.look_up.break_at.Goals.{After-nth_break-own}
 use Rattle.text_buffer.proofs.look_up.break_at.Goals as goal
 
 pub nth_break-own-requires-clause-inside : goal.nth_break-own-requires-clause-inside
@@ -27,29 +29,32 @@ returns-clause-line g c =
     c.requires.text.pieces c.requires.text.full c.requires.text.unsplit c.args.n c.find_line-found.ensures.start c.find_line-found.ensures.end
     ∙ ap (λ n. c.find_line-found.result.before.units + n) (sym c.nth_break-own.ensures)
 
+-- the break is one of those of the piece
+among_own : (g : Over) (c : After-nth_break-own g)
+    → c.args.n - c.find_line-found.result.before.breaks - 1 < length (break_ends 0 (units_at c.args.chunks.now.buffers c.find_line-found.result.span))
+among_own g c =
+    let found = c.find_line-found.result in
+    let breaks = own_breaks c.args.chunks.now.buffers c.args.pieces.now.entries found c.find_line-found.ensures.piece
+    c.requires.text.pieces c.requires.text.full c.requires.text.unsplit in
+    omega (arith, breaks)
+
 pub returns-clause-some : goal.returns-clause-some
 returns-clause-some g c =
-    let b = c.args.chunks.now.buffers in
-    let found = c.find_line-found.result in
-    let own = units_at b found.span in
-    let k : ℕ = c.args.n - found.before.breaks in
-    let breaks = own_breaks b c.args.pieces.now.entries found c.find_line-found.ensures.piece c.requires.text.pieces c.requires.text.full c.requires.text.unsplit in
-    let inside : k - 1 < length (break_ends 0 own) = omega (arith, breaks) in
+    let own = units_at c.args.chunks.now.buffers c.find_line-found.result.span in
+    let k : ℕ = c.args.n - c.find_line-found.result.before.breaks in
+    let inside = among_own g (goal.at.returns-clause-some g c).After-nth_break-own in
     omega (arith, c.nth_break-own.ensures, line_start_is own (k - 1) (k + 1) inside (omega arith), break_ends_after 0 0 own (omega arith) (k - 1) 0 inside)
 
 pub returns-clause-within : goal.returns-clause-within
 returns-clause-within g c =
-    let b = c.args.chunks.now.buffers in
     let found = c.find_line-found.result in
-    let own = units_at b found.span in
     let k : ℕ = c.args.n - found.before.breaks in
-    let breaks = own_breaks b c.args.pieces.now.entries found c.find_line-found.ensures.piece c.requires.text.pieces c.requires.text.full c.requires.text.unsplit in
-    let inside : k - 1 < length (break_ends 0 own) = omega (arith, breaks) in
+    let inside = among_own g (goal.at.returns-clause-within g c).After-nth_break-own in
     omega (
       arith,
       c.nth_break-own.ensures,
-      line_start_within own (k - 1) (k + 1) inside (omega arith),
-      found_size b c.args.pieces.now.entries found c.find_line-found.ensures.piece c.requires.text.pieces,
+      line_start_within (units_at c.args.chunks.now.buffers found.span) (k - 1) (k + 1) inside (omega arith),
+      found_size c.args.chunks.now.buffers c.args.pieces.now.entries found c.find_line-found.ensures.piece c.requires.text.pieces,
     )
 
 pub returns-clause-small : goal.returns-clause-small

@@ -1,4 +1,4 @@
-use Rattle.std.proofs.Common.{◌≡◌, ◌+◌, ◌-◌, ◌<◌, ◌≤◌, ◌&&◌, ltb, true, get_or, ap, sym, ◌∙◌, arith}
+use Rattle.std.proofs.Common.{◌-◌, ◌&&◌, get_or, ap, sym, ◌∙◌, arith}
 use Rattle.std.specs.Char.Utf16.{is_high_surrogate, is_low_surrogate}
 use Rattle.std.proofs.lemmas.Bool.{lt-ltb}
 use Rattle.piece_tree.specs.Pieces.{pieces_of}
@@ -7,12 +7,12 @@ use Rattle.text_buffer.proofs.Found.{found_inside, found_unit}
 use Rattle.text_buffer.proofs.look_up.cuts_pair_at.Goals as goal
 
 pub unit_in-requires-clause-inside : goal.unit_in-requires-clause-inside
-unit_in-requires-clause-inside g c = found_inside c.args.chunks.now.buffers c.args.pieces.now.entries c.args.found.now c.requires.piece c.requires.text.pieces
+unit_in-requires-clause-inside g c = found_inside c.args.chunks.now.buffers c.args.pieces.now.entries c.args.found.now c.requires.unit.piece c.requires.text.pieces
 
 pub returns-clause-pair : goal.returns-clause-pair
 returns-clause-pair g c =
     let x = spelled c.args.chunks.now.buffers (pieces_of c.args.pieces.now.entries) in
-    let unit = c.unit_in.ensures ∙ sym (found_unit c.args.chunks.now.buffers c.args.pieces.now.entries c.args.found.now c.requires.piece c.requires.text.pieces c.args.offset c.requires.start c.requires.end) in
+    let unit = c.unit_in.ensures ∙ sym (found_unit c.args.chunks.now.buffers c.args.pieces.now.entries c.args.found.now c.requires.unit.piece c.requires.text.pieces c.args.offset c.requires.unit.start c.requires.unit.end) in
     c.cuts_pair.ensures
     ∙ ap (λ u. is_high_surrogate u && is_low_surrogate c.unit_in.result) c.unit_before-before.ensures.unit
     ∙ ap (λ u. is_high_surrogate (get_or x (c.args.offset - 1) 0) && is_low_surrogate u) unit

@@ -13,9 +13,9 @@ use Rattle.bracket_nodes.proofs.scanned.ScannedTextSource.next.Goals as goal
 none : Token
 none = token 0 0 0 false
 
-pub returns-then-self-token : goal.returns-then-self-token
+pub returns-then-self-token-clause-comes : goal.returns-then-self-token-clause-comes
 unfolding none
-returns-then-self-token c =
+returns-then-self-token-clause-comes c =
     let ts : List Token = c.self.inside.tokens.now in
     let t : Token = get_or ts 0 none in
     let split : ts ≡ t ∷ drop 1 ts = split_first ts none c.in-len1-up.len_at_least in
@@ -23,7 +23,7 @@ returns-then-self-token c =
     let from : AreInLine t.at c.self.inside.columns ts = rw split (at_token c.self.inside.column c.self.inside.columns t (drop 1 ts) line) in
     rw (← c.self.view_is, c.in_ok-node.ensures, c.wide.ensures)
     (gives_gap c.self.inside.column t.at c.self.inside.columns c.args._opened c.args._level ts c.self.inside.lines.now
-    c.requires c.if-self-token.true from)
+    c.requires.level c.if-self-token.true from)
 
 pub overflow_add-self : goal.overflow_add-self
 unfolding none
@@ -36,9 +36,9 @@ overflow_add-self c =
     token_fits c.self.inside.column c.self.inside.columns t (drop 1 ts) c.if-self-token.false line in
     omega arith
 
-pub returns-in-len1-up : goal.returns-in-len1-up
+pub returns-in-len1-up-clause-comes : goal.returns-in-len1-up-clause-comes
 unfolding none
-returns-in-len1-up c =
+returns-in-len1-up-clause-comes c =
     let ts : List Token = c.self.inside.tokens.now in
     let t : Token = get_or ts 0 none in
     let column : ℕ = c.self.inside.column in
@@ -54,8 +54,8 @@ returns-in-len1-up c =
     subst (λ (a : Ahead). GivesBracket a (ahead_of (column + t.len) (take (length ts - 1) (drop 1 ts)) columns lines) t.kind t.len t.opening) c.self.view_is
     (subst (λ (x : List Token). GivesBracket (ahead_of column ts columns lines) (ahead_of (column + t.len) x columns lines) t.kind t.len t.opening) part from)
 
-pub returns-in-len1-up-lines : goal.returns-in-len1-up-lines
-returns-in-len1-up-lines c =
+pub returns-in-len1-up-lines-clause-comes : goal.returns-in-len1-up-lines-clause-comes
+returns-in-len1-up-lines-clause-comes c =
     let lines : List ScannedLine = c.self.inside.lines.now in
     let l : ScannedLine = c.line-item.result in
     let column : ℕ = c.self.inside.column in
@@ -64,7 +64,7 @@ returns-in-len1-up-lines c =
     split_first lines l c.in-len1-up-lines.len_at_least ∙ ap (λ (x : ScannedLine). x ∷ drop 1 lines) (sym c.line-item.is) in
     let empty : c.self.inside.tokens.now ≡ [] = nil_from_length c.self.inside.tokens.now (omega arith) in
     let given : GivesNode (ahead_of column [] columns (l ∷ drop 1 lines)) (ahead_of 0 l.tokens.items l.columns (drop 1 lines)) c.args._opened c.args._level (text (length_of 1 0)) =
-    gives_break column columns c.args._opened c.args._level l (drop 1 lines) c.requires in
+    gives_break column columns c.args._opened c.args._level l (drop 1 lines) c.requires.level in
     let from : GivesNode (ahead_of column [] columns lines) (ahead_of 0 l.tokens.items l.columns (drop 1 lines)) c.args._opened c.args._level (text (length_of 1 0)) =
     subst (λ (x : List ScannedLine). GivesNode (ahead_of column [] columns x) (ahead_of 0 l.tokens.items l.columns (drop 1 lines)) c.args._opened c.args._level (text (length_of 1 0))) (sym split) given in
     let part : drop 1 lines ≡ take (length lines - 1) (drop 1 lines) = sym (take_rest lines 1) in

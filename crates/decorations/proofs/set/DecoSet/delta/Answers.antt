@@ -7,6 +7,8 @@ use Rattle.decoration_rules.specs.Decorations.{Decorations, IsSound, decorated, 
 use Rattle.decorations.proofs.Removed.{all_live-owned}
 use Rattle.decorations.proofs.Added.{Below}
 use Rattle.decorations.proofs.Deltas.{IsFit, fit-from_ok, all_new, IsSound-delta, kept-ordered, kept-distinct, kept-below}
+use Rattle.decorations.proofs.set.DecoSet.delta.Given.{Over}
+use Rattle.decorations.proofs.set.DecoSet.delta.Goals.{After-add_all}
 use Rattle.decorations.proofs.set.DecoSet.delta.Goals as goal
 
 pub remove_all-requires-clause-live : goal.remove_all-requires-clause-live
@@ -39,8 +41,9 @@ add_all-requires-clause-good g c =
     fit-from_ok c.args.self.now c.args.owner c.args.remove.now c.args.add.now units c.in_ok-check.ensures.ok in
     all_new units c.args.add.now c.requires fit.good
 
-pub invariant_of-self-2 : goal.invariant_of-self-2
-invariant_of-self-2 g c =
+sound : (g : Over) (c : After-add_all g)
+    → IsSound (record { marks = c.add_all.new.tree.marks; next_id = c.self.inside.next_id + length c.args.add.now })
+sound g c =
     let units = g.F.Flat.units c.args.text.now in
     let before : Decorations = record { marks = c.self.inside.tree.marks; next_id = c.self.inside.next_id } in
     let fit : IsFit before c.args.owner c.args.remove.now c.args.add.now units = fit-from_ok before c.args.owner c.args.remove.now c.args.add.now units
@@ -50,13 +53,8 @@ invariant_of-self-2 g c =
     (c.remove_all.ensures.marks ∙ ap (λ ms. kept ms c.args.remove.now) c.reserve.ensures.marks)))
     (IsSound-delta before c.args.owner c.args.remove.now c.args.add.now units c.self.invariant fit)
 
+pub invariant_of-self-2 : goal.invariant_of-self-2
+invariant_of-self-2 g c = sound g (goal.at.invariant_of-self-2 g c).After-add_all
+
 pub returns-clause-sound : goal.returns-clause-sound
-returns-clause-sound g c =
-    let units = g.F.Flat.units c.args.text.now in
-    let before : Decorations = record { marks = c.self.inside.tree.marks; next_id = c.self.inside.next_id } in
-    let fit : IsFit before c.args.owner c.args.remove.now c.args.add.now units = fit-from_ok before c.args.owner c.args.remove.now c.args.add.now units
-    (subst (λ (d : Decorations). IsOk (decorated d c.args.owner c.args.remove.now c.args.add.now units)) (sym c.self.view_is) c.in_ok-check.ensures.ok) in
-    subst (λ (ms : List Mark). IsSound (record { marks = ms; next_id = c.self.inside.next_id + length c.args.add.now }))
-    (sym (c.add_all.ensures ∙ ap (λ ms. in_order (ms ++ new_marks c.args.owner c.self.inside.next_id c.args.add.now))
-    (c.remove_all.ensures.marks ∙ ap (λ ms. kept ms c.args.remove.now) c.reserve.ensures.marks)))
-    (IsSound-delta before c.args.owner c.args.remove.now c.args.add.now units c.self.invariant fit)
+returns-clause-sound g c = sound g (goal.at.returns-clause-sound g c).After-add_all

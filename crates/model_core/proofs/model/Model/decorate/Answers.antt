@@ -12,4 +12,5 @@ invariant_of-self c =
         inside = inside-decorated c.delta.result m.decorations c.delta.new.self c.args.owner c.args.remove.now c.args.add.now m.text.units c.delta.ensures.change c.self.invariant.3.inside;
       },
       c.self.invariant.4,
+      c.self.invariant.5,
     )

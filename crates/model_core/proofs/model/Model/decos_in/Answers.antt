@@ -1,4 +1,4 @@
-use Rattle.std.proofs.Common.{length, ap, sym, subst}
+use Rattle.std.proofs.Common.{length, subst}
 use Rattle.decoration_rules.specs.Moves.{LieIn}
 use Rattle.model_core.specs.State.{ModelState}
 use Rattle.model_core.proofs.Inside.{decos_inside}

@@ -1,4 +1,4 @@
-use Rattle.std.proofs.Common.{◌==◌, ◌<◌, ap, sym, ◌∙◌, arith}
+use Rattle.std.proofs.Common.{◌==◌, ap, sym, ◌∙◌, arith}
 use Rattle.text_rules.specs.Lines.{carriage_return}
 use Rattle.text_buffer.proofs.Lasts.{ends_with_at}
 use Rattle.text_buffer.proofs.text.TextBuffer.is_carriage_return_before.Goals as goal

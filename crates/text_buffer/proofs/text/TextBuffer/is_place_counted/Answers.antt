@@ -1,8 +1,6 @@
-use Rattle.std.proofs.Common.{◌-◌, length, ap, arith, refl}
-use Rattle.piece_tree.specs.Pieces.{pieces_of}
+use Rattle.std.proofs.Common.{◌-◌, length, arith, refl}
 use Rattle.piece_tree.proofs.Costs.{no_look_up, look_ups-add}
-use Rattle.text_buffer.proofs.Spelling.{length-spelled}
-use Rattle.text_buffer.proofs.Found.{among_spans}
+use Rattle.text_buffer.proofs.Found.{units_shown, among_spans}
 use Rattle.text_buffer.proofs.text.TextBuffer.is_place_counted.Goals as goal
 
 pub returns-then-offset-len-clause-cost : goal.returns-then-offset-len-clause-cost
@@ -10,11 +8,7 @@ returns-then-offset-len-clause-cost g c = no_look_up 2 (length c.args.self.now.s
 
 pub find_offset-found-requires : goal.find_offset-found-requires
 find_offset-found-requires g c =
-    omega (
-      arith,
-      length-spelled c.self.inside.chunks.buffers (pieces_of c.self.inside.pieces.entries) c.self.invariant.pieces,
-      ap (λ v. length v.units) c.self.view_is,
-    )
+    omega (arith, units_shown c.self.inside.pieces c.self.inside.chunks c.args.self.now c.self.invariant c.self.view_is)
 
 pub returns-clause-cost : goal.returns-clause-cost
 returns-clause-cost g c =

@@ -1,4 +1,4 @@
-use Rattle.std.proofs.Common.{◌+◌, length, ap, sym, ◌∙◌}
+use Rattle.std.proofs.Common.{◌+◌, length, ap, ◌∙◌}
 use Rattle.piece_tree.specs.Pieces.{pieces_of}
 use Rattle.text_rules.specs.Lines.{lines_of}
 use Rattle.text_buffer.proofs.Found.{line_count_of_pieces}

@@ -1,16 +1,11 @@
-use Rattle.std.proofs.Common.{◌≡◌, ◌+◌, ◌-◌, ◌<◌, ◌≤◌, ◌^◌, ℕ, length, ap, sym, ◌∙◌, arith}
-use Rattle.piece_tree.specs.Pieces.{pieces_of}
-use Rattle.text_rules.specs.Lines.{lines_of, line_start}
-use Rattle.text_buffer.proofs.Found.{line_count_of_pieces, among_spans}
+use Rattle.std.proofs.Common.{◌+◌, ◌-◌, ap, sym, ◌∙◌, arith}
+use Rattle.text_rules.specs.Lines.{line_start}
+use Rattle.text_buffer.proofs.Found.{lines_shown, among_spans}
 use Rattle.text_buffer.proofs.text.TextBuffer.line_start.Goals as goal
 
 pub break_at-found-requires-clause-there : goal.break_at-found-requires-clause-there
 break_at-found-requires-clause-there g c =
-    omega (
-      arith,
-      line_count_of_pieces c.self.inside.chunks.buffers (pieces_of c.self.inside.pieces.entries) c.self.invariant.pieces c.self.invariant.unsplit,
-      ap (λ v. length (lines_of v.units)) c.self.view_is,
-    )
+    omega (arith, lines_shown c.self.inside.pieces c.self.inside.chunks c.args.self.now c.self.invariant c.self.view_is)
 
 pub returns-clause-start : goal.returns-clause-start
 returns-clause-start g c = sym c.break_at-found.ensures.line ∙ ap (λ v. line_start v.units (c.args.breaks + 1)) c.self.view_is

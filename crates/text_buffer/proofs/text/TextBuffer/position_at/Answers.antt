@@ -1,9 +1,9 @@
-use Rattle.std.proofs.Common.{◌≡◌, ◌+◌, ◌-◌, ◌<◌, ◌≤◌, ◌^◌, ℕ, leb, true, Option, Some, None, if◌then◌else◌, length, ap, sym, ◌∙◌, arith}
+use Rattle.std.proofs.Common.{◌+◌, ◌-◌, ℕ, leb, Some, None, if◌then◌else◌, length, ap, sym, ◌∙◌, arith}
 use Rattle.std.proofs.lemmas.List.Sums.{prefix_len-le-length}
 use Rattle.piece_tree.proofs.Costs.{fewer_look_ups, look_ups-add}
 use Rattle.text_lengths.specs.declared.Position.{Position}
 use Rattle.unit_text.specs.Units.{is_place}
-use Rattle.text_rules.specs.Lines.{lines_of, line_start}
+use Rattle.text_rules.specs.Lines.{line_start}
 use Rattle.text_rules.specs.Positions.{position_of}
 use Rattle.text_rules.specs.Breaks.{count_to, break_ends}
 use Rattle.text_rules.proofs.Breaks.{line_count_is}

@@ -1,7 +1,6 @@
-use Rattle.std.proofs.Common.{◌≡◌, ◌+◌, ◌-◌, ◌<◌, ◌≤◌, ◌^◌, ◌++◌, List, ℕ, length, take, drop, map, ap, sym, ◌∙◌, subst, arith}
+use Rattle.std.proofs.Common.{◌++◌, length, ap, sym, arith}
 use Rattle.std.proofs.lemmas.List.{length-map, length-append}
-use Rattle.piece_tree.specs.Pieces.{pieces_of, unit_count}
-use Rattle.text_buffer.specs.Text.{spelled, one_if, unit_if}
+use Rattle.piece_tree.specs.Pieces.{pieces_of}
 use Rattle.text_rules.specs.Lines.{carriage_return, line_feed}
 use Rattle.text_buffer.proofs.Spelling.{length-spelled}
 use Rattle.text_buffer.proofs.Extended.{pieces-extended}

@@ -1,6 +1,6 @@
-use Rattle.std.proofs.Common.{◌≡◌, ap, sym, ◌∙◌, subst}
+use Rattle.std.proofs.Common.{ap, ◌∙◌}
 use Rattle.piece_tree.specs.Pieces.{pieces_of}
-use Rattle.text_buffer.specs.Text.{spelled, IsText}
+use Rattle.text_buffer.specs.Text.{spelled}
 use Rattle.text_buffer.proofs.Extended.{pieces-extended, spelled-extended, unsplit-extended}
 use Rattle.text_buffer.proofs.text.TextBuffer.reserve.Goals as goal
 

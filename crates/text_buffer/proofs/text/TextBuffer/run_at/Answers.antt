@@ -1,13 +1,11 @@
-use Rattle.std.proofs.Common.{◌≡◌, ◌+◌, ◌-◌, ◌<◌, ◌≤◌, length, take, drop, ap, sym, ◌∙◌, subst, arith}
+use Rattle.std.proofs.Common.{◌-◌, length, take, drop, ap, sym, ◌∙◌, arith}
 use Rattle.chunk_buffers.specs.Chunks.{units_at}
-use Rattle.piece_tree.specs.Pieces.{pieces_of}
-use Rattle.text_buffer.proofs.Spelling.{length-spelled}
-use Rattle.text_buffer.proofs.Found.{found_inside, found_size, found_run}
+use Rattle.text_buffer.proofs.Found.{units_shown, found_inside, found_size, found_run}
 use Rattle.text_buffer.proofs.text.TextBuffer.run_at.Goals as goal
 
 pub piece_at-found-requires : goal.piece_at-found-requires
 piece_at-found-requires c =
-    omega (arith, length-spelled c.self.inside.chunks.buffers (pieces_of c.self.inside.pieces.entries) c.self.invariant.pieces, ap (λ v. length v.units) c.self.view_is)
+    omega (arith, units_shown c.self.inside.pieces c.self.inside.chunks c.args.self.now c.self.invariant c.self.view_is)
 
 pub units-units-requires : goal.units-units-requires
 units-units-requires c = found_inside c.self.inside.chunks.buffers c.self.inside.pieces.entries c.piece_at-found.result c.piece_at-found.ensures.piece c.self.invariant.pieces

@@ -1,0 +1,27 @@
+use Rattle.std.proofs.Common.{◌≡◌, Ok, sym, subst}
+use Rattle.document_rules.specs.Paired.{IsPairedState}
+use Rattle.document_rules.specs.Snapshots.{flat_peek_of}
+use Rattle.model_core.specs.State.{ModelState}
+use Rattle.model_core.proofs.Shelving.{IsShelf-skipped, skipped_paired}
+use Rattle.model_core.proofs.model.Model.skip.Goals as goal
+
+pub invariant_of-self : goal.invariant_of-self
+invariant_of-self c =
+    let m = c.self.inside in
+    let kept = c.self.invariant.5 in (
+      c.self.invariant.0,
+      c.self.invariant.1,
+      c.self.invariant.2,
+      c.self.invariant.3,
+      c.self.invariant.4,
+      IsShelf-skipped m.text.buffers m.shelf c.skip.new.self (c.skip.ensures.inside m.text.buffers kept.inside) kept
+          c.args.id c.args.n (c.skip.ensures.change m.text.buffers kept.inside),
+    )
+
+pub returns-clause-paired_state : goal.returns-clause-paired_state
+returns-clause-paired_state c =
+    λ count units taken all paired.
+    let kept = c.self.invariant.5 in
+    skipped_paired _ _ (subst (λ (s : ModelState). IsPairedState s.document) (sym c.self.view_is) paired) c.args.id c.args.n count units
+    kept.sound (c.skip.ensures.change c.self.inside.text.buffers kept.inside)
+    (subst (λ (s : ModelState). flat_peek_of s.document c.args.id count ≡ Ok units) (sym c.self.view_is) taken) all

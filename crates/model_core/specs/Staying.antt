@@ -1,0 +1,29 @@
+-- What the model keeps of the last parse, and when that stays with the text of now.
+use Rattle.std.specs.Prelude.{◌≡◌, ℕ, List, Option, length}
+use Rattle.text_rules.specs.Lines.{lines_of}
+use Rattle.bracket_rules.specs.Table.{Table}
+use Rattle.bracket_rules.specs.Rows.{text_rows}
+use Rattle.bracket_trees.specs.Tree.{Tree}
+use Rattle.mark_rules.specs.declared.Mark.{Mark}
+use Rattle.node_reuse.specs.ParsedTree.{ParsedTree}
+use Rattle.node_reuse.specs.Texts.{text_weights}
+use Rattle.node_reuse.specs.Reading.{StaysIfThere}
+use Rattle.document_rules.specs.Brackets.{line_contents}
+use Rattle.model_core.specs.State.{fresh_tree, IsKept}
+
+-- what contracts see of it
+pub record ParseState : Type 0 where
+  -- its tree, and how many lines it asked for
+  pub parsed : Option ParsedTree
+  pub tree : Option Tree
+  -- one for each line of the text of now
+  pub marks : List Mark
+  -- for how many edits of the marks there is room
+  pub spare : ℕ
+
+-- The tree of the last parse, where there is one, stays with text x under the marks of its lines; and where no line is
+-- new, it is the tree of this text.
+pub record StaysWith (tree : Option Tree) (marks : List Mark) (table : Table) (x : List ℕ) : Type 0 where
+  pub count : length marks ≡ length (lines_of x)
+  pub stays : StaysIfThere tree marks (text_rows table (line_contents x)) (text_weights (line_contents x))
+  pub kept : IsKept (fresh_tree tree marks) table x

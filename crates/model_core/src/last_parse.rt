@@ -1,0 +1,176 @@
+//! The last parse of the text, and what each line of the text of now is to it.
+
+ghost use Rattle.std.specs.Prelude.{◌≡◌, ◌+◌, ◌<◌, ◌≤◌, ◌^◌, ◌∷◌, [], None, Some, false, true, length, is_some, replicate, IfOk, OnOk};
+ghost use Rattle.std.specs.Option.{option_copied};
+ghost use Rattle.batch_rules.specs.Batches.{most_units};
+ghost use Rattle.text_rules.specs.Edits.{edited};
+ghost use Rattle.text_rules.specs.Lines.{lines_of};
+ghost use Rattle.bracket_trees.specs.Tree.{IsTree};
+ghost use Rattle.mark_rules.specs.declared.Mark.TheVariants.{New};
+ghost use Rattle.mark_rules.specs.Marks.{clean_marks};
+ghost use Rattle.model_core.specs.State.{fresh_tree};
+ghost use Rattle.model_core.specs.LineMarks.{marked_by};
+
+use bracket_nodes::Node;
+use line_hunks::Hunks;
+use node_reuse::{OldReader, Parsed};
+use std::alloc::{AllocError, Global};
+use std::marker::Model;
+use text_buffer::TextBuffer;
+use text_rules::Op;
+
+/// The last parse, where there was one, and a mark for each line of the text of now.
+#[derive(Drop)]
+pub(crate) struct LastParse {
+    parsed: Option<Parsed>,
+    hunks: Hunks,
+}
+
+impl Model for LastParse {
+    ghost use Rattle.std.specs.Coded.{codes};
+    ghost use Rattle.bracket_trees.specs.TreeCode.{tree_code};
+    ghost use Rattle.node_reuse.specs.ParsedTree.{parsed_tree_code};
+    ghost use Rattle.model_core.specs.State.{parsed_tree};
+    ghost use Rattle.model_core.specs.Staying.{ParseState};
+
+    ghost Value = { ParseState };
+
+    ghost coded = { Prim.hlevel (codes, tree_code, parsed_tree_code) };
+
+    ghost view = { λ p. record {
+      parsed = p.parsed;
+      tree = parsed_tree p.parsed;
+      marks = p.hunks.marks;
+      spare = p.hunks.spare;
+    } };
+}
+
+impl LastParse {
+    /// No parse, for a text of one line.
+    pub(crate) fn none(alloc: Global) -> LastParse
+        ensures parsed { result.parsed ≡ None }
+        ensures tree { result.tree ≡ None }
+        ensures marks { result.marks ≡ New ∷ [] }
+    {
+        LastParse {
+            parsed: None,
+            hunks: Hunks::new(alloc),
+        }
+    }
+
+    /// No parse, for a text of so many lines.
+    pub(crate) fn of_new_lines(alloc: Global, lines: u64) -> Result<LastParse, AllocError>
+        requires some { 1 ≤ lines }
+        requires fits { lines < 2 ^ 62 }
+        ensures parsed { IfOk result (λ last. last.parsed ≡ None) }
+        ensures tree { IfOk result (λ last. last.tree ≡ None) }
+        ensures marks { IfOk result (λ last. last.marks ≡ replicate lines New) }
+    {
+        let mut hunks = Hunks::new(alloc);
+        hunks.reserve(1)?;
+        hunks.edit(1, 1, lines);
+        Ok(LastParse {
+            parsed: None,
+            hunks,
+        })
+    }
+
+    /// Makes room for so many edits. An error leaves parse and marks as they were.
+    pub(crate) fn reserve(&mut self, edits: u64) -> Result<(), AllocError>
+        ensures room { OnOk result (edits ≤ self.new.spare) }
+        ensures parsed { self.new.parsed ≡ self.old.parsed }
+        ensures tree { self.new.tree ≡ self.old.tree }
+        ensures marks { self.new.marks ≡ self.old.marks }
+    {
+        self.hunks.reserve(edits)
+    }
+
+    /// Marks the lines that the op touches, when it has yet to be carried out on the text. There is room for it.
+    pub(crate) fn mark(&mut self, text: &TextBuffer, op: &Op)
+        requires ordered { op.now.span.start ≤ op.now.span.end }
+        requires within { op.now.span.end ≤ length text.now.units }
+        requires small { length (edited text.now.units op.now) + 1 < 2 ^ 62 }
+        requires lines { length self.old.marks ≡ length (lines_of text.now.units) }
+        requires room { 0 < self.old.spare }
+        ensures marks { self.new.marks ≡ marked_by text.now.units op.now self.old.marks }
+        ensures lines { length self.new.marks ≡ length (lines_of (edited text.now.units op.now)) }
+        ensures room { self.old.spare ≤ self.new.spare + 1 }
+        ensures parsed { self.new.parsed ≡ self.old.parsed }
+        ensures tree { self.new.tree ≡ self.old.tree }
+    {
+        let dirty = text.dirty_lines(op.span, op.text.as_slice());
+        self.hunks.edit(dirty.first, dirty.old, dirty.new);
+    }
+
+    /// The tree, where it is that of the text of now.
+    pub(crate) fn fresh(&self) -> Option<&Node>
+        ensures { option_copied result ≡ fresh_tree self.now.tree self.now.marks }
+    {
+        if self.hunks.is_clean() {
+            self.tree()
+        } else {
+            None
+        }
+    }
+
+    /// The last parse, where there was one.
+    pub(crate) fn parsed(&self) -> Option<&Parsed>
+        ensures { option_copied result ≡ self.now.parsed }
+    {
+        self.parsed.as_ref()
+    }
+
+    /// The tree of the last parse, under the marks.
+    pub(crate) fn old(&self) -> OldReader<'_>
+        ensures tree { result.tree ≡ self.now.tree }
+        ensures marks { result.marks ≡ self.now.marks }
+    {
+        OldReader::new(self.tree(), &self.hunks)
+    }
+
+    /// What each line of the text of now is to the last parse.
+    pub(crate) fn hunks(&self) -> &Hunks
+        ensures { result.now.marks ≡ self.now.marks }
+    {
+        &self.hunks
+    }
+
+    fn tree(&self) -> Option<&Node>
+        ensures { option_copied result ≡ self.now.tree }
+    {
+        match &self.parsed {
+            Some(parsed) => Some(parsed.tree()),
+            None => None,
+        }
+    }
+
+    /// Puts the parse of the text of now in place of the old one.
+    pub(crate) fn put(&mut self, parsed: Parsed)
+        ensures parsed { self.new.parsed ≡ Some parsed }
+        ensures tree { self.new.tree ≡ Some parsed.tree }
+        ensures marks { self.new.marks ≡ clean_marks (length self.old.marks) }
+        ensures fresh { fresh_tree self.new.tree self.new.marks ≡ Some parsed.tree }
+        ensures rules { IsTree parsed.tree }
+    {
+        // It tells that the tree meets the rules of nodes.
+        let _length = parsed.tree().length();
+        let lines = self.hunks.lines();
+        self.hunks.clean(lines);
+        self.parsed = Some(parsed);
+    }
+}
+
+/// The text of these units, which was not parsed yet.
+pub(crate) fn unparsed(alloc: Global, units: &[u16]) -> Result<(TextBuffer, LastParse), AllocError>
+    requires { length units.now ≤ most_units }
+    ensures units { IfOk result (λ made. made.0.units ≡ units.now) }
+    ensures spans { IfOk result (λ made. length made.0.spans ≤ 1) }
+    ensures parsed { IfOk result (λ made. made.1.parsed ≡ None) }
+    ensures tree { IfOk result (λ made. made.1.tree ≡ None) }
+    ensures marks { IfOk result (λ made.
+        made.1.marks ≡ replicate (length (lines_of units.now)) New) }
+{
+    let text = TextBuffer::of_units(alloc, units)?;
+    let last = LastParse::of_new_lines(alloc, text.line_count())?;
+    Ok((text, last))
+}

@@ -1,0 +1,90 @@
+-- A reader at the start of the text, and at its end.
+use Rattle.std.proofs.Common.{◌≡◌, ℕ, ◌-◌, ◌<◌, ◌≤◌, ◌^◌, Bool, true, false, List, [], ◌∷◌, length, drop, sum, refl, ap, sym, ◌∙◌, subst, arith}
+use Rattle.std.specs.Prelude.{slice_index}
+use Rattle.text_lengths.specs.Length.{no_length}
+use Rattle.bracket_rules.specs.Rows.{Row, HasRow, text_rows}
+use Rattle.bracket_rules.specs.Table.{Table, is_table}
+use Rattle.bracket_trees.specs.Told.{IsTreeOf}
+use Rattle.bracket_trees.specs.Tree.{Tree}
+use Rattle.bracket_trees.specs.Weights.{tree_weights, AreCovered}
+use Rattle.bracket_trees.specs.Places.{rows_from}
+use Rattle.bracket_trees.proofs.LineWeights.{AreCovered-same, AreCovered-then, AreCovered-sum}
+use Rattle.bracket_nodes.specs.Source.{weights_ahead, weight_ahead}
+use Rattle.reuse_rules.specs.Following.{Reached}
+use Rattle.reuse_rules.proofs.Followings.{Reached-start, Reached-rows}
+use Rattle.node_reuse.specs.declared.line.Line.{Line}
+use Rattle.node_reuse.specs.Texts.{new_lines, AsksFront}
+use Rattle.node_reuse.specs.Reading.{StaysIfThere, IsInLine, left_at}
+use Rattle.node_reuse.specs.Reader.{Sight, sight_rows, sight_weights, mark_of, unasked, Asked, seen_at, tokens_left, StandsAt}
+use Rattle.node_reuse.proofs.FreshLines.{length-text_weights}
+use Rattle.node_reuse.proofs.FreshReader.{same_count}
+use Rattle.node_reuse.proofs.LineStarts.{line_starts, start_is_light}
+
+-- ---- the start
+
+some_row : (table : Table) (contents : List (List ℕ)) → 0 < length contents → HasRow (text_rows table contents)
+some_row table [] h = absurd (omega arith)
+some_row table (x ∷ []) h = tt
+some_row table (x ∷ y ∷ contents) h = tt
+
+-- all rows are ahead
+pub all_rows : (table : Table) (contents : List (List ℕ)) → 0 < length contents → rows_from no_length (text_rows table contents) ≡ text_rows table contents
+all_rows table contents some =
+    Reached-rows (text_rows table contents) no_length (text_rows table contents) (Reached-start (text_rows table contents) (some_row table contents some))
+
+pub some_ahead : (table : Table) (contents : List (List ℕ)) → 0 < length contents → HasRow (rows_from no_length (text_rows table contents))
+some_ahead table contents some = subst HasRow (sym (all_rows table contents some)) (some_row table contents some)
+
+pub first_stands : (s : Sight) (line : Line) → 0 < length s.contents → is_table s.table ≡ true → s.old.marks ≡ s.marks → length s.marks ≡ length s.contents
+    → StaysIfThere s.old.tree s.marks (sight_rows s) (sight_weights s) → line.scanned ≡ false → line.asked ≡ 0 → StandsAt s no_length line
+first_stands s line some table marks counted stays scanned none =
+    let reached : Reached (sight_rows s) no_length (rows_from no_length (sight_rows s)) =
+    subst (Reached (sight_rows s) no_length) (sym (all_rows s.table s.contents some)) (Reached-start (sight_rows s) (some_row s.table s.contents some)) in
+    record {
+      table = table;
+      same_marks = marks;
+      counted = counted;
+      stays = stays;
+      reached = reached;
+      in_line =
+          subst (λ (b : Bool). IsInLine (mark_of s no_length) s.old.tree s.marks (sight_rows s) (sight_weights s) no_length b (tokens_left line) line.columns)
+          (sym scanned)
+          (line_starts s.old.tree s.marks (sight_rows s) (sight_weights s) no_length (tokens_left line) line.columns stays (same_count s) refl reached);
+      is_new = λ e. let clash : true ≡ false = sym e ∙ scanned in cc;
+      asked =
+          let all : unasked s.marks no_length line.scanned ≡ new_lines s.marks = ap (unasked s.marks no_length) scanned in
+          let same : length (unasked s.marks no_length line.scanned) ≡ length (new_lines s.marks) = ap length all in
+          omega arith;
+    }
+
+-- what is ahead weighs no more than the lines may
+covered_start : (weights : List ℕ) (left : ℕ) → 0 < length weights → left ≤ slice_index weights 0 - 0 → AreCovered (left ∷ drop 1 weights) weights
+covered_start [] left some h = absurd (omega arith)
+covered_start (w ∷ weights) left some h = (omega arith, AreCovered-same weights)
+
+start_covered : (s : Sight) → 0 < length s.contents → StaysIfThere s.old.tree s.marks (sight_rows s) (sight_weights s)
+    → AreCovered (left_at s.old.tree s.marks (sight_weights s) no_length ∷ drop 1 (sight_weights s)) (sight_weights s)
+start_covered s some stays =
+    covered_start (sight_weights s) (left_at s.old.tree s.marks (sight_weights s) no_length) (omega (arith, length-text_weights s.contents))
+    (start_is_light s.old.tree s.marks (sight_rows s) (sight_weights s) no_length stays refl)
+
+pub start_fits : (s : Sight) (asked : Asked) (line : Line) → 0 < length s.contents → StaysIfThere s.old.tree s.marks (sight_rows s) (sight_weights s)
+    → sum (sight_weights s) < 2 ^ 64 → weight_ahead (seen_at s asked no_length line) < 2 ^ 64
+unfolding weight_ahead
+start_fits s asked line some stays fits =
+    let ahead : List ℕ = left_at s.old.tree s.marks (sight_weights s) no_length ∷ drop 1 (sight_weights s) in
+    let less : sum ahead ≤ sum (sight_weights s) = AreCovered-sum ahead (sight_weights s) (start_covered s some stays) in
+    omega arith
+
+-- ---- the end
+
+pub whole_tree : (s : Sight) (t : Tree) → 0 < length s.contents → IsTreeOf (rows_from no_length (sight_rows s)) t → IsTreeOf (sight_rows s) t
+whole_tree s t some h = subst (λ (rows : List Row). IsTreeOf rows t) (all_rows s.table s.contents some) h
+
+pub whole_light : (s : Sight) (asked : Asked) (line : Line) (t : Tree) → 0 < length s.contents → StaysIfThere s.old.tree s.marks (sight_rows s) (sight_weights s)
+    → AreCovered (tree_weights t) (weights_ahead (seen_at s asked no_length line)) → AreCovered (tree_weights t) (sight_weights s)
+whole_light s asked line t some stays h =
+    AreCovered-then (tree_weights t) (weights_ahead (seen_at s asked no_length line)) (sight_weights s) h (start_covered s some stays)
+
+pub none_asked : (lines asked : List ℕ) → AsksFront lines asked asked
+none_asked lines asked = (lines, refl)

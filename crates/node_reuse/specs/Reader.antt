@@ -1,0 +1,109 @@
+-- A reader of the text of now: what it sees, what it keeps true from call to call, and which lines it has yet to ask for.
+use Rattle.std.specs.Prelude.{◌≡◌, ℕ, suc, ◌+◌, ◌<◌, Bool, true, false, List, [], ◌∷◌, length, drop}
+use Rattle.text_lengths.specs.declared.Length.{Length}
+use Rattle.bracket_rules.specs.declared.Token.{Token}
+use Rattle.bracket_rules.specs.Rows.{Row, text_rows}
+use Rattle.bracket_rules.specs.Table.{Table, is_table}
+use Rattle.bracket_trees.specs.Places.{rows_from}
+use Rattle.bracket_nodes.specs.declared.parser.Next.{Next}
+use Rattle.bracket_nodes.specs.Source.{Ahead, Asking, Comes, AsksOn}
+use Rattle.mark_rules.specs.declared.Mark.{Mark}
+use Rattle.mark_rules.specs.declared.Mark.TheVariants.{Kept, New}
+use Rattle.mark_rules.specs.Marks.{mark_at}
+use Rattle.reuse_rules.specs.Following.{Reached}
+use Rattle.node_reuse.specs.declared.line.Line.{Line}
+use Rattle.node_reuse.specs.OldText.{OldText}
+use Rattle.node_reuse.specs.Texts.{text_weights, new_from, new_lines}
+use Rattle.node_reuse.specs.Reading.{StaysIfThere, IsInLine, left_at}
+
+-- ---- what is read
+
+-- the text of now by a table, an old text, and what the lines of now are to it
+pub record Sight : Type 0 where
+  pub table : Table
+  pub contents : List (List ℕ)
+  pub old : OldText
+  pub marks : List Mark
+
+abbrev pub sight : Table → List (List ℕ) → OldText → List Mark → Sight
+sight table contents old marks = record { table = table; contents = contents; old = old; marks = marks }
+
+abbrev pub sight_rows : Sight → List Row
+sight_rows s = text_rows s.table s.contents
+
+abbrev pub sight_weights : Sight → List ℕ
+sight_weights s = text_weights s.contents
+
+abbrev pub mark_of : Sight → Length → Mark
+mark_of s p = mark_at (p.lines + 1) s.marks
+
+-- the line of place p is kept
+abbrev pub IsKept : Sight → Length → Type 0
+IsKept s p = (i : ℕ) × (mark_of s p ≡ Kept i)
+
+-- ---- which lines are asked for
+
+-- the numbers of the new lines from line j on, where j is counted from 0
+abbrev pub new_lines_at : ℕ → List Mark → List ℕ
+new_lines_at j marks = new_from (suc j) (drop j marks)
+
+-- those that a reader at place p has yet to ask for: not the line that it reads, where it scanned that
+abbrev pub unasked : List Mark → Length → Bool → List ℕ
+unasked marks p false = new_lines_at p.lines marks
+unasked marks p true = new_lines_at (suc p.lines) marks
+
+abbrev pub asked_if : Bool → ℕ → List ℕ
+asked_if false n = []
+asked_if true n = n ∷ []
+
+-- the lines that were asked for so far, and by which borrows lines are read
+pub record Asked : Type 0 where
+  pub lines : List ℕ
+  pub borrows : List ℕ
+
+abbrev pub asked_so : List ℕ → List ℕ → Asked
+asked_so lines borrows = record { lines = lines; borrows = borrows }
+
+abbrev pub asking_at : Sight → Asked → Length → Line → Asking
+asking_at s asked p line = record {
+  contents = s.contents;
+  asked = asked.lines;
+  left = unasked s.marks p line.scanned;
+  count = line.asked;
+  borrows = asked.borrows;
+}
+
+-- ---- where it stands
+
+abbrev pub seen_at : Sight → Asked → Length → Line → Ahead
+seen_at s asked p line = record {
+  rows = rows_from p (sight_rows s);
+  line = left_at s.old.tree s.marks (sight_weights s) p;
+  later = drop (suc p.lines) (sight_weights s);
+  asking = asking_at s asked p line;
+}
+
+abbrev pub tokens_left : Line → List Token
+tokens_left line = drop line.next line.tokens.items
+
+-- the reader stands at place p, and this is what it knows of its line
+pub record StandsAt (s : Sight) (p : Length) (line : Line) : Type 0 where
+  pub table : is_table s.table ≡ true
+  pub same_marks : s.old.marks ≡ s.marks
+  pub counted : length s.marks ≡ length s.contents
+  pub stays : StaysIfThere s.old.tree s.marks (sight_rows s) (sight_weights s)
+  pub reached : Reached (sight_rows s) p (rows_from p (sight_rows s))
+  pub in_line : IsInLine (mark_of s p) s.old.tree s.marks (sight_rows s) (sight_weights s) p line.scanned (tokens_left line) line.columns
+  pub is_new : line.scanned ≡ true → mark_of s p ≡ New
+  pub asked : line.asked + length (unasked s.marks p line.scanned) ≡ length (new_lines s.marks)
+
+-- the line of place p is the last one, or it is not
+abbrev pub IsLast : Sight → Length → Bool → Type 0
+IsLast s p true = length s.contents ≡ suc p.lines
+IsLast s p false = suc p.lines < length s.contents
+
+-- this came next, and the reader went on from place p to place q
+pub record ReadsOn (s : Sight) (p : Length) (from : Line) (q : Length) (to : Line) (opened level : ℕ) (next : Next) : Type 0 where
+  pub comes : (asked : Asked) → Comes (seen_at s asked p from) (seen_at s asked q to) opened level next
+  pub asks : (asked : Asked) → AsksOn (asking_at s asked p from) (asking_at s asked q to)
+  pub stands : StandsAt s q to

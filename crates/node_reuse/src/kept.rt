@@ -1,0 +1,41 @@
+// What comes in a kept line.
+ghost use Rattle.std.specs.Prelude.{◌≡◌, ◌<◌, ◌≤◌, false, length, IfOk, OnErr};
+ghost use Rattle.node_reuse.specs.declared.line.Line.{Line};
+ghost use Rattle.node_reuse.specs.Reader.{Sight, IsKept, StandsAt, ReadsOn};
+
+use crate::old::Old;
+use bracket_nodes::{Kinds, Next};
+use bracket_rules::MOST_OPEN;
+use std::alloc::AllocError;
+use std::sync::ledger::Ledger;
+use steps::Steps;
+use text_lengths::Length;
+
+// What comes next in a kept line, where brackets of these kinds are open, `level` of them: the longest old node that may
+// stand there, else the old bracket, else the end of the text. An error leaves the reader where it was.
+pub(crate) fn next_of_old<O: Old, L: Ledger>(
+    old: &O,
+    place: &mut Length,
+    opened: Kinds,
+    level: u64,
+    steps: &mut Steps<L>,
+) -> Result<Next, AllocError>
+    requires level { level ≤ MOST_OPEN }
+    requires there { place.old.lines < length (O.text old.now).marks }
+    ensures reads { (s : Sight) (line : Line) → s.old ≡ O.text old.now → IsKept s place.old
+        → line.scanned ≡ false → StandsAt s place.old line
+        → IfOk result (ReadsOn s place.old line place.new line opened level) }
+    ensures same_place { OnErr result (place.new ≡ place.old) }
+{
+    if let Some(node) = old.longest_at(*place, opened, level, steps) {
+        let length = node.length();
+        let node = node.share()?;
+        *place = place.plus(&length);
+        return Ok(Next::Ready(node));
+    }
+    if let Some(token) = old.token_at(*place, steps) {
+        place.columns += token.len;
+        return Ok(Next::Bracket(token.kind, token.len, token.opening));
+    }
+    Ok(Next::End)
+}

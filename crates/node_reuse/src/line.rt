@@ -1,0 +1,92 @@
+// The line of a text that is read.
+ghost use Rattle.std.specs.Prelude.{◌≡◌, ◌+◌, ◌^◌, ◌<◌, ◌≤◌, ◌++◌, ◌∷◌, [], drop, true, false, length, IfOk, OnOk, IfSome, IfNone};
+ghost use Rattle.bracket_rules.specs.Table.{is_table, tokens_of};
+ghost use Rattle.node_reuse.specs.Texts.{content_at};
+ghost use Rattle.node_reuse.specs.Reader.{asked_if, tokens_left};
+
+use crate::lines::Lines;
+use bracket_rules::Token;
+use bracket_scan::BracketTable;
+use std::alloc::{AllocError, Global};
+
+// What a reader knows of the line that it reads. Each line is read into the same buffers.
+#[derive(Drop)]
+pub(crate) struct Line {
+    // How many lines were asked for, with this one where it was.
+    pub asked: u64,
+    // Whether the line was asked for and scanned: if not, nothing is known of it.
+    pub scanned: bool,
+    pub content: Vec<u16>,
+    // Its brackets, and how many of them were taken.
+    pub tokens: Vec<Token>,
+    pub next: usize,
+    pub columns: u64,
+}
+
+impl Line {
+    // The next of its brackets.
+    pub fn token(&self) -> Option<Token>
+        ensures some { IfSome result (λ token. tokens_left self.now
+            ≡ token ∷ drop (self.now.next + 1) self.now.tokens.items) }
+        ensures none { IfNone result (tokens_left self.now ≡ []) }
+    {
+        let tokens = self.tokens.as_slice();
+        if self.next < tokens.len() {
+            Some(tokens[self.next])
+        } else {
+            None
+        }
+    }
+}
+
+// No line yet. An empty one is scanned, which takes no memory: what scans is a table.
+pub(crate) fn first_line(alloc: Global, table: &BracketTable) -> Result<Line, AllocError>
+    ensures asked { IfOk result (λ line. line.asked ≡ 0) }
+    ensures scanned { IfOk result (λ line. line.scanned ≡ false) }
+    ensures table { is_table table.now ≡ true }
+{
+    let content = Vec::new(alloc);
+    let mut tokens = Vec::new(alloc);
+    table.scan(&content, &mut tokens)?;
+    Ok(Line {
+        asked: 0,
+        scanned: false,
+        content,
+        tokens,
+        next: 0,
+        columns: 0,
+    })
+}
+
+// Asks for line `n` once, from 1, and scans it. After an error it is scanned if it was asked for, but then nothing is
+// known of it.
+pub(crate) fn scan<Q: Lines>(
+    table: &BracketTable,
+    lines: &mut Q,
+    n: u64,
+    line: &mut Line,
+) -> Result<(), AllocError>
+    requires first { 1 ≤ n }
+    requires there { n ≤ length (Q.state lines.old).contents }
+    requires count { line.old.asked + 1 < 2 ^ 64 }
+    requires unscanned { line.old.scanned ≡ false }
+    ensures tokens { OnOk result
+        (tokens_left line.new ≡ tokens_of table.now (content_at n (Q.state lines.old).contents)) }
+    ensures columns { OnOk result
+        (line.new.columns ≡ length (content_at n (Q.state lines.old).contents)) }
+    ensures scanned { OnOk result (line.new.scanned ≡ true) }
+    ensures count { line.new.asked
+        ≡ line.old.asked + length (asked_if line.new.scanned n) }
+    ensures asked { (Q.state lines.new).asked
+        ≡ (Q.state lines.old).asked ++ asked_if line.new.scanned n }
+    ensures contents { (Q.state lines.new).contents ≡ (Q.state lines.old).contents }
+{
+    line.content.clear();
+    lines.line(n, &mut line.content)?;
+    line.scanned = true;
+    line.asked += 1;
+    line.columns = line.content.len() as u64;
+    line.next = 0;
+    line.tokens.clear();
+    table.scan(&line.content, &mut line.tokens)
+}

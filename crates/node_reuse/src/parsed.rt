@@ -1,0 +1,108 @@
+//! The parse of a text whose lines changed in part.
+
+ghost use Rattle.std.specs.Prelude.{◌≡◌, ◌<◌, ◌^◌, ◌++◌, true, length, sum, IfOk, OnOk, OnErr};
+ghost use Rattle.bracket_rules.specs.Rows.{text_rows};
+ghost use Rattle.bracket_rules.specs.Table.{is_table};
+ghost use Rattle.bracket_trees.specs.Told.{IsTreeOf};
+ghost use Rattle.bracket_trees.specs.Weights.{tree_weights, AreCovered};
+ghost use Rattle.node_reuse.specs.Reading.{StaysIfThere};
+ghost use Rattle.node_reuse.specs.Texts.{text_weights, new_lines, AsksFront};
+
+use crate::line::first_line;
+use crate::lines::Lines;
+use crate::old::Old;
+use crate::reader::Reader;
+use bracket_nodes::{Node, parse};
+use bracket_scan::BracketTable;
+use line_hunks::Hunks;
+use std::alloc::{AllocError, Global};
+use std::marker::Model;
+use std::sync::ledger::Ledger;
+use steps::Steps;
+use text_lengths::Length;
+
+/// The tree of a text, and how many of its lines the parse asked for.
+#[derive(Drop)]
+pub struct Parsed {
+    tree: Node,
+    asked: u64,
+}
+
+impl Model for Parsed {
+    ghost use Rattle.node_reuse.specs.ParsedTree.{ParsedTree, parsed_tree_code};
+
+    ghost Value = { ParsedTree };
+
+    ghost coded = { parsed_tree_code };
+
+    ghost view = { λ p. record { tree = p.tree; asked = p.asked } };
+}
+
+impl Parsed {
+    /// The tree. It starts at the start of the text.
+    pub fn tree(&self) -> &Node
+        ensures { result.now ≡ self.now.tree }
+    {
+        &self.tree
+    }
+
+    /// How many lines of the text were asked for.
+    pub fn asked(&self) -> u64
+        ensures { result ≡ self.now.asked }
+    {
+        self.asked
+    }
+}
+
+/// The tree of a text of now by the table, with what may be taken over of an old text that agrees with it under the
+/// marks. Each new line is asked for once, in order, and no kept line is. Each look into the old text is a step. In no
+/// line the tree's leaves weigh more than its units, and one for its break.
+///
+/// An error is want of memory: some of the new lines were asked for then, and nothing else was changed.
+pub fn reparse<O: Old, Q: Lines, L: Ledger>(
+    alloc: Global,
+    old: &O,
+    hunks: &Hunks,
+    table: &BracketTable,
+    lines: &mut Q,
+    steps: &mut Steps<L>,
+) -> Result<Parsed, AllocError>
+    requires some { 0 < length (Q.state lines.old).contents }
+    requires marks { (O.text old.now).marks ≡ hunks.now.marks }
+    requires count { length hunks.now.marks ≡ length (Q.state lines.old).contents }
+    requires stays { StaysIfThere (O.text old.now).tree hunks.now.marks
+        (text_rows table.now (Q.state lines.old).contents)
+        (text_weights (Q.state lines.old).contents) }
+    requires fits { sum (text_weights (Q.state lines.old).contents) < 2 ^ 64 }
+    ensures tree { IfOk result (λ parsed.
+        IsTreeOf (text_rows table.now (Q.state lines.old).contents) parsed.tree) }
+    ensures light { IfOk result (λ parsed.
+        AreCovered (tree_weights parsed.tree) (text_weights (Q.state lines.old).contents)) }
+    ensures table { OnOk result (is_table table.now ≡ true) }
+    ensures asked { OnOk result
+        ((Q.state lines.new).asked ≡ (Q.state lines.old).asked ++ new_lines hunks.now.marks) }
+    ensures count { IfOk result (λ parsed. parsed.asked ≡ length (new_lines hunks.now.marks)) }
+    ensures front { OnErr result (AsksFront (new_lines hunks.now.marks)
+        (Q.state lines.old).asked (Q.state lines.new).asked) }
+    ensures contents { (Q.state lines.new).contents ≡ (Q.state lines.old).contents }
+{
+    let mut line = first_line(alloc, table)?;
+    let place = Length {
+        lines: 0,
+        columns: 0,
+    };
+    let mut reader = Reader {
+        text: old,
+        hunks,
+        table,
+        lines,
+        steps,
+        place,
+        line: &mut line,
+    };
+    let tree = parse(alloc, &mut reader)?;
+    Ok(Parsed {
+        tree,
+        asked: line.asked,
+    })
+}

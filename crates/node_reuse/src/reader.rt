@@ -1,0 +1,104 @@
+// A source that takes over what it may of an old text.
+ghost use Rattle.std.specs.Prelude.{◌≡◌, ◌+◌, ◌<◌, ◌≤◌, ◌^◌, true, false, ℕ, List, length, OnOk};
+ghost use Rattle.text_lengths.specs.declared.Length.{Length};
+ghost use Rattle.mark_rules.specs.declared.Mark.TheVariants.{Kept, New};
+ghost use Rattle.mark_rules.specs.Marks.{mark_at};
+ghost use Rattle.bracket_nodes.specs.Source.{AsksOn};
+ghost use Rattle.node_reuse.specs.Reader.{Sight, mark_of, asked_so, asking_at, StandsAt};
+
+use crate::fresh::next_of_line;
+use crate::kept::next_of_old;
+use crate::line::{Line, scan};
+use crate::lines::Lines;
+use crate::old::Old;
+use bracket_nodes::{Kinds, Next, Source};
+use bracket_scan::BracketTable;
+use line_hunks::Hunks;
+use mark_rules::Mark;
+use std::alloc::{AllocError, Global};
+use std::sync::ledger::Ledger;
+use steps::Steps;
+use text_lengths::Length;
+
+// A reader of the text of now.
+#[derive(Drop)]
+pub(crate) struct Reader<'o, 'h, 't, 'q, 's, 'l, O, Q, L: Ledger> {
+    pub text: &'o O,
+    pub hunks: &'h Hunks,
+    pub table: &'t BracketTable,
+    pub lines: &'q mut Q,
+    pub steps: &'s mut Steps<L>,
+    // Where it stands; lines are counted from 0.
+    pub place: Length,
+    pub line: &'l mut Line,
+}
+
+impl<O: Old, Q: Lines, L: Ledger> Source for Reader<'_, '_, '_, '_, '_, '_, O, Q, L> {
+    ghost use Rattle.std.specs.Prelude.{[], ◌∷◌};
+    ghost use Rattle.node_reuse.specs.Reader.{sight, asked_so, seen_at, StandsAt};
+
+    ghost ahead = { λ r. seen_at
+        (sight r.table.now (Q.state r.lines.now).contents (O.text r.text.now) r.hunks.now.marks)
+        (asked_so (Q.state r.lines.now).asked
+        (r.lines.ghost_name ∷ r.steps.ghost_name ∷ r.line.ghost_name ∷ []))
+        r.place r.line.now };
+
+    ghost stands = { λ r. StandsAt
+        (sight r.table.now (Q.state r.lines.now).contents (O.text r.text.now) r.hunks.now.marks)
+        r.place r.line.now };
+
+    fn next(&mut self, alloc: Global, opened: Kinds, level: u64) -> Result<Next, AllocError> {
+        let count = self.hunks.lines();
+        let number = self.place.lines + 1;
+        if is_kept(self.hunks, number, self.line.scanned) {
+            return next_of_old(self.text, &mut self.place, opened, level, self.steps);
+        }
+        enter(self.table, self.lines, number, self.line)?;
+        next_of_line(alloc, number == count, &mut self.place, self.line)
+    }
+}
+
+// Whether line `n` is kept. One that was scanned is new.
+fn is_kept(hunks: &Hunks, n: u64, scanned: bool) -> bool
+    requires first { 1 ≤ n }
+    requires there { n ≤ length hunks.now.marks }
+    requires scanned { scanned ≡ true → mark_at n hunks.now.marks ≡ New }
+    ensures unscanned { result ≡ true → scanned ≡ false }
+    ensures kept { result ≡ true → (i : ℕ) × (mark_at n hunks.now.marks ≡ Kept i) }
+    ensures new { result ≡ false → mark_at n hunks.now.marks ≡ New }
+{
+    if scanned {
+        return false;
+    }
+    match hunks.mark(n) {
+        Mark::Kept(_) => true,
+        Mark::New => false,
+    }
+}
+
+// Scans line `n`, which is new, if it was not scanned: it is asked for once.
+fn enter<Q: Lines>(
+    table: &BracketTable,
+    lines: &mut Q,
+    n: u64,
+    line: &mut Line,
+) -> Result<(), AllocError>
+    requires first { 1 ≤ n }
+    requires there { n ≤ length (Q.state lines.old).contents }
+    requires count { line.old.asked + 1 < 2 ^ 64 }
+    ensures stands { (s : Sight) (p : Length) → s.table ≡ table.now
+        → s.contents ≡ (Q.state lines.old).contents → p.lines + 1 ≡ n → mark_of s p ≡ New
+        → StandsAt s p line.old → OnOk result (StandsAt s p line.new) }
+    ensures asks { (s : Sight) (p : Length) (borrows : List ℕ) → p.lines + 1 ≡ n
+        → mark_of s p ≡ New → StandsAt s p line.old
+        → AsksOn
+        (asking_at s (asked_so (Q.state lines.old).asked borrows) p line.old)
+        (asking_at s (asked_so (Q.state lines.new).asked borrows) p line.new) }
+    ensures scanned { OnOk result (line.new.scanned ≡ true) }
+    ensures contents { (Q.state lines.new).contents ≡ (Q.state lines.old).contents }
+{
+    if line.scanned {
+        return Ok(());
+    }
+    scan(table, lines, n, line)
+}

@@ -1,0 +1,2 @@
+pub mod SupplyLemmas
+pub mod LengthLemmas

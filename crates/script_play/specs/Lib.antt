@@ -1,0 +1,6 @@
+pub mod Lines
+pub mod Draws
+pub mod Script
+pub mod Supply
+pub mod Tallies
+mod Examples

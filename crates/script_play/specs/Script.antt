@@ -1,0 +1,71 @@
+-- The script of (COUNT, SEED): its first line opens an empty text, and draws choose the others.
+use Rattle.std.specs.Prelude.{ℕ, zero, suc, ◌+◌, ◌-◌, min, ◌≤◌, ◌==◌, nat_lt, if◌then◌else◌, true, false, List, [], ◌++◌}
+use Rattle.script_play.specs.declared.TheConstants.{MOST_LINES}
+use Rattle.script_play.specs.declared.line.Line.{Line}
+use Rattle.script_play.specs.declared.line.Line.TheVariants.{Open, Edit, Undo, Redo, Stop, Decorate, Position, Level, Brackets, Decos, Size}
+use Rattle.script_play.specs.declared.play.Play.{Play}
+use Rattle.script_play.specs.Draws.{next, drawn}
+use Rattle.script_play.specs.Lines.{units_of, line_bytes}
+
+-- A `Play` has the number that draws come from, the units of the text, and whether a redo is to follow.
+
+-- an edit of the text puts one of eight texts in the place of at most 3 units
+abbrev pub edit_line : Play → Line × Play
+edit_line old =
+    let x₁ = next old.x in
+    let x₂ = next x₁ in
+    let x₃ = next x₂ in
+    let start = drawn x₁ (old.units + 1) in
+    let removed = min (drawn x₂ 4) (old.units - start) in
+    let text = drawn x₃ 8 in
+    (Edit start (start + removed) text, record old { x = x₃; units = old.units - removed + units_of text })
+
+-- a decoration of at most 7 units, with one of four modes
+abbrev pub decorate_line : Play → Line × Play
+decorate_line old =
+    let x₁ = next old.x in
+    let x₂ = next x₁ in
+    let x₃ = next x₂ in
+    let start = drawn x₁ (old.units + 1) in
+    let taken = min (drawn x₂ 8) (old.units - start) in
+    (Decorate start (start + taken) (drawn x₃ 4), record old { x = x₃ })
+
+-- a question about one offset
+abbrev pub position_line : Play → Line × Play
+position_line old = (Position (drawn (next old.x) (old.units + 1)), record old { x = next old.x })
+
+abbrev pub decos_line : Play → Line × Play
+decos_line old = (Decos (drawn (next old.x) (old.units + 1)), record old { x = next old.x })
+
+-- the line that a number below 16 chooses, and what comes after it; an undo has a redo follow
+abbrev pub chosen_line : ℕ → Play → Line × Play
+chosen_line choice old =
+    if nat_lt choice 8 then edit_line old
+    else if choice == 8 then (Undo, record old { pending = true })
+    else if choice == 9 then (Stop, old)
+    else if choice == 10 then decorate_line old
+    else if choice == 11 then position_line old
+    else if choice == 12 then (Level, old)
+    else if choice == 13 then (Brackets, old)
+    else if choice == 14 then decos_line old
+    else (Size, old)
+
+-- the next line, and what comes after it
+abbrev pub next_line : Play → Line × Play
+next_line old =
+    if old.pending then (Redo, record old { pending = false })
+    else chosen_line (drawn (next old.x) 16) (record old { x = next old.x })
+
+-- the bytes of so many lines more
+unfoldable pub lines_from : ℕ → Play → List ℕ
+lines_from zero old = []
+lines_from (suc count) old = line_bytes (next_line old).0 ++ lines_from count (next_line old).1
+
+-- the bytes of a script of so many lines
+unfoldable pub script : ℕ → ℕ → List ℕ
+script zero seed = []
+script (suc count) seed = line_bytes Open ++ lines_from count (record { x = seed; units = 0; pending = false })
+
+-- how many lines a script may have
+abbrev pub IsCount : ℕ → Type 0
+IsCount count = count ≤ MOST_LINES

@@ -1,0 +1,121 @@
+//! How the lines of a script are drawn.
+
+ghost use Rattle.std.specs.Prelude.{◌≡◌, ◌+◌, ◌^◌, ◌<◌, ◌≤◌};
+ghost use Rattle.script_play.specs.Draws.{next, drawn};
+ghost use Rattle.script_play.specs.Script.{edit_line, decorate_line, chosen_line, next_line};
+
+use crate::line::{Line, units_of};
+use crate::{INCREMENT, MULTIPLIER};
+
+/// What the next line of a script comes from.
+#[derive(Clone, Copy, Debug)]
+pub(crate) struct Play {
+    /// The number that draws come from.
+    pub x: u64,
+    /// The units of the text.
+    pub units: u32,
+    /// Whether a redo is to follow.
+    pub pending: bool,
+}
+
+impl Play {
+    pub(crate) fn next_line(&mut self) -> Line
+        requires { self.old.units < 2 ^ 26 }
+        ensures line { result ≡ (next_line self.old).0 }
+        ensures play { self.new ≡ (next_line self.old).1 }
+        ensures units { self.new.units ≤ self.old.units + 4 }
+    {
+        if self.pending {
+            self.pending = false;
+            return Line::Redo;
+        }
+        let choice = self.draw(16);
+        self.chosen_line(choice)
+    }
+
+    fn chosen_line(&mut self, choice: u32) -> Line
+        requires { self.old.units < 2 ^ 26 }
+        ensures line { result ≡ (chosen_line choice self.old).0 }
+        ensures play { self.new ≡ (chosen_line choice self.old).1 }
+        ensures units { self.new.units ≤ self.old.units + 4 }
+    {
+        match choice {
+            0..=7 => self.edit_line(),
+            8 => {
+                self.pending = true;
+                Line::Undo
+            }
+            9 => Line::Stop,
+            10 => self.decorate_line(),
+            11 => Line::Position {
+                offset: self.draw_offset(),
+            },
+            12 => Line::Level,
+            13 => Line::Brackets,
+            14 => Line::Decos {
+                at: self.draw_offset(),
+            },
+            _ => Line::Size,
+        }
+    }
+
+    fn edit_line(&mut self) -> Line
+        requires { self.old.units < 2 ^ 26 }
+        ensures line { result ≡ (edit_line self.old).0 }
+        ensures play { self.new ≡ (edit_line self.old).1 }
+        ensures units { self.new.units ≤ self.old.units + 4 }
+    {
+        let start = self.draw_offset();
+        let removed = self.draw(4).min(self.units - start);
+        let text = self.draw(8);
+        self.units = self.units - removed + units_of(text);
+        Line::Edit {
+            start,
+            end: start + removed,
+            text,
+        }
+    }
+
+    fn decorate_line(&mut self) -> Line
+        requires { self.old.units < 2 ^ 26 }
+        ensures line { result ≡ (decorate_line self.old).0 }
+        ensures play { self.new ≡ (decorate_line self.old).1 }
+    {
+        let start = self.draw_offset();
+        let taken = self.draw(8).min(self.units - start);
+        let stick = self.draw(4);
+        Line::Decorate {
+            start,
+            end: start + taken,
+            stick,
+        }
+    }
+
+    /// Draws an offset of the text, which may be its end.
+    fn draw_offset(&mut self) -> u32
+        requires { self.old.units < 2 ^ 26 }
+        ensures offset { result ≡ drawn (next self.old.x) (self.old.units + 1) }
+        ensures within { result ≤ self.old.units }
+        ensures play { self.new ≡ record self.old { x = next self.old.x } }
+    {
+        self.draw(self.units + 1)
+    }
+
+    /// Draws a number below this one, which is 1 or more.
+    fn draw(&mut self, below: u32) -> u32
+        requires { 0 < below }
+        ensures number { result ≡ drawn (next self.old.x) below }
+        ensures within { result < below }
+        ensures play { self.new ≡ record self.old { x = next self.old.x } }
+    {
+        self.x = next(self.x);
+        ((self.x >> 33) % u64::from(below)) as u32
+    }
+}
+
+/// The number after a draw.
+fn next(x: u64) -> u64
+    ensures { result ≡ next x }
+{
+    x.wrapping_mul(MULTIPLIER).wrapping_add(INCREMENT)
+}

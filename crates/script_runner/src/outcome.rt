@@ -1,0 +1,86 @@
+//! What comes of a line: the reply to it, or why it is refused.
+
+ghost use Rattle.std.specs.Prelude.{◌≡◌};
+ghost use Rattle.script_lines.specs.declared.reason.Refusal.TheVariants as refusal;
+ghost use Rattle.script_streams.specs.Streams.{WritesWhole};
+ghost use Rattle.script_runner.specs.Bytes.{bytes_of, bytes_of_outcome, refusal_of, refusal_of_fault};
+
+use model_core::ModelError;
+use script_lines::{LineFault, Refusal, Short, refusal};
+use script_streams::{Failed, Sink, write_whole};
+use std::alloc::AllocError;
+
+/// The reply to a line that is not refused.
+#[derive(Drop)]
+pub(crate) enum Reply {
+    /// A blank line has none.
+    Nothing,
+    Short(Short),
+    Long(Vec<u8>),
+}
+
+impl Reply {
+    fn as_slice(&self) -> &[u8]
+        ensures { result.now ≡ bytes_of self.now }
+    {
+        match self {
+            Reply::Nothing => &[],
+            Reply::Short(short) => short.as_slice(),
+            Reply::Long(long) => long.as_slice(),
+        }
+    }
+}
+
+/// A line was refused for this reason.
+#[derive(Clone, Copy)]
+pub(crate) struct Refused(pub Refusal);
+
+impl From<ModelError> for Refused {
+    ghost from_gives = { λ error refused. refused ≡ record { 0 = refusal_of error } };
+
+    fn from(error: ModelError) -> Refused {
+        match error {
+            ModelError::Unknown => Refused(Refusal::Unknown),
+            ModelError::Range => Refused(Refusal::Range),
+            ModelError::Overlap => Refused(Refusal::Overlap),
+            ModelError::Limit => Refused(Refusal::Limit),
+            ModelError::Memory => Refused(Refusal::Memory),
+        }
+    }
+}
+
+impl From<LineFault> for Refused {
+    ghost from_gives = { λ fault refused. refused ≡ record { 0 = refusal_of_fault fault } };
+
+    fn from(fault: LineFault) -> Refused {
+        match fault {
+            LineFault::Syntax => Refused(Refusal::Syntax),
+            LineFault::Memory => Refused(Refusal::Memory),
+        }
+    }
+}
+
+impl From<AllocError> for Refused {
+    ghost from_gives = { λ _ refused. refused ≡ record { 0 = refusal.Memory } };
+
+    fn from(_error: AllocError) -> Refused {
+        Refused(Refusal::Memory)
+    }
+}
+
+/// Writes the reply whole, or the one that tells the refusal.
+pub(crate) fn write_outcome<K: Sink>(
+    outcome: &Result<Reply, Refused>,
+    out: &mut K,
+) -> Result<(), Failed>
+    ensures { WritesWhole result (K.state out.old) (K.state out.new)
+        (bytes_of_outcome outcome.now) }
+{
+    match outcome {
+        Ok(reply) => write_whole(out, reply.as_slice()),
+        Err(Refused(reason)) => {
+            let reply = refusal(*reason);
+            write_whole(out, reply.as_slice())
+        }
+    }
+}

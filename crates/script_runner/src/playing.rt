@@ -1,0 +1,125 @@
+//! The script that a count and a seed stand for, served to a sink that keeps a tally of the replies.
+
+ghost use Rattle.std.specs.Prelude.{◌≡◌, ◌≤◌, ◌<◌, ◌+◌, ◌++◌, length, IfSome};
+ghost use Rattle.arrayvec.specs.ArrayVec.{array_vec_len};
+ghost use Rattle.script_play.specs.Script.{IsCount};
+ghost use Rattle.script_runner.specs.Playing.{part, line_of, SumsUp, Shows, Plays, HasEnded};
+
+use crate::running::{MOST_SCRIPT_BYTES, Status, read_buffer};
+use crate::serving::{Served, serve};
+use arrayvec::ArrayVec;
+use itoa::Buffer;
+use model_core::Model;
+use script_play::{PlaySource, TallySink};
+use script_streams::{Sink, write_whole};
+use std::alloc::Global;
+
+/// What came of a script that was played, in numbers.
+#[derive(Clone, Copy, PartialEq, Eq, Debug)]
+pub(crate) struct Summary {
+    /// How many lines the script had.
+    pub count: u32,
+    /// How many replies begin with `!`.
+    pub refused: u64,
+    /// The units of the text at the end.
+    pub units: u64,
+    /// The lines of the text at the end.
+    pub lines: u64,
+    /// How many bytes the replies had, modulo 2^32.
+    pub bytes: u32,
+    /// The sum of those bytes, modulo 2^32.
+    pub total: u32,
+}
+
+/// Serves the script to a new document, and writes one line that sums it up. Writes nothing where memory was wanting.
+pub(crate) fn play<K: Sink>(alloc: Global, count: u32, seed: u64, out: &mut K) -> Status
+    requires { IsCount count }
+    ensures { Plays result count seed (K.state out.old) (K.state out.new) }
+{
+    let Ok(mut buf) = read_buffer(alloc) else {
+        return Status::Memory;
+    };
+    let Some(summary) = sum_up(alloc, count, seed, buf.as_mut_slice()) else {
+        return Status::Memory;
+    };
+    show(&summary, out)
+}
+
+/// Serves the script to a new document, or answers `None` where a reply was `! memory`.
+fn sum_up(alloc: Global, count: u32, seed: u64, buf: &mut [u8]) -> Option<Summary>
+    requires count { IsCount count }
+    requires room { 0 < length buf.old }
+    ensures { IfSome result (λ summary. SumsUp summary count seed) }
+{
+    let mut model = Model::new(alloc);
+    let mut src = PlaySource::new(count, seed);
+    let mut tally = TallySink::new();
+    let served = serve(
+        alloc,
+        &mut model,
+        &mut src,
+        &mut tally,
+        buf,
+        MOST_SCRIPT_BYTES,
+    );
+    let refused = refused_of(served)?;
+    Some(Summary {
+        count,
+        refused,
+        units: model.len(),
+        lines: model.line_count(),
+        bytes: tally.count(),
+        total: tally.sum(),
+    })
+}
+
+/// How many replies begin with `!`, or `None` where one of them is `! memory`.
+fn refused_of(served: Served) -> Option<u64>
+    requires { HasEnded served }
+    ensures { IfSome result (λ refused. served ≡ Served.Ended refused 0) }
+{
+    match served {
+        Served::Ended { refused, memory: 0 } => Some(refused),
+        Served::Ended { .. } => None,
+        Served::ReadFault | Served::WriteFault | Served::TooLong => unreachable!(),
+    }
+}
+
+/// Writes the line of the summary.
+fn show<K: Sink>(summary: &Summary, out: &mut K) -> Status
+    ensures { Shows result summary.now (K.state out.old) (K.state out.new) }
+{
+    let line = line_of(summary);
+    match write_whole(out, line.as_slice()) {
+        Ok(()) if summary.refused == 0 => Status::Answered,
+        Ok(()) => Status::Refused,
+        Err(_) => Status::WriteFault,
+    }
+}
+
+/// `commands C refused R units U lines L bytes B sum S` and LF.
+fn line_of(summary: &Summary) -> ArrayVec<u8, 192>
+    ensures { result.items ≡ line_of summary.now }
+{
+    let mut line = ArrayVec::new();
+    push_part(&mut line, b"commands ", u64::from(summary.count));
+    push_part(&mut line, b" refused ", summary.refused);
+    push_part(&mut line, b" units ", summary.units);
+    push_part(&mut line, b" lines ", summary.lines);
+    push_part(&mut line, b" bytes ", u64::from(summary.bytes));
+    push_part(&mut line, b" sum ", u64::from(summary.total));
+    line.push(b'\n');
+    line
+}
+
+/// Puts a word and its number behind what is there.
+fn push_part(line: &mut ArrayVec<u8, 192>, word: &[u8], number: u64)
+    requires { array_vec_len line.old + length word.now + 20 ≤ 192 }
+    ensures bytes { line.new.items ≡ line.old.items ++ part word.now number }
+    ensures most { array_vec_len line.new ≤ array_vec_len line.old + length word.now + 20 }
+{
+    let mut buffer = Buffer::new();
+    line.try_extend_from_slice(word).unwrap();
+    line.try_extend_from_slice(buffer.format(number).as_bytes())
+        .unwrap();
+}

@@ -1,0 +1,4 @@
+pub mod Spelling
+pub mod Fronts
+pub mod Flat
+pub mod Growth

@@ -1,0 +1,23 @@
+-- What contracts see of a shelf, and the flat shelf that it shows.
+use Rattle.std.specs.Prelude.{ℕ, List, map}
+use Rattle.std.specs.List.{All}
+use Rattle.chunk_buffers.specs.Chunks.{LiesIn}
+use Rattle.snapshot_rules.specs.Snapshots.{FlatShelf}
+use Rattle.snapshots.specs.Spans.{Spelled, snapshot_of}
+
+pub record Shown : Type 0 where
+  -- the open ones, in the order in which they were taken
+  pub snapshots : List Spelled
+  pub next_id : ℕ
+
+-- the flat shelf, where the spans are spans of these buffers
+abbrev pub shown : List (List ℕ) → Shown → FlatShelf
+shown buffers shelf = record { snapshots = map (snapshot_of buffers) shelf.snapshots; next_id = shelf.next_id }
+
+-- the spans of the snapshot lie in these buffers
+abbrev pub Lies : List (List ℕ) → Spelled → Type 0
+Lies buffers s = All (LiesIn buffers) s.spans
+
+-- the spans of each open snapshot do
+abbrev pub LieIn : List (List ℕ) → Shown → Type 0
+LieIn buffers shelf = All (Lies buffers) shelf.snapshots

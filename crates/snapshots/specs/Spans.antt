@@ -1,0 +1,36 @@
+-- A snapshot as the spans of buffers that spell what was not read yet.
+use Rattle.std.specs.Prelude.{ℕ, ◌+◌, ◌-◌, ◌<◌, ◌^◌, ◌==◌, Bool, nat_lt, if◌then◌else◌, List, [], ◌∷◌}
+use Rattle.std.specs.List.{flat_map}
+use Rattle.chunk_buffers.specs.declared.span.ChunkSpan.{ChunkSpan}
+use Rattle.chunk_buffers.specs.Chunks.{units_at, part_of}
+use Rattle.snapshot_rules.specs.Snapshots.{Snapshot}
+
+-- what contracts see of a snapshot
+pub record Spelled : Type 0 where
+  pub id : ℕ
+  pub spans : List ChunkSpan
+
+-- the units that the spans show, one after another
+abbrev pub spelled : List (List ℕ) → List ChunkSpan → List ℕ
+spelled buffers spans = flat_map (units_at buffers) spans
+
+abbrev pub snapshot_of : List (List ℕ) → Spelled → Snapshot
+snapshot_of buffers s = record { id = s.id; rest = spelled buffers s.spans }
+
+-- the place where it ends is a number of the machine, as of each span that lies in buffers
+pub record IsSmall (span : ChunkSpan) : Type 0 where
+  pub end : span.start + span.units < 2 ^ 63
+
+-- the spans without their first n units
+abbrev pub without : ℕ → List ChunkSpan → List ChunkSpan
+without n [] = []
+without n (span ∷ spans) =
+    if nat_lt n span.units then part_of span n span.units ∷ spans else without (n - span.units) spans
+
+-- the snapshot has this id
+abbrev pub spells : ℕ → Spelled → Bool
+spells id s = s.id == id
+
+-- the first n units were read, if it has this id
+abbrev pub passed : ℕ → ℕ → Spelled → Spelled
+passed id n s = if spells id s then record s { spans = without n s.spans } else s

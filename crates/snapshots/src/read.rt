@@ -1,0 +1,86 @@
+//! Reading the front of a text in spans.
+
+ghost use Rattle.std.specs.Prelude.{◌≡◌, ◌-◌, ◌≤◌, ◌++◌, if◌then◌else◌, take, drop, OnOk, OnErr, vec_len};
+ghost use Rattle.std.specs.List.{All};
+ghost use Rattle.chunk_buffers.specs.Chunks.{LiesIn};
+ghost use Rattle.unit_text.specs.Units.{cuts_pair};
+ghost use Rattle.snapshot_rules.specs.Snapshots.{front};
+ghost use Rattle.snapshots.specs.Spans.{spelled};
+
+use chunk_buffers::{ChunkSpan, Chunks};
+use std::alloc::AllocError;
+use unit_text::cuts_pair;
+
+/// Appends the first `count` units that the spans spell, or one fewer where a pair of surrogates would be cut. After
+/// an error `out` is as it was.
+pub(crate) fn push_front(
+    spans: &[ChunkSpan],
+    count: u64,
+    chunks: &Chunks,
+    out: &mut Vec<u16>,
+) -> Result<(), AllocError>
+    requires { All (LiesIn chunks.now.buffers) spans.now }
+    ensures ok { OnOk result (out.new.items
+        ≡ out.old.items ++ front count (spelled chunks.now.buffers spans.now)) }
+    ensures err { OnErr result (out.new.items ≡ out.old.items) }
+{
+    let before = out.len();
+    // One unit more, to see whether it belongs to the last one.
+    let pushed = push_units(spans, count.saturating_add(1), chunks, out);
+    if pushed.is_err() {
+        out.truncate(before);
+        return pushed;
+    }
+    keep_front(before, count, out);
+    Ok(())
+}
+
+// Appends the first units that the spans spell, `most` at most. After an error some of them stand behind what was
+// there.
+fn push_units(
+    spans: &[ChunkSpan],
+    most: u64,
+    chunks: &Chunks,
+    out: &mut Vec<u16>,
+) -> Result<(), AllocError>
+    requires { All (LiesIn chunks.now.buffers) spans.now }
+    ensures ok { OnOk result (out.new.items
+        ≡ out.old.items ++ take most (spelled chunks.now.buffers spans.now)) }
+    ensures before { take (vec_len out.old) out.new.items ≡ out.old.items }
+{
+    let mut left = most;
+    for span in spans {
+        if left == 0 {
+            return Ok(());
+        }
+        let units = chunks.units(*span);
+        let count = left.min(span.units);
+        out.extend_from_slice(&units[..count as usize])?;
+        left -= count;
+    }
+    Ok(())
+}
+
+// Of the units behind the first `before` ones, leaves the first `count`, or one fewer where a pair would be cut.
+fn keep_front(before: usize, count: u64, out: &mut Vec<u16>)
+    requires { before ≤ vec_len out.old }
+    ensures { out.new.items ≡ take before out.old.items ++ front count (drop before out.old.items) }
+{
+    let (_, units) = out.split_at(before);
+    if count >= units.len() as u64 {
+        return;
+    }
+    let kept = front_len(units, count);
+    out.truncate(before + kept as usize);
+}
+
+// How many units the front of so many units has, where there are as many.
+fn front_len(units: &[u16], count: u64) -> u64
+    ensures length { result ≡ (if cuts_pair units.now count then count - 1 else count) }
+    ensures within { result ≤ count }
+{
+    if cuts_pair(units, count) {
+        return count - 1;
+    }
+    count
+}

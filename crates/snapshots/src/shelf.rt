@@ -1,0 +1,147 @@
+//! The shelf.
+
+ghost use Rattle.std.specs.Prelude.{◌≡◌, ℕ, List, [], map, find, ◌++◌, OnErr, ◌||◌, nat_le, nat_lt, length};
+ghost use Rattle.std.specs.List.{All, list_any};
+ghost use Rattle.std.specs.Option.{option_copied};
+ghost use Rattle.chunk_buffers.specs.Chunks.{LiesIn};
+ghost use Rattle.snapshot_rules.specs.Snapshots.{flat_take, flat_peek, flat_skip, flat_close, most_snapshots, greatest_snapshot, Takes, Peeks, Closes};
+ghost use Rattle.snapshots.specs.Spans.{IsSmall, spelled, spells, passed};
+ghost use Rattle.snapshots.specs.Shown.{shown, LieIn};
+
+use crate::kept::Kept;
+use crate::read::push_front;
+use chunk_buffers::{ChunkSpan, Chunks};
+use snapshot_rules::{LEAST_READ, MOST_SNAPSHOTS, ShelfError};
+use std::alloc::Global;
+use std::marker::Model;
+use text_lengths::GREATEST_NUMBER;
+
+/// The snapshots that are open, under ids that rise from 1. Contracts see the spans of what was not read yet; a text in
+/// buffers that only grow shows the same units for good.
+#[derive(Drop)]
+pub struct Shelf {
+    alloc: Global,
+    snapshots: Vec<Kept>,
+    next_id: u64,
+}
+
+impl Model for Shelf {
+    ghost use Rattle.snapshots.specs.Shown.{Shown};
+
+    ghost Value = { Shown };
+
+    ghost view = { λ s. record { snapshots = s.snapshots.items; next_id = s.next_id } };
+}
+
+impl Shelf {
+    /// A shelf with no snapshot. It takes no memory.
+    pub fn new(alloc: Global) -> Shelf
+        ensures { result ≡ record { snapshots = []; next_id = 1 } }
+    {
+        Shelf {
+            alloc,
+            snapshots: Vec::new(alloc),
+            next_id: 1,
+        }
+    }
+
+    /// Keeps the text that the spans spell, and answers its id. It refuses with Limit where 64 are open, or where the
+    /// id would pass 2^63 - 1. An error leaves the shelf as it was.
+    pub fn take(&mut self, spans: &[ChunkSpan]) -> Result<u64, ShelfError>
+        requires { All IsSmall spans.now }
+        ensures change { (buffers : List (List ℕ))
+            → Takes result (shown buffers self.old) (shown buffers self.new)
+            (flat_take (shown buffers self.old) (spelled buffers spans.now)) }
+        ensures inside { (buffers : List (List ℕ)) → LieIn buffers self.old
+            → All (LiesIn buffers) spans.now → LieIn buffers self.new }
+        ensures err { OnErr result (self.new ≡ self.old) }
+    {
+        if self.is_full() {
+            return Err(ShelfError::Limit);
+        }
+        let id = self.next_id;
+        let kept = Kept::of_spans(self.alloc, id, spans).map_err(|_| ShelfError::Memory)?;
+        self.snapshots.push(kept).map_err(|_| ShelfError::Memory)?;
+        self.next_id = id + 1;
+        Ok(id)
+    }
+
+    fn is_full(&self) -> bool
+        ensures { result ≡ (nat_le most_snapshots (length self.now.snapshots)
+            || nat_lt greatest_snapshot self.now.next_id) }
+    {
+        self.snapshots.len() as u64 >= MOST_SNAPSHOTS || self.next_id > GREATEST_NUMBER
+    }
+
+    /// Appends the first `count` units of what is left, or all where fewer are left; one fewer where the last one
+    /// would be a high surrogate with its low one behind it. The shelf stays. It refuses with Unknown where no
+    /// snapshot of this id is open, then with Range where the count is below 2. After an error `out` is as it was.
+    pub fn peek(
+        &self,
+        id: u64,
+        count: u64,
+        chunks: &Chunks,
+        out: &mut Vec<u16>,
+    ) -> Result<(), ShelfError>
+        requires { LieIn chunks.now.buffers self.now }
+        ensures { Peeks result out.old.items out.new.items
+            (flat_peek (shown chunks.now.buffers self.now) id count) }
+    {
+        let Some(kept) = self.snapshot(id) else {
+            return Err(ShelfError::Unknown);
+        };
+        if count < LEAST_READ {
+            return Err(ShelfError::Range);
+        }
+        push_front(kept.rest(), count, chunks, out).map_err(|_| ShelfError::Memory)?;
+        Ok(())
+    }
+
+    fn snapshot(&self, id: u64) -> Option<&Kept>
+        ensures { option_copied result ≡ find (spells id) self.now.snapshots }
+    {
+        self.snapshots.iter().find(|kept| kept.id() == id)
+    }
+
+    /// The first `n` units of what is left of the snapshot were read; all of it where fewer are left. Nothing changes
+    /// where no snapshot of this id is open.
+    pub fn skip(&mut self, id: u64, n: u64)
+        ensures change { (buffers : List (List ℕ)) → LieIn buffers self.old
+            → shown buffers self.new ≡ flat_skip (shown buffers self.old) id n }
+        ensures inside { (buffers : List (List ℕ)) → LieIn buffers self.old
+            → LieIn buffers self.new }
+    {
+        pass_all(self.snapshots.as_mut_slice(), id, n);
+    }
+
+    /// The snapshot is no longer open, and its id is not used again. It refuses with Unknown where no snapshot of this
+    /// id is open.
+    pub fn close(&mut self, id: u64) -> Result<(), ShelfError>
+        ensures change { (buffers : List (List ℕ))
+            → Closes result (shown buffers self.old) (shown buffers self.new)
+            (flat_close (shown buffers self.old) id) }
+        ensures inside { (buffers : List (List ℕ)) → LieIn buffers self.old
+            → LieIn buffers self.new }
+        ensures err { OnErr result (self.new ≡ self.old) }
+    {
+        if !self.is_open(id) {
+            return Err(ShelfError::Unknown);
+        }
+        self.snapshots.retain(|kept| kept.id() != id);
+        Ok(())
+    }
+
+    fn is_open(&self, id: u64) -> bool
+        ensures { result ≡ list_any (spells id) self.now.snapshots }
+    {
+        self.snapshots.iter().any(|kept| kept.id() == id)
+    }
+}
+
+fn pass_all(snapshots: &mut [Kept], id: u64, n: u64)
+    ensures { snapshots.new ≡ map (passed id n) snapshots.old }
+{
+    for kept in snapshots.iter_mut() {
+        kept.skip_if(id, n);
+    }
+}

@@ -1,0 +1,2 @@
+pub mod Stops
+mod Examples
