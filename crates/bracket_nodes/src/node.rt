@@ -4,6 +4,7 @@ ghost use Rattle.text_lengths.specs.Length.{length_plus};
 ghost use Rattle.bracket_trees.specs.Told.{has_kind};
 ghost use Rattle.bracket_trees.specs.Tree.{tree_length, is_missing, is_closed, is_capped, nesting, height, weight, IsTree};
 ghost use Rattle.bracket_nodes.specs.Kept.{Keeps};
+ghost use Rattle.bracket_nodes.specs.Shapes.{tree_size};
 ghost use Rattle.bracket_nodes.specs.Bounds.{IsBounded};
 
 use crate::kept::Kept;
@@ -86,7 +87,6 @@ impl Node {
 
 // A node with what it keeps of its subtree.
 #[cycle(inner)]
-#[derive(Drop)]
 pub(crate) struct Inner {
     pub shape: Shape,
     pub kept: Kept,
@@ -146,5 +146,41 @@ impl Inner {
         ensures tree { IsTree self.now }
     {
         start.plus(&self.kept().length)
+    }
+}
+
+// A loop goes on with the longest part. So a call inside another drops a part of at most half its lines or, within a line,
+// of at most half its columns, and calls lie inside one another as often as these have binary digits, however deep the
+// tree is.
+impl Drop for Inner {
+    fn drop(mut self) {
+        loop {
+            let Inner { shape, kept: _ } = self;
+            let longest = match shape {
+                Shape::Pair(_, _, inside, _) => inside,
+                Shape::Two(a, b) => longer_first(a, b).0,
+                Shape::Three(a, b, c) => {
+                    let (first, _shorter) = longer_first(a, b);
+                    longer_first(first, c).0
+                }
+                _ => return,
+            };
+            match Rc::into_inner(longest) {
+                Some(inner) => self = inner,
+                None => return,
+            }
+        }
+    }
+}
+
+// The two, and first the longer one.
+fn longer_first(a: Rc<Inner>, b: Rc<Inner>) -> (Rc<Inner>, Rc<Inner>)
+    ensures { tree_size result.0.value + tree_size result.1.value
+        ≡ tree_size a.value + tree_size b.value }
+{
+    if a.kept.length.before(&b.kept.length) {
+        (b, a)
+    } else {
+        (a, b)
     }
 }
