@@ -8,3 +8,5 @@ pub mod Parsing
 pub mod ScannedSteps
 pub mod Scans
 pub mod JoinedLists
+pub mod Descent
+pub mod ListedEntries

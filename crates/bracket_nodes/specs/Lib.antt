@@ -8,3 +8,6 @@ pub mod SharedLists
 pub mod Walks
 pub mod Source
 pub mod ScannedLines
+pub mod Borrowed
+pub mod LevelSteps
+pub mod Listing

@@ -1,9 +1,10 @@
 -- Walks down a tree to one place.
-use Rattle.std.specs.Prelude.{ℕ, ◌+◌, ◌<◌, ◌^◌, Bool, if◌then◌else◌, List, [], ◌∷◌, Option, Some, None}
+use Rattle.std.specs.Prelude.{◌≡◌, ◌≢◌, ℕ, ◌+◌, ◌<◌, ◌^◌, ⊤, Bool, if◌then◌else◌, List, [], ◌∷◌, Option, Some, None}
 use Rattle.text_lengths.specs.declared.Length.{Length}
 use Rattle.bracket_rules.specs.declared.Entry.{Entry}
-use Rattle.bracket_rules.specs.Parse.{Spot, Judged, entries_of, entries_between}
-use Rattle.bracket_trees.specs.Tree.{Tree, weight, nesting}
+use Rattle.std.specs.Option.{option_map}
+use Rattle.bracket_rules.specs.Parse.{Spot, Judged, entries_of, entries_between, partner_at}
+use Rattle.bracket_trees.specs.Tree.{Tree, text, pair, stray, capped, nothing, two, three, weight, nesting, inside_end, tree_entries, tree_partner}
 
 -- the level after entries that end at this one, counted from the level of their tree, or the level before them
 abbrev pub level_from : ℕ → ℕ → Option ℕ → ℕ
@@ -24,3 +25,22 @@ chosen from to js = entries_between from to (entries_of js)
 
 abbrev pub entry_if : Bool → Entry → List Entry
 entry_if chosen e = if chosen then e ∷ [] else []
+
+-- ---- partners
+
+-- No pair of the tree, but those of its parts, has a bracket at place q whose partner stands there.
+abbrev pub NoOwnPartnerAt : Length → Tree → Length → Type 0
+NoOwnPartnerAt p (text l) q = ⊤
+NoOwnPartnerAt p (pair kind open_width inside None) q = ⊤
+NoOwnPartnerAt p (pair kind open_width inside (Some close_width)) q = (p ≢ q) × (inside_end p open_width inside ≢ q)
+NoOwnPartnerAt p (stray kind width) q = ⊤
+NoOwnPartnerAt p (capped kind width) q = ⊤
+NoOwnPartnerAt p nothing q = ⊤
+NoOwnPartnerAt p (two a b) q = ⊤
+NoOwnPartnerAt p (three a b c) q = ⊤
+
+-- what the other bracket of a pair is at place q in the tree that starts at place r is what it is there in the whole
+abbrev pub ShowsPartner : Tree → Length → Tree → Length → Type 0
+ShowsPartner whole r t q = (found : Option (Length × ℕ))
+    → ((level : ℕ) → option_map place_and_len (partner_at q (tree_entries r level t)) ≡ found)
+    → option_map place_and_len (tree_partner whole q) ≡ found

@@ -1,41 +1,31 @@
-// What a reader asks of an old tree at a place: the longest node that may be taken, and a bracket.
-ghost use Rattle.std.specs.Prelude.{◌≡◌, ◌≢◌, ◌+◌, ◌<◌, ◌≤◌, ◌^◌, ◌⊎◌, ◌↔◌, ℕ, Some, None, IsTrue, IfOk, IfSome, IfNone};
-ghost use Rattle.text_lengths.specs.Length.{no_length};
+// What a reader asks of a node of an old tree: whether it may be taken, and whether a bracket of it starts here.
+ghost use Rattle.std.specs.Prelude.{◌≡◌, ◌≢◌, ◌+◌, ◌<◌, ◌≤◌, ◌^◌, ◌⊎◌, ◌↔◌, Some, None, IsTrue, IfOk, IfSome, IfNone};
 ghost use Rattle.bracket_trees.specs.Tree.{tree_length, weight};
 ghost use Rattle.bracket_trees.specs.Told.{Fits};
-ghost use Rattle.bracket_trees.specs.Places.{touched, MayBeTaken, IsLongest, NoneMayBeTaken};
-ghost use Rattle.bracket_trees.specs.Found.{token_at, IsTakenHere, IsNodeFound, IsTokenAt, NoBracketAt, IsBracketFound};
+ghost use Rattle.bracket_trees.specs.Places.{touched, MayBeTaken};
+ghost use Rattle.bracket_trees.specs.Found.{token_at, IsTakenHere, IsTokenAt};
+ghost use Rattle.bracket_trees.specs.Parts.{NoOwnBracketAt};
+ghost use Rattle.bracket_nodes.specs.Borrowed.{node_of};
 
 use crate::kinds::Kinds;
 use crate::lists::{Shared, is_nothing};
 use crate::makers::wide;
 use crate::node::{Inner, Node, Shape};
+use crate::placed::Placed;
 use bracket_rules::{MOST_OPEN, Token};
 use std::alloc::AllocError;
-use std::marker::Model;
 use text_lengths::Length;
 
 /// A node of a tree, borrowed.
 #[derive(Drop)]
 pub struct NodeRef<'a> {
-    inner: &'a Shared,
-}
-
-impl<'a> Model for NodeRef<'a> {
-    ghost use Rattle.bracket_trees.specs.Tree.{Tree};
-    ghost use Rattle.bracket_trees.specs.TreeCode.{tree_code};
-
-    ghost Value = { Tree };
-
-    ghost coded = { tree_code };
-
-    ghost view = { λ node. node.inner.now.value };
+    pub(crate) inner: &'a Shared,
 }
 
 impl<'a> NodeRef<'a> {
     /// The same tree, shared.
     pub fn share(&self) -> Result<Node, AllocError>
-        ensures { IfOk result (λ node. node ≡ self.now) }
+        ensures { IfOk result (λ node. node ≡ node_of self.now) }
     {
         let inner = self.inner.clone()?;
         Ok(Node { inner })
@@ -43,7 +33,7 @@ impl<'a> NodeRef<'a> {
 
     /// The node's length.
     pub fn length(&self) -> Length
-        ensures { result ≡ tree_length self.now }
+        ensures { result ≡ tree_length (node_of self.now) }
     {
         self.inner.kept().length
     }
@@ -52,103 +42,18 @@ impl<'a> NodeRef<'a> {
 // What a reader has room for: nodes of so many lines, where brackets of these kinds are open, so
 // many at once.
 #[derive(Clone, Copy)]
-struct Room {
-    lines: u64,
-    opened: Kinds,
-    level: u64,
+pub(crate) struct Room {
+    pub lines: u64,
+    pub opened: Kinds,
+    pub level: u64,
 }
 
-impl Node {
-    /// The longest node at this place that may be taken where so many lines are left and brackets
-    /// of these kinds are open, `level` of them; None where there is no such node. The tree starts
-    /// at the start of a text, and places are counted from there. Takes no memory.
-    pub fn longest_at(
-        &self,
-        place: Length,
-        lines: u64,
-        opened: Kinds,
-        level: u64,
-    ) -> Option<NodeRef<'_>>
-        ensures some { IfSome result (IsLongest no_length self.now place lines opened level) }
-        ensures none { IfNone result (NoneMayBeTaken no_length self.now place lines opened level) }
-    {
-        let start = Length {
-            lines: 0,
-            columns: 0,
-        };
-        let _kept = self.inner.kept();
-        let room = Room {
-            lines,
-            opened,
-            level,
-        };
-        longest_from(&self.inner, start, &place, &room)
-    }
-
-    /// The bracket that starts at this place, as one of its line; None where none does. The tree
-    /// starts at the start of a text, and places are counted from there. Takes no memory.
-    #[tactic(auto, using(bracket_trees::proofs::BracketAt::no_bracket_found))]
-    pub fn bracket_at(&self, place: Length) -> Option<Token>
-        ensures some { IfSome result (IsTokenAt no_length self.now place) }
-        ensures none { IfNone result (NoBracketAt no_length self.now place) }
-    {
-        let start = Length {
-            lines: 0,
-            columns: 0,
-        };
-        let _kept = self.inner.kept();
-        bracket_from(&self.inner, start, &place)
-    }
-}
-
-#[tactic(auto, using(bracket_trees::proofs::Longest::node_steps))]
-// The longest node at the place in a node that starts here.
-fn longest_from<'a>(
-    inner: &'a Shared,
-    start: Length,
-    place: &Length,
-    room: &Room,
-) -> Option<NodeRef<'a>>
-    requires { start.lines + start.columns + weight inner.now.value < 2 ^ 64 }
-    ensures { IsNodeFound start inner.now.value place.now
-        room.now.lines room.now.opened room.now.level result }
-{
-    if is_taken_here(inner, &start, place, room) {
-        return Some(NodeRef { inner });
-    }
-    match &inner.shape {
-        Shape::Pair(_, opening, inside, _) => {
-            let inside_start = start.plus(&wide(*opening));
-            longest_from(inside, inside_start, place, room)
-        }
-        Shape::Two(a, b) => {
-            let middle = a.end(&start);
-            if place.before(&middle) {
-                longest_from(a, start, place, room)
-            } else {
-                longest_from(b, middle, place, room)
-            }
-        }
-        Shape::Three(a, b, c) => {
-            let second = a.end(&start);
-            if place.before(&second) {
-                return longest_from(a, start, place, room);
-            }
-            let third = b.end(&second);
-            if place.before(&third) {
-                return longest_from(b, second, place, room);
-            }
-            longest_from(c, third, place, room)
-        }
-        _ => None,
-    }
-}
-
-fn is_taken_here(inner: &Shared, start: &Length, place: &Length, room: &Room) -> bool
-    ensures { IsTrue result ↔ IsTakenHere start.now inner.now.value place.now
+// Whether the node starts at the place, and may be taken there.
+pub(crate) fn is_taken_here(here: &Placed, place: &Length, room: &Room) -> bool
+    ensures { IsTrue result ↔ IsTakenHere here.now.start here.now.node.now.value place.now
         room.now.lines room.now.opened room.now.level }
 {
-    start == place && may_be_taken(inner, room)
+    here.start == *place && may_be_taken(here.node, room)
 }
 
 fn may_be_taken(inner: &Shared, room: &Room) -> bool
@@ -186,48 +91,28 @@ fn has_room(level: u64, nesting: u64) -> bool
     level <= MOST_OPEN && nesting <= MOST_OPEN - level
 }
 
-#[tactic(auto, using(bracket_trees::proofs::BracketAt::bracket_steps))]
-// The bracket at the place in a node that starts here.
-fn bracket_from(inner: &Inner, start: Length, place: &Length) -> Option<Token>
-    requires { start.lines + start.columns + weight inner.now < 2 ^ 64 }
-    ensures { IsBracketFound start inner.now place.now result }
+#[tactic(auto, using(bracket_trees::proofs::BracketAt::own_brackets))]
+// The bracket at the place that stands in the node and in no part of it.
+pub(crate) fn bracket_here(here: &Placed, place: &Length) -> Option<Token>
+    requires { here.now.start.lines + here.now.start.columns + weight here.now.node.now.value < 2 ^ 64 }
+    ensures some { IfSome result (IsTokenAt here.now.start here.now.node.now.value place.now) }
+    ensures none { IfNone result (NoOwnBracketAt here.now.start here.now.node.now.value place.now) }
 {
-    match &inner.shape {
+    let node = here.node;
+    match &node.shape {
         Shape::Pair(kind, opening, inside, closing) => {
-            if start == *place {
+            if here.start == *place {
                 return Some(token_at(place, *opening, *kind, true));
             }
-            let inside_start = start.plus(&wide(*opening));
-            let ends = inside.end(&inside_start);
-            match closing_at(*closing, &ends, place) {
-                Some(width) => Some(token_at(place, width, *kind, false)),
-                None => bracket_from(inside, inside_start, place),
-            }
+            let ends = inside.end(&here.start.plus(&wide(*opening)));
+            let width = closing_at(*closing, &ends, place)?;
+            Some(token_at(place, width, *kind, false))
         }
-        Shape::Stray(kind, width) if start == *place => {
+        Shape::Stray(kind, width) if here.start == *place => {
             Some(token_at(place, *width, *kind, false))
         }
-        Shape::Capped(kind, width) if start == *place => {
+        Shape::Capped(kind, width) if here.start == *place => {
             Some(token_at(place, *width, *kind, true))
-        }
-        Shape::Two(a, b) => {
-            let middle = a.end(&start);
-            if place.before(&middle) {
-                bracket_from(a, start, place)
-            } else {
-                bracket_from(b, middle, place)
-            }
-        }
-        Shape::Three(a, b, c) => {
-            let second = a.end(&start);
-            if place.before(&second) {
-                return bracket_from(a, start, place);
-            }
-            let third = b.end(&second);
-            if place.before(&third) {
-                return bracket_from(b, second, place);
-            }
-            bracket_from(c, third, place)
         }
         _ => None,
     }

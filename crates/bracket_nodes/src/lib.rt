@@ -12,6 +12,8 @@ mod lookups;
 mod makers;
 mod node;
 mod parser;
+mod placed;
+mod reader;
 mod scanned;
 
 pub use bracket_rules::{Entry, Status, Token};
@@ -21,4 +23,5 @@ pub use kinds::Kinds;
 pub use makers::{capped_node, pair_node, stray_node, text_node};
 pub use node::Node;
 pub use parser::{Next, Source, parse};
+pub use reader::NodeReader;
 pub use scanned::{ScannedLine, parse_lines};

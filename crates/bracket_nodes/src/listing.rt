@@ -1,11 +1,14 @@
 // The entries of some lines: a walk down to the parts that reach these lines.
-ghost use Rattle.std.specs.Prelude.{◌≡◌, ◌+◌, ◌<◌, ◌^◌, ◌++◌, ◌∷◌, [], length, take, true, OnOk, OnErr, IfOk};
-ghost use Rattle.bracket_rules.specs.Parse.{bracket, spot, Spot, is_between, entries_between, entries_of, judged_opening};
+ghost use Rattle.std.specs.Prelude.{◌≡◌, ℕ, ◌+◌, ◌*◌, ◌<◌, ◌≤◌, ◌++◌, length, take, true, All, OnOk, OnErr};
+ghost use Rattle.bracket_rules.specs.Parse.{bracket, Spot, is_between, entries_between, entries_of, judged_opening};
 ghost use Rattle.bracket_trees.specs.Tree.{tree_entries, tree_story, closing_entries, closing_spot};
+ghost use Rattle.bracket_nodes.specs.Shapes.{tree_size};
+ghost use Rattle.bracket_nodes.specs.Listing.{all_left, all_steps, HasRoomLeft};
 ghost use Rattle.bracket_nodes.specs.Walks.{HasRoom, chosen, entry_if};
 
 use crate::makers::wide;
-use crate::node::{Inner, Node, Shape};
+use crate::node::{Node, Shape};
+use crate::placed::Placed;
 use bracket_rules::{Entry, Status};
 use std::alloc::AllocError;
 use text_lengths::Length;
@@ -26,12 +29,7 @@ impl Node {
         ensures err { OnErr result (out.new.items ≡ out.old.items) }
     {
         let count = out.len();
-        let _kept = self.inner.kept();
-        let start = Length {
-            lines: 0,
-            columns: 0,
-        };
-        let pushed = push_entries(&self.inner, start, 0, LineRange { from, to }, out);
+        let pushed = push_entries(Placed::whole(&self.inner), LineRange { from, to }, out);
         if pushed.is_err() {
             out.truncate(count);
         }
@@ -39,54 +37,126 @@ impl Node {
     }
 }
 
-#[tactic(auto, using(crate::proofs::EntryWalk::entry_steps))]
-// Appends the entries of a node that starts here, at this level; on want of memory only some.
-fn push_entries(
-    inner: &Inner,
-    start: Length,
-    level: u64,
-    lines: LineRange,
-    out: &mut Vec<Entry>,
-) -> Result<(), AllocError>
-    requires { HasRoom start level inner.now }
-    ensures ok { OnOk result (out.new.items
-        ≡ out.old.items ++ chosen lines.from lines.to (tree_entries start level inner.now)) }
+// What is left to list: a part of the tree, at its level, or one entry.
+#[derive(Clone, Copy)]
+enum Left<'a> {
+    Part(Placed<'a>, u64),
+    One(Entry),
+}
+
+// Appends the entries of a whole tree; on want of memory only some.
+fn push_entries(whole: Placed<'_>, lines: LineRange, out: &mut Vec<Entry>) -> Result<(), AllocError>
+    requires { HasRoom whole.start 0 whole.node.now.value }
+    ensures ok { OnOk result (out.new.items ≡ out.old.items
+        ++ chosen lines.from lines.to (tree_entries whole.entry.start 0 whole.entry.node.now.value)) }
     ensures err { OnErr result (take (length out.old.items) out.new.items ≡ out.old.items) }
 {
-    let end = inner.end(&start);
-    if end.lines < lines.from || lines.to < start.lines {
+    // The last one is listed first.
+    let mut left = Vec::new(*out.allocator());
+    left.push(Left::Part(whole, 0))?;
+    while let Some(next) = left.pop() {
+        match next {
+            Left::Part(here, level) => push_first(here, level, lines, &mut left, out)?,
+            Left::One(entry) => push_if(lines, entry, out)?,
+        }
+    }
+    Ok(())
+}
+
+#[tactic(auto, using(crate::proofs::EntryWalk::entry_steps))]
+// Appends the first entry of a part, and leaves the others.
+fn push_first<'a>(
+    here: Placed<'a>,
+    level: u64,
+    lines: LineRange,
+    left: &mut Vec<Left<'a>>,
+    out: &mut Vec<Entry>,
+) -> Result<(), AllocError>
+    requires { HasRoom here.start level here.node.now.value }
+    ensures listed { OnOk result (out.new.items ++ all_left lines.from lines.to left.new.items
+        ≡ (out.old.items ++ chosen lines.from lines.to (tree_entries here.entry.start level here.entry.node.now.value))
+        ++ all_left lines.from lines.to left.old.items) }
+    ensures room { OnOk result (All HasRoomLeft left.old.items → All HasRoomLeft left.new.items) }
+    ensures fewer { OnOk result (all_steps left.new.items
+        < all_steps left.old.items + 2 * tree_size here.entry.node.now.value) }
+    ensures front { take (length out.old.items) out.new.items ≡ out.old.items }
+{
+    let node = here.node;
+    let end = node.end(&here.start);
+    if end.lines < lines.from || lines.to < here.start.lines {
         return Ok(());
     }
-    match &inner.shape {
+    match &node.shape {
         Shape::Pair(kind, opening, inside, closing) => {
-            let inside_start = start.plus(&wide(*opening));
-            let ends = inside.end(&inside_start);
+            let start = here.start.plus(&wide(*opening));
             push_if(
                 lines,
-                opening_entry(start, *opening, *kind, level, *closing),
+                opening_entry(here.start, *opening, *kind, level, *closing),
                 out,
             )?;
-            push_entries(inside, inside_start, level + 1, lines, out)?;
-            push_closing(lines, ends, *kind, level, *closing, out)
+            leave_closing(left, inside.end(&start), *kind, level, *closing)?;
+            let inside = Placed {
+                start,
+                node: inside,
+            };
+            leave(left, inside, level + 1)?;
         }
         Shape::Stray(kind, width) => {
-            let entry = entry(start, *width, *kind, Status::Unexpected, level);
-            push_if(lines, entry, out)
+            let entry = entry(here.start, *width, *kind, Status::Unexpected, level);
+            push_if(lines, entry, out)?;
         }
         Shape::Two(a, b) => {
-            push_entries(a, start, level, lines, out)?;
-            let middle = a.end(&start);
-            push_entries(b, middle, level, lines, out)
+            let first = here.first(a);
+            leave(left, first.next(b), level)?;
+            leave(left, first, level)?;
         }
         Shape::Three(a, b, c) => {
-            push_entries(a, start, level, lines, out)?;
-            let second = a.end(&start);
-            push_entries(b, second, level, lines, out)?;
-            let third = b.end(&second);
-            push_entries(c, third, level, lines, out)
+            let first = here.first(a);
+            let second = first.next(b);
+            leave(left, second.next(c), level)?;
+            leave(left, second, level)?;
+            leave(left, first, level)?;
         }
-        _ => Ok(()),
+        _ => {}
     }
+    Ok(())
+}
+
+#[tactic(auto, using(crate::proofs::ListedEntries::pushes))]
+// Leaves a part for later, before all that was left.
+fn leave<'a>(left: &mut Vec<Left<'a>>, here: Placed<'a>, level: u64) -> Result<(), AllocError>
+    requires { HasRoom here.start level here.node.now.value }
+    ensures entries { (from to : ℕ) → OnOk result (all_left from to left.new.items
+        ≡ chosen from to (tree_entries here.entry.start level here.entry.node.now.value)
+        ++ all_left from to left.old.items) }
+    ensures room { OnOk result (All HasRoomLeft left.old.items → All HasRoomLeft left.new.items) }
+    ensures steps { OnOk result (all_steps left.new.items
+        ≡ 2 * tree_size here.entry.node.now.value + all_steps left.old.items) }
+{
+    left.push(Left::Part(here, level))?;
+    Ok(())
+}
+
+#[tactic(auto, using(crate::proofs::ListedEntries::pushes))]
+// Leaves the closing bracket of a pair for later, where there is one.
+fn leave_closing(
+    left: &mut Vec<Left<'_>>,
+    place: Length,
+    kind: u64,
+    level: u64,
+    closing: Option<u64>,
+) -> Result<(), AllocError>
+    ensures entries { (from to : ℕ) (opener : Spot) → OnOk result (all_left from to left.new.items
+        ≡ chosen from to (closing_entries place kind level closing opener)
+        ++ all_left from to left.old.items) }
+    ensures room { OnOk result (All HasRoomLeft left.old.items → All HasRoomLeft left.new.items) }
+    ensures steps { OnOk result (all_steps left.new.items ≤ 1 + all_steps left.old.items) }
+{
+    let Some(len) = closing else {
+        return Ok(());
+    };
+    left.push(Left::One(entry(place, len, kind, Status::PairedClosing, level)))?;
+    Ok(())
 }
 
 fn opening_entry(place: Length, len: u64, kind: u64, level: u64, closing: Option<u64>) -> Entry
@@ -112,25 +182,6 @@ fn entry(place: Length, len: u64, kind: u64, status: Status, level: u64) -> Entr
         status,
         level,
     }
-}
-
-fn push_closing(
-    lines: LineRange,
-    place: Length,
-    kind: u64,
-    level: u64,
-    closing: Option<u64>,
-    out: &mut Vec<Entry>,
-) -> Result<(), AllocError>
-    ensures ok { (opener : Spot) → OnOk result (out.new.items
-        ≡ out.old.items ++ chosen lines.from lines.to (closing_entries place kind level closing opener)) }
-    ensures err { OnErr result (take (length out.old.items) out.new.items ≡ out.old.items) }
-{
-    let Some(len) = closing else {
-        return Ok(());
-    };
-    let entry = entry(place, len, kind, Status::PairedClosing, level);
-    push_if(lines, entry, out)
 }
 
 fn push_if(lines: LineRange, entry: Entry, out: &mut Vec<Entry>) -> Result<(), AllocError>

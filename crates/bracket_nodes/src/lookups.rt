@@ -1,13 +1,17 @@
 // What stands at a place: walks down one path of the tree.
-ghost use Rattle.std.specs.Prelude.{◌≡◌, ◌+◌, ◌<◌, ◌^◌, ◌&&◌, ℕ, unwrap_or};
+ghost use Rattle.std.specs.Prelude.{◌≡◌, ◌+◌, ◌<◌, ◌≤◌, ◌^◌, ◌&&◌, ℕ, unwrap_or, Some, IfSome, IfNone};
 ghost use Rattle.std.specs.Option.{option_map};
-ghost use Rattle.text_lengths.specs.Length.{is_before};
-ghost use Rattle.bracket_rules.specs.Parse.{same_place, partner_at};
-ghost use Rattle.bracket_trees.specs.Tree.{weight, is_some_width, closing_spot, tree_entries, level_before, tree_level, tree_partner};
-ghost use Rattle.bracket_nodes.specs.Walks.{HasRoom, level_from, place_and_len};
+ghost use Rattle.text_lengths.specs.Length.{length_plus, is_before};
+ghost use Rattle.bracket_rules.specs.Parse.{partner_at};
+ghost use Rattle.bracket_trees.specs.Tree.{weight, tree_length, is_some_width, tree_entries, tree_level, tree_partner};
+ghost use Rattle.bracket_nodes.specs.Kept.{last_level};
+ghost use Rattle.bracket_nodes.specs.LevelSteps.{IsLevelStep};
+ghost use Rattle.bracket_nodes.specs.Walks.{HasRoom, level_from, place_and_len, NoOwnPartnerAt};
 
+use crate::lists::Shared;
 use crate::makers::wide;
-use crate::node::{Inner, Node, Shape};
+use crate::node::{Node, Shape};
+use crate::placed::Placed;
 use text_lengths::Length;
 
 impl Node {
@@ -16,12 +20,17 @@ impl Node {
     pub fn level_at(&self, place: Length) -> u64
         ensures { result ≡ tree_level self.now place }
     {
-        let start = Length {
-            lines: 0,
-            columns: 0,
+        let mut walk = LevelWalk {
+            here: Placed::whole(&self.inner),
+            level: 0,
+            before: 0,
         };
-        let _kept = self.inner.kept();
-        level_at(&self.inner, start, 0, 0, &place)
+        loop {
+            match walk.step(&place) {
+                LevelStep::On(next) => walk = next,
+                LevelStep::At(level) => return level,
+            }
+        }
     }
 
     /// Where the other bracket of a pair starts, and its width, where one of the pair's brackets
@@ -29,58 +38,110 @@ impl Node {
     pub fn partner_of(&self, place: Length) -> Option<(Length, u64)>
         ensures { result ≡ option_map place_and_len (tree_partner self.now place) }
     {
-        let start = Length {
-            lines: 0,
-            columns: 0,
-        };
-        let _kept = self.inner.kept();
-        partner_of(&self.inner, start, &place)
+        let mut here = Placed::whole(&self.inner);
+        loop {
+            if let Some(found) = partner_here(&here, &place) {
+                return Some(found);
+            }
+            here = here.part_at(&place)?;
+        }
     }
 }
 
-#[tactic(auto, using(crate::proofs::LevelWalk::level_steps))]
-// The level at the place in a node that starts here, at this level; `before` is the level before
-// the node's entries.
-fn level_at(inner: &Inner, start: Length, level: u64, before: u64, place: &Length) -> u64
-    requires { HasRoom start level inner.now }
-    ensures { result ≡ level_before place.now before (tree_entries start level inner.now) }
+// A walk down to the level at a place: the node that it came to, the node's level, and the level before its entries.
+#[derive(Clone, Copy)]
+struct LevelWalk<'a> {
+    here: Placed<'a>,
+    level: u64,
+    before: u64,
+}
+
+// Where a walk goes on, or the level that it found.
+#[derive(Clone, Copy)]
+enum LevelStep<'a> {
+    On(LevelWalk<'a>),
+    At(u64),
+}
+
+impl<'a> LevelWalk<'a> {
+    #[tactic(auto, using(crate::proofs::LevelWalk::level_steps))]
+    // On to the part that tells the level at the place.
+    fn step(&self, place: &Length) -> LevelStep<'a>
+        requires { HasRoom self.now.here.start self.now.level self.now.here.node.now.value }
+        ensures { IsLevelStep self.now place.now result }
+    {
+        let node = self.here.node;
+        match &node.shape {
+            Shape::Text(_) | Shape::Capped(_, _) | Shape::Nothing => LevelStep::At(self.before),
+            Shape::Stray(_, _) => {
+                let is_past = self.here.start.before(place);
+                LevelStep::At(if is_past { self.level } else { self.before })
+            }
+            Shape::Pair(_, opening, inside, closing) => {
+                if !self.here.start.before(place) {
+                    return LevelStep::At(self.before);
+                }
+                let start = self.here.start.plus(&wide(*opening));
+                if closes_before(*closing, &inside.end(&start), place) {
+                    return LevelStep::At(self.level);
+                }
+                let here = Placed {
+                    start,
+                    node: inside,
+                };
+                LevelStep::On(within(here, self.level + 1, self.level + 1))
+            }
+            Shape::Two(a, b) => {
+                let first = within(self.here.first(a), self.level, self.before);
+                let second = first.past(b);
+                if !second.here.start.before(place) {
+                    return LevelStep::On(first);
+                }
+                LevelStep::On(second)
+            }
+            Shape::Three(a, b, c) => {
+                let first = within(self.here.first(a), self.level, self.before);
+                let second = first.past(b);
+                if !second.here.start.before(place) {
+                    return LevelStep::On(first);
+                }
+                let third = second.past(c);
+                if !third.here.start.before(place) {
+                    return LevelStep::On(second);
+                }
+                LevelStep::On(third)
+            }
+        }
+    }
+
+    // On to the node that stands after this one in a list.
+    fn past(&self, node: &'a Shared) -> LevelWalk<'a>
+        requires { HasRoom self.now.here.start self.now.level self.now.here.node.now.value }
+        ensures start { result.here.start
+            ≡ length_plus self.now.here.start (tree_length self.now.here.node.now.value) }
+        ensures fits { result.here.start.lines + result.here.start.columns
+            ≤ self.now.here.start.lines + self.now.here.start.columns + weight self.now.here.node.now.value }
+        ensures node { result.here.node.now.value ≡ node.now.value }
+        ensures level { result.level ≡ self.now.level }
+        ensures before { result.before
+            ≡ level_from self.now.level self.now.before (last_level self.now.here.node.now.value) }
+    {
+        let last = self.here.node.kept().last_level;
+        let before = level_from(self.level, self.before, last);
+        within(self.here.next(node), self.level, before)
+    }
+}
+
+fn within<'a>(here: Placed<'a>, level: u64, before: u64) -> LevelWalk<'a>
+    ensures start { result.here.start ≡ here.entry.start }
+    ensures node { result.here.node.now.value ≡ here.entry.node.now.value }
+    ensures level { result.level ≡ level }
+    ensures before { result.before ≡ before }
 {
-    match &inner.shape {
-        Shape::Text(_) | Shape::Capped(_, _) | Shape::Nothing => before,
-        Shape::Stray(_, _) => { if start.before(place) { level } else { before } }
-        Shape::Pair(_, opening, inside, closing) => {
-            if !start.before(place) {
-                return before;
-            }
-            let inside_start = start.plus(&wide(*opening));
-            let ends = inside.end(&inside_start);
-            if closes_before(*closing, &ends, place) {
-                return level;
-            }
-            level_at(inside, inside_start, level + 1, level + 1, place)
-        }
-        Shape::Two(a, b) => {
-            let middle = a.end(&start);
-            if middle.before(place) {
-                let before = level_from(level, before, a.kept().last_level);
-                level_at(b, middle, level, before, place)
-            } else {
-                level_at(a, start, level, before, place)
-            }
-        }
-        Shape::Three(a, b, c) => {
-            let second = a.end(&start);
-            if !second.before(place) {
-                return level_at(a, start, level, before, place);
-            }
-            let before = level_from(level, before, a.kept().last_level);
-            let third = b.end(&second);
-            if !third.before(place) {
-                return level_at(b, second, level, before, place);
-            }
-            let before = level_from(level, before, b.kept().last_level);
-            level_at(c, third, level, before, place)
-        }
+    LevelWalk {
+        here,
+        level,
+        before,
     }
 }
 
@@ -101,57 +162,24 @@ fn level_from(level: u64, before: u64, last: Option<u64>) -> u64
     }
 }
 
-#[tactic(auto, using(crate::proofs::PartnerWalk::partner_steps))]
-// The partner of the bracket at the place in a node that starts here.
-fn partner_of(inner: &Inner, start: Length, place: &Length) -> Option<(Length, u64)>
-    requires { start.lines + start.columns + weight inner.now < 2 ^ 64 }
-    ensures { (level : ℕ) → result
-        ≡ option_map place_and_len (partner_at place.now (tree_entries start level inner.now)) }
+#[tactic(auto, using(crate::proofs::PartnerWalk::own_partners))]
+// The partner of a bracket at the place that stands in the node and in no part of it.
+fn partner_here(here: &Placed, place: &Length) -> Option<(Length, u64)>
+    requires { here.now.start.lines + here.now.start.columns + weight here.now.node.now.value < 2 ^ 64 }
+    ensures some { IfSome result (λ found. (level : ℕ) → option_map place_and_len
+        (partner_at place.now (tree_entries here.now.start level here.now.node.now.value)) ≡ Some found) }
+    ensures none { IfNone result (NoOwnPartnerAt here.now.start here.now.node.now.value place.now) }
 {
-    match &inner.shape {
-        Shape::Pair(_, opening, inside, closing) => {
-            let inside_start = start.plus(&wide(*opening));
-            let ends = inside.end(&inside_start);
-            if start == *place {
-                return closing_place(ends, *closing);
-            }
-            if closes_at(*closing, &ends, place) {
-                return Some((start, *opening));
-            }
-            partner_of(inside, inside_start, place)
-        }
-        Shape::Two(a, b) => {
-            let middle = a.end(&start);
-            if place.before(&middle) {
-                partner_of(a, start, place)
-            } else {
-                partner_of(b, middle, place)
-            }
-        }
-        Shape::Three(a, b, c) => {
-            let second = a.end(&start);
-            if place.before(&second) {
-                return partner_of(a, start, place);
-            }
-            let third = b.end(&second);
-            if place.before(&third) {
-                return partner_of(b, second, place);
-            }
-            partner_of(c, third, place)
-        }
-        _ => None,
+    let node = here.node;
+    let Shape::Pair(_, opening, inside, Some(closing)) = &node.shape else {
+        return None;
+    };
+    let ends = inside.end(&here.start.plus(&wide(*opening)));
+    if here.start == *place {
+        return Some((ends, *closing));
     }
-}
-
-// Whether there is a closing bracket, and it starts at the place.
-fn closes_at(closing: Option<u64>, ends: &Length, place: &Length) -> bool
-    ensures { result ≡ (is_some_width closing && same_place ends.now place.now) }
-{
-    closing.is_some() && *ends == *place
-}
-
-fn closing_place(ends: Length, closing: Option<u64>) -> Option<(Length, u64)>
-    ensures { result ≡ option_map place_and_len (closing_spot ends closing) }
-{
-    closing.map(|width| (ends, width))
+    if ends == *place {
+        return Some((here.start, *opening));
+    }
+    None
 }

@@ -1,6 +1,5 @@
 -- The walk down to the bracket at a place: of the parts of a list only one has brackets there.
 use Rattle.std.proofs.Common.{◌≡◌, ◌≢◌, ℕ, ◌<◌, ◌⊎◌, Bool, true, false, Option, Some, None, List, [], ◌∷◌, ◌++◌, refl, ap, sym, ◌∙◌, subst, arith, inl, inr}
-use Rattle.std.specs.Prelude.{IfNone}
 use Rattle.text_lengths.specs.declared.Length.{Length}
 use Rattle.text_lengths.specs.Length.{length_plus, is_before}
 use Rattle.bracket_rules.specs.declared.Token.{Token}
@@ -22,7 +21,7 @@ closing_from p k None b h = elim h [ ]
 closing_from p k (Some w) b h = lone_from p w k false b h
 
 -- no bracket starts before the tree that it stands in
-bracket_from : (p : Length) (t : Tree) (b : Bracket) → HasBracket p t b → is_before b.place p ≡ false
+pub bracket_from : (p : Length) (t : Tree) (b : Bracket) → HasBracket p t b → is_before b.place p ≡ false
 bracket_from p (text l) b none = elim none [ ]
 bracket_from p (pair k o i c) b (inl first) = ap (λ (x : Bracket). is_before x.place p) first ∙ not_before_itself p
 bracket_from p (pair k o i c) b (inr later) =
@@ -52,7 +51,7 @@ bracket_from p (three x y z) b h =
           ])
     ]
 
-before_wide : (p : Length) (w : ℕ) → 0 < w → is_before p (length_plus p (wide w)) ≡ true
+pub before_wide : (p : Length) (w : ℕ) → 0 < w → is_before p (length_plus p (wide w)) ≡ true
 before_wide p w h = before_units p (wide w) (omega arith)
 
 lone_ends : (p : Length) (w k : ℕ) (opening : Bool) (b : Bracket) → 0 < w → IsAmong b (bracket p w k opening ∷ [])
@@ -66,7 +65,7 @@ closing_ends p k None b h none = elim none [ ]
 closing_ends p k (Some w) b h last = lone_ends p w k false b h last
 
 -- a bracket starts before the end of the tree that it stands in
-bracket_ends : (p : Length) (t : Tree) (b : Bracket) → IsTree t → HasBracket p t b → is_before b.place (length_plus p (tree_length t)) ≡ true
+pub bracket_ends : (p : Length) (t : Tree) (b : Bracket) → IsTree t → HasBracket p t b → is_before b.place (length_plus p (tree_length t)) ≡ true
 bracket_ends p (text l) b h none = elim none [ ]
 bracket_ends p (pair k o i c) b h (inl first) =
     before_pair_end b.place p k o i c
@@ -133,7 +132,7 @@ no_bracket_of_text p l q = λ b none same. elim none [ ]
 pub no_bracket_of_nothing : (p q : Length) → IsBracketFound p nothing q None
 no_bracket_of_nothing p q = λ b none same. elim none [ ]
 
-lone_apart : (p q : Length) (w k : ℕ) (opening : Bool) (b : Bracket) → (p ≡ q → ⊥) → IsAmong b (bracket p w k opening ∷ []) → b.place ≢ q
+pub lone_apart : (p q : Length) (w k : ℕ) (opening : Bool) (b : Bracket) → (p ≡ q → ⊥) → IsAmong b (bracket p w k opening ∷ []) → b.place ≢ q
 lone_apart p q w k opening b apart (inl first) = λ same. apart (sym (ap (λ (x : Bracket). x.place) first) ∙ same)
 lone_apart p q w k opening b apart (inr none) = elim none [ ]
 
@@ -168,7 +167,7 @@ bracket_closes p q k o i c w closing same = record {
   column = refl;
 }
 
-closing_apart : (ends q : Length) (k : ℕ) (c : Option ℕ) (b : Bracket) → (c ≡ None) ⊎ (ends ≢ q) → IsAmong b (closing_brackets ends k c) → b.place ≢ q
+pub closing_apart : (ends q : Length) (k : ℕ) (c : Option ℕ) (b : Bracket) → (c ≡ None) ⊎ (ends ≢ q) → IsAmong b (closing_brackets ends k c) → b.place ≢ q
 closing_apart ends q k None b h none = elim none [ ]
 closing_apart ends q k (Some w) b (inl unclosed) last = cc
 closing_apart ends q k (Some w) b (inr apart) last = lone_apart ends q w k false b apart last
@@ -233,9 +232,4 @@ bracket_in_third_of_three p x y z q found tree_x tree_y e f h =
     of_three p x y z q found
     (bracket_in_second p x (two y z) q found tree_x e (bracket_in_second (length_plus p (tree_length x)) y z q found tree_y f h))
 
--- where none is found, there is none
-pub no_bracket_found : (p : Length) (t : Tree) (q : Length) (o : Option Token) → IsBracketFound p t q o → IfNone o (NoBracketAt p t q)
-no_bracket_found p t q None h = h
-no_bracket_found p t q (Some found) h = tt
-
-pub ruleset bracket_steps = (no_bracket_of_text, no_bracket_of_nothing, bracket_of_stray, no_bracket_of_stray, bracket_of_capped, no_bracket_of_capped, bracket_opens, bracket_closes, bracket_inside, bracket_in_first, bracket_in_second, bracket_in_first_of_three, bracket_in_second_of_three, bracket_in_third_of_three)
+pub ruleset own_brackets = (bracket_of_stray, bracket_of_capped, bracket_opens, bracket_closes)

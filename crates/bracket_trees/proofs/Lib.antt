@@ -11,6 +11,7 @@ pub mod Whole
 pub mod Places
 pub mod Longest
 pub mod BracketAt
+pub mod Parts
 pub mod LeafWeights
 pub mod TreeLeaves
 pub mod PartedLeaves

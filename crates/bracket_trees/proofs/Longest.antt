@@ -82,7 +82,7 @@ here_from : (p : Length) (t : Tree) (q : Length) (n : Tree) → IsHere p t q n �
 here_from p t q n h = ap (λ (x : Length). is_before x p) h.place ∙ not_before_itself p
 
 -- no node starts before the tree that it stands in
-node_from : (p : Length) (t : Tree) (q : Length) (n : Tree) → HasNode p t q n → is_before q p ≡ false
+pub node_from : (p : Length) (t : Tree) (q : Length) (n : Tree) → HasNode p t q n → is_before q p ≡ false
 node_from p (text l) q n here = here_from p (text l) q n here
 node_from p (pair k o i c) q n (inl here) = here_from p (pair k o i c) q n here
 node_from p (pair k o i c) q n (inr in_it) = not_before_front q p (wide o) (node_from (inside_start p o) i q n in_it)
@@ -109,7 +109,7 @@ here_ends p t q n h e here =
     ∙ before_units p (tree_length t) (tree_units t h (ap is_nothing (sym here.node) ∙ e))
 
 -- a node that is not nothing starts before the end of the tree that it stands in
-node_ends : (p : Length) (t : Tree) (q : Length) (n : Tree) → IsTree t → is_nothing n ≡ false → HasNode p t q n
+pub node_ends : (p : Length) (t : Tree) (q : Length) (n : Tree) → IsTree t → is_nothing n ≡ false → HasNode p t q n
     → is_before q (length_plus p (tree_length t)) ≡ true
 node_ends p (text l) q n h e here = here_ends p (text l) q n h e here
 node_ends p (pair k o i c) q n h e (inl here) = here_ends p (pair k o i c) q n h e here
@@ -192,7 +192,7 @@ longest_here p t q lines kinds level h = record {
 }
 
 -- where the tree itself is not taken, nor is a node that is the tree
-not_here : (p : Length) (t : Tree) (q : Length) (lines kinds level : ℕ) (n : Tree) → (IsTakenHere p t q lines kinds level → ⊥)
+pub not_here : (p : Length) (t : Tree) (q : Length) (lines kinds level : ℕ) (n : Tree) → (IsTakenHere p t q lines kinds level → ⊥)
     → IsHere p t q n → MayBeTaken lines kinds level n → ⊥
 not_here p t q lines kinds level n none here taken = none (sym here.place, subst (MayBeTaken lines kinds level) here.node taken)
 

@@ -7,3 +7,4 @@ pub mod Told
 pub mod Places
 mod Examples
 pub mod Found
+pub mod Parts

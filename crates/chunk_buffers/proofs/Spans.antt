@@ -6,7 +6,7 @@ use Rattle.std.proofs.lemmas.List.Sums.{sum_by-set}
 use Rattle.text_rules.specs.Breaks.{joins_pair}
 use Rattle.chunk_buffers.specs.Buffer.{Filled, padding, padded}
 use Rattle.chunk_buffers.specs.declared.span.ChunkSpan.{ChunkSpan}
-use Rattle.chunk_buffers.specs.Chunks.{buffer_at, units_at, LiesIn, Extends, unit_count, part_of, last_room}
+use Rattle.chunk_buffers.specs.Chunks.{buffer_at, units_at, LiesIn, Extends, EndsLast, unit_count, part_of, last_room}
 
 module _ (front whole : List ℕ) (is_front : take (length front) whole ≡ front) where
   front_le : length front ≤ length whole
@@ -109,18 +109,28 @@ module _ (bs : List (List ℕ)) (number start units : ℕ) (text new : List ℕ)
         padded_count (buffer_at bs number) (joins_pair (buffer_at bs number) text),
       )
 
--- what appending to one of these buffers leaves
+  pub appended_last : number + 1 ≡ length bs → EndsLast bs (set bs number new) appended text
+  appended_last last = record {
+    count = length-set bs number new;
+    last = last;
+    start = start_is;
+    end = omega (arith, ap length there, length-append (padded (buffer_at bs number) text) text, start_is, units_is);
+  }
+
+-- what appending to the last of these buffers leaves
 pub record IsAppended (old new : List (List ℕ)) (span : ChunkSpan) (text : List ℕ) : Type 0 where
   pub shown : units_at new span ≡ text
   pub inside : LiesIn new span
   pub grown : Extends old new
   pub few : unit_count new ≤ unit_count old + length text + 1
+  pub last : EndsLast old new span text
 
-pub IsAppended-at : (items : List Filled) (number : ℕ) (old new : Filled) (start units : ℕ) (text : List ℕ) → number < length items
+pub IsAppended-at : (items : List Filled) (number : ℕ) (old new : Filled) (start units : ℕ) (text : List ℕ) → number + 1 ≡ length items
     → old ≡ get_or items number old → new.units ≡ padded old.units text ++ text → start ≡ length (padded old.units text) → units ≡ length text
     → start + length text < 2 ^ 63
     → IsAppended (map (λ b. b.units) items) (map (λ b. b.units) (set items number new)) (record { buffer = number; start = start; units = units }) text
-IsAppended-at items number old new start units text inside old_is new_is start_is units_is fits =
+IsAppended-at items number old new start units text last old_is new_is start_is units_is fits =
+    let inside : number < length items = omega (arith, last) in
     let bs : List (List ℕ) = map (λ b. b.units) items in
     let here : buffer_at bs number ≡ old.units = get_or-map (λ (b : Filled). b.units) items number old [] inside ∙ ap (λ (b : Filled). b.units) (sym old_is) in
     let within : number < length bs = omega (arith, length-map items (λ (b : Filled). b.units)) in
@@ -132,6 +142,7 @@ IsAppended-at items number old new start units text inside old_is new_is start_i
       inside = appended_inside bs number start units text new.units within new_units place units_is (omega arith);
       grown = appended_grown bs number start units text new.units within new_units place units_is;
       few = appended_count bs number start units text new.units within new_units place units_is;
+      last = appended_last bs number start units text new.units within new_units place units_is (omega (arith, last, length-map items (λ (b : Filled). b.units)));
     })
 
 pub last_room_some : (items : List Filled) → 0 < last_room items → 0 < length items

@@ -1,7 +1,7 @@
 -- Texts that lie in buffers, which only grow at their ends.
 use Rattle.std.specs.Prelude.{ℕ, ◌≡◌, ◌+◌, ◌-◌, ◌<◌, ◌≤◌, ◌^◌, List, [], length, take, drop, sum_by, slice_index_or}
 use Rattle.chunk_buffers.specs.declared.span.ChunkSpan.{ChunkSpan}
-use Rattle.chunk_buffers.specs.Buffer.{Filled}
+use Rattle.chunk_buffers.specs.Buffer.{Filled, padded}
 
 -- what contracts see of chunks
 pub record Shown : Type 0 where
@@ -27,6 +27,13 @@ pub record LiesIn (buffers : List (List ℕ)) (span : ChunkSpan) : Type 0 where
 pub record Extends (old new : List (List ℕ)) : Type 0 where
   pub count : length old ≤ length new
   pub fronts : (number : ℕ) → number < length old → take (length (buffer_at old number)) (buffer_at new number) ≡ buffer_at old number
+
+-- the text was appended to the last buffer, which ends where its span does
+pub record EndsLast (old new : List (List ℕ)) (span : ChunkSpan) (text : List ℕ) : Type 0 where
+  pub count : length new ≡ length old
+  pub last : span.buffer + 1 ≡ length old
+  pub start : span.start ≡ length (padded (buffer_at old span.buffer) text)
+  pub end : span.start + span.units ≡ length (buffer_at new span.buffer)
 
 abbrev pub unit_count : List (List ℕ) → ℕ
 unit_count buffers = sum_by length buffers

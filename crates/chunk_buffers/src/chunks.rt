@@ -2,7 +2,7 @@
 
 ghost use Rattle.std.specs.Prelude.{◌≡◌, ◌+◌, ◌-◌, ◌<◌, ◌≤◌, ◌++◌, [], length, take, drop, IfOk, OnOk, OnErr};
 ghost use Rattle.chunk_buffers.specs.Buffer.{breaks_to};
-ghost use Rattle.chunk_buffers.specs.Chunks.{units_at, LiesIn, Extends, unit_count, part_of};
+ghost use Rattle.chunk_buffers.specs.Chunks.{units_at, LiesIn, Extends, EndsLast, unit_count, part_of};
 ghost use Rattle.line_starts.specs.Starts.{break_count};
 ghost use Rattle.text_rules.specs.Lines.{line_start};
 
@@ -82,6 +82,7 @@ impl Chunks {
         ensures units { unit_count self.new.buffers
             ≤ unit_count self.old.buffers + length text.now + 1 }
         ensures spare { self.old.spare ≤ self.new.spare + length text.now + 1 }
+        ensures last { EndsLast self.old.buffers self.new.buffers result text.now }
     {
         self.append_joined(&[], text, &[])
     }
@@ -96,6 +97,8 @@ impl Chunks {
             ≤ unit_count self.old.buffers + length (before.now ++ text.now ++ after.now) + 1 }
         ensures spare { self.old.spare
             ≤ self.new.spare + length (before.now ++ text.now ++ after.now) + 1 }
+        ensures last { EndsLast self.old.buffers self.new.buffers result
+            (before.now ++ text.now ++ after.now) }
     {
         let number = self.buffers.len() - 1;
         let buffer = &mut self.buffers[number];

@@ -1,5 +1,5 @@
 -- Worked examples of the definitions.
-use Rattle.std.specs.Prelude.{◌≡◌, ℕ, ◌^◌, true, false, List, [], ◌∷◌, map, Some, Ok, Err, refl}
+use Rattle.std.specs.Prelude.{◌≡◌, ℕ, ◌^◌, Bool, true, false, List, [], ◌∷◌, map, Some, Ok, Err, refl}
 use Rattle.text_lengths.specs.declared.Span.{Span}
 use Rattle.decoration_rules.specs.declared.Sticky.{Sticky}
 use Rattle.decoration_rules.specs.declared.Sticky.TheVariants.{AlwaysGrows, NeverGrows, GrowsBefore, GrowsAfter}
@@ -45,26 +45,23 @@ put_back = refl
 fewer_in_its_place : all_modes (edit 1 6 3) ≡ span 2 4 ∷ span 2 4 ∷ span 2 4 ∷ span 2 4 ∷ []
 fewer_in_its_place = refl
 
-just_as_many_in_its_place : moved (span 2 5) AlwaysGrows false (edit 2 5 3) ≡ span 2 5
+-- where a growing decoration stands after each of the edits
+abbrev grown : Bool → Span → List Edit → List Span
+grown collapse at edits = map (moved at AlwaysGrows collapse) edits
+
+-- without force, and by force
+just_as_many_in_its_place : grown false (span 2 5) (edit 2 5 3 ∷ forced 2 5 3 ∷ []) ≡ span 2 5 ∷ span 5 5 ∷ []
 just_as_many_in_its_place = refl
 
-just_as_many_by_force : moved (span 2 5) AlwaysGrows false (forced 2 5 3) ≡ span 5 5
-just_as_many_by_force = refl
-
-collapsed : moved (span 2 5) AlwaysGrows true (edit 1 6 3) ≡ span 1 1
+-- where all of it is taken, and where something is left
+collapsed : grown true (span 2 5) (edit 1 6 3 ∷ edit 3 6 0 ∷ []) ≡ span 1 1 ∷ span 2 3 ∷ []
 collapsed = refl
 
-collapsed_at_an_insert : moved (span 1 1) AlwaysGrows true (edit 1 1 1) ≡ span 1 1
+collapsed_at_an_insert : grown true (span 1 1) (edit 1 1 1 ∷ []) ≡ span 1 1 ∷ []
 collapsed_at_an_insert = refl
 
-not_all_of_it_taken : moved (span 2 5) AlwaysGrows true (edit 3 6 0) ≡ span 2 3
-not_all_of_it_taken = refl
-
-an_empty_one_grows : moved (span 1 1) AlwaysGrows false (edit 1 1 1) ≡ span 1 2
+an_empty_one_grows : grown false (span 1 1) (edit 1 1 1 ∷ forced 1 1 1 ∷ []) ≡ span 1 2 ∷ span 2 2 ∷ []
 an_empty_one_grows = refl
-
-an_empty_one_by_force : moved (span 1 1) AlwaysGrows false (forced 1 1 1) ≡ span 2 2
-an_empty_one_by_force = refl
 
 -- its start would pass its end
 an_empty_one_never_grows : moved (span 1 1) NeverGrows false (edit 1 1 1) ≡ span 2 2

@@ -1,71 +1,43 @@
 -- Whether a number comes twice, before and after a sort.
-use Rattle.std.proofs.Common.{◌≡◌, ℕ, ◌+◌, ◌<◌, ◌≤◌, suc, zero, Bool, true, false, not, ◌||◌, cond, ltb, eqb, inl, inr, List, [], ◌∷◌, length, get_or, refl, sym, ◌∙◌, subst, arith}
-use Rattle.std.specs.List.{list_any, sum_by, IsAllAdjacentAnswer}
+use Rattle.std.proofs.Common.{◌≡◌, ℕ, ◌+◌, ◌<◌, ◌≤◌, suc, zero, Bool, true, false, not, ◌||◌, ltb, eqb, inl, inr, List, [], ◌∷◌, length, get_or, refl, sym, ◌∙◌, subst, arith}
+use Rattle.std.specs.List.{list_any, IsAllAdjacentAnswer}
 use Rattle.std.specs.List.Sorted.{IsPermutation, IsNonDecreasing}
-use Rattle.std.proofs.lemmas.Bool.{cond-true, cond-false, or_parts, or_from, or_left, eqb-true, eq-eqb, ne_eqb, ltb-true, ltb-false, cases_Bool, both_ways}
+use Rattle.std.proofs.lemmas.Bool.{or_parts, or_from, or_left, eqb-true, eq-eqb, ne_eqb, ltb-true, ltb-false, cases_Bool, both_ways}
 use Rattle.std.proofs.lemmas.List.Folds.{list_any_none, list_any_at}
-use Rattle.std.proofs.lemmas.List.Sums.{sum_by-cons}
 use Rattle.std.proofs.lemmas.List.Sorted.{sum_by-IsPermutation, IsPermutation-sym}
 use Rattle.decoration_rules.specs.Decorations.{has_repeat}
+use Rattle.interval_deltas.proofs.Counts.{once, times, times-cons, once-it, once-other, times-none, none-from_times}
+
+abbrev same : ℕ → ℕ → Bool
+same n other = eqb other n
 
 abbrev names : ℕ → List ℕ → Bool
-names n xs = list_any (λ other. eqb other n) xs
+names n xs = list_any (same n) xs
 
 -- It is so where some number is counted more than once.
 
-abbrev once : ℕ → ℕ → ℕ
-once n m = cond (eqb m n) 1 0
-
-abbrev times : ℕ → List ℕ → ℕ
-times n xs = sum_by (once n) xs
-
-times-cons : (n x : ℕ) (xs : List ℕ) → times n (x ∷ xs) ≡ once n x + times n xs
-times-cons n x xs = sum_by-cons (once n) x xs
-
-once-it : (n m : ℕ) → eqb m n ≡ true → once n m ≡ 1
-once-it n m is = cond-true (eqb m n) 1 0 is
-
-once-other : (n m : ℕ) → eqb m n ≡ false → once n m ≡ 0
-once-other n m other = cond-false (eqb m n) 1 0 other
-
-times-none : (n : ℕ) (xs : List ℕ) → names n xs ≡ false → times n xs ≡ 0
-times-none n [] none = refl
-times-none n (x ∷ xs) none =
-    let here : once n x ≡ 0 = once-other n x (or_parts (eqb x n) (names n xs) none).0 in
-    omega (arith, here, times-none n xs (or_parts (eqb x n) (names n xs) none).1, times-cons n x xs)
-
-none-from_times : (n : ℕ) (xs : List ℕ) → times n xs ≡ 0 → names n xs ≡ false
-none-from_times n [] zero_times = refl
-none-from_times n (x ∷ xs) zero_times =
-    or_from (eqb x n) (names n xs)
-    (elim (cases_Bool (eqb x n)) [
-      | inl is ↦ absurd (let one : once n x ≡ 1 = once-it n x is in omega (arith, one, zero_times, times-cons n x xs))
-      | inr other ↦ other
-    ])
-    (none-from_times n xs (omega (arith, zero_times, times-cons n x xs)))
-
-times-single : (n : ℕ) (xs : List ℕ) → has_repeat xs ≡ false → times n xs ≤ 1
+times-single : (n : ℕ) (xs : List ℕ) → has_repeat xs ≡ false → times same n xs ≤ 1
 times-single n [] single = omega arith
 times-single n (x ∷ xs) single =
     let parts = or_parts (names x xs) (has_repeat xs) single in
     elim (cases_Bool (eqb x n)) [
       | inl is ↦
-          let one : once n x ≡ 1 = once-it n x is in
-          omega (arith, one, times-none n xs (subst (λ m. names m xs ≡ false) (eqb-true x n is) parts.0), times-cons n x xs)
+          let one : once same n x ≡ 1 = once-it same n x is in
+          omega (arith, one, times-none same n xs (subst (λ m. names m xs ≡ false) (eqb-true x n is) parts.0), times-cons same n x xs)
       | inr other ↦
-          let none : once n x ≡ 0 = once-other n x other in
-          omega (arith, none, times-single n xs parts.1, times-cons n x xs)
+          let none : once same n x ≡ 0 = once-other same n x other in
+          omega (arith, none, times-single n xs parts.1, times-cons same n x xs)
     ]
 
-single-from_times : (xs : List ℕ) → ((n : ℕ) → times n xs ≤ 1) → has_repeat xs ≡ false
+single-from_times : (xs : List ℕ) → ((n : ℕ) → times same n xs ≤ 1) → has_repeat xs ≡ false
 single-from_times [] few = refl
 single-from_times (x ∷ xs) few =
     or_from (names x xs) (has_repeat xs)
-    (none-from_times x xs (let one : once x x ≡ 1 = once-it x x (eq-eqb x x refl) in omega (arith, one, few x, times-cons x x xs)))
-    (single-from_times xs (λ n. omega (arith, few n, times-cons n x xs)))
+    (none-from_times same x xs (let one : once same x x ≡ 1 = once-it same x x (eq-eqb x x refl) in omega (arith, one, few x, times-cons same x x xs)))
+    (single-from_times xs (λ n. omega (arith, few n, times-cons same n x xs)))
 
 single-permutation : (xs ys : List ℕ) → IsPermutation xs ys → has_repeat xs ≡ false → has_repeat ys ≡ false
-single-permutation xs ys moved single = single-from_times ys (λ n. omega (arith, sum_by-IsPermutation (once n) xs ys moved, times-single n xs single))
+single-permutation xs ys moved single = single-from_times ys (λ n. omega (arith, sum_by-IsPermutation (once same n) xs ys moved, times-single n xs single))
 
 has_repeat-permutation : (xs ys : List ℕ) → IsPermutation xs ys → has_repeat ys ≡ has_repeat xs
 has_repeat-permutation xs ys moved = elim (cases_Bool (has_repeat xs)) [

@@ -3,35 +3,31 @@ use Rattle.std.specs.Prelude.{◌≡◌, ℕ, List, [], ◌∷◌, Result, Ok, E
 use Rattle.text_rules.specs.declared.Op.{Op}
 use Rattle.decoration_rules.specs.declared.Deco.{Deco}
 use Rattle.decoration_rules.specs.declared.Sticky.TheVariants.{AlwaysGrows}
-use Rattle.decoration_rules.specs.Decorations.{no_decorations}
 use Rattle.bracket_rules.specs.Table.{standard_table}
 use Rattle.bracket_rules.specs.declared.Entry.{Entry}
 use Rattle.bracket_rules.specs.declared.Status.{Status}
 use Rattle.bracket_rules.specs.declared.Status.TheVariants.{PairedOpening, PairedClosing, Unclosed, Unexpected}
-use Rattle.snapshot_rules.specs.Snapshots.{empty_shelf}
+use Rattle.undo_rules.specs.Stack.{Stack}
 use Rattle.document_rules.specs.Snapshots.{flat_snapshot, flat_peek_of, flat_skipped, flat_close_of}
 use Rattle.document_rules.specs.Stops.{flat_stops}
 use Rattle.document_rules.specs.Brackets.{flat_brackets, flat_match, flat_level}
 use Rattle.document_rules.specs.Refusals.{FlatRefusal, unknown, range, overlap, limit}
-use Rattle.document_rules.specs.Document.{FlatState, new_document, after_batch, flat_edit, flat_undo, flat_redo, flat_decorate, flat_deco, flat_decos, carried_on, flat_line, flat_value, flat_position, flat_offset, flat_line_count, greatest_version}
+use Rattle.document_rules.specs.Document.{FlatState, FlatChange, new_document, after_batch, flat_edit, flat_undo, flat_redo, flat_decorate, flat_deco, flat_decos, carried_on, flat_line, flat_value, flat_position, flat_offset, flat_line_count, greatest_version}
 
 abbrev op : ℕ → ℕ → List ℕ → Op
 op start end text = record { span = record { start = start; end = end }; text = text; force = false }
 
+-- a text of these two versions, with what can be undone and redone
+abbrev at_version : ℕ → ℕ → List ℕ → Stack FlatChange → FlatState
+at_version version alternative text history =
+    record (new_document text standard_table) { version = version; alternative = alternative; history = history }
+
 an_edit_over_a_break : flat_edit (new_document (codes "ab\ncd") standard_table) (op 1 4 (codes "X") ∷ [])
-    ≡ Ok (record {
-      units = codes "aXd";
-      version = 2;
-      alternative = 2;
-      decorations = no_decorations;
-      table = standard_table;
-      history = record {
-        undo = record { changes = record { before = codes "ab\ncd"; ops = op 1 4 (codes "X") ∷ []; after = codes "aXd" } ∷ []; alt_before = 1; alt_after = 2 } ∷ [];
-        redo = [];
-        is_open = true;
-      };
-      shelf = empty_shelf;
-    })
+    ≡ Ok (at_version 2 2 (codes "aXd") (record {
+      undo = record { changes = record { before = codes "ab\ncd"; ops = op 1 4 (codes "X") ∷ []; after = codes "aXd" } ∷ []; alt_before = 1; alt_after = 2 } ∷ [];
+      redo = [];
+      is_open = true;
+    }))
 an_edit_over_a_break = refl
 
 an_edit_past_the_end : flat_edit (new_document (codes "ab") standard_table) (op 1 3 (codes "X") ∷ []) ≡ Err range
@@ -47,36 +43,16 @@ an_edit_at_the_last_version = refl
 abbrev one_edit : FlatState
 one_edit = after_batch (new_document (codes "a") standard_table) (op 1 1 (codes "b") ∷ []) (op 1 1 (codes "b") ∷ [])
 
+-- ... and an undo has taken it back
+abbrev undone_edit : FlatState
+undone_edit = at_version 3 1 (codes "a") (record { undo = []; redo = one_edit.history.undo; is_open = false })
+
 an_undo_goes_back_to_the_old_text : flat_undo one_edit
-    ≡ Ok (Some (record {
-      units = codes "a";
-      version = 3;
-      alternative = 1;
-      decorations = no_decorations;
-      table = standard_table;
-      history = record { undo = []; redo = one_edit.history.undo; is_open = false };
-      shelf = empty_shelf;
-    }))
+    ≡ Ok (Some undone_edit)
 an_undo_goes_back_to_the_old_text = refl
 
-a_redo_makes_the_step_again : flat_redo (record {
-  units = codes "a";
-  version = 3;
-  alternative = 1;
-  decorations = no_decorations;
-  table = standard_table;
-  history = record { undo = []; redo = one_edit.history.undo; is_open = false };
-  shelf = empty_shelf;
-})
-    ≡ Ok (Some (record {
-      units = codes "ab";
-      version = 4;
-      alternative = 2;
-      decorations = no_decorations;
-      table = standard_table;
-      history = record { undo = one_edit.history.undo; redo = []; is_open = false };
-      shelf = empty_shelf;
-    }))
+a_redo_makes_the_step_again : flat_redo undone_edit
+    ≡ Ok (Some (at_version 4 2 (codes "ab") (record { undo = one_edit.history.undo; redo = []; is_open = false })))
 a_redo_makes_the_step_again = refl
 
 -- two edits without a stop are one step
@@ -84,15 +60,7 @@ abbrev two_edits : FlatState
 two_edits = after_batch one_edit (op 2 2 (codes "c") ∷ []) (op 2 2 (codes "c") ∷ [])
 
 an_undo_takes_back_the_whole_step : flat_undo two_edits
-    ≡ Ok (Some (record {
-      units = codes "a";
-      version = 4;
-      alternative = 1;
-      decorations = no_decorations;
-      table = standard_table;
-      history = record { undo = []; redo = two_edits.history.undo; is_open = false };
-      shelf = empty_shelf;
-    }))
+    ≡ Ok (Some (at_version 4 1 (codes "a") (record { undo = []; redo = two_edits.history.undo; is_open = false })))
 an_undo_takes_back_the_whole_step = refl
 
 no_undo_at_the_last_version : flat_undo (record one_edit { version = greatest_version }) ≡ Err limit

@@ -1,4 +1,5 @@
 mod MoveLoops
+pub mod Counts
 mod Sorting
 mod Ranks
 mod Places

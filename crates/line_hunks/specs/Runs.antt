@@ -55,6 +55,11 @@ run_count r = length r.front.runs + length r.back.runs
 abbrev pub room_of : Runs → ℕ
 room_of r = min r.front.room r.back.room
 
+-- the gap may be moved: there is room for it beside any run
+pub record CanMove (runs : Runs) : Type 0 where
+  pub whole : IsWhole runs
+  pub room : run_count runs ≤ room_of runs
+
 -- the same runs, with the gap at another of them
 pub record IsMoved (old new : Runs) : Type 0 where
   pub whole : IsWhole new

@@ -27,7 +27,10 @@ impl Model for Hunks {
 
     ghost Value = { Shown };
 
-    ghost view = { λ h. record { marks = all_marks h.runs; spare = (room_of h.runs - run_count h.runs) / 2 } };
+    ghost view = { λ h. record {
+      marks = all_marks h.runs;
+      spare = (room_of h.runs - run_count h.runs) / 2;
+    } };
 
     ghost invariant = { λ h. IsWhole h.runs × Rises (all_marks h.runs) };
 }

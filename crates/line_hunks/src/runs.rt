@@ -4,7 +4,7 @@ ghost use Rattle.std.specs.Prelude.{◌≡◌, ◌+◌, ◌-◌, ◌*◌, ◌^�
 ghost use Rattle.mark_rules.specs.declared.Mark.TheVariants.{New};
 ghost use Rattle.mark_rules.specs.Marks.{clean_marks, edited_marks};
 ghost use Rattle.line_hunks.specs.Run.{lines_in};
-ghost use Rattle.line_hunks.specs.Runs.{all_marks, line_count, run_count, room_of, IsWhole, IsMoved};
+ghost use Rattle.line_hunks.specs.Runs.{all_marks, line_count, run_count, room_of, IsWhole, CanMove, IsMoved};
 
 use crate::run::Run;
 use crate::sides::{set_aside, take_lines};
@@ -79,8 +79,7 @@ impl Runs {
     /// The run before the gap becomes the gap.
     fn step_back(&mut self)
         requires some { 0 < length self.old.front.runs }
-        requires whole { IsWhole self.old }
-        requires room { run_count self.old ≤ room_of self.old }
+        requires fit { CanMove self.old }
         ensures moved { IsMoved self.old self.new }
         ensures fewer { length self.new.front.runs < length self.old.front.runs }
     {
@@ -92,8 +91,7 @@ impl Runs {
     /// The run behind the gap becomes the gap.
     fn step_on(&mut self)
         requires some { 0 < length self.old.back.runs }
-        requires whole { IsWhole self.old }
-        requires room { run_count self.old ≤ room_of self.old }
+        requires fit { CanMove self.old }
         ensures moved { IsMoved self.old self.new }
         ensures fewer { length self.new.back.runs < length self.old.back.runs }
         ensures front { self.new.front.runs ≡ self.old.gap ∷ self.old.front.runs }
@@ -105,8 +103,7 @@ impl Runs {
 
     /// The gap moves back until no more than so many lines stand before it.
     fn seek_back(&mut self, before: u64)
-        requires whole { IsWhole self.old }
-        requires room { run_count self.old ≤ room_of self.old }
+        requires fit { CanMove self.old }
         ensures moved { IsMoved self.old self.new }
         ensures before { lines_in self.new.front.runs ≤ before }
     {
@@ -117,8 +114,7 @@ impl Runs {
 
     /// The gap moves on until the line behind so many lines is in it.
     fn seek_on(&mut self, before: u64)
-        requires whole { IsWhole self.old }
-        requires room { run_count self.old ≤ room_of self.old }
+        requires fit { CanMove self.old }
         requires before { lines_in self.old.front.runs ≤ before }
         requires within { before < line_count self.old }
         ensures moved { IsMoved self.old self.new }

@@ -1,8 +1,8 @@
 //! Sinks in memory.
 ghost use Rattle.std.specs.Prelude.{◌≡◌, ◌<◌, take, IfOk, OnErr, IsOk, []};
 ghost use Rattle.std.specs.Option.{option_copied};
-ghost use Rattle.script_streams.specs.Streams.{Writes};
 ghost use Rattle.memory_streams.specs.Planned.{new_sink, told_with, WritesByPlan};
+ghost use Rattle.script_streams.specs.Streams.{Writes};
 
 use crate::Fault;
 use crate::plan::Plan;
@@ -67,18 +67,18 @@ impl MemSink {
         self.tray.bytes()
     }
 
-    /// How many of its writes failed, or took nothing of a piece that is not empty.
-    pub fn faults(&self) -> u64
-        ensures { result ≡ self.now.state.faults }
-    {
-        self.faults
-    }
-
     /// How many writes were made.
     pub fn calls(&self) -> u64
         ensures { result ≡ self.now.calls }
     {
         self.plan.calls
+    }
+
+    /// How many of its writes failed, or took nothing of a piece that is not empty.
+    pub fn faults(&self) -> u64
+        ensures { result ≡ self.now.state.faults }
+    {
+        self.faults
     }
 }
 

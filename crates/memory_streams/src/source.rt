@@ -75,18 +75,18 @@ impl MemSource {
         self.faults
     }
 
-    /// How many reads were made.
-    pub fn calls(&self) -> u64
-        ensures { result ≡ self.now.calls }
-    {
-        self.plan.calls
-    }
-
     /// How many reads came right after one that answered the end.
     pub fn reads_past_end(&self) -> u64
         ensures { result ≡ self.now.reads_past_end }
     {
         self.reads_past_end
+    }
+
+    /// How many reads were made.
+    pub fn calls(&self) -> u64
+        ensures { result ≡ self.now.calls }
+    {
+        self.plan.calls
     }
 }
 

@@ -4,6 +4,7 @@ ghost use Rattle.script_streams.specs.Streams.{Given};
 ghost use Rattle.script_streams.specs.Fresh.{fresh_source};
 ghost use Rattle.memory_streams.specs.Planned.{available};
 
+use script_streams::copy_front;
 use std::alloc::{AllocError, Global};
 use std::marker::Model;
 
@@ -21,7 +22,12 @@ impl Model for Supply {
 
     ghost Value = { SourceState };
 
-    ghost view = { λ s. record { left = Some (drop s.given s.bytes.items); given = s.given; ended = s.ended; faults = 0 } };
+    ghost view = { λ s. record {
+      left = Some (drop s.given s.bytes.items);
+      given = s.given;
+      ended = s.ended;
+      faults = 0;
+    } };
 
     ghost invariant = { λ s. s.given ≤ vec_len s.bytes };
 }
@@ -69,14 +75,4 @@ impl Supply {
     {
         self.ended
     }
-}
-
-/// Copies what fits to the front of the buffer, and answers how many bytes that is.
-fn copy_front(bytes: &[u8], buf: &mut [u8]) -> usize
-    ensures count { result ≡ min (length bytes.now) (length buf.old) }
-    ensures front { take result buf.new ≡ take result bytes.now }
-{
-    let count = bytes.len().min(buf.len());
-    buf[..count].copy_from_slice(&bytes[..count]);
-    count
 }

@@ -73,19 +73,12 @@ AreNew-append [] others new more = more
 AreNew-append (New ∷ marks) others new more = AreNew-append marks others new more
 AreNew-append (Kept i ∷ marks) others new more = elim new [ ]
 
-AreNew-take : (n : ℕ) (marks : List Mark) → AreNew marks → AreNew (take n marks)
+AreNew-cut : (n : ℕ) (marks : List Mark) → AreNew marks → AreNew (take n marks) × AreNew (drop n marks)
 unfolding AreNew
-AreNew-take zero marks new = tt
-AreNew-take (suc n) [] new = tt
-AreNew-take (suc n) (New ∷ marks) new = AreNew-take n marks new
-AreNew-take (suc n) (Kept i ∷ marks) new = elim new [ ]
-
-AreNew-drop : (n : ℕ) (marks : List Mark) → AreNew marks → AreNew (drop n marks)
-unfolding AreNew
-AreNew-drop zero marks new = new
-AreNew-drop (suc n) [] new = tt
-AreNew-drop (suc n) (New ∷ marks) new = AreNew-drop n marks new
-AreNew-drop (suc n) (Kept i ∷ marks) new = elim new [ ]
+AreNew-cut zero marks new = (tt, new)
+AreNew-cut (suc n) [] new = (tt, tt)
+AreNew-cut (suc n) (New ∷ marks) new = AreNew-cut n marks new
+AreNew-cut (suc n) (Kept i ∷ marks) new = elim new [ ]
 
 AreNew-replicate : (n : ℕ) → AreNew (replicate n New)
 unfolding AreNew
@@ -101,7 +94,7 @@ AllNew-edited first old new marks all =
     let none : AreNew marks = AreNew-of marks all in
     AllNew-of (edited_marks first old new marks)
     (AreNew-append (take (first - 1) marks ++ replicate new New) (drop (first - 1 + old) marks)
-    (AreNew-append (take (first - 1) marks) (replicate new New) (AreNew-take (first - 1) marks none) (AreNew-replicate new)) (AreNew-drop (first - 1 + old) marks none))
+    (AreNew-append (take (first - 1) marks) (replicate new New) (AreNew-cut (first - 1) marks none).0 (AreNew-replicate new)) (AreNew-cut (first - 1 + old) marks none).1)
 
 -- ---- where no line is new
 

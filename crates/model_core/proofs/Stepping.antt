@@ -1,21 +1,29 @@
 -- A step that is undone or redone: what it leaves, and what the flat document has then.
-use Rattle.std.proofs.Common.{◌≡◌, ℕ, ◌+◌, ◌<◌, ◌≤◌, Bool, List, [], ◌∷◌, length, slice_get, Some, None, Ok, Err, refl, ap, sym, subst, arith}
+use Rattle.std.proofs.Common.{◌≡◌, ℕ, ◌+◌, ◌<◌, ◌≤◌, Bool, List, [], ◌∷◌, length, slice_get, Option, Result, Some, None, Ok, Err, refl, ap, sym, subst, arith}
+use Rattle.std.specs.List.{All}
 use Rattle.std.proofs.lemmas.Bool.{lt-leb, le-leb}
-use Rattle.batch_rules.specs.Batches.{most_units, applied_from}
-use Rattle.undo_rules.specs.Stack.{Step, Stack, undone, redone}
+use Rattle.batch_rules.specs.Batches.{most_units, applied_from, text_units}
+use Rattle.undo_rules.specs.Stack.{Step, Stack}
+use Rattle.bracket_trees.specs.Tree.{Tree}
+use Rattle.document_rules.specs.declared.ModelError.{ModelError}
+use Rattle.document_rules.specs.Outcomes.{Moves}
+use Rattle.document_rules.specs.Paired.{IsPairedState}
+use Rattle.document_rules.proofs.PairedStates.{IsPairedState-undo, IsPairedState-redo}
 use Rattle.document_rules.specs.Refusals.{limit}
 use Rattle.snapshot_rules.specs.Snapshots.{FlatShelf}
-use Rattle.document_rules.specs.Document.{FlatState, flat_undo, flat_redo, greatest_version}
+use Rattle.document_rules.specs.Document.{FlatState, greatest_version}
 use Rattle.model_core.specs.declared.change.Change.{Change}
+use Rattle.model_core.specs.declared.change.Way.{Way}
 use Rattle.model_core.specs.declared.change.Way.TheVariants.{Back, On}
+use Rattle.model_core.specs.Ways.{text_by, changes_by, LeadBy, decorations_by, marked_along, marked_step, next_steps, passed, alternative_after, flat_move}
+use Rattle.model_core.specs.Staying.{StaysWith}
 use Rattle.model_core.specs.State.{next_op_count}
-use Rattle.model_core.specs.History.{text_back, text_on, changes_back, changes_on, undo_steps, redo_steps, op_count, history_of, LeadBack, LeadOn, IsHistory}
+use Rattle.model_core.specs.History.{text_back, text_on, op_count, ops_by, history_of, LeadBack, LeadOn, IsHistory}
 use Rattle.bracket_rules.specs.Table.{Table}
 use Rattle.decoration_rules.specs.Decorations.{Decorations}
-use Rattle.model_core.specs.Carrying.{decorations_back, decorations_on}
 use Rattle.mark_rules.specs.declared.Mark.{Mark}
-use Rattle.model_core.specs.LineMarks.{marked_back, marked_on, undone_marks, redone_marks}
-use Rattle.model_core.proofs.Turns.{ops_back, ops_on}
+use Rattle.model_core.proofs.Turns.{ops_back, ops_on, few_back, few_on}
+use Rattle.model_core.proofs.Staying.{MarkedBy, stays_back, stays_on, marked_step_back, marked_step_on}
 use Rattle.model_core.proofs.Carries.{carried_back-kept, carried_on-kept}
 use Rattle.model_core.proofs.Histories.{text_before-back, text_after-on, history-undone, IsHistory-undone, history-redone, IsHistory-redone}
 
@@ -34,28 +42,28 @@ none_of : {A : Type 0} (xs : List A) → slice_get xs 0 ≡ None → xs ≡ []
 none_of [] is = refl
 none_of (y ∷ xs) is = absurd cc
 
-pub fits_back : (now : List ℕ) (cs : List Change) → length now ≤ most_units → LeadBack now cs → length (text_back now cs) ≤ most_units
+fits_back : (now : List ℕ) (cs : List Change) → length now ≤ most_units → LeadBack now cs → length (text_back now cs) ≤ most_units
 fits_back now [] fits lead = fits
 fits_back now (c ∷ cs) fits lead = lead.0.fits_before
 
-pub fits_on : (now : List ℕ) (cs : List Change) → length now ≤ most_units → LeadOn now cs → length (text_on now cs) ≤ most_units
+fits_on : (now : List ℕ) (cs : List Change) → length now ≤ most_units → LeadOn now cs → length (text_on now cs) ≤ most_units
 fits_on now [] fits lead = fits
 fits_on now (c ∷ cs) fits lead = fits_on (applied_from 0 now c.batch) cs lead.0.fits_after lead.1
 
--- what an undo does
-pub record IsUndo (now : List ℕ) (version alternative : ℕ) (d : Decorations) (table : Table) (shelf : FlatShelf) (s : Stack Change) (step : Step Change) : Type 0 where
-  pub lead : LeadBack now step.changes
-  pub history : IsHistory (text_back now step.changes) (undone s)
+-- what a step does that comes next on the way
+pub record IsStep (way : Way) (now : List ℕ) (version alternative : ℕ) (d : Decorations) (table : Table) (shelf : FlatShelf) (s : Stack Change) (step : Step Change) : Type 0 where
+  pub lead : LeadBy way now step.changes
+  pub history : IsHistory (text_by way now step.changes) (passed way s)
   pub accepted : version + 1 ≤ greatest_version
-      → flat_undo (document_of now version alternative d table shelf s) ≡ Ok (Some (document_of (text_back now step.changes) (version + 1) step.alt_before (decorations_back d step.changes) table shelf (undone s)))
-  pub refused : greatest_version < version + 1 → flat_undo (document_of now version alternative d table shelf s) ≡ Err limit
-  pub some : 0 < length s.undo
-  pub ops : next_op_count (undo_steps now s.undo) ≡ op_count Back step.changes
-  pub marks : (ms : List Mark) → undone_marks ms (undo_steps now s.undo) ≡ marked_back ms (changes_back now step.changes)
+      → flat_move way (document_of now version alternative d table shelf s) ≡ Ok (Some (document_of (text_by way now step.changes) (version + 1) (alternative_after way step) (decorations_by way d step.changes) table shelf (passed way s)))
+  pub refused : greatest_version < version + 1 → flat_move way (document_of now version alternative d table shelf s) ≡ Err limit
+  pub some : 0 < length (next_steps way s)
+  pub ops : next_op_count (next_steps way (history_of now s)) ≡ op_count way step.changes
+  pub marks : (ms : List Mark) → marked_step way ms (next_steps way (history_of now s)) ≡ marked_along way ms (changes_by way now step.changes)
 
 undo_first : (now : List ℕ) (version alternative : ℕ) (d : Decorations) (table : Table) (shelf : FlatShelf) (step : Step Change) (rest redo : List (Step Change)) (is_open : Bool)
     → IsHistory now (record { undo = step ∷ rest; redo = redo; is_open = is_open })
-    → IsUndo now version alternative d table shelf (record { undo = step ∷ rest; redo = redo; is_open = is_open }) step
+    → IsStep Back now version alternative d table shelf (record { undo = step ∷ rest; redo = redo; is_open = is_open }) step
 undo_first now version alternative d table shelf step rest redo is_open old =
     record {
       lead = old.back.0;
@@ -67,31 +75,9 @@ undo_first now version alternative d table shelf step rest redo is_open old =
       marks = λ ms. refl;
     }
 
-pub undo_of : (now : List ℕ) (version alternative : ℕ) (d : Decorations) (table : Table) (shelf : FlatShelf) (s : Stack Change) (step : Step Change)
-    → slice_get s.undo 0 ≡ Some step → IsHistory now s → IsUndo now version alternative d table shelf s step
-undo_of now version alternative d table shelf s step next old =
-    let split = first_of s.undo step next in
-    subst (λ u. IsHistory now (record { undo = u; redo = s.redo; is_open = s.is_open }) → IsUndo now version alternative d table shelf (record { undo = u; redo = s.redo; is_open = s.is_open }) step)
-    (sym split.1) (undo_first now version alternative d table shelf step split.0 s.redo s.is_open) old
-
-pub nothing_to_undo : (now : List ℕ) (version alternative : ℕ) (d : Decorations) (table : Table) (shelf : FlatShelf) (s : Stack Change)
-    → slice_get s.undo 0 ≡ None → flat_undo (document_of now version alternative d table shelf s) ≡ Ok None
-nothing_to_undo now version alternative d table shelf s none = rw (none_of s.undo none) refl
-
--- what a redo does
-pub record IsRedo (now : List ℕ) (version alternative : ℕ) (d : Decorations) (table : Table) (shelf : FlatShelf) (s : Stack Change) (step : Step Change) : Type 0 where
-  pub lead : LeadOn now step.changes
-  pub history : IsHistory (text_on now step.changes) (redone s)
-  pub accepted : version + 1 ≤ greatest_version
-      → flat_redo (document_of now version alternative d table shelf s) ≡ Ok (Some (document_of (text_on now step.changes) (version + 1) step.alt_after (decorations_on d step.changes) table shelf (redone s)))
-  pub refused : greatest_version < version + 1 → flat_redo (document_of now version alternative d table shelf s) ≡ Err limit
-  pub some : 0 < length s.redo
-  pub ops : next_op_count (redo_steps now s.redo) ≡ op_count On step.changes
-  pub marks : (ms : List Mark) → redone_marks ms (redo_steps now s.redo) ≡ marked_on ms (changes_on now step.changes)
-
 redo_first : (now : List ℕ) (version alternative : ℕ) (d : Decorations) (table : Table) (shelf : FlatShelf) (step : Step Change) (undo rest : List (Step Change)) (is_open : Bool)
     → IsHistory now (record { undo = undo; redo = step ∷ rest; is_open = is_open })
-    → IsRedo now version alternative d table shelf (record { undo = undo; redo = step ∷ rest; is_open = is_open }) step
+    → IsStep On now version alternative d table shelf (record { undo = undo; redo = step ∷ rest; is_open = is_open }) step
 redo_first now version alternative d table shelf step undo rest is_open old =
     record {
       lead = old.on.0;
@@ -103,13 +89,41 @@ redo_first now version alternative d table shelf step undo rest is_open old =
       marks = λ ms. refl;
     }
 
-pub redo_of : (now : List ℕ) (version alternative : ℕ) (d : Decorations) (table : Table) (shelf : FlatShelf) (s : Stack Change) (step : Step Change)
-    → slice_get s.redo 0 ≡ Some step → IsHistory now s → IsRedo now version alternative d table shelf s step
-redo_of now version alternative d table shelf s step next old =
+pub step_on : (way : Way) (now : List ℕ) (version alternative : ℕ) (d : Decorations) (table : Table) (shelf : FlatShelf) (s : Stack Change) (step : Step Change)
+    → slice_get (next_steps way s) 0 ≡ Some step → IsHistory now s → IsStep way now version alternative d table shelf s step
+step_on Back now version alternative d table shelf s step next old =
+    let split = first_of s.undo step next in
+    subst (λ u. IsHistory now (record { undo = u; redo = s.redo; is_open = s.is_open }) → IsStep Back now version alternative d table shelf (record { undo = u; redo = s.redo; is_open = s.is_open }) step)
+    (sym split.1) (undo_first now version alternative d table shelf step split.0 s.redo s.is_open) old
+step_on On now version alternative d table shelf s step next old =
     let split = first_of s.redo step next in
-    subst (λ u. IsHistory now (record { undo = s.undo; redo = u; is_open = s.is_open }) → IsRedo now version alternative d table shelf (record { undo = s.undo; redo = u; is_open = s.is_open }) step)
+    subst (λ u. IsHistory now (record { undo = s.undo; redo = u; is_open = s.is_open }) → IsStep On now version alternative d table shelf (record { undo = s.undo; redo = u; is_open = s.is_open }) step)
     (sym split.1) (redo_first now version alternative d table shelf step s.undo split.0 s.is_open) old
 
-pub nothing_to_redo : (now : List ℕ) (version alternative : ℕ) (d : Decorations) (table : Table) (shelf : FlatShelf) (s : Stack Change)
-    → slice_get s.redo 0 ≡ None → flat_redo (document_of now version alternative d table shelf s) ≡ Ok None
-nothing_to_redo now version alternative d table shelf s none = rw (none_of s.redo none) refl
+pub no_step_on : (way : Way) (now : List ℕ) (version alternative : ℕ) (d : Decorations) (table : Table) (shelf : FlatShelf) (s : Stack Change)
+    → slice_get (next_steps way s) 0 ≡ None → flat_move way (document_of now version alternative d table shelf s) ≡ Ok None
+no_step_on Back now version alternative d table shelf s none = rw (none_of s.undo none) refl
+no_step_on On now version alternative d table shelf s none = rw (none_of s.redo none) refl
+
+-- ---- what holds on either way
+
+pub fits_by : (way : Way) (now : List ℕ) (cs : List Change) → length now ≤ most_units → LeadBy way now cs → length (text_by way now cs) ≤ most_units
+fits_by Back now cs fits lead = fits_back now cs fits lead
+fits_by On now cs fits lead = fits_on now cs fits lead
+
+pub few_by : (way : Way) (now : List ℕ) (cs : List Change) → LeadBy way now cs → All (λ c. text_units (ops_by way c) ≤ most_units) cs
+few_by Back now cs lead = few_back now cs lead
+few_by On now cs lead = few_on now cs lead
+
+pub stays_by : (way : Way) (tree : Option Tree) (marks : List Mark) (table : Table) (now : List ℕ) (cs : List Change) → LeadBy way now cs → StaysWith tree marks table now
+    → StaysWith tree (marked_along way marks (changes_by way now cs)) table (text_by way now cs)
+stays_by Back tree marks table now cs lead stays = stays_back tree marks table now cs lead stays
+stays_by On tree marks table now cs lead stays = stays_on tree marks table now cs lead stays
+
+pub marked_by_way : (way : Way) (marks : List Mark) (now : List ℕ) (cs : List Change) → LeadBy way now cs → MarkedBy (op_count way cs) marks (marked_along way marks (changes_by way now cs))
+marked_by_way Back marks now cs lead = marked_step_back marks now cs lead
+marked_by_way On marks now cs lead = marked_step_on marks now cs lead
+
+pub IsPairedState-by : (way : Way) (result : Result Bool ModelError) (old new : FlatState) → Moves result old new (flat_move way old) → IsPairedState old → IsPairedState new
+IsPairedState-by Back result old new done paired = IsPairedState-undo result old new done paired
+IsPairedState-by On result old new done paired = IsPairedState-redo result old new done paired

@@ -4,5 +4,6 @@ pub mod History
 pub mod Carrying
 pub mod LineMarks
 pub mod Staying
+pub mod Ways
 pub mod Shelving
 mod Examples

@@ -1,11 +1,12 @@
 -- What contracts see of a model.
-use Rattle.std.specs.Prelude.{◌≡◌, ℕ, zero, suc, ◌+◌, ◌*◌, ◌≤◌, Bool, true, false, if◌then◌else◌, List, [], ◌∷◌, length, sum_by, Option, Some, None, Result, Ok, Err, ⊤}
+use Rattle.std.specs.Prelude.{◌≡◌, ℕ, zero, suc, ◌+◌, ◌*◌, ◌≤◌, Bool, true, false, if◌then◌else◌, List, [], ◌∷◌, length, sum_by, Option, Some, None, Result, Ok, Err, OnOk, OnErr, ⊤}
 use Rattle.bracket_rules.specs.Table.{Table, is_table}
 use Rattle.bracket_trees.specs.Tree.{Tree}
 use Rattle.bracket_rules.specs.Rows.{text_rows}
 use Rattle.bracket_trees.specs.Told.{IsTreeOf}
 use Rattle.mark_rules.specs.declared.Mark.{Mark}
-use Rattle.mark_rules.specs.Marks.{has_new}
+use Rattle.mark_rules.specs.Marks.{has_new, clean_marks}
+use Rattle.node_reuse.specs.Texts.{new_lines}
 use Rattle.node_reuse.specs.ParsedTree.{ParsedTree}
 use Rattle.undo_rules.specs.Stack.{Step}
 use Rattle.document_rules.specs.declared.ModelError.{ModelError}
@@ -55,20 +56,10 @@ abbrev pub KeptAfter : ℕ → Result ⊤ ModelError → Bool → Bool → Type 
 KeptAfter ops (Ok x) old new = KeptBy ops old new
 KeptAfter ops (Err e) old new = new ≡ old
 
-abbrev pub KeptAfterMove : ℕ → Result Bool ModelError → Bool → Bool → Type 0
-KeptAfterMove ops (Ok true) old new = KeptBy ops old new
-KeptAfterMove ops (Ok false) old new = new ≡ old
-KeptAfterMove ops (Err e) old new = new ≡ old
-
 -- What a call leaves, where an accepted one leaves this: what changes nothing leaves what was there.
 abbrev pub LeftAfter : {X : Type 0} → Result ⊤ ModelError → X → X → X → Type 0
 LeftAfter (Ok x) accepted old new = new ≡ accepted
 LeftAfter (Err e) accepted old new = new ≡ old
-
-abbrev pub LeftAfterMove : {X : Type 0} → Result Bool ModelError → X → X → X → Type 0
-LeftAfterMove (Ok true) accepted old new = new ≡ accepted
-LeftAfterMove (Ok false) accepted old new = new ≡ old
-LeftAfterMove (Err e) accepted old new = new ≡ old
 
 -- so many ops add six pieces each at most
 abbrev pub GrownBy : ℕ → ℕ → ℕ → Type 0
@@ -79,10 +70,43 @@ abbrev pub GrownAfter : ℕ → Result ⊤ ModelError → ℕ → ℕ → Type 0
 GrownAfter ops (Ok x) old new = GrownBy ops old new
 GrownAfter ops (Err e) old new = new ≡ old
 
-abbrev pub GrownAfterMove : ℕ → Result Bool ModelError → ℕ → ℕ → Type 0
-GrownAfterMove ops (Ok true) old new = GrownBy ops old new
-GrownAfterMove ops (Ok false) old new = new ≡ old
-GrownAfterMove ops (Err e) old new = new ≡ old
+-- of a call that answers whether there was anything to do: the first holds where there was, else the second
+abbrev pub AfterMove : Result Bool ModelError → Type 0 → Type 0 → Type 0
+AfterMove (Ok true) moved same = moved
+AfterMove (Ok false) moved same = same
+AfterMove (Err e) moved same = same
+
+-- what a call of so many ops leaves of the last parse and of the pieces, where it answers whether there was anything to do
+pub record HasMoved (ops : ℕ) (left : List Mark) (result : Result Bool ModelError) (old new : ModelState) : Type 0 where
+  pub parsed : new.parsed ≡ old.parsed
+  pub tree : new.tree ≡ old.tree
+  pub marks : AfterMove result (new.marks ≡ left) (new.marks ≡ old.marks)
+  pub fresh : AfterMove result (KeptBy ops old.fresh new.fresh) (new.fresh ≡ old.fresh)
+  pub pieces : AfterMove result (GrownBy ops old.pieces new.pieces) (new.pieces ≡ old.pieces)
+
+-- the last parse, what the lines are to it, and the pieces are as they were
+pub record KeepsParse (old new : ModelState) : Type 0 where
+  pub parsed : new.parsed ≡ old.parsed
+  pub tree : new.tree ≡ old.tree
+  pub marks : new.marks ≡ old.marks
+  pub fresh : new.fresh ≡ old.fresh
+  pub pieces : new.pieces ≡ old.pieces
+
+-- What a question about brackets leaves: it parses the text where the tree is not that of the text of now, asks for the
+-- new lines alone, and keeps each line then. An error leaves all as it was.
+pub record Renews {A : Type 0} (result : Result A ModelError) (old new : ModelState) : Type 0 where
+  pub document : new.document ≡ old.document
+  pub pieces : new.pieces ≡ old.pieces
+  pub same : old.fresh ≡ true → new.parsed ≡ old.parsed
+  pub same_tree : old.fresh ≡ true → new.tree ≡ old.tree
+  pub same_marks : old.fresh ≡ true → new.marks ≡ old.marks
+  pub asked : old.fresh ≡ false → OnOk result (HasAsked new.parsed (length (new_lines old.marks)))
+  pub lines : OnOk result (new.marks ≡ clean_marks (length old.marks))
+  pub fresh : OnOk result (new.fresh ≡ true)
+  pub parsed : OnErr result (new.parsed ≡ old.parsed)
+  pub tree : OnErr result (new.tree ≡ old.tree)
+  pub marks : OnErr result (new.marks ≡ old.marks)
+  pub kept : OnErr result (new.fresh ≡ old.fresh)
 
 -- how many ops the step that comes next has, in all of its batches; none where there is no step
 abbrev pub next_op_count : List (Step FlatChange) → ℕ

@@ -1,12 +1,14 @@
 -- What the model keeps of the last parse, and when that stays with the text of now.
-use Rattle.std.specs.Prelude.{◌≡◌, ℕ, List, Option, length}
+use Rattle.std.specs.Prelude.{◌≡◌, ℕ, true, List, Option, length}
 use Rattle.text_rules.specs.Lines.{lines_of}
-use Rattle.bracket_rules.specs.Table.{Table}
+use Rattle.bracket_rules.specs.Table.{Table, is_table}
 use Rattle.bracket_rules.specs.Rows.{text_rows}
+use Rattle.bracket_trees.specs.Told.{IsTreeOf}
 use Rattle.bracket_trees.specs.Tree.{Tree}
+use Rattle.bracket_trees.specs.Weights.{tree_weights, AreCovered}
 use Rattle.mark_rules.specs.declared.Mark.{Mark}
 use Rattle.node_reuse.specs.ParsedTree.{ParsedTree}
-use Rattle.node_reuse.specs.Texts.{text_weights}
+use Rattle.node_reuse.specs.Texts.{text_weights, new_lines}
 use Rattle.node_reuse.specs.Reading.{StaysIfThere}
 use Rattle.document_rules.specs.Brackets.{line_contents}
 use Rattle.model_core.specs.State.{fresh_tree, IsKept}
@@ -27,3 +29,10 @@ pub record StaysWith (tree : Option Tree) (marks : List Mark) (table : Table) (x
   pub count : length marks ≡ length (lines_of x)
   pub stays : StaysIfThere tree marks (text_rows table (line_contents x)) (text_weights (line_contents x))
   pub kept : IsKept (fresh_tree tree marks) table x
+
+-- a parse of text x by the table, which asked for the lines alone that are new under the marks
+pub record IsParseOf (table : Table) (x : List ℕ) (marks : List Mark) (parsed : ParsedTree) : Type 0 where
+  pub rule : is_table table ≡ true
+  pub tree : IsTreeOf (text_rows table (line_contents x)) parsed.tree
+  pub light : AreCovered (tree_weights parsed.tree) (text_weights (line_contents x))
+  pub asked : parsed.asked ≡ length (new_lines marks)

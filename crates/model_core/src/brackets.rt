@@ -2,15 +2,10 @@
 
 ghost use Rattle.std.specs.Prelude.{◌≡◌, ◌<◌, ◌≤◌, true, false, length, is_some, IfOk, OnOk, OnErr};
 ghost use Rattle.batch_rules.specs.Batches.{most_units};
-ghost use Rattle.bracket_rules.specs.Rows.{text_rows};
-ghost use Rattle.bracket_rules.specs.Table.{is_table};
-ghost use Rattle.bracket_trees.specs.Told.{IsTreeOf};
-ghost use Rattle.bracket_trees.specs.Weights.{tree_weights, AreCovered};
-ghost use Rattle.document_rules.specs.Brackets.{line_contents};
 ghost use Rattle.mark_rules.specs.Marks.{clean_marks};
-ghost use Rattle.node_reuse.specs.Texts.{text_weights, new_lines};
+ghost use Rattle.node_reuse.specs.Texts.{new_lines};
 ghost use Rattle.model_core.specs.State.{fresh_tree, HasAsked};
-ghost use Rattle.model_core.specs.Staying.{StaysWith};
+ghost use Rattle.model_core.specs.Staying.{StaysWith, IsParseOf};
 
 use crate::last_parse::LastParse;
 use crate::text_lines::TextLines;
@@ -62,12 +57,7 @@ pub(crate) fn parse_again(
 ) -> Result<Parsed, AllocError>
     requires small { length text.now.units ≤ most_units }
     requires stays { StaysWith last.now.tree last.now.marks table.now text.now.units }
-    ensures tree { IfOk result (λ parsed.
-        IsTreeOf (text_rows table.now (line_contents text.now.units)) parsed.tree) }
-    ensures light { IfOk result (λ parsed.
-        AreCovered (tree_weights parsed.tree) (text_weights (line_contents text.now.units))) }
-    ensures asked { IfOk result (λ parsed. parsed.asked ≡ length (new_lines last.now.marks)) }
-    ensures table { OnOk result (is_table table.now ≡ true) }
+    ensures { IfOk result (IsParseOf table.now text.now.units last.now.marks) }
 {
     parse_again_for::<Brand>(alloc, last, table, text, Blank::new(1))
 }
@@ -85,18 +75,13 @@ fn parse_again_for<L: Ledger>(
     requires name { blank.name ≡ L.name }
     requires parts { blank.parts ≡ L.parts }
     requires some { 0 < L.parts }
-    ensures tree { IfOk result (λ parsed.
-        IsTreeOf (text_rows table.now (line_contents text.now.units)) parsed.tree) }
-    ensures light { IfOk result (λ parsed.
-        AreCovered (tree_weights parsed.tree) (text_weights (line_contents text.now.units))) }
-    ensures asked { IfOk result (λ parsed. parsed.asked ≡ length (new_lines last.now.marks)) }
-    ensures table { OnOk result (is_table table.now ≡ true) }
+    ensures { IfOk result (IsParseOf table.now text.now.units last.now.marks) }
 {
     let mut steps = Steps::<L>::new(blank);
     let mut lines = TextLines::new(text);
     reparse(
         alloc,
-        &last.old(),
+        last.old(alloc),
         last.hunks(),
         table,
         &mut lines,

@@ -1,18 +1,22 @@
 //! Batches that were carried out, and how the text is led along them.
 
-ghost use Rattle.std.specs.Prelude.{◌≡◌, ◌+◌, ◌*◌, ◌<◌, ◌≤◌, ◌^◌, length, OnOk};
+ghost use Rattle.std.specs.Prelude.{◌≡◌, ◌+◌, ◌*◌, ◌<◌, ◌≤◌, ◌^◌, length, slice_get, option_map, OnOk};
 ghost use Rattle.std.specs.List.{All};
+ghost use Rattle.std.specs.Option.{option_copied};
+ghost use Rattle.edit_stack.specs.Element.{step_of};
 ghost use Rattle.batch_rules.specs.Batches.{most_units, applied_from, text_units, StandFrom};
-ghost use Rattle.model_core.specs.History.{text_back, text_on, changes_back, changes_on, LeadBack, LeadOn, ops_by, op_count, unit_count};
+ghost use Rattle.model_core.specs.History.{ops_by, op_count, unit_count};
+ghost use Rattle.model_core.specs.Ways.{next_steps, passed, alternative_after, CanLead, HasLed, IsUntouched};
 ghost use Rattle.model_core.specs.State.{GrownBy};
 ghost use Rattle.chunk_buffers.specs.Chunks.{Extends};
 ghost use Rattle.text_rules.specs.Lines.{lines_of};
-ghost use Rattle.model_core.specs.LineMarks.{marked_backwards, marked_back, marked_on};
-ghost use Rattle.model_core.specs.Carrying.{edit_with, carried_with, decorations_back, decorations_on, AreIn};
+ghost use Rattle.model_core.specs.LineMarks.{marked_backwards};
+ghost use Rattle.model_core.specs.Carrying.{edit_with, carried_with, AreIn};
 
 use crate::last_parse::LastParse;
 use decorations::{DecoSet, Edit};
 use edit_batches::Batch;
+use edit_stack::{EditStack, Element};
 use std::alloc::AllocError;
 use text_buffer::TextBuffer;
 use text_rules::Op;
@@ -94,30 +98,16 @@ fn edit_with(op: &Op, forces: bool) -> Edit
     }
 }
 
-/// Takes the changes back, the last of them first. There is room for it.
-pub(crate) fn take_back(
+// Takes the changes back, the last of them first.
+fn take_back(
     text: &mut TextBuffer,
     decorations: &mut DecoSet,
     last: &mut LastParse,
     changes: &[Change],
 )
-    requires lead { LeadBack text.old.units changes.now }
-    requires edits { op_count Way.Back changes.now ≤ text.old.spare_edits }
-    requires room { unit_count Way.Back changes.now + 3 * op_count Way.Back changes.now
-        ≤ text.old.spare_units }
-    requires lines { length last.old.marks ≡ length (lines_of text.old.units) }
-    requires spare { op_count Way.Back changes.now ≤ last.old.spare }
-    requires inside { AreIn (length text.old.units) decorations.old }
-    ensures units { text.new.units ≡ text_back text.old.units changes.now }
-    ensures pieces { GrownBy (op_count Way.Back changes.now)
-        (length text.old.spans) (length text.new.spans) }
-    ensures decorations { decorations.new ≡ decorations_back decorations.old changes.now }
-    ensures inside { AreIn (length text.new.units) decorations.new }
-    ensures marks { last.new.marks
-        ≡ marked_back last.old.marks (changes_back text.old.units changes.now) }
-    ensures parsed { last.new.parsed ≡ last.old.parsed }
-    ensures tree { last.new.tree ≡ last.old.tree }
-    ensures grown { Extends text.old.buffers text.new.buffers }
+    requires { CanLead Way.Back text.old decorations.old last.old changes.now }
+    ensures { HasLed Way.Back text.old text.new decorations.old decorations.new
+        last.old last.new changes.now }
 {
     for done in 0..changes.len() {
         let change = &changes[changes.len() - 1 - done];
@@ -125,34 +115,55 @@ pub(crate) fn take_back(
     }
 }
 
-/// Makes the changes again, the first of them first. There is room for it.
-pub(crate) fn make_again(
+// Makes the changes again, the first of them first.
+fn make_again(
     text: &mut TextBuffer,
     decorations: &mut DecoSet,
     last: &mut LastParse,
     changes: &[Change],
 )
-    requires lead { LeadOn text.old.units changes.now }
-    requires edits { op_count Way.On changes.now ≤ text.old.spare_edits }
-    requires room { unit_count Way.On changes.now + 3 * op_count Way.On changes.now
-        ≤ text.old.spare_units }
-    requires lines { length last.old.marks ≡ length (lines_of text.old.units) }
-    requires spare { op_count Way.On changes.now ≤ last.old.spare }
-    requires inside { AreIn (length text.old.units) decorations.old }
-    ensures units { text.new.units ≡ text_on text.old.units changes.now }
-    ensures pieces { GrownBy (op_count Way.On changes.now)
-        (length text.old.spans) (length text.new.spans) }
-    ensures decorations { decorations.new ≡ decorations_on decorations.old changes.now }
-    ensures inside { AreIn (length text.new.units) decorations.new }
-    ensures marks { last.new.marks
-        ≡ marked_on last.old.marks (changes_on text.old.units changes.now) }
-    ensures parsed { last.new.parsed ≡ last.old.parsed }
-    ensures tree { last.new.tree ≡ last.old.tree }
-    ensures grown { Extends text.old.buffers text.new.buffers }
+    requires { CanLead Way.On text.old decorations.old last.old changes.now }
+    ensures { HasLed Way.On text.old text.new decorations.old decorations.new
+        last.old last.new changes.now }
 {
     for change in changes {
         apply(text, decorations, last, change.batch.ops(), false);
     }
+}
+
+/// Leads the text along the changes this way. There is room for it.
+pub(crate) fn lead(
+    text: &mut TextBuffer,
+    decorations: &mut DecoSet,
+    last: &mut LastParse,
+    changes: &[Change],
+    way: Way,
+)
+    requires { CanLead way text.old decorations.old last.old changes.now }
+    ensures { HasLed way text.old text.new decorations.old decorations.new
+        last.old last.new changes.now }
+{
+    match way {
+        Way::Back => take_back(text, decorations, last, changes),
+        Way::On => make_again(text, decorations, last, changes),
+    }
+}
+
+/// Makes room for so many edits, whose texts have so many units together. An error leaves the text and the marks as they
+/// were.
+pub(crate) fn make_room(
+    text: &mut TextBuffer,
+    last: &mut LastParse,
+    edits: u64,
+    units: u64,
+) -> Result<(), AllocError>
+    ensures edits { OnOk result (edits ≤ text.new.spare_edits) }
+    ensures room { OnOk result (units + 3 * edits ≤ text.new.spare_units) }
+    ensures spare { OnOk result (edits ≤ last.new.spare) }
+    ensures kept { IsUntouched text.old text.new last.old last.new }
+{
+    text.reserve(edits, units)?;
+    last.reserve(edits)
 }
 
 /// Makes room to lead the text along the changes this way. An error leaves the text and the marks as they were.
@@ -167,12 +178,7 @@ pub(crate) fn reserve_for(
     ensures room { OnOk result
         (unit_count way changes.now + 3 * op_count way changes.now ≤ text.new.spare_units) }
     ensures spare { OnOk result (op_count way changes.now ≤ last.new.spare) }
-    ensures same { text.new.units ≡ text.old.units }
-    ensures spans { text.new.spans ≡ text.old.spans }
-    ensures parsed { last.new.parsed ≡ last.old.parsed }
-    ensures tree { last.new.tree ≡ last.old.tree }
-    ensures grown { Extends text.old.buffers text.new.buffers }
-    ensures marks { last.new.marks ≡ last.old.marks }
+    ensures kept { IsUntouched text.old text.new last.old last.new }
 {
     let mut edits: u64 = 0;
     let mut units: u64 = 0;
@@ -183,6 +189,37 @@ pub(crate) fn reserve_for(
             .ok_or(AllocError)?;
         units = units.checked_add(batch.text_units()).ok_or(AllocError)?;
     }
-    text.reserve(edits, units)?;
-    last.reserve(edits)
+    make_room(text, last, edits, units)
+}
+
+/// The step that comes next on the way.
+pub(crate) fn next_step(history: &EditStack<Change>, way: Way) -> Option<&Element<Change>>
+    ensures { option_map step_of (option_copied result)
+        ≡ slice_get (next_steps way history.now.stack) 0 }
+{
+    match way {
+        Way::Back => history.undo_next(),
+        Way::On => history.redo_next(),
+    }
+}
+
+/// The alternative version at the end of the step.
+pub(crate) fn alternative_after(step: &Element<Change>, way: Way) -> u64
+    ensures { result ≡ alternative_after way (step_of step.now) }
+{
+    match way {
+        Way::Back => step.alt_before(),
+        Way::On => step.alt_after(),
+    }
+}
+
+/// The step that came next was passed.
+pub(crate) fn pass_step(history: &mut EditStack<Change>, way: Way)
+    requires { 0 < length (next_steps way history.old.stack) }
+    ensures { history.new.stack ≡ passed way history.old.stack }
+{
+    match way {
+        Way::Back => history.undone(),
+        Way::On => history.redone(),
+    }
 }

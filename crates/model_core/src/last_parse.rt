@@ -121,11 +121,11 @@ impl LastParse {
     }
 
     /// The tree of the last parse, under the marks.
-    pub(crate) fn old(&self) -> OldReader<'_>
+    pub(crate) fn old(&self, alloc: Global) -> OldReader<'_>
         ensures tree { result.tree ≡ self.now.tree }
         ensures marks { result.marks ≡ self.now.marks }
     {
-        OldReader::new(self.tree(), &self.hunks)
+        OldReader::new(alloc, self.tree(), &self.hunks)
     }
 
     /// What each line of the text of now is to the last parse.

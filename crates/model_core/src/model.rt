@@ -3,7 +3,6 @@
 ghost use Rattle.std.specs.Prelude.{◌≡◌, ℕ, ◌≤◌, ◌-◌, ◌∷◌, [], true, false, List, length, replicate, None, IfSome, OnOk, OnErr, Ok, Err};
 ghost use Rattle.std.specs.List.{All};
 ghost use Rattle.std.specs.Option.{option_copied};
-ghost use Rattle.node_reuse.specs.Texts.{new_lines};
 ghost use Rattle.text_buffer.specs.Costs.{WithinLookUps};
 ghost use Rattle.unit_text.specs.Units.{IsPaired};
 ghost use Rattle.decoration_rules.specs.Moves.{IsSpanIn};
@@ -15,16 +14,18 @@ ghost use Rattle.document_rules.specs.Paired.{IsPairedState};
 ghost use Rattle.text_rules.specs.Lines.{lines_of};
 ghost use Rattle.batch_rules.specs.Batches.{sorted_ops};
 ghost use Rattle.mark_rules.specs.declared.Mark.TheVariants.{New};
-ghost use Rattle.mark_rules.specs.Marks.{clean_marks};
 ghost use Rattle.model_core.specs.LineMarks.{marked_backwards, undone_marks, redone_marks};
-ghost use Rattle.model_core.specs.State.{LeftAfter, LeftAfterMove, KeptAfter, KeptAfterMove, GrownAfter, GrownAfterMove, HasAsked, next_op_count};
+ghost use Rattle.model_core.specs.Ways.{flat_move, next_steps, marked_step};
+ghost use Rattle.model_core.specs.State.{LeftAfter, KeptAfter, GrownAfter, HasMoved, KeepsParse, Renews, next_op_count};
 ghost use Rattle.document_rules.specs.Document.{new_document, flat_open, flat_edit, flat_stop, flat_undo, flat_redo, flat_decorate, flat_deco, flat_decos, flat_line, flat_value, flat_position, flat_offset, flat_line_count};
 ghost use Rattle.document_rules.specs.Snapshots.{flat_snapshot, flat_peek_of, flat_skipped, flat_close_of};
 ghost use Rattle.document_rules.specs.Stops.{flat_stops};
 ghost use Rattle.model_core.specs.Errors.{error_of, refusal_of, shelf_error_of};
 
 use crate::brackets::{parse_again, renew};
-use crate::change::{Change, Way, apply, make_again, reserve_for, take_back};
+use crate::change::{
+    Change, Way, alternative_after, apply, lead, make_room, next_step, pass_step, reserve_for,
+};
 use crate::last_parse::{LastParse, unparsed};
 use crate::places::{is_position, place_of, told};
 use bracket_nodes::Entry;
@@ -67,10 +68,10 @@ impl std::marker::Model for Model {
     ghost use Rattle.node_reuse.specs.ParsedTree.{parsed_tree_code};
     ghost use Rattle.model_core.specs.State.{ModelState, fresh_tree};
     ghost use Rattle.model_core.specs.Staying.{StaysWith};
-    ghost use Rattle.model_core.specs.History.{history_of, IsHistory};
     ghost use Rattle.model_core.specs.Carrying.{AreIn};
     ghost use Rattle.snapshots.specs.Shown.{shown};
     ghost use Rattle.model_core.specs.Shelving.{IsShelf};
+    ghost use Rattle.model_core.specs.History.{history_of, IsHistory};
 
     ghost Value = { ModelState };
 
@@ -179,11 +180,13 @@ impl Model {
             .inverse(self.alloc, &self.text)
             .map_err(|_| ModelError::Memory)?;
         self.history.reserve().map_err(|_| ModelError::Memory)?;
-        let count = batch.ops().len() as u64;
-        self.text
-            .reserve(count, batch.text_units())
-            .map_err(|_| ModelError::Memory)?;
-        self.last.reserve(count).map_err(|_| ModelError::Memory)?;
+        make_room(
+            &mut self.text,
+            &mut self.last,
+            batch.ops().len() as u64,
+            batch.text_units(),
+        )
+        .map_err(|_| ModelError::Memory)?;
         apply(
             &mut self.text,
             &mut self.decorations,
@@ -202,11 +205,7 @@ impl Model {
     pub fn stop(&mut self)
         ensures document { self.new.document ≡ flat_stop self.old.document }
         ensures paired_state { IsPairedState self.old.document → IsPairedState self.new.document }
-        ensures parsed { self.new.parsed ≡ self.old.parsed }
-        ensures tree { self.new.tree ≡ self.old.tree }
-        ensures marks { self.new.marks ≡ self.old.marks }
-        ensures fresh { self.new.fresh ≡ self.old.fresh }
-        ensures pieces { self.new.pieces ≡ self.old.pieces }
+        ensures parse { KeepsParse self.old self.new }
     {
         self.history.stop();
     }
@@ -217,34 +216,11 @@ impl Model {
         ensures document { Moves result self.old.document self.new.document
             (flat_undo self.old.document) }
         ensures paired_state { IsPairedState self.old.document → IsPairedState self.new.document }
-        ensures parsed { self.new.parsed ≡ self.old.parsed }
-        ensures tree { self.new.tree ≡ self.old.tree }
-        ensures marks { LeftAfterMove result
+        ensures parse { HasMoved (next_op_count self.old.document.history.undo)
             (undone_marks self.old.marks self.old.document.history.undo)
-            self.old.marks self.new.marks }
-        ensures fresh { KeptAfterMove (next_op_count self.old.document.history.undo) result
-            self.old.fresh self.new.fresh }
-        ensures pieces { GrownAfterMove (next_op_count self.old.document.history.undo) result
-            self.old.pieces self.new.pieces }
+            result self.old self.new }
     {
-        let Some(step) = self.history.undo_next() else {
-            return Ok(false);
-        };
-        let version = raised(self.version, 1).ok_or(ModelError::Limit)?;
-        let changes = step.changes();
-        reserve_for(&mut self.text, &mut self.last, changes, Way::Back).map_err(
-            |_| ModelError::Memory,
-        )?;
-        take_back(
-            &mut self.text,
-            &mut self.decorations,
-            &mut self.last,
-            changes,
-        );
-        self.version = version;
-        self.alternative = step.alt_before();
-        self.history.undone();
-        Ok(true)
+        self.go(Way::Back)
     }
 
     /// Goes on to the text after the step that was undone last, as the next version, and answers whether there was one.
@@ -253,33 +229,38 @@ impl Model {
         ensures document { Moves result self.old.document self.new.document
             (flat_redo self.old.document) }
         ensures paired_state { IsPairedState self.old.document → IsPairedState self.new.document }
-        ensures parsed { self.new.parsed ≡ self.old.parsed }
-        ensures tree { self.new.tree ≡ self.old.tree }
-        ensures marks { LeftAfterMove result
+        ensures parse { HasMoved (next_op_count self.old.document.history.redo)
             (redone_marks self.old.marks self.old.document.history.redo)
-            self.old.marks self.new.marks }
-        ensures fresh { KeptAfterMove (next_op_count self.old.document.history.redo) result
-            self.old.fresh self.new.fresh }
-        ensures pieces { GrownAfterMove (next_op_count self.old.document.history.redo) result
-            self.old.pieces self.new.pieces }
+            result self.old self.new }
     {
-        let Some(step) = self.history.redo_next() else {
+        self.go(Way::On)
+    }
+
+    // Goes one step along the way, as the next version, and answers whether there was one.
+    fn go(&mut self, way: Way) -> Result<bool, ModelError>
+        ensures document { Moves result self.old.document self.new.document
+            (flat_move way self.old.document) }
+        ensures paired_state { IsPairedState self.old.document → IsPairedState self.new.document }
+        ensures parse { HasMoved (next_op_count (next_steps way self.old.document.history))
+            (marked_step way self.old.marks (next_steps way self.old.document.history))
+            result self.old self.new }
+    {
+        let Some(step) = next_step(&self.history, way) else {
             return Ok(false);
         };
         let version = raised(self.version, 1).ok_or(ModelError::Limit)?;
         let changes = step.changes();
-        reserve_for(&mut self.text, &mut self.last, changes, Way::On).map_err(
-            |_| ModelError::Memory,
-        )?;
-        make_again(
+        reserve_for(&mut self.text, &mut self.last, changes, way).map_err(|_| ModelError::Memory)?;
+        lead(
             &mut self.text,
             &mut self.decorations,
             &mut self.last,
             changes,
+            way,
         );
         self.version = version;
-        self.alternative = step.alt_after();
-        self.history.redone();
+        self.alternative = alternative_after(step, way);
+        pass_step(&mut self.history, way);
         Ok(true)
     }
 
@@ -297,11 +278,7 @@ impl Model {
             self.old.document self.new.document
             (flat_decorate self.old.document owner remove.now add.now) }
         ensures paired_state { IsPairedState self.old.document → IsPairedState self.new.document }
-        ensures parsed { self.new.parsed ≡ self.old.parsed }
-        ensures tree { self.new.tree ≡ self.old.tree }
-        ensures marks { self.new.marks ≡ self.old.marks }
-        ensures fresh { self.new.fresh ≡ self.old.fresh }
-        ensures pieces { self.new.pieces ≡ self.old.pieces }
+        ensures parse { KeepsParse self.old self.new }
     {
         self.decorations
             .delta(owner, remove, add, &self.text)
@@ -344,11 +321,7 @@ impl Model {
         ensures document { ChangesWith self.old.document.shelf.next_id result
             self.old.document self.new.document (flat_snapshot self.old.document) }
         ensures paired_state { IsPairedState self.old.document → IsPairedState self.new.document }
-        ensures parsed { self.new.parsed ≡ self.old.parsed }
-        ensures tree { self.new.tree ≡ self.old.tree }
-        ensures marks { self.new.marks ≡ self.old.marks }
-        ensures fresh { self.new.fresh ≡ self.old.fresh }
-        ensures pieces { self.new.pieces ≡ self.old.pieces }
+        ensures parse { KeepsParse self.old self.new }
     {
         let mut spans = Vec::new(self.alloc);
         self.text.spans(&mut spans).map_err(|_| ModelError::Memory)?;
@@ -375,11 +348,7 @@ impl Model {
         ensures paired_state { (count : ℕ) (units : List ℕ)
             → flat_peek_of self.old.document id count ≡ Ok units → n ≡ length units
             → IsPairedState self.old.document → IsPairedState self.new.document }
-        ensures parsed { self.new.parsed ≡ self.old.parsed }
-        ensures tree { self.new.tree ≡ self.old.tree }
-        ensures marks { self.new.marks ≡ self.old.marks }
-        ensures fresh { self.new.fresh ≡ self.old.fresh }
-        ensures pieces { self.new.pieces ≡ self.old.pieces }
+        ensures parse { KeepsParse self.old self.new }
     {
         self.shelf.skip(id, n);
     }
@@ -389,11 +358,7 @@ impl Model {
         ensures document { Changes result self.old.document self.new.document
             (flat_close_of self.old.document id) }
         ensures paired_state { IsPairedState self.old.document → IsPairedState self.new.document }
-        ensures parsed { self.new.parsed ≡ self.old.parsed }
-        ensures tree { self.new.tree ≡ self.old.tree }
-        ensures marks { self.new.marks ≡ self.old.marks }
-        ensures fresh { self.new.fresh ≡ self.old.fresh }
-        ensures pieces { self.new.pieces ≡ self.old.pieces }
+        ensures parse { KeepsParse self.old self.new }
     {
         self.shelf.close(id).map_err(shelf_error_of)
     }
@@ -427,19 +392,7 @@ impl Model {
         ensures small { (entries : List Entry)
             → flat_brackets self.old.document from to ≡ Ok entries
             → OnOk result (All (λ e. IsSmall e.place) entries) }
-        ensures document { self.new.document ≡ self.old.document }
-        ensures pieces { self.new.pieces ≡ self.old.pieces }
-        ensures same { self.old.fresh ≡ true → self.new.parsed ≡ self.old.parsed }
-        ensures same_tree { self.old.fresh ≡ true → self.new.tree ≡ self.old.tree }
-        ensures asked { self.old.fresh ≡ false
-            → OnOk result (HasAsked self.new.parsed (length (new_lines self.old.marks))) }
-        ensures parsed { OnErr result (self.new.parsed ≡ self.old.parsed) }
-        ensures tree { OnErr result (self.new.tree ≡ self.old.tree) }
-        ensures lines { OnOk result (self.new.marks ≡ clean_marks (length self.old.marks)) }
-        ensures same_marks { self.old.fresh ≡ true → self.new.marks ≡ self.old.marks }
-        ensures marks { OnErr result (self.new.marks ≡ self.old.marks) }
-        ensures fresh { OnOk result (self.new.fresh ≡ true) }
-        ensures kept { OnErr result (self.new.fresh ≡ self.old.fresh) }
+        ensures parse { Renews result self.old self.new }
     {
         if from == 0 || to < from || self.text.line_count() < to {
             return Err(ModelError::Range);
@@ -467,19 +420,7 @@ impl Model {
     /// parse is that of the text of now, and an error leaves tree and marks as they were.
     pub fn match_at(&mut self, p: Position) -> Result<Option<(Position, u64)>, ModelError>
         ensures partner { Gives result (flat_match self.old.document p) }
-        ensures document { self.new.document ≡ self.old.document }
-        ensures pieces { self.new.pieces ≡ self.old.pieces }
-        ensures same { self.old.fresh ≡ true → self.new.parsed ≡ self.old.parsed }
-        ensures same_tree { self.old.fresh ≡ true → self.new.tree ≡ self.old.tree }
-        ensures asked { self.old.fresh ≡ false
-            → OnOk result (HasAsked self.new.parsed (length (new_lines self.old.marks))) }
-        ensures parsed { OnErr result (self.new.parsed ≡ self.old.parsed) }
-        ensures tree { OnErr result (self.new.tree ≡ self.old.tree) }
-        ensures lines { OnOk result (self.new.marks ≡ clean_marks (length self.old.marks)) }
-        ensures same_marks { self.old.fresh ≡ true → self.new.marks ≡ self.old.marks }
-        ensures marks { OnErr result (self.new.marks ≡ self.old.marks) }
-        ensures fresh { OnOk result (self.new.fresh ≡ true) }
-        ensures kept { OnErr result (self.new.fresh ≡ self.old.fresh) }
+        ensures parse { Renews result self.old self.new }
         ensures sure { self.old.fresh ≡ true → ¬ (result ≡ Err ModelError.Memory) }
     {
         if !is_position(&self.text, p) {
@@ -497,19 +438,7 @@ impl Model {
     /// they were.
     pub fn level_at(&mut self, p: Position) -> Result<u64, ModelError>
         ensures level { Gives result (flat_level self.old.document p) }
-        ensures document { self.new.document ≡ self.old.document }
-        ensures pieces { self.new.pieces ≡ self.old.pieces }
-        ensures same { self.old.fresh ≡ true → self.new.parsed ≡ self.old.parsed }
-        ensures same_tree { self.old.fresh ≡ true → self.new.tree ≡ self.old.tree }
-        ensures asked { self.old.fresh ≡ false
-            → OnOk result (HasAsked self.new.parsed (length (new_lines self.old.marks))) }
-        ensures parsed { OnErr result (self.new.parsed ≡ self.old.parsed) }
-        ensures tree { OnErr result (self.new.tree ≡ self.old.tree) }
-        ensures lines { OnOk result (self.new.marks ≡ clean_marks (length self.old.marks)) }
-        ensures same_marks { self.old.fresh ≡ true → self.new.marks ≡ self.old.marks }
-        ensures marks { OnErr result (self.new.marks ≡ self.old.marks) }
-        ensures fresh { OnOk result (self.new.fresh ≡ true) }
-        ensures kept { OnErr result (self.new.fresh ≡ self.old.fresh) }
+        ensures parse { Renews result self.old self.new }
         ensures sure { self.old.fresh ≡ true → ¬ (result ≡ Err ModelError.Memory) }
     {
         if !is_position(&self.text, p) {
@@ -581,6 +510,20 @@ impl Model {
         ensures cost { WithinLookUps 4 self.now.pieces (steps.new - steps.old) }
     {
         self.text.offset_at(p, steps)
+    }
+
+    /// `position_at`, with steps that nobody counts.
+    pub fn position(&self, offset: u64) -> Option<Position>
+        ensures { result ≡ flat_position self.now.document offset }
+    {
+        self.text.position(offset)
+    }
+
+    /// `offset_at`, with steps that nobody counts.
+    pub fn offset(&self, p: Position) -> Option<u64>
+        ensures { result ≡ flat_offset self.now.document p }
+    {
+        self.text.offset(p)
     }
 
     /// The version, and the version at which the text was last as it is now.

@@ -1,13 +1,10 @@
 //! Places of brackets as positions.
 
-ghost use Rattle.std.specs.Prelude.{◌≡◌, ◌<◌, IfSome};
+ghost use Rattle.std.specs.Prelude.{◌≡◌, IfSome};
 ghost use Rattle.std.specs.Option.{option_map};
 ghost use Rattle.text_rules.specs.Positions.{is_position};
 ghost use Rattle.document_rules.specs.Brackets.{place_of, position_at, IsSmall};
 
-use std::marker::Brand;
-use std::sync::ledger::{Blank, Ledger};
-use steps::Steps;
 use text_buffer::TextBuffer;
 use text_lengths::{Length, Position};
 
@@ -38,15 +35,5 @@ pub(crate) fn told(spot: Option<(Length, u64)>) -> Option<(Position, u64)>
 pub(crate) fn is_position(text: &TextBuffer, p: Position) -> bool
     ensures { result ≡ is_position text.now.units p }
 {
-    is_position_for::<Brand>(text, p, Blank::new(1))
-}
-
-fn is_position_for<L: Ledger>(text: &TextBuffer, p: Position, blank: Blank) -> bool
-    requires name { blank.name ≡ L.name }
-    requires parts { blank.parts ≡ L.parts }
-    requires some { 0 < L.parts }
-    ensures { result ≡ is_position text.now.units p }
-{
-    let mut steps = Steps::<L>::new(blank);
-    text.offset_at(p, &mut steps).is_some()
+    text.offset(p).is_some()
 }

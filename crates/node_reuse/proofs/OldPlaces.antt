@@ -87,18 +87,6 @@ no_tree_reusable marks p kinds level m r = r
 pub new_line_reusable : (t : Tree) (marks : List Mark) (p : Length) (kinds level : ℕ) → IsNewLine marks p → NoneReusable (old_text (Some t) marks) p kinds level
 new_line_reusable t marks p kinds level new m r = new r.line r.kept
 
-pub longest_reusable_if : (t : Tree) (marks : List Mark) (p q : Length) (kinds level : ℕ) (o : Option Tree) → IsOldPlace marks p q
-    → IfSome o (λ n. IsLongest no_length t q (kept_run (drop p.lines marks)) kinds level n)
-    → IfSome o (IsLongestReusable (old_text (Some t) marks) p kinds level)
-longest_reusable_if t marks p q kinds level None h k = tt
-longest_reusable_if t marks p q kinds level (Some n) h k = longest_reusable t marks p q kinds level n h k
-
-pub none_reusable_if : (t : Tree) (marks : List Mark) (p q : Length) (kinds level : ℕ) (o : Option Tree) → IsOldPlace marks p q
-    → IfNone o (NoneMayBeTaken no_length t q (kept_run (drop p.lines marks)) kinds level)
-    → IfNone o (NoneReusable (old_text (Some t) marks) p kinds level)
-none_reusable_if t marks p q kinds level None h k = none_reusable t marks p q kinds level h k
-none_reusable_if t marks p q kinds level (Some n) h k = tt
-
 pub ruleset node_laws = (longest_reusable, none_reusable, no_tree_reusable, new_line_reusable)
 
 -- ---- brackets

@@ -14,6 +14,8 @@ use Rattle.bracket_trees.proofs.Weights.{units_of, plus_within, length_within}
 use Rattle.mark_rules.specs.declared.Mark.{Mark}
 use Rattle.mark_rules.specs.declared.Mark.TheVariants.{Kept, New}
 use Rattle.mark_rules.specs.Marks.{numbered, kept_run}
+use Rattle.bracket_nodes.specs.declared.find.NodeRef.{NodeRef}
+use Rattle.bracket_nodes.specs.Borrowed.{node_of}
 use Rattle.node_reuse.specs.OldText.{IsOldPlace, Fits64}
 
 -- ---- within a tree
@@ -147,11 +149,11 @@ token_fits t p q found column light h =
     let ends = bracket_within no_length t (bracket q found.len found.kind found.opening) h.stands in
     omega arith
 
-pub node_fits_if : (t : Tree) (marks : List Mark) (p q : Length) (run kinds level : ℕ) (found : Option Tree) → IsOldPlace marks p q
-    → weight t < 2 ^ 64 → p.lines + run < 2 ^ 64 → IfSome found (λ n. IsLongest no_length t q run kinds level n)
-    → IfSome found (λ n. Fits64 (length_plus p (tree_length n)))
+pub node_fits_if : (t : Tree) (marks : List Mark) (p q : Length) (run kinds level : ℕ) (found : Option NodeRef) → IsOldPlace marks p q
+    → weight t < 2 ^ 64 → p.lines + run < 2 ^ 64 → IfSome found (λ n. IsLongest no_length t q run kinds level (node_of n))
+    → IfSome found (λ n. Fits64 (length_plus p (tree_length (node_of n))))
 node_fits_if t marks p q run kinds level None o light count l = tt
-node_fits_if t marks p q run kinds level (Some n) o light count l = node_fits t p q run kinds level n o.column light count l
+node_fits_if t marks p q run kinds level (Some n) o light count l = node_fits t p q run kinds level (node_of n) o.column light count l
 
 pub token_fits_if : (t : Tree) (marks : List Mark) (p q : Length) (found : Option Token) → IsOldPlace marks p q → weight t < 2 ^ 64
     → IfSome found (IsTokenAt no_length t q) → IfSome found (λ token. p.columns + token.len < 2 ^ 64)

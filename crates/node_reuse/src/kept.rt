@@ -14,17 +14,18 @@ use text_lengths::Length;
 // What comes next in a kept line, where brackets of these kinds are open, `level` of them: the longest old node that may
 // stand there, else the old bracket, else the end of the text. An error leaves the reader where it was.
 pub(crate) fn next_of_old<O: Old, L: Ledger>(
-    old: &O,
+    old: &mut O,
     place: &mut Length,
     opened: Kinds,
     level: u64,
     steps: &mut Steps<L>,
 ) -> Result<Next, AllocError>
     requires level { level ≤ MOST_OPEN }
-    requires there { place.old.lines < length (O.text old.now).marks }
-    ensures reads { (s : Sight) (line : Line) → s.old ≡ O.text old.now → IsKept s place.old
+    requires there { place.old.lines < length (O.text old.old).marks }
+    ensures reads { (s : Sight) (line : Line) → s.old ≡ O.text old.old → IsKept s place.old
         → line.scanned ≡ false → StandsAt s place.old line
         → IfOk result (ReadsOn s place.old line place.new line opened level) }
+    ensures same_text { O.text old.new ≡ O.text old.old }
     ensures same_place { OnErr result (place.new ≡ place.old) }
 {
     if let Some(node) = old.longest_at(*place, opened, level, steps) {

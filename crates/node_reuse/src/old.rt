@@ -1,23 +1,29 @@
 //! An old text as a reader sees it.
 
-ghost use Rattle.std.specs.Prelude.{◌≡◌, ◌+◌, ◌^◌, ◌<◌, length, IfSome, IfNone};
+ghost use Rattle.std.specs.Prelude.{◌≡◌, ◌+◌, ◌^◌, ◌<◌, length, IfSome, IfNone, ⊤};
 ghost use Rattle.std.specs.Option.{option_copied};
 ghost use Rattle.text_lengths.specs.Length.{length_plus};
 ghost use Rattle.bracket_trees.specs.Tree.{tree_length};
-ghost use Rattle.node_reuse.specs.OldText.{IsOldPlace, IsNewLine};
+ghost use Rattle.bracket_nodes.specs.Borrowed.{node_of};
+ghost use Rattle.node_reuse.specs.OldText.{IsOldPlace, IsNewLine, Fits64, IsLongestReusable, NoneReusable, IsOldToken, NoOldBracket};
 
-use bracket_nodes::{Kinds, Node, NodeRef};
+use bracket_nodes::{Kinds, Node, NodeReader, NodeRef};
 use bracket_rules::Token;
 use line_hunks::Hunks;
 use mark_rules::Mark;
+use std::alloc::Global;
 use std::marker::Model;
 use std::sync::ledger::Ledger;
 use steps::Steps;
 use text_lengths::Length;
 
 /// An old text, from a place of the text of now. Lines are counted from 0. No other call leads to the nodes of an old
-/// text. Each takes one step, and no memory.
+/// text. Each takes one step, and leaves the text as it was; none fails for want of memory.
 pub trait Old {
+    ghost use mathlib.Core.Option.{none};
+    ghost use denote.Follow.{follows_so};
+    ghost use Rattle.std.specs.Prelude.{⊤};
+    ghost use Rattle.std.specs.Borrow.{sem};
     ghost use Rattle.node_reuse.specs.OldText.{OldText, Fits64, IsLongestReusable, NoneReusable, IsOldToken, NoOldBracket};
 
     ghost text: { Self → OldText };
@@ -25,51 +31,59 @@ pub trait Old {
     /// The longest node of the old tree that may stand at this place of the text of now, where brackets of these kinds
     /// are open, `level` of them.
     fn longest_at<L: Ledger>(
-        &self,
+        &mut self,
         place: Length,
         opened: Kinds,
         level: u64,
         steps: &mut Steps<L>,
     ) -> Option<NodeRef<'_>>
-        requires { place.lines < length (text self.now).marks }
-        ensures some { IfSome result (IsLongestReusable (text self.now) place opened level) }
-        ensures none { IfNone result (NoneReusable (text self.now) place opened level) }
-        ensures fits { IfSome result (λ node. Fits64 (length_plus place (tree_length node))) }
-        ensures step { steps.new ≡ steps.old + 1 };
+        requires { place.lines < length (text self.old).marks }
+        ensures some { IfSome result (λ node.
+            IsLongestReusable (text self.old) place opened level (node_of node)) }
+        ensures none { IfNone result (NoneReusable (text self.old) place opened level) }
+        ensures fits { IfSome result (λ node.
+            Fits64 (length_plus place (tree_length (node_of node)))) }
+        ensures step { steps.new ≡ steps.old + 1 }
+        ensures* same { sem 𝓛 (follows_so Self.row Self.row self.entry.ghost_name none
+            (λ _ _. ⊤) (λ after. text after ≡ text self.old)) };
 
     /// The old bracket at this place of the text of now, as one of its line; none where the line is new.
-    fn token_at<L: Ledger>(&self, place: Length, steps: &mut Steps<L>) -> Option<Token>
-        requires { place.lines < length (text self.now).marks }
-        ensures some { IfSome result (IsOldToken (text self.now) place) }
-        ensures none { IfNone result (NoOldBracket (text self.now) place) }
+    fn token_at<L: Ledger>(&mut self, place: Length, steps: &mut Steps<L>) -> Option<Token>
+        requires { place.lines < length (text self.old).marks }
+        ensures some { IfSome result (IsOldToken (text self.old) place) }
+        ensures none { IfNone result (NoOldBracket (text self.old) place) }
         ensures fits { IfSome result (λ token. place.columns + token.len < 2 ^ 64) }
-        ensures step { steps.new ≡ steps.old + 1 };
+        ensures step { steps.new ≡ steps.old + 1 }
+        ensures same { text self.new ≡ text self.old };
 }
 
 /// The tree of an old text, where there is one, and what each line of the text of now is to it.
 #[derive(Drop)]
 pub struct OldReader<'a> {
-    tree: Option<&'a Node>,
+    tree: Option<NodeReader<'a>>,
     hunks: &'a Hunks,
 }
 
 impl<'a> Model for OldReader<'a> {
-    ghost use Rattle.std.specs.Option.{option_copied};
     ghost use Rattle.node_reuse.specs.OldText.{OldText, old_text_code};
 
     ghost Value = { OldText };
 
     ghost coded = { old_text_code };
 
-    ghost view = { λ r. record { tree = option_copied r.tree; marks = r.hunks.now.marks } };
+    ghost view = { λ r. record { tree = r.tree; marks = r.hunks.now.marks } };
 }
 
 impl<'a> OldReader<'a> {
     /// The reader of this tree, under these marks.
-    pub fn new(tree: Option<&'a Node>, hunks: &'a Hunks) -> OldReader<'a>
+    pub fn new(alloc: Global, tree: Option<&'a Node>, hunks: &'a Hunks) -> OldReader<'a>
         ensures tree { result.tree ≡ option_copied tree.entry }
         ensures marks { result.marks ≡ hunks.now.marks }
     {
+        let tree = match tree {
+            Some(tree) => Some(NodeReader::new(alloc, tree)),
+            None => None,
+        };
         OldReader { tree, hunks }
     }
 
@@ -89,33 +103,64 @@ impl<'a> OldReader<'a> {
             Mark::New => None,
         }
     }
+
+    #[tactic(auto, using(crate::proofs::OldPlaces::node_laws))]
+    fn node_at(&mut self, place: Length, opened: Kinds, level: u64) -> Option<NodeRef<'a>>
+        requires { place.lines < length self.old.marks }
+        ensures some { IfSome result (λ node.
+            IsLongestReusable self.old place opened level (node_of node)) }
+        ensures none { IfNone result (NoneReusable self.old place opened level) }
+        ensures fits { IfSome result (λ node.
+            Fits64 (length_plus place (tree_length (node_of node)))) }
+        ensures same { self.new ≡ self.old }
+    {
+        let old = self.old_place(place)?;
+        let lines = self.hunks.kept_from(place.lines + 1);
+        let tree = self.tree.as_mut()?;
+        // No tree is longer than 64 bits tell.
+        let _length = tree.length();
+        tree.longest_at(old, lines, opened, level)
+    }
+
+    #[tactic(auto, using(crate::proofs::OldPlaces::bracket_laws))]
+    fn bracket_at(&mut self, place: Length) -> Option<Token>
+        requires { place.lines < length self.old.marks }
+        ensures some { IfSome result (IsOldToken self.old place) }
+        ensures none { IfNone result (NoOldBracket self.old place) }
+        ensures fits { IfSome result (λ token. place.columns + token.len < 2 ^ 64) }
+        ensures same { self.new ≡ self.old }
+    {
+        let old = self.old_place(place)?;
+        let tree = self.tree.as_mut()?;
+        let _length = tree.length();
+        tree.bracket_at(old)
+    }
+
+    // The node, for as long as the reader is borrowed.
+    fn lent<'b>(&'b self, found: Option<NodeRef<'a>>) -> Option<NodeRef<'b>>
+        ensures { result ≡ found.entry }
+    {
+        found
+    }
 }
 
 impl Old for OldReader<'_> {
     ghost text = { λ old. old };
 
-    #[tactic(auto, using(crate::proofs::OldPlaces::node_laws))]
     fn longest_at<L: Ledger>(
-        &self,
+        &mut self,
         place: Length,
         opened: Kinds,
         level: u64,
         steps: &mut Steps<L>,
     ) -> Option<NodeRef<'_>> {
         steps.tick();
-        let tree = self.tree?;
-        // No tree is longer than 64 bits tell.
-        let _length = tree.length();
-        let old = self.old_place(place)?;
-        tree.longest_at(old, self.hunks.kept_from(place.lines + 1), opened, level)
+        let found = self.node_at(place, opened, level);
+        self.lent(found)
     }
 
-    #[tactic(auto, using(crate::proofs::OldPlaces::bracket_laws))]
-    fn token_at<L: Ledger>(&self, place: Length, steps: &mut Steps<L>) -> Option<Token> {
+    fn token_at<L: Ledger>(&mut self, place: Length, steps: &mut Steps<L>) -> Option<Token> {
         steps.tick();
-        let tree = self.tree?;
-        let _length = tree.length();
-        let old = self.old_place(place)?;
-        tree.bracket_at(old)
+        self.bracket_at(place)
     }
 }

@@ -59,18 +59,18 @@ impl Parsed {
 /// line the tree's leaves weigh more than its units, and one for its break.
 ///
 /// An error is want of memory: some of the new lines were asked for then, and nothing else was changed.
-pub fn reparse<O: Old, Q: Lines, L: Ledger>(
+pub fn reparse<O: Old + Drop, Q: Lines, L: Ledger>(
     alloc: Global,
-    old: &O,
+    mut old: O,
     hunks: &Hunks,
     table: &BracketTable,
     lines: &mut Q,
     steps: &mut Steps<L>,
 ) -> Result<Parsed, AllocError>
     requires some { 0 < length (Q.state lines.old).contents }
-    requires marks { (O.text old.now).marks ≡ hunks.now.marks }
+    requires marks { (O.text old).marks ≡ hunks.now.marks }
     requires count { length hunks.now.marks ≡ length (Q.state lines.old).contents }
-    requires stays { StaysIfThere (O.text old.now).tree hunks.now.marks
+    requires stays { StaysIfThere (O.text old).tree hunks.now.marks
         (text_rows table.now (Q.state lines.old).contents)
         (text_weights (Q.state lines.old).contents) }
     requires fits { sum (text_weights (Q.state lines.old).contents) < 2 ^ 64 }
@@ -92,7 +92,7 @@ pub fn reparse<O: Old, Q: Lines, L: Ledger>(
         columns: 0,
     };
     let mut reader = Reader {
-        text: old,
+        text: &mut old,
         hunks,
         table,
         lines,

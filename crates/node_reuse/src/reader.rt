@@ -23,7 +23,7 @@ use text_lengths::Length;
 // A reader of the text of now.
 #[derive(Drop)]
 pub(crate) struct Reader<'o, 'h, 't, 'q, 's, 'l, O, Q, L: Ledger> {
-    pub text: &'o O,
+    pub text: &'o mut O,
     pub hunks: &'h Hunks,
     pub table: &'t BracketTable,
     pub lines: &'q mut Q,
@@ -40,7 +40,7 @@ impl<O: Old, Q: Lines, L: Ledger> Source for Reader<'_, '_, '_, '_, '_, '_, O, Q
     ghost ahead = { λ r. seen_at
         (sight r.table.now (Q.state r.lines.now).contents (O.text r.text.now) r.hunks.now.marks)
         (asked_so (Q.state r.lines.now).asked
-        (r.lines.ghost_name ∷ r.steps.ghost_name ∷ r.line.ghost_name ∷ []))
+        (r.text.ghost_name ∷ r.lines.ghost_name ∷ r.steps.ghost_name ∷ r.line.ghost_name ∷ []))
         r.place r.line.now };
 
     ghost stands = { λ r. StandsAt

@@ -11,7 +11,7 @@ use Rattle.std.specs.Option.{ForSome}
 use Rattle.line_starts.proofs.Starts.{break_count_is}
 use Rattle.text_rules.proofs.Breaks.{break_ends_few}
 use Rattle.piece_tree.specs.declared.piece.Piece.{Piece}
-use Rattle.piece_tree.specs.Pieces.{unit_count, piece_of, piece_list, IsPieceOf, front, back, spliced}
+use Rattle.piece_tree.specs.Pieces.{unit_count, piece_of, IsPieceOf, front, back}
 use Rattle.piece_tree.specs.Searches.{few_breaks}
 use Rattle.piece_tree.proofs.Sums.{units-cons}
 
@@ -107,33 +107,36 @@ module _ (b : List (List ℕ)) where
   pub inside_part : (span : ChunkSpan) (from to : ℕ) → from ≤ to → to ≤ span.units → LiesIn b span → LiesIn b (part_of span from to)
   inside_part span from to ordered within lies = record { buffer = lies.buffer; end = omega arith; fits = omega arith }
 
-  pub pieces-front : (n : ℕ) (ps : List Piece) → All (IsPieceOf b) ps → All (IsPieceOf b) (front b n ps)
-  pieces-front n [] all = all
-  pieces-front n (p ∷ ps) all =
-      let head : IsPieceOf b p = All-head (IsPieceOf b) p ps all in
-      let tail : All (IsPieceOf b) ps = All-tail (IsPieceOf b) p ps all in
+  pieces-both : (n : ℕ) (ps : List Piece) → All (IsPieceOf b) ps → All (IsPieceOf b) (front b n ps) × All (IsPieceOf b) (back b n ps)
+  pieces-both n [] all = (all, all)
+  pieces-both n (p ∷ ps) all =
+      let P : Piece → Type 0 = IsPieceOf b in
+      let head : IsPieceOf b p = All-head P p ps all in
+      let tail : All P ps = All-tail P p ps all in
       elim (cases_lt n p.span.units) [
-        | inr past ↦ subst (All (IsPieceOf b)) (sym (front_past n p ps past)) (All-cons (IsPieceOf b) p (front b (n - p.span.units) ps) head (pieces-front (n - p.span.units) ps tail))
+        | inr past ↦ (let more : All P (front b (n - p.span.units) ps) × All P (back b (n - p.span.units) ps) = pieces-both (n - p.span.units) ps tail in (
+          subst (All P) (sym (front_past n p ps past)) (All-cons P p (front b (n - p.span.units) ps) head more.0),
+          subst (All P) (sym (back_past n p ps past)) more.1,
+        ))
         | inl within ↦ elim (cases_eq n 0) [
-          | inl none ↦ subst (All (IsPieceOf b)) (sym (ap (λ (k : ℕ). front b k (p ∷ ps)) none ∙ front_none p ps (omega arith))) (All-nil (IsPieceOf b))
-          | inr some ↦ subst (All (IsPieceOf b)) (sym (front_part n p ps (omega arith) within))
-              (All-cons (IsPieceOf b) (piece_of b (part_of p.span 0 n)) [] (record { inside = inside_part p.span 0 n (omega arith) (omega arith) head.inside; breaks = refl }) (All-nil (IsPieceOf b)))
+          | inl none ↦ (
+            subst (All P) (sym (ap (λ (k : ℕ). front b k (p ∷ ps)) none ∙ front_none p ps (omega arith))) (All-nil P),
+            subst (All P) (sym (ap (λ (k : ℕ). back b k (p ∷ ps)) none ∙ back_none p ps (omega arith))) all,
+          )
+          | inr some ↦ (
+            subst (All P) (sym (front_part n p ps (omega arith) within))
+                (All-cons P (piece_of b (part_of p.span 0 n)) [] (record { inside = inside_part p.span 0 n (omega arith) (omega arith) head.inside; breaks = refl }) (All-nil P)),
+            subst (All P) (sym (back_part n p ps (omega arith) within))
+                (All-cons P (piece_of b (part_of p.span n p.span.units)) ps (record { inside = inside_part p.span n p.span.units (omega arith) (omega arith) head.inside; breaks = refl }) tail),
+          )
         ]
       ]
 
+  pub pieces-front : (n : ℕ) (ps : List Piece) → All (IsPieceOf b) ps → All (IsPieceOf b) (front b n ps)
+  pieces-front n ps all = (pieces-both n ps all).0
+
   pub pieces-back : (n : ℕ) (ps : List Piece) → All (IsPieceOf b) ps → All (IsPieceOf b) (back b n ps)
-  pieces-back n [] all = all
-  pieces-back n (p ∷ ps) all =
-      let head : IsPieceOf b p = All-head (IsPieceOf b) p ps all in
-      let tail : All (IsPieceOf b) ps = All-tail (IsPieceOf b) p ps all in
-      elim (cases_lt n p.span.units) [
-        | inr past ↦ subst (All (IsPieceOf b)) (sym (back_past n p ps past)) (pieces-back (n - p.span.units) ps tail)
-        | inl within ↦ elim (cases_eq n 0) [
-          | inl none ↦ subst (All (IsPieceOf b)) (sym (ap (λ (k : ℕ). back b k (p ∷ ps)) none ∙ back_none p ps (omega arith))) all
-          | inr some ↦ subst (All (IsPieceOf b)) (sym (back_part n p ps (omega arith) within))
-              (All-cons (IsPieceOf b) (piece_of b (part_of p.span n p.span.units)) ps (record { inside = inside_part p.span n p.span.units (omega arith) (omega arith) head.inside; breaks = refl }) tail)
-        ]
-      ]
+  pieces-back n ps all = (pieces-both n ps all).1
 
   -- the pieces with a cut
   pub units-cut : (n : ℕ) (ps : List Piece) → n ≤ unit_count ps → unit_count (front b n ps ++ back b n ps) ≡ unit_count ps
@@ -141,8 +144,8 @@ module _ (b : List (List ℕ)) where
       let parts = sum_by-append (λ (q : Piece). q.span.units) (front b n ps) (back b n ps) in
       omega (arith, parts, units-front n ps h, units-back n ps)
 
-  pub pieces-cut : (n : ℕ) (ps : List Piece) → All (IsPieceOf b) ps → All (IsPieceOf b) (front b n ps ++ back b n ps)
-  pieces-cut n ps all = All-append (IsPieceOf b) (front b n ps) (back b n ps) (pieces-front n ps all) (pieces-back n ps all)
+  pub pieces-cut : (start end : ℕ) (ps : List Piece) → All (IsPieceOf b) ps → All (IsPieceOf b) (front b start ps ++ back b end ps)
+  pieces-cut start end ps all = All-append (IsPieceOf b) (front b start ps) (back b end ps) (pieces-front start ps all) (pieces-back end ps all)
 
   pub piece_few : (p : Piece) → IsPieceOf b p → few_breaks p
   piece_few p is =
@@ -155,29 +158,8 @@ module _ (b : List (List ℕ)) where
   pub pieces_few : (ps : List Piece) → All (IsPieceOf b) ps → All few_breaks ps
   pieces_few ps all = All-weaker (IsPieceOf b) few_breaks piece_few ps all
 
-  pieces_listed : (span : Option ChunkSpan) → ForSome span (LiesIn b) → All (IsPieceOf b) (piece_list b span)
-  pieces_listed None lies = All-nil (IsPieceOf b)
-  pieces_listed (Some span) lies = All-cons (IsPieceOf b) (piece_of b span) [] (record { inside = lies span refl; breaks = refl }) (All-nil (IsPieceOf b))
-
-  pub pieces-spliced : (start end : ℕ) (span : Option ChunkSpan) (ps : List Piece) → ForSome span (LiesIn b) → All (IsPieceOf b) ps → All (IsPieceOf b) (spliced b start end span ps)
-  pieces-spliced start end span ps lies all =
-      All-append (IsPieceOf b) (front b start ps ++ piece_list b span) (back b end ps)
-      (All-append (IsPieceOf b) (front b start ps) (piece_list b span) (pieces-front start ps all) (pieces_listed span lies))
-      (pieces-back end ps all)
-
   -- what a cut and a removal leave
   pub units-removed : (start end : ℕ) (ps : List Piece) → start ≤ unit_count ps → unit_count (front b start ps ++ back b end ps) ≡ start + (unit_count ps - end)
   units-removed start end ps h =
       let parts = sum_by-append (λ (q : Piece). q.span.units) (front b start ps) (back b end ps) in
       omega (arith, parts, units-front start ps h, units-back end ps)
-
-  pub units-spliced : (start end : ℕ) (span : Option ChunkSpan) (ps : List Piece) → start ≤ unit_count ps
-      → unit_count (spliced b start end span ps) ≡ start + unit_count (piece_list b span) + (unit_count ps - end)
-  units-spliced start end span ps h =
-      omega (
-        arith,
-        sum_by-append (λ (q : Piece). q.span.units) (front b start ps ++ piece_list b span) (back b end ps),
-        sum_by-append (λ (q : Piece). q.span.units) (front b start ps) (piece_list b span),
-        units-front start ps h,
-        units-back end ps,
-      )

@@ -3,3 +3,4 @@ pub mod Cuts
 pub mod Looking
 pub mod Places
 pub mod Costs
+pub mod Prolonged

@@ -69,10 +69,10 @@ units-append us vs = ap unit_count (in_order-append us vs) ∙ sum_by-append (λ
 small_of : (items : List (ℕ × Piece)) → units_in items < 2 ^ 62 → is_small (woven.sum_of adding items)
 small_of items h = omega (arith, h, ap (λ (s : PieceSum). s.units) (sum_is items))
 
--- the sums stay small where a piece gives way to one that is no longer, and where one more still fits
-pub small_set : (items us : List (ℕ × Piece)) (id : ℕ) (x : Piece) (vs : List (ℕ × Piece)) (q : Piece) → SplitsAt items id us x vs → q.span.units ≤ x.span.units
-    → units_in items < 2 ^ 62 → is_small (woven.sum_of adding (us ++ (id, q) ∷ vs))
-small_set items us id x vs q e shorter small = small_of (us ++ (id, q) ∷ vs) (omega (arith, units-split us id q vs, units-split us id x vs, ap units_in e, shorter, small))
+-- the sums stay small where a piece gives way to one that has at most so many units more, and where one more still fits
+pub small_set : (items us : List (ℕ × Piece)) (id : ℕ) (x : Piece) (vs : List (ℕ × Piece)) (q : Piece) (more : ℕ) → SplitsAt items id us x vs
+    → q.span.units ≤ x.span.units + more → units_in items + more < 2 ^ 62 → is_small (woven.sum_of adding (us ++ (id, q) ∷ vs))
+small_set items us id x vs q more e size small = small_of (us ++ (id, q) ∷ vs) (omega (arith, units-split us id q vs, units-split us id x vs, ap units_in e, size, small))
 
 pub small_after : (items us : List (ℕ × Piece)) (id : ℕ) (x : Piece) (vs : List (ℕ × Piece)) (q : Piece) → SplitsAt items id us x vs
     → units_in items + q.span.units < 2 ^ 62 → is_small (woven.sum_of adding (us ++ (id, x) ∷ (0, q) ∷ vs))

@@ -1,5 +1,5 @@
 -- The pieces of a text, as a list that is cut and inserted into.
-use Rattle.std.specs.Prelude.{ℕ, ◌≡◌, ◌-◌, ◌==◌, Option, Some, None, nat_le, if◌then◌else◌, List, [], ◌∷◌, ◌++◌, map, sum_by}
+use Rattle.std.specs.Prelude.{ℕ, ◌≡◌, ◌+◌, ◌-◌, ◌==◌, ◌&&◌, Bool, Option, Some, None, nat_le, if◌then◌else◌, List, [], ◌∷◌, ◌++◌, map, sum_by}
 use Rattle.chunk_buffers.specs.declared.span.ChunkSpan.{ChunkSpan}
 use Rattle.chunk_buffers.specs.Chunks.{units_at, LiesIn, part_of}
 use Rattle.line_starts.specs.Starts.{break_count}
@@ -38,6 +38,25 @@ abbrev pub piece_list : List (List ℕ) → Option ChunkSpan → List Piece
 piece_list buffers None = []
 piece_list buffers (Some span) = piece_of buffers span ∷ []
 
+-- whether the second span starts where the first one ends, in the same buffer
+abbrev pub goes_on : ChunkSpan → ChunkSpan → Bool
+goes_on first second = first.buffer == second.buffer && first.start + first.units == second.start
+
+-- the first span with the units of one that goes on from it
+abbrev pub prolonged : ChunkSpan → ChunkSpan → ChunkSpan
+prolonged first second = record { buffer = first.buffer; start = first.start; units = first.units + second.units }
+
+-- the pieces with a span behind them: it prolongs the last piece where it goes on from it, else it is a new piece
+abbrev pub followed : List (List ℕ) → List Piece → ChunkSpan → List Piece
+followed buffers [] span = piece_of buffers span ∷ []
+followed buffers (p ∷ []) span =
+    if goes_on p.span span then piece_of buffers (prolonged p.span span) ∷ [] else p ∷ piece_of buffers span ∷ []
+followed buffers (p ∷ q ∷ ps) span = p ∷ followed buffers (q ∷ ps) span
+
+abbrev pub followed_by : List (List ℕ) → List Piece → Option ChunkSpan → List Piece
+followed_by buffers pieces None = pieces
+followed_by buffers pieces (Some span) = followed buffers pieces span
+
 -- the piece lies in these buffers, and has the number of breaks that its units have there
 pub record IsPieceOf (buffers : List (List ℕ)) (piece : Piece) : Type 0 where
   pub inside : LiesIn buffers piece.span
@@ -59,7 +78,7 @@ back buffers n (p ∷ ps) =
 
 -- the pieces in which the span has taken the place of the units from `start` to `end`
 abbrev pub spliced : List (List ℕ) → ℕ → ℕ → Option ChunkSpan → List Piece → List Piece
-spliced buffers start end span pieces = front buffers start pieces ++ piece_list buffers span ++ back buffers end pieces
+spliced buffers start end span pieces = followed_by buffers (front buffers start pieces) span ++ back buffers end pieces
 
 -- the looked-up piece is one of the list, and is told with what the pieces before it have
 pub record IsFound (entries : List Entry) (found : Found) : Type 0 where

@@ -5,7 +5,7 @@ ghost use Rattle.std.specs.Option.{ForSome};
 ghost use Rattle.chunk_buffers.specs.Chunks.{LiesIn, part_of};
 ghost use Rattle.rb_arena.specs.Searching.{Found};
 ghost use Rattle.rb_arena.specs.Value.{first_or, IsItem, PlaceAfter, SplitsAfter, SplitsAt};
-ghost use Rattle.piece_tree.specs.Pieces.{piece_of, piece_list, unit_count, IsPieceOf, front, back};
+ghost use Rattle.piece_tree.specs.Pieces.{piece_of, piece_list, unit_count, IsPieceOf, goes_on, prolonged, followed, followed_by, front, back};
 ghost use Rattle.piece_tree.specs.Searches.{adding, piece_turn};
 ghost use Rattle.piece_tree.specs.Inside.{in_order, HasUnits, Parted};
 
@@ -70,7 +70,7 @@ pub(crate) fn remove_units(
     }
 }
 
-/// Puts a span, if there is one, right after a piece, or at the start.
+/// Puts a span, if there is one, right behind a piece, or at the start.
 pub(crate) fn insert_span(
     tree: &mut RbTree<PieceWeave>,
     after: &Option<PieceId>,
@@ -80,20 +80,63 @@ pub(crate) fn insert_span(
     requires place { PlaceAfter tree.old.items after.now }
     requires room { 0 < tree.old.spare }
     requires inside { ForSome span (LiesIn chunks.now.buffers) }
+    requires pieces { All (IsPieceOf chunks.now.buffers) (in_order tree.old.items) }
     requires small { unit_count (in_order tree.old.items)
         + unit_count (piece_list chunks.now.buffers span) < 2 ^ 62 }
     ensures items { (first second : List Piece) → Parted tree.old.items after.now first second
-        → in_order tree.new.items ≡ first ++ piece_list chunks.now.buffers span ++ second }
+        → in_order tree.new.items ≡ followed_by chunks.now.buffers first span ++ second }
     ensures room { tree.old.spare ≤ tree.new.spare + 1 }
 {
     let Some(span) = span else {
         return;
     };
-    let piece = piece_of(chunks, span);
     match after {
-        Some(id) => tree.insert_after(*id, piece),
-        None => tree.insert_first(piece),
-    };
+        Some(id) => put_behind(tree, *id, span, chunks),
+        None => {
+            tree.insert_first(piece_of(chunks, span));
+        }
+    }
+}
+
+/// Puts a span right behind a piece. Where it goes on from the piece's span, the piece takes it, and there is no new one.
+fn put_behind(tree: &mut RbTree<PieceWeave>, id: PieceId, span: ChunkSpan, chunks: &Chunks)
+    requires named { IsItem tree.old.items id }
+    requires room { 0 < tree.old.spare }
+    requires inside { LiesIn chunks.now.buffers span }
+    requires pieces { All (IsPieceOf chunks.now.buffers) (in_order tree.old.items) }
+    requires small { unit_count (in_order tree.old.items) + span.units < 2 ^ 62 }
+    ensures items { (us : List (ℕ × Piece)) (x : Piece) (vs : List (ℕ × Piece))
+        → SplitsAt tree.old.items id us x vs
+        → in_order tree.new.items
+        ≡ in_order us ++ followed chunks.now.buffers (x ∷ []) span ++ in_order vs }
+    ensures room { tree.old.spare ≤ tree.new.spare + 1 }
+{
+    let own = tree.get(id).span;
+    if goes_on(own, span) {
+        tree.set(id, piece_of(chunks, prolonged(own, span)));
+    } else {
+        tree.insert_after(id, piece_of(chunks, span));
+    }
+}
+
+/// Whether the second span starts where the first one ends, in the same buffer.
+fn goes_on(first: ChunkSpan, second: ChunkSpan) -> bool
+    requires { first.start + first.units < 2 ^ 64 }
+    ensures { result ≡ goes_on first second }
+{
+    first.buffer == second.buffer && first.start + first.units == second.start
+}
+
+/// The first span with the units of one that goes on from it.
+fn prolonged(first: ChunkSpan, second: ChunkSpan) -> ChunkSpan
+    requires { first.units + second.units < 2 ^ 64 }
+    ensures { result ≡ prolonged first second }
+{
+    ChunkSpan {
+        buffer: first.buffer,
+        start: first.start,
+        units: first.units + second.units,
+    }
 }
 
 /// A search that nobody counts.
@@ -125,7 +168,8 @@ fn divide(tree: &mut RbTree<PieceWeave>, id: PieceId, at: u64, chunks: &Chunks)
     requires pieces { All (IsPieceOf chunks.now.buffers) (in_order tree.old.items) }
     ensures items { (us : List (ℕ × Piece)) (x : Piece) (vs : List (ℕ × Piece))
         → SplitsAt tree.old.items id us x vs
-        → (other : ℕ) × (tree.new.items ≡ us ++ (id, piece_of chunks.now.buffers (part_of x.span 0 at))
+        → (other : ℕ) × (tree.new.items
+        ≡ us ++ (id, piece_of chunks.now.buffers (part_of x.span 0 at))
         ∷ (other, piece_of chunks.now.buffers (part_of x.span at x.span.units)) ∷ vs) }
     ensures room { tree.old.spare ≤ tree.new.spare + 1 }
 {

@@ -124,7 +124,8 @@ impl PieceTree {
     pub fn next(&self, id: PieceId) -> Option<(PieceId, ChunkSpan)>
         requires { IsAmong self.now.entries id }
         ensures { (earlier later : List Entry) (piece : Piece)
-            → self.now.entries ≡ earlier ++ record { id = id; piece = piece } ∷ later → result ≡ first_of later }
+            → self.now.entries ≡ earlier ++ record { id = id; piece = piece } ∷ later
+            → result ≡ first_of later }
     {
         let next = self.tree.next(id)?;
         Some((next, self.tree.get(next).span))
@@ -139,7 +140,8 @@ impl PieceTree {
         requires small { unit_count (pieces_of self.old.entries)
             + unit_count (piece_list chunks.now.buffers span) < 2 ^ 62 + deleted }
         ensures spliced { pieces_of self.new.entries
-            ≡ spliced chunks.now.buffers offset (offset + deleted) span (pieces_of self.old.entries) }
+            ≡ spliced chunks.now.buffers offset (offset + deleted) span
+            (pieces_of self.old.entries) }
         ensures spare { self.new.spare + 1 ≡ self.old.spare }
     {
         let at = cut(&mut self.tree, offset, chunks);

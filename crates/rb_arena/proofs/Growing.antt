@@ -1,21 +1,23 @@
 -- The tree in a memory, its length and its height, and where its items stand.
-use Rattle.std.proofs.Common.{◌≡◌, ℕ, zero, suc, ◌+◌, ◌*◌, ◌^◌, ◌≤◌, ◌<◌, Bool, ◌∷◌, ◌++◌, length, Option, Some, None, refl, sym, ap, ◌∙◌, arith, append_assoc, inl, inr, lit<, length-append}
+use Rattle.std.proofs.Common.{◌≡◌, ℕ, zero, suc, ◌+◌, ◌*◌, ◌^◌, ◌≤◌, ◌<◌, Bool, true, false, ◌∷◌, ◌++◌, length, Option, Some, None, refl, sym, ap, ◌∙◌, arith, append_assoc, inl, inr, lit<, length-append}
 use Rattle.std.proofs.Math.Nat.{mul-le-mul, pow-le-pow_right}
-use Rattle.std.proofs.lemmas.Bool.{cases_lt}
+use Rattle.std.proofs.lemmas.Bool.{cases_lt, false≢true}
 use Rattle.std.proofs.lemmas.Option.{none-some}
 use Rattle.std.specs.Ordering.{nat_cmp}
 use Rattle.std.specs.FinMap as map
 use Rattle.rb_rules.specs.declared.slot.Data.{Data}
+use denote.Enum.Bare.{sameb}
+use Rattle.rb_rules.specs.contracts.slot.Side.{the_type}
 use Rattle.rb_rules.specs.declared.slot.Side.{Side}
 use Rattle.rb_rules.specs.declared.slot.Side.TheVariants.{Left, Right}
 use Rattle.rb_rules.specs.declared.slot.Slot.{Slot}
-use Rattle.rb_rules.specs.Tree.{Tree, tip, fork, Hole, top, on, forked, plug, root_of, size, height, depth}
+use Rattle.rb_rules.specs.Tree.{Tree, tip, fork, Hole, top, on, forked, plug, above, other, root_of, size, height, depth}
 use Rattle.rb_rules.specs.Colours.{Balanced}
-use Rattle.rb_rules.specs.Memory.{Makes}
+use Rattle.rb_rules.specs.Memory.{Makes, Spot, here, below}
 use Rattle.rb_rules.specs.Weaving.{Weaving}
 use Rattle.rb_rules.specs.Woven.{entries, lefts, rights, shift_at}
 use Rattle.rb_rules.proofs.Balance.{bound}
-use Rattle.rb_arena.specs.Value.{grown, first_hole}
+use Rattle.rb_arena.specs.Value.{grown, first_hole, end_hole, up_next, up_prev, up_on, nearest, neighbour_of}
 
 module _ {D : Type 0} where
   pub grown_is : (m : map.FinMap nat_cmp (Slot D)) (n : ℕ) (p : Option ℕ) (t : Tree D) → Makes m p t → height t ≤ n → grown m n (root_of t) ≡ t
@@ -32,7 +34,7 @@ module _ {D : Type 0} where
   grown_none m zero = refl
   grown_none m (suc n) = refl
 
-  height-forked : (s : Side) (c : Bool) (i : ℕ) (d : D) (x y : Tree D) → 1 + height x ≤ height (forked s c i d x y)
+  pub height-forked : (s : Side) (c : Bool) (i : ℕ) (d : D) (x y : Tree D) → 1 + height x ≤ height (forked s c i d x y)
   height-forked Left c i d x y = omega arith
   height-forked Right c i d x y = omega arith
 
@@ -73,6 +75,10 @@ module _ {X S B : Type 0} (w : Weaving X S B) where
   first-rights k (fork c i d x y) = first-rights (on Left c i d y k) x
       ∙ sym (append_assoc (entries w (shift_at w k) x) ((i, w.shift (shift_at w k) d.item) ∷ entries w (w.plus (shift_at w k) d.delta) y) (rights w k))
 
+nearest_some : (o p q : Option ℕ) → (q ≡ None → ⊥) → nearest o p q ≡ p
+nearest_some o p None some = absurd (some refl)
+nearest_some o p (Some i) some = refl
+
 module _ {D : Type 0} where
   pub no_root : (t : Tree D) → root_of t ≡ None → t ≡ tip
   no_root tip e = refl
@@ -85,3 +91,52 @@ module _ {D : Type 0} where
   pub hole_depth : (k : Hole D) → depth k ≤ 0 → k ≡ top
   hole_depth top le = refl
   hole_depth (on s c i d x k) le = absurd (omega arith)
+
+  pub end_tip : (s : Side) (k : Hole D) → end_hole s k tip ≡ k
+  end_tip Left k = refl
+  end_tip Right k = refl
+
+  pub end_fork : (s : Side) (k : Hole D) (c : Bool) (i : ℕ) (d : D) (x y : Tree D) → end_hole s k (forked s c i d x y) ≡ end_hole s (on s c i d y k) x
+  end_fork Left k c i d x y = refl
+  end_fork Right k c i d x y = refl
+
+  pub up_top : (s : Side) (k : Hole D) → k ≡ top → up_on s k ≡ None
+  up_top Left k is = ap up_next is
+  up_top Right k is = ap up_prev is
+
+  pub up_here : (s : Side) (c : Bool) (i : ℕ) (d : D) (x : Tree D) (k : Hole D) → up_on s (on s c i d x k) ≡ Some i
+  up_here Left c i d x k = refl
+  up_here Right c i d x k = refl
+
+  pub up_past : (s z : Side) (c : Bool) (i : ℕ) (d : D) (x : Tree D) (k : Hole D) → (z ≡ s → ⊥) → up_on s (on z c i d x k) ≡ up_on s k
+  up_past Left Left c i d x k differ = absurd (differ refl)
+  up_past Left Right c i d x k differ = refl
+  up_past Right Left c i d x k differ = refl
+  up_past Right Right c i d x k differ = absurd (differ refl)
+
+  pub forked_here : (s : Side) (sp : Spot D) (i : ℕ) → forked s sp.red i sp.datum (below s sp) (below (other s) sp) ≡ here sp i
+  forked_here Left sp i = refl
+  forked_here Right sp i = refl
+
+  pub height-below : (s : Side) (sp : Spot D) (i : ℕ) → 1 + height (below s sp) ≤ height (here sp i)
+  height-below s sp i = let one = height-forked s sp.red i sp.datum (below s sp) (below (other s) sp) in let same = ap height (forked_here s sp i) in omega (arith, one, same)
+
+  -- a neighbour stands above where there is no subtree on that side
+  pub neighbour_none : (s : Side) (i : ℕ) (sp : Spot D) → root_of (below s sp) ≡ None → neighbour_of s i sp ≡ up_on (other s) sp.hole
+  neighbour_none s i sp none = ap (nearest (up_on (other s) sp.hole) (above (end_hole (other s) (on s sp.red i sp.datum (below (other s) sp) sp.hole) (below s sp)))) none
+
+  pub neighbour_some : (s : Side) (i : ℕ) (sp : Spot D) → (root_of (below s sp) ≡ None → ⊥)
+      → neighbour_of s i sp ≡ above (end_hole (other s) (on s sp.red i sp.datum (below (other s) sp) sp.hole) (below s sp))
+  neighbour_some s i sp some = nearest_some (up_on (other s) sp.hole) (above (end_hole (other s) (on s sp.red i sp.datum (below (other s) sp) sp.hole) (below s sp))) (root_of (below s sp)) some
+
+pub same_side : (a b : Side) → sameb the_type a b ≡ true → a ≡ b
+same_side Left Left e = refl
+same_side Left Right e = absurd (false≢true e)
+same_side Right Left e = absurd (false≢true e)
+same_side Right Right e = refl
+
+pub sides_differ : (a b : Side) → sameb the_type a b ≡ false → a ≡ b → ⊥
+sides_differ Left Left e same = false≢true (sym e)
+sides_differ Left Right e same = false≢true (ap (sameb the_type Left) (sym same))
+sides_differ Right Left e same = false≢true (ap (sameb the_type Right) (sym same))
+sides_differ Right Right e same = false≢true (sym e)

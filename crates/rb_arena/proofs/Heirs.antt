@@ -155,90 +155,94 @@ module _ {X S B : Type 0} (w : Weaving X S B) (L : Lawful w) (is_near : B → Ty
         high = subst (λ t. height t ≤ 126) whole at.8;
       }
 
-  module _ (h : Heired) where
-    abbrev up : Hole (Data X S B)
-    up = on Right h.red id h.datum h.left h.hole
+module _ {X S B : Type 0} {w : Weaving X S B} {L : Lawful w} {is_near : B → Type 0} {is_item : X → Type 0} {is_sum is_value : S → Type 0}
+    {sums : Sums w is_item is_sum} {parts : (a b : S) → is_value (w.join a b) → is_value a × is_value b}
+    {thins : (a b c : S) → is_value (w.join a (w.join b c)) → is_value (w.join a c)}
+    {beside : Tree (Data X S B)} {m : map.FinMap nat_cmp (Slot (Data X S B))} {root : Option ℕ} {id heir : ℕ} {us : List (ℕ × X)} {x y : X} {vs : List (ℕ × X)}
+    (h : Heired w L is_near is_item is_sum is_value sums parts thins beside m root id heir us x y vs) where
+  abbrev up : Hole (Data X S B)
+  up = on Right h.red id h.datum h.left h.hole
 
-    abbrev low_leaf : Tree (Data X S B)
-    low_leaf = fork h.leaf_red heir h.leaf tip tip
+  abbrev low_leaf : Tree (Data X S B)
+  low_leaf = fork h.leaf_red heir h.leaf tip tip
 
-    abbrev pub heir_spot : Spot (Data X S B)
-    heir_spot = record { beside = beside; hole = first_hole (on Right h.red id h.datum h.left h.hole) h.right; red = h.leaf_red; datum = h.leaf; left = tip; right = tip }
+  abbrev pub heir_spot : Spot (Data X S B)
+  heir_spot = record { beside = beside; hole = first_hole (on Right h.red id h.datum h.left h.hole) h.right; red = h.leaf_red; datum = h.leaf; left = tip; right = tip }
 
-    abbrev pub id_spot : Spot (Data X S B)
-    id_spot = record { beside = beside; hole = h.hole; red = h.red; datum = h.datum; left = h.left; right = first_put h.right (fork h.leaf_red heir h.leaf tip tip) }
+  abbrev pub id_spot : Spot (Data X S B)
+  id_spot = record { beside = beside; hole = h.hole; red = h.red; datum = h.datum; left = h.left; right = first_put h.right (fork h.leaf_red heir h.leaf tip tip) }
 
-    pub id_made : Made beside m root (plug h.hole (here id_spot id))
-    id_made = subst (Made beside m root) (first-put up h.right low_leaf) h.made
+  pub id_made : Made beside m root (plug h.hole (here id_spot id))
+  id_made = subst (Made beside m root) (first-put up h.right low_leaf) h.made
 
-    pub id_woven : Woven w is_near w.still (plug h.hole (here id_spot id))
-    id_woven = subst (Woven w is_near w.still) (first-put up h.right low_leaf) h.woven
+  pub id_woven : Woven w is_near w.still (plug h.hole (here id_spot id))
+  id_woven = subst (Woven w is_near w.still) (first-put up h.right low_leaf) h.woven
 
-    pub id_low : depth h.hole ≤ 126
-    id_low =
-        let deep = depth_height h.hole (here id_spot id) in let high = subst (λ t. height t ≤ 126) (first-put up h.right low_leaf) h.high in omega (arith, deep, high)
+  pub id_low : depth h.hole ≤ 126
+  id_low =
+      let deep = depth_height h.hole (here id_spot id) in let high = subst (λ t. height t ≤ 126) (first-put up h.right low_leaf) h.high in omega (arith, deep, high)
 
-    right_low : height h.right ≤ 128
-    right_low =
-        let no : Tree (Data X S B) = tip in let le = grows (first_hole up h.right) no low_leaf (omega arith) in let high = h.high in let same = ap height (first-plug up h.right) in
-        let deep = depth_height h.hole (fork h.red id h.datum h.left h.right) in omega (arith, le, high, same, deep)
+  right_low : height h.right ≤ 128
+  right_low =
+      let no : Tree (Data X S B) = tip in let le = grows (first_hole up h.right) no low_leaf (omega arith) in let high = h.high in let same = ap height (first-plug up h.right) in
+      let deep = depth_height h.hole (fork h.red id h.datum h.left h.right) in omega (arith, le, high, same, deep)
 
-    module _ (m1 : map.FinMap nat_cmp (Slot (Data X S B))) (root1 : Option ℕ) (at : Option (ℕ × Side)) (place : at ≡ place_of (first_hole (on Right h.red id h.datum h.left h.hole) h.right)) (e1 : m1 ≡ hung m at None) (er : root1 ≡ root_hung root at None) where
-      abbrev pub bare_spot : Spot (Data X S B)
-      bare_spot = record { beside = beside; hole = h.hole; red = h.red; datum = h.datum; left = h.left; right = h.right }
+  module _ (m1 : map.FinMap nat_cmp (Slot (Data X S B))) (root1 : Option ℕ) (at : Option (ℕ × Side)) (place : at ≡ place_of (first_hole (on Right h.red id h.datum h.left h.hole) h.right)) (e1 : m1 ≡ hung m at None) (er : root1 ≡ root_hung root at None) where
+    abbrev pub bare_spot : Spot (Data X S B)
+    bare_spot = record { beside = beside; hole = h.hole; red = h.red; datum = h.datum; left = h.left; right = h.right }
 
-      pub bare_made : Made beside m1 root1 (plug h.hole (fork h.red id h.datum h.left h.right))
-      bare_made =
-          let k = first_hole up h.right in let done = spliced m root k Left h.leaf_red heir h.leaf tip h.made in
-          let mem : m1 ≡ hung m (place_of k) None = e1 ∙ ap (λ o. hung m o None) place in let top_ : root1 ≡ root_hung root (place_of k) None = er ∙ ap (λ o. root_hung root o None) place in
-          subst (Made beside m1 root1) (first-plug up h.right) (subst (λ q. Made beside q root1 (plug k tip)) (sym mem) (subst (λ o. Made beside (hung m (place_of k) None) o (plug k tip)) (sym top_) done))
+    pub bare_made : Made beside m1 root1 (plug h.hole (fork h.red id h.datum h.left h.right))
+    bare_made =
+        let k = first_hole up h.right in let done = spliced m root k Left h.leaf_red heir h.leaf tip h.made in
+        let mem : m1 ≡ hung m (place_of k) None = e1 ∙ ap (λ o. hung m o None) place in let top_ : root1 ≡ root_hung root (place_of k) None = er ∙ ap (λ o. root_hung root o None) place in
+        subst (Made beside m1 root1) (first-plug up h.right) (subst (λ q. Made beside q root1 (plug k tip)) (sym mem) (subst (λ o. Made beside (hung m (place_of k) None) o (plug k tip)) (sym top_) done))
 
-      pub bare_fresh : count heir (plug h.hole (fork h.red id h.datum h.left h.right)) + count heir beside ≡ 0
-      bare_fresh = subst (λ t. count heir t + count heir beside ≡ 0) (first-plug up h.right) (gone m root (first_hole up h.right) Left h.leaf_red heir h.leaf tip h.made)
+    pub bare_fresh : count heir (plug h.hole (fork h.red id h.datum h.left h.right)) + count heir beside ≡ 0
+    bare_fresh = subst (λ t. count heir t + count heir beside ≡ 0) (first-plug up h.right) (gone m root (first_hole up h.right) Left h.leaf_red heir h.leaf tip h.made)
 
-      module _ (own : X) (is : w.shift (shift_at w h.hole) own ≡ y) (m2 : map.FinMap nat_cmp (Slot (Data X S B))) (root2 : Option ℕ)
-          (made2 : Made beside m2 root2 (plug h.hole (fork h.red heir (with_item h.datum own) h.left h.right))) where
-        abbrev new_up : Hole (Data X S B)
-        new_up = on Right h.red heir (with_item h.datum own) h.left h.hole
+    module _ (own : X) (is : w.shift (shift_at w h.hole) own ≡ y) (m2 : map.FinMap nat_cmp (Slot (Data X S B))) (root2 : Option ℕ)
+        (made2 : Made beside m2 root2 (plug h.hole (fork h.red heir (with_item h.datum own) h.left h.right))) where
+      abbrev new_up : Hole (Data X S B)
+      new_up = on Right h.red heir (with_item h.datum own) h.left h.hole
 
-        abbrev pub gap_hole : Hole (Data X S B)
-        gap_hole = first_hole (on Right h.red heir (with_item h.datum own) h.left h.hole) h.right
+      abbrev pub gap_hole : Hole (Data X S B)
+      gap_hole = first_hole (on Right h.red heir (with_item h.datum own) h.left h.hole) h.right
 
-        abbrev pub new_spot : Spot (Data X S B)
-        new_spot = record { beside = beside; hole = h.hole; red = h.red; datum = with_item h.datum own; left = h.left; right = h.right }
+      abbrev pub new_spot : Spot (Data X S B)
+      new_spot = record { beside = beside; hole = h.hole; red = h.red; datum = with_item h.datum own; left = h.left; right = h.right }
 
-        pub starts : (below : Option ℕ) → below ≡ root_of h.right → StartsAt beside m2 root2 (Some (heir, Right)) below h.right (on Right h.red heir (with_item h.datum own) h.left h.hole)
-        starts below e = ((refl, made2), e, right_low)
+      pub starts : (below : Option ℕ) → below ≡ root_of h.right → StartsAt beside m2 root2 (Some (heir, Right)) below h.right (on Right h.red heir (with_item h.datum own) h.left h.hole)
+      starts below e = ((refl, made2), e, right_low)
 
-        pub gap_list : lefts w gap_hole ++ rights w gap_hole ≡ us ++ (heir, y) ∷ vs
-        gap_list =
-            (λ i. first-lefts w new_up h.right i ++ rights w gap_hole) ∙ after_list w new_spot heir y us (rights w gap_hole) (sym is) h.before
-            ∙ ap (λ z. us ++ (heir, y) ∷ z) (first-rights w new_up h.right ∙ sym (first-rights w up h.right) ∙ sym h.after)
+      pub gap_list : lefts w gap_hole ++ rights w gap_hole ≡ us ++ (heir, y) ∷ vs
+      gap_list =
+          (λ i. first-lefts w new_up h.right i ++ rights w gap_hole) ∙ after_list w new_spot heir y us (rights w gap_hole) (sym is) h.before
+          ∙ ap (λ z. us ++ (heir, y) ∷ z) (first-rights w new_up h.right ∙ sym (first-rights w up h.right) ∙ sym h.after)
 
-        gap_emptied : Stores w is_near is_item is_value beside m root (us ++ (id, x) ∷ (heir, y) ∷ vs) → (gap : Option (ℕ × Side)) → gap ≡ place_of gap_hole → (red : Bool) → red ≡ h.leaf_red
-            → Emptied w is_near is_item is_value beside m2 root2 gap red gap_hole
-        gap_emptied st gap there red same =
-            let k = first_hole up h.right in let shift : shift_at w k ≡ shift_at w gap_hole = shift_first w up h.right ∙ sym (shift_first w new_up h.right) in
-            let deep = as_deep up new_up h.right refl in let le = h.low in
-            let (n, (b, r, f)) = C.unplugged k low_leaf h.balanced in let fit = fit_leaf h.leaf_red b n heir h.leaf k r f in (
-              there,
-              subst (Made beside m2 root2) (sym (first-plug new_up h.right)) made2,
-              subst is_near shift (near_of w L is_near (shift_at w k) low_leaf (woven_at w L is_near k low_leaf h.woven)),
-              slack_first w is_near up new_up h.right refl (λ q. q) (slack_of w L is_near is_item is_sum is_value sums parts k low_leaf h.woven),
-              subst (Valued w is_item is_value) (sym gap_list) (valued_without w L is_near is_item is_sum is_value sums parts thins us (id, x) ((heir, y) ∷ vs) st.1),
-              omega (arith, deep, le),
-              subst (λ c. Fits c (leaf_height c) gap_hole) (sym same) (fits_first up new_up h.right (fits_on Right h.red id heir h.datum (with_item h.datum own) h.left h.hole) h.leaf_red (leaf_height h.leaf_red) fit),
-            )
+      gap_emptied : Stores w is_near is_item is_value beside m root (us ++ (id, x) ∷ (heir, y) ∷ vs) → (gap : Option (ℕ × Side)) → gap ≡ place_of gap_hole → (red : Bool) → red ≡ h.leaf_red
+          → Emptied w is_near is_item is_value beside m2 root2 gap red gap_hole
+      gap_emptied st gap there red same =
+          let k = first_hole up h.right in let shift : shift_at w k ≡ shift_at w gap_hole = shift_first w up h.right ∙ sym (shift_first w new_up h.right) in
+          let deep = as_deep up new_up h.right refl in let le = h.low in
+          let (n, (b, r, f)) = C.unplugged k low_leaf h.balanced in let fit = fit_leaf h.leaf_red b n heir h.leaf k r f in (
+            there,
+            subst (Made beside m2 root2) (sym (first-plug new_up h.right)) made2,
+            subst is_near shift (near_of w L is_near (shift_at w k) low_leaf (woven_at w L is_near k low_leaf h.woven)),
+            slack_first w is_near up new_up h.right refl (λ q. q) (slack_of w L is_near is_item is_sum is_value sums parts k low_leaf h.woven),
+            subst (Valued w is_item is_value) (sym gap_list) (valued_without w L is_near is_item is_sum is_value sums parts thins us (id, x) ((heir, y) ∷ vs) st.1),
+            omega (arith, deep, le),
+            subst (λ c. Fits c (leaf_height c) gap_hole) (sym same) (fits_first up new_up h.right (fits_on Right h.red id heir h.datum (with_item h.datum own) h.left h.hole) h.leaf_red (leaf_height h.leaf_red) fit),
+          )
 
-        pub gap_unlinked : Stores w is_near is_item is_value beside m root (us ++ (id, x) ∷ (heir, y) ∷ vs) → (gap : Option (ℕ × Side)) → gap ≡ place_of gap_hole → (red : Bool) → red ≡ h.leaf_red
-            → Unlinked w is_near is_item is_value beside m2 root2 gap red id (us ++ (heir, y) ∷ vs)
-        gap_unlinked st gap there red same = (
-          gap_hole,
-          gap_list,
-          gap_emptied st gap there red same,
-          subst (λ t. count id t + count id beside ≡ 0) (sym (first-plug new_up h.right))
-              (left_out m1 root1 h.hole h.red id heir h.datum (with_item h.datum own) h.left h.right bare_made bare_fresh),
-        )
+      pub gap_unlinked : Stores w is_near is_item is_value beside m root (us ++ (id, x) ∷ (heir, y) ∷ vs) → (gap : Option (ℕ × Side)) → gap ≡ place_of gap_hole → (red : Bool) → red ≡ h.leaf_red
+          → Unlinked w is_near is_item is_value beside m2 root2 gap red id (us ++ (heir, y) ∷ vs)
+      gap_unlinked st gap there red same = (
+        gap_hole,
+        gap_list,
+        gap_emptied st gap there red same,
+        subst (λ t. count id t + count id beside ≡ 0) (sym (first-plug new_up h.right))
+            (left_out m1 root1 h.hole h.red id heir h.datum (with_item h.datum own) h.left h.right bare_made bare_fresh),
+      )
 
 module _ {D : Type 0} where
   -- a node has its first place under a node with no left child

@@ -3,6 +3,7 @@ pub mod Gaps
 pub mod Growing
 pub mod Heirs
 pub mod Inserting
+pub mod Keeping
 pub mod Landing
 pub mod Leaving
 pub mod Levelling
@@ -15,4 +16,5 @@ pub mod Setting
 pub mod Shifting
 pub mod Splitting
 pub mod Steps
+pub mod Turns
 pub mod OwnNames

@@ -1,5 +1,6 @@
 -- The node of an item in the list.
-use Rattle.std.proofs.Common.{None, ◌≡◌, ℕ, List, [], ◌∷◌, ◌++◌, length, Option, Some, refl, sym, ap, ◌∙◌, subst, arith, append_assoc, append-nil, ◌⊎◌, inl, inr, length-append}
+use Rattle.std.proofs.Common.{None, ◌≡◌, ℕ, Bool, List, [], ◌∷◌, ◌++◌, length, Option, Some, refl, sym, ap, ◌∙◌, subst, arith, append_assoc, append-nil, ◌⊎◌, inl, inr, length-append}
+use Rattle.std.proofs.lemmas.Option.{none-some}
 use Rattle.rb_rules.specs.declared.slot.Data.{Data}
 use Rattle.rb_rules.specs.declared.slot.Side.{Side}
 use Rattle.rb_rules.specs.declared.slot.Side.TheVariants.{Left, Right}
@@ -7,7 +8,7 @@ use Rattle.rb_rules.specs.Tree.{Tree, tip, fork, Hole, top, on, plug, above, roo
 use Rattle.rb_rules.specs.Memory.{Spot, here, below}
 use Rattle.rb_rules.specs.Weaving.{Weaving}
 use Rattle.rb_rules.specs.Woven.{entries, lefts, rights, shift_at, AllItems}
-use Rattle.rb_arena.specs.Value.{first_hole, first_or, up_next, last_hole, last_or, up_prev}
+use Rattle.rb_arena.specs.Value.{first_hole, first_or, up_next, last_hole, last_or, up_prev, neighbour_of}
 
 module _ {A : Type 0} where
   head_or : A → List A → A
@@ -132,3 +133,16 @@ module _ {X S B : Type 0} (w : Weaving X S B) where
   up-prev (on Right c i d x k) =
       let es = entries w (shift_at w k) x in let e : ℕ × X = (i, w.shift (shift_at w k) d.item) in
       last_of_right None i (w.shift (shift_at w k) d.item) (lefts w k ++ es) [] ∙ ap (last_or None) (append_assoc (lefts w k) es (e ∷ []))
+
+  -- the node right beside the one in a hole, by its subtrees
+  pub next_is : (beside : Tree (Data X S B)) (k : Hole (Data X S B)) (c : Bool) (id : ℕ) (d : Data X S B) (l r : Tree (Data X S B))
+      → neighbour_of Right id (record { beside = beside; hole = k; red = c; datum = d; left = l; right = r }) ≡ first_or None (entries w (w.plus (shift_at w k) d.delta) r ++ rights w k)
+  next_is beside k c id d l tip = up-next k
+  next_is beside k c id d l (fork c2 i d2 x y) =
+      let t = fork c2 i d2 x y in above_first (on Right c id d l k) t ∙ first_of_tree (Some id) None (w.plus (shift_at w k) d.delta) t (rights w k) (λ none. none-some i (sym none))
+
+  pub prev_is : (beside : Tree (Data X S B)) (k : Hole (Data X S B)) (c : Bool) (id : ℕ) (d : Data X S B) (l r : Tree (Data X S B))
+      → neighbour_of Left id (record { beside = beside; hole = k; red = c; datum = d; left = l; right = r }) ≡ last_or None (lefts w k ++ entries w (shift_at w k) l)
+  prev_is beside k c id d tip r = up-prev k ∙ ap (last_or None) (sym (append-nil (lefts w k)))
+  prev_is beside k c id d (fork c2 i d2 x y) r =
+      let t = fork c2 i d2 x y in above_last (on Left c id d r k) t ∙ last_of_tree (Some id) None (shift_at w k) t (lefts w k) (λ none. none-some i (sym none))

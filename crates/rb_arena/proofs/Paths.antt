@@ -11,7 +11,6 @@ use Rattle.rb_rules.specs.Tree.{Tree, Hole, top, on, forked, plug, above, root_o
 use Rattle.rb_rules.specs.Memory.{Made, AtSpot, Stands, place_of}
 use Rattle.rb_rules.specs.Weaving.{Weaving, Lawful, HeldBy}
 use Rattle.rb_rules.specs.Woven.{Woven, shift_at}
-use Rattle.rb_rules.proofs.Live.{Live}
 use Rattle.rb_rules.proofs.Knots.{data-sided}
 use Rattle.rb_rules.proofs.Ups.{hole_top, hole_on, spot_of, spot_hole, stands_above, slot_above}
 use Rattle.rb_rules.proofs.Weaves.{woven_at, near_of}
@@ -36,10 +35,6 @@ module _ {X S B : Type 0} (w : Weaving X S B) (L : Lawful w) where
         → w.plus (shift_at w (on s c p d x k)) by ≡ w.plus (shift_at w k) (passed w s d.delta by)
     shift_step Left c p d x k by = refl
     shift_step Right c p d x k by = L.plus_assoc (shift_at w k) d.delta by
-
-    pub live_next : (all : B) (a : ℕ × Side) (by : B) (n : ℕ) → Along all (Some a) by n → Live m a.0
-    live_next all a by n (k, (t, e, made, wv, sum, le)) =
-        let (c, (d, x, k2, is)) = hole_on k a.0 a.1 (sym e) in (_, slot_above m root a.1 c a.0 d x k2 t (subst (λ l. Made beside m root (plug l t)) is made))
 
     pub stands_next : (all : B) (a : ℕ × Side) (by : B) (n : ℕ) → Along all (Some a) by n → Stands m root a.0
     stands_next all a by n (k, (t, e, made, wv, sum, le)) =

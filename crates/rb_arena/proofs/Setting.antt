@@ -5,7 +5,8 @@ use Rattle.std.specs.FinMap as map
 use Rattle.rb_rules.specs.declared.slot.Data.{Data}
 use Rattle.rb_rules.specs.declared.slot.Side.TheVariants.{Left}
 use Rattle.rb_rules.specs.declared.slot.Slot.{Slot}
-use Rattle.rb_rules.specs.Tree.{Tree, fork, on, plug, depth, height}
+use Rattle.rb_rules.specs.declared.weave.Weave.{Ghosts}
+use Rattle.rb_rules.specs.Tree.{Tree, fork, on, plug, depth}
 use Rattle.rb_rules.specs.Colours.{Rb, Balanced}
 use Rattle.rb_rules.specs.Memory.{Made, Spot, here}
 use Rattle.rb_rules.specs.Weaving.{Weaving, Lawful, Sums, HeldItem, HeldBy}
@@ -15,13 +16,12 @@ use Rattle.rb_rules.proofs.Climbs.{slack_of}
 use Rattle.rb_rules.proofs.Colouring as C
 use Rattle.rb_rules.proofs.Shapes.{same_items, same_colours}
 use Rattle.rb_rules.proofs.Weaves.{woven_at, near_of, entries-plug}
-use Rattle.rb_rules.proofs.Wider.{woven_wider}
-use Rattle.rb_arena.specs.Leaving.{WovenSpot}
+use Rattle.rb_arena.specs.declared.links.Links.{Links}
+use Rattle.rb_arena.specs.Leaving.{shown}
 use Rattle.rb_arena.specs.Rising.{Mended}
-use Rattle.rb_arena.specs.Value.{with_item, items_in, loose_in, Keeps}
-use Rattle.rb_arena.proofs.Growing.{depth_height}
-use Rattle.rb_arena.proofs.Listing.{low, items_are, loose_are, keeps_mended}
-use Rattle.rb_arena.proofs.Locating.{lying, locate_in}
+use Rattle.rb_arena.specs.Value.{with_item, items_in, loose_in, Keeps, KeepsWithin}
+use Rattle.rb_arena.proofs.Keeping.{Node, own_spot, woven_there, few_above}
+use Rattle.rb_arena.proofs.Listing.{loose_are, keeps_mended}
 
 rb_data : {D : Type 0} (b c : Bool) (n i : ℕ) (d e : D) (x y : Tree D) → Rb c n (fork b i d x y) → Rb c n (fork b i e x y)
 rb_data true c n i d e x y r = r
@@ -97,54 +97,28 @@ module _ {X S B : Type 0} (w : Weaving X S B) (L : Lawful w) (is_near : B → Ty
           let (n2, (c2, q2)) = C.plugged c n s.hole (fork s.red id (with_item s.datum own) s.left s.right) (rb_data s.red c n id s.datum (with_item s.datum own) s.left s.right q) f in
           (u, made, (wv2, same_items w w.still u whole alike ∙ list_is), (n2, (c2, same_colours c2 n2 whole u (sym alike) q2)))
 
-  -- the node of an item of a tree that is kept
-  module _ (m : map.FinMap nat_cmp (Slot (Data X S B))) (root front : Option ℕ) (K : Keeps w is_near is_item is_value m root front) (us : List (ℕ × X)) (id : ℕ) (x : X) (vs : List (ℕ × X)) where
-    pub record Node : Type 0 where
-      pub spot : Spot (Data X S B)
-      pub whole : plug spot.hole (here spot id) ≡ K.tree
-      pub before : us ≡ lefts w spot.hole ++ entries w (shift_at w spot.hole) spot.left
-      pub after : vs ≡ entries w (w.plus (shift_at w spot.hole) spot.datum.delta) spot.right ++ rights w spot.hole
-      pub listed : entries w w.still K.tree ≡ us ++ (id, x) ∷ vs
+module _ {W X S B K : Type 0} {w : Ghosts W X S B K} {reach : B} {links : Links (Data X S B)} {front : Option ℕ} {kept : KeepsWithin w reach links front}
+    {us : List (ℕ × X)} {id : ℕ} {x : X} {vs : List (ℕ × X)} (n : Node w reach links front kept us id x vs)
+    (L : Lawful w.weaving) (sums : Sums w.weaving w.is_item w.is_sum) (parts : (a b : S) → w.is_value (w.weaving.join a b) → w.is_value a × w.is_value b)
+    (y own : X) (value : w.is_item y) (sum : w.is_value (sum_of w.weaving (us ++ (id, y) ∷ vs))) (is : shown w.weaving n.spot own ≡ y) where
+  abbrev pub with_own : Tree (Data X S B)
+  with_own = plug n.spot.hole (fork n.spot.red id (with_item n.spot.datum own) n.spot.left n.spot.right)
 
-    pub node_of : (items : List (ℕ × X)) → items_in w m root ≡ items → items ≡ us ++ (id, x) ∷ vs → Node
-    node_of items is e =
-        let listed : entries w w.still K.tree ≡ us ++ (id, x) ∷ vs = sym (items_are w is_near is_item is_value m root front K) ∙ is ∙ e in
-        let (s, whole, val, l, r) = locate_in w K.tree us id x vs listed in record { spot = s; whole = whole; before = l; after = r; listed = listed }
+  values_there : Valued w.weaving w.is_item w.is_value (us ++ (id, y) ∷ vs)
+  values_there = (items_with w.weaving L (w.within reach) w.is_item w.is_sum w.is_value sums parts us id x y vs value (subst (AllItems w.weaving w.is_item) n.listed kept.values.0), sum)
 
-module _ {X S B : Type 0} {w : Weaving X S B} {L : Lawful w} {is_near : B → Type 0} {is_item : X → Type 0} {is_sum is_value : S → Type 0}
-    {sums : Sums w is_item is_sum} {parts : (a b : S) → is_value (w.join a b) → is_value a × is_value b}
-    {m : map.FinMap nat_cmp (Slot (Data X S B))} {root front : Option ℕ} {K : Keeps w is_near is_item is_value m root front} {us : List (ℕ × X)} {id : ℕ} {x : X} {vs : List (ℕ × X)}
-    (n : Node w L is_near is_item is_sum is_value sums parts m root front K us id x vs) where
-  abbrev pub own_spot : Spot (Data X S B)
-  own_spot = lying K.beside n.spot
+  pub slack_there : (m2 : map.FinMap nat_cmp (Slot (Data X S B))) (root2 : Option ℕ) → Made kept.beside m2 root2 with_own
+      → IsSlack w.weaving (w.within reach) w.is_item w.is_value kept.beside m2 root2 (Some id) 128 with_own
+  slack_there m2 root2 made =
+      let few = few_above n in
+      slack_set w.weaving L (w.within reach) w.is_item w.is_sum w.is_value sums parts (own_spot n) id (woven_there n) y own is us vs n.before n.after m2 root2 (omega (arith, few)) values_there made
 
-  pub made_there : Made K.beside m root (plug n.spot.hole (here n.spot id))
-  made_there = subst (Made K.beside m root) (sym n.whole) K.made
-
-  woven_there : Woven w is_near w.still (plug n.spot.hole (here n.spot id))
-  woven_there = subst (Woven w is_near w.still) (sym n.whole) K.woven
-
-  few_above : depth n.spot.hole ≤ 126
-  few_above = let deep = depth_height n.spot.hole (here n.spot id) in let high = ap height n.whole in let lo = low w is_near is_item is_value m root front K in omega (arith, deep, high, lo)
-
-  pub woven_spot : (is_wide : B → Type 0) → ((b : B) → is_near b → is_wide b) → WovenSpot w is_wide m root id own_spot
-  woven_spot is_wide wider = let few = few_above in (made_there, woven_wider w is_near is_wide wider w.still (plug n.spot.hole (here n.spot id)) woven_there, omega (arith, few))
-
-  module _ (y own : X) (value : is_item y) (sum : is_value (sum_of w (us ++ (id, y) ∷ vs))) (is : w.shift (shift_at w n.spot.hole) own ≡ y) where
-    abbrev pub with_own : Tree (Data X S B)
-    with_own = plug n.spot.hole (fork n.spot.red id (with_item n.spot.datum own) n.spot.left n.spot.right)
-
-    values_there : Valued w is_item is_value (us ++ (id, y) ∷ vs)
-    values_there = (items_with w L is_near is_item is_sum is_value sums parts us id x y vs value (subst (AllItems w is_item) n.listed K.values.0), sum)
-
-    pub slack_there : (m2 : map.FinMap nat_cmp (Slot (Data X S B))) (root2 : Option ℕ) → Made K.beside m2 root2 with_own → IsSlack w is_near is_item is_value K.beside m2 root2 (Some id) 128 with_own
-    slack_there m2 root2 made = let few = few_above in slack_set w L is_near is_item is_sum is_value sums parts own_spot id woven_there y own is us vs n.before n.after m2 root2 (omega (arith, few)) values_there made
-
-    pub kept_there : (m3 : map.FinMap nat_cmp (Slot (Data X S B))) (root3 : Option ℕ) → RenewedFrom w is_near K.beside m3 root3 with_own → map.len m3 ≡ map.len m
-        → Keeps w is_near is_item is_value m3 root3 front × (items_in w m3 root3 ≡ us ++ (id, y) ∷ vs) × (loose_in w m3 front ≡ loose_in w m front)
-    kept_there m3 root3 renewed many =
-        let mended = mended_set w L is_near is_item is_sum is_value sums parts own_spot id woven_there y own is us vs n.before n.after m3 root3 (subst Balanced (sym n.whole) K.balanced) renewed in
-        let all = K.all in let few = K.few in let n1 = length-append us ((id, y) ∷ vs) in let n2 = length-append us ((id, x) ∷ vs) in let n3 = ap length n.listed in
-        let (keeps, are, left) = keeps_mended w is_near is_item is_value m3 root3 front (us ++ (id, y) ∷ vs) K.beside mended K.first K.chain values_there
-        (omega (arith, many, all, n1, n2, n3)) (omega (arith, few, many)) in
-        (keeps, are, left ∙ sym (loose_are w is_near is_item is_value m root front K))
+  pub kept_there : (m3 : map.FinMap nat_cmp (Slot (Data X S B))) (root3 : Option ℕ) → RenewedFrom w.weaving (w.within reach) kept.beside m3 root3 with_own → map.len m3 ≡ map.len links.nodes.live
+      → Keeps w.weaving (w.within reach) w.is_item w.is_value m3 root3 front × (items_in w.weaving m3 root3 ≡ us ++ (id, y) ∷ vs)
+      × (loose_in w.weaving m3 front ≡ loose_in w.weaving links.nodes.live front)
+  kept_there m3 root3 renewed many =
+      let mended = mended_set w.weaving L (w.within reach) w.is_item w.is_sum w.is_value sums parts (own_spot n) id (woven_there n) y own is us vs n.before n.after m3 root3 (subst Balanced (sym n.whole) kept.balanced) renewed in
+      let all = kept.all in let few = kept.few in let n1 = length-append us ((id, y) ∷ vs) in let n2 = length-append us ((id, x) ∷ vs) in let n3 = ap length n.listed in
+      let (keeps, are, left) = keeps_mended w.weaving (w.within reach) w.is_item w.is_value m3 root3 front (us ++ (id, y) ∷ vs) kept.beside mended kept.first kept.chain values_there
+      (omega (arith, many, all, n1, n2, n3)) (omega (arith, few, many)) in
+      (keeps, are, left ∙ sym (loose_are w.weaving (w.within reach) w.is_item w.is_value links.nodes.live links.root front kept))

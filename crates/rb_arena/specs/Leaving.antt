@@ -5,13 +5,15 @@ use Rattle.std.specs.FinMap as map
 use Rattle.rb_rules.specs.declared.slot.Data.{Data}
 use Rattle.rb_rules.specs.declared.slot.Side.{Side}
 use Rattle.rb_rules.specs.declared.slot.Slot.{Slot}
-use Rattle.rb_rules.specs.Tree.{Tree, Hole, tip, fork, plug, depth, count}
+use Rattle.rb_rules.specs.declared.weave.Weave.{Ghosts}
+use Rattle.rb_rules.specs.Tree.{Tree, Hole, tip, fork, plug, depth, count, root_of}
 use Rattle.rb_rules.specs.Colours.{Fits}
 use Rattle.rb_rules.specs.Memory.{Made, place_of, Spot, here}
 use Rattle.rb_rules.specs.Weaving.{Weaving}
 use Rattle.rb_rules.specs.Woven.{Woven, Valued, lefts, rights, shift_at}
 use Rattle.rb_rules.specs.Sound.{Slack}
-use Rattle.rb_arena.specs.Rising.{Mended}
+use Rattle.rb_arena.specs.declared.links.Links.{Links}
+use Rattle.rb_arena.specs.Rising.{Mended, MendedBeside}
 
 -- the black nodes on a path through a leaf of that colour
 abbrev pub leaf_height : Bool → ℕ
@@ -50,12 +52,97 @@ module _ {X S B : Type 0} (w : Weaving X S B) (is_near : B → Type 0) (is_item 
   Unlinked at red id es =
       (k : Hole (Data X S B)) × (lefts w k ++ rights w k ≡ es) × Emptied at red k × (count id (plug k tip) + count id beside ≡ 0)
 
--- some such tree lies in the memory, with an item of that name, and all its shifts lie within some reach
-abbrev pub StoresItem : {X S B : Type 0} → Weaving X S B → (B → B → Type 0) → (X → Type 0) → (S → Type 0) → map.FinMap nat_cmp (Slot (Data X S B)) → Option ℕ → ℕ → Type 0
-StoresItem {X = X} {S = S} {B = B} w within is_item is_value m root id =
-    (reach : B) × ((beside : Tree (Data X S B)) × ((us : List (ℕ × X)) × ((x : X) × ((vs : List (ℕ × X)) × Stores w (within reach) is_item is_value beside m root (us ++ (id, x) ∷ vs)))))
+-- an item that is kept at a node, with the shifts of the node's path
+abbrev pub shown : {X S B : Type 0} → Weaving X S B → Spot (Data X S B) → X → X
+shown w s x = w.shift (shift_at w s.hole) x
 
 module _ {X S B : Type 0} (w : Weaving X S B) (is_near : B → Type 0) (m : map.FinMap nat_cmp (Slot (Data X S B))) (root : Option ℕ) (id : ℕ) where
   -- a node of a tree with the right sums, with no more than 128 nodes above
   abbrev pub WovenSpot : Spot (Data X S B) → Type 0
   WovenSpot s = Made s.beside m root (plug s.hole (here s id)) × Woven w is_near w.still (plug s.hole (here s id)) × (depth s.hole ≤ 128)
+
+module _ {W X S B K : Type 0} (w : Ghosts W X S B K) where
+  module _ (tree : Links (Data X S B)) where
+    -- the tree stores the items es, with all shifts within that reach and another tree beside it
+    abbrev pub StoresBeside : B → Tree (Data X S B) → List (ℕ × X) → Type 0
+    StoresBeside reach beside es = Stores w.weaving (w.within reach) w.is_item w.is_value beside tree.nodes.live tree.root es
+
+    -- it stores some items within that reach
+    abbrev pub StoresWithin : B → Type 0
+    StoresWithin reach = (beside : Tree (Data X S B)) × ((es : List (ℕ × X)) × StoresBeside reach beside es)
+
+    -- it stores an item of that name
+    abbrev pub StoresItem : ℕ → Type 0
+    StoresItem id =
+        (reach : B) × ((beside : Tree (Data X S B)) × ((us : List (ℕ × X)) × ((x : X) × ((vs : List (ℕ × X)) × StoresBeside reach beside (us ++ (id, x) ∷ vs)))))
+
+    -- the same, with a chain beside it that begins with that node, if any
+    abbrev pub StoresItemBeside : ℕ → Option ℕ → Type 0
+    StoresItemBeside id front =
+        (reach : B) × ((beside : Tree (Data X S B)) × ((us : List (ℕ × X)) × ((x : X) × ((vs : List (ℕ × X))
+        × StoresBeside reach beside (us ++ (id, x) ∷ vs) × (front ≡ root_of beside)))))
+
+    -- it stores an item of that name, and right after it one of the other
+    abbrev pub StoresBoth : ℕ → ℕ → Type 0
+    StoresBoth id heir =
+        (reach : B) × ((beside : Tree (Data X S B)) × ((us : List (ℕ × X)) × ((x : X) × ((y : X) × ((vs : List (ℕ × X))
+        × StoresBeside reach beside (us ++ (id, x) ∷ (heir, y) ∷ vs))))))
+
+    -- some tree is emptied there
+    abbrev pub IsEmptied : Option (ℕ × Side) → Bool → Type 0
+    IsEmptied at red =
+        (reach : B) × ((beside : Tree (Data X S B)) × ((k : Hole (Data X S B))
+        × Emptied w.weaving (w.within reach) w.is_item w.is_value beside tree.nodes.live tree.root at red k))
+
+    -- the node stands in a tree with the right sums
+    abbrev pub StandsWoven : ℕ → Type 0
+    StandsWoven id = (s : Spot (Data X S B)) × WovenSpot w.weaving w.is_near tree.nodes.live tree.root id s
+
+    -- and its item, with the shifts of its path, is a value
+    abbrev pub StandsValued : ℕ → Type 0
+    StandsValued id = (s : Spot (Data X S B)) × WovenSpot w.weaving w.is_near tree.nodes.live tree.root id s × w.is_item (shown w.weaving s s.datum.item)
+
+    -- wherever it stands so, this holds
+    abbrev pub AtWoven : ℕ → (Spot (Data X S B) → Type 0) → Type 0
+    AtWoven id P = (s : Spot (Data X S B)) → WovenSpot w.weaving w.is_near tree.nodes.live tree.root id s → P s
+
+  module _ (old new : Links (Data X S B)) where
+    -- whatever the tree was that was emptied there, it is red-black, and lists the same
+    abbrev pub Settles : Option (ℕ × Side) → Bool → Type 0
+    Settles at red =
+        (reach : B) (beside : Tree (Data X S B)) (k : Hole (Data X S B))
+        → Emptied w.weaving (w.within reach) w.is_item w.is_value beside old.nodes.live old.root at red k
+        → MendedBeside w reach beside new (lefts w.weaving k ++ rights w.weaving k)
+
+    -- whatever the tree stored with an item of that name, it lists the same
+    abbrev pub StillLists : ℕ → Type 0
+    StillLists id =
+        (reach : B) (beside : Tree (Data X S B)) (us : List (ℕ × X)) (x : X) (vs : List (ℕ × X))
+        → StoresBeside old reach beside (us ++ (id, x) ∷ vs) → MendedBeside w reach beside new (us ++ (id, x) ∷ vs)
+
+    -- it lists the same without that item
+    abbrev pub Leaves : ℕ → Type 0
+    Leaves id =
+        (reach : B) (beside : Tree (Data X S B)) (us : List (ℕ × X)) (x : X) (vs : List (ℕ × X))
+        → StoresBeside old reach beside (us ++ (id, x) ∷ vs) → MendedBeside w reach beside new (us ++ vs)
+
+    -- the same, and the item is the first of the chain, which began with that node
+    abbrev pub Loosens : ℕ → Option ℕ → Type 0
+    Loosens id front =
+        (reach : B) (beside : Tree (Data X S B)) (us : List (ℕ × X)) (x : X) (vs : List (ℕ × X))
+        → StoresBeside old reach beside (us ++ (id, x) ∷ vs) → front ≡ root_of beside
+        → MendedBeside w reach (loosened w.weaving id x beside) new (us ++ vs)
+
+    -- it has left the tree, which may want mending at that place
+    abbrev pub Unlinks : ℕ → Option (ℕ × Side) → Bool → Type 0
+    Unlinks id at red =
+        (reach : B) (beside : Tree (Data X S B)) (us : List (ℕ × X)) (x : X) (vs : List (ℕ × X))
+        → StoresBeside old reach beside (us ++ (id, x) ∷ vs)
+        → Unlinked w.weaving (w.within reach) w.is_item w.is_value beside new.nodes.live new.root at red id (us ++ vs)
+
+    -- the same of an item that stood right before the one of the other name
+    abbrev pub UnlinksBefore : ℕ → ℕ → Option (ℕ × Side) → Bool → Type 0
+    UnlinksBefore heir id at red =
+        (reach : B) (beside : Tree (Data X S B)) (us : List (ℕ × X)) (x y : X) (vs : List (ℕ × X))
+        → StoresBeside old reach beside (us ++ (id, x) ∷ (heir, y) ∷ vs)
+        → Unlinked w.weaving (w.within reach) w.is_item w.is_value beside new.nodes.live new.root at red id (us ++ (heir, y) ∷ vs)

@@ -1,7 +1,9 @@
 pub mod Closing
 pub mod Leaving
 pub mod Mending
+pub mod Nodes
 pub mod Placing
+pub mod Relative
 pub mod Rising
 pub mod Searching
 pub mod Shifting

@@ -6,11 +6,14 @@ use Rattle.rb_rules.specs.declared.slot.Data.{Data}
 use Rattle.rb_rules.specs.declared.slot.Side.{Side}
 use Rattle.rb_rules.specs.declared.slot.Side.TheVariants.{Left, Right}
 use Rattle.rb_rules.specs.declared.slot.Slot.{Slot}
+use Rattle.rb_rules.specs.declared.weave.Weave.{Ghosts}
 use Rattle.rb_rules.specs.Tree.{Tree, tip, Hole, plug, above, depth, root_of, height, count}
 use Rattle.rb_rules.specs.Colours.{Balanced}
 use Rattle.rb_rules.specs.Memory.{sided, Made, place_of}
 use Rattle.rb_rules.specs.Weaving.{Weaving, summed}
 use Rattle.rb_rules.specs.Woven.{Woven, Valued, lefts, rights, shift_at}
+use Rattle.rb_arena.specs.declared.links.Links.{Links}
+use Rattle.rb_arena.specs.Rising.{MendedBeside}
 
 -- the shift of the subtree on that side of a node, from that of the node
 abbrev pub passed : {X S B : Type 0} → Weaving X S B → Side → B → B → B
@@ -57,3 +60,79 @@ right_of (Some id) = Some (id, Right)
 -- the tree hangs there, with no path longer than 128 nodes
 abbrev pub HangsAfter : {D : Type 0} → Tree D → map.FinMap nat_cmp (Slot D) → Option ℕ → Option ℕ → Tree D → Hole D → Type 0
 HangsAfter beside m root id t k = HoleAt beside m root (right_of id) t k × (height t ≤ 128)
+
+module _ {D : Type 0} (tree : Links D) where
+  -- a subtree of that name hangs at that place
+  abbrev pub Hangs : Option (ℕ × Side) → Option ℕ → Type 0
+  Hangs from below = (beside : Tree D) × ((t : Tree D) × ((k : Hole D) × StartsAt beside tree.nodes.live tree.root from below t k))
+
+  -- whatever subtree hangs there, this holds of it and of the hole that it is in
+  abbrev pub WhereHangs : Option (ℕ × Side) → Option ℕ → (Tree D → Hole D → Type 0) → Type 0
+  WhereHangs from below P = (beside t : Tree D) (k : Hole D) → StartsAt beside tree.nodes.live tree.root from below t k → P t k
+
+  -- the same on the right of the node of that name, or at the top
+  abbrev pub HangsRight : Option ℕ → Type 0
+  HangsRight id = (beside : Tree D) × ((t : Tree D) × ((k : Hole D) × HangsAfter beside tree.nodes.live tree.root id t k))
+
+  abbrev pub WhereHangsRight : Option ℕ → (Tree D → Hole D → Type 0) → Type 0
+  WhereHangsRight id P = (beside t : Tree D) (k : Hole D) → HangsAfter beside tree.nodes.live tree.root id t k → P t k
+
+module _ {W X S B K : Type 0} (w : Ghosts W X S B K) where
+  module _ (tree : Links (Data X S B)) (at : Option (ℕ × Side)) where
+    -- the place is one of a tree with the right sums
+    abbrev pub IsWovenPlace : Type 0
+    IsWovenPlace =
+        (beside : Tree (Data X S B)) × ((t : Tree (Data X S B)) × ((k : Hole (Data X S B)) × WovenAt w.weaving w.is_near beside tree.nodes.live tree.root at t k))
+
+    -- whatever hole that is, this holds
+    abbrev pub AtWovenPlace : (Hole (Data X S B) → Type 0) → Type 0
+    AtWovenPlace P = (beside t : Tree (Data X S B)) (k : Hole (Data X S B)) → WovenAt w.weaving w.is_near beside tree.nodes.live tree.root at t k → P k
+
+    -- the item may come to the place
+    abbrev pub TakesNear : X → Type 0
+    TakesNear item =
+        (beside : Tree (Data X S B)) × ((k : Hole (Data X S B)) × CanTake w.weaving w.is_near beside tree.nodes.live tree.root at w.is_item w.is_value item k)
+
+    -- the slot is that of a leaf with the item, in whatever hole is at the place
+    abbrev pub IsLeafFor : X → Slot (Data X S B) → Type 0
+    IsLeafFor item slot =
+        (beside : Tree (Data X S B)) (k : Hole (Data X S B)) → CanTake w.weaving w.is_near beside tree.nodes.live tree.root at w.is_item w.is_value item k
+        → slot ≡ sided Left (above k) None None true (leaf_of w.weaving k item)
+
+    -- the item may come to that hole, which is at the place
+    abbrev pub TakesIn : B → Tree (Data X S B) → X → Hole (Data X S B) → Type 0
+    TakesIn reach beside item k = CanTake w.weaving (w.within reach) beside tree.nodes.live tree.root at w.is_item w.is_value item k
+
+    -- the same with all shifts within some reach
+    abbrev pub Takes : X → Type 0
+    Takes item = (reach : B) × ((beside : Tree (Data X S B)) × ((k : Hole (Data X S B)) × TakesIn reach beside item k))
+
+    -- and the node stands in no tree
+    abbrev pub TakesNode : ℕ → X → Type 0
+    TakesNode id item =
+        (reach : B) × ((beside : Tree (Data X S B)) × ((k : Hole (Data X S B)) × TakesIn reach beside item k × (count id (plug k tip) + count id beside ≡ 0)))
+
+    -- the node is a leaf for the place
+    abbrev pub TakesLeaf : ℕ → Type 0
+    TakesLeaf id =
+        (reach : B) × ((beside : Tree (Data X S B)) × ((k : Hole (Data X S B)) × ((x : X)
+        × TakesIn reach beside x k × IsLeaf w.weaving beside tree.nodes.live id x k)))
+
+  module _ (old new : Links (Data X S B)) (at : Option (ℕ × Side)) (id : ℕ) where
+    -- whatever tree the place is in, it lists the item there under that name, and is red-black
+    abbrev pub ListsAt : X → Type 0
+    ListsAt item =
+        (reach : B) (beside : Tree (Data X S B)) (k : Hole (Data X S B)) → TakesIn old at reach beside item k
+        → MendedBeside w reach beside new (lefts w.weaving k ++ (id, item) ∷ rights w.weaving k)
+
+    -- the same of a node that stood in no tree
+    abbrev pub ListsNodeAt : X → Type 0
+    ListsNodeAt item =
+        (reach : B) (beside : Tree (Data X S B)) (k : Hole (Data X S B)) → TakesIn old at reach beside item k → count id (plug k tip) + count id beside ≡ 0
+        → MendedBeside w reach beside new (lefts w.weaving k ++ (id, item) ∷ rights w.weaving k)
+
+    -- and of one that was a leaf for the place
+    abbrev pub ListsLeafAt : Type 0
+    ListsLeafAt =
+        (reach : B) (beside : Tree (Data X S B)) (k : Hole (Data X S B)) (x : X) → TakesIn old at reach beside x k → IsLeaf w.weaving beside old.nodes.live id x k
+        → MendedBeside w reach beside new (lefts w.weaving k ++ (id, x) ∷ rights w.weaving k)

@@ -1,14 +1,17 @@
 -- A tree in memory that is red-black but for a red node whose parent may be red too.
-use Rattle.std.specs.Prelude.{◌≡◌, ℕ, ◌≤◌, true, false, List, Option, Some, None}
+use Rattle.std.specs.Prelude.{◌≡◌, ℕ, ◌-◌, ◌≤◌, true, false, List, Option, Some, None}
 use Rattle.std.specs.Ordering.{nat_cmp}
 use Rattle.std.specs.FinMap as map
 use Rattle.rb_rules.specs.declared.slot.Data.{Data}
 use Rattle.rb_rules.specs.declared.slot.Slot.{Slot}
+use Rattle.rb_rules.specs.declared.weave.Weave.{Ghosts}
 use Rattle.rb_rules.specs.Tree.{Tree, Hole, plug, root_of, depth}
 use Rattle.rb_rules.specs.Colours.{Rb, Fits, Balanced}
 use Rattle.rb_rules.specs.Memory.{Made}
 use Rattle.rb_rules.specs.Weaving.{Weaving}
+use Rattle.rb_rules.specs.Woven.{Valued}
 use Rattle.rb_rules.specs.Sound.{Lists}
+use Rattle.rb_arena.specs.declared.links.Links.{Links}
 
 module _ {X S B : Type 0} (w : Weaving X S B) (is_near : B → Type 0) (beside : Tree (Data X S B)) (m : map.FinMap nat_cmp (Slot (Data X S B))) (root : Option ℕ) (es : List (ℕ × X)) where
   -- a red-black tree with the items es lies in the memory
@@ -26,3 +29,35 @@ module _ {X S B : Type 0} (w : Weaving X S B) (is_near : B → Type 0) (beside :
   abbrev pub Risen : Option ℕ → ℕ → Type 0
   Risen None n = Mended
   Risen (Some i) n = Rising i n
+
+module _ {W X S B K : Type 0} (w : Ghosts W X S B K) where
+  -- a red-black tree with the items es, all of whose shifts lie within that reach, and another beside it
+  abbrev pub MendedBeside : B → Tree (Data X S B) → Links (Data X S B) → List (ℕ × X) → Type 0
+  MendedBeside reach beside tree es = Mended w.weaving (w.within reach) beside tree.nodes.live tree.root es
+
+  module _ (old new : Links (Data X S B)) (id : ℕ) where
+    -- whatever the tree was in which the node rose, it lists the same, and the next one rises below fewer, or none does
+    abbrev pub RisesTo : Option ℕ → Type 0
+    RisesTo next =
+        (reach : B) (beside : Tree (Data X S B)) (es : List (ℕ × X)) (n : ℕ)
+        → Rising w.weaving (w.within reach) beside old.nodes.live old.root es id n → Valued w.weaving w.is_item w.is_value es
+        → Risen w.weaving (w.within reach) beside new.nodes.live new.root es next (n - 1)
+
+    -- whatever the tree was in which the node rose, below no more than n others, it is red-black and lists the same
+    abbrev pub MendsFrom : ℕ → Type 0
+    MendsFrom n =
+        (reach : B) (beside : Tree (Data X S B)) (es : List (ℕ × X))
+        → Rising w.weaving (w.within reach) beside old.nodes.live old.root es id n → Valued w.weaving w.is_item w.is_value es
+        → MendedBeside reach beside new es
+
+  -- the node of that name rises in some tree of values
+  abbrev pub IsRising : Links (Data X S B) → ℕ → Type 0
+  IsRising tree id =
+      (reach : B) × ((beside : Tree (Data X S B)) × ((es : List (ℕ × X)) × ((n : ℕ)
+      × Rising w.weaving (w.within reach) beside tree.nodes.live tree.root es id n × Valued w.weaving w.is_item w.is_value es)))
+
+  -- it does so below no more than n others
+  abbrev pub IsRisingFrom : Links (Data X S B) → ℕ → ℕ → Type 0
+  IsRisingFrom tree id n =
+      (reach : B) × ((beside : Tree (Data X S B)) × ((es : List (ℕ × X))
+      × Rising w.weaving (w.within reach) beside tree.nodes.live tree.root es id n × Valued w.weaving w.is_item w.is_value es))

@@ -5,15 +5,18 @@ use Rattle.std.specs.FinMap as map
 use Rattle.rb_rules.specs.declared.slot.Data.{Data}
 use Rattle.rb_rules.specs.declared.slot.Side.{Side}
 use Rattle.rb_rules.specs.declared.slot.Slot.{Slot}
+use Rattle.rb_rules.specs.declared.weave.Weave.{Ghosts}
 use Rattle.rb_rules.specs.Colours.{Balanced}
 use Rattle.rb_rules.specs.Tree.{Tree, Hole, tip, plug, root_of, height, depth}
 use Rattle.rb_rules.specs.Memory.{Made, Spot, here}
 use Rattle.rb_rules.specs.Weaving.{Weaving, HeldItem, HeldBy}
 use Rattle.rb_rules.specs.Woven.{entries, Woven, AllItems, Valued, shift_at, lefts, rights}
 use Rattle.rb_rules.specs.Sound.{Slack}
-use Rattle.rb_rules.specs.Shifts.{shifted, moved}
+use Rattle.rb_rules.specs.Shifts.{shifted, moved, levelled}
 use Rattle.rb_arena.specs.Placing.{HoleAt, WovenAt}
-use Rattle.rb_arena.specs.Rising.{Mended}
+use Rattle.rb_arena.specs.declared.links.Links.{Links}
+use Rattle.rb_arena.specs.Leaving.{StoresBeside}
+use Rattle.rb_arena.specs.Rising.{Mended, MendedBeside}
 
 module _ {X S B : Type 0} (w : Weaving X S B) (is_near : B → Type 0) (is_item : X → Type 0) where
   module _ (is_value : S → Type 0) (beside : Tree (Data X S B)) (m : map.FinMap nat_cmp (Slot (Data X S B))) (root : Option ℕ) where
@@ -42,3 +45,51 @@ module _ {X S B : Type 0} (w : Weaving X S B) (beside : Tree (Data X S B)) (m : 
   abbrev pub Reaches : (B → B → Type 0) → (B → B → Option B) → List (ℕ × X) → B → B → Option B → Type 0
   Reaches within widened es old by None = Mended w (within old) beside m root es × (widened w.still by ≡ None)
   Reaches within widened es old by (Some found) = (reach : B) × Mended w (within reach) beside m root es × (widened reach by ≡ Some found)
+
+module _ {W X S B K : Type 0} (w : Ghosts W X S B K) where
+  module _ (tree : Links (Data X S B)) where
+    -- a subtree of values hangs at that name, no higher than n nodes, below a path whose shifts come to acc
+    abbrev pub CanLevelAt : Option ℕ → B → ℕ → Type 0
+    CanLevelAt at acc n =
+        (beside : Tree (Data X S B)) × ((t : Tree (Data X S B)) × ((k : Hole (Data X S B))
+        × CanLevel w.weaving w.is_near w.is_item w.is_value beside tree.nodes.live tree.root at acc n k t))
+
+    -- the items after the place may move, no more than 128 nodes below the top
+    abbrev pub CanShiftUp : Option (ℕ × Side) → B → Type 0
+    CanShiftUp at by =
+        (beside : Tree (Data X S B)) × ((t : Tree (Data X S B)) × ((k : Hole (Data X S B))
+        × CanShift w.weaving w.is_near w.is_item tree.nodes.live tree.root beside at by 128 t k))
+
+    -- the items after the place may move, within a wider reach
+    abbrev pub CanShiftAll : Option (ℕ × Side) → B → Type 0
+    CanShiftAll at by =
+        (from : B) × ((reach : B) × ((beside : Tree (Data X S B)) × ((k : Hole (Data X S B))
+        × (w.widened from by ≡ Some reach) × CanShiftFrom w.weaving beside tree.nodes.live tree.root (w.within from) w.is_item w.is_value at by k)))
+
+  module _ (old new : Links (Data X S B)) where
+    -- whatever the subtree was, it is levelled, and all else is as it was
+    abbrev pub Levels : Option ℕ → B → ℕ → Type 0
+    Levels at acc n =
+        (beside t : Tree (Data X S B)) (k : Hole (Data X S B))
+        → CanLevel w.weaving w.is_near w.is_item w.is_value beside old.nodes.live old.root at acc n k t
+        → Made beside new.nodes.live new.root (plug k (levelled w.weaving acc t))
+
+    -- whatever hole is at the place, the items after it have moved, and the sums above it are as they were
+    abbrev pub ShiftsUp : Option (ℕ × Side) → B → Type 0
+    ShiftsUp at by =
+        (beside t : Tree (Data X S B)) (k : Hole (Data X S B))
+        → CanShift w.weaving w.is_near w.is_item old.nodes.live old.root beside at by 128 t k
+        → Made beside new.nodes.live new.root (plug (moved w.weaving by k) t)
+
+    -- whatever empty hole is at the place, the items after it have moved, within the wider reach
+    abbrev pub ShiftsAll : Option (ℕ × Side) → B → Type 0
+    ShiftsAll at by =
+        (from reach : B) (beside : Tree (Data X S B)) (k : Hole (Data X S B)) → w.widened from by ≡ Some reach
+        → CanShiftFrom w.weaving beside old.nodes.live old.root (w.within from) w.is_item w.is_value at by k
+        → MendedBeside w reach beside new (lefts w.weaving k ++ shifted w.weaving by (rights w.weaving k))
+
+    -- whatever the tree stored within the old reach, it lists the same, within one that the shift widens to the one found
+    abbrev pub FindsReach : B → B → Option B → Type 0
+    FindsReach reach by found =
+        (beside : Tree (Data X S B)) (es : List (ℕ × X)) → StoresBeside w old reach beside es
+        → Reaches w.weaving beside new.nodes.live new.root w.within w.widened es reach by found

@@ -4,13 +4,17 @@ use Rattle.std.specs.Coded.{Coded, code_by, coded×, coded_list, coded_ℕ}
 use Rattle.std.specs.Ordering.{nat_cmp}
 use Rattle.std.specs.FinMap as map
 use Rattle.rb_rules.specs.declared.slot.Data.{Data}
+use Rattle.rb_rules.specs.declared.slot.Side.{Side}
 use Rattle.rb_rules.specs.declared.slot.Side.TheVariants.{Left, Right}
 use Rattle.rb_rules.specs.declared.slot.Slot.{Slot}
-use Rattle.rb_rules.specs.Tree.{Tree, tip, fork, Hole, top, on, root_of}
+use Rattle.rb_rules.specs.declared.weave.Weave.{Ghosts}
+use Rattle.rb_rules.specs.Tree.{Tree, tip, fork, Hole, top, on, root_of, above, other}
 use Rattle.rb_rules.specs.Colours.{Balanced}
-use Rattle.rb_rules.specs.Memory.{Made}
+use Rattle.rb_rules.specs.Memory.{Made, Spot, below}
 use Rattle.rb_rules.specs.Weaving.{Weaving}
-use Rattle.rb_rules.specs.Woven.{entries, sum_of, Woven, Valued}
+use Rattle.rb_rules.specs.Woven.{entries, sum_of, Woven, Valued, AllItems}
+use Rattle.rb_rules.specs.Shifts.{shifted}
+use Rattle.rb_arena.specs.declared.links.Links.{Links}
 
 -- the items in order, each with its name, those that were lifted out of the list, and for how many more there is room
 pub record Listed (X : Type 0) : Type 0 where
@@ -49,6 +53,43 @@ module _ {X : Type 0} where
   abbrev pub SplitsAfter : List (ℕ × X) → Option ℕ → List (ℕ × X) → List (ℕ × X) → Type 0
   SplitsAfter items id us vs = (items ≡ us ++ vs) × EndsWith us id
 
+  -- where the item of that name stands in the list, this holds of what stands before it, of it, and of what stands after it
+  abbrev pub AtItem : List (ℕ × X) → ℕ → (List (ℕ × X) → X → List (ℕ × X) → Type 0) → Type 0
+  AtItem items id P = (us : List (ℕ × X)) (x : X) (vs : List (ℕ × X)) → SplitsAt items id us x vs → P us x vs
+
+  -- the new list is the old one without the item of that name
+  abbrev pub LeavesOut : List (ℕ × X) → List (ℕ × X) → ℕ → Type 0
+  LeavesOut old new id = AtItem old id (λ us x vs. new ≡ us ++ vs)
+
+  -- the new list is the old one with that item in the place of the one of that name
+  abbrev pub HasInstead : List (ℕ × X) → List (ℕ × X) → ℕ → X → Type 0
+  HasInstead old new id item = AtItem old id (λ us x vs. new ≡ us ++ (id, item) ∷ vs)
+
+  -- the new loose items are the item of that name, and after it the old ones
+  abbrev pub HasLifted : Listed X → List (ℕ × X) → ℕ → Type 0
+  HasLifted old new id = AtItem old.items id (λ us x vs. new ≡ (id, x) ∷ old.loose)
+
+  -- the new list is the old one with that entry right after the item of that name
+  abbrev pub HasAfter : List (ℕ × X) → List (ℕ × X) → ℕ → ℕ × X → Type 0
+  HasAfter old new id entry = AtItem old id (λ us x vs. new ≡ us ++ (id, x) ∷ entry ∷ vs)
+
+  -- where the list is parted after the item of that name, or before all items, this holds of the parts
+  abbrev pub AtPlace : List (ℕ × X) → Option ℕ → (List (ℕ × X) → List (ℕ × X) → Type 0) → Type 0
+  AtPlace items id P = (us vs : List (ℕ × X)) → SplitsAfter items id us vs → P us vs
+
+  -- the list has a first item
+  abbrev pub HasFront : List (ℕ × X) → Type 0
+  HasFront items = (front : ℕ × X) × ((rest : List (ℕ × X)) × (items ≡ front ∷ rest))
+
+  -- where it has, this holds of that one and of the rest
+  abbrev pub AtFront : List (ℕ × X) → (ℕ × X → List (ℕ × X) → Type 0) → Type 0
+  AtFront items P = (front : ℕ × X) (rest : List (ℕ × X)) → items ≡ front ∷ rest → P front rest
+
+  -- the new list is the old one with that item at the place, under the name of the front loose one
+  abbrev pub HasLanded : Listed X → List (ℕ × X) → Option ℕ → X → Type 0
+  HasLanded old new id item =
+      (front : ℕ × X) (rest us vs : List (ℕ × X)) → old.loose ≡ front ∷ rest → SplitsAfter old.items id us vs → new ≡ us ++ (front.0, item) ∷ vs
+
   -- the first, if any
   abbrev pub front_of : List (ℕ × X) → Option (ℕ × X)
   front_of [] = None
@@ -75,6 +116,10 @@ module _ {X S B : Type 0} (w : Weaving X S B) where
   abbrev pub loose_in : map.FinMap nat_cmp (Slot (Data X S B)) → Option ℕ → List (ℕ × X)
   loose_in m front = entries w w.still (grown m (map.len m) front)
 
+  -- what a contract sees
+  abbrev pub seen : Links (Data X S B) → Option ℕ → Listed X
+  seen links front = listed (items_in links.nodes.live links.root) (loose_in links.nodes.live front) links.nodes.spare
+
   -- no node has a subtree on the left, and none moves those on the right
   abbrev pub Chain : Tree (Data X S B) → Type 0
   Chain tip = Unit {0}
@@ -94,6 +139,10 @@ module _ {X S B : Type 0} (w : Weaving X S B) (is_near : B → Type 0) (is_item 
     pub values : Valued w is_item is_value (entries w w.still tree)
     pub all : length (entries w w.still tree) + length (entries w w.still beside) ≡ map.len m
     pub few : map.len m < 2 ^ 63
+
+-- the same with all shifts within that reach
+abbrev pub KeepsWithin : {W X S B K : Type 0} → Ghosts W X S B K → B → Links (Data X S B) → Option ℕ → Type 0
+KeepsWithin w reach links front = Keeps w.weaving (w.within reach) w.is_item w.is_value links.nodes.live links.root front
 
 -- the name of the first item, or o where there is none
 abbrev pub first_or : {X : Type 0} → Option ℕ → List (ℕ × X) → Option ℕ
@@ -122,6 +171,11 @@ abbrev pub last_or : {X : Type 0} → Option ℕ → List (ℕ × X) → Option 
 last_or o [] = o
 last_or o (e ∷ es) = last_or (Some e.0) es
 
+-- one name or the other, by whether there is a third
+abbrev pub nearest : Option ℕ → Option ℕ → Option ℕ → Option ℕ
+nearest up end None = up
+nearest up end (Some id) = end
+
 module _ {D : Type 0} where
   -- the hole of a tree's last place
   abbrev pub last_hole : Hole D → Tree D → Hole D
@@ -133,3 +187,35 @@ module _ {D : Type 0} where
   up_prev top = None
   up_prev (on Right c i d x k) = Some i
   up_prev (on Left c i d x k) = up_prev k
+
+  -- the hole of a tree's last place on that side
+  abbrev pub end_hole : Side → Hole D → Tree D → Hole D
+  end_hole Left k t = first_hole k t
+  end_hole Right k t = last_hole k t
+
+  -- the nearest node above a hole that has it on that side
+  abbrev pub up_on : Side → Hole D → Option ℕ
+  up_on Left k = up_next k
+  up_on Right k = up_prev k
+
+  -- the node right beside that one in the order, on that side: an end of the subtree there, or where there is none, a node above
+  abbrev pub neighbour_of : Side → ℕ → Spot D → Option ℕ
+  neighbour_of side id s =
+      nearest (up_on (other side) s.hole) (above (end_hole (other side) (on side s.red id s.datum (below (other side) s) s.hole) (below side s))) (root_of (below side s))
+
+module _ {W X S B K : Type 0} (w : Ghosts W X S B K) (items : List (ℕ × X)) (id : Option ℕ) where
+  -- each item after the place is a value once moved
+  abbrev pub CanMoveAfter : B → Type 0
+  CanMoveAfter by = AtPlace items id (λ us vs. AllItems w.weaving w.is_item (shifted w.weaving by vs))
+
+  -- the sum of the items is a value once those have moved
+  abbrev pub SumsMoved : B → Type 0
+  SumsMoved by = AtPlace items id (λ us vs. w.is_value (sum_of w.weaving (us ++ shifted w.weaving by vs)))
+
+  -- the new list is the old one with those moved
+  abbrev pub HasMoved : List (ℕ × X) → B → Type 0
+  HasMoved new by = AtPlace items id (λ us vs. new ≡ us ++ shifted w.weaving by vs)
+
+  -- the sum of the items is a value once that item stands at the place
+  abbrev pub SumsLanded : X → Type 0
+  SumsLanded item = AtPlace items id (λ us vs. w.is_value (sum_of w.weaving (us ++ (0, item) ∷ vs)))

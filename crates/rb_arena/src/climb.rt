@@ -1,9 +1,9 @@
 //! Walks from a node to the top.
 ghost use Rattle.std.specs.Prelude.{◌≡◌, ◌<◌, ◌≤◌, ◌+◌, Some, None};
 ghost use Rattle.std.specs.FinMap as map;
-ghost use Rattle.rb_rules.specs.Tree.{Tree, fork, plug};
-ghost use Rattle.rb_rules.specs.Memory.{Made, AtSpot};
-ghost use Rattle.rb_rules.specs.Sound.{CanRenew, IsSlack, RenewedFrom, renewed};
+ghost use Rattle.rb_rules.specs.Sound.{renewed};
+ghost use Rattle.rb_arena.specs.Nodes.{Rewritten};
+ghost use Rattle.rb_arena.specs.Relative.{CanRenewNode, IsSlackFrom, RenewsFrom};
 
 use crate::links::{Links, read, rewrite};
 use crate::sums::{summed, whole};
@@ -15,8 +15,8 @@ pub(crate) const LONGEST: u32 = 128;
 
 /// Renews the sums of one node from those of its subtrees.
 fn renew<W: Weave>(tree: &mut Links<Data<W::Item, W::Sum, W::By>>, id: NodeId)
-    requires { CanRenew W.weaving W.is_near W.is_item W.is_value tree.old.nodes.live tree.old.root id }
-    ensures made { AtSpot tree.old.nodes.live tree.old.root id (λ s. Made s.beside tree.new.nodes.live tree.new.root (plug s.hole (fork s.red id (renewed W.weaving s) s.left s.right))) }
+    requires { CanRenewNode W.Weave tree.old id }
+    ensures made { Rewritten tree.old tree.new id (renewed W.weaving) }
     ensures spare { tree.new.nodes.spare ≡ tree.old.nodes.spare }
     ensures as_many { map.len tree.new.nodes.live ≡ map.len tree.old.nodes.live }
 {
@@ -32,8 +32,8 @@ pub(crate) fn renew_up<W: Weave>(
     tree: &mut Links<Data<W::Item, W::Sum, W::By>>,
     from: Option<NodeId>,
 )
-    requires { (reach : W.By) × ((beside : Tree (Data W.Item W.Sum W.By)) × ((t : Tree (Data W.Item W.Sum W.By)) × IsSlack W.weaving (W.within reach) W.is_item W.is_value beside tree.old.nodes.live tree.old.root from 128 t)) }
-    ensures made { (reach : W.By) (beside t : Tree (Data W.Item W.Sum W.By)) → IsSlack W.weaving (W.within reach) W.is_item W.is_value beside tree.old.nodes.live tree.old.root from 128 t → RenewedFrom W.weaving (W.within reach) beside tree.new.nodes.live tree.new.root t }
+    requires { IsSlackFrom W.Weave tree.old from 128 }
+    ensures made { RenewsFrom W.Weave tree.old tree.new from 128 }
     ensures spare { tree.new.nodes.spare ≡ tree.old.nodes.spare }
     ensures as_many { map.len tree.new.nodes.live ≡ map.len tree.old.nodes.live }
 {

@@ -1,10 +1,7 @@
 //! After a removal: at one place the tree may have one black node too few on each path.
-ghost use Rattle.std.specs.Prelude.{◌≡◌, ℕ, ◌-◌, List, Some};
+ghost use Rattle.std.specs.Prelude.{◌≡◌};
 ghost use Rattle.std.specs.FinMap as map;
-ghost use Rattle.rb_rules.specs.Tree.{Tree};
-ghost use Rattle.rb_rules.specs.Woven.{Valued};
-ghost use Rattle.rb_arena.specs.Rising.{Mended};
-ghost use Rattle.rb_arena.specs.Closing.{Short, Closing};
+ghost use Rattle.rb_arena.specs.Closing.{IsShort, IsClosing, ClosesTo, ClosesFrom};
 
 use crate::links::{Links, Place, place, read};
 use crate::mend::{paint, red_child};
@@ -22,8 +19,8 @@ fn step<W: Weave>(
     parent: NodeId,
     side: Side,
 ) -> Place
-    requires { (reach : W.By) × ((beside : Tree (Data W.Item W.Sum W.By)) × ((es : List (ℕ × W.Item)) × ((n : ℕ) × Short W.weaving (W.within reach) beside tree.old.nodes.live tree.old.root es (Some (parent, side)) n × Valued W.weaving W.is_item W.is_value es))) }
-    ensures closing { (reach : W.By) (beside : Tree (Data W.Item W.Sum W.By)) (es : List (ℕ × W.Item)) (n : ℕ) → Short W.weaving (W.within reach) beside tree.old.nodes.live tree.old.root es (Some (parent, side)) n → Valued W.weaving W.is_item W.is_value es → Closing W.weaving (W.within reach) beside tree.new.nodes.live tree.new.root es result (n - 1) }
+    requires { IsShort W.Weave tree.old (parent, side) }
+    ensures closing { ClosesTo W.Weave tree.old tree.new (parent, side) result }
     ensures spare { tree.new.nodes.spare ≡ tree.old.nodes.spare }
     ensures as_many { map.len tree.new.nodes.live ≡ map.len tree.old.nodes.live }
 {
@@ -56,8 +53,8 @@ fn step<W: Weave>(
 
 /// Makes the tree red-black again after a black node has gone.
 pub(crate) fn close<W: Weave>(tree: &mut Links<Data<W::Item, W::Sum, W::By>>, from: Place)
-    requires { (reach : W.By) × ((beside : Tree (Data W.Item W.Sum W.By)) × ((es : List (ℕ × W.Item)) × Closing W.weaving (W.within reach) beside tree.old.nodes.live tree.old.root es from 129 × Valued W.weaving W.is_item W.is_value es)) }
-    ensures mended { (reach : W.By) (beside : Tree (Data W.Item W.Sum W.By)) (es : List (ℕ × W.Item)) → Closing W.weaving (W.within reach) beside tree.old.nodes.live tree.old.root es from 129 → Valued W.weaving W.is_item W.is_value es → Mended W.weaving (W.within reach) beside tree.new.nodes.live tree.new.root es }
+    requires { IsClosing W.Weave tree.old from 129 }
+    ensures mended { ClosesFrom W.Weave tree.old tree.new from 129 }
     ensures spare { tree.new.nodes.spare ≡ tree.old.nodes.spare }
     ensures as_many { map.len tree.new.nodes.live ≡ map.len tree.old.nodes.live }
 {

@@ -1,10 +1,8 @@
 //! A search from the top down.
-ghost use Rattle.std.specs.Prelude.{◌≡◌, ℕ, List, ◌+◌, ◌-◌, ◌*◌, ◌^◌, ◌≤◌, length};
-ghost use Rattle.rb_rules.specs.Weaving.{HeldItem, HeldSum};
-ghost use Rattle.rb_rules.specs.Woven.{Woven, Valued, entries};
-ghost use Rattle.rb_rules.specs.Tree.{Tree, height};
-ghost use Rattle.rb_rules.specs.Memory.{Made};
-ghost use Rattle.rb_arena.specs.Searching.{Found};
+ghost use Rattle.std.specs.Prelude.{◌≡◌, ◌-◌, ◌≤◌};
+ghost use Rattle.rb_rules.specs.Tree.{height};
+ghost use Rattle.rb_arena.specs.Relative.{RelativeItem, RelativeSum, before_node};
+ghost use Rattle.rb_arena.specs.Searching.{CanSearch, Finds, WhereWoven};
 
 use crate::climb::LONGEST;
 use crate::links::Links;
@@ -19,11 +17,11 @@ fn at_node<W: Weave>(
     before: W::Sum,
     datum: &Data<W::Item, W::Sum, W::By>,
 ) -> (W::Item, W::Sum)
-    requires item { HeldItem W.weaving W.is_near W.is_item (W.weaving.shift by datum.now.item) }
-    requires left { HeldSum W.weaving W.is_near W.is_sum W.is_value (W.weaving.shift_sum by datum.now.before) }
-    requires sum { HeldSum W.weaving W.is_near W.is_sum W.is_value (W.weaving.join before (W.weaving.shift_sum by datum.now.before)) }
+    requires item { RelativeItem W.Weave (W.weaving.shift by datum.now.item) }
+    requires left { RelativeSum W.Weave (W.weaving.shift_sum by datum.now.before) }
+    requires sum { RelativeSum W.Weave (before_node W.weaving by before datum.now) }
     ensures item { result.0 ≡ W.weaving.shift by datum.now.item }
-    ensures sum { result.1 ≡ W.weaving.join before (W.weaving.shift_sum by datum.now.before) }
+    ensures sum { result.1 ≡ before_node W.weaving by before datum.now }
 {
     let item = W::shift(by, datum.item);
     let left = W::shift_sum(by, datum.before);
@@ -36,9 +34,9 @@ pub(crate) fn descend<W: Weave, L: Ledger>(
     key: W::Key,
     steps: &mut Steps<L>,
 ) -> Option<(NodeId, W::Item, W::Sum)>
-    requires { (beside : Tree (Data W.Item W.Sum W.By)) × ((t : Tree (Data W.Item W.Sum W.By)) × Made beside tree.now.nodes.live tree.now.root t × Woven W.weaving W.is_near W.weaving.still t × Valued W.weaving W.is_item W.is_value (entries W.weaving W.weaving.still t) × (height t ≤ 126)) }
-    ensures found { (beside t : Tree (Data W.Item W.Sum W.By)) → Made beside tree.now.nodes.live tree.now.root t → Woven W.weaving W.is_near W.weaving.still t → height t ≤ 126 → Found W.weaving W.turn key (entries W.weaving W.weaving.still t) result }
-    ensures cost { (beside t : Tree (Data W.Item W.Sum W.By)) → Made beside tree.now.nodes.live tree.now.root t → Woven W.weaving W.is_near W.weaving.still t → height t ≤ 126 → steps.new - steps.old ≤ height t }
+    requires { CanSearch W.Weave tree.now 126 }
+    ensures found { Finds W.Weave tree.now 126 key result }
+    ensures cost { WhereWoven W.Weave tree.now 126 (λ t. steps.new - steps.old ≤ height t) }
 {
     let mut at = tree.root;
     let mut by = W::still();

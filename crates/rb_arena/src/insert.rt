@@ -1,14 +1,12 @@
 //! A new item at a place of the tree.
-ghost use Rattle.std.specs.Prelude.{◌≡◌, ◌+◌, ◌<◌, ◌^◌, true, None, ◌∷◌, ◌++◌};
+ghost use Rattle.std.specs.Prelude.{◌≡◌, ◌+◌, ◌<◌, ◌^◌};
 ghost use Rattle.std.specs.FinMap as map;
 ghost use Rattle.raw_arena.specs.Arena.{IsLive};
-ghost use Rattle.rb_rules.specs.Tree.{Tree, Hole, tip, plug, above, count};
-ghost use Rattle.rb_rules.specs.declared.slot.Side.TheVariants.{Left};
-ghost use Rattle.rb_rules.specs.Memory.{sided};
-ghost use Rattle.rb_rules.specs.Woven.{shift_at, lefts, rights};
+ghost use Rattle.rb_rules.specs.Woven.{shift_at};
 ghost use Rattle.rb_rules.specs.Weaving.{HeldBy};
-ghost use Rattle.rb_arena.specs.Placing.{above_place, passed, WovenAt, CanTake, leaf_of, IsLeaf};
-ghost use Rattle.rb_arena.specs.Rising.{Mended};
+ghost use Rattle.rb_arena.specs.Placing.{above_place, passed, IsWovenPlace, AtWovenPlace};
+ghost use Rattle.rb_arena.specs.Placing.{Takes, TakesNear, TakesLeaf, TakesNode};
+ghost use Rattle.rb_arena.specs.Placing.{ListsAt, ListsLeafAt, ListsNodeAt, IsLeafFor};
 
 use crate::climb::{LONGEST, renew_up};
 use crate::links::{Links, Place, hang, place, read, write};
@@ -40,8 +38,8 @@ fn pass<W: Weave>(side: Side, delta: W::By, by: W::By) -> W::By
 
 /// What the shifts on the path to a place come to.
 pub(crate) fn path_shift<W: Weave>(tree: &Links<Data<W::Item, W::Sum, W::By>>, from: Place) -> W::By
-    requires { (beside : Tree (Data W.Item W.Sum W.By)) × ((t : Tree (Data W.Item W.Sum W.By)) × ((k : Hole (Data W.Item W.Sum W.By)) × WovenAt W.weaving W.is_near beside tree.now.nodes.live tree.now.root from t k)) }
-    ensures { (beside t : Tree (Data W.Item W.Sum W.By)) (k : Hole (Data W.Item W.Sum W.By)) → WovenAt W.weaving W.is_near beside tree.now.nodes.live tree.now.root from t k → result ≡ shift_at W.weaving k }
+    requires { IsWovenPlace W.Weave tree.now from }
+    ensures { AtWovenPlace W.Weave tree.now from (λ k. result ≡ shift_at W.weaving k) }
 {
     let mut at = from;
     let mut by = W::still();
@@ -71,8 +69,8 @@ fn leaf_at<W: Weave>(
     at: &Place,
     item: W::Item,
 ) -> Slot<Data<W::Item, W::Sum, W::By>>
-    requires { (beside : Tree (Data W.Item W.Sum W.By)) × ((k : Hole (Data W.Item W.Sum W.By)) × CanTake W.weaving W.is_near beside tree.now.nodes.live tree.now.root at.now W.is_item W.is_value item k) }
-    ensures { (beside : Tree (Data W.Item W.Sum W.By)) (k : Hole (Data W.Item W.Sum W.By)) → CanTake W.weaving W.is_near beside tree.now.nodes.live tree.now.root at.now W.is_item W.is_value item k → result ≡ sided Left (above k) None None true (leaf_of W.weaving k item) }
+    requires { TakesNear W.Weave tree.now at.now item }
+    ensures { IsLeafFor W.Weave tree.now at.now item result }
 {
     let by = path_shift::<W>(tree, copy_of(at));
     let own = W::shift(W::minus(W::still(), by), item);
@@ -82,8 +80,8 @@ fn leaf_at<W: Weave>(
 
 /// Hangs a leaf at an empty place.
 fn hang_leaf<W: Weave>(tree: &mut Links<Data<W::Item, W::Sum, W::By>>, at: Place, id: NodeId)
-    requires { (reach : W.By) × ((beside : Tree (Data W.Item W.Sum W.By)) × ((k : Hole (Data W.Item W.Sum W.By)) × ((x : W.Item) × CanTake W.weaving (W.within reach) beside tree.old.nodes.live tree.old.root at W.is_item W.is_value x k × IsLeaf W.weaving beside tree.old.nodes.live id x k))) }
-    ensures mended { (reach : W.By) (beside : Tree (Data W.Item W.Sum W.By)) (k : Hole (Data W.Item W.Sum W.By)) (x : W.Item) → CanTake W.weaving (W.within reach) beside tree.old.nodes.live tree.old.root at W.is_item W.is_value x k → IsLeaf W.weaving beside tree.old.nodes.live id x k → Mended W.weaving (W.within reach) beside tree.new.nodes.live tree.new.root (lefts W.weaving k ++ (id, x) ∷ rights W.weaving k) }
+    requires { TakesLeaf W.Weave tree.old at id }
+    ensures mended { ListsLeafAt W.Weave tree.old tree.new at id }
     ensures spare { tree.new.nodes.spare ≡ tree.old.nodes.spare }
     ensures as_many { map.len tree.new.nodes.live ≡ map.len tree.old.nodes.live }
 {
@@ -100,8 +98,8 @@ pub(crate) fn insert_at<W: Weave>(
     item: W::Item,
 ) -> NodeId
     requires room { 0 < tree.old.nodes.spare }
-    requires hole { (reach : W.By) × ((beside : Tree (Data W.Item W.Sum W.By)) × ((k : Hole (Data W.Item W.Sum W.By)) × CanTake W.weaving (W.within reach) beside tree.old.nodes.live tree.old.root at W.is_item W.is_value item k)) }
-    ensures mended { (reach : W.By) (beside : Tree (Data W.Item W.Sum W.By)) (k : Hole (Data W.Item W.Sum W.By)) → CanTake W.weaving (W.within reach) beside tree.old.nodes.live tree.old.root at W.is_item W.is_value item k → Mended W.weaving (W.within reach) beside tree.new.nodes.live tree.new.root (lefts W.weaving k ++ (result, item) ∷ rights W.weaving k) }
+    requires hole { Takes W.Weave tree.old at item }
+    ensures mended { ListsAt W.Weave tree.old tree.new at result item }
     ensures spare { tree.new.nodes.spare + 1 ≡ tree.old.nodes.spare }
     ensures as_many { map.len tree.new.nodes.live ≡ map.len tree.old.nodes.live + 1 }
     ensures few { map.len tree.new.nodes.live + tree.new.nodes.spare < 2 ^ 63 }
@@ -120,8 +118,8 @@ pub(crate) fn land_at<W: Weave>(
     item: W::Item,
 )
     requires live { IsLive tree.old.nodes id }
-    requires hole { (reach : W.By) × ((beside : Tree (Data W.Item W.Sum W.By)) × ((k : Hole (Data W.Item W.Sum W.By)) × CanTake W.weaving (W.within reach) beside tree.old.nodes.live tree.old.root at W.is_item W.is_value item k × (count id (plug k tip) + count id beside ≡ 0))) }
-    ensures mended { (reach : W.By) (beside : Tree (Data W.Item W.Sum W.By)) (k : Hole (Data W.Item W.Sum W.By)) → CanTake W.weaving (W.within reach) beside tree.old.nodes.live tree.old.root at W.is_item W.is_value item k → count id (plug k tip) + count id beside ≡ 0 → Mended W.weaving (W.within reach) beside tree.new.nodes.live tree.new.root (lefts W.weaving k ++ (id, item) ∷ rights W.weaving k) }
+    requires hole { TakesNode W.Weave tree.old at id item }
+    ensures mended { ListsNodeAt W.Weave tree.old tree.new at id item }
     ensures spare { tree.new.nodes.spare ≡ tree.old.nodes.spare }
     ensures as_many { map.len tree.new.nodes.live ≡ map.len tree.old.nodes.live }
 {

@@ -1,12 +1,12 @@
 //! A node leaves the tree.
-ghost use Rattle.std.specs.Prelude.{◌≡◌, ℕ, ◌+◌, List, ◌∷◌, ◌++◌};
+ghost use Rattle.std.specs.Prelude.{◌≡◌, ◌+◌};
 ghost use Rattle.std.specs.FinMap as map;
 ghost use Rattle.raw_arena.specs.Arena.{IsLive};
-ghost use Rattle.rb_rules.specs.Tree.{Tree, Hole, root_of};
-ghost use Rattle.rb_rules.specs.Memory.{Spot};
-ghost use Rattle.rb_rules.specs.Woven.{lefts, rights, shift_at};
-ghost use Rattle.rb_arena.specs.Rising.{Mended};
-ghost use Rattle.rb_arena.specs.Leaving.{Emptied, NoChild, OneChild, Stores, StoresItem, Unlinked, WovenSpot, loosened};
+ghost use Rattle.rb_arena.specs.Leaving.{NoChild, OneChild, IsEmptied};
+ghost use Rattle.rb_arena.specs.Leaving.{StoresItem, StoresItemBeside, StoresBoth};
+ghost use Rattle.rb_arena.specs.Leaving.{StandsWoven, StandsValued, AtWoven, shown};
+ghost use Rattle.rb_arena.specs.Leaving.{Settles, StillLists, Leaves, Loosens};
+ghost use Rattle.rb_arena.specs.Leaving.{Unlinks, UnlinksBefore};
 
 use crate::climb::renew_up;
 use crate::close::close;
@@ -25,8 +25,8 @@ struct Vacancy {
 
 /// Renews the sums above an empty place, and closes the gap that a black leaf has left there.
 fn settle<W: Weave>(tree: &mut Links<Data<W::Item, W::Sum, W::By>>, at: Place, red: bool)
-    requires { (reach : W.By) × ((beside : Tree (Data W.Item W.Sum W.By)) × ((k : Hole (Data W.Item W.Sum W.By)) × Emptied W.weaving (W.within reach) W.is_item W.is_value beside tree.old.nodes.live tree.old.root at red k)) }
-    ensures mended { (reach : W.By) (beside : Tree (Data W.Item W.Sum W.By)) (k : Hole (Data W.Item W.Sum W.By)) → Emptied W.weaving (W.within reach) W.is_item W.is_value beside tree.old.nodes.live tree.old.root at red k → Mended W.weaving (W.within reach) beside tree.new.nodes.live tree.new.root (lefts W.weaving k ++ rights W.weaving k) }
+    requires { IsEmptied W.Weave tree.old at red }
+    ensures mended { Settles W.Weave tree.old tree.new at red }
     ensures spare { tree.new.nodes.spare ≡ tree.old.nodes.spare }
     ensures as_many { map.len tree.new.nodes.live ≡ map.len tree.old.nodes.live }
 {
@@ -40,8 +40,8 @@ fn settle<W: Weave>(tree: &mut Links<Data<W::Item, W::Sum, W::By>>, at: Place, r
 /// A leaf leaves the tree, and keeps its slot.
 fn unlink_leaf<W: Weave>(tree: &mut Links<Data<W::Item, W::Sum, W::By>>, id: NodeId) -> Vacancy
     requires leaf { NoChild tree.old.nodes.live id }
-    requires item { StoresItem W.weaving W.within W.is_item W.is_value tree.old.nodes.live tree.old.root id }
-    ensures unlinked { (reach : W.By) (beside : Tree (Data W.Item W.Sum W.By)) (us : List (ℕ × W.Item)) (x : W.Item) (vs : List (ℕ × W.Item)) → Stores W.weaving (W.within reach) W.is_item W.is_value beside tree.old.nodes.live tree.old.root (us ++ (id, x) ∷ vs) → Unlinked W.weaving (W.within reach) W.is_item W.is_value beside tree.new.nodes.live tree.new.root result.at result.red id (us ++ vs) }
+    requires item { StoresItem W.Weave tree.old id }
+    ensures unlinked { Unlinks W.Weave tree.old tree.new id result.at result.red }
     ensures live { IsLive tree.new.nodes id }
     ensures spare { tree.new.nodes.spare ≡ tree.old.nodes.spare }
     ensures as_many { map.len tree.new.nodes.live ≡ map.len tree.old.nodes.live }
@@ -55,9 +55,9 @@ fn unlink_leaf<W: Weave>(tree: &mut Links<Data<W::Item, W::Sum, W::By>>, id: Nod
 /// Makes a leaf of a node with one child at most.
 pub(crate) fn to_leaf<W: Weave>(tree: &mut Links<Data<W::Item, W::Sum, W::By>>, id: NodeId)
     requires child { OneChild tree.old.nodes.live id }
-    requires item { StoresItem W.weaving W.within W.is_item W.is_value tree.old.nodes.live tree.old.root id }
+    requires item { StoresItem W.Weave tree.old id }
     ensures leaf { NoChild tree.new.nodes.live id }
-    ensures mended { (reach : W.By) (beside : Tree (Data W.Item W.Sum W.By)) (us : List (ℕ × W.Item)) (x : W.Item) (vs : List (ℕ × W.Item)) → Stores W.weaving (W.within reach) W.is_item W.is_value beside tree.old.nodes.live tree.old.root (us ++ (id, x) ∷ vs) → Mended W.weaving (W.within reach) beside tree.new.nodes.live tree.new.root (us ++ (id, x) ∷ vs) }
+    ensures mended { StillLists W.Weave tree.old tree.new id }
     ensures spare { tree.new.nodes.spare ≡ tree.old.nodes.spare }
     ensures as_many { map.len tree.new.nodes.live ≡ map.len tree.old.nodes.live }
 {
@@ -71,8 +71,8 @@ pub(crate) fn to_leaf<W: Weave>(tree: &mut Links<Data<W::Item, W::Sum, W::By>>, 
 
 /// The item of a node, with the shifts of its path.
 pub(crate) fn item_at<W: Weave>(tree: &Links<Data<W::Item, W::Sum, W::By>>, id: NodeId) -> W::Item
-    requires { (s : Spot (Data W.Item W.Sum W.By)) × WovenSpot W.weaving W.is_near tree.now.nodes.live tree.now.root id s × W.is_item (W.weaving.shift (shift_at W.weaving s.hole) s.datum.item) }
-    ensures { (s : Spot (Data W.Item W.Sum W.By)) → WovenSpot W.weaving W.is_near tree.now.nodes.live tree.now.root id s → result ≡ W.weaving.shift (shift_at W.weaving s.hole) s.datum.item }
+    requires { StandsValued W.Weave tree.now id }
+    ensures { AtWoven W.Weave tree.now id (λ s. result ≡ shown W.weaving s s.datum.item) }
 {
     let at = place(tree, id);
     let by = path_shift::<W>(tree, at);
@@ -85,9 +85,9 @@ pub(crate) fn item_for<W: Weave>(
     id: NodeId,
     item: W::Item,
 ) -> W::Item
-    requires spot { (s : Spot (Data W.Item W.Sum W.By)) × WovenSpot W.weaving W.is_near tree.now.nodes.live tree.now.root id s }
+    requires spot { StandsWoven W.Weave tree.now id }
     requires value { W.is_item item }
-    ensures { (s : Spot (Data W.Item W.Sum W.By)) → WovenSpot W.weaving W.is_near tree.now.nodes.live tree.now.root id s → W.weaving.shift (shift_at W.weaving s.hole) result ≡ item }
+    ensures { AtWoven W.Weave tree.now id (λ s. shown W.weaving s result ≡ item) }
 {
     let at = place(tree, id);
     let by = path_shift::<W>(tree, at);
@@ -101,8 +101,8 @@ fn inherit<W: Weave>(
     heir: NodeId,
 ) -> Vacancy
     requires leaf { NoChild tree.old.nodes.live heir }
-    requires items { (reach : W.By) × ((beside : Tree (Data W.Item W.Sum W.By)) × ((us : List (ℕ × W.Item)) × ((x : W.Item) × ((y : W.Item) × ((vs : List (ℕ × W.Item)) × Stores W.weaving (W.within reach) W.is_item W.is_value beside tree.old.nodes.live tree.old.root (us ++ (id, x) ∷ (heir, y) ∷ vs)))))) }
-    ensures unlinked { (reach : W.By) (beside : Tree (Data W.Item W.Sum W.By)) (us : List (ℕ × W.Item)) (x y : W.Item) (vs : List (ℕ × W.Item)) → Stores W.weaving (W.within reach) W.is_item W.is_value beside tree.old.nodes.live tree.old.root (us ++ (id, x) ∷ (heir, y) ∷ vs) → Unlinked W.weaving (W.within reach) W.is_item W.is_value beside tree.new.nodes.live tree.new.root result.at result.red id (us ++ (heir, y) ∷ vs) }
+    requires items { StoresBoth W.Weave tree.old id heir }
+    ensures unlinked { UnlinksBefore W.Weave tree.old tree.new heir id result.at result.red }
     ensures live { IsLive tree.new.nodes id }
     ensures spare { tree.new.nodes.spare ≡ tree.old.nodes.spare }
     ensures as_many { map.len tree.new.nodes.live ≡ map.len tree.old.nodes.live }
@@ -127,8 +127,8 @@ fn inherit<W: Weave>(
 
 /// A node leaves the tree, whatever stands below it, and keeps its slot.
 fn unlink<W: Weave>(tree: &mut Links<Data<W::Item, W::Sum, W::By>>, id: NodeId) -> Vacancy
-    requires { StoresItem W.weaving W.within W.is_item W.is_value tree.old.nodes.live tree.old.root id }
-    ensures unlinked { (reach : W.By) (beside : Tree (Data W.Item W.Sum W.By)) (us : List (ℕ × W.Item)) (x : W.Item) (vs : List (ℕ × W.Item)) → Stores W.weaving (W.within reach) W.is_item W.is_value beside tree.old.nodes.live tree.old.root (us ++ (id, x) ∷ vs) → Unlinked W.weaving (W.within reach) W.is_item W.is_value beside tree.new.nodes.live tree.new.root result.at result.red id (us ++ vs) }
+    requires { StoresItem W.Weave tree.old id }
+    ensures unlinked { Unlinks W.Weave tree.old tree.new id result.at result.red }
     ensures live { IsLive tree.new.nodes id }
     ensures spare { tree.new.nodes.spare ≡ tree.old.nodes.spare }
     ensures as_many { map.len tree.new.nodes.live ≡ map.len tree.old.nodes.live }
@@ -145,8 +145,8 @@ fn unlink<W: Weave>(tree: &mut Links<Data<W::Item, W::Sum, W::By>>, id: NodeId) 
 
 /// A node leaves the tree, and its slot goes back to the arena.
 pub(crate) fn leave<W: Weave>(tree: &mut Links<Data<W::Item, W::Sum, W::By>>, id: NodeId)
-    requires { StoresItem W.weaving W.within W.is_item W.is_value tree.old.nodes.live tree.old.root id }
-    ensures mended { (reach : W.By) (beside : Tree (Data W.Item W.Sum W.By)) (us : List (ℕ × W.Item)) (x : W.Item) (vs : List (ℕ × W.Item)) → Stores W.weaving (W.within reach) W.is_item W.is_value beside tree.old.nodes.live tree.old.root (us ++ (id, x) ∷ vs) → Mended W.weaving (W.within reach) beside tree.new.nodes.live tree.new.root (us ++ vs) }
+    requires { StoresItem W.Weave tree.old id }
+    ensures mended { Leaves W.Weave tree.old tree.new id }
     ensures spare { tree.new.nodes.spare ≡ tree.old.nodes.spare + 1 }
     ensures as_many { map.len tree.new.nodes.live + 1 ≡ map.len tree.old.nodes.live }
 {
@@ -161,8 +161,8 @@ pub(crate) fn loosen<W: Weave>(
     id: NodeId,
     front: Option<NodeId>,
 )
-    requires { (reach : W.By) × ((beside : Tree (Data W.Item W.Sum W.By)) × ((us : List (ℕ × W.Item)) × ((x : W.Item) × ((vs : List (ℕ × W.Item)) × Stores W.weaving (W.within reach) W.is_item W.is_value beside tree.old.nodes.live tree.old.root (us ++ (id, x) ∷ vs) × (front ≡ root_of beside))))) }
-    ensures mended { (reach : W.By) (beside : Tree (Data W.Item W.Sum W.By)) (us : List (ℕ × W.Item)) (x : W.Item) (vs : List (ℕ × W.Item)) → Stores W.weaving (W.within reach) W.is_item W.is_value beside tree.old.nodes.live tree.old.root (us ++ (id, x) ∷ vs) → front ≡ root_of beside → Mended W.weaving (W.within reach) (loosened W.weaving id x beside) tree.new.nodes.live tree.new.root (us ++ vs) }
+    requires { StoresItemBeside W.Weave tree.old id front }
+    ensures mended { Loosens W.Weave tree.old tree.new id front }
     ensures spare { tree.new.nodes.spare ≡ tree.old.nodes.spare }
     ensures as_many { map.len tree.new.nodes.live ≡ map.len tree.old.nodes.live }
 {

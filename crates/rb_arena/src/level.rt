@@ -1,11 +1,9 @@
 //! The shifts in a tree are applied, and none is left in it.
 ghost use Rattle.std.specs.Prelude.{◌≡◌};
 ghost use Rattle.std.specs.FinMap as map;
-ghost use Rattle.rb_rules.specs.Tree.{Tree, Hole, plug};
-ghost use Rattle.rb_rules.specs.Memory.{Made};
 ghost use Rattle.rb_rules.specs.Shifts as shifts;
-ghost use Rattle.rb_rules.specs.Weaving.{HeldItem, HeldSum};
-ghost use Rattle.rb_arena.specs.Shifting.{CanLevel};
+ghost use Rattle.rb_arena.specs.Relative.{RelativeItem, RelativeSum};
+ghost use Rattle.rb_arena.specs.Shifting.{CanLevelAt, Levels};
 
 use crate::links::{Links, read, rewrite};
 use raw_arena::NodeId;
@@ -16,9 +14,9 @@ fn level_datum<W: Weave>(
     by: W::By,
     datum: &Data<W::Item, W::Sum, W::By>,
 ) -> Data<W::Item, W::Sum, W::By>
-    requires item { HeldItem W.weaving W.is_near W.is_item (W.weaving.shift by datum.now.item) }
-    requires before { HeldSum W.weaving W.is_near W.is_sum W.is_value (W.weaving.shift_sum by datum.now.before) }
-    requires whole { HeldSum W.weaving W.is_near W.is_sum W.is_value (W.weaving.shift_sum by datum.now.whole) }
+    requires item { RelativeItem W.Weave (W.weaving.shift by datum.now.item) }
+    requires before { RelativeSum W.Weave (W.weaving.shift_sum by datum.now.before) }
+    requires whole { RelativeSum W.Weave (W.weaving.shift_sum by datum.now.whole) }
     ensures { result ≡ shifts.level_datum W.weaving by datum.now }
 {
     Data {
@@ -36,8 +34,8 @@ pub(crate) fn level<W: Weave>(
     by: W::By,
     levels: u32,
 )
-    requires { (beside : Tree (Data W.Item W.Sum W.By)) × ((t : Tree (Data W.Item W.Sum W.By)) × ((k : Hole (Data W.Item W.Sum W.By)) × CanLevel W.weaving W.is_near W.is_item W.is_value beside tree.old.nodes.live tree.old.root at by levels k t)) }
-    ensures made { (beside t : Tree (Data W.Item W.Sum W.By)) (k : Hole (Data W.Item W.Sum W.By)) → CanLevel W.weaving W.is_near W.is_item W.is_value beside tree.old.nodes.live tree.old.root at by levels k t → Made beside tree.new.nodes.live tree.new.root (plug k (shifts.levelled W.weaving by t)) }
+    requires { CanLevelAt W.Weave tree.old at by levels }
+    ensures made { Levels W.Weave tree.old tree.new at by levels }
     ensures spare { tree.new.nodes.spare ≡ tree.old.nodes.spare }
     ensures as_many { map.len tree.new.nodes.live ≡ map.len tree.old.nodes.live }
 {

@@ -1,11 +1,12 @@
 //! A tree's nodes and their links, whatever data the nodes have.
-ghost use Rattle.std.specs.Prelude.{◌≡◌, ◌+◌, ◌<◌, Some, None, false, IfSome, IsSome};
+ghost use Rattle.std.specs.Prelude.{◌≡◌, ◌<◌, Some, None, IfSome};
 ghost use Rattle.std.specs.FinMap as map;
 ghost use Rattle.raw_arena.specs.Arena.{node, IsLive};
-ghost use Rattle.rb_rules.specs.Tree.{fork, plug, root_of, count};
+ghost use Rattle.rb_rules.specs.Tree.{fork};
 ghost use Rattle.rb_rules.specs.declared.slot.Slot.{Slot};
-ghost use Rattle.rb_rules.specs.declared.slot.Side.TheVariants.{Left};
-ghost use Rattle.rb_rules.specs.Memory.{sided, Made, place_of, adopted, hung, root_hung, Spot, here, below, Stands, AtSpot, turned};
+ghost use Rattle.rb_rules.specs.Memory.{place_of, adopted, hung, root_hung};
+ghost use Rattle.rb_rules.specs.Memory.{here, Stands, AtSpot, turned};
+ghost use Rattle.rb_arena.specs.Nodes.{Becomes, HasChildAt, HeadsChain, Inherits, strung};
 
 use raw_arena::{Arena, NodeId};
 use rb_rules::{Side, Slot};
@@ -110,7 +111,7 @@ pub(crate) fn hang<D: Copy>(tree: &mut Links<D>, place: Place, child: Option<Nod
 /// Writes a node's colour and data.
 pub(crate) fn rewrite<D: Copy>(tree: &mut Links<D>, id: NodeId, red: bool, datum: D)
     requires { Stands tree.old.nodes.live tree.old.root id }
-    ensures made { AtSpot tree.old.nodes.live tree.old.root id (λ s. Made s.beside tree.new.nodes.live tree.new.root (plug s.hole (fork red id datum s.left s.right))) }
+    ensures made { Becomes tree.old tree.new id (λ s. fork red id datum s.left s.right) }
     ensures spare { tree.new.nodes.spare ≡ tree.old.nodes.spare }
     ensures as_many { map.len tree.new.nodes.live ≡ map.len tree.old.nodes.live }
 {
@@ -122,8 +123,8 @@ pub(crate) fn rewrite<D: Copy>(tree: &mut Links<D>, id: NodeId, red: bool, datum
 
 /// Turns a node: its child on that side comes to stand above it. Each keeps the colour of its place.
 pub(crate) fn turn<D: Copy>(tree: &mut Links<D>, id: NodeId, side: Side, low: D, high: D)
-    requires { (s : Spot D) × Made s.beside tree.old.nodes.live tree.old.root (plug s.hole (here s id)) × IsSome (root_of (below side s)) }
-    ensures made { AtSpot tree.old.nodes.live tree.old.root id (λ s. Made s.beside tree.new.nodes.live tree.new.root (plug s.hole (turned side low high (here s id)))) }
+    requires { HasChildAt tree.old id side }
+    ensures made { Becomes tree.old tree.new id (λ s. turned side low high (here s id)) }
     ensures spare { tree.new.nodes.spare ≡ tree.old.nodes.spare }
     ensures as_many { map.len tree.new.nodes.live ≡ map.len tree.old.nodes.live }
 {
@@ -147,7 +148,7 @@ pub(crate) fn turn<D: Copy>(tree: &mut Links<D>, id: NodeId, side: Side, low: D,
 pub(crate) fn replace<D: Copy>(tree: &mut Links<D>, id: NodeId, heir: NodeId, datum: D)
     requires stands { Stands tree.old.nodes.live tree.old.root id }
     requires heir { IsLive tree.old.nodes heir }
-    ensures made { AtSpot tree.old.nodes.live tree.old.root id (λ s. count heir (plug s.hole (here s id)) + count heir s.beside ≡ 0 → Made s.beside tree.new.nodes.live tree.new.root (plug s.hole (fork s.red heir datum s.left s.right))) }
+    ensures made { Inherits tree.old tree.new id heir datum }
     ensures left { IsLive tree.new.nodes id }
     ensures spare { tree.new.nodes.spare ≡ tree.old.nodes.spare }
     ensures as_many { map.len tree.new.nodes.live ≡ map.len tree.old.nodes.live }
@@ -170,7 +171,7 @@ pub(crate) fn string<D: Copy>(
 )
     requires live { IsLive nodes.old id }
     requires front { IfSome front (λ i. IsLive nodes.old i) }
-    ensures live { nodes.new.live ≡ map.insert (adopted nodes.old.live front (Some id)) id (sided Left None None front false datum) }
+    ensures live { nodes.new.live ≡ strung nodes.old.live id front datum }
     ensures spare { nodes.new.spare ≡ nodes.old.spare }
 {
     let slot = Slot::sided(Side::Left, None, None, front, false, datum);
@@ -180,7 +181,7 @@ pub(crate) fn string<D: Copy>(
 
 /// Takes the first node from a chain, and tells which is the first now.
 pub(crate) fn unstring<D: Copy>(nodes: &mut Arena<Slot<D>>, id: NodeId) -> Option<NodeId>
-    requires { (slot : Slot D) × (node nodes.old id ≡ Some slot) × IfSome slot.right (λ i. IsLive nodes.old i) }
+    requires { HeadsChain nodes.old id }
     ensures next { (slot : Slot D) → node nodes.old id ≡ Some slot → result ≡ slot.right }
     ensures live { nodes.new.live ≡ adopted nodes.old.live result None }
     ensures spare { nodes.new.spare ≡ nodes.old.spare }

@@ -1,10 +1,10 @@
 //! After an insertion: the new node is red, and its parent may be red too.
-ghost use Rattle.std.specs.Prelude.{◌≡◌, ℕ, ◌-◌, List};
+ghost use Rattle.std.specs.Prelude.{◌≡◌};
 ghost use Rattle.std.specs.FinMap as map;
-ghost use Rattle.rb_rules.specs.Tree.{Tree, fork, plug};
-ghost use Rattle.rb_rules.specs.Memory.{Made, AtSpot, Stands};
-ghost use Rattle.rb_rules.specs.Woven.{Valued};
-ghost use Rattle.rb_arena.specs.Rising.{Mended, Rising, Risen};
+ghost use Rattle.rb_rules.specs.Tree.{fork};
+ghost use Rattle.rb_rules.specs.Memory.{AtSpot, Stands};
+ghost use Rattle.rb_arena.specs.Nodes.{Becomes};
+ghost use Rattle.rb_arena.specs.Rising.{IsRising, IsRisingFrom, RisesTo, MendsFrom};
 ghost use Rattle.rb_arena.specs.Mending.{case_of, bent, HasChild, red_child_in};
 
 use crate::climb::LONGEST;
@@ -31,7 +31,7 @@ pub enum Case {
 /// Writes a node's colour.
 pub(crate) fn paint<D: Copy>(tree: &mut Links<D>, id: NodeId, red: bool)
     requires { Stands tree.old.nodes.live tree.old.root id }
-    ensures made { AtSpot tree.old.nodes.live tree.old.root id (λ s. Made s.beside tree.new.nodes.live tree.new.root (plug s.hole (fork red id s.datum s.left s.right))) }
+    ensures made { Becomes tree.old tree.new id (λ s. fork red id s.datum s.left s.right) }
     ensures spare { tree.new.nodes.spare ≡ tree.old.nodes.spare }
     ensures as_many { map.len tree.new.nodes.live ≡ map.len tree.old.nodes.live }
 {
@@ -90,8 +90,8 @@ fn find_case<D: Copy>(tree: &Links<D>, id: NodeId) -> Case
 
 /// Mends one step: `None` where nothing is left to mend, and else the node that is red now.
 fn step<W: Weave>(tree: &mut Links<Data<W::Item, W::Sum, W::By>>, id: NodeId) -> Option<NodeId>
-    requires { (reach : W.By) × ((beside : Tree (Data W.Item W.Sum W.By)) × ((es : List (ℕ × W.Item)) × ((n : ℕ) × Rising W.weaving (W.within reach) beside tree.old.nodes.live tree.old.root es id n × Valued W.weaving W.is_item W.is_value es))) }
-    ensures risen { (reach : W.By) (beside : Tree (Data W.Item W.Sum W.By)) (es : List (ℕ × W.Item)) (n : ℕ) → Rising W.weaving (W.within reach) beside tree.old.nodes.live tree.old.root es id n → Valued W.weaving W.is_item W.is_value es → Risen W.weaving (W.within reach) beside tree.new.nodes.live tree.new.root es result (n - 1) }
+    requires { IsRising W.Weave tree.old id }
+    ensures risen { RisesTo W.Weave tree.old tree.new id result }
     ensures spare { tree.new.nodes.spare ≡ tree.old.nodes.spare }
     ensures as_many { map.len tree.new.nodes.live ≡ map.len tree.old.nodes.live }
 {
@@ -121,8 +121,8 @@ fn step<W: Weave>(tree: &mut Links<Data<W::Item, W::Sum, W::By>>, id: NodeId) ->
 
 /// Makes the tree red-black again after a red leaf has come.
 pub(crate) fn mend<W: Weave>(tree: &mut Links<Data<W::Item, W::Sum, W::By>>, id: NodeId)
-    requires { (reach : W.By) × ((beside : Tree (Data W.Item W.Sum W.By)) × ((es : List (ℕ × W.Item)) × Rising W.weaving (W.within reach) beside tree.old.nodes.live tree.old.root es id 128 × Valued W.weaving W.is_item W.is_value es)) }
-    ensures mended { (reach : W.By) (beside : Tree (Data W.Item W.Sum W.By)) (es : List (ℕ × W.Item)) → Rising W.weaving (W.within reach) beside tree.old.nodes.live tree.old.root es id 128 → Valued W.weaving W.is_item W.is_value es → Mended W.weaving (W.within reach) beside tree.new.nodes.live tree.new.root es }
+    requires { IsRisingFrom W.Weave tree.old id 128 }
+    ensures mended { MendsFrom W.Weave tree.old tree.new id 128 }
     ensures spare { tree.new.nodes.spare ≡ tree.old.nodes.spare }
     ensures as_many { map.len tree.new.nodes.live ≡ map.len tree.old.nodes.live }
 {

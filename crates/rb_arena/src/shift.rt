@@ -1,13 +1,11 @@
 //! The items after a place move.
-ghost use Rattle.std.specs.Prelude.{◌≡◌, ℕ, List, ◌++◌, Some};
+ghost use Rattle.std.specs.Prelude.{◌≡◌};
 ghost use Rattle.std.specs.FinMap as map;
-ghost use Rattle.rb_rules.specs.Tree.{Tree, Hole, plug, fork};
-ghost use Rattle.rb_rules.specs.Memory.{Made, AtSpot};
-ghost use Rattle.rb_rules.specs.Shifts.{moved, moved_datum, shifted};
-ghost use Rattle.rb_rules.specs.Woven.{lefts, rights};
-ghost use Rattle.rb_arena.specs.Leaving.{Stores};
-ghost use Rattle.rb_arena.specs.Rising.{Mended};
-ghost use Rattle.rb_arena.specs.Shifting.{CanMove, CanShift, CanShiftFrom, Reaches};
+ghost use Rattle.rb_rules.specs.Shifts.{moved_datum};
+ghost use Rattle.rb_arena.specs.Leaving.{StoresWithin};
+ghost use Rattle.rb_arena.specs.Nodes.{Rewritten};
+ghost use Rattle.rb_arena.specs.Shifting.{CanMove, CanShiftUp, CanShiftAll};
+ghost use Rattle.rb_arena.specs.Shifting.{ShiftsUp, ShiftsAll, FindsReach};
 
 use crate::climb::{LONGEST, renew_up};
 use crate::insert::parent_at;
@@ -19,7 +17,7 @@ use rb_rules::{Data, Side, Weave};
 /// Moves a node's item and its right subtree, and leaves its sums as they are.
 fn move_node<W: Weave>(tree: &mut Links<Data<W::Item, W::Sum, W::By>>, id: NodeId, by: W::By)
     requires { CanMove W.weaving W.is_near W.is_item tree.old.nodes.live tree.old.root by id }
-    ensures made { AtSpot tree.old.nodes.live tree.old.root id (λ s. Made s.beside tree.new.nodes.live tree.new.root (plug s.hole (fork s.red id (moved_datum W.weaving by s.datum) s.left s.right))) }
+    ensures made { Rewritten tree.old tree.new id (λ s. moved_datum W.weaving by s.datum) }
     ensures spare { tree.new.nodes.spare ≡ tree.old.nodes.spare }
     ensures as_many { map.len tree.new.nodes.live ≡ map.len tree.old.nodes.live }
 {
@@ -35,8 +33,8 @@ fn move_node<W: Weave>(tree: &mut Links<Data<W::Item, W::Sum, W::By>>, id: NodeI
 
 /// Moves the items after a place: at each node that the path leaves to the left, its item and its right subtree.
 fn shift_up<W: Weave>(tree: &mut Links<Data<W::Item, W::Sum, W::By>>, from: Place, by: W::By)
-    requires { (beside : Tree (Data W.Item W.Sum W.By)) × ((t : Tree (Data W.Item W.Sum W.By)) × ((k : Hole (Data W.Item W.Sum W.By)) × CanShift W.weaving W.is_near W.is_item tree.old.nodes.live tree.old.root beside from by 128 t k)) }
-    ensures made { (beside t : Tree (Data W.Item W.Sum W.By)) (k : Hole (Data W.Item W.Sum W.By)) → CanShift W.weaving W.is_near W.is_item tree.old.nodes.live tree.old.root beside from by 128 t k → Made beside tree.new.nodes.live tree.new.root (plug (moved W.weaving by k) t) }
+    requires { CanShiftUp W.Weave tree.old from by }
+    ensures made { ShiftsUp W.Weave tree.old tree.new from by }
     ensures spare { tree.new.nodes.spare ≡ tree.old.nodes.spare }
     ensures as_many { map.len tree.new.nodes.live ≡ map.len tree.old.nodes.live }
 {
@@ -59,8 +57,8 @@ pub(crate) fn shift_from<W: Weave>(
     at: Place,
     by: W::By,
 )
-    requires { (from : W.By) × ((reach : W.By) × ((beside : Tree (Data W.Item W.Sum W.By)) × ((k : Hole (Data W.Item W.Sum W.By)) × (W.widened from by ≡ Some reach) × CanShiftFrom W.weaving beside tree.old.nodes.live tree.old.root (W.within from) W.is_item W.is_value at by k))) }
-    ensures mended { (from reach : W.By) (beside : Tree (Data W.Item W.Sum W.By)) (k : Hole (Data W.Item W.Sum W.By)) → W.widened from by ≡ Some reach → CanShiftFrom W.weaving beside tree.old.nodes.live tree.old.root (W.within from) W.is_item W.is_value at by k → Mended W.weaving (W.within reach) beside tree.new.nodes.live tree.new.root (lefts W.weaving k ++ shifted W.weaving by (rights W.weaving k)) }
+    requires { CanShiftAll W.Weave tree.old at by }
+    ensures mended { ShiftsAll W.Weave tree.old tree.new at by }
     ensures spare { tree.new.nodes.spare ≡ tree.old.nodes.spare }
     ensures as_many { map.len tree.new.nodes.live ≡ map.len tree.old.nodes.live }
 {
@@ -75,8 +73,8 @@ pub(crate) fn reach_for<W: Weave>(
     reach: W::By,
     by: W::By,
 ) -> Option<W::By>
-    requires { (beside : Tree (Data W.Item W.Sum W.By)) × ((es : List (ℕ × W.Item)) × Stores W.weaving (W.within reach) W.is_item W.is_value beside tree.old.nodes.live tree.old.root es) }
-    ensures reaches { (beside : Tree (Data W.Item W.Sum W.By)) (es : List (ℕ × W.Item)) → Stores W.weaving (W.within reach) W.is_item W.is_value beside tree.old.nodes.live tree.old.root es → Reaches W.weaving beside tree.new.nodes.live tree.new.root W.within W.widened es reach by result }
+    requires { StoresWithin W.Weave tree.old reach }
+    ensures reaches { FindsReach W.Weave tree.old tree.new reach by result }
     ensures spare { tree.new.nodes.spare ≡ tree.old.nodes.spare }
     ensures as_many { map.len tree.new.nodes.live ≡ map.len tree.old.nodes.live }
 {

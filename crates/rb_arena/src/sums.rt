@@ -2,12 +2,12 @@
 ghost use Rattle.std.specs.Prelude.{◌≡◌, IfSome};
 ghost use Rattle.std.specs.FinMap as map;
 ghost use Rattle.raw_arena.specs.Arena.{IsLive};
-ghost use Rattle.rb_rules.specs.Memory.{Made, AtSpot, Stands};
-ghost use Rattle.rb_rules.specs.Tree.{fork, plug};
+ghost use Rattle.rb_rules.specs.Memory.{Stands};
+ghost use Rattle.rb_arena.specs.Nodes.{Rewritten};
+ghost use Rattle.rb_arena.specs.Relative.{CanSumOver, CanTurnOver, CanTurnNode, Turns};
 ghost use Rattle.rb_arena.specs.Value.{with_item};
 ghost use Rattle.rb_rules.specs.Weaving as weaving;
 ghost use Rattle.rb_rules.specs.Woven.{whole_in};
-ghost use Rattle.rb_rules.specs.Sound.{CanTurnAt, TurnedAt};
 
 use crate::links::{Links, read, rewrite, turn};
 use raw_arena::{Arena, NodeId};
@@ -34,7 +34,7 @@ pub(crate) fn summed<W: Weave>(
     left: W::Sum,
     right: W::Sum,
 ) -> Data<W::Item, W::Sum, W::By>
-    requires { weaving.CanSumUp W.weaving W.is_near W.is_item W.is_sum W.is_value item delta left right }
+    requires { CanSumOver W.Weave item delta left right }
     ensures { result ≡ weaving.summed W.weaving item delta left right }
 {
     let right = W::shift_sum(delta, right);
@@ -55,7 +55,7 @@ fn turned_data<W: Weave>(
     mid: W::Sum,
     far: W::Sum,
 ) -> (Data<W::Item, W::Sum, W::By>, Data<W::Item, W::Sum, W::By>)
-    requires { weaving.CanTurn W.weaving W.is_near W.is_item W.is_sum W.is_value side upper.now lower.now mid far }
+    requires { CanTurnOver W.Weave side upper.now lower.now mid far }
     ensures low { result.0 ≡ weaving.lowered W.weaving side upper.now lower.now mid far }
     ensures high { result.1 ≡ weaving.raised W.weaving side upper.now lower.now mid far }
 {
@@ -90,8 +90,8 @@ pub(crate) fn turn_node<W: Weave>(
     id: NodeId,
     side: Side,
 )
-    requires { CanTurnAt W.weaving W.is_near W.is_item W.is_value tree.old.nodes.live tree.old.root id side }
-    ensures turned { AtSpot tree.old.nodes.live tree.old.root id (λ s. (reach : W.By) → TurnedAt W.weaving (W.within reach) tree.new.nodes.live tree.new.root id side s) }
+    requires { CanTurnNode W.Weave tree.old id side }
+    ensures turned { Turns W.Weave tree.old tree.new id side }
     ensures spare { tree.new.nodes.spare ≡ tree.old.nodes.spare }
     ensures as_many { map.len tree.new.nodes.live ≡ map.len tree.old.nodes.live }
 {
@@ -113,7 +113,7 @@ pub(crate) fn replace_item<W: Weave>(
     item: W::Item,
 )
     requires { Stands tree.old.nodes.live tree.old.root id }
-    ensures made { AtSpot tree.old.nodes.live tree.old.root id (λ s. Made s.beside tree.new.nodes.live tree.new.root (plug s.hole (fork s.red id (with_item s.datum item) s.left s.right))) }
+    ensures made { Rewritten tree.old tree.new id (λ s. with_item s.datum item) }
     ensures spare { tree.new.nodes.spare ≡ tree.old.nodes.spare }
     ensures as_many { map.len tree.new.nodes.live ≡ map.len tree.old.nodes.live }
 {

@@ -1,13 +1,17 @@
 //! The tree as its users see it.
-ghost use Rattle.std.specs.Prelude.{◌≡◌, ℕ, List, None, length, ◌-◌, ◌^◌, ◌+◌, ◌<◌, ◌≤◌, [], ◌∷◌, ◌++◌, OnOk};
-ghost use Rattle.rb_rules.specs.Tree.{Tree, Hole, plug, depth};
-ghost use Rattle.rb_rules.specs.Memory.{Made, Spot, here, AtSpot, place_of};
-ghost use Rattle.rb_rules.specs.Woven.{AllItems, sum_of};
-ghost use Rattle.rb_rules.specs.Shifts.{shifted};
-ghost use Rattle.rb_arena.specs.Value.{listed, first_hole, first_or, last_hole, last_or, up_next, up_prev, IsItem, SplitsAt, SplitsAfter, SumsTo, SumsWith, PlaceAfter, front_of};
+ghost use Rattle.std.specs.Prelude.{◌≡◌, None, length, ◌-◌, ◌^◌, ◌+◌, ◌<◌, ◌≤◌, [], ◌∷◌, OnOk};
+ghost use Rattle.rb_rules.specs.Memory.{place_of};
+ghost use Rattle.rb_rules.specs.Woven.{sum_of};
+ghost use Rattle.rb_arena.specs.Value.{listed, first_hole, end_hole, up_on, neighbour_of};
+ghost use Rattle.rb_arena.specs.Value.{first_or, last_or, front_of};
+ghost use Rattle.rb_arena.specs.Value.{IsItem, AtItem, HasAfter, HasInstead, HasLifted, LeavesOut};
+ghost use Rattle.rb_arena.specs.Value.{SumsTo, SumsWith};
+ghost use Rattle.rb_arena.specs.Value.{PlaceAfter, CanMoveAfter, SumsMoved, HasMoved};
+ghost use Rattle.rb_arena.specs.Value.{HasFront, AtFront, SumsLanded, HasLanded};
 ghost use Rattle.rb_arena.specs.Names.{HaveOwnNames};
-ghost use Rattle.rb_arena.specs.Placing.{StartsAt, HangsAfter};
+ghost use Rattle.rb_arena.specs.Placing.{Hangs, WhereHangs, HangsRight, WhereHangsRight};
 ghost use Rattle.rb_arena.specs.Searching.{Found};
+ghost use Rattle.rb_arena.specs.Nodes.{StandsBelow, AtSpotBelow, StandsWithin, AtSpotWithin};
 
 use crate::climb::{LONGEST, renew_up};
 use crate::descend::descend;
@@ -37,21 +41,21 @@ pub struct RbTree<W: Weave> {
 }
 
 impl<W: Weave> Model for RbTree<W> {
-    ghost use Rattle.rb_arena.specs.Value.{Listed, listed, listed_code, items_in, loose_in, Keeps};
+    ghost use Rattle.rb_arena.specs.Value.{Listed, listed_code, seen, KeepsWithin};
 
     ghost Value = { Listed W.Item };
 
     ghost coded = { listed_code W.Item.code };
 
-    ghost view = { λ t. listed (items_in W.weaving t.links.nodes.live t.links.root) (loose_in W.weaving t.links.nodes.live t.loose) t.links.nodes.spare };
+    ghost view = { λ t. seen W.weaving t.links t.loose };
 
-    ghost invariant = { λ t. Keeps W.weaving (W.within t.reach) W.is_item W.is_value t.links.nodes.live t.links.root t.loose };
+    ghost invariant = { λ t. KeepsWithin W.Weave t.reach t.links t.loose };
 }
 
-/// The first place of a subtree that hangs at a place.
-pub(crate) fn first_place<D: Copy>(tree: &Links<D>, from: Place, below: Option<NodeId>) -> Place
-    requires { (beside : Tree D) × ((t : Tree D) × ((k : Hole D) × StartsAt beside tree.now.nodes.live tree.now.root from below t k)) }
-    ensures { (beside t : Tree D) (k : Hole D) → StartsAt beside tree.now.nodes.live tree.now.root from below t k → result ≡ place_of (first_hole k t) }
+/// The last place on that side of a subtree that hangs at a place.
+fn end_place<D: Copy>(tree: &Links<D>, from: Place, below: Option<NodeId>, side: Side) -> Place
+    requires { Hangs tree.now from below }
+    ensures { WhereHangs tree.now from below (λ t k. result ≡ place_of (end_hole side k t)) }
 {
     let mut at = from;
     let mut next = below;
@@ -59,16 +63,24 @@ pub(crate) fn first_place<D: Copy>(tree: &Links<D>, from: Place, below: Option<N
         let Some(id) = next else {
             return at;
         };
-        at = Some((id, Side::Left));
-        next = read(&tree.nodes, id).left;
+        at = Some((id, side));
+        next = read(&tree.nodes, id).child(side);
     }
     at
 }
 
+/// The first place of a subtree that hangs at a place.
+pub(crate) fn first_place<D: Copy>(tree: &Links<D>, from: Place, below: Option<NodeId>) -> Place
+    requires { Hangs tree.now from below }
+    ensures { WhereHangs tree.now from below (λ t k. result ≡ place_of (first_hole k t)) }
+{
+    end_place(tree, from, below, Side::Left)
+}
+
 /// The place right after a node, or before all nodes.
 fn place_after<D: Copy>(tree: &Links<D>, id: Option<NodeId>) -> Place
-    requires { (beside : Tree D) × ((t : Tree D) × ((k : Hole D) × HangsAfter beside tree.now.nodes.live tree.now.root id t k)) }
-    ensures { (beside t : Tree D) (k : Hole D) → HangsAfter beside tree.now.nodes.live tree.now.root id t k → result ≡ place_of (first_hole k t) }
+    requires { HangsRight tree.now id }
+    ensures { WhereHangsRight tree.now id (λ t k. result ≡ place_of (first_hole k t)) }
 {
     match id {
         None => first_place(tree, None, tree.root),
@@ -76,57 +88,34 @@ fn place_after<D: Copy>(tree: &Links<D>, id: Option<NodeId>) -> Place
     }
 }
 
-/// The nearest node above that one that stands after it.
-fn next_above<D: Copy>(tree: &Links<D>, id: NodeId) -> Option<NodeId>
-    requires { (s : Spot D) × Made s.beside tree.now.nodes.live tree.now.root (plug s.hole (here s id)) × (depth s.hole ≤ 128) }
-    ensures { AtSpot tree.now.nodes.live tree.now.root id (λ s. depth s.hole ≤ 128 → result ≡ up_next s.hole) }
+/// The nearest node above that one that has it on that side.
+fn above_on<D: Copy>(tree: &Links<D>, id: NodeId, side: Side) -> Option<NodeId>
+    requires { StandsBelow tree.now 128 id }
+    ensures { AtSpotBelow tree.now 128 id (λ s. result ≡ up_on side s.hole) }
 {
     let mut at = place(tree, id);
     for _turn in 0..LONGEST {
         let Some(above) = at else {
             return None;
         };
-        match above.1 {
-            Side::Left => return Some(above.0),
-            Side::Right => at = place(tree, above.0),
+        if above.1 == side {
+            return Some(above.0);
         }
+        at = place(tree, above.0);
     }
     None
 }
 
-/// The last place of a subtree that hangs at a place.
-fn last_place<D: Copy>(tree: &Links<D>, from: Place, below: Option<NodeId>) -> Place
-    requires { (beside : Tree D) × ((t : Tree D) × ((k : Hole D) × StartsAt beside tree.now.nodes.live tree.now.root from below t k)) }
-    ensures { (beside t : Tree D) (k : Hole D) → StartsAt beside tree.now.nodes.live tree.now.root from below t k → result ≡ place_of (last_hole k t) }
+/// The node right beside that one in the order of the tree, on that side.
+fn neighbour<D: Copy>(tree: &Links<D>, id: NodeId, side: Side) -> Option<NodeId>
+    requires { StandsWithin tree.now 126 id }
+    ensures { AtSpotWithin tree.now 126 id (λ s. result ≡ neighbour_of side id s) }
 {
-    let mut at = from;
-    let mut next = below;
-    for _turn in 0..LONGEST {
-        let Some(id) = next else {
-            return at;
-        };
-        at = Some((id, Side::Right));
-        next = read(&tree.nodes, id).right;
+    let below = read(&tree.nodes, id).child(side);
+    if below.is_none() {
+        return above_on(tree, id, side.other());
     }
-    at
-}
-
-/// The nearest node above that one that stands before it.
-fn prev_above<D: Copy>(tree: &Links<D>, id: NodeId) -> Option<NodeId>
-    requires { (s : Spot D) × Made s.beside tree.now.nodes.live tree.now.root (plug s.hole (here s id)) × (depth s.hole ≤ 128) }
-    ensures { AtSpot tree.now.nodes.live tree.now.root id (λ s. depth s.hole ≤ 128 → result ≡ up_prev s.hole) }
-{
-    let mut at = place(tree, id);
-    for _turn in 0..LONGEST {
-        let Some(above) = at else {
-            return None;
-        };
-        match above.1 {
-            Side::Right => return Some(above.0),
-            Side::Left => at = place(tree, above.0),
-        }
-    }
-    None
+    parent_at(&end_place(tree, Some((id, side)), below, side.other()))
 }
 
 impl<W: Weave> RbTree<W> {
@@ -173,25 +162,17 @@ impl<W: Weave> RbTree<W> {
     /// The name of the item after that one.
     pub fn next(&self, id: NodeId) -> Option<NodeId>
         requires { IsItem self.now.items id }
-        ensures { (us : List (ℕ × W.Item)) (x : W.Item) (vs : List (ℕ × W.Item)) → SplitsAt self.now.items id us x vs → result ≡ first_or None vs }
+        ensures { AtItem self.now.items id (λ us x vs. result ≡ first_or None vs) }
     {
-        let right = read(&self.links.nodes, id).right;
-        if right.is_none() {
-            return next_above(&self.links, id);
-        }
-        parent_at(&first_place(&self.links, Some((id, Side::Right)), right))
+        neighbour(&self.links, id, Side::Right)
     }
 
     /// The name of the item before that one.
     pub fn prev(&self, id: NodeId) -> Option<NodeId>
         requires { IsItem self.now.items id }
-        ensures { (us : List (ℕ × W.Item)) (x : W.Item) (vs : List (ℕ × W.Item)) → SplitsAt self.now.items id us x vs → result ≡ last_or None us }
+        ensures { AtItem self.now.items id (λ us x vs. result ≡ last_or None us) }
     {
-        let left = read(&self.links.nodes, id).left;
-        if left.is_none() {
-            return prev_above(&self.links, id);
-        }
-        parent_at(&last_place(&self.links, Some((id, Side::Left)), left))
+        neighbour(&self.links, id, Side::Left)
     }
 
     /// Searches for a key: an item at which the search ends, with its name and the sum of the items before it. The search ends
@@ -210,7 +191,7 @@ impl<W: Weave> RbTree<W> {
     /// The item of that name.
     pub fn get(&self, id: NodeId) -> W::Item
         requires { IsItem self.now.items id }
-        ensures { (us : List (ℕ × W.Item)) (x : W.Item) (vs : List (ℕ × W.Item)) → SplitsAt self.now.items id us x vs → result ≡ x }
+        ensures { AtItem self.now.items id (λ us x vs. result ≡ x) }
     {
         item_at::<W>(&self.links, id)
     }
@@ -220,7 +201,7 @@ impl<W: Weave> RbTree<W> {
         requires named { IsItem self.old.items id }
         requires value { W.is_item item }
         requires sum { SumsWith W.weaving W.is_value self.old.items id item }
-        ensures items { (us : List (ℕ × W.Item)) (x : W.Item) (vs : List (ℕ × W.Item)) → SplitsAt self.old.items id us x vs → self.new.items ≡ us ++ (id, item) ∷ vs }
+        ensures items { HasInstead self.old.items self.new.items id item }
         ensures loose { self.new.loose ≡ self.old.loose }
         ensures spare { self.new.spare ≡ self.old.spare }
     {
@@ -235,7 +216,7 @@ impl<W: Weave> RbTree<W> {
         requires named { IsItem self.old.items id }
         requires value { W.is_item item }
         requires sum { SumsTo W.weaving W.is_value self.old.items id item }
-        ensures items { (us : List (ℕ × W.Item)) (x : W.Item) (vs : List (ℕ × W.Item)) → SplitsAt self.old.items id us x vs → self.new.items ≡ us ++ (id, x) ∷ (result, item) ∷ vs }
+        ensures items { HasAfter self.old.items self.new.items id (result, item) }
         ensures loose { self.new.loose ≡ self.old.loose }
         ensures spare { self.new.spare + 1 ≡ self.old.spare }
     {
@@ -259,7 +240,7 @@ impl<W: Weave> RbTree<W> {
     /// Takes the item of that name out. Its name is free again.
     pub fn remove(&mut self, id: NodeId)
         requires { IsItem self.old.items id }
-        ensures items { (us : List (ℕ × W.Item)) (x : W.Item) (vs : List (ℕ × W.Item)) → SplitsAt self.old.items id us x vs → self.new.items ≡ us ++ vs }
+        ensures items { LeavesOut self.old.items self.new.items id }
         ensures loose { self.new.loose ≡ self.old.loose }
         ensures spare { self.new.spare ≡ self.old.spare + 1 }
     {
@@ -269,9 +250,9 @@ impl<W: Weave> RbTree<W> {
     /// Moves each item after that one, or every item where none is named.
     pub fn shift_after(&mut self, id: Option<NodeId>, by: W::By)
         requires named { PlaceAfter self.old.items id }
-        requires values { (us vs : List (ℕ × W.Item)) → SplitsAfter self.old.items id us vs → AllItems W.weaving W.is_item (shifted W.weaving by vs) }
-        requires sum { (us vs : List (ℕ × W.Item)) → SplitsAfter self.old.items id us vs → W.is_value (sum_of W.weaving (us ++ shifted W.weaving by vs)) }
-        ensures items { (us vs : List (ℕ × W.Item)) → SplitsAfter self.old.items id us vs → self.new.items ≡ us ++ shifted W.weaving by vs }
+        requires values { CanMoveAfter W.Weave self.old.items id by }
+        requires sum { SumsMoved W.Weave self.old.items id by }
+        ensures items { HasMoved W.Weave self.old.items id self.new.items by }
         ensures loose { self.new.loose ≡ self.old.loose }
         ensures spare { self.new.spare ≡ self.old.spare }
     {
@@ -286,8 +267,8 @@ impl<W: Weave> RbTree<W> {
     /// Takes the item of that name out of the list, to the front of the loose ones, under its name.
     pub fn lift(&mut self, id: NodeId)
         requires { IsItem self.old.items id }
-        ensures items { (us : List (ℕ × W.Item)) (x : W.Item) (vs : List (ℕ × W.Item)) → SplitsAt self.old.items id us x vs → self.new.items ≡ us ++ vs }
-        ensures loose { (us : List (ℕ × W.Item)) (x : W.Item) (vs : List (ℕ × W.Item)) → SplitsAt self.old.items id us x vs → self.new.loose ≡ (id, x) ∷ self.old.loose }
+        ensures items { LeavesOut self.old.items self.new.items id }
+        ensures loose { HasLifted self.old self.new.loose id }
         ensures spare { self.new.spare ≡ self.old.spare }
     {
         loosen::<W>(&mut self.links, id, self.loose);
@@ -304,12 +285,12 @@ impl<W: Weave> RbTree<W> {
 
     /// Puts an item right after that one, or before all others, under the name of the front loose one, which is not loose any more.
     pub fn land_after(&mut self, id: Option<NodeId>, item: W::Item)
-        requires loose { (front : ℕ × W.Item) × ((rest : List (ℕ × W.Item)) × (self.old.loose ≡ front ∷ rest)) }
+        requires loose { HasFront self.old.loose }
         requires named { PlaceAfter self.old.items id }
         requires value { W.is_item item }
-        requires sum { (us vs : List (ℕ × W.Item)) → SplitsAfter self.old.items id us vs → W.is_value (sum_of W.weaving (us ++ (0, item) ∷ vs)) }
-        ensures items { (front : ℕ × W.Item) (rest us vs : List (ℕ × W.Item)) → self.old.loose ≡ front ∷ rest → SplitsAfter self.old.items id us vs → self.new.items ≡ us ++ (front.0, item) ∷ vs }
-        ensures loose { (front : ℕ × W.Item) (rest : List (ℕ × W.Item)) → self.old.loose ≡ front ∷ rest → self.new.loose ≡ rest }
+        requires sum { SumsLanded W.Weave self.old.items id item }
+        ensures items { HasLanded self.old self.new.items id item }
+        ensures loose { AtFront self.old.loose (λ front rest. self.new.loose ≡ rest) }
         ensures spare { self.new.spare ≡ self.old.spare }
     {
         let Some(landing) = self.loose else {

@@ -57,8 +57,10 @@ fn is_one_of(key: &str, names: &[&str]) -> bool
 
 /// Refuses what is no object, or has a field beside those of the names.
 pub(crate) fn expect_only(value: &Value, names: &[&str]) -> Result<(), LineFault>
-    ensures only { OnOk result (has_only (map (λ name. name.now) names.now) (view value.now) ≡ true) }
-    ensures other { OnErr result (has_only (map (λ name. name.now) names.now) (view value.now) ≡ false) }
+    ensures only { OnOk result
+        (has_only (map (λ name. name.now) names.now) (view value.now) ≡ true) }
+    ensures other { OnErr result
+        (has_only (map (λ name. name.now) names.now) (view value.now) ≡ false) }
     ensures syntax { IfErr result (λ fault. fault ≡ LineFault.Syntax) }
 {
     if has_only(value, names) {

@@ -1,5 +1,5 @@
 -- How long a script is at most.
-use Rattle.std.proofs.Common.{◌≡◌, ℕ, zero, suc, ◌+◌, ◌-◌, ◌*◌, ◌/◌, ◌%◌, ◌^◌, ◌<◌, ◌≤◌, ◌==◌, min, nat_lt, Bool, true, false, cond, List, [], ◌∷◌, ◌++◌, length, length-append, codes, arith}
+use Rattle.std.proofs.Common.{◌≡◌, ℕ, zero, suc, ◌+◌, ◌-◌, ◌*◌, ◌/◌, ◌^◌, ◌<◌, ◌≤◌, ◌==◌, min, nat_lt, Bool, true, false, cond, List, [], ◌++◌, length, length-append, codes, arith}
 use Rattle.std.specs.Bool.{⊤}
 use Rattle.std.specs.Fmt.{decimal}
 use Rattle.std.proofs.lemmas.Fmt.{length-decimal-le}
@@ -26,6 +26,12 @@ short_number n small = length-decimal-le 20 n (omega arith) (omega arith) (omega
 short_span : (start end : ℕ) → start < 2 ^ 33 → end < 2 ^ 33 → length (span start end) ≤ 43
 short_span start end from to =
     omega (arith, length-parts (codes "[") (decimal start) (codes ",") (decimal end) (codes "]"), short_number start from, short_number end to)
+
+-- a span, and something short behind it
+short_spanned : (front middle more back : List ℕ) (start end : ℕ) → start < 2 ^ 33 → end < 2 ^ 33 → length more ≤ 20 → length front + length middle + length back ≤ 100
+    → length (front ++ span start end ++ middle ++ more ++ back) ≤ 200
+short_spanned front middle more back start end from to short known =
+    omega (arith, length-parts front (span start end) middle more back, short_span start end from to, short, known)
 
 short_choice : (b : Bool) (x y : List ℕ) → length x ≤ 6 → length y ≤ 6 → length (cond b x y) ≤ 6
 short_choice true x y first second = first
@@ -54,22 +60,13 @@ HasFewDigits Size = ⊤
 short_line : (line : Line) → HasFewDigits line → length (line_bytes line) ≤ 200
 short_line Open few = omega arith
 short_line (Edit start end text) few =
-    omega (
-      arith,
-      length-parts (codes "{\"cmd\":\"edit\",\"ops\":[{\"at\":") (span start end) (codes ",\"text\":") (spelled text) (codes "}]}\n"),
-      short_span start end few.0 few.1,
-      short_text text,
-    )
+    short_spanned (codes "{\"cmd\":\"edit\",\"ops\":[{\"at\":") (codes ",\"text\":") (spelled text) (codes "}]}\n") start end few.0 few.1 (omega (arith, short_text text)) (omega arith)
 short_line Undo few = omega arith
 short_line Redo few = omega arith
 short_line Stop few = omega arith
 short_line (Decorate start end stick) few =
-    omega (
-      arith,
-      length-parts (codes "{\"cmd\":\"decorate\",\"owner\":1,\"remove\":[],\"add\":[{\"at\":") (span start end) (codes ",\"stick\":") (decimal stick) (codes "}]}\n"),
-      short_span start end few.0 few.1,
-      short_number stick few.2,
-    )
+    short_spanned (codes "{\"cmd\":\"decorate\",\"owner\":1,\"remove\":[],\"add\":[{\"at\":") (codes ",\"stick\":") (decimal stick) (codes "}]}\n") start end few.0 few.1
+    (short_number stick few.2) (omega arith)
 short_line (Position offset) few = omega (arith, length-three (codes "{\"cmd\":\"position\",\"offset\":") (decimal offset) (codes "}\n"), short_number offset few)
 short_line Level few = omega arith
 short_line Brackets few = omega arith

@@ -1,5 +1,5 @@
 -- Worked examples of the definitions.
-use Rattle.std.specs.Prelude.{◌≡◌, ℕ, List, ◌++◌, true, false, refl, codes}
+use Rattle.std.specs.Prelude.{◌≡◌, ℕ, List, [], ◌∷◌, map, ◌++◌, true, false, refl, codes}
 use Rattle.std.specs.Fmt.{digits}
 use Rattle.script_play.specs.declared.play.Play.{Play}
 use Rattle.script_play.specs.Draws.{next, drawn}
@@ -59,14 +59,8 @@ after_an_edit : (chosen_line 7 play).1 ≡ record { x = 13966525962577543411; un
 unfolding next
 after_an_edit = refl
 
-an_undo : line_of 8 ≡ codes "{\"cmd\":\"undo\"}\n"
-an_undo = refl
-
 after_an_undo : (chosen_line 8 play).1 ≡ record play { pending = true }
 after_an_undo = refl
-
-a_stop : line_of 9 ≡ codes "{\"cmd\":\"stop\"}\n"
-a_stop = refl
 
 a_decoration : line_of 10
     ≡ codes "{\"cmd\":\"decorate\",\"owner\":1,\"remove\":[],\"add\":[{\"at\":[19,20],\"stick\":2}]}\n"
@@ -77,18 +71,14 @@ a_position : line_of 11 ≡ codes "{\"cmd\":\"position\",\"offset\":19}\n"
 unfolding next digits
 a_position = refl
 
-a_level : line_of 12 ≡ codes "{\"cmd\":\"level\",\"line\":1,\"col\":1}\n"
-a_level = refl
-
-some_brackets : line_of 13 ≡ codes "{\"cmd\":\"brackets\",\"from\":1,\"to\":1}\n"
-some_brackets = refl
-
 some_decorations : line_of 14 ≡ codes "{\"cmd\":\"decos\",\"at\":[19,19]}\n"
 unfolding next digits
 some_decorations = refl
 
-a_size : line_of 15 ≡ codes "{\"cmd\":\"size\"}\n"
-a_size = refl
+lines_with_no_draw : map line_of (8 ∷ 9 ∷ 12 ∷ 13 ∷ 15 ∷ [])
+    ≡ codes "{\"cmd\":\"undo\"}\n" ∷ codes "{\"cmd\":\"stop\"}\n" ∷ codes "{\"cmd\":\"level\",\"line\":1,\"col\":1}\n"
+    ∷ codes "{\"cmd\":\"brackets\",\"from\":1,\"to\":1}\n" ∷ codes "{\"cmd\":\"size\"}\n" ∷ []
+lines_with_no_draw = refl
 
 a_redo : line_bytes (next_line (record play { pending = true })).0 ≡ codes "{\"cmd\":\"redo\"}\n"
 a_redo = refl

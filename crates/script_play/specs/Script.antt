@@ -9,26 +9,26 @@ use Rattle.script_play.specs.Lines.{units_of, line_bytes}
 
 -- A `Play` has the number that draws come from, the units of the text, and whether a redo is to follow.
 
+-- where a span of fewer units than this starts in the text, and how many units it has
+abbrev pub drawn_span : ℕ → Play → ℕ × ℕ
+drawn_span below old =
+    let start = drawn (next old.x) (old.units + 1) in
+    (start, min (drawn (next (next old.x)) below) (old.units - start))
+
 -- an edit of the text puts one of eight texts in the place of at most 3 units
 abbrev pub edit_line : Play → Line × Play
 edit_line old =
-    let x₁ = next old.x in
-    let x₂ = next x₁ in
-    let x₃ = next x₂ in
-    let start = drawn x₁ (old.units + 1) in
-    let removed = min (drawn x₂ 4) (old.units - start) in
+    let removed = drawn_span 4 old in
+    let x₃ = next (next (next old.x)) in
     let text = drawn x₃ 8 in
-    (Edit start (start + removed) text, record old { x = x₃; units = old.units - removed + units_of text })
+    (Edit removed.0 (removed.0 + removed.1) text, record old { x = x₃; units = old.units - removed.1 + units_of text })
 
 -- a decoration of at most 7 units, with one of four modes
 abbrev pub decorate_line : Play → Line × Play
 decorate_line old =
-    let x₁ = next old.x in
-    let x₂ = next x₁ in
-    let x₃ = next x₂ in
-    let start = drawn x₁ (old.units + 1) in
-    let taken = min (drawn x₂ 8) (old.units - start) in
-    (Decorate start (start + taken) (drawn x₃ 4), record old { x = x₃ })
+    let taken = drawn_span 8 old in
+    let x₃ = next (next (next old.x)) in
+    (Decorate taken.0 (taken.0 + taken.1) (drawn x₃ 4), record old { x = x₃ })
 
 -- a question about one offset
 abbrev pub position_line : Play → Line × Play

@@ -72,30 +72,6 @@ pub(crate) fn line_bytes(line: &Line) -> ArrayVec<u8, 128>
     }
 }
 
-fn edit_bytes(start: u32, end: u32, text: u32) -> ArrayVec<u8, 128>
-    ensures bytes { result.items ≡ line_bytes (Line.Edit start end text) }
-    ensures some { 0 < array_vec_len result }
-{
-    let mut bytes = plain(b"{\"cmd\":\"edit\",\"ops\":[{\"at\":");
-    push_span(&mut bytes, start, end);
-    push(&mut bytes, b",\"text\":");
-    push(&mut bytes, spelled(text));
-    push(&mut bytes, b"}]}\n");
-    bytes
-}
-
-fn decorate_bytes(start: u32, end: u32, stick: u32) -> ArrayVec<u8, 128>
-    ensures bytes { result.items ≡ line_bytes (Line.Decorate start end stick) }
-    ensures some { 0 < array_vec_len result }
-{
-    let mut bytes = plain(b"{\"cmd\":\"decorate\",\"owner\":1,\"remove\":[],\"add\":[{\"at\":");
-    push_span(&mut bytes, start, end);
-    push(&mut bytes, b",\"stick\":");
-    push_number(&mut bytes, stick);
-    push(&mut bytes, b"}]}\n");
-    bytes
-}
-
 fn position_bytes(offset: u32) -> ArrayVec<u8, 128>
     ensures bytes { result.items ≡ line_bytes (Line.Position offset) }
     ensures some { 0 < array_vec_len result }
@@ -106,12 +82,34 @@ fn position_bytes(offset: u32) -> ArrayVec<u8, 128>
     bytes
 }
 
+fn edit_bytes(start: u32, end: u32, text: u32) -> ArrayVec<u8, 128>
+    ensures bytes { result.items ≡ line_bytes (Line.Edit start end text) }
+    ensures some { 0 < array_vec_len result }
+{
+    let mut bytes = with_span(b"{\"cmd\":\"edit\",\"ops\":[{\"at\":", start, end);
+    push(&mut bytes, b",\"text\":");
+    push(&mut bytes, spelled(text));
+    push(&mut bytes, b"}]}\n");
+    bytes
+}
+
+fn decorate_bytes(start: u32, end: u32, stick: u32) -> ArrayVec<u8, 128>
+    ensures bytes { result.items ≡ line_bytes (Line.Decorate start end stick) }
+    ensures some { 0 < array_vec_len result }
+{
+    let front = b"{\"cmd\":\"decorate\",\"owner\":1,\"remove\":[],\"add\":[{\"at\":";
+    let mut bytes = with_span(front, start, end);
+    push(&mut bytes, b",\"stick\":");
+    push_number(&mut bytes, stick);
+    push(&mut bytes, b"}]}\n");
+    bytes
+}
+
 fn decos_bytes(at: u32) -> ArrayVec<u8, 128>
     ensures bytes { result.items ≡ line_bytes (Line.Decos at) }
     ensures some { 0 < array_vec_len result }
 {
-    let mut bytes = plain(b"{\"cmd\":\"decos\",\"at\":");
-    push_span(&mut bytes, at, at);
+    let mut bytes = with_span(b"{\"cmd\":\"decos\",\"at\":", at, at);
     push(&mut bytes, b"}\n");
     bytes
 }
@@ -124,6 +122,18 @@ fn plain(text: &[u8]) -> ArrayVec<u8, 128>
 {
     let mut bytes = ArrayVec::new();
     bytes.try_extend_from_slice(text).unwrap();
+    bytes
+}
+
+/// These bytes, and the two offsets behind them as an array.
+fn with_span(text: &[u8], start: u32, end: u32) -> ArrayVec<u8, 128>
+    requires { length text.now ≤ 60 }
+    ensures bytes { result.items ≡ text.now ++ span start end }
+    ensures least { length text.now ≤ array_vec_len result }
+    ensures most { array_vec_len result ≤ length text.now + 23 }
+{
+    let mut bytes = plain(text);
+    push_span(&mut bytes, start, end);
     bytes
 }
 

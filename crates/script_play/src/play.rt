@@ -2,7 +2,7 @@
 
 ghost use Rattle.std.specs.Prelude.{◌≡◌, ◌+◌, ◌^◌, ◌<◌, ◌≤◌};
 ghost use Rattle.script_play.specs.Draws.{next, drawn};
-ghost use Rattle.script_play.specs.Script.{edit_line, decorate_line, chosen_line, next_line};
+ghost use Rattle.script_play.specs.Script.{drawn_span, edit_line, decorate_line, chosen_line, next_line};
 
 use crate::line::{Line, units_of};
 use crate::{INCREMENT, MULTIPLIER};
@@ -65,8 +65,7 @@ impl Play {
         ensures play { self.new ≡ (edit_line self.old).1 }
         ensures units { self.new.units ≤ self.old.units + 4 }
     {
-        let start = self.draw_offset();
-        let removed = self.draw(4).min(self.units - start);
+        let (start, removed) = self.draw_span(4);
         let text = self.draw(8);
         self.units = self.units - removed + units_of(text);
         Line::Edit {
@@ -81,14 +80,26 @@ impl Play {
         ensures line { result ≡ (decorate_line self.old).0 }
         ensures play { self.new ≡ (decorate_line self.old).1 }
     {
-        let start = self.draw_offset();
-        let taken = self.draw(8).min(self.units - start);
+        let (start, taken) = self.draw_span(8);
         let stick = self.draw(4);
         Line::Decorate {
             start,
             end: start + taken,
             stick,
         }
+    }
+
+    /// Draws where a span of fewer units than this starts in the text, and how many units it has.
+    fn draw_span(&mut self, below: u32) -> (u32, u32)
+        requires units { self.old.units < 2 ^ 26 }
+        requires some { 0 < below }
+        ensures span { result ≡ drawn_span below self.old }
+        ensures within { result.0 + result.1 ≤ self.old.units }
+        ensures play { self.new ≡ record self.old { x = next (next self.old.x) } }
+    {
+        let start = self.draw_offset();
+        let count = self.draw(below).min(self.units - start);
+        (start, count)
     }
 
     /// Draws an offset of the text, which may be its end.

@@ -2,8 +2,8 @@
 
 ghost use Rattle.std.specs.Prelude.{◌≡◌, IsOk, Some};
 ghost use Rattle.script_streams.specs.Streams.{Reads};
-ghost use Rattle.script_streams.specs.Fresh.{fresh_source};
 ghost use Rattle.script_play.specs.Script.{script, IsCount};
+ghost use Rattle.script_streams.specs.Fresh.{fresh_source};
 
 use crate::supply::Supply;
 use script_streams::{Failed, Source};
@@ -24,7 +24,12 @@ impl Model for PlaySource {
 
     ghost Value = { SourceState };
 
-    ghost view = { λ s. record { left = Some (left_of s.supply); given = s.given; ended = s.ended; faults = 0 } };
+    ghost view = { λ s. record {
+      left = Some (left_of s.supply);
+      given = s.given;
+      ended = s.ended;
+      faults = 0;
+    } };
 }
 
 impl PlaySource {

@@ -8,6 +8,7 @@ ghost use Rattle.script_play.specs.Script.{script, IsCount};
 use crate::line::{Line, line_bytes};
 use crate::play::Play;
 use arrayvec::ArrayVec;
+use script_streams::copy_front;
 
 /// The line that is being given, and what the lines after it come from.
 #[derive(Drop)]
@@ -90,14 +91,4 @@ impl Supply {
         self.given = 0;
         self.lines_left -= 1;
     }
-}
-
-/// Copies what fits to the front of the buffer, and answers how many bytes that is.
-fn copy_front(bytes: &[u8], buf: &mut [u8]) -> usize
-    ensures count { result ≡ min (length bytes.now) (length buf.old) }
-    ensures front { take result buf.new ≡ take result bytes.now }
-{
-    let count = bytes.len().min(buf.len());
-    buf[..count].copy_from_slice(&bytes[..count]);
-    count
 }

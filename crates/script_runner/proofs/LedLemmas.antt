@@ -9,7 +9,7 @@ use Rattle.script_streams.specs.Streams.{SinkState, TakenWhole, Rose, greatest_c
 use Rattle.script_streams.proofs.StreamLaws.{Wrote-append, Wrote-nothing}
 use Rattle.script_runner.specs.declared.serving.Progress.{Progress}
 use Rattle.script_runner.specs.Script.{cut, is_refused, whole_lines, all_lines, written, IsInOneLine, Turn, Transcript}
-use Rattle.script_runner.specs.Progress.{IsLineSoFar, refusals, memory_refusals, Led, Went, Broke, LineAnswered, LineBroken, PieceAnswered, PieceBroken}
+use Rattle.script_runner.specs.Progress.{IsLineSoFar, refusals, memory_refusals, Led, Went, Broken, Broke, LineAnswered, LineBroken, PieceAnswered, PieceBroken}
 use Rattle.script_runner.specs.Step.{memory_reply}
 use Rattle.script_runner.proofs.CutLemmas.{cut-append_line, cut-append_break, length-all_lines}
 
@@ -104,12 +104,15 @@ module _ (doc doc' : FlatState) (progress progress' : Progress) (out out' : Sink
         ∙ ap (λ n. min n greatest_count) (sym (sum_by-append _ led.replies (answered.reply ∷ [])));
   }
 
-  pub Broke-break : (after : List ℕ) (broken : LineBroken doc progress doc' out out') → Broke doc progress (10 ∷ after) broken.sink.front doc'
-  Broke-break after broken start read written_so_far led = record {
+  -- the reply to the line that ends here broke off
+  pub broken_at : (broken : LineBroken doc progress doc' out out') (start : FlatState) (read before : List ℕ) (lines others : List (List ℕ))
+      → lines ≡ whole_lines read ++ (cut read).rest ∷ others → Led start read before doc progress
+      → Broken start lines (before ++ broken.sink.front) doc'
+  broken_at broken start read before lines others lines_are led = record {
     done = whole_lines read;
     line = (cut read).rest;
-    others = whole_lines after;
-    lines_are = ended-break read after;
+    others = others;
+    lines_are = lines_are;
     replies = led.replies;
     mid = doc;
     transcript = led.transcript;
@@ -119,6 +122,10 @@ module _ (doc doc' : FlatState) (progress progress' : Progress) (out out' : Sink
     starts = broken.sink.starts;
     out_is = ap (λ x. x ++ broken.sink.front) led.out_is;
   }
+
+  pub Broke-break : (after : List ℕ) (broken : LineBroken doc progress doc' out out') → Broke doc progress (10 ∷ after) broken.sink.front doc'
+  Broke-break after broken start read written_so_far led =
+      broken_at broken start read written_so_far _ (whole_lines after) (ended-break read after) led
 
 -- ---- a piece of the script
 

@@ -1,7 +1,7 @@
 -- What playing a script comes to.
-use Rattle.std.proofs.Common.{◌≡◌, inl, inr, ℕ, ◌+◌, ◌*◌, ◌%◌, ◌^◌, ◌<◌, ◌≤◌, List, ◌++◌, length, sum, length-append, Option, Some, None, refl, ap, sym, ◌∙◌, subst, arith}
+use Rattle.std.proofs.Common.{◌≡◌, inl, inr, ℕ, ◌+◌, ◌%◌, ◌^◌, ◌<◌, ◌≤◌, List, length, sum, length-append, Option, Some, None, refl, ap, sym, ◌∙◌, subst, arith}
 use Rattle.document_rules.specs.Document.{FlatState, empty_document, flat_line_count}
-use Rattle.script_streams.specs.Streams.{SourceState, SinkState, Tally, IsTally, tally_after, Gave, Rose}
+use Rattle.script_streams.specs.Streams.{SourceState, SinkState, Tally, tally_after, Gave, Rose}
 use Rattle.script_streams.specs.Fresh.{no_tally}
 use Rattle.script_play.specs.Script.{script, IsCount}
 use Rattle.script_play.specs.Tallies.{tally_sink}

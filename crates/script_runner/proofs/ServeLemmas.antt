@@ -15,7 +15,7 @@ use Rattle.script_runner.specs.Progress.{IsLineSoFar, refusals, memory_refusals,
 use Rattle.script_runner.specs.declared.serving.Served.{Served}
 use Rattle.script_runner.specs.declared.serving.Served.TheVariants.{Ended, ReadFault, WriteFault, TooLong}
 use Rattle.script_runner.specs.Serving.{Serves, Finishes, RoseBy, Finished, FinishBroken, ServedAll, ServedToReadFault, ServedToWriteFault, ServedToLimit}
-use Rattle.script_runner.proofs.LedLemmas.{Transcript-push, few_refusals, few_memory_refusals, counted_more, Led-start}
+use Rattle.script_runner.proofs.LedLemmas.{Transcript-push, broken_at, few_refusals, few_memory_refusals, counted_more, Led-start}
 
 -- ---- the last line
 
@@ -65,20 +65,9 @@ module _ (doc : FlatState) (progress : Progress) (doc' : FlatState) (progress' :
   pub finish_broken : LineBroken doc progress doc' out out' → FinishBroken doc progress doc' out out'
   finish_broken broken = record {
     added = broken.sink.front;
-    broke = λ start read before led. record {
-      done = whole_lines read;
-      line = (cut read).rest;
-      others = [];
-      lines_are = rw (last_line_some (cut read).rest (some_bytes progress.line.len (cut read).rest most_line_bytes led.line.len some)) refl;
-      replies = led.replies;
-      mid = doc;
-      transcript = led.transcript;
-      reply = broken.reply;
-      turn = broken.turn _ led.line;
-      front = broken.sink.front;
-      starts = broken.sink.starts;
-      out_is = ap (λ x. x ++ broken.sink.front) led.out_is;
-    };
+    broke = λ start read before led.
+        broken_at doc doc' progress progress' out out' broken start read before _ []
+        (rw (last_line_some (cut read).rest (some_bytes progress.line.len (cut read).rest most_line_bytes led.line.len some)) refl) led;
     wrote = broken.sink.wrote;
     faults = broken.sink.faults;
   }

@@ -1,9 +1,11 @@
 pub mod Step
 pub mod Script
 pub mod Bytes
+pub mod Told
 pub mod Progress
 pub mod Serving
 pub mod Words
+pub mod CommandLine
 pub mod Playing
 pub mod Runs
 mod Examples

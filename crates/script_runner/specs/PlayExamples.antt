@@ -1,6 +1,7 @@
 -- Worked examples of the words of the program and of the line that sums a played script up.
-use Rattle.std.specs.Prelude.{◌≡◌, [], ◌∷◌, codes, refl}
+use Rattle.std.specs.Prelude.{◌≡◌, ℕ, List, [], ◌∷◌, map, codes, refl}
 use Rattle.std.specs.Fmt.{digits}
+use Rattle.script_runner.specs.declared.words.Words.{Words}
 use Rattle.script_runner.specs.declared.words.Words.TheVariants.{Run, Play, NoCommand}
 use Rattle.script_runner.specs.Words.{words_command}
 use Rattle.script_runner.specs.Playing.{summary_line}
@@ -8,33 +9,27 @@ use Rattle.script_runner.specs.Playing.{summary_line}
 the_word_run : words_command (codes "run" ∷ []) ≡ Run
 the_word_run = refl
 
-a_script_to_play : words_command (codes "play" ∷ codes "12" ∷ codes "0" ∷ []) ≡ Play 12 0
-unfolding digits
-a_script_to_play = refl
+abbrev played : List ℕ → List ℕ → Words
+played count seed = words_command (codes "play" ∷ count ∷ seed ∷ [])
 
-the_greatest_numbers : words_command (codes "play" ∷ codes "10000000" ∷ codes "18446744073709551615" ∷ []) ≡ Play 10000000 18446744073709551615
-unfolding digits
-the_greatest_numbers = refl
+-- the second has the greatest numbers
+scripts_to_play : played (codes "12") (codes "0") ∷ played (codes "10000000") (codes "18446744073709551615") ∷ []
+    ≡ Play 12 0 ∷ Play 10000000 18446744073709551615 ∷ []
+scripts_to_play = refl
 
-too_many_lines : words_command (codes "play" ∷ codes "10000001" ∷ codes "0" ∷ []) ≡ NoCommand
-unfolding digits
-too_many_lines = refl
+a_plus_or_zeros : played (codes "+1") (codes "0") ∷ played (codes "001") (codes "+05") ∷ [] ≡ Play 1 0 ∷ Play 1 5 ∷ []
+a_plus_or_zeros = refl
 
-too_great_a_seed : words_command (codes "play" ∷ codes "1" ∷ codes "18446744073709551616" ∷ []) ≡ NoCommand
-unfolding digits
-too_great_a_seed = refl
+too_great_a_number : played (codes "10000001") (codes "0") ∷ played (codes "1") (codes "18446744073709551616") ∷ [] ≡ NoCommand ∷ NoCommand ∷ []
+too_great_a_number = refl
 
-a_leading_zero : words_command (codes "play" ∷ codes "01" ∷ codes "0" ∷ []) ≡ NoCommand
-unfolding digits
-a_leading_zero = refl
-
-a_sign : words_command (codes "play" ∷ codes "+1" ∷ codes "0" ∷ []) ≡ NoCommand
-unfolding digits
-a_sign = refl
-
-no_number : words_command (codes "play" ∷ [] ∷ codes "0" ∷ []) ≡ NoCommand
-unfolding digits
+-- a minus, a point, a plus alone, and nothing
+no_number : map (λ count. played count (codes "0")) (codes "-1" ∷ codes "1.0" ∷ codes "+" ∷ [] ∷ []) ≡ NoCommand ∷ NoCommand ∷ NoCommand ∷ NoCommand ∷ []
 no_number = refl
+
+dashes : map words_command ((codes "--" ∷ []) ∷ (codes "run" ∷ codes "--" ∷ []) ∷ (codes "play" ∷ codes "--" ∷ codes "5" ∷ codes "1" ∷ []) ∷ [])
+    ≡ NoCommand ∷ NoCommand ∷ NoCommand ∷ []
+dashes = refl
 
 no_seed : words_command (codes "play" ∷ codes "1" ∷ []) ≡ NoCommand
 no_seed = refl

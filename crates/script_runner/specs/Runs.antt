@@ -38,14 +38,15 @@ status_after TooLong = status.TooLong
 abbrev pub EndsWith : ℕ → (Status → Type 0) → Type 0
 EndsWith number Holds = (s : Status) × (number ≡ number_of s) × Holds s
 
--- The words are no command: the usage line was written, or a front of it where the write failed.
+-- The words are no command: the usage line was written, or a front of it where the write failed; or nothing where there
+-- was no memory to read the words.
 abbrev pub ShowsUsage : Status → SinkState → SinkState → Type 0
 ShowsUsage status.Usage err err' = Wrote err err' usage_line × (err'.faults ≡ err.faults)
 ShowsUsage status.WriteFault err err' =
     (front : List ℕ) × StartsWith usage_line front × Wrote err err' front × Rose err.faults err'.faults
+ShowsUsage status.Memory err err' = err' ≡ err
 ShowsUsage status.Answered err err' = ⊥
 ShowsUsage status.Refused err err' = ⊥
-ShowsUsage status.Memory err err' = ⊥
 ShowsUsage status.ReadFault err err' = ⊥
 ShowsUsage status.TooLong err err' = ⊥
 

@@ -1,18 +1,15 @@
 -- Which command the words of the command line are.
-use Rattle.std.specs.Prelude.{ℕ, ◌-◌, ◌^◌, ◌&&◌, not, nat_lt, if◌then◌else◌, List, [], ◌∷◌, Option, Some, None, codes, decimal}
+use Rattle.std.specs.Prelude.{ℕ, ◌-◌, ◌^◌, if◌then◌else◌, List, [], ◌∷◌, Option, Some, None, codes}
 use Rattle.std.specs.Str.{bytes_eq}
-use Rattle.std.specs.Str.Parse.{digits_value}
+use Rattle.std.specs.Str.Parse.{digits_value, without_leading_plus}
+use Rattle.clap.specs.ValueTests.{is_unsigned_in}
 use Rattle.script_play.specs.declared.TheConstants.{MOST_LINES}
 use Rattle.script_runner.specs.declared.words.Words.{Words}
 use Rattle.script_runner.specs.declared.words.Words.TheVariants.{Run, Play, NoCommand}
 
--- the number, where it is no more than the most, and the word is its decimal digits, with no sign and no 0 before them
-abbrev pub number_if : ℕ → List ℕ → ℕ → Option ℕ
-number_if most word number = if not (nat_lt most number) && bytes_eq word (decimal number) then Some number else None
-
--- the number, at most so much, that the word spells
+-- the number, at most so much, that the word spells: decimal digits, and a `+` may stand before them
 abbrev pub number_in : ℕ → List ℕ → Option ℕ
-number_in most word = number_if most word (digits_value 10 word)
+number_in most word = if is_unsigned_in 0 most word then Some (digits_value 10 (without_leading_plus word)) else None
 
 abbrev pub most_seed : ℕ
 most_seed = 2 ^ 64 - 1

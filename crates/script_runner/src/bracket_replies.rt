@@ -1,37 +1,29 @@
 //! Replies to the commands on brackets.
 
-ghost use Rattle.std.specs.Prelude.{◌≡◌, ◌++◌, false, IfOk, OnOk};
+ghost use Rattle.std.specs.Prelude.{◌≡◌, ◌++◌, IfOk, OnOk};
 ghost use Rattle.std.specs.List.{All};
 ghost use Rattle.document_rules.specs.Brackets.{IsSmall};
-ghost use Rattle.script_runner.specs.Step.{status_letter, entry_part, entries_reply, step, Answers};
-ghost use Rattle.script_runner.specs.Script.{is_refused};
-ghost use Rattle.script_runner.specs.Bytes.{bytes_of, bytes_of_outcome};
+ghost use Rattle.script_runner.specs.Step.{status_letter, entry_part, entries_reply};
+ghost use Rattle.script_runner.specs.Told.{Tells};
+ghost use Rattle.script_runner.specs.Bytes.{bytes_of};
 
-use crate::outcome::{Refused, Reply};
+use crate::outcome::{Outcome, Reply};
 use model_core::{Entry, Model, Status};
 use script_lines::{Command, Short, long_begin, long_end, long_mark, long_number};
 use std::alloc::{AllocError, Global};
 use text_lengths::Position;
 
-pub(crate) fn brackets_reply(
-    alloc: Global,
-    model: &mut Model,
-    from: u64,
-    to: u64,
-) -> Result<Reply, Refused>
-    ensures answer { Answers (step model.old.document (Command.Brackets from to)) model.old.document
-        (bytes_of_outcome result) model.new.document }
-    ensures accepted { IfOk result (λ reply. is_refused (bytes_of reply) ≡ false) }
+pub(crate) fn brackets_reply(alloc: Global, model: &mut Model, from: u64, to: u64) -> Outcome
+    ensures { Tells model.old.document (Command.Brackets from to) result model.new.document }
 {
     let mut entries = Vec::new(alloc);
     model.brackets_in(from, to, &mut entries)?;
-    let reply = list_reply(alloc, entries.as_slice())?;
-    Ok(Reply::Long(reply))
+    Ok(list_reply(alloc, entries.as_slice())?)
 }
 
-fn list_reply(alloc: Global, entries: &[Entry]) -> Result<Vec<u8>, AllocError>
+fn list_reply(alloc: Global, entries: &[Entry]) -> Result<Reply, AllocError>
     requires { All (λ e. IsSmall e.place) entries.now }
-    ensures { IfOk result (λ reply. reply.items ≡ entries_reply entries.now) }
+    ensures { IfOk result (λ reply. bytes_of reply ≡ entries_reply entries.now) }
 {
     let mut reply = Vec::new(alloc);
     long_begin(&mut reply)?;
@@ -39,7 +31,7 @@ fn list_reply(alloc: Global, entries: &[Entry]) -> Result<Vec<u8>, AllocError>
         push_entry(entry, &mut reply)?;
     }
     long_end(&mut reply)?;
-    Ok(reply)
+    Ok(Reply::Long(reply))
 }
 
 fn push_entry(entry: &Entry, reply: &mut Vec<u8>) -> Result<(), AllocError>
@@ -65,10 +57,8 @@ fn status_letter(status: Status) -> u8
     }
 }
 
-pub(crate) fn match_reply(model: &mut Model, p: Position) -> Result<Reply, Refused>
-    ensures answer { Answers (step model.old.document (Command.Match p)) model.old.document
-        (bytes_of_outcome result) model.new.document }
-    ensures accepted { IfOk result (λ reply. is_refused (bytes_of reply) ≡ false) }
+pub(crate) fn match_reply(model: &mut Model, p: Position) -> Outcome
+    ensures { Tells model.old.document (Command.Match p) result model.new.document }
 {
     match model.match_at(p)? {
         Some((partner, len)) => {
@@ -78,10 +68,8 @@ pub(crate) fn match_reply(model: &mut Model, p: Position) -> Result<Reply, Refus
     }
 }
 
-pub(crate) fn level_reply(model: &mut Model, p: Position) -> Result<Reply, Refused>
-    ensures answer { Answers (step model.old.document (Command.Level p)) model.old.document
-        (bytes_of_outcome result) model.new.document }
-    ensures accepted { IfOk result (λ reply. is_refused (bytes_of reply) ≡ false) }
+pub(crate) fn level_reply(model: &mut Model, p: Position) -> Outcome
+    ensures { Tells model.old.document (Command.Level p) result model.new.document }
 {
     let level = model.level_at(p)?;
     Ok(Reply::Short(Short::ok(&[level])))

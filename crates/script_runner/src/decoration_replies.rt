@@ -3,32 +3,27 @@
 ghost use Rattle.std.specs.Prelude.{◌≡◌, false, IfOk};
 ghost use Rattle.document_rules.specs.Document.{flat_deco};
 ghost use Rattle.script_lines.specs.Replies.{ok_reply};
-ghost use Rattle.script_runner.specs.Step.{deco_answer, deco_numbers, step, Answers};
+ghost use Rattle.script_runner.specs.Step.{deco_answer, deco_numbers};
 ghost use Rattle.script_runner.specs.Script.{is_refused};
+ghost use Rattle.script_runner.specs.Told.{Tells};
 ghost use Rattle.script_runner.specs.Bytes.{bytes_of, bytes_of_outcome};
 
-use crate::outcome::{Refused, Reply};
+use crate::outcome::{Outcome, Refused, Reply};
 use model_core::{Deco, Model};
 use script_lines::{Command, Ids, NewDecos, Refusal, Short, long_begin, long_end, long_number};
 use std::alloc::{AllocError, Global};
 use text_lengths::Span;
 
-pub(crate) fn decorate_reply(
-    model: &mut Model,
-    owner: u64,
-    remove: Ids,
-    add: NewDecos,
-) -> Result<Reply, Refused>
-    ensures answer { Answers (step model.old.document (Command.Decorate owner remove add))
-        model.old.document (bytes_of_outcome result) model.new.document }
-    ensures accepted { IfOk result (λ reply. is_refused (bytes_of reply) ≡ false) }
+pub(crate) fn decorate_reply(model: &mut Model, owner: u64, remove: Ids, add: NewDecos) -> Outcome
+    ensures { Tells model.old.document (Command.Decorate owner remove add)
+        result model.new.document }
 {
     let added = add.as_slice();
     let first = model.decorate(owner, remove.as_slice(), added)?;
     Ok(Reply::Short(Short::ok(&[first, added.len() as u64])))
 }
 
-pub(crate) fn deco_reply(model: &Model, id: u64) -> Result<Reply, Refused>
+pub(crate) fn deco_reply(model: &Model, id: u64) -> Outcome
     ensures answer { bytes_of_outcome result ≡ deco_answer (flat_deco model.now.document id) }
     ensures accepted { IfOk result (λ reply. is_refused (bytes_of reply) ≡ false) }
 {
@@ -37,24 +32,16 @@ pub(crate) fn deco_reply(model: &Model, id: u64) -> Result<Reply, Refused>
     Ok(Reply::Short(Short::ok(&[start, end, deco.stick, deco.owner])))
 }
 
-pub(crate) fn decos_reply(
-    alloc: Global,
-    model: &Model,
-    at: Span,
-    owner: Option<u64>,
-) -> Result<Reply, Refused>
-    ensures answer { Answers (step model.now.document (Command.Decos at owner)) model.now.document
-        (bytes_of_outcome result) model.now.document }
-    ensures accepted { IfOk result (λ reply. is_refused (bytes_of reply) ≡ false) }
+pub(crate) fn decos_reply(alloc: Global, model: &Model, at: Span, owner: Option<u64>) -> Outcome
+    ensures { Tells model.now.document (Command.Decos at owner) result model.now.document }
 {
     let mut found = Vec::new(alloc);
     model.decos_in(at, owner, &mut found)?;
-    let reply = list_reply(alloc, found.as_slice())?;
-    Ok(Reply::Long(reply))
+    Ok(list_reply(alloc, found.as_slice())?)
 }
 
-fn list_reply(alloc: Global, decos: &[Deco]) -> Result<Vec<u8>, AllocError>
-    ensures { IfOk result (λ reply. reply.items ≡ ok_reply (deco_numbers decos.now)) }
+fn list_reply(alloc: Global, decos: &[Deco]) -> Result<Reply, AllocError>
+    ensures { IfOk result (λ reply. bytes_of reply ≡ ok_reply (deco_numbers decos.now)) }
 {
     let mut reply = Vec::new(alloc);
     long_begin(&mut reply)?;
@@ -64,5 +51,5 @@ fn list_reply(alloc: Global, decos: &[Deco]) -> Result<Vec<u8>, AllocError>
         long_number(deco.span.end, &mut reply)?;
     }
     long_end(&mut reply)?;
-    Ok(reply)
+    Ok(Reply::Long(reply))
 }

@@ -4,7 +4,6 @@
 mod bracket_replies;
 mod decoration_replies;
 mod line;
-mod look_up;
 mod ops;
 mod outcome;
 mod playing;

@@ -33,7 +33,8 @@ impl PartialLine {
 
     /// More bytes of the line, with no LF among them.
     pub fn extend(&mut self, bytes: &[u8])
-        ensures { (line : List ℕ) → IsLineSoFar self.old line → IsLineSoFar self.new (line ++ bytes.now) }
+        ensures { (line : List ℕ) → IsLineSoFar self.old line
+            → IsLineSoFar self.new (line ++ bytes.now) }
     {
         self.is_blank = self.is_blank && is_blank(bytes);
         self.len = self

@@ -4,7 +4,6 @@ ghost use Rattle.std.specs.Prelude.{◌≡◌};
 ghost use Rattle.script_runner.specs.Bytes.{AreFound};
 ghost use Rattle.script_runner.specs.Step.{span_of, op_at, ops_at};
 
-use crate::look_up::offset_at;
 use model_core::{Model, ModelError, Op};
 use script_lines::{LineOp, LineOps, Place};
 use std::alloc::Global;
@@ -40,8 +39,8 @@ fn span_of(model: &Model, place: Place) -> Option<Span>
     match place {
         Place::At(span) => Some(span),
         Place::InRange(start, end) => {
-            let start = offset_at(model, start)?;
-            let end = offset_at(model, end)?;
+            let start = model.offset(start)?;
+            let end = model.offset(end)?;
             Some(Span { start, end })
         }
     }

@@ -35,17 +35,26 @@ impl Reply {
 #[derive(Clone, Copy)]
 pub(crate) struct Refused(pub Refusal);
 
+/// What comes of a line.
+pub(crate) type Outcome = Result<Reply, Refused>;
+
 impl From<ModelError> for Refused {
     ghost from_gives = { λ error refused. refused ≡ record { 0 = refusal_of error } };
 
     fn from(error: ModelError) -> Refused {
-        match error {
-            ModelError::Unknown => Refused(Refusal::Unknown),
-            ModelError::Range => Refused(Refusal::Range),
-            ModelError::Overlap => Refused(Refusal::Overlap),
-            ModelError::Limit => Refused(Refusal::Limit),
-            ModelError::Memory => Refused(Refusal::Memory),
-        }
+        Refused(refusal_of(error))
+    }
+}
+
+fn refusal_of(error: ModelError) -> Refusal
+    ensures { result ≡ refusal_of error }
+{
+    match error {
+        ModelError::Unknown => Refusal::Unknown,
+        ModelError::Range => Refusal::Range,
+        ModelError::Overlap => Refusal::Overlap,
+        ModelError::Limit => Refusal::Limit,
+        ModelError::Memory => Refusal::Memory,
     }
 }
 
@@ -69,10 +78,7 @@ impl From<AllocError> for Refused {
 }
 
 /// Writes the reply whole, or the one that tells the refusal.
-pub(crate) fn write_outcome<K: Sink>(
-    outcome: &Result<Reply, Refused>,
-    out: &mut K,
-) -> Result<(), Failed>
+pub(crate) fn write_outcome<K: Sink>(outcome: &Outcome, out: &mut K) -> Result<(), Failed>
     ensures { WritesWhole result (K.state out.old) (K.state out.new)
         (bytes_of_outcome outcome.now) }
 {

@@ -5,17 +5,17 @@ ghost use Rattle.bracket_rules.specs.Table.{standard_table};
 ghost use Rattle.document_rules.specs.Document.{flat_offset, flat_position};
 ghost use Rattle.script_lines.specs.Commands.{command_of};
 ghost use Rattle.script_lines.specs.Replies.{none_reply, text_reply};
-ghost use Rattle.script_runner.specs.Step.{change_reply, offset_answer, position_answer, step, Answers};
+ghost use Rattle.script_runner.specs.Step.{change_reply, offset_answer, position_answer};
 ghost use Rattle.script_runner.specs.Script.{Turn, commanded, is_refused};
 ghost use Rattle.script_runner.specs.Progress.{IsLineSoFar};
+ghost use Rattle.script_runner.specs.Told.{Tells, TellsBy};
 ghost use Rattle.script_runner.specs.Bytes.{bytes_of, bytes_of_outcome};
 
 use crate::bracket_replies::{brackets_reply, level_reply, match_reply};
 use crate::decoration_replies::{deco_reply, decorate_reply, decos_reply};
 use crate::line::PartialLine;
-use crate::look_up::{offset_at, position_at};
 use crate::ops::ops_at;
-use crate::outcome::{Refused, Reply};
+use crate::outcome::{Outcome, Refused, Reply};
 use crate::snapshot_replies::{close_reply, read_reply, snapshot_reply, stops_reply};
 use model_core::{BracketTable, Model};
 use script_lines::{Command, LineOps, Refusal, Short, command_of, long_begin, long_end, long_text};
@@ -23,11 +23,7 @@ use std::alloc::{AllocError, Global};
 use text_lengths::{Position, Span};
 
 /// Answers the line as far as its bytes are known.
-pub(crate) fn reply_to(
-    alloc: Global,
-    model: &mut Model,
-    line: &PartialLine,
-) -> Result<Reply, Refused>
+pub(crate) fn reply_to(alloc: Global, model: &mut Model, line: &PartialLine) -> Outcome
     ensures turn { (bytes : List ℕ) → IsLineSoFar line.now bytes
         → Turn model.old.document bytes (bytes_of_outcome result) model.new.document }
     ensures accepted { IfOk result (λ reply. is_refused (bytes_of reply) ≡ false) }
@@ -44,19 +40,16 @@ pub(crate) fn reply_to(
     reply_to_bytes(alloc, model, line.bytes.as_slice())
 }
 
-fn reply_to_bytes(alloc: Global, model: &mut Model, line: &[u8]) -> Result<Reply, Refused>
-    ensures answer { Answers (commanded model.old.document (command_of line.now)) model.old.document
-        (bytes_of_outcome result) model.new.document }
-    ensures accepted { IfOk result (λ reply. is_refused (bytes_of reply) ≡ false) }
+fn reply_to_bytes(alloc: Global, model: &mut Model, line: &[u8]) -> Outcome
+    ensures { TellsBy (commanded model.old.document (command_of line.now))
+        model.old.document result model.new.document }
 {
     let command = command_of(alloc, line)?;
     carry_out(alloc, model, command)
 }
 
-fn carry_out(alloc: Global, model: &mut Model, command: Command) -> Result<Reply, Refused>
-    ensures answer { Answers (step model.old.document command) model.old.document
-        (bytes_of_outcome result) model.new.document }
-    ensures accepted { IfOk result (λ reply. is_refused (bytes_of reply) ≡ false) }
+fn carry_out(alloc: Global, model: &mut Model, command: Command) -> Outcome
+    ensures { Tells model.old.document command result model.new.document }
 {
     match command {
         Command::Open { text, brackets } => open_reply(model, text.as_slice(), brackets),
@@ -89,14 +82,8 @@ fn carry_out(alloc: Global, model: &mut Model, command: Command) -> Result<Reply
     }
 }
 
-fn open_reply(
-    model: &mut Model,
-    text: &[u16],
-    brackets: Option<BracketTable>,
-) -> Result<Reply, Refused>
-    ensures answer { Answers (step model.old.document (Command.Open text.now brackets))
-        model.old.document (bytes_of_outcome result) model.new.document }
-    ensures accepted { IfOk result (λ reply. is_refused (bytes_of reply) ≡ false) }
+fn open_reply(model: &mut Model, text: &[u16], brackets: Option<BracketTable>) -> Outcome
+    ensures { Tells model.old.document (Command.Open text.now brackets) result model.new.document }
 {
     model.open_doc(text, table_of(brackets))?;
     Ok(change_reply(model))
@@ -112,29 +99,23 @@ fn table_of(brackets: Option<BracketTable>) -> BracketTable
     }
 }
 
-fn edit_reply(alloc: Global, model: &mut Model, ops: LineOps) -> Result<Reply, Refused>
-    ensures answer { Answers (step model.old.document (Command.Edit ops)) model.old.document
-        (bytes_of_outcome result) model.new.document }
-    ensures accepted { IfOk result (λ reply. is_refused (bytes_of reply) ≡ false) }
+fn edit_reply(alloc: Global, model: &mut Model, ops: LineOps) -> Outcome
+    ensures { Tells model.old.document (Command.Edit ops) result model.new.document }
 {
     let ops = ops_at(alloc, model, ops)?;
     model.edit(&ops)?;
     Ok(change_reply(model))
 }
 
-fn undo_reply(model: &mut Model) -> Result<Reply, Refused>
-    ensures answer { Answers (step model.old.document Command.Undo) model.old.document
-        (bytes_of_outcome result) model.new.document }
-    ensures accepted { IfOk result (λ reply. is_refused (bytes_of reply) ≡ false) }
+fn undo_reply(model: &mut Model) -> Outcome
+    ensures { Tells model.old.document Command.Undo result model.new.document }
 {
     let is_moved = model.undo()?;
     Ok(move_reply(is_moved, model))
 }
 
-fn redo_reply(model: &mut Model) -> Result<Reply, Refused>
-    ensures answer { Answers (step model.old.document Command.Redo) model.old.document
-        (bytes_of_outcome result) model.new.document }
-    ensures accepted { IfOk result (λ reply. is_refused (bytes_of reply) ≡ false) }
+fn redo_reply(model: &mut Model) -> Outcome
+    ensures { Tells model.old.document Command.Redo result model.new.document }
 {
     let is_moved = model.redo()?;
     Ok(move_reply(is_moved, model))
@@ -157,51 +138,45 @@ fn move_reply(is_moved: bool, model: &Model) -> Reply
     }
 }
 
-fn line_reply(alloc: Global, model: &Model, n: u64) -> Result<Reply, Refused>
-    ensures answer { Answers (step model.now.document (Command.Line n)) model.now.document
-        (bytes_of_outcome result) model.now.document }
-    ensures accepted { IfOk result (λ reply. is_refused (bytes_of reply) ≡ false) }
+fn line_reply(alloc: Global, model: &Model, n: u64) -> Outcome
+    ensures { Tells model.now.document (Command.Line n) result model.now.document }
 {
     let mut units = Vec::new(alloc);
     model.line(n, &mut units)?;
-    let reply = text_reply(alloc, units.as_slice())?;
-    Ok(Reply::Long(reply))
+    Ok(text_reply(alloc, units.as_slice())?)
 }
 
-fn value_reply(alloc: Global, model: &Model, span: Span) -> Result<Reply, Refused>
-    ensures answer { Answers (step model.now.document (Command.Value span)) model.now.document
-        (bytes_of_outcome result) model.now.document }
-    ensures accepted { IfOk result (λ reply. is_refused (bytes_of reply) ≡ false) }
+fn value_reply(alloc: Global, model: &Model, span: Span) -> Outcome
+    ensures { Tells model.now.document (Command.Value span) result model.now.document }
 {
     let mut units = Vec::new(alloc);
     model.value(span, &mut units)?;
-    let reply = text_reply(alloc, units.as_slice())?;
-    Ok(Reply::Long(reply))
+    Ok(text_reply(alloc, units.as_slice())?)
 }
 
-fn offset_reply(model: &Model, p: Position) -> Result<Reply, Refused>
+fn offset_reply(model: &Model, p: Position) -> Outcome
     ensures answer { bytes_of_outcome result ≡ offset_answer (flat_offset model.now.document p) }
     ensures accepted { IfOk result (λ reply. is_refused (bytes_of reply) ≡ false) }
 {
-    let offset = offset_at(model, p).ok_or(Refused(Refusal::Range))?;
+    let offset = model.offset(p).ok_or(Refused(Refusal::Range))?;
     Ok(Reply::Short(Short::ok(&[offset])))
 }
 
-fn position_reply(model: &Model, offset: u64) -> Result<Reply, Refused>
+fn position_reply(model: &Model, offset: u64) -> Outcome
     ensures answer { bytes_of_outcome result
         ≡ position_answer (flat_position model.now.document offset) }
     ensures accepted { IfOk result (λ reply. is_refused (bytes_of reply) ≡ false) }
 {
-    let p = position_at(model, offset).ok_or(Refused(Refusal::Range))?;
+    let p = model.position(offset).ok_or(Refused(Refusal::Range))?;
     Ok(Reply::Short(Short::ok(&[p.line, p.column])))
 }
 
-pub(crate) fn text_reply(alloc: Global, units: &[u16]) -> Result<Vec<u8>, AllocError>
-    ensures { IfOk result (λ reply. reply.items ≡ text_reply units.now) }
+pub(crate) fn text_reply(alloc: Global, units: &[u16]) -> Result<Reply, AllocError>
+    ensures { IfOk result (λ reply. bytes_of reply ≡ text_reply units.now) }
 {
     let mut reply = Vec::with_capacity(alloc, units.len() + 6)?;
     long_begin(&mut reply)?;
     long_text(units, &mut reply)?;
     long_end(&mut reply)?;
-    Ok(reply)
+    Ok(Reply::Long(reply))
 }

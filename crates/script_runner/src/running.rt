@@ -32,7 +32,7 @@ pub(crate) enum Status {
     Refused = 1,
     /// The words are no command.
     Usage = 2,
-    /// There was no memory to begin with.
+    /// There was no memory to read the words or to begin with.
     Memory = 3,
     ReadFault = 4,
     WriteFault = 5,
@@ -41,13 +41,14 @@ pub(crate) enum Status {
 }
 
 /// Does what the words say, and gives the status to end with: 0 or 1 where the script was answered, 1 where some line
-/// was refused; 2 where the words are no command, with the usage line on `err`; 3 where there was no memory to begin
-/// with, and nothing was read or written; 4 where a read and 5 where a write failed; 6 where the script is longer than
-/// the limit of 2^40 - 1 bytes. The words come without the program's name.
+/// was refused; 2 where the words are no command, with the usage line on `err`; 3 where there was no memory to read
+/// the words or to begin with, and nothing was read or written; 4 where a read and 5 where a write failed; 6 where the
+/// script is longer than the limit of 2^40 - 1 bytes. The words come without the program's name.
 ///
 /// `run` answers the script of `src` on `out`. `play COUNT SEED` answers the script that the two numbers stand for, with
 /// at most [`MOST_LINES`](script_play::MOST_LINES) lines, and writes one line on `out` that sums the replies up; 3 also
 /// where a reply is `! memory`, and nothing is written then; never 4 nor 6.
+#[tactic(auto, using(crate::proofs::DecidedLemmas::decided, crate::proofs::DecidedLemmas::never_memory))]
 pub fn run_words<S: Source, K: Sink, E: Sink>(
     alloc: Global,
     words: &[String],
@@ -74,15 +75,18 @@ pub fn run_words<S: Source, K: Sink, E: Sink>(
         → Transcript start lines replies end → IsDecided start lines replies end }
 
     // What stands at each status, for streams that tell and for others.
-    ensures run { words_command (map string_bytes words.now) ≡ Words.Run → EndsWith result (λ status.
+    ensures run { words_command (map string_bytes words.now) ≡ Words.Run
+        → EndsWith result (λ status.
         Runs status (S.state src.old) (S.state src.new) (K.state out.old) (K.state out.new)) }
-    ensures play { (count seed : ℕ) → words_command (map string_bytes words.now) ≡ Words.Play count seed
+    ensures play { (count seed : ℕ)
+        → words_command (map string_bytes words.now) ≡ Words.Play count seed
         → EndsWith result (λ status. Plays status count seed (K.state out.old) (K.state out.new)) }
-    ensures usage { words_command (map string_bytes words.now) ≡ Words.NoCommand → EndsWith result (λ status.
-        ShowsUsage status (E.state err.old) (E.state err.new)) }
+    ensures usage { words_command (map string_bytes words.now) ≡ Words.NoCommand
+        → EndsWith result (λ status. ShowsUsage status (E.state err.old) (E.state err.new)) }
 
     // Each command leaves alone what is not its own.
-    ensures run_leaves_err { words_command (map string_bytes words.now) ≡ Words.Run → err.new ≡ err.old }
+    ensures run_leaves_err { words_command (map string_bytes words.now) ≡ Words.Run
+        → err.new ≡ err.old }
     ensures play_leaves_source { (count seed : ℕ)
         → words_command (map string_bytes words.now) ≡ Words.Play count seed → src.new ≡ src.old }
     ensures play_leaves_err { (count seed : ℕ)
@@ -96,16 +100,18 @@ pub fn run_words<S: Source, K: Sink, E: Sink>(
     // that is played is, unless memory is wanting.
     ensures complete { words_command (map string_bytes words.now) ≡ Words.Run
         → ((s : S) → (S.state s).faults ≡ 0)
-        → ((k : K) → (K.state k).faults ≡ 0) → (script : List ℕ) → (S.state src.old).left ≡ Some script
+        → ((k : K) → (K.state k).faults ≡ 0)
+        → (script : List ℕ) → (S.state src.old).left ≡ Some script
         → length script < most_script_bytes → (result ≤ 1) ⊎ (result ≡ 3) }
     ensures play_complete { (count seed : ℕ)
         → words_command (map string_bytes words.now) ≡ Words.Play count seed
         → ((k : K) → (K.state k).faults ≡ 0) → (result ≤ 1) ⊎ (result ≡ 3) }
 {
-    match words_of(words) {
-        Words::Run => number_of(run(alloc, src, out)),
-        Words::Play { count, seed } => number_of(play(alloc, count, seed, out)),
-        Words::NoCommand => number_of(usage(err)),
+    match words_of(alloc, words) {
+        Ok(Words::Run) => number_of(run(alloc, src, out)),
+        Ok(Words::Play { count, seed }) => number_of(play(alloc, count, seed, out)),
+        Ok(Words::NoCommand) => number_of(usage(err)),
+        Err(_) => number_of(Status::Memory),
     }
 }
 

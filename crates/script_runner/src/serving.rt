@@ -8,7 +8,7 @@ ghost use Rattle.script_runner.specs.Progress.{IsLineSoFar, AnswersLine, Answers
 ghost use Rattle.script_runner.specs.Serving.{Serves, Finishes};
 
 use crate::line::PartialLine;
-use crate::outcome::{Refused, Reply, write_outcome};
+use crate::outcome::{Outcome, Refused, write_outcome};
 use crate::reply::reply_to;
 use memchr::memchr;
 use model_core::Model;
@@ -61,7 +61,7 @@ impl Progress {
     }
 
     /// Counts a refusal, and one for want of memory.
-    fn count(&mut self, outcome: &Result<Reply, Refused>)
+    fn count(&mut self, outcome: &Outcome)
         ensures line { self.new.line ≡ self.old.line }
         ensures refused { self.new.refused ≡ min
             (self.old.refused + (if is_err outcome.now then 1 else 0)) greatest_count }
@@ -75,7 +75,7 @@ impl Progress {
     }
 }
 
-fn is_for_memory(outcome: &Result<Reply, Refused>) -> bool
+fn is_for_memory(outcome: &Outcome) -> bool
     ensures { result ≡ is_for_memory outcome.now }
 {
     matches!(outcome, Err(Refused(Refusal::Memory)))
@@ -115,7 +115,8 @@ pub fn serve<S: Source, K: Sink>(
 
 /// Answers the last line, if the script does not end with LF.
 fn finish<K: Sink>(alloc: Global, model: &mut Model, mut progress: Progress, out: &mut K) -> Served
-    ensures { Finishes result model.old.document progress model.new.document (K.state out.old) (K.state out.new) }
+    ensures { Finishes result model.old.document progress model.new.document
+        (K.state out.old) (K.state out.new) }
 {
     if progress.line.len == 0 {
         return progress.ended();
@@ -151,8 +152,8 @@ fn answer_piece<K: Sink>(
     piece: &[u8],
     out: &mut K,
 ) -> Result<(), Failed>
-    ensures { AnswersPiece result piece.now model.old.document progress.old model.new.document progress.new
-        (K.state out.old) (K.state out.new) }
+    ensures { AnswersPiece result piece.now model.old.document progress.old
+        model.new.document progress.new (K.state out.old) (K.state out.new) }
 {
     let mut rest = piece;
     while let Some((line, after)) = split_line(rest) {

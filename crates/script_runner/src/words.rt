@@ -1,12 +1,19 @@
 //! Which command the words of the command line are.
 
-ghost use Rattle.std.specs.Prelude.{◌≡◌, ◌≤◌, ℕ, [], ◌∷◌, IfSome, map, string_bytes, decimal};
+ghost use Rattle.std.specs.Prelude.{◌≡◌, ◌≤◌, ℕ, [], ◌∷◌, Ok, false, IfSome, IfOk, map, string_bytes, codes};
+ghost use Rattle.std.specs.List.{list_any};
 ghost use Rattle.std.specs.Str.{bytes_eq};
+ghost use Rattle.clap.specs.Walk.{rows_of, rule_of};
+ghost use Rattle.clap.specs.Words.{app_of, found_of, subcommand_rows_of};
+ghost use Rattle.clap.specs.declared.builder.command.Command.TheViews.{out-Command};
 ghost use Rattle.script_play.specs.Script.{IsCount};
-ghost use Rattle.script_runner.specs.Words.{number_if, number_in, words_command};
+ghost use Rattle.script_runner.specs.Words.{words_command};
+ghost use Rattle.script_runner.specs.CommandLine.{command_found, command_line, number_at, number_rule, play_line, played};
 
-use itoa::Buffer;
+use clap::error::ErrorKind;
+use clap::{Arg, ArgMatches, Command, value_parser};
 use script_play::MOST_LINES;
+use std::alloc::{AllocError, Global};
 
 /// What the words ask for.
 #[derive(Clone, Copy, PartialEq, Eq, Debug)]
@@ -19,39 +26,85 @@ pub(crate) enum Words {
     NoCommand,
 }
 
-/// The command that the words are.
-pub(crate) fn words_of(words: &[String]) -> Words
-    ensures command { result ≡ words_command (map string_bytes words.now) }
-    ensures count { (count seed : ℕ) → result ≡ Words.Play count seed → IsCount count }
+/// The command that the words are; an error where there is no memory to read them.
+pub(crate) fn words_of(alloc: Global, words: &[String]) -> Result<Words, AllocError>
+    ensures command { IfOk result (λ command.
+        command ≡ words_command (map string_bytes words.now)) }
+    ensures count { (count seed : ℕ) → result ≡ Ok (Words.Play count seed) → IsCount count }
 {
-    match words {
-        [word] => run_of(word.as_str()),
-        [word, count, seed] => play_of(word.as_str(), count.as_str(), seed.as_str()),
-        _ => Words::NoCommand,
+    // clap would pass over `--`.
+    if has_dashes(words) {
+        return Ok(Words::NoCommand);
+    }
+    match command_line(alloc)?.try_get_matches_from(words) {
+        Ok(matches) => Ok(command_found(&matches)),
+        Err(error) if error.kind() == ErrorKind::OutOfMemory => Err(AllocError),
+        Err(_) => Ok(Words::NoCommand),
     }
 }
 
-fn run_of(word: &str) -> Words
-    ensures command { result ≡ words_command (word.now ∷ []) }
-    ensures other { (count seed : ℕ) → result ≡ Words.Play count seed → ⊥ }
+fn has_dashes(words: &[String]) -> bool
+    ensures { result ≡ list_any (λ word. bytes_eq (string_bytes word) (codes "--")) words.now }
 {
-    if word == "run" {
-        return Words::Run;
-    }
-    Words::NoCommand
+    words.iter().any(|word| word.as_str() == "--")
 }
 
-fn play_of(word: &str, count: &str, seed: &str) -> Words
-    ensures command { result ≡ words_command (word.now ∷ count.now ∷ seed.now ∷ []) }
+/// What clap is told of the command line.
+fn command_line<'a>(alloc: Global) -> Result<Command<'a>, AllocError>
+    ensures { IfOk result (λ command. app_of command ≡ command_line) }
+{
+    Command::new(alloc, "textmodel")
+        .no_binary_name(true)
+        .disable_help_flag(true)
+        .disable_help_subcommand(true)
+        .subcommand_required(true)
+        .subcommand(Command::new(alloc, "run"))?
+        .subcommand(play_line(alloc)?)
+}
+
+fn play_line<'a>(alloc: Global) -> Result<Command<'a>, AllocError>
+    ensures app { IfOk result (λ command. app_of command ≡ play_line) }
+    ensures own { IfOk result (λ command. (out-Command command).has_globals ≡ false) }
+{
+    Command::new(alloc, "play")
+        .arg(number_line(alloc, "COUNT"))?
+        .arg(number_line(alloc, "SEED"))
+}
+
+fn number_line<'a>(alloc: Global, id: &'a str) -> Arg<'a>
+    ensures rule { rule_of result ≡ number_rule id.now }
+    ensures own { result.global ≡ false }
+{
+    Arg::new(alloc, id)
+        .required(true)
+        .value_parser(value_parser!(u64))
+}
+
+/// The command that clap found.
+fn command_found(matches: &ArgMatches) -> Words
+    ensures command { result ≡ command_found (subcommand_rows_of matches.now) }
     ensures count { (count seed : ℕ) → result ≡ Words.Play count seed → IsCount count }
 {
-    if word != "play" {
-        return Words::NoCommand;
+    match matches.subcommand() {
+        Some((name, given)) => {
+            if name == "run" {
+                Words::Run
+            } else {
+                played(given)
+            }
+        }
+        None => Words::NoCommand,
     }
-    let Some(count) = number_in(u64::from(MOST_LINES), count) else {
+}
+
+fn played(given: &ArgMatches) -> Words
+    ensures command { result ≡ played (rows_of (found_of given.now)) }
+    ensures count { (count seed : ℕ) → result ≡ Words.Play count seed → IsCount count }
+{
+    let Some(count) = number_at(u64::from(MOST_LINES), given, "COUNT") else {
         return Words::NoCommand;
     };
-    let Some(seed) = number_in(u64::MAX, seed) else {
+    let Some(seed) = number_at(u64::MAX, given, "SEED") else {
         return Words::NoCommand;
     };
     Words::Play {
@@ -60,30 +113,10 @@ fn play_of(word: &str, count: &str, seed: &str) -> Words
     }
 }
 
-/// The number, at most so much, that the word spells in decimal digits, with no sign and no 0 before them.
-fn number_in(most: u64, word: &str) -> Option<u64>
-    ensures number { result ≡ number_in most word.now }
+fn number_at(most: u64, given: &ArgMatches, id: &str) -> Option<u64>
+    ensures number { result ≡ number_at most id.now (rows_of (found_of given.now)) }
     ensures within { IfSome result (λ number. number ≤ most) }
 {
-    match word.parse() {
-        Ok(number) => number_if(most, word, number),
-        Err(_) => None,
-    }
-}
-
-fn number_if(most: u64, word: &str, number: u64) -> Option<u64>
-    ensures number { result ≡ number_if most word.now number }
-    ensures within { IfSome result (λ number. number ≤ most) }
-{
-    if number <= most && is_spelled(word, number) {
-        return Some(number);
-    }
-    None
-}
-
-fn is_spelled(word: &str, number: u64) -> bool
-    ensures { result ≡ bytes_eq word.now (decimal number) }
-{
-    let mut buffer = Buffer::new();
-    word == buffer.format(number)
+    let number = given.get_one(id)?;
+    (number <= most).then_some(number)
 }

@@ -1,11 +1,13 @@
 //! Where a script comes from and where its replies go: the traits, and streams over std's readers and writers.
 #![tactic(auto)]
 
+mod front;
 mod standard;
 mod whole;
 
 ghost use Rattle.script_streams.specs.Streams.{SourceState, SinkState, Reads, Writes};
 
+pub use front::copy_front;
 pub use standard::{StdSink, StdSource};
 use thiserror::Error;
 pub use whole::write_whole;

@@ -26,7 +26,12 @@ impl<R> Model for StdSource<R> {
 
     ghost Value = { SourceState };
 
-    ghost view = { λ s. record { left = None; given = s.given; ended = s.ended; faults = s.faults } };
+    ghost view = { λ s. record {
+      left = None;
+      given = s.given;
+      ended = s.ended;
+      faults = s.faults;
+    } };
 }
 
 impl<R> StdSource<R> {
@@ -91,7 +96,12 @@ impl<W: Write> Model for StdSink<W> {
 
     ghost Value = { SinkState };
 
-    ghost view = { λ s. record { taken = W.contents s.writer; room = 0; faults = s.faults; tally = None } };
+    ghost view = { λ s. record {
+      taken = W.contents s.writer;
+      room = 0;
+      faults = s.faults;
+      tally = None;
+    } };
 
     ghost invariant = { λ _. TellsAlwaysOrNever W.contents };
 }

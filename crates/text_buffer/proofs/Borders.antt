@@ -24,7 +24,7 @@ ends_with-append unit (u ∷ []) [] h = absurd (omega arith)
 ends_with-append unit (u ∷ []) (v ∷ y) h = refl
 ends_with-append unit (u ∷ w ∷ x) y h = ends_with-append unit (w ∷ x) y h
 
-ends_with-drop : (unit n : ℕ) (x : List ℕ) → n < length x → ends_with unit (drop n x) ≡ ends_with unit x
+pub ends_with-drop : (unit n : ℕ) (x : List ℕ) → n < length x → ends_with unit (drop n x) ≡ ends_with unit x
 ends_with-drop unit zero x h = refl
 ends_with-drop unit (suc n) [] h = absurd (omega arith)
 ends_with-drop unit (suc n) (u ∷ []) h = absurd (omega arith)
@@ -36,10 +36,10 @@ begins_with-take (suc n) x [] e = e
 begins_with-take (suc n) x (u ∷ y) e = e
 
 module _ (b : List (List ℕ)) where
-  some_units : (p : Piece) → IsPieceOf b p → 0 < p.span.units → 0 < length (units_at b p.span)
+  pub some_units : (p : Piece) → IsPieceOf b p → 0 < p.span.units → 0 < length (units_at b p.span)
   some_units p is h = omega (arith, length-units_at b p.span is.inside)
 
-  some_spelled : (q : Piece) (ps : List Piece) → All (IsPieceOf b) (q ∷ ps) → All (λ (p : Piece). 0 < p.span.units) (q ∷ ps)
+  pub some_spelled : (q : Piece) (ps : List Piece) → All (IsPieceOf b) (q ∷ ps) → All (λ (p : Piece). 0 < p.span.units) (q ∷ ps)
       → 0 < length (spelled b (q ∷ ps))
   some_spelled q ps all full =
       let head = some_units q (All-head (IsPieceOf b) q ps all) (All-head (λ (p : Piece). 0 < p.span.units) q ps full) in
@@ -142,27 +142,26 @@ module _ (b : List (List ℕ)) where
         ]
       ]
 
-  pub length-front : (n : ℕ) (ps : List Piece) → length (front b n ps) ≤ length ps
-  length-front n [] = omega arith
-  length-front n (p ∷ ps) =
+  length-cut : (n : ℕ) (ps : List Piece) → (length (front b n ps) ≤ length ps) × (length (back b n ps) ≤ length ps)
+  length-cut n [] = (omega arith, omega arith)
+  length-cut n (p ∷ ps) =
       elim (cases_lt n p.span.units) [
-        | inr past ↦ omega (arith, ap length (front_past b n p ps past), length-front (n - p.span.units) ps)
+        | inr past ↦ (let more : (length (front b (n - p.span.units) ps) ≤ length ps) × (length (back b (n - p.span.units) ps) ≤ length ps) = length-cut (n - p.span.units) ps in
+            (omega (arith, ap length (front_past b n p ps past), more.0), omega (arith, ap length (back_past b n p ps past), more.1)))
         | inl within ↦ elim (cases_eq n 0) [
-          | inl none ↦ omega (arith, ap length (ap (λ (k : ℕ). front b k (p ∷ ps)) none ∙ front_none b p ps (omega arith)))
-          | inr some ↦ omega (arith, ap length (front_part b n p ps (omega arith) within))
+          | inl none ↦ (
+            omega (arith, ap length (ap (λ (k : ℕ). front b k (p ∷ ps)) none ∙ front_none b p ps (omega arith))),
+            omega (arith, ap length (ap (λ (k : ℕ). back b k (p ∷ ps)) none ∙ back_none b p ps (omega arith))),
+          )
+          | inr some ↦ (omega (arith, ap length (front_part b n p ps (omega arith) within)), omega (arith, ap length (back_part b n p ps (omega arith) within)))
         ]
       ]
 
-  length-back : (n : ℕ) (ps : List Piece) → length (back b n ps) ≤ length ps
-  length-back n [] = omega arith
-  length-back n (p ∷ ps) =
-      elim (cases_lt n p.span.units) [
-        | inr past ↦ omega (arith, ap length (back_past b n p ps past), length-back (n - p.span.units) ps)
-        | inl within ↦ elim (cases_eq n 0) [
-          | inl none ↦ omega (arith, ap length (ap (λ (k : ℕ). back b k (p ∷ ps)) none ∙ back_none b p ps (omega arith)))
-          | inr some ↦ omega (arith, ap length (back_part b n p ps (omega arith) within))
-        ]
-      ]
+  pub length-front : (n : ℕ) (ps : List Piece) → length (front b n ps) ≤ length ps
+  length-front n ps = (length-cut n ps).0
+
+  pub length-back : (n : ℕ) (ps : List Piece) → length (back b n ps) ≤ length ps
+  length-back n ps = (length-cut n ps).1
 
   -- at most one piece is in both parts
   pub length-parts : (n m : ℕ) (ps : List Piece) → n ≤ m → length (front b n ps) + length (back b m ps) ≤ length ps + 1

@@ -7,19 +7,17 @@ use Rattle.std.proofs.lemmas.List.Elements.{All-cons, All-nil, All-append}
 use Rattle.chunk_buffers.specs.declared.span.ChunkSpan.{ChunkSpan}
 use Rattle.chunk_buffers.specs.Chunks.{units_at, LiesIn, Extends}
 use Rattle.piece_tree.specs.declared.piece.Piece.{Piece}
-use Rattle.piece_tree.specs.Pieces.{unit_count, piece_of, piece_list, IsPieceOf, front, back, spliced}
-use Rattle.piece_tree.proofs.Cuts.{pieces-front, pieces-spliced}
+use Rattle.piece_tree.specs.Pieces.{unit_count, piece_of, piece_list, followed_by, IsPieceOf, front, back, spliced}
+use Rattle.piece_tree.proofs.Cuts.{pieces-front}
+use Rattle.piece_tree.proofs.Prolonged.{pieces-spliced, pieces-followed_by, length-followed_by}
 use Rattle.text_rules.specs.Lines.{line_feed, carriage_return}
-use Rattle.text_rules.specs.Breaks.{joins_pair, ends_with}
-use Rattle.text_rules.proofs.Breaks.{and_false}
+use Rattle.text_rules.specs.Breaks.{joins_pair}
 use Rattle.text_buffer.specs.Text.{spelled, IsUnsplit, IsAdded, unit_if, one_if}
 use Rattle.text_buffer.proofs.Spelling.{spelled-append, spelled-front, spelled-back, length-units_at, length-spelled}
 use Rattle.text_buffer.proofs.Borders.{unsplit-append, unsplit-front, unsplit-back, full-front, full-back, length-parts}
+use Rattle.text_buffer.proofs.Followed.{IsFull, spelled-followed_by, full-followed_by, unsplit-followed_by}
 use Rattle.text_buffer.proofs.Extended.{pieces-extended, spelled-extended, unsplit-extended}
 use Rattle.text_buffer.proofs.Replacing.{replaced_text, front_border, back_border, joins_front}
-
-abbrev IsFull : Piece → Type 0
-IsFull p = 0 < p.span.units
 
 module _ (b : List (List ℕ)) where
   added_inside : (span : Option ChunkSpan) (units : List ℕ) → IsAdded b span units → ForSome span (LiesIn b)
@@ -33,20 +31,6 @@ module _ (b : List (List ℕ)) where
   added_pieces : (span : Option ChunkSpan) (units : List ℕ) → IsAdded b span units → All (IsPieceOf b) (piece_list b span)
   added_pieces None units is = All-nil (IsPieceOf b)
   added_pieces (Some span) units is = All-cons (IsPieceOf b) (piece_of b span) [] (record { inside = is.0; breaks = refl }) (All-nil (IsPieceOf b))
-
-  added_full : (span : Option ChunkSpan) (units : List ℕ) → IsAdded b span units → All IsFull (piece_list b span)
-  added_full None units is = All-nil IsFull
-  added_full (Some span) units is =
-      let some : 0 < span.units = omega (arith, length-units_at b span is.0, ap length is.1.0) in
-      All-cons IsFull (piece_of b span) [] some (All-nil IsFull)
-
-  added_unsplit : (span : Option ChunkSpan) → IsUnsplit b (piece_list b span)
-  added_unsplit None = tt
-  added_unsplit (Some span) = (and_false (ends_with carriage_return (units_at b span)), tt)
-
-  added_one : (span : Option ChunkSpan) → length (piece_list b span) ≤ 1
-  added_one None = omega arith
-  added_one (Some span) = omega arith
 
 -- what the pieces are afterwards
 pub record IsReplaced (b : List (List ℕ)) (old new : List Piece) (x text : List ℕ) (start end : ℕ) : Type 0 where
@@ -70,29 +54,29 @@ IsReplaced-at old_b b ps x text start end front_joins back_joins span grown old_
     let same : spelled b ps ≡ x = spelled-extended old_b b grown ps old_all ∙ x_is in
     let fs : List Piece = front b s ps in
     let ks : List Piece = back b e ps in
-    let ms : List Piece = piece_list b span in
+    let gs : List Piece = followed_by b fs span in
     let f_text : spelled b fs ≡ take s x = spelled-front b s ps all ∙ ap (take s) same in
     let k_text : spelled b ks ≡ drop e x = spelled-back b e ps all ∙ ap (drop e) same in
-    let m_text : spelled b ms ≡ w = added_text b span w added in
-    let fm_text : spelled b (fs ++ ms) ≡ take s x ++ w = spelled-append b fs ms ∙ ap (λ t. t ++ spelled b ms) f_text ∙ ap (λ t. take s x ++ t) m_text in
+    let g_text : spelled b gs ≡ take s x ++ w = spelled-followed_by b fs span w added ∙ ap (λ t. t ++ w) f_text in
     let inside : start ≤ length x = omega arith in
-    let border : joins_pair (spelled b fs) (spelled b ms) ≡ false =
-    ap (λ t. joins_pair t (spelled b ms)) f_text ∙ ap (joins_pair (take s x)) m_text
+    let border : joins_pair (spelled b fs) w ≡ false =
+    ap (λ t. joins_pair t w) f_text
     ∙ joins_front (take s x) w (drop e x) (front_border x text start end inside back_joins back_is front_joins front_is) in
-    let next_border : joins_pair (spelled b (fs ++ ms)) (spelled b ks) ≡ false =
-    ap (λ t. joins_pair t (spelled b ks)) fm_text ∙ ap (joins_pair (take s x ++ w)) k_text
+    let next_border : joins_pair (spelled b gs) (spelled b ks) ≡ false =
+    ap (λ t. joins_pair t (spelled b ks)) g_text ∙ ap (joins_pair (take s x ++ w)) k_text
     ∙ back_border x text start end inside front_joins front_is back_joins back_is in
-    let all_fm = All-append (IsPieceOf b) fs ms (pieces-front b s ps all) (added_pieces b span w added) in
-    let full_fm = All-append IsFull fs ms (full-front b s ps full) (added_full b span w added) in
+    let all_f = pieces-front b s ps all in
+    let full_f = full-front b s ps full in
+    let full_g = full-followed_by b fs span w added full_f in
     record {
-      text_is = spelled-append b (fs ++ ms) ks ∙ ap (λ t. t ++ spelled b ks) fm_text ∙ ap (λ t. (take s x ++ w) ++ t) k_text
+      text_is = spelled-append b gs ks ∙ ap (λ t. t ++ spelled b ks) g_text ∙ ap (λ t. (take s x ++ w) ++ t) k_text
           ∙ replaced_text x text start end inside front_joins back_joins front_is back_is;
       pieces = pieces-spliced b s e span ps (added_inside b span w added) all;
-      full = All-append IsFull (fs ++ ms) ks full_fm (full-back b e ps full);
-      unsplit = unsplit-append b (fs ++ ms) ks all_fm full_fm
-          (unsplit-append b fs ms (pieces-front b s ps all) (full-front b s ps full) (unsplit-front b s ps all unsplit) (added_unsplit b span) border)
+      full = All-append IsFull gs ks full_g (full-back b e ps full);
+      unsplit = unsplit-append b gs ks (pieces-followed_by b fs span (added_inside b span w added) all_f) full_g
+          (unsplit-followed_by b fs span w added all_f full_f (unsplit-front b s ps all unsplit) border)
           (unsplit-back b e ps all unsplit) next_border;
-      few = omega (arith, length-append (fs ++ ms) ks, length-append fs ms, added_one b span, length-parts b s e ps (omega arith));
+      few = omega (arith, length-append gs ks, length-followed_by b fs span, length-parts b s e ps (omega arith));
     }
 
 -- the same, with the numbers and texts as they are handed on

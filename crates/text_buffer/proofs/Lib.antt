@@ -7,7 +7,9 @@ pub mod FirstLines
 pub mod Found
 pub mod Walks
 pub mod LineWalks
+pub mod Followed
 pub mod Edited
+pub mod Growing
 pub mod Lasts
 pub mod Positions
 pub mod Touched

@@ -49,36 +49,36 @@ module _ (b : List (List ℕ)) where
       units_at-part b p.span n p.span.units h (omega arith) is.inside
       ∙ take_all (p.span.units - n) (drop n (units_at b p.span)) (omega (arith, length-drop n (units_at b p.span), length-units_at p.span is.inside))
 
-  pub spelled-front : (n : ℕ) (ps : List Piece) → All (IsPieceOf b) ps → spelled b (front b n ps) ≡ take n (spelled b ps)
-  spelled-front zero [] all = refl
-  spelled-front (suc n) [] all = refl
-  spelled-front n (p ∷ ps) all =
+  spelled-cut : (n : ℕ) (ps : List Piece) → All (IsPieceOf b) ps
+      → (spelled b (front b n ps) ≡ take n (spelled b ps)) × (spelled b (back b n ps) ≡ drop n (spelled b ps))
+  spelled-cut zero [] all = (refl, refl)
+  spelled-cut (suc n) [] all = (refl, refl)
+  spelled-cut n (p ∷ ps) all =
       let head : IsPieceOf b p = All-head (IsPieceOf b) p ps all in
-      let tail : All (IsPieceOf b) ps = All-tail (IsPieceOf b) p ps all in
       let size = length-units_at p.span head.inside in
+      let own = units_at b p.span in
       elim (cases_lt n p.span.units) [
-        | inr past ↦ ap (spelled b) (front_past b n p ps past) ∙ ap (λ s. units_at b p.span ++ s) (spelled-front (n - p.span.units) ps tail)
-            ∙ sym (take-past n p.span.units (units_at b p.span) (spelled b ps) (sym size) past)
+        | inr past ↦ (let left : ℕ = n - p.span.units in
+            let more : (spelled b (front b left ps) ≡ take left (spelled b ps)) × (spelled b (back b left ps) ≡ drop left (spelled b ps)) = spelled-cut left ps (All-tail (IsPieceOf b) p ps all) in (
+              ap (spelled b) (front_past b n p ps past) ∙ ap (λ s. own ++ s) more.0 ∙ sym (take-past n p.span.units own (spelled b ps) (sym size) past),
+              ap (spelled b) (back_past b n p ps past) ∙ more.1 ∙ sym (drop-past n p.span.units own (spelled b ps) (sym size) past),
+            ))
         | inl within ↦ elim (cases_eq n 0) [
-          | inl none ↦ ap (λ (k : ℕ). spelled b (front b k (p ∷ ps))) none ∙ ap (spelled b) (front_none b p ps (omega arith)) ∙ ap (λ (k : ℕ). take k (spelled b (p ∷ ps))) (sym none)
-          | inr some ↦ ap (spelled b) (front_part b n p ps (omega arith) within) ∙ append-nil (units_at b (part_of p.span 0 n)) ∙ front_of_piece p n head (omega arith)
-              ∙ sym (take-append-le n (units_at b p.span) (spelled b ps) (omega (arith, size)))
+          | inl none ↦ (
+            ap (λ (k : ℕ). spelled b (front b k (p ∷ ps))) none ∙ ap (spelled b) (front_none b p ps (omega arith)) ∙ ap (λ (k : ℕ). take k (spelled b (p ∷ ps))) (sym none),
+            ap (λ (k : ℕ). spelled b (back b k (p ∷ ps))) none ∙ ap (spelled b) (back_none b p ps (omega arith)) ∙ ap (λ (k : ℕ). drop k (spelled b (p ∷ ps))) (sym none),
+          )
+          | inr some ↦ (
+            ap (spelled b) (front_part b n p ps (omega arith) within) ∙ append-nil (units_at b (part_of p.span 0 n)) ∙ front_of_piece p n head (omega arith)
+                ∙ sym (take-append-le n own (spelled b ps) (omega (arith, size))),
+            ap (spelled b) (back_part b n p ps (omega arith) within) ∙ ap (λ s. s ++ spelled b ps) (back_of_piece p n head (omega arith))
+                ∙ sym (drop-append-le n own (spelled b ps) (omega (arith, size))),
+          )
         ]
       ]
 
+  pub spelled-front : (n : ℕ) (ps : List Piece) → All (IsPieceOf b) ps → spelled b (front b n ps) ≡ take n (spelled b ps)
+  spelled-front n ps all = (spelled-cut n ps all).0
+
   pub spelled-back : (n : ℕ) (ps : List Piece) → All (IsPieceOf b) ps → spelled b (back b n ps) ≡ drop n (spelled b ps)
-  spelled-back zero [] all = refl
-  spelled-back (suc n) [] all = refl
-  spelled-back n (p ∷ ps) all =
-      let head : IsPieceOf b p = All-head (IsPieceOf b) p ps all in
-      let tail : All (IsPieceOf b) ps = All-tail (IsPieceOf b) p ps all in
-      let size = length-units_at p.span head.inside in
-      elim (cases_lt n p.span.units) [
-        | inr past ↦ ap (spelled b) (back_past b n p ps past) ∙ spelled-back (n - p.span.units) ps tail
-            ∙ sym (drop-past n p.span.units (units_at b p.span) (spelled b ps) (sym size) past)
-        | inl within ↦ elim (cases_eq n 0) [
-          | inl none ↦ ap (λ (k : ℕ). spelled b (back b k (p ∷ ps))) none ∙ ap (spelled b) (back_none b p ps (omega arith)) ∙ ap (λ (k : ℕ). drop k (spelled b (p ∷ ps))) (sym none)
-          | inr some ↦ ap (spelled b) (back_part b n p ps (omega arith) within) ∙ ap (λ s. s ++ spelled b ps) (back_of_piece p n head (omega arith))
-              ∙ sym (drop-append-le n (units_at b p.span) (spelled b ps) (omega (arith, size)))
-        ]
-      ]
+  spelled-back n ps all = (spelled-cut n ps all).1

@@ -1,8 +1,8 @@
 -- A text in pieces of buffers.
-use Rattle.std.specs.Prelude.{ℕ, ◌≡◌, ◌<◌, Bool, false, ◌==◌, ◌&&◌, if◌then◌else◌, Option, Some, None, length, List, [], ◌∷◌, map}
-use Rattle.std.specs.List.{All, flat_map}
+use Rattle.std.specs.Prelude.{ℕ, ◌≡◌, ◌+◌, ◌<◌, Bool, false, ◌==◌, ◌&&◌, if◌then◌else◌, Option, Some, None, length, List, [], ◌∷◌, ◌++◌, map}
+use Rattle.std.specs.List.{All, flat_map, sum_by}
 use Rattle.chunk_buffers.specs.declared.span.ChunkSpan.{ChunkSpan}
-use Rattle.chunk_buffers.specs.Chunks.{Shown, units_at, LiesIn}
+use Rattle.chunk_buffers.specs.Chunks.{Shown, buffer_at, units_at, LiesIn}
 use Rattle.piece_tree.specs.declared.piece.Piece.{Piece}
 use Rattle.piece_tree.specs.Pieces.{Pieces, pieces_of, IsPieceOf}
 use Rattle.text_rules.specs.Lines.{line_feed, carriage_return}
@@ -41,6 +41,16 @@ text_of tree chunks = record {
   spare_edits = tree.spare;
   spare_units = chunks.spare;
 }
+
+-- at that offset of the text one of its spans ends, where the last buffer ends: what is appended next goes on from that span
+pub record GrowsAt (text : Text) (offset : ℕ) : Type 0 where
+  pub earlier : List ChunkSpan
+  pub span : ChunkSpan
+  pub later : List ChunkSpan
+  pub among : text.spans ≡ earlier ++ span ∷ later
+  pub ends : sum_by (λ s. s.units) earlier + span.units ≡ offset
+  pub last : span.buffer + 1 ≡ length text.buffers
+  pub end : span.start + span.units ≡ length (buffer_at text.buffers span.buffer)
 
 -- the unit, where the test holds
 abbrev pub unit_if : Bool → ℕ → List ℕ

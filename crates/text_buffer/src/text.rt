@@ -2,7 +2,7 @@
 
 ghost use Rattle.std.specs.Prelude.{◌≡◌, ℕ, ◌+◌, ◌-◌, ◌*◌, ◌<◌, ◌≤◌, ◌^◌, ◌&&◌, ◌++◌, ◌∷◌, List, [], true, false, if◌then◌else◌, length, map, take, drop, slice_index, slice_index_or, OnOk, OnErr, IfOk, IfSome};
 ghost use Rattle.std.specs.List.{All, flat_map};
-ghost use Rattle.chunk_buffers.specs.Chunks.{units_at, unit_count, LiesIn, Extends};
+ghost use Rattle.chunk_buffers.specs.Chunks.{units_at, unit_count, LiesIn, Extends, EndsLast};
 ghost use Rattle.piece_tree.specs.Costs.{WithinLookUps};
 ghost use Rattle.unit_text.specs.Units.{is_place};
 ghost use Rattle.text_rules.specs.Positions.{position_of, is_position, offset_of};
@@ -10,7 +10,7 @@ ghost use Rattle.text_rules.specs.Edits.{edited};
 ghost use Rattle.text_rules.specs.Dirty.{dirty_lines, replaced};
 ghost use Rattle.text_rules.specs.Lines.{Line, lines_of, line_at, line_start, line_feed, carriage_return, begins_with};
 ghost use Rattle.text_rules.specs.Breaks.{ends_with, joins_pair, count_to, break_ends};
-ghost use Rattle.text_buffer.specs.Text.{unit_if, one_if, IsAdded};
+ghost use Rattle.text_buffer.specs.Text.{unit_if, one_if, IsAdded, GrowsAt};
 
 use crate::breaks::ends_with_pair;
 use crate::lines::LineReader;
@@ -138,6 +138,12 @@ impl TextBuffer {
         ensures units { self.new.units
             ≡ edited self.old.units (record { span = span; text = text.now; force = false }) }
         ensures pieces { length self.new.spans ≤ length self.old.spans + 6 }
+        ensures typed { let after = drop span.end self.old.units in GrowsAt self.old span.start
+            → joins_pair (take span.start self.old.units) (text.now ++ after) ≡ false
+            → length self.new.spans ≤ length self.old.spans }
+        ensures grows { let after = drop span.end self.old.units in 0 < length text.now
+            → joins_pair (take span.start self.old.units ++ text.now) after ≡ false
+            → GrowsAt self.new (span.start + length text.now) }
         ensures appended { unit_count self.new.buffers
             ≤ unit_count self.old.buffers + length text.now + 8 }
         ensures grown { Extends self.old.buffers self.new.buffers }
@@ -227,6 +233,44 @@ impl TextBuffer {
         } else {
             None
         }
+    }
+
+    /// `position_at`, with steps that nobody counts.
+    pub fn position(&self, offset: u64) -> Option<Position>
+        ensures { result ≡ (if is_place self.now.units offset
+            then Some (position_of self.now.units offset) else None) }
+    {
+        self.position_for::<Brand>(offset, Blank::new(1))
+    }
+
+    fn position_for<L: Ledger>(&self, offset: u64, blank: Blank) -> Option<Position>
+        requires name { blank.name ≡ L.name }
+        requires parts { blank.parts ≡ L.parts }
+        requires some { 0 < L.parts }
+        ensures { result ≡ (if is_place self.now.units offset
+            then Some (position_of self.now.units offset) else None) }
+    {
+        let mut steps = Steps::<L>::new(blank);
+        self.position_at(offset, &mut steps)
+    }
+
+    /// `offset_at`, with steps that nobody counts.
+    pub fn offset(&self, position: Position) -> Option<u64>
+        ensures { result ≡ (if is_position self.now.units position
+            then Some (offset_of self.now.units position) else None) }
+    {
+        self.offset_for::<Brand>(position, Blank::new(1))
+    }
+
+    fn offset_for<L: Ledger>(&self, position: Position, blank: Blank) -> Option<u64>
+        requires name { blank.name ≡ L.name }
+        requires parts { blank.parts ≡ L.parts }
+        requires some { 0 < L.parts }
+        ensures { result ≡ (if is_position self.now.units position
+            then Some (offset_of self.now.units position) else None) }
+    {
+        let mut steps = Steps::<L>::new(blank);
+        self.offset_at(position, &mut steps)
     }
 
     /// Which lines of the text an edit touches that puts these units in the place of the span, and
@@ -509,6 +553,8 @@ fn append_some(
         ≤ unit_count chunks.old.buffers + length (before.now ++ text.now ++ after.now) + 1 }
     ensures spare { chunks.old.spare
         ≤ chunks.new.spare + length (before.now ++ text.now ++ after.now) + 1 }
+    ensures last { IfSome result (λ span.
+        EndsLast chunks.old.buffers chunks.new.buffers span (before.now ++ text.now ++ after.now)) }
 {
     if before.is_empty() && text.is_empty() && after.is_empty() {
         return None;

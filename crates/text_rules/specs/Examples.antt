@@ -1,5 +1,6 @@
 -- Worked examples of the definitions.
-use Rattle.std.specs.Prelude.{◌≡◌, [], ◌∷◌, None, map, codes, false, true, refl}
+use Rattle.std.specs.Prelude.{◌≡◌, ℕ, List, [], ◌∷◌, None, map, codes, false, true, refl}
+use Rattle.text_lengths.specs.declared.Dirty.{Dirty}
 use Rattle.text_lengths.specs.Length.{length_of, no_length, length_plus}
 use Rattle.text_rules.specs.Lines.{lines_of, line_at, line_start, text_length}
 use Rattle.text_rules.specs.Positions.{position_of, offset_of, is_position}
@@ -71,25 +72,22 @@ position_of_the_end = refl
 position_at_a_start : position_of (codes "a\r\nb") 3 ≡ record { line = 2; column = 1 }
 position_at_a_start = refl
 
-an_edit_in_a_line : dirty_lines (codes "ab\ncd\nef") (record { start = 4; end = 5 }) (codes "X") ≡ record { first = 2; old = 1; new = 1 }
-an_edit_in_a_line = refl
+abbrev touched : List ℕ → ℕ → ℕ → List ℕ → Dirty
+touched units start end text = dirty_lines units (record { start = start; end = end }) text
 
-a_break_goes : dirty_lines (codes "ab\ncd\nef") (record { start = 1; end = 4 }) [] ≡ record { first = 1; old = 2; new = 1 }
-a_break_goes = refl
+abbrev dirty : ℕ → ℕ → ℕ → Dirty
+dirty first old new = record { first = first; old = old; new = new }
 
-two_breaks_come : dirty_lines (codes "ab\ncd") (record { start = 4; end = 4 }) (codes "x\r\ny\r") ≡ record { first = 2; old = 1; new = 3 }
-two_breaks_come = refl
+-- in a line, over a break, and with two new breaks
+edits_of_lines : touched (codes "ab\ncd\nef") 4 5 (codes "X") ∷ touched (codes "ab\ncd\nef") 1 4 [] ∷ touched (codes "ab\ncd") 4 4 (codes "x\r\ny\r") ∷ []
+    ≡ dirty 2 1 1 ∷ dirty 1 2 1 ∷ dirty 2 1 3 ∷ []
+edits_of_lines = refl
 
--- an LF joins the CR before it: the line that this CR ends is touched
-a_line_feed_after_a_return : dirty_lines (codes "a\rb") (record { start = 2; end = 2 }) (codes "\n") ≡ record { first = 1; old = 2; new = 2 }
-a_line_feed_after_a_return = refl
-
-a_return_meets_a_line_feed : dirty_lines (codes "a\rx\nb") (record { start = 2; end = 3 }) [] ≡ record { first = 1; old = 2; new = 1 }
-a_return_meets_a_line_feed = refl
-
-inside_cr_lf : dirty_lines (codes "a\r\nb") (record { start = 2; end = 2 }) (codes "x") ≡ record { first = 1; old = 1; new = 2 }
-inside_cr_lf = refl
+-- an LF joins the CR before it, and so does one that is met: the line that this CR ends is touched; and a pair is cut
+edits_at_pairs : touched (codes "a\rb") 2 2 (codes "\n") ∷ touched (codes "a\rx\nb") 2 3 [] ∷ touched (codes "a\r\nb") 2 2 (codes "x") ∷ []
+    ≡ dirty 1 2 2 ∷ dirty 1 2 1 ∷ dirty 1 1 2 ∷ []
+edits_at_pairs = refl
 
 -- nothing joins an LF
-after_a_line_feed : dirty_lines (codes "a\nb") (record { start = 2; end = 2 }) (codes "\r") ≡ record { first = 2; old = 1; new = 2 }
+after_a_line_feed : touched (codes "a\nb") 2 2 (codes "\r") ≡ dirty 2 1 2
 after_a_line_feed = refl

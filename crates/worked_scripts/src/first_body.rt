@@ -1,28 +1,28 @@
-//! The document's first body, one list of units that each edit copies, beside the program on the same scripts.
-ghost use Rattle.std.specs.Prelude.{◌≡◌, ◌≤◌, ◌<◌, length, false, IfSome};
+//! The document's first body: one list of units that each edit copies, and that each question about brackets parses whole.
+ghost use Rattle.std.specs.Prelude.{◌≡◌};
 ghost use Rattle.text_rules.specs.Edits.{is_bad_span};
 
-use crate::draws::Draws;
-use crate::runs::{ALL, expect_run};
+use crate::bracket_replies::{push_brackets, push_level, push_partner};
+use crate::flat_lines::{line_content, line_count, line_starts};
+use crate::whole_parse::whole_parse;
+use bracket_nodes::Node;
+use bracket_scan::BracketTable;
 use script_lines::{
     Command, LineOps, Place, Refusal, Short, command_of, long_begin, long_end, long_number,
     long_text, refusal,
 };
 use std::alloc::{AllocError, Global};
 use std::mem::replace;
-use std::test::Fail;
 use text_lengths::{Position, Span};
 use unit_text::{Flat, Units};
 
-const LINE_FEED: u16 = 10;
-
-const CARRIAGE_RETURN: u16 = 13;
-
 /// A document whose text is one list. It keeps one step of undo.
 #[derive(Drop)]
-struct OneList {
+pub struct OneList {
     alloc: Global,
     text: Units,
+    /// Its brackets.
+    table: BracketTable,
     version: u64,
     /// The text before the last step, and the one after the step that was undone last.
     before: Option<Units>,
@@ -33,10 +33,11 @@ struct OneList {
 }
 
 impl OneList {
-    fn new(alloc: Global) -> OneList {
+    pub fn new(alloc: Global) -> OneList {
         OneList {
             alloc,
             text: Units::from_vec(Vec::new(alloc)),
+            table: BracketTable::standard(),
             version: 1,
             before: None,
             after: None,
@@ -45,11 +46,24 @@ impl OneList {
         }
     }
 
+    pub fn len(&self) -> u64 {
+        self.text.len()
+    }
+
+    pub fn line_count(&self) -> u64 {
+        line_count(self.text.as_slice())
+    }
+
+    pub fn was_refused(&self) -> bool {
+        self.was_refused
+    }
+
     /// Carries out the line's command and appends its reply.
-    fn answer(&mut self, line: &[u8], out: &mut Vec<u8>) -> Result<(), AllocError> {
+    pub fn answer(&mut self, line: &[u8], out: &mut Vec<u8>) -> Result<(), AllocError> {
         match command_of(self.alloc, line) {
-            Ok(Command::Open { text, brackets: _ }) => {
+            Ok(Command::Open { text, brackets }) => {
                 self.text = text;
+                self.table = brackets.unwrap_or(BracketTable::standard());
                 self.version = 1;
                 self.show_change(out)
             }
@@ -67,10 +81,10 @@ impl OneList {
             Command::Value { at } => self.value(at, out),
             Command::Position { offset } => self.position(offset, out),
             Command::Offset { p } => self.offset(p, out),
-            Command::Size => self.numbers(
-                &[self.text.len(), line_count(self.text.as_slice())],
-                out,
-            ),
+            Command::Size => self.numbers(&[self.len(), self.line_count()], out),
+            Command::Brackets { from, to } => self.brackets(from, to, out),
+            Command::Match { p } => self.partner(p, out),
+            Command::Level { p } => self.level(p, out),
             _ => self.refuse(Refusal::Syntax, out),
         }
     }
@@ -123,8 +137,7 @@ impl OneList {
     }
 
     fn show_change(&self, out: &mut Vec<u8>) -> Result<(), AllocError> {
-        let lines = line_count(self.text.as_slice());
-        self.numbers(&[self.version, self.text.len(), lines], out)
+        self.numbers(&[self.version, self.len(), self.line_count()], out)
     }
 
     fn numbers(&self, numbers: &[u64], out: &mut Vec<u8>) -> Result<(), AllocError> {
@@ -175,9 +188,17 @@ impl OneList {
     }
 
     fn offset(&mut self, position: Position, out: &mut Vec<u8>) -> Result<(), AllocError> {
+        match self.offset_of(position)? {
+            None => self.refuse(Refusal::Range, out),
+            Some(offset) => self.numbers(&[offset], out),
+        }
+    }
+
+    /// The offset of the position, where it is one of the text.
+    fn offset_of(&self, position: Position) -> Result<Option<u64>, AllocError> {
         let starts = line_starts(self.alloc, self.text.as_slice())?;
         let Some(content) = line_content(self.text.as_slice(), position.line) else {
-            return self.refuse(Refusal::Range, out);
+            return Ok(None);
         };
         let line = position.line.saturating_sub(2) as usize;
         let start = if position.line < 2 {
@@ -187,28 +208,39 @@ impl OneList {
         };
         let offset = start.saturating_add(position.column).saturating_sub(1);
         let is_column = position.column > 0 && position.column - 1 <= content.len() as u64;
-        if !is_column || !self.text.is_place(offset) {
+        let is_place = is_column && self.text.is_place(offset);
+        Ok(is_place.then_some(offset))
+    }
+
+    fn brackets(&mut self, from: u64, to: u64, out: &mut Vec<u8>) -> Result<(), AllocError> {
+        if from == 0 || to < from || self.line_count() < to {
             return self.refuse(Refusal::Range, out);
         }
-        self.numbers(&[offset], out)
+        push_brackets(self.alloc, &self.parse()?, from, to, out)
+    }
+
+    fn partner(&mut self, position: Position, out: &mut Vec<u8>) -> Result<(), AllocError> {
+        match self.offset_of(position)? {
+            None => self.refuse(Refusal::Range, out),
+            Some(_) => push_partner(&self.parse()?, position, out),
+        }
+    }
+
+    fn level(&mut self, position: Position, out: &mut Vec<u8>) -> Result<(), AllocError> {
+        match self.offset_of(position)? {
+            None => self.refuse(Refusal::Range, out),
+            Some(_) => push_level(&self.parse()?, position, out),
+        }
+    }
+
+    fn parse(&self) -> Result<Node, AllocError> {
+        whole_parse(self.alloc, &self.table, self.text.as_slice())
     }
 
     fn refuse(&mut self, reason: Refusal, out: &mut Vec<u8>) -> Result<(), AllocError> {
         self.was_refused = true;
         out.extend_from_slice(refusal(reason).as_slice())
     }
-}
-
-/// The places after the breaks.
-fn line_starts(alloc: Global, units: &[u16]) -> Result<Vec<u64>, AllocError> {
-    let mut starts = Vec::new(alloc);
-    let next = units.iter().skip(1).copied().chain([0]);
-    for (at, (unit, next)) in units.iter().zip(next).enumerate() {
-        if *unit == LINE_FEED || (*unit == CARRIAGE_RETURN && next != LINE_FEED) {
-            starts.push((at as u64).saturating_add(1))?;
-        }
-    }
-    Ok(starts)
 }
 
 fn is_bad_span(text: &Units, span: Span) -> bool
@@ -228,143 +260,4 @@ fn edited(alloc: Global, units: &[u16], span: Span, new: &[u16]) -> Result<Units
         text.push(*unit)?;
     }
     Ok(Units::from_vec(text))
-}
-
-fn line_count(units: &[u16]) -> u64 {
-    let mut count = 1_u64;
-    let mut rest = units;
-    while let (_, Some(after)) = first_line(rest) {
-        count = count.saturating_add(1);
-        rest = after;
-    }
-    count
-}
-
-/// The content of the line of this number, counted from 1.
-fn line_content(units: &[u16], number: u64) -> Option<&[u16]> {
-    if number == 0 {
-        return None;
-    }
-    let mut rest = units;
-    for _ in 1..number {
-        let (_, after) = first_line(rest);
-        rest = after?;
-    }
-    Some(first_line(rest).0)
-}
-
-/// The content of the first line, and the units after its break, if it has one.
-fn first_line(units: &[u16]) -> (&[u16], Option<&[u16]>)
-    ensures shorter { IfSome result.1 (λ after. length after.now < length units.now) }
-{
-    for (at, unit) in units.iter().enumerate() {
-        if *unit == LINE_FEED {
-            return (&units[..at], Some(&units[at + 1..]));
-        }
-        if *unit == CARRIAGE_RETURN {
-            return (&units[..at], Some(after_carriage_return(&units[at + 1..])));
-        }
-    }
-    (units, None)
-}
-
-/// What comes after the break that a CR before these units begins.
-fn after_carriage_return(after: &[u16]) -> &[u16]
-    ensures { length result.now ≤ length after.now }
-{
-    match after.split_first() {
-        Some((unit, rest)) => { if *unit == LINE_FEED { rest } else { after } }
-        None => after,
-    }
-}
-
-/// Texts as a script spells them.
-const TEXTS: [&str; 8] = [
-    "a",
-    "\\n",
-    "\\r",
-    "\\r\\n",
-    "",
-    "\u{1F600}",
-    "b\\nc",
-    "\\n\\r",
-];
-
-/// An edit, its span now and then beyond the text or upside down, with a `z` at the end in the same batch; and questions.
-fn push_round(
-    alloc: Global,
-    draws: &mut Draws,
-    len: u64,
-    lines: u64,
-    script: &mut String,
-) -> Result<(), AllocError> {
-    let start = draws.below(len.saturating_add(2));
-    let end = start.saturating_add(draws.below(5)).saturating_sub(1);
-    let text = TEXTS[draws.below(8) as usize % 8];
-    let edit = format!(in alloc;
-        "{{\"cmd\":\"edit\",\"ops\":[{{\"at\":[{start},{end}],\"text\":\"{text}\"}},\
-        {{\"at\":[{len},{len}],\"text\":\"z\"}}]}}\n"
-    )?;
-    script.push_str(edit.as_str())?;
-    let (line, column) = (draws.below(lines.saturating_add(3)), draws.below(4));
-    let (from, to) = (
-        draws.below(len.saturating_add(2)),
-        draws.below(len.saturating_add(3)),
-    );
-    let questions = format!(in alloc;
-        "{{\"cmd\":\"line\",\"n\":{line}}}\n{{\"cmd\":\"size\"}}\n\
-        {{\"cmd\":\"value\",\"at\":[{from},{to}]}}\n{{\"cmd\":\"position\",\"offset\":{from}}}\n\
-        {{\"cmd\":\"offset\",\"line\":{line},\"col\":{column}}}\n"
-    )?;
-    script.push_str(questions.as_str())
-}
-
-/// Back to the text before the step and on again, with a look at each.
-const THERE_AND_BACK: &str = "{\"cmd\":\"undo\"}\n{\"cmd\":\"line\",\"n\":1}\n\
-    {\"cmd\":\"redo\"}\n{\"cmd\":\"line\",\"n\":1}\n";
-
-/// Appends the lines to the script, and the document's replies to them.
-fn push_answers(
-    document: &mut OneList,
-    lines: &str,
-    script: &mut String,
-    replies: &mut Vec<u8>,
-) -> Result<(), AllocError> {
-    for line in lines.lines() {
-        document.answer(line.as_bytes(), replies)?;
-    }
-    script.push_str(lines)
-}
-
-#[test]
-fn one_list_answers_the_same(rt: HostRuntime) -> Result<(), Fail> {
-    let alloc = rt.alloc();
-    for seed in 0..4 {
-        let mut draws = Draws::new(seed);
-        let (mut script, mut replies) = (String::new(alloc), Vec::new(alloc));
-        let mut document = OneList::new(alloc);
-        let open = "{\"cmd\":\"open\",\"text\":\"a\\r\\nb\"}\n";
-        push_answers(&mut document, open, &mut script, &mut replies)?;
-        for round in 0..60 {
-            let (len, lines) = (document.text.len(), line_count(document.text.as_slice()));
-            let mut asked = String::new(alloc);
-            push_round(alloc, &mut draws, len, lines, &mut asked)?;
-            if round % 5 == 4 {
-                asked.push_str(THERE_AND_BACK)?;
-            }
-            push_answers(&mut document, asked.as_str(), &mut script, &mut replies)?;
-        }
-        let status = if document.was_refused { 1 } else { 0 };
-        let name = "a generated script";
-        expect_run(
-            &rt,
-            name,
-            script.as_bytes(),
-            ALL,
-            ALL,
-            replies.as_slice(),
-            status,
-        )?;
-    }
-    Ok(())
 }

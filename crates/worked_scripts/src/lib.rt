@@ -2,6 +2,8 @@
 #![tactic(auto)]
 
 #[cfg(test)]
+mod bracket_replies;
+#[cfg(test)]
 mod deep;
 #[cfg(test)]
 mod draws;
@@ -9,6 +11,10 @@ mod draws;
 mod faults;
 #[cfg(test)]
 mod first_body;
+#[cfg(test)]
+mod flat_lines;
+#[cfg(test)]
+mod generated;
 #[cfg(test)]
 mod library;
 #[cfg(test)]
@@ -19,3 +25,5 @@ mod runs;
 mod transcripts;
 #[cfg(test)]
 mod usage;
+#[cfg(test)]
+mod whole_parse;

@@ -17,6 +17,14 @@ const PLAYED: &[(&str, &str)] = &[
         "commands 1 refused 0 units 0 lines 1 bytes 9 sum 470\n",
     ),
     (
+        "play +1 5",
+        "commands 1 refused 0 units 0 lines 1 bytes 9 sum 470\n",
+    ),
+    (
+        "play 001 5",
+        "commands 1 refused 0 units 0 lines 1 bytes 9 sum 470\n",
+    ),
+    (
         "play 2 0",
         "commands 2 refused 0 units 0 lines 1 bytes 16 sum 859\n",
     ),

@@ -52,7 +52,7 @@ pub fn expect_run<R: AllocGlobal + Abort>(
 {
     let alloc = rt.alloc();
     let mut src = MemSource::new(alloc, script, source.each, source.plan)?;
-    let mut out = MemSink::new(alloc, 0x1_0000, sink.each, sink.plan)?;
+    let mut out = MemSink::new(alloc, 0x4_0000, sink.each, sink.plan)?;
     let mut err = SureSink::new(alloc, 4096, 1)?;
     let ended = run_line(alloc, "run", &mut src, &mut out, &mut err)?;
     assert_eq!(rt; ended, status, "{name}");

@@ -11,7 +11,7 @@ returns-in_ok-parse_again-clause-stays c =
     let old = c.args.last.now.marks in
     let parsed = c.in_ok-parse_again.field-0 in
     stays_as _ c.put.new.self.tree _ c.put.new.self.marks table _ x c.put.ensures.tree c.put.ensures.marks refl
-    (stays_parsed parsed.tree old table x c.requires.stays.count c.in_ok-parse_again.ensures.table c.put.ensures.rules c.in_ok-parse_again.ensures.tree c.in_ok-parse_again.ensures.light)
+    (stays_parsed parsed.tree old table x c.requires.stays.count c.in_ok-parse_again.ensures.rule c.put.ensures.rules c.in_ok-parse_again.ensures.tree c.in_ok-parse_again.ensures.light)
 
 pub returns-else-is_none-clause-marks : goal.returns-else-is_none-clause-marks
 returns-else-is_none-clause-marks c =

@@ -16,8 +16,7 @@ use Rattle.model_core.proofs.change.apply.Goals as goal
 
 pub loop-done-init : goal.loop-done-init
 loop-done-init c =
-    let ops = c.args.ops.now in
-    let none : drop (length ops - 0) ops ≡ [] = drop_all (length ops - 0) ops (omega arith) in
+    let none : drop (length c.args.ops.now - 0) c.args.ops.now ≡ [] = drop_all (length c.args.ops.now - 0) c.args.ops.now (omega arith) in
     record {
       units = sym (ap (edited_backwards c.args.text.now.units) none);
       pieces = omega arith;
@@ -49,14 +48,14 @@ pub mark-requires-clause-ordered : goal.mark-requires-clause-ordered
 mark-requires-clause-ordered c =
     (turn c.args.text.now.units c.args.ops.now c.loop-done.done c.index-ops-ops.result _ c.requires.standing c.loop-done-test.true c.index-ops-ops.is c.loop-done.invariant.units).ordered
 
-pub mark-requires-clause-within : goal.mark-requires-clause-within
-mark-requires-clause-within c =
-    (turn c.args.text.now.units c.args.ops.now c.loop-done.done c.index-ops-ops.result _ c.requires.standing c.loop-done-test.true c.index-ops-ops.is c.loop-done.invariant.units).within
-
 pub mark-requires-clause-small : goal.mark-requires-clause-small
 mark-requires-clause-small c =
     let now = turn c.args.text.now.units c.args.ops.now c.loop-done.done c.index-ops-ops.result _ c.requires.standing c.loop-done-test.true c.index-ops-ops.is c.loop-done.invariant.units in
     omega (arith, now.few, c.requires.small)
+
+pub mark-requires-clause-within : goal.mark-requires-clause-within
+mark-requires-clause-within c =
+    (turn c.args.text.now.units c.args.ops.now c.loop-done.done c.index-ops-ops.result _ c.requires.standing c.loop-done-test.true c.index-ops-ops.is c.loop-done.invariant.units).within
 
 pub mark-requires-clause-lines : goal.mark-requires-clause-lines
 mark-requires-clause-lines c = c.loop-done.invariant.lines

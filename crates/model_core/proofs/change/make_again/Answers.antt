@@ -13,31 +13,21 @@ use Rattle.model_core.proofs.change.make_again.Goals as goal
 turn_now : (g : goal.After-ops) → IsTurnOnAt g.args.changes.now g.loop-change.change-index g.change-item.result g.loop-change.text.units
 turn_now c = turn_on_at c.args.changes.now c.loop-change.change-index c.change-item.result c.loop-change.text.units c.loop-change-test.true c.change-item.is c.loop-change.invariant.lead
 
-pub apply-requires-clause-standing : goal.apply-requires-clause-standing
-apply-requires-clause-standing c = rw c.ops.ensures.ops (turn_now c).fit.standing
-
-pub apply-requires-clause-small : goal.apply-requires-clause-small
-apply-requires-clause-small c =
+pub apply-requires : goal.apply-requires
+apply-requires c =
     let now = turn_now c in
-    omega (arith, now.fit.few, now.fit.units, ap text_units c.ops.ensures.ops)
-
-pub apply-requires-clause-edits : goal.apply-requires-clause-edits
-apply-requires-clause-edits c =
-    let now = turn_now c in
-    omega (arith, c.loop-change.invariant.edits, now.ops, ap length c.ops.ensures.ops)
-
-pub apply-requires-clause-room : goal.apply-requires-clause-room
-apply-requires-clause-room c =
-    let now = turn_now c in
-    omega (arith, c.loop-change.invariant.room, now.ops, now.units, ap length c.ops.ensures.ops, ap text_units c.ops.ensures.ops)
-
-pub apply-requires-clause-lines : goal.apply-requires-clause-lines
-apply-requires-clause-lines c = c.loop-change.invariant.lines
-
-pub apply-requires-clause-spare : goal.apply-requires-clause-spare
-apply-requires-clause-spare c =
-    let now = turn_now c in
-    omega (arith, c.loop-change.invariant.spare, now.ops, ap length c.ops.ensures.ops)
+    let old = c.loop-change.invariant in
+    let ops = ap length c.ops.ensures.ops in
+    let units = ap text_units c.ops.ensures.ops in
+    record {
+      standing = rw c.ops.ensures.ops now.fit.standing;
+      small = omega (arith, now.fit.few, now.fit.units, units);
+      edits = omega (arith, old.edits, now.ops, ops);
+      room = omega (arith, old.room, now.ops, now.units, ops, units);
+      lines = old.lines;
+      spare = omega (arith, old.spare, now.ops, ops);
+      inside = old.inside;
+    }
 
 pub loop-change-preserved : goal.loop-change-preserved
 loop-change-preserved c =
@@ -56,30 +46,28 @@ loop-change-preserved c =
       carried = ap (λ d. decorations_on d (drop (c.loop-change.change-index + 1) c.args.changes.now)) moved
           ∙ sym (decorations_on-cut c.loop-change.decorations c.args.changes.now c.loop-change.change-index c.change-item.result c.loop-change-test.true c.change-item.is) ∙ c.loop-change.invariant.carried;
       inside = c.apply.ensures.inside;
-      marks = ap (λ t. marked_on c.apply.new.last.marks (changes_on t rest)) text ∙ ap (λ ms. marked_on ms (changes_on after rest)) marked
-          ∙ sym (marked_turn_on c.loop-change.last.marks c.loop-change.text.units c.args.changes.now c.loop-change.change-index c.change-item.result c.loop-change-test.true c.change-item.is)
-          ∙ c.loop-change.invariant.marks;
       lines = c.apply.ensures.lines;
       spare = omega (arith, c.loop-change.invariant.spare, c.apply.ensures.spare, now.ops, ap length c.ops.ensures.ops);
       parsed = c.apply.ensures.parsed ∙ c.loop-change.invariant.parsed;
       tree = c.apply.ensures.tree ∙ c.loop-change.invariant.tree;
+      marks = ap (λ t. marked_on c.apply.new.last.marks (changes_on t rest)) text ∙ ap (λ ms. marked_on ms (changes_on after rest)) marked
+          ∙ sym (marked_turn_on c.loop-change.last.marks c.loop-change.text.units c.args.changes.now c.loop-change.change-index c.change-item.result c.loop-change-test.true c.change-item.is)
+          ∙ c.loop-change.invariant.marks;
       grown = Extends-trans c.args.text.now.buffers c.loop-change.text.buffers c.apply.new.text.buffers c.loop-change.invariant.grown c.apply.ensures.grown;
     }
 
-pub returns-clause-units : goal.returns-clause-units
-returns-clause-units c =
+pub returns : goal.returns
+returns c =
     let changes = c.args.changes.now in
-    sym (ap (text_on c.loop-change.text.units) (drop_all c.loop-change.change-index changes (omega arith))) ∙ c.loop-change.invariant.units
-
-pub returns-clause-pieces : goal.returns-clause-pieces
-returns-clause-pieces c = omega (arith, c.loop-change.invariant.pieces)
-
-pub returns-clause-decorations : goal.returns-clause-decorations
-returns-clause-decorations c =
-    let changes = c.args.changes.now in
-    sym (ap (decorations_on c.loop-change.decorations) (drop_all c.loop-change.change-index changes (omega arith))) ∙ c.loop-change.invariant.carried
-
-pub returns-clause-marks : goal.returns-clause-marks
-returns-clause-marks c =
-    let changes = c.args.changes.now in
-    sym (ap (λ d. marked_on c.loop-change.last.marks (changes_on c.loop-change.text.units d)) (drop_all c.loop-change.change-index changes (omega arith))) ∙ c.loop-change.invariant.marks
+    let done = c.loop-change.invariant in
+    let all = drop_all c.loop-change.change-index changes (omega arith) in
+    record {
+      units = sym (ap (text_on c.loop-change.text.units) all) ∙ done.units;
+      pieces = omega (arith, done.pieces);
+      grown = done.grown;
+      decorations = sym (ap (decorations_on c.loop-change.decorations) all) ∙ done.carried;
+      inside = done.inside;
+      marks = sym (ap (λ d. marked_on c.loop-change.last.marks (changes_on c.loop-change.text.units d)) all) ∙ done.marks;
+      parsed = done.parsed;
+      tree = done.tree;
+    }

@@ -85,26 +85,18 @@ loop-done-preserved c =
       grown = Extends-trans c.args.text.now.buffers c.loop-done.text.buffers c.apply.new.text.buffers c.loop-done.invariant.grown c.apply.ensures.grown;
     }
 
-pub returns-clause-units : goal.returns-clause-units
-returns-clause-units c =
+pub returns : goal.returns
+returns c =
     let changes = c.args.changes.now in
+    let done = c.loop-done.invariant in
     let all : length changes - c.loop-done.done ≡ 0 = omega arith in
-    c.loop-done.invariant.units ∙ ap (λ (k : ℕ). text_back c.args.text.now.units (drop k changes)) all
-
-pub returns-clause-pieces : goal.returns-clause-pieces
-returns-clause-pieces c =
-    let changes = c.args.changes.now in
-    let all : length changes - c.loop-done.done ≡ 0 = omega arith in
-    omega (arith, c.loop-done.invariant.pieces, ap (λ (k : ℕ). op_count Back (drop k changes)) all)
-
-pub returns-clause-decorations : goal.returns-clause-decorations
-returns-clause-decorations c =
-    let changes = c.args.changes.now in
-    let all : length changes - c.loop-done.done ≡ 0 = omega arith in
-    c.loop-done.invariant.carried ∙ ap (λ (k : ℕ). decorations_back c.args.decorations.now (drop k changes)) all
-
-pub returns-clause-marks : goal.returns-clause-marks
-returns-clause-marks c =
-    let changes = c.args.changes.now in
-    let all : length changes - c.loop-done.done ≡ 0 = omega arith in
-    c.loop-done.invariant.marks ∙ ap (λ (k : ℕ). marked_back c.args.last.now.marks (changes_back c.args.text.now.units (drop k changes))) all
+    record {
+      units = done.units ∙ ap (λ (k : ℕ). text_back c.args.text.now.units (drop k changes)) all;
+      pieces = omega (arith, done.pieces, ap (λ (k : ℕ). op_count Back (drop k changes)) all);
+      grown = done.grown;
+      decorations = done.carried ∙ ap (λ (k : ℕ). decorations_back c.args.decorations.now (drop k changes)) all;
+      inside = done.inside;
+      marks = done.marks ∙ ap (λ (k : ℕ). marked_back c.args.last.now.marks (changes_back c.args.text.now.units (drop k changes))) all;
+      parsed = done.parsed;
+      tree = done.tree;
+    }

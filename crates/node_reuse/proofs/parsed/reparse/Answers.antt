@@ -14,7 +14,7 @@ returns-in_err-line-clause-front g c = none_if c.from_residual.result (new_lines
 
 pub parse-requires-clause-stands : goal.parse-requires-clause-stands
 parse-requires-clause-stands g c =
-    let s : Sight = sight c.args.table.now (g.Q.Lines.state c.args.lines.now).contents (g.O.Old.text c.args.old.now) c.args.hunks.now.marks in
+    let s : Sight = sight c.args.table.now (g.Q.Lines.state c.args.lines.now).contents (g.O.Old.text c.args.old) c.args.hunks.now.marks in
     first_stands s c.in_ok-line.line c.requires.some c.first_line.ensures.table c.requires.marks c.requires.count c.requires.stays
     c.in_ok-line.ensures.scanned c.in_ok-line.ensures.asked
 
@@ -23,15 +23,15 @@ parse-requires-clause-some g c = some_ahead c.args.table.now (g.Q.Lines.state c.
 
 pub parse-requires-clause-fits : goal.parse-requires-clause-fits
 parse-requires-clause-fits g c =
-    let s : Sight = sight c.args.table.now (g.Q.Lines.state c.args.lines.now).contents (g.O.Old.text c.args.old.now) c.args.hunks.now.marks in
+    let s : Sight = sight c.args.table.now (g.Q.Lines.state c.args.lines.now).contents (g.O.Old.text c.args.old) c.args.hunks.now.marks in
     start_fits s _ c.in_ok-line.line c.requires.some c.requires.stays c.requires.fits
 
 pub returns-clause-tree : goal.returns-clause-tree
 returns-clause-tree g c =
-    let s : Sight = sight c.args.table.now (g.Q.Lines.state c.args.lines.now).contents (g.O.Old.text c.args.old.now) c.args.hunks.now.marks in
+    let s : Sight = sight c.args.table.now (g.Q.Lines.state c.args.lines.now).contents (g.O.Old.text c.args.old) c.args.hunks.now.marks in
     whole_tree s c.in_ok-tree.tree c.requires.some c.in_ok-tree.ensures.tree
 
 pub returns-clause-light : goal.returns-clause-light
 returns-clause-light g c =
-    let s : Sight = sight c.args.table.now (g.Q.Lines.state c.args.lines.now).contents (g.O.Old.text c.args.old.now) c.args.hunks.now.marks in
+    let s : Sight = sight c.args.table.now (g.Q.Lines.state c.args.lines.now).contents (g.O.Old.text c.args.old) c.args.hunks.now.marks in
     whole_light s (asked_so [] []) c.in_ok-line.line c.in_ok-tree.tree c.requires.some c.requires.stays c.in_ok-tree.ensures.light

@@ -9,4 +9,4 @@ set-requires-clause-value c = span_few c.args.chunks.now.buffers c.piece_of.resu
 pub set-requires-clause-sum : goal.set-requires-clause-sum
 set-requires-clause-sum c = λ us x vs e.
     let shorter = c.requires.shorter us x vs e in let units = ap (λ p. p.span.units) c.piece_of.ensures in
-    small_set c.args.tree.now.items us c.args.id x vs c.piece_of.result e (omega (arith, shorter, units)) c.requires.small
+    small_set c.args.tree.now.items us c.args.id x vs c.piece_of.result 0 e (omega (arith, shorter, units)) (omega (arith, c.requires.small))

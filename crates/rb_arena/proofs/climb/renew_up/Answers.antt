@@ -18,12 +18,6 @@ returns-in_default-clause-made g c = λ reach beside whole h.
     (subst (λ o. IsSlack t.weaving (t.within reach) t.is_item t.is_value beside l.tree.nodes.live l.tree.root o (128 - l._turn) now) c.in_default.is sl) in
     (now, made, wv, alike)
 
-pub returns-in_default-clause-spare : goal.returns-in_default-clause-spare
-returns-in_default-clause-spare g c = c.loop-turn.invariant.1
-
-pub returns-in_default-clause-as_many : goal.returns-in_default-clause-as_many
-returns-in_default-clause-as_many g c = c.loop-turn.invariant.2
-
 pub read-at-requires : goal.read-at-requires
 read-at-requires g c =
     let t = g.W.Weave in let laws = g.met.W.Weave in let l = c.loop-turn in
@@ -67,9 +61,3 @@ returns-clause-made g c = λ reach beside whole h.
     let (made, wv) = ended t.weaving laws.laws (t.within reach) t.is_item t.is_sum t.is_value laws.sums laws.parts l.tree.nodes.live l.tree.root 0 now
     (subst (λ o. IsSlack t.weaving (t.within reach) t.is_item t.is_value beside l.tree.nodes.live l.tree.root o 0 now) none last) in
     (now, made, wv, alike)
-
-pub returns-clause-spare : goal.returns-clause-spare
-returns-clause-spare g c = c.loop-turn.invariant.1
-
-pub returns-clause-as_many : goal.returns-clause-as_many
-returns-clause-as_many g c = c.loop-turn.invariant.2

@@ -1,37 +1,16 @@
-use Rattle.std.proofs.Common.{◌≡◌, ◌-◌, ◌+◌, refl, ◌∙◌, subst, arith}
+use Rattle.std.proofs.Common.{◌≡◌, ◌-◌, refl, ◌∙◌, subst, arith}
 use Rattle.rb_arena.specs.Rising.{Risen}
 use Rattle.rb_arena.proofs.Steps.{at_last}
+use Rattle.rb_arena.proofs.Turns.{after_turn}
 use Rattle.rb_arena.proofs.mend.mend.Goals as goal
-
-pub loop-turn-init : goal.loop-turn-init
-loop-turn-init g c = ((λ reach beside es h v. h), refl, refl)
-
-pub returns-in_default-clause-mended : goal.returns-in_default-clause-mended
-returns-in_default-clause-mended g c = λ reach beside es h v.
-    let t = g.W.Weave in let l = c.loop-turn in
-    subst (λ o. Risen t.weaving (t.within reach) beside l.tree.nodes.live l.tree.root es o (128 - l._turn)) c.in_default.is (l.invariant.0 reach beside es h v)
-
-pub returns-in_default-clause-spare : goal.returns-in_default-clause-spare
-returns-in_default-clause-spare g c = c.loop-turn.invariant.1
-
-pub returns-in_default-clause-as_many : goal.returns-in_default-clause-as_many
-returns-in_default-clause-as_many g c = c.loop-turn.invariant.2
 
 pub step-at-requires : goal.step-at-requires
 step-at-requires g c =
     let t = g.W.Weave in let l = c.loop-turn in let (reach, (beside, (es, h, v))) = c.requires in
     (reach, (beside, (es, (128 - l._turn, subst (λ o. Risen t.weaving (t.within reach) beside l.tree.nodes.live l.tree.root es o (128 - l._turn)) c.in-Some.is (l.invariant.0 reach beside es h v), v))))
 
-pub loop-turn-preserved : goal.loop-turn-preserved
-loop-turn-preserved g c =
-    let t = g.W.Weave in let l = c.loop-turn in (
-      (λ reach beside es h v.
-          let now = subst (λ o. Risen t.weaving (t.within reach) beside l.tree.nodes.live l.tree.root es o (128 - l._turn)) c.in-Some.is (l.invariant.0 reach beside es h v) in
-          let fewer : (128 - l._turn) - 1 ≡ 128 - (l._turn + 1) = omega arith in
-          subst (λ n. Risen t.weaving (t.within reach) beside c.step-at.new.tree.nodes.live c.step-at.new.tree.root es c.step-at.result n) fewer (c.step-at.ensures.risen reach beside es (128 - l._turn) now v)),
-      c.step-at.ensures.spare ∙ l.invariant.1,
-      c.step-at.ensures.as_many ∙ l.invariant.2,
-    )
+pub loop-turn-init : goal.loop-turn-init
+loop-turn-init g c = ((λ reach beside es h v. h), refl, refl)
 
 pub returns-clause-mended : goal.returns-clause-mended
 returns-clause-mended g c = λ reach beside es h v.
@@ -39,8 +18,17 @@ returns-clause-mended g c = λ reach beside es h v.
     let over : 128 - l._turn ≡ 0 = omega (arith, c.loop-turn-test.false) in
     at_last t.weaving (t.within reach) beside l.tree.nodes.live l.tree.root es l.at (subst (λ n. Risen t.weaving (t.within reach) beside l.tree.nodes.live l.tree.root es l.at n) over (l.invariant.0 reach beside es h v))
 
-pub returns-clause-spare : goal.returns-clause-spare
-returns-clause-spare g c = c.loop-turn.invariant.1
+pub loop-turn-preserved : goal.loop-turn-preserved
+loop-turn-preserved g c =
+    let t = g.W.Weave in let l = c.loop-turn in let new = c.step-at.new.tree in (
+      (λ reach beside es h v. after_turn
+          (Risen t.weaving (t.within reach) beside l.tree.nodes.live l.tree.root es) (Risen t.weaving (t.within reach) beside new.nodes.live new.root es)
+          _ _ _ 128 l._turn c.in-Some.is (l.invariant.0 reach beside es h v) (λ now. c.step-at.ensures.risen reach beside es (128 - l._turn) now v)),
+      c.step-at.ensures.spare ∙ l.invariant.1,
+      c.step-at.ensures.as_many ∙ l.invariant.2,
+    )
 
-pub returns-clause-as_many : goal.returns-clause-as_many
-returns-clause-as_many g c = c.loop-turn.invariant.2
+pub returns-in_default-clause-mended : goal.returns-in_default-clause-mended
+returns-in_default-clause-mended g c = λ reach beside es h v.
+    let t = g.W.Weave in let l = c.loop-turn in
+    subst (λ o. Risen t.weaving (t.within reach) beside l.tree.nodes.live l.tree.root es o (128 - l._turn)) c.in_default.is (l.invariant.0 reach beside es h v)

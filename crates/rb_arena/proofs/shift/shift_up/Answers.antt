@@ -21,12 +21,6 @@ returns-in_default-clause-made g c = λ beside u k h.
     ended t.weaving laws.laws t.is_near t.is_item t.is_sum t.is_value laws.sums laws.parts l.tree.nodes.live l.tree.root beside c.args.by (128 - l._turn) whole
     (subst (λ o. Shifting t.weaving t.is_near t.is_item l.tree.nodes.live l.tree.root beside o c.args.by (128 - l._turn) whole) c.in_default.is (l.invariant.0 beside u k h))
 
-pub returns-in_default-clause-spare : goal.returns-in_default-clause-spare
-returns-in_default-clause-spare g c = c.loop-turn.invariant.1
-
-pub returns-in_default-clause-as_many : goal.returns-in_default-clause-as_many
-returns-in_default-clause-as_many g c = c.loop-turn.invariant.2
-
 pub place-at-requires : goal.place-at-requires
 place-at-requires g c =
     let t = g.W.Weave in let laws = g.met.W.Weave in let l = c.loop-turn in let (beside, (u, (k, h))) = c.requires in let whole = plug (moved t.weaving c.args.by k) u in
@@ -93,9 +87,3 @@ returns-clause-made g c = λ beside u k h.
     let none = none_above t.weaving laws.laws t.is_near t.is_item t.is_sum t.is_value laws.sums laws.parts l.tree.nodes.live l.tree.root beside l.at c.args.by whole last in
     ended t.weaving laws.laws t.is_near t.is_item t.is_sum t.is_value laws.sums laws.parts l.tree.nodes.live l.tree.root beside c.args.by 0 whole
     (subst (λ o. Shifting t.weaving t.is_near t.is_item l.tree.nodes.live l.tree.root beside o c.args.by 0 whole) none last)
-
-pub returns-clause-spare : goal.returns-clause-spare
-returns-clause-spare g c = c.loop-turn.invariant.1
-
-pub returns-clause-as_many : goal.returns-clause-as_many
-returns-clause-as_many g c = c.loop-turn.invariant.2

@@ -16,8 +16,7 @@ returns-then-given-eq0 g c =
 
 pub returns-then-is_err : goal.returns-then-is_err
 returns-then-is_err g c =
-    let n = c.in-Ok.given in
-    let given = c.in-Ok.ensures in
+    let n = c.in-Ok.given in let given = c.in-Ok.ensures in
     let offered = room c.loop-left.buf c.read.new.buf _ _ c.min-room.ensures c.read.auto.buf in
     let piece = rw (take-append-le n c.read.new.buf (drop c.min-room.result c.loop-left.buf) given.within) at c.answer_piece.ensures in
     served_to_write_fault _ _ _ _ _ _ _ _ _ c.loop-left.invariant _ n c.read.new.buf given (omega arith) (omega (arith, given.within)) _ _
@@ -25,8 +24,7 @@ returns-then-is_err g c =
 
 pub loop-left-preserved : goal.loop-left-preserved
 loop-left-preserved g c =
-    let n = c.in-Ok.given in
-    let given = c.in-Ok.ensures in
+    let n = c.in-Ok.given in let given = c.in-Ok.ensures in
     let offered = room c.loop-left.buf c.read.new.buf _ _ c.min-room.ensures c.read.auto.buf in
     let piece = rw (take-append-le n c.read.new.buf (drop c.min-room.result c.loop-left.buf) given.within) at c.answer_piece.ensures in
     served_to_more _ _ _ _ _ _ _ _ _ c.loop-left.invariant _ n c.read.new.buf given (omega arith) (omega (arith, given.within)) _ _ _

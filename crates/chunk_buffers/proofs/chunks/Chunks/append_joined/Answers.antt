@@ -13,7 +13,7 @@ appended c =
     omega (arith, length-append (c.args.before.now ++ c.args.text.now) c.args.after.now, length-append c.args.before.now c.args.text.now) in
     let spare = ap (λ v. v.spare) c.self.view_is in
     let some = last_room_some c.self.inside.buffers.items (omega (arith, spare)) in
-    let last : c.len-number.result - 1 < length c.self.inside.buffers.items = omega (arith, some) in
+    let last : c.len-number.result - 1 + 1 ≡ length c.self.inside.buffers.items = omega (arith, some) in
     IsAppended-at c.self.inside.buffers.items (c.len-number.result - 1) c.index_mut-buffer.result.now c.append-start.new.self c.append-start.result _ text
     last c.index_mut-buffer.ensures.value c.append-start.ensures.units c.append-start.ensures.start size c.append-start.ensures.fits
 
@@ -28,3 +28,6 @@ returns-clause-grown c = rw (ap (λ v. v.buffers) (sym c.self.view_is)) (appende
 
 pub returns-clause-units : goal.returns-clause-units
 returns-clause-units c = rw (ap (λ v. v.buffers) (sym c.self.view_is)) (appended c).few
+
+pub returns-clause-last : goal.returns-clause-last
+returns-clause-last c = rw (ap (λ v. v.buffers) (sym c.self.view_is)) (appended c).last

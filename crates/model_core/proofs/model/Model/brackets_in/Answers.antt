@@ -1,16 +1,13 @@
-use Rattle.std.proofs.Common.{◌≡◌, ℕ, true, List, Ok, length, refl, ap, sym, subst, ◌∙◌, is_some, arith}
+use Rattle.std.proofs.Common.{◌≡◌, ℕ, true, List, Ok, length, refl, ap, sym, subst, ◌∙◌, is_some, arith, rules}
 use Rattle.std.specs.Option.{option_copied}
 use Rattle.mark_rules.specs.Marks.{clean_marks}
 use Rattle.std.proofs.lemmas.Grind.{common_steps}
 use Rattle.bracket_rules.specs.declared.Entry.{Entry}
 use Rattle.bracket_rules.specs.Table.{is_table}
-use Rattle.bracket_rules.specs.Rows.{text_rows}
-use Rattle.bracket_trees.specs.Told.{IsTreeOf}
-use Rattle.bracket_trees.specs.Weights.{tree_weights, AreCovered}
-use Rattle.node_reuse.specs.Texts.{text_weights}
-use Rattle.document_rules.specs.Brackets.{line_contents, flat_brackets, IsSmall}
+use Rattle.document_rules.specs.Brackets.{flat_brackets, IsSmall}
 use Rattle.std.specs.List.{All}
 use Rattle.model_core.specs.State.{ModelState, fresh_tree}
+use Rattle.model_core.specs.Staying.{IsParseOf}
 use Rattle.model_core.proofs.Staying.{stays_parsed, stays_as, clean_where_fresh}
 use Rattle.model_core.proofs.Kept.{kept_table, flat_small, on_ok}
 use Rattle.model_core.proofs.model.Model.brackets_in.Goals as goal
@@ -33,31 +30,43 @@ returns-in-Some-clause-small c = λ entries rule.
     let table = kept_table tree m.table m.text.units kept c.self.invariant.4.kept in
     on_ok c.map_err.result _ (small (goal.at.returns-in-Some-clause-small c).After-self table c.args.from c.args.to entries rule)
 
-pub returns-in-Some-clause-lines : goal.returns-in-Some-clause-lines
-returns-in-Some-clause-lines c =
+pub returns-in-Some-clause-parse : goal.returns-in-Some-clause-parse
+returns-in-Some-clause-parse c =
     let m = c.self.inside in
     let kept : is_some (fresh_tree m.last.tree m.last.marks) ≡ true = ap is_some (sym c.fresh.ensures ∙ ap option_copied c.in-Some.is) in
     let clean = clean_where_fresh m.last.tree m.last.marks m.table m.text.units kept c.self.invariant.4 in
-    on_ok c.map_err.result _ (subst (λ (s : ModelState). s.marks ≡ clean_marks (length s.marks)) c.self.view_is clean)
+    let lines = on_ok c.map_err.result _ (subst (λ (s : ModelState). s.marks ≡ clean_marks (length s.marks)) c.self.view_is clean) in
+    record {
+      document = search rules;
+      pieces = search rules;
+      same = search rules;
+      same_tree = search rules;
+      same_marks = search rules;
+      asked = search rules;
+      lines = lines;
+      fresh = search rules;
+      parsed = search rules;
+      tree = search rules;
+      marks = search rules;
+      kept = search rules;
+    }
 
 pub invariant_of-self : goal.invariant_of-self
 invariant_of-self c =
     let m = c.self.inside in
     let x = m.text.units in
     let t = c.in_ok-parsed-in-None.parsed.tree in
-    let table : is_table m.table ≡ true = grind (arith, common_steps) in
-    let tells : IsTreeOf (text_rows m.table (line_contents x)) t = grind (arith, common_steps) in
-    let light : AreCovered (tree_weights t) (text_weights (line_contents x)) = grind (arith, common_steps) in (
+    let told : IsParseOf m.table x m.last.marks c.in_ok-parsed-in-None.parsed = grind (arith, common_steps) in (
       c.self.invariant.0,
       c.self.invariant.1,
       c.self.invariant.2,
       c.self.invariant.3,
       stays_as _ c.put.new.self.tree _ c.put.new.self.marks m.table _ x c.put.ensures.tree c.put.ensures.marks refl
-          (stays_parsed t m.last.marks m.table x c.self.invariant.4.count table c.put.ensures.rules tells light),
+          (stays_parsed t m.last.marks m.table x c.self.invariant.4.count told.rule c.put.ensures.rules told.tree told.light),
       c.self.invariant.5,
     )
 
 pub returns-in_ok-map_err-in-None-clause-small : goal.returns-in_ok-map_err-in-None-clause-small
 returns-in_ok-map_err-in-None-clause-small c = λ entries rule.
-    let table : is_table c.self.inside.table ≡ true = grind (arith, common_steps) in
-    small (goal.at.returns-in_ok-map_err-in-None-clause-small c).After-self table c.args.from c.args.to entries rule
+    let told : IsParseOf c.self.inside.table c.self.inside.text.units c.self.inside.last.marks c.in_ok-parsed-in-None.parsed = grind (arith, common_steps) in
+    small (goal.at.returns-in_ok-map_err-in-None-clause-small c).After-self told.rule c.args.from c.args.to entries rule

@@ -6,15 +6,11 @@ use Rattle.model_core.proofs.model.Model.close.Goals as goal
 
 pub invariant_of-self : goal.invariant_of-self
 invariant_of-self c =
-    let m = c.self.inside in (
-      c.self.invariant.0,
-      c.self.invariant.1,
-      c.self.invariant.2,
-      c.self.invariant.3,
-      c.self.invariant.4,
-      IsShelf-closed m.text.buffers m.shelf c.close.new.self (c.close.ensures.inside m.text.buffers c.self.invariant.5.inside) c.self.invariant.5
-          c.close.result c.args.id (c.close.ensures.change m.text.buffers),
-    )
+    let m = c.self.inside in
+    let old = c.self.invariant in
+    let shelf = IsShelf-closed m.text.buffers m.shelf c.close.new.self (c.close.ensures.inside m.text.buffers old.5.inside) old.5
+    c.close.result c.args.id (c.close.ensures.change m.text.buffers) in
+    (old.0, old.1, old.2, old.3, old.4, shelf)
 
 pub returns-clause-paired_state : goal.returns-clause-paired_state
 returns-clause-paired_state c =

@@ -8,15 +8,10 @@ use Rattle.model_core.proofs.model.Model.skip.Goals as goal
 pub invariant_of-self : goal.invariant_of-self
 invariant_of-self c =
     let m = c.self.inside in
-    let kept = c.self.invariant.5 in (
-      c.self.invariant.0,
-      c.self.invariant.1,
-      c.self.invariant.2,
-      c.self.invariant.3,
-      c.self.invariant.4,
-      IsShelf-skipped m.text.buffers m.shelf c.skip.new.self (c.skip.ensures.inside m.text.buffers kept.inside) kept
-          c.args.id c.args.n (c.skip.ensures.change m.text.buffers kept.inside),
-    )
+    let old = c.self.invariant in
+    let shelf = IsShelf-skipped m.text.buffers m.shelf c.skip.new.self (c.skip.ensures.inside m.text.buffers old.5.inside) old.5
+    c.args.id c.args.n (c.skip.ensures.change m.text.buffers old.5.inside) in
+    (old.0, old.1, old.2, old.3, old.4, shelf)
 
 pub returns-clause-paired_state : goal.returns-clause-paired_state
 returns-clause-paired_state c =

@@ -11,16 +11,12 @@ use Rattle.model_core.proofs.model.Model.snapshot.Goals as goal
 pub invariant_of-self : goal.invariant_of-self
 invariant_of-self c =
     let m = c.self.inside in
+    let old = c.self.invariant in
     let spans : c.as_slice.result.now ≡ m.text.spans = grind (arith, common_steps) in
-    let lie : All (LiesIn m.text.buffers) c.as_slice.result.now = subst (All (LiesIn m.text.buffers)) (sym spans) c.spans.ensures.inside in (
-      c.self.invariant.0,
-      c.self.invariant.1,
-      c.self.invariant.2,
-      c.self.invariant.3,
-      c.self.invariant.4,
-      IsShelf-taken m.text.buffers m.shelf c.take.new.self (c.take.ensures.inside m.text.buffers c.self.invariant.5.inside lie) c.self.invariant.5
-          c.take.result (spelled m.text.buffers c.as_slice.result.now) (c.take.ensures.change m.text.buffers),
-    )
+    let lie : All (LiesIn m.text.buffers) c.as_slice.result.now = subst (All (LiesIn m.text.buffers)) (sym spans) c.spans.ensures.inside in
+    let shelf = IsShelf-taken m.text.buffers m.shelf c.take.new.self (c.take.ensures.inside m.text.buffers old.5.inside lie) old.5
+    c.take.result (spelled m.text.buffers c.as_slice.result.now) (c.take.ensures.change m.text.buffers) in
+    (old.0, old.1, old.2, old.3, old.4, shelf)
 
 pub returns-clause-paired_state : goal.returns-clause-paired_state
 returns-clause-paired_state c =

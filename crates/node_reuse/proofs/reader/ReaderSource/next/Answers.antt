@@ -37,22 +37,24 @@ returns-then-is_kept-clause-comes g c =
     let self = c.args.self.now in
     let s : Sight = sight self.table.now (g.Q.Lines.state self.lines.now).contents (g.O.Old.text self.text.now) self.hunks.now.marks in
     let reads = c.next_of_old.ensures.reads s self.line.now refl (c.is_kept.ensures.kept c.if-is_kept.true) (c.is_kept.ensures.unscanned c.if-is_kept.true) c.requires.stands in
-    let asked = asked_so (g.Q.Lines.state self.lines.now).asked (self.lines.ghost_name ∷ self.steps.ghost_name ∷ self.line.ghost_name ∷ []) in
-    reads_comes c.next_of_old.result s asked self.place c.next_of_old.new.place self.line.now self.line.now c.args.opened c.args.level reads
+    let asked = asked_so (g.Q.Lines.state self.lines.now).asked (self.text.ghost_name ∷ self.lines.ghost_name ∷ self.steps.ghost_name ∷ self.line.ghost_name ∷ []) in
+    rw c.next_of_old.ensures.same_text
+    (reads_comes c.next_of_old.result s asked self.place c.next_of_old.new.place self.line.now self.line.now c.args.opened c.args.level reads)
 
 pub returns-then-is_kept-clause-stands : goal.returns-then-is_kept-clause-stands
 returns-then-is_kept-clause-stands g c =
     let self = c.args.self.now in
     let s : Sight = sight self.table.now (g.Q.Lines.state self.lines.now).contents (g.O.Old.text self.text.now) self.hunks.now.marks in
     let reads = c.next_of_old.ensures.reads s self.line.now refl (c.is_kept.ensures.kept c.if-is_kept.true) (c.is_kept.ensures.unscanned c.if-is_kept.true) c.requires.stands in
-    reads_stands c.next_of_old.result s self.place c.next_of_old.new.place self.line.now self.line.now c.args.opened c.args.level reads
+    rw c.next_of_old.ensures.same_text
+    (reads_stands c.next_of_old.result s self.place c.next_of_old.new.place self.line.now self.line.now c.args.opened c.args.level reads)
 
 pub returns-then-is_kept-clause-asks : goal.returns-then-is_kept-clause-asks
 returns-then-is_kept-clause-asks g c =
     let self = c.args.self.now in
     let s : Sight = sight self.table.now (g.Q.Lines.state self.lines.now).contents (g.O.Old.text self.text.now) self.hunks.now.marks in
     let reads = c.next_of_old.ensures.reads s self.line.now refl (c.is_kept.ensures.kept c.if-is_kept.true) (c.is_kept.ensures.unscanned c.if-is_kept.true) c.requires.stands in
-    let asked = asked_so (g.Q.Lines.state self.lines.now).asked (self.lines.ghost_name ∷ self.steps.ghost_name ∷ self.line.ghost_name ∷ []) in
+    let asked = asked_so (g.Q.Lines.state self.lines.now).asked (self.text.ghost_name ∷ self.lines.ghost_name ∷ self.steps.ghost_name ∷ self.line.ghost_name ∷ []) in
     reads_asks c.next_of_old.result s asked self.place c.next_of_old.new.place self.line.now self.line.now c.args.opened c.args.level reads
     c.next_of_old.ensures.same_place (on_err c.next_of_old.result self.line.now)
 
@@ -75,7 +77,7 @@ returns-in_err-enter-clause-asks g c =
     let self = c.args.self.now in
     let s : Sight = sight self.table.now (g.Q.Lines.state self.lines.now).contents (g.O.Old.text self.text.now) self.hunks.now.marks in
     let new : mark_of s self.place ≡ New = c.is_kept.ensures.new c.if-is_kept.false in
-    let borrows : List ℕ = self.lines.ghost_name ∷ self.steps.ghost_name ∷ self.line.ghost_name ∷ [] in
+    let borrows : List ℕ = self.text.ghost_name ∷ self.lines.ghost_name ∷ self.steps.ghost_name ∷ self.line.ghost_name ∷ [] in
     failed_asks s.table s.contents (g.Q.Lines.state c.enter.new.lines).contents s.old s.marks c.enter.ensures.contents
     (asked_so (g.Q.Lines.state self.lines.now).asked borrows) (asked_so (g.Q.Lines.state c.enter.new.lines).asked borrows)
     self.place self.line.now c.enter.new.line (c.enter.ensures.asks s self.place borrows refl new c.requires.stands)
@@ -101,7 +103,7 @@ returns-clause-comes g c =
     let s : Sight = sight self.table.now (g.Q.Lines.state self.lines.now).contents (g.O.Old.text self.text.now) self.hunks.now.marks in
     let new : mark_of s self.place ≡ New = c.is_kept.ensures.new c.if-is_kept.false in
     let stands : StandsAt s self.place c.enter.new.line = c.in_ok-enter.ensures.stands s self.place refl refl refl new c.requires.stands in
-    let borrows : List ℕ = self.lines.ghost_name ∷ self.steps.ghost_name ∷ self.line.ghost_name ∷ [] in
+    let borrows : List ℕ = self.text.ghost_name ∷ self.lines.ghost_name ∷ self.steps.ghost_name ∷ self.line.ghost_name ∷ [] in
     let count : c.lines-count.result ≡ length s.contents = c.lines-count.ensures.lines ∙ c.requires.stands.counted in
     let reads = c.next_of_line.ensures.reads s c.args.opened c.args.level c.requires.level stands
     (last_line s self.place c.lines-count.result count (lines_within s self.place self.line.now c.requires.stands)) in
@@ -115,7 +117,7 @@ returns-clause-stands g c =
     let s : Sight = sight self.table.now (g.Q.Lines.state self.lines.now).contents (g.O.Old.text self.text.now) self.hunks.now.marks in
     let new : mark_of s self.place ≡ New = c.is_kept.ensures.new c.if-is_kept.false in
     let stands : StandsAt s self.place c.enter.new.line = c.in_ok-enter.ensures.stands s self.place refl refl refl new c.requires.stands in
-    let borrows : List ℕ = self.lines.ghost_name ∷ self.steps.ghost_name ∷ self.line.ghost_name ∷ [] in
+    let borrows : List ℕ = self.text.ghost_name ∷ self.lines.ghost_name ∷ self.steps.ghost_name ∷ self.line.ghost_name ∷ [] in
     let count : c.lines-count.result ≡ length s.contents = c.lines-count.ensures.lines ∙ c.requires.stands.counted in
     let reads = c.next_of_line.ensures.reads s c.args.opened c.args.level c.requires.level stands
     (last_line s self.place c.lines-count.result count (lines_within s self.place self.line.now c.requires.stands)) in
@@ -129,7 +131,7 @@ returns-clause-asks g c =
     let s : Sight = sight self.table.now (g.Q.Lines.state self.lines.now).contents (g.O.Old.text self.text.now) self.hunks.now.marks in
     let new : mark_of s self.place ≡ New = c.is_kept.ensures.new c.if-is_kept.false in
     let stands : StandsAt s self.place c.enter.new.line = c.in_ok-enter.ensures.stands s self.place refl refl refl new c.requires.stands in
-    let borrows : List ℕ = self.lines.ghost_name ∷ self.steps.ghost_name ∷ self.line.ghost_name ∷ [] in
+    let borrows : List ℕ = self.text.ghost_name ∷ self.lines.ghost_name ∷ self.steps.ghost_name ∷ self.line.ghost_name ∷ [] in
     let count : c.lines-count.result ≡ length s.contents = c.lines-count.ensures.lines ∙ c.requires.stands.counted in
     let reads = c.next_of_line.ensures.reads s c.args.opened c.args.level c.requires.level stands
     (last_line s self.place c.lines-count.result count (lines_within s self.place self.line.now c.requires.stands)) in

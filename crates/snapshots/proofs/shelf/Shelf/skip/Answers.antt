@@ -5,20 +5,14 @@ use Rattle.snapshots.specs.Shown.{Shown}
 use Rattle.snapshots.proofs.Flat.{skipped-shelf, passed-shelf}
 use Rattle.snapshots.proofs.shelf.Shelf.skip.Goals as goal
 
-pub returns-clause-change : goal.returns-clause-change
-returns-clause-change c = λ b lie.
+pub returns : goal.returns
+returns c =
     let now : c.as_mut_slice.result.now ≡ c.self.inside.snapshots.items = c.as_mut_slice.ensures.value in
     let size : length c.pass_all.new.snapshots ≡ c.self.inside.snapshots.len =
     omega (arith, c.self.inside.snapshots.ok, ap length now, ap length c.pass_all.ensures, length-map c.as_mut_slice.result.now (passed c.args.id c.args.n)) in
     let left = with_items_is c.self.inside.snapshots c.pass_all.new.snapshots size ∙ c.pass_all.ensures
     ∙ ap (map (passed c.args.id c.args.n)) (now ∙ ap (λ (s : Shown). s.snapshots) c.self.view_is) in
-    skipped-shelf b c.args.self.now c.args.id c.args.n _ c.self.inside.next_id lie left (ap (λ (s : Shown). s.next_id) c.self.view_is)
-
-pub returns-clause-inside : goal.returns-clause-inside
-returns-clause-inside c = λ b lie.
-    let now : c.as_mut_slice.result.now ≡ c.self.inside.snapshots.items = c.as_mut_slice.ensures.value in
-    let size : length c.pass_all.new.snapshots ≡ c.self.inside.snapshots.len =
-    omega (arith, c.self.inside.snapshots.ok, ap length now, ap length c.pass_all.ensures, length-map c.as_mut_slice.result.now (passed c.args.id c.args.n)) in
-    let left = with_items_is c.self.inside.snapshots c.pass_all.new.snapshots size ∙ c.pass_all.ensures
-    ∙ ap (map (passed c.args.id c.args.n)) (now ∙ ap (λ (s : Shown). s.snapshots) c.self.view_is) in
-    passed-shelf b c.args.self.now c.args.id c.args.n _ lie left
+    record {
+      change = λ b lie. skipped-shelf b c.args.self.now c.args.id c.args.n _ c.self.inside.next_id lie left (ap (λ (s : Shown). s.next_id) c.self.view_is);
+      inside = λ b lie. passed-shelf b c.args.self.now c.args.id c.args.n _ lie left;
+    }

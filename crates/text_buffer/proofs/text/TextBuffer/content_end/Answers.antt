@@ -77,20 +77,20 @@ pair_seen g c =
     ∙ ap (λ s. ends_with_pair (take own s)) (sym c.units.ensures)
     ∙ sym c.ends_with_pair.ensures
 
+pub returns-then-ends_with_pair-clause-within : goal.returns-then-ends_with_pair-clause-within
+returns-then-ends_with_pair-clause-within g c =
+    omega (arith, next_within g (goal.at.returns-then-ends_with_pair-clause-within g c).After-break_at-found)
+
+pub returns-else-ends_with_pair-clause-within : goal.returns-else-ends_with_pair-clause-within
+returns-else-ends_with_pair-clause-within g c =
+    omega (arith, next_within g (goal.at.returns-else-ends_with_pair-clause-within g c).After-break_at-found)
+
 pub returns-then-ends_with_pair-clause-content : goal.returns-then-ends_with_pair-clause-content
 returns-then-ends_with_pair-clause-content g c = λ d.
     let at = goal.at.returns-then-ends_with_pair-clause-content g c in
     omega (arith, content_to_break g at.After-break_at-found d true (pair_seen g at.After-ends_with_pair ∙ c.if-ends_with_pair.true))
 
-pub returns-then-ends_with_pair-clause-within : goal.returns-then-ends_with_pair-clause-within
-returns-then-ends_with_pair-clause-within g c =
-    omega (arith, next_within g (goal.at.returns-then-ends_with_pair-clause-within g c).After-break_at-found)
-
 pub returns-else-ends_with_pair-clause-content : goal.returns-else-ends_with_pair-clause-content
 returns-else-ends_with_pair-clause-content g c = λ d.
     let at = goal.at.returns-else-ends_with_pair-clause-content g c in
     omega (arith, content_to_break g at.After-break_at-found d false (pair_seen g at.After-ends_with_pair ∙ c.if-ends_with_pair.false))
-
-pub returns-else-ends_with_pair-clause-within : goal.returns-else-ends_with_pair-clause-within
-returns-else-ends_with_pair-clause-within g c =
-    omega (arith, next_within g (goal.at.returns-else-ends_with_pair-clause-within g c).After-break_at-found)

@@ -1,0 +1,18 @@
+-- Each part of a tree has fewer nodes than the tree.
+use Rattle.std.proofs.Common.{◌<◌, ap, arith, inl, inr}
+use Rattle.text_lengths.specs.declared.Length.{Length}
+use Rattle.bracket_trees.specs.Tree.{Tree, text, pair, stray, capped, nothing, two, three}
+use Rattle.bracket_trees.specs.Parts.{IsPart}
+use Rattle.bracket_nodes.specs.Shapes.{tree_size}
+
+pub part_smaller : (p : Length) (t : Tree) (r : Length) (part : Tree) → IsPart p t r part → tree_size part < tree_size t
+part_smaller p (text l) r part none = elim none [ ]
+part_smaller p (pair k o i c) r part is = omega (arith, ap tree_size is.node)
+part_smaller p (stray k w) r part none = elim none [ ]
+part_smaller p (capped k w) r part none = elim none [ ]
+part_smaller p nothing r part none = elim none [ ]
+part_smaller p (two a b) r part (inl is) = omega (arith, ap tree_size is.node)
+part_smaller p (two a b) r part (inr is) = omega (arith, ap tree_size is.node)
+part_smaller p (three a b c) r part (inl is) = omega (arith, ap tree_size is.node)
+part_smaller p (three a b c) r part (inr (inl is)) = omega (arith, ap tree_size is.node)
+part_smaller p (three a b c) r part (inr (inr is)) = omega (arith, ap tree_size is.node)

@@ -1,0 +1,42 @@
+use Rattle.std.proofs.Common.{◌∙◌, Option, Some, None}
+use Rattle.std.specs.Prelude.{IfNone}
+use Rattle.bracket_trees.proofs.Longest.{longest_here}
+use Rattle.bracket_trees.proofs.Parts.{part_shown, node_in_part, no_node_here}
+use Rattle.bracket_nodes.proofs.reader.NodeReader.longest_at.Goals as goal
+
+if_none : {A : Type 0} (o : Option A) (P : Type 0) → P → IfNone o P
+if_none None P h = h
+if_none (Some x) P h = tt
+
+pub returns-then-is_taken_here-clause-some : goal.returns-then-is_taken_here-clause-some
+returns-then-is_taken_here-clause-some c =
+    let here = c.loop-place.here in
+    c.loop-place.invariant.1.1 (Some here.node.now.value)
+    (longest_here here.start here.node.now.value c.args.place c.args.lines c.args.opened c.args.level (c.is_taken_here.ensures.0 c.if-is_taken_here.true))
+
+pub returns-in_err-here-clause-none : goal.returns-in_err-here-clause-none
+returns-in_err-here-clause-none c =
+    let here = c.loop-place.here in
+    if_none c.from_residual.result _ (c.loop-place.invariant.1.1 None
+    (no_node_here here.start here.node.now.value c.args.place c.args.lines c.args.opened c.args.level
+    c.part_at.ensures.tree c.in_err-here.ensures.none (λ taken. let clash = c.is_taken_here.ensures.1 taken in cc)))
+
+pub keep-requires : goal.keep-requires
+keep-requires c =
+    let here = c.loop-place.here in
+    let part = c.in_ok-here.here in
+    rw c.loop-place.invariant.0
+    (part_shown c.args.self.now here.start here.node.now.value part.start part.node.now.value c.part_at.ensures.tree c.loop-place.invariant.1.0 c.in_ok-here.ensures.part)
+
+pub loop-place-preserved : goal.loop-place-preserved
+loop-place-preserved c =
+    let here = c.loop-place.here in
+    let part = c.in_ok-here.here in (
+      c.keep.ensures ∙ c.loop-place.invariant.0,
+      (
+        part_shown c.args.self.now here.start here.node.now.value part.start part.node.now.value c.part_at.ensures.tree c.loop-place.invariant.1.0 c.in_ok-here.ensures.part,
+        λ found h. c.loop-place.invariant.1.1 found
+            (node_in_part here.start here.node.now.value part.start part.node.now.value c.args.place c.args.lines c.args.opened c.args.level found
+            c.part_at.ensures.tree c.in_ok-here.ensures.part c.in_ok-here.ensures.holds (λ taken. let clash = c.is_taken_here.ensures.1 taken in cc) h),
+      ),
+    )

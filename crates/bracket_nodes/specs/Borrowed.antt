@@ -1,0 +1,7 @@
+-- A node that is borrowed from a tree.
+use Rattle.bracket_trees.specs.Tree.{Tree}
+use Rattle.bracket_nodes.specs.declared.find.NodeRef.{NodeRef}
+
+-- the tree that it is
+abbrev pub node_of : NodeRef → Tree
+node_of node = node.inner.now.value

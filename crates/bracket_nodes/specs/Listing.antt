@@ -1,0 +1,32 @@
+-- Entries that are left to list.
+use Rattle.std.specs.Prelude.{ℕ, ◌+◌, ◌*◌, List, [], ◌∷◌, ◌++◌, ⊤}
+use Rattle.bracket_rules.specs.declared.Entry.{Entry}
+use Rattle.bracket_rules.specs.Parse.{is_between}
+use Rattle.bracket_trees.specs.Tree.{tree_entries}
+use Rattle.bracket_nodes.specs.Shapes.{tree_size}
+use Rattle.bracket_nodes.specs.Walks.{HasRoom, chosen, entry_if}
+use Rattle.bracket_nodes.specs.declared.listing.Left.{Left}
+use Rattle.bracket_nodes.specs.declared.listing.Left.TheVariants.{Part, One}
+
+-- the entries of these lines
+abbrev pub entries_left : ℕ → ℕ → Left → List Entry
+entries_left from to (Part here level) = chosen from to (tree_entries here.start level here.node.now.value)
+entries_left from to (One entry) = entry_if (is_between from to entry) entry
+
+-- the last one comes first
+abbrev pub all_left : ℕ → ℕ → List Left → List Entry
+all_left from to [] = []
+all_left from to (x ∷ xs) = all_left from to xs ++ entries_left from to x
+
+abbrev pub HasRoomLeft : Left → Type 0
+HasRoomLeft (Part here level) = HasRoom here.start level here.node.now.value
+HasRoomLeft (One entry) = ⊤
+
+-- how many steps the list takes at most
+abbrev pub steps_left : Left → ℕ
+steps_left (Part here level) = 2 * tree_size here.node.now.value
+steps_left (One entry) = 1
+
+abbrev pub all_steps : List Left → ℕ
+all_steps [] = 0
+all_steps (x ∷ xs) = steps_left x + all_steps xs

@@ -1,0 +1,122 @@
+// A node of a tree at its place, and the part of it that holds a place.
+ghost use Rattle.std.specs.Prelude.{◌+◌, ◌<◌, ◌≤◌, ◌^◌, ◌↔◌, ◌≡◌, IsTrue, IfSome, IfNone};
+ghost use Rattle.text_lengths.specs.Length.{no_length, length_plus};
+ghost use Rattle.bracket_trees.specs.Tree.{tree_length, weight, nesting, IsTree};
+ghost use Rattle.bracket_trees.specs.Parts.{Holds, IsPart, NoPartHolds};
+
+use crate::lists::Shared;
+use crate::makers::wide;
+use crate::node::Shape;
+use text_lengths::Length;
+
+// A node, and where it starts.
+#[derive(Clone, Copy)]
+pub(crate) struct Placed<'a> {
+    pub start: Length,
+    pub node: &'a Shared,
+}
+
+impl<'a> Placed<'a> {
+    /// A whole tree, which starts at the start of a text.
+    pub fn whole(node: &'a Shared) -> Placed<'a>
+        ensures start { result.start ≡ no_length }
+        ensures node { result.node.now.value ≡ node.now.value }
+        ensures light { weight node.now.value < 2 ^ 64 }
+        ensures levels { nesting node.now.value < 2 ^ 64 }
+    {
+        let _kept = node.kept();
+        Placed {
+            start: Length {
+                lines: 0,
+                columns: 0,
+            },
+            node,
+        }
+    }
+
+    /// The part of the node that holds the place.
+    pub fn part_at(&self, place: &Length) -> Option<Placed<'a>>
+        requires { self.now.start.lines + self.now.start.columns + weight self.now.node.now.value < 2 ^ 64 }
+        ensures part { IfSome result (λ part.
+            IsPart self.now.start self.now.node.now.value part.start part.node.now.value) }
+        ensures holds { IfSome result (λ part.
+            Holds part.start part.node.now.value place.now) }
+        ensures none { IfNone result (NoPartHolds self.now.start self.now.node.now.value place.now) }
+        ensures tree { IsTree self.now.node.now.value }
+    {
+        let node = self.node;
+        match &node.shape {
+            Shape::Pair(_, opening, inside, _) => {
+                let start = self.start.plus(&wide(*opening));
+                Placed {
+                    start,
+                    node: inside,
+                }
+                .holding(place)
+            }
+            Shape::Two(a, b) => {
+                let first = self.first(a);
+                if first.holds(place) {
+                    return Some(first);
+                }
+                first.next(b).holding(place)
+            }
+            Shape::Three(a, b, c) => {
+                let first = self.first(a);
+                if first.holds(place) {
+                    return Some(first);
+                }
+                let second = first.next(b);
+                if second.holds(place) {
+                    return Some(second);
+                }
+                second.next(c).holding(place)
+            }
+            _ => None,
+        }
+    }
+
+    /// The node that starts where this one does.
+    pub fn first(&self, node: &'a Shared) -> Placed<'a>
+        ensures start { result.start ≡ self.now.start }
+        ensures node { result.node.now.value ≡ node.now.value }
+    {
+        Placed {
+            start: self.start,
+            node,
+        }
+    }
+
+    /// The node that starts where this one ends.
+    pub fn next(&self, node: &'a Shared) -> Placed<'a>
+        requires { self.now.start.lines + self.now.start.columns + weight self.now.node.now.value < 2 ^ 64 }
+        ensures start { result.start ≡ length_plus self.now.start (tree_length self.now.node.now.value) }
+        ensures fits { result.start.lines + result.start.columns
+            ≤ self.now.start.lines + self.now.start.columns + weight self.now.node.now.value }
+        ensures node { result.node.now.value ≡ node.now.value }
+    {
+        Placed {
+            start: self.node.end(&self.start),
+            node,
+        }
+    }
+
+    // The node, if it holds the place.
+    fn holding(&self, place: &Length) -> Option<Placed<'a>>
+        requires { self.now.start.lines + self.now.start.columns + weight self.now.node.now.value < 2 ^ 64 }
+        ensures start { IfSome result (λ same. same.start ≡ self.now.start) }
+        ensures node { IfSome result (λ same. same.node.now.value ≡ self.now.node.now.value) }
+        ensures some { IfSome result (λ _. Holds self.now.start self.now.node.now.value place.now) }
+        ensures none { IfNone result (Holds self.now.start self.now.node.now.value place.now → ⊥) }
+    {
+        if self.holds(place) { Some(*self) } else { None }
+    }
+
+    /// Whether the node starts at the place or before it, and ends after it.
+    pub fn holds(&self, place: &Length) -> bool
+        requires { self.now.start.lines + self.now.start.columns + weight self.now.node.now.value < 2 ^ 64 }
+        ensures { IsTrue result ↔ Holds self.now.start self.now.node.now.value place.now }
+    {
+        !place.before(&self.start) && place.before(&self.node.end(&self.start))
+    }
+}

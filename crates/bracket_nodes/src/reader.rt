@@ -1,0 +1,146 @@
+//! A reader of a tree that goes on where it stood.
+ghost use Rattle.std.specs.Prelude.{◌≡◌, ◌<◌, ◌^◌, true, IfSome, IfNone};
+ghost use Rattle.text_lengths.specs.Length.{no_length, is_before};
+ghost use Rattle.bracket_trees.specs.Tree.{tree_length, weight, IsTree};
+ghost use Rattle.bracket_trees.specs.Places.{IsLongest, NoneMayBeTaken};
+ghost use Rattle.bracket_trees.specs.Found.{IsTokenAt, NoBracketAt};
+ghost use Rattle.bracket_trees.specs.Parts.{IsShown, ShowsNodes, ShowsBrackets};
+ghost use Rattle.bracket_nodes.specs.Borrowed.{node_of};
+
+use crate::find::{NodeRef, Room, bracket_here, is_taken_here};
+use crate::kinds::Kinds;
+use crate::lists::Shared;
+use crate::node::Node;
+use crate::placed::Placed;
+use bracket_rules::Token;
+use std::alloc::Global;
+use std::marker::Model;
+use text_lengths::Length;
+
+/// A reader of a tree, which starts at the start of a text: places are counted from there. It may be asked at any place,
+/// and at rising ones it goes on where it stood. No call fails for want of memory.
+#[derive(Drop)]
+pub struct NodeReader<'a> {
+    root: &'a Shared,
+    // Nodes that lead to where it stood, inside one another. They only save walks: any may be missing.
+    path: Vec<Placed<'a>>,
+}
+
+impl<'a> Model for NodeReader<'a> {
+    ghost use Rattle.std.specs.Prelude.{All};
+    ghost use Rattle.bracket_trees.specs.Tree.{Tree};
+    ghost use Rattle.bracket_trees.specs.TreeCode.{tree_code};
+    ghost use Rattle.bracket_trees.specs.Parts.{IsShown};
+
+    ghost Value = { Tree };
+
+    ghost coded = { tree_code };
+
+    ghost view = { λ r. r.root.now.value };
+
+    ghost invariant = { λ r. All (λ at. IsShown r.root.now.value at.start at.node.now.value) r.path.items };
+}
+
+impl<'a> NodeReader<'a> {
+    pub fn new(alloc: Global, tree: &'a Node) -> NodeReader<'a>
+        ensures { result ≡ tree.now }
+    {
+        NodeReader {
+            root: &tree.inner,
+            path: Vec::new(alloc),
+        }
+    }
+
+    /// The tree's length. Every tree meets the rules of nodes, and its leaves together fit 64 bits.
+    pub fn length(&self) -> Length
+        ensures length { result ≡ tree_length self.now }
+        ensures tree { IsTree self.now }
+        ensures light { weight self.now < 2 ^ 64 }
+    {
+        self.root.kept().length
+    }
+
+    /// The longest node at this place that may be taken where so many lines are left and brackets
+    /// of these kinds are open, `level` of them; None where there is no such node.
+    pub fn longest_at(
+        &mut self,
+        place: Length,
+        lines: u64,
+        opened: Kinds,
+        level: u64,
+    ) -> Option<NodeRef<'a>>
+        ensures some { IfSome result (λ node.
+            IsLongest no_length self.old place lines opened level (node_of node)) }
+        ensures none { IfNone result (NoneMayBeTaken no_length self.old place lines opened level) }
+        ensures same { self.new ≡ self.old }
+    {
+        let room = Room {
+            lines,
+            opened,
+            level,
+        };
+        let mut here = self.back_before(&place);
+        loop {
+            if is_taken_here(&here, &place, &room) {
+                return Some(NodeRef { inner: here.node });
+            }
+            here = here.part_at(&place)?;
+            self.keep(here);
+        }
+    }
+
+    /// The bracket that starts at this place, as one of its line; None where none does.
+    pub fn bracket_at(&mut self, place: Length) -> Option<Token>
+        ensures some { IfSome result (IsTokenAt no_length self.old place) }
+        ensures none { IfNone result (NoBracketAt no_length self.old place) }
+        ensures same { self.new ≡ self.old }
+    {
+        let mut here = self.back_to(&place);
+        loop {
+            if let Some(token) = bracket_here(&here, &place) {
+                return Some(token);
+            }
+            here = here.part_at(&place)?;
+            self.keep(here);
+        }
+    }
+
+    // The last node of the path that starts before the place and ends after it, or the whole tree.
+    fn back_before(&mut self, place: &Length) -> Placed<'a>
+        ensures shown { IsShown self.old result.start result.node.now.value }
+        ensures nodes { ShowsNodes self.old result.start result.node.now.value place.now }
+        ensures same { self.new ≡ self.old }
+    {
+        let last = self.back_to(place);
+        if last.start.before(place) {
+            return last;
+        }
+        self.path.clear();
+        Placed::whole(self.root)
+    }
+
+    // The last node of the path that holds the place, or the whole tree. What lies beyond it is left.
+    fn back_to(&mut self, place: &Length) -> Placed<'a>
+        ensures shown { IsShown self.old result.start result.node.now.value }
+        ensures nodes { is_before result.start place.now ≡ true
+            → ShowsNodes self.old result.start result.node.now.value place.now }
+        ensures brackets { ShowsBrackets self.old result.start result.node.now.value place.now }
+        ensures same { self.new ≡ self.old }
+    {
+        while let Some(last) = self.path.pop() {
+            if last.holds(place) {
+                let _ = self.path.push(last);
+                return last;
+            }
+        }
+        Placed::whole(self.root)
+    }
+
+    // Puts a node at the end of the path, if there is memory for it.
+    fn keep(&mut self, here: Placed<'a>)
+        requires { IsShown self.old here.start here.node.now.value }
+        ensures { self.new ≡ self.old }
+    {
+        let _ = self.path.push(here);
+    }
+}

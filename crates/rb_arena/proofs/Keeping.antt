@@ -1,0 +1,95 @@
+-- The node of an item of a tree that is kept.
+use Rattle.std.proofs.Common.{◌≡◌, ℕ, ◌+◌, ◌≤◌, List, ◌∷◌, ◌++◌, Option, None, refl, sym, ap, ◌∙◌, subst, arith}
+use Rattle.rb_rules.specs.declared.slot.Data.{Data}
+use Rattle.rb_rules.specs.declared.slot.Side.TheVariants.{Left, Right}
+use Rattle.rb_rules.specs.declared.weave.Weave.{Ghosts}
+use Rattle.rb_rules.specs.Tree.{plug, depth, height}
+use Rattle.rb_rules.specs.Memory.{Made, Spot, here}
+use Rattle.rb_rules.specs.Weaving.{Lawful, Sums}
+use Rattle.rb_rules.specs.Woven.{entries, Woven, AllItems, lefts, rights, shift_at}
+use Rattle.rb_rules.proofs.Held.{items_right}
+use Rattle.rb_rules.proofs.Wider.{woven_wider}
+use Rattle.rb_arena.specs.declared.links.Links.{Links}
+use Rattle.rb_arena.specs.Leaving.{StoresBeside, WovenSpot, shown}
+use Rattle.rb_arena.specs.Nodes.{StandsWithin, AtSpotWithin}
+use Rattle.rb_arena.specs.Value.{items_in, loose_in, KeepsWithin, IsItem, first_or, last_or, neighbour_of}
+use Rattle.rb_arena.proofs.Growing.{depth_height}
+use Rattle.rb_arena.proofs.Listing.{low, items_are, loose_are}
+use Rattle.rb_arena.proofs.Locating.{lying, locate_in, next_is, prev_is}
+
+module _ {W X S B K : Type 0} (w : Ghosts W X S B K) (reach : B) (links : Links (Data X S B)) (front : Option ℕ) (kept : KeepsWithin w reach links front) where
+  abbrev pub all_items : List (ℕ × X)
+  all_items = entries w.weaving w.weaving.still kept.tree
+
+  pub items_seen : {items : List (ℕ × X)} → items_in w.weaving links.nodes.live links.root ≡ items → items ≡ all_items
+  items_seen is = sym is ∙ items_are w.weaving (w.within reach) w.is_item w.is_value links.nodes.live links.root front kept
+
+  pub loose_seen : {loose : List (ℕ × X)} → loose_in w.weaving links.nodes.live front ≡ loose → entries w.weaving w.weaving.still kept.beside ≡ loose
+  loose_seen is = sym (loose_are w.weaving (w.within reach) w.is_item w.is_value links.nodes.live links.root front kept) ∙ is
+
+  pub all_stored : StoresBeside w links reach kept.beside all_items
+  all_stored = let all = kept.all in let few = kept.few in ((kept.tree, kept.made, (kept.woven, refl), kept.balanced), kept.values, omega (arith, all, few))
+
+module _ {W X S B K : Type 0} (w : Ghosts W X S B K) (reach : B) (links : Links (Data X S B)) (front : Option ℕ) (kept : KeepsWithin w reach links front)
+    (us : List (ℕ × X)) (id : ℕ) (x : X) (vs : List (ℕ × X)) where
+  pub record Node : Type 0 where
+    pub spot : Spot (Data X S B)
+    pub whole : plug spot.hole (here spot id) ≡ kept.tree
+    pub value : x ≡ shown w.weaving spot spot.datum.item
+    pub before : us ≡ lefts w.weaving spot.hole ++ entries w.weaving (shift_at w.weaving spot.hole) spot.left
+    pub after : vs ≡ entries w.weaving (w.weaving.plus (shift_at w.weaving spot.hole) spot.datum.delta) spot.right ++ rights w.weaving spot.hole
+    pub listed : entries w.weaving w.weaving.still kept.tree ≡ us ++ (id, x) ∷ vs
+
+  pub node_of : {items : List (ℕ × X)} → items_in w.weaving links.nodes.live links.root ≡ items → items ≡ us ++ (id, x) ∷ vs → Node
+  node_of is e =
+      let listed : entries w.weaving w.weaving.still kept.tree ≡ us ++ (id, x) ∷ vs
+      = sym (items_are w.weaving (w.within reach) w.is_item w.is_value links.nodes.live links.root front kept) ∙ is ∙ e in
+      let (s, whole, value, before, after) = locate_in w.weaving kept.tree us id x vs listed in
+      record { spot = s; whole = whole; value = value; before = before; after = after; listed = listed }
+
+module _ {W X S B K : Type 0} {w : Ghosts W X S B K} {reach : B} {links : Links (Data X S B)} {front : Option ℕ} {kept : KeepsWithin w reach links front}
+    {us : List (ℕ × X)} {id : ℕ} {x : X} {vs : List (ℕ × X)} (n : Node w reach links front kept us id x vs) where
+  abbrev pub own_spot : Spot (Data X S B)
+  own_spot = lying kept.beside n.spot
+
+  pub made_there : Made kept.beside links.nodes.live links.root (plug n.spot.hole (here n.spot id))
+  made_there = subst (Made kept.beside links.nodes.live links.root) (sym n.whole) kept.made
+
+  pub woven_there : Woven w.weaving (w.within reach) w.weaving.still (plug n.spot.hole (here n.spot id))
+  woven_there = subst (Woven w.weaving (w.within reach) w.weaving.still) (sym n.whole) kept.woven
+
+  pub low_there : depth n.spot.hole + height (here n.spot id) ≤ 126
+  low_there =
+      let deep = depth_height n.spot.hole (here n.spot id) in let high = ap height n.whole in
+      let lo = low w.weaving (w.within reach) w.is_item w.is_value links.nodes.live links.root front kept in omega (arith, deep, high, lo)
+
+  pub few_above : depth n.spot.hole ≤ 126
+  few_above = let lo = low_there in omega (arith, lo)
+
+  pub woven_spot : ((b : B) → w.within reach b → w.is_near b) → WovenSpot w.weaving w.is_near links.nodes.live links.root id own_spot
+  woven_spot near =
+      let few = few_above in
+      (made_there, woven_wider w.weaving (w.within reach) w.is_near near w.weaving.still (plug n.spot.hole (here n.spot id)) woven_there, omega (arith, few))
+
+  pub value_there : (L : Lawful w.weaving) (sums : Sums w.weaving w.is_item w.is_sum) (parts : (a b : S) → w.is_value (w.weaving.join a b) → w.is_value a × w.is_value b)
+      → w.is_item (shown w.weaving n.spot n.spot.datum.item)
+  value_there L sums parts =
+      let mine = items_right w.weaving L (w.within reach) w.is_item w.is_sum w.is_value sums parts us ((id, x) ∷ vs) (subst (AllItems w.weaving w.is_item) n.listed kept.values.0) in
+      subst w.is_item n.value mine.0
+
+  pub stands_there : StandsWithin links 126 id
+  stands_there = (own_spot, made_there, low_there)
+
+  -- what is right beside the node is what is right beside its item
+  pub next_there : (o : Option ℕ) → AtSpotWithin links 126 id (λ s. o ≡ neighbour_of Right id s) → o ≡ first_or None vs
+  next_there o is =
+      let s = n.spot in is own_spot made_there low_there ∙ next_is w.weaving kept.beside s.hole s.red id s.datum s.left s.right ∙ ap (first_or None) (sym n.after)
+
+  pub prev_there : (o : Option ℕ) → AtSpotWithin links 126 id (λ s. o ≡ neighbour_of Left id s) → o ≡ last_or None us
+  prev_there o is =
+      let s = n.spot in is own_spot made_there low_there ∙ prev_is w.weaving kept.beside s.hole s.red id s.datum s.left s.right ∙ ap (last_or None) (sym n.before)
+
+-- the node of any item stands in the tree
+pub stands_item : {W X S B K : Type 0} (w : Ghosts W X S B K) (reach : B) (links : Links (Data X S B)) (front : Option ℕ) (kept : KeepsWithin w reach links front)
+    (id : ℕ) {items : List (ℕ × X)} → items_in w.weaving links.nodes.live links.root ≡ items → IsItem items id → StandsWithin links 126 id
+stands_item w reach links front kept id is (us, (x, (vs, e))) = stands_there (node_of w reach links front kept us id x vs is e)

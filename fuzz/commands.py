@@ -1,0 +1,223 @@
+"""Script lines as commands: JSON that is read strictly, and the fields of each command."""
+import json
+import re
+from collections.abc import Callable
+from dataclasses import dataclass
+from typing import Any
+
+from brackets import Pairs
+from texts import units_of
+
+MOST_NUMBER = 2**64 - 1
+MOST_NESTING = 127
+MOST_PAIRS = 32
+MOST_BRACKET_UNITS = 32
+
+STRING = re.compile(r'"(?:[^"\\]|\\.)*"')
+ESCAPE = re.compile(r"\\(?:u([0-9a-fA-F]{4})|.)")
+Reader = Callable[[Any], Any]
+
+
+class Refused(Exception):
+    """What changes nothing, and is answered `! REASON`."""
+
+
+# ---- JSON
+
+
+def whole_number(digits: str) -> int | float:
+    """A number without point and exponent. `-0` is none that counts units."""
+    value = int(digits) if len(digits) < 30 else finite_number(digits)
+    return -0.0 if value == 0 and digits[0] == "-" else value
+
+
+def finite_number(digits: str) -> float:
+    value = float(digits)
+    if value in (float("inf"), float("-inf")):
+        raise Refused("syntax")
+    return value
+
+
+def no_constant(_: str) -> None:
+    raise Refused("syntax")
+
+
+JSON = json.JSONDecoder(parse_int=whole_number, parse_float=finite_number, parse_constant=no_constant)
+
+
+def read_json(line: bytes) -> Any:
+    """The value of the bytes, of which all are looked at, those too that a later field of the same name replaces."""
+    try:
+        text = line.decode("utf-8")
+        check_escapes(text)
+        if line.count(b"[") + line.count(b"{") > MOST_NESTING:
+            check_nesting(text)
+        return JSON.decode(text)
+    except (ValueError, RecursionError):
+        raise Refused("syntax") from None
+
+
+def check_escapes(text: str) -> None:
+    """A surrogate that is escaped stands in a pair, both of whose parts are."""
+    if "\\u" not in text:
+        return
+    high = -1  # where the last high surrogate ended
+    for found in ESCAPE.finditer(text):
+        code = int(found[1] or "0", 16)
+        is_low = 0xDC00 <= code < 0xE000
+        if (high >= 0) != is_low or (is_low and high != found.start()):
+            raise Refused("syntax")
+        high = found.end() if 0xD800 <= code < 0xDC00 else -1
+    if high >= 0:
+        raise Refused("syntax")
+
+
+def check_nesting(text: str) -> None:
+    depth = 0
+    for mark in re.findall(r"[\[\]{}]", STRING.sub("", text)):
+        depth += 1 if mark in "[{" else -1
+        if depth > MOST_NESTING:
+            raise Refused("syntax")
+
+
+# ---- Fields
+
+
+def number(value: Any) -> int:
+    if type(value) is not int or not 0 <= value <= MOST_NUMBER:
+        raise Refused("syntax")
+    return value
+
+
+def text(value: Any) -> str:
+    if type(value) is not str:
+        raise Refused("syntax")
+    return units_of(value)
+
+
+def flag(value: Any) -> bool:
+    if type(value) is not bool:
+        raise Refused("syntax")
+    return value
+
+
+def listed(value: Any) -> list[Any]:
+    if type(value) is not list:
+        raise Refused("syntax")
+    return value
+
+
+def numbers(value: Any) -> list[int]:
+    return [number(item) for item in listed(value)]
+
+
+def span(value: Any) -> list[int]:
+    if len(listed(value)) != 2:
+        raise Refused("syntax")
+    return numbers(value)
+
+
+def positions(value: Any) -> list[int]:
+    if len(listed(value)) != 4:
+        raise Refused("syntax")
+    return numbers(value)
+
+
+def pairs(value: Any) -> Pairs:
+    """The brackets of a new document."""
+    found = tuple(tuple(map(text, listed(pair))) for pair in listed(value))
+    texts = [text for pair in found for text in pair]
+    if not 1 <= len(found) <= MOST_PAIRS or any(len(pair) != 2 for pair in found) or len(set(texts)) != len(texts):
+        raise Refused("syntax")
+    if any(not 1 <= len(text) <= MOST_BRACKET_UNITS or "\r" in text or "\n" in text for text in texts):
+        raise Refused("syntax")
+    return found
+
+
+@dataclass(slots=True, frozen=True)
+class Fields:
+    """The fields of an object, and those that it may lack, in the order in which their values are given."""
+
+    needed: dict[str, Reader]
+    optional: dict[str, Reader]
+
+    def read(self, value: Any) -> list[Any]:
+        """The values, None for one that is not there."""
+        if type(value) is not dict or not self.needed.keys() <= value.keys():
+            raise Refused("syntax")
+        if not value.keys() <= self.needed.keys() | self.optional.keys():
+            raise Refused("syntax")
+        found = [read(value[name]) for name, read in self.needed.items()]
+        return found + [read(value[name]) if name in value else None for name, read in self.optional.items()]
+
+
+def fields(optional: dict[str, Reader] | None = None, **needed: Reader) -> Fields:
+    return Fields(needed, optional or {})
+
+
+OP = fields({"at": span, "range": positions, "force": flag}, text=text)
+NEW_DECORATION = fields({"collapse": flag}, at=span, stick=number)
+
+
+@dataclass(slots=True, frozen=True)
+class LineOp:
+    """An op with a span of offsets, or with the line and column of its start and of its end."""
+
+    at: list[int] | None
+    range: list[int] | None
+    text: str
+    force: bool
+
+
+def op(value: Any) -> LineOp:
+    new, at, range_, force = OP.read(value)
+    if (at is None) == (range_ is None):
+        raise Refused("syntax")
+    return LineOp(at, range_, new, bool(force))
+
+
+def ops(value: Any) -> list[LineOp]:
+    if not listed(value):
+        raise Refused("syntax")
+    return [op(item) for item in value]
+
+
+def new_decorations(value: Any) -> list[tuple[list[int], int, bool]]:
+    found = [NEW_DECORATION.read(item) for item in listed(value)]
+    return [(at, stick, bool(collapse)) for at, stick, collapse in found]
+
+
+COMMANDS: dict[str, Fields] = {
+    "open": fields({"brackets": pairs}, text=text),
+    "edit": fields(ops=ops),
+    "undo": fields(),
+    "redo": fields(),
+    "stop": fields(),
+    "decorate": fields(owner=number, remove=numbers, add=new_decorations),
+    "deco": fields(id=number),
+    "decos": fields({"owner": number}, at=span),
+    "size": fields(),
+    "version": fields(),
+    "line": fields(n=number),
+    "value": fields(at=span),
+    "offset": fields(line=number, col=number),
+    "position": fields(offset=number),
+    "stops": fields(n=number),
+    "snapshot": fields(),
+    "read": fields(id=number, count=number),
+    "close": fields(id=number),
+    "brackets": fields(**{"from": number, "to": number}),
+    "match": fields(line=number, col=number),
+    "level": fields(line=number, col=number),
+}
+
+
+def command_of(line: bytes) -> tuple[str, list[Any]]:
+    """The name of the command that the line spells, and the values of its fields."""
+    value = read_json(line)
+    if type(value) is not dict:
+        raise Refused("syntax")
+    name = value.pop("cmd", None)
+    if type(name) is not str or name not in COMMANDS:
+        raise Refused("syntax")
+    return name, COMMANDS[name].read(value)

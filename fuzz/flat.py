@@ -1,0 +1,293 @@
+"""The flat document: one list of units, decorations moved edit by edit, undo by kept texts, brackets parsed afresh.
+
+It shares nothing with the program: what is right is what `docs/SCRIPT.md` says, done in the plainest way.
+"""
+from bisect import bisect_right
+from collections.abc import Callable
+from dataclasses import dataclass, field
+from typing import Any
+
+import clusters
+from brackets import STANDARD, Entry, Pairs, Parse, Table, parse
+from commands import LineOp, Refused, command_of
+from moves import Decoration, Op, applied, carried, inverse, unforced
+from texts import Text, cuts_pair, quoted
+
+MOST_LINE_BYTES = 2**24
+MOST_UNITS = 2**30 - 1
+MOST_DECORATIONS = 2**20
+MOST_SNAPSHOTS = 64
+MOST_STICK = 3
+BLANKS = b" \t\r"
+UNJUDGED = b"?"  # in place of a reply of which the flat document knows nothing
+STANDARD_TABLE = Table(STANDARD)
+
+
+@dataclass(slots=True)
+class Batch:
+    """What one edit did."""
+
+    before: str
+    ops: list[Op]
+    after: str
+
+
+@dataclass(slots=True)
+class Step:
+    """Edits that are undone together, with the alternative versions around them."""
+
+    batches: list[Batch]
+    before: int
+    after: int
+
+
+@dataclass
+class Document:
+    """The state that commands change and ask about."""
+
+    text: Text = field(default_factory=lambda: Text(""))
+    table: Table = STANDARD_TABLE
+    decorations: dict[int, Decoration] = field(default_factory=dict)
+    next_decoration: int = 1
+    undo_steps: list[Step] = field(default_factory=list)
+    redo_steps: list[Step] = field(default_factory=list)
+    is_step_open: bool = False
+    version: int = 1
+    alternative: int = 1
+    snapshots: dict[int, str] = field(default_factory=dict)
+    next_snapshot: int = 1
+    kept_parse: tuple[Text, Parse] | None = None
+
+    # ---- places
+
+    def check_span(self, start: int, end: int) -> None:
+        if start > end or not self.text.is_place(start) or not self.text.is_place(end):
+            raise Refused("range")
+
+    def check_line(self, line: int) -> None:
+        if not 1 <= line <= len(self.text.starts):
+            raise Refused("range")
+
+    def offset_of(self, line: int, column: int) -> int:
+        self.check_line(line)
+        offset = self.text.starts[line - 1] + column - 1
+        if column < 1 or offset > self.text.ends[line - 1] or not self.text.is_place(offset):
+            raise Refused("range")
+        return offset
+
+    def position_of(self, offset: int) -> tuple[int, int]:
+        line = bisect_right(self.text.starts, offset)
+        return line, offset - self.text.starts[line - 1] + 1
+
+    def content(self, line: int) -> str:
+        self.check_line(line)
+        return self.text.units[self.text.starts[line - 1] : self.text.ends[line - 1]]
+
+    # ---- the text
+
+    def sizes(self) -> str:
+        return f" {self.version} {len(self.text.units)} {len(self.text.starts)}"
+
+    def edit(self, line_ops: list[LineOp]) -> str:
+        ops = sorted(map(self.op_of, line_ops), key=lambda op: (op.end, op.start))
+        if any(op.end > following.start for op, following in zip(ops, ops[1:])):
+            raise Refused("overlap")
+        if len(self.text.units) + sum(op.growth for op in ops) > MOST_UNITS:
+            raise Refused("limit")
+        batch = Batch(self.text.units, ops, applied(self.text.units, ops))
+        self.version += 1
+        self.push(batch)
+        self.alternative = self.version
+        self.redo_steps = []
+        self.change(batch.after, ops)
+        return self.sizes()
+
+    def op_of(self, op: LineOp) -> Op:
+        if op.at:
+            start, end = op.at
+        else:
+            start, end = self.offset_of(*op.range[:2]), self.offset_of(*op.range[2:])
+        self.check_span(start, end)
+        return Op(start, end, op.text, op.force)
+
+    def push(self, batch: Batch) -> None:
+        """Lets the open step have the batch, or a new one that this opens."""
+        if not self.is_step_open:
+            self.undo_steps.append(Step([], self.alternative, 0))
+        self.is_step_open = True
+        self.undo_steps[-1].batches.append(batch)
+        self.undo_steps[-1].after = self.version
+
+    def change(self, units: str, ops: list[Op]) -> None:
+        self.text = Text(units)
+        self.decorations = carried(self.decorations, ops)
+
+    def undo(self) -> str:
+        if not self.undo_steps:
+            return " none"
+        step = self.undo_steps.pop()
+        for batch in reversed(step.batches):
+            self.change(batch.before, inverse(batch.before, batch.ops))
+        self.redo_steps.append(step)
+        self.version += 1
+        self.alternative = step.before
+        self.is_step_open = False
+        return self.sizes()
+
+    def redo(self) -> str:
+        if not self.redo_steps:
+            return " none"
+        step = self.redo_steps.pop()
+        for batch in step.batches:
+            self.change(batch.after, unforced(batch.ops))
+        self.undo_steps.append(step)
+        self.version += 1
+        self.alternative = step.after
+        return self.sizes()
+
+    def stop(self) -> str:
+        self.is_step_open = False
+        return ""
+
+    def size(self) -> str:
+        return f" {len(self.text.units)} {len(self.text.starts)}"
+
+    def versions(self) -> str:
+        return f" {self.version} {self.alternative}"
+
+    def line(self, line: int) -> str:
+        return f" {quoted(self.content(line))}"
+
+    def value(self, at: list[int]) -> str:
+        self.check_span(*at)
+        return f" {quoted(self.text.units[at[0] : at[1]])}"
+
+    def offset(self, line: int, column: int) -> str:
+        return f" {self.offset_of(line, column)}"
+
+    def position(self, offset: int) -> str:
+        self.check_span(offset, offset)
+        return " {} {}".format(*self.position_of(offset))
+
+    def stops(self, line: int) -> str | None:
+        columns = clusters.starts(self.content(line))
+        return None if columns is None else "".join(f" {column}" for column in columns)
+
+    # ---- decorations
+
+    def decorate(self, owner: int, remove: list[int], add: list[tuple[list[int], int, bool]]) -> str:
+        owned = (id in self.decorations and self.decorations[id].owner == owner for id in remove)
+        if len(set(remove)) != len(remove) or not all(owned):
+            raise Refused("unknown")
+        for at, stick, _ in add:
+            self.check_span(*at)
+            if stick > MOST_STICK:
+                raise Refused("range")
+        if len(self.decorations) - len(remove) + len(add) > MOST_DECORATIONS:
+            raise Refused("limit")
+        for id in remove:
+            del self.decorations[id]
+        first = self.next_decoration
+        for id, (at, stick, collapse) in enumerate(add, first):
+            self.decorations[id] = Decoration(id, owner, *at, stick, collapse)
+        self.next_decoration += len(add)
+        return f" {first} {len(add)}"
+
+    def deco(self, id: int) -> str:
+        found = self.decorations.get(id)
+        if not found:
+            raise Refused("unknown")
+        return f" {found.start} {found.end} {found.stick} {found.owner}"
+
+    def decos(self, at: list[int], owner: int | None) -> str:
+        self.check_span(*at)
+        start, end = at
+        met = [it for it in self.decorations.values() if it.start <= end and it.end >= start]
+        mine = [(it.start, it.end, it.id) for it in met if owner in (None, it.owner)]
+        return "".join(f" {id} {start} {end}" for start, end, id in sorted(mine))
+
+    # ---- brackets
+
+    def parsed(self) -> Parse:
+        if not self.kept_parse or self.kept_parse[0] is not self.text:
+            self.kept_parse = self.text, parse(self.text, self.table)
+        return self.kept_parse[1]
+
+    def brackets(self, first: int, last: int) -> str:
+        if first > last:
+            raise Refused("range")
+        self.check_line(first)
+        self.check_line(last)
+        return "".join(map(self.entry, self.parsed().between(self.text.starts[first - 1], self.text.ends[last - 1])))
+
+    def entry(self, it: Entry) -> str:
+        line, column = self.position_of(it.at)
+        return f" {line} {column} {it.units} {it.kind} {it.status} {it.level}"
+
+    def match(self, line: int, column: int) -> str:
+        offset = self.offset_of(line, column)
+        partners = [entry.partner for entry in self.parsed().between(offset, offset) if entry.partner]
+        if not partners:
+            return " none"
+        return " {} {} {}".format(*self.position_of(partners[0].at), partners[0].units)
+
+    def level(self, line: int, column: int) -> str:
+        return f" {self.parsed().level_at(self.offset_of(line, column))}"
+
+    # ---- snapshots
+
+    def snapshot(self) -> str:
+        if len(self.snapshots) >= MOST_SNAPSHOTS:
+            raise Refused("limit")
+        id = self.next_snapshot
+        self.snapshots[id] = self.text.units
+        self.next_snapshot += 1
+        return f" {id}"
+
+    def read(self, id: int, count: int) -> str:
+        if id not in self.snapshots:
+            raise Refused("unknown")
+        if count < 2:
+            raise Refused("range")
+        rest = self.snapshots[id]
+        count -= cuts_pair(rest, count)
+        self.snapshots[id] = rest[count:]
+        return f" {quoted(rest[:count])}"
+
+    def close(self, id: int) -> str:
+        if id not in self.snapshots:
+            raise Refused("unknown")
+        del self.snapshots[id]
+        return ""
+
+
+class Flat:
+    """Answers the lines of a script."""
+
+    def __init__(self) -> None:
+        self.document = Document()
+
+    def open(self, units: str, pairs: Pairs | None) -> str:
+        if len(units) > MOST_UNITS:
+            raise Refused("limit")
+        self.document = Document(Text(units), Table(pairs) if pairs else STANDARD_TABLE)
+        return self.document.sizes()
+
+    def call_named(self, name: str) -> Callable[..., str | None]:
+        return self.open if name == "open" else getattr(self.document, METHODS.get(name, name))
+
+    def reply(self, line: bytes) -> bytes | None:
+        """The reply to a line without its LF; None where it has none."""
+        if len(line) > MOST_LINE_BYTES:
+            return b"! limit"
+        if not line.strip(BLANKS):
+            return None
+        try:
+            name, values = command_of(line)
+            said: Any = self.call_named(name)(*values)
+        except Refused as refused:
+            return f"! {refused}".encode()
+        return UNJUDGED if said is None else b"ok" + said.encode("utf-8")
+
+
+METHODS = {"version": "versions"}

@@ -1,0 +1,71 @@
+"""One script of lines at the limits that a script can reach: bytes of a line, decorations, snapshots, open brackets."""
+MOST_LINE_BYTES = 2**24
+MOST_DECORATIONS = 2**20
+MOST_SNAPSHOTS = 64
+MOST_OPEN = 300
+
+
+def padded(line: bytes, size: int) -> bytes:
+    """The line with blanks in front of it, of so many bytes in all."""
+    return b" " * (size - len(line)) + line
+
+
+def new_decorations(count: int) -> bytes:
+    add = b",".join([b'{"at":[0,0],"stick":0}'] * count)
+    return b'{"cmd":"decorate","owner":1,"remove":[],"add":[%b]}' % add
+
+
+def long_lines() -> list[bytes]:
+    size = b'{"cmd":"size"}'
+    text = b'{"cmd":"open","text":"%b"}'
+    long_text = text % (b"a" * (MOST_LINE_BYTES - len(text) + 2))
+    return [
+        padded(size, MOST_LINE_BYTES),
+        padded(size, MOST_LINE_BYTES + 1),
+        b" " * MOST_LINE_BYTES,
+        b" " * (MOST_LINE_BYTES + 1),
+        b"\t\r" * (MOST_LINE_BYTES // 2),
+        long_text,
+        size,
+        long_text[:-2] + b'a"}',
+        size,
+        b"[" * MOST_LINE_BYTES,
+        b'{"cmd":"edit","ops":[{"at":[16000000,16000000],"text":"\\n("}]}',
+        b'{"cmd":"position","offset":16000002}',
+        b'{"cmd":"level","line":2,"col":2}',
+        b'{"cmd":"undo"}',
+    ]
+
+
+def many_decorations() -> list[bytes]:
+    half = MOST_DECORATIONS // 2
+    lines = [b'{"cmd":"open","text":"ab"}', new_decorations(half), new_decorations(half), new_decorations(1)]
+    lines += [
+        b'{"cmd":"decorate","owner":1,"remove":[7],"add":[{"at":[1,2],"stick":1},{"at":[1,2],"stick":1}]}',
+        b'{"cmd":"decorate","owner":1,"remove":[7],"add":[{"at":[1,2],"stick":1}]}',
+        b'{"cmd":"deco","id":7}',
+        b'{"cmd":"decos","at":[1,2]}',
+        b'{"cmd":"edit","ops":[{"at":[0,0],"text":"xyz"}]}',
+        b'{"cmd":"deco","id":1048577}',
+    ]
+    return lines
+
+
+def many_snapshots() -> list[bytes]:
+    lines = [b'{"cmd":"open","text":"ab"}', *[b'{"cmd":"snapshot"}'] * (MOST_SNAPSHOTS + 1)]
+    lines += [b'{"cmd":"close","id":1}', b'{"cmd":"snapshot"}', b'{"cmd":"close","id":1}']
+    return [*lines, b'{"cmd":"read","id":65,"count":9}']
+
+
+def many_brackets() -> list[bytes]:
+    lines = []
+    for count in (MOST_OPEN - 1, MOST_OPEN, MOST_OPEN + 1, 100_000):
+        lines += [b'{"cmd":"open","text":"%b)"}' % (b"(" * count), b'{"cmd":"brackets","from":1,"to":1}']
+        columns = (1, MOST_OPEN, MOST_OPEN + 1, count, count + 1, count + 2)
+        lines += [b'{"cmd":"level","line":1,"col":%d}' % column for column in columns]
+        lines += [b'{"cmd":"match","line":1,"col":%d}' % column for column in columns]
+    return lines
+
+
+def lines() -> list[bytes]:
+    return [*long_lines(), *many_snapshots(), *many_brackets(), *many_decorations()]

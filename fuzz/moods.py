@@ -1,0 +1,98 @@
+"""What kinds of documents and commands the parts of a script are made of, so that unlikely things meet often."""
+from random import Random
+from typing import NamedTuple
+
+import clusters
+from brackets import MOST_OPEN, STANDARD, Pairs
+
+WEIGHTS = {
+    "edit": 30, "undo": 8, "redo": 8, "stop": 4, "version": 3, "size": 1,
+    "decorate": 7, "deco": 4, "decos": 4,
+    "line": 3, "value": 3, "offset": 4, "position": 5, "stops": 3,
+    "snapshot": 2, "read": 3, "close": 1,
+    "brackets": 6, "match": 5, "level": 5,
+    "open": 1, "hostile": 4,
+}  # fmt: skip
+
+BREAKS = ["\r", "\n", "\r\n"]
+LETTERS = ["a", "b"]
+PAIRED = ["\U0001f600", "\U0001d4b3"]
+JOINED = [*clusters.CLASSES]
+QUOTED = ['"', "\\", "\t", "\x01", "\x7f", "\u2028", "\ufeff", "/"]
+
+
+class Mood(NamedTuple):
+    """How large the texts are, how often each command comes, and how texts are made."""
+
+    units: int  # the length that edits keep to
+    weights: dict[str, int]
+    alphabets: list[list[str]]
+    with_brackets: int  # how often a bracket stands among the characters
+    depth: int = 0  # how many brackets a new text opens in its first line, or some fewer
+
+
+def more(**weights: int) -> dict[str, int]:
+    return WEIGHTS | weights
+
+
+MOODS = {
+    "mixed": (10, Mood(40, WEIGHTS, [LETTERS, BREAKS, PAIRED, JOINED, QUOTED], 4)),
+    "tiny": (6, Mood(6, more(open=3), [LETTERS, BREAKS, PAIRED], 1)),
+    "lines": (4, Mood(30, more(position=20, offset=15, line=15, brackets=2), [BREAKS, BREAKS, LETTERS], 1)),
+    "marks": (6, Mood(30, more(decorate=25, deco=15, decos=15, brackets=1, match=1, level=1), [LETTERS, PAIRED], 1)),
+    "nests": (6, Mood(40, more(brackets=25, match=20, level=20, deco=1, decos=1), [BREAKS, LETTERS], 12)),
+    "forest": (3, Mood(300, more(brackets=4, match=20, level=20), [BREAKS, LETTERS, LETTERS], 8)),
+    "steps": (5, Mood(30, more(undo=30, redo=30, stop=15, version=10), [LETTERS, BREAKS], 2)),
+    "shelves": (3, Mood(30, more(snapshot=20, read=30, close=8, edit=20), [PAIRED, LETTERS, BREAKS], 1)),
+    "clusters": (3, Mood(25, more(stops=40, line=5), [JOINED, JOINED, JOINED, BREAKS], 1)),
+    "hostile": (3, Mood(20, more(hostile=60), [LETTERS, BREAKS, PAIRED], 1)),
+    "deep": (2, Mood(60, more(brackets=4, match=15, level=25, open=2), [BREAKS, LETTERS], 4, MOST_OPEN)),
+    "large": (1, Mood(4000, more(brackets=4, open=2, stops=1, hostile=1), [LETTERS, LETTERS, BREAKS, PAIRED], 2)),
+}
+
+TABLES: list[Pairs] = [
+    (("<", "<<"),),
+    (("begin", "end"), ("be", "en")),
+    (("a", "b"),),
+    (("ab", "ba"), ("a", "b")),
+    (("(", "(("), (")", "))")),
+    (("\U0001f600", "\U0001d4b3"),),
+    ((".", "*"), ("|", "+"), ("\\", "^"), ("$", "?")),
+    (("x" * 32, "x" * 31), ("x", "xx")),
+    (("\U0001f600" * 16, "\U0001f600"), ("a\u0301", "\u0301")),
+    tuple((chr(97 + kind % 26) + chr(65 + kind), chr(97 + kind % 26) + chr(33 + kind)) for kind in range(32)),
+]
+
+
+def drawn_mood(draw: Random) -> Mood:
+    weights, moods = zip(*MOODS.values())
+    return draw.choices(moods, weights)[0]
+
+
+def drawn_table(draw: Random) -> Pairs:
+    """Mostly the standard one."""
+    return STANDARD if draw.random() < 0.6 else draw.choice(TABLES)
+
+
+def drawn_alphabet(draw: Random, mood: Mood, table: Pairs) -> list[str]:
+    """Few kinds of characters, so that equal ones meet, and some brackets."""
+    alphabet = []
+    for group in draw.sample(mood.alphabets, k=min(len(mood.alphabets), 3)):
+        alphabet += draw.choices(group, k=draw.randint(1, 4))
+    texts = [text for pair in draw.choices(table, k=2) for text in pair]
+    nests = [nest(draw, table) for _ in range(mood.with_brackets // 2)]
+    return alphabet + draw.choices(texts, k=mood.with_brackets) + nests
+
+
+def nest(draw: Random, table: Pairs) -> str:
+    """Some pairs inside one another."""
+    pairs = draw.choices(table, k=draw.randint(1, 4))
+    return "".join(opening for opening, _ in pairs) + "".join(closing for _, closing in reversed(pairs))
+
+
+def opened_brackets(draw: Random, mood: Mood, table: Pairs) -> str:
+    """A line with as many open brackets as the mood wants, or a few fewer."""
+    if not mood.depth:
+        return ""
+    openings = [opening for opening, _ in table]
+    return "".join(draw.choices(openings, k=mood.depth - draw.randint(0, 12))) + draw.choice(BREAKS)

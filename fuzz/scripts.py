@@ -1,0 +1,280 @@
+"""Writes scripts. Each line is made for the document as it stands, so that most are accepted, and some just not."""
+import json
+from collections.abc import Callable
+from itertools import accumulate
+from random import Random
+from typing import NamedTuple
+
+import hostile
+from brackets import STANDARD
+from flat import UNJUDGED, Document, Flat
+from moods import Mood, drawn_alphabet, drawn_mood, drawn_table, opened_brackets
+from texts import cuts_pair
+
+ODD_NUMBERS = [0, 1, 2, 2**31, 2**32, 2**53 + 1, 2**63 - 1, 2**63, 2**64 - 1, 2**64]
+MANY_DECORATIONS = 24
+NO_TABLES = [
+    [], [["a", "a"]], [["", "b"]], [["a"]], [["a", "b", "c"]], [["a\r", "b"]], [["a", "\nb"]], [["x" * 33, "y"]],
+    [["a", "b"], ["b", "c"]], [[chr(64 + n), chr(128 + n)] for n in range(33)], [["\U0001f600" * 17, "y"]], "()", [1],
+]  # fmt: skip
+
+
+class Script(NamedTuple):
+    """Lines without their LF, and the replies of the flat document to those that are not empty."""
+
+    lines: list[bytes]
+    replies: list[bytes]
+    has_last_end: bool = True
+
+    @property
+    def bytes(self) -> bytes:
+        return b"\n".join(self.lines) + b"\n" * self.has_last_end
+
+    @property
+    def status(self) -> int:
+        return int(any(reply.startswith(b"!") for reply in self.replies))
+
+
+class Writer:
+    """Makes the lines of one script, and answers each by a flat document."""
+
+    def __init__(self, seed: str) -> None:
+        self.draw = Random(seed)
+        self.flat = Flat()
+        self.table = drawn_table(self.draw)
+        self.place = 0  # where something happened last
+        self.set_mood(drawn_mood(self.draw))
+
+    @property
+    def document(self) -> Document:
+        return self.flat.document
+
+    def set_mood(self, mood: Mood) -> None:
+        self.mood = mood
+        self.alphabet = drawn_alphabet(self.draw, mood, self.table)
+        self.names = list(mood.weights)
+        self.sums = list(accumulate(mood.weights.values()))
+
+    def chance(self, of: float) -> bool:
+        return self.draw.random() < of
+
+    def script(self, count: int, most_bytes: int) -> Script:
+        """A script of so many lines, or of fewer where the replies would be too long."""
+        lines, replies, size = [], [], 0
+        while len(lines) < count and size < most_bytes:
+            line = self.line()
+            reply = self.flat.reply(line)
+            lines.append(line)
+            if reply is not None:
+                replies.append(reply)
+                size += len(reply) + 1
+        return Script(lines, replies, has_last_end=not self.chance(0.2))
+
+    def name(self) -> str:
+        """A command. Edits drop what could be redone, so a `redo` comes more often where it can do something."""
+        if self.document.redo_steps and self.chance(0.12):
+            return "redo"
+        name = self.draw.choices(self.names, cum_weights=self.sums)[0]
+        return "undo" if name == "redo" and not self.document.redo_steps and self.chance(0.6) else name
+
+    def line(self) -> bytes:
+        name = self.name()
+        if name == "hostile":
+            return hostile.made_from(self.draw, self.line())
+        line = MAKERS[name](self)
+        if self.chance(0.02):
+            line = hostile.spelled_otherwise(self.draw, line)
+        return line.encode("utf-8")
+
+    # ---- parts of lines
+
+    def text(self, most: int) -> str:
+        return "".join(self.draw.choices(self.alphabet, k=self.draw.randint(0, most)))
+
+    def spelled(self, text: str) -> str:
+        return json.dumps(text, ensure_ascii=self.chance(0.3))
+
+    def few(self) -> int:
+        """Mostly 0 to 3, sometimes some more."""
+        return min(int(self.draw.expovariate(0.6)), 12)
+
+    def offset(self) -> int:
+        """A place of the text, with a liking for those where something is; now and then none."""
+        units = len(self.document.text.units)
+        kind = self.draw.random()
+        if kind < 0.015:
+            return self.draw.choice([units + 1, units + self.few(), *ODD_NUMBERS])
+        if kind < 0.25 and self.document.decorations:
+            mark = self.document.decorations[self.known_decoration()]
+            place = mark.start if self.chance(0.5) else mark.end
+        elif kind < 0.45:
+            place = self.place
+        elif kind < 0.6:
+            place = self.draw.choice(self.document.text.starts) - self.draw.randint(0, 2)
+        else:
+            place = self.draw.randint(0, units)
+        place = min(max(place + (self.few() if self.chance(0.2) else 0), 0), units)
+        is_half = cuts_pair(self.document.text.units, place)
+        return place - 1 if is_half and self.chance(0.9) else place
+
+    def span(self) -> tuple[int, int]:
+        start = self.offset()
+        end = min(start + self.few(), len(self.document.text.units))
+        if cuts_pair(self.document.text.units, end) and self.chance(0.9):
+            end += 1
+        if self.chance(0.1):
+            end = self.offset()
+        return (start, end) if self.chance(0.02) else (min(start, end), max(start, end))
+
+    def line_number(self) -> int:
+        lines = len(self.document.text.starts)
+        if self.chance(0.04):
+            return self.draw.choice([0, lines + 1, *ODD_NUMBERS])
+        return self.draw.randint(1, lines)
+
+    def position(self) -> tuple[int, int]:
+        """Often that of a bracket. One between a CR and its LF is none."""
+        if self.chance(0.03):
+            return self.draw.choice([(0, 1), (1, 0), (self.line_number(), self.draw.choice(ODD_NUMBERS))])
+        entries = self.document.parsed().entries
+        if entries and self.chance(0.5):
+            return self.document.position_of(self.draw.choice(entries).at + self.chance(0.2))
+        offset = self.offset()
+        return self.document.position_of(offset) if offset <= len(self.document.text.units) else (1, offset)
+
+    def known_decoration(self) -> int:
+        return self.draw.choice(list(self.document.decorations))
+
+    def decoration(self) -> int:
+        if self.chance(0.9) and self.document.decorations:
+            return self.known_decoration()
+        return self.draw.choice([0, self.document.next_decoration, self.draw.randint(1, self.document.next_decoration)])
+
+    def snapshot(self) -> int:
+        if self.chance(0.95) and self.document.snapshots:
+            return self.draw.choice(list(self.document.snapshots))
+        return self.draw.choice([0, self.document.next_snapshot, self.draw.randint(1, self.document.next_snapshot)])
+
+    # ---- lines
+
+    def open(self) -> str:
+        self.table = drawn_table(self.draw)
+        self.set_mood(drawn_mood(self.draw))
+        self.place = 0
+        opening = opened_brackets(self.draw, self.mood, self.table)
+        text = self.spelled(opening + self.text(self.mood.units))
+        self.mood = self.mood._replace(units=self.mood.units + len(opening))
+        if self.table is STANDARD and self.chance(0.8):
+            return f'{{"cmd":"open","text":{text}}}'
+        table = self.draw.choice(NO_TABLES) if self.chance(0.05) else self.table
+        return f'{{"cmd":"open","text":{text},"brackets":{json.dumps(table, ensure_ascii=self.chance(0.5))}}}'
+
+    def edit(self) -> str:
+        count = 1 if self.chance(0.7) else self.draw.randint(2, 40 if self.chance(0.03) else 5)
+        spans = [self.span() for _ in range(count)]
+        if count > 1 and self.chance(0.8):
+            spans = apart(spans)
+            self.draw.shuffle(spans)
+        return f'{{"cmd":"edit","ops":[{",".join(map(self.op, spans))}]}}'
+
+    def op(self, span: tuple[int, int]) -> str:
+        start, end = span
+        self.place = start if self.chance(0.5) else end
+        units = len(self.document.text.units)
+        if units > self.mood.units and self.chance(0.3) and start <= units:
+            end = min(units, start + self.draw.randint(0, units // 2))
+        text = self.spelled(self.text(3 if units > self.mood.units else 5))
+        force = self.draw.choice(["", "", "", "", ',"force":true', ',"force":false'])
+        if self.chance(0.25) and max(start, end) <= units:
+            positions = [*self.document.position_of(start), *self.document.position_of(end)]
+            return f'{{"range":{json.dumps(positions)},"text":{text}{force}}}'
+        return f'{{"at":[{start},{end}],"text":{text}{force}}}'
+
+    def decorate(self) -> str:
+        owner = self.draw.choice([1, 1, 1, 2, 2, 3, *ODD_NUMBERS[:-1]]) if self.chance(0.2) else self.draw.randint(1, 2)
+        mine = [id for id, it in self.document.decorations.items() if it.owner == owner]
+        is_full = len(self.document.decorations) > MANY_DECORATIONS
+        fewer = self.few() * (4 if is_full else 1) if self.chance(0.6) else 0
+        remove = self.draw.sample(mine, k=min(len(mine), fewer))
+        if self.chance(0.04):
+            remove.append(self.decoration())
+        add = [self.new_decoration() for _ in range(60 if self.chance(0.005) else self.few())]
+        return f'{{"cmd":"decorate","owner":{owner},"remove":{json.dumps(remove)},"add":[{",".join(add)}]}}'
+
+    def new_decoration(self) -> str:
+        start, end = self.span()
+        stick = self.draw.choice([4, *ODD_NUMBERS]) if self.chance(0.01) else self.draw.randint(0, 3)
+        collapse = self.draw.choice(["", "", ',"collapse":true', ',"collapse":false'])
+        return f'{{"at":[{start},{end}],"stick":{stick}{collapse}}}'
+
+    def deco(self) -> str:
+        return f'{{"cmd":"deco","id":{self.decoration()}}}'
+
+    def decos(self) -> str:
+        start, end = self.span()
+        owner = f',"owner":{self.draw.choice([1, 2, 9])}' if self.chance(0.3) else ""
+        return f'{{"cmd":"decos","at":[{start},{end}]{owner}}}'
+
+    def value(self) -> str:
+        start, end = self.span()
+        return f'{{"cmd":"value","at":[{start},{end}]}}'
+
+    def ask_line(self, name: str) -> str:
+        return f'{{"cmd":"{name}","n":{self.line_number()}}}'
+
+    def ask_position(self, name: str) -> str:
+        line, column = self.position()
+        return f'{{"cmd":"{name}","line":{line},"col":{column}}}'
+
+    def ask_offset(self) -> str:
+        return f'{{"cmd":"position","offset":{self.offset()}}}'
+
+    def brackets(self) -> str:
+        first, last = self.line_number(), self.line_number()
+        if self.chance(0.95):
+            first, last = min(first, last), max(first, last)
+        if self.mood.units > 1000:
+            last = min(last, first + 20)
+        return f'{{"cmd":"brackets","from":{first},"to":{last}}}'
+
+    def read(self) -> str:
+        count = self.draw.choice([0, 1, 9, 30, *ODD_NUMBERS]) if self.chance(0.2) else self.draw.randint(2, 6)
+        return f'{{"cmd":"read","id":{self.snapshot()},"count":{count}}}'
+
+    def close(self) -> str:
+        return f'{{"cmd":"close","id":{self.snapshot()}}}'
+
+
+def apart(spans: list[tuple[int, int]]) -> list[tuple[int, int]]:
+    """The same places as spans that do not overlap, some of which touch."""
+    places = sorted(place for span in spans for place in span)
+    return list(zip(places[::2], places[1::2]))
+
+
+def bare(name: str) -> Callable[[Writer], str]:
+    return lambda _: f'{{"cmd":"{name}"}}'
+
+
+def about(asked: Callable[[Writer, str], str], name: str) -> Callable[[Writer], str]:
+    return lambda writer: asked(writer, name)
+
+
+MAKERS: dict[str, Callable[[Writer], str]] = {
+    "open": Writer.open,
+    "edit": Writer.edit,
+    "decorate": Writer.decorate,
+    "deco": Writer.deco,
+    "decos": Writer.decos,
+    "value": Writer.value,
+    "position": Writer.ask_offset,
+    "brackets": Writer.brackets,
+    "read": Writer.read,
+    "close": Writer.close,
+    **{name: bare(name) for name in ("undo", "redo", "stop", "size", "version", "snapshot")},
+    **{name: about(Writer.ask_line, name) for name in ("line", "stops")},
+    **{name: about(Writer.ask_position, name) for name in ("offset", "match", "level")},
+}
+
+
+def is_same(reply: bytes, expected: bytes) -> bool:
+    return reply == expected or expected == UNJUDGED
