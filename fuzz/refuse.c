@@ -1,8 +1,10 @@
 /* Loaded before the C library, refuses requests for memory: number REFUSE_FIRST, counted from 1, and where REFUSE_STEP is
-   not 0 each REFUSE_STEP-th one behind it too. */
+   not 0 each REFUSE_STEP-th one behind it too. Where one was refused, the file REFUSE_TOLD is there at the end. */
 #include <errno.h>
+#include <fcntl.h>
 #include <stddef.h>
 #include <stdlib.h>
+#include <unistd.h>
 
 extern void *__libc_malloc(size_t size);
 extern void *__libc_calloc(size_t count, size_t size);
@@ -16,6 +18,13 @@ __attribute__((constructor)) static void begin(void) {
     first = text ? strtoul(text, NULL, 10) : 0;
     text = getenv("REFUSE_STEP");
     step = text ? strtoul(text, NULL, 10) : 0;
+}
+
+__attribute__((destructor)) static void end(void) {
+    const char *told = getenv("REFUSE_TOLD");
+    int file = told && first && made >= first ? open(told, O_WRONLY | O_CREAT, 0600) : -1;
+    if (file >= 0)
+        close(file);
 }
 
 static int refuses(void) {
