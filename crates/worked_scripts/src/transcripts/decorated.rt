@@ -20,10 +20,7 @@ each mode at its start
 
 each mode at its end
 {"cmd":"edit","ops":[{"at":[5,5],"text":"xyz"}]} => ok 2 11 1
-{"cmd":"deco","id":1} => ok 2 8 0 1
-{"cmd":"deco","id":2} => ok 2 5 1 1
-{"cmd":"deco","id":3} => ok 2 5 2 1
-{"cmd":"deco","id":4} => ok 2 8 3 1
+{"cmd":"decos","at":[0,11]} => ok 2 2 5 3 2 5 1 2 8 4 2 8
 "#;
 
 pub const DECORATED: &str = r#"
