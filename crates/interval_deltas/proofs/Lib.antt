@@ -1,6 +1,11 @@
-mod MoveLoops
 pub mod Counts
 mod Sorting
-mod Ranks
-mod Places
+mod Naming
+mod Items
+mod Searches
+mod Moving
+mod Lists
+mod Untouched
+mod Landing
 mod Trees
+mod Touching

@@ -1,124 +1,165 @@
--- What the two lists of a tree keep.
-use Rattle.std.proofs.Common.{◌≡◌, ℕ, ◌<◌, true, false, not, ltb, inl, inr, List, [], ◌∷◌, ◌++◌, length, get_or, take, drop, map, Some, None, refl, sym, ◌∙◌, ap, subst, arith}
-use Rattle.std.specs.List.{prefix_len, insert, remove, All}
-use Rattle.std.proofs.lemmas.Bool.{both_ways, cases_Bool, cond_both}
-use Rattle.std.proofs.lemmas.List.{append-nil, drop_all, take_all}
-use Rattle.std.proofs.lemmas.List.Folds.{list_all-map}
+-- What a tree keeps as one is put in, is taken out, or all move.
+use Rattle.std.proofs.Common.{◌≡◌, ℕ, ◌+◌, ◌-◌, ◌<◌, ◌≤◌, zero, suc, true, false, cond, eqb, inl, inr, List, [], ◌∷◌, ◌++◌, length, get_or, map, Option, Some, None, refl, sym, ◌∙◌, ap, subst, arith}
+use Rattle.std.specs.List.{list_all, All, Contains}
+use Rattle.std.specs.List.Sorted.{IsPermutation}
+use Rattle.std.proofs.lemmas.Bool.{or_parts, and_from, both_ways, cases_Bool, cond-true, cond-false, eq-eqb, eqb-true}
+use Rattle.std.proofs.lemmas.Bool.Decides.{nat_tests}
+use Rattle.std.proofs.lemmas.Int.{ints}
+use Rattle.std.proofs.lemmas.List.{append-nil, length-append, length-map, get_or_at}
+use Rattle.std.proofs.lemmas.List.Elements.{All-head, All-tail}
+use Rattle.std.proofs.lemmas.List.Sorted.{IsPermutation-trans, IsPermutation-map, list_any-IsPermutation, length_permutation, Contains-permutation}
+use Rattle.text_lengths.specs.declared.Span.{Span}
 use Rattle.decoration_rules.specs.declared.Edit.{Edit}
 use Rattle.decoration_rules.specs.declared.Mark.{Mark}
-use Rattle.decoration_rules.specs.Moves.{moved_mark}
-use Rattle.decoration_rules.specs.Marks.{stands_before, put_in_order, in_order, IsInOrder, has_id, is_live, mark_of, HasDistinctIds, without}
-use Rattle.decoration_rules.proofs.OrderLemmas.{Has, HaveSame, Has-get_or, stands_before-itself}
-use Rattle.decoration_rules.proofs.MarkLists.{All-from_in_order, HaveSame-in_order, HaveSame-sym, is_live-same, IsInOrder-in_order, distinct_in_order, distinct_map, in_order-filter, in_order-map, list_all-filter, mark_of-has, mark_of-none}
-use Rattle.interval_deltas.specs.Tree.{IsById, IsTree}
-use Rattle.interval_deltas.proofs.Places.{prefix_len-below, insert-rank, IsById-insert, distinct_by_id, in_order-insert, remove-below, remove-rank, found_at, IsFoundAt}
+use Rattle.decoration_rules.specs.Moves.{offset_limit, moved_mark}
+use Rattle.decoration_rules.specs.Marks.{stands_before, in_order, IsInOrder, has_id, is_live, HasDistinctIds}
+use Rattle.decoration_rules.proofs.MarkLists.{in_order-unique, distinct_map}
+use Rattle.interval_deltas.specs.declared.weave.KeptMark.{KeptMark}
+use Rattle.interval_deltas.specs.Weave.{is_mark}
+use Rattle.interval_deltas.specs.Kept.{Each, AreMarks, CanMove, IsUntouched, as_mark, marks_of, moved_kept, moved_items}
+use Rattle.interval_deltas.specs.Tree.{node_in}
+use Rattle.interval_deltas.proofs.Items.{each_listed}
+use Rattle.interval_deltas.proofs.Lists.{moved-append, marks-moved, fresh_at, node_none, node_some, mark_none, node_moved}
+use Rattle.interval_deltas.proofs.Moving.{grounded, still_kept, span_past, nat_order}
+use Rattle.interval_deltas.proofs.Naming.{past_other}
+use Rattle.interval_deltas.proofs.Sorting.{HaveSame-permutation, distinct_permutation}
 
-pub tree-ordered : (marks by_id : List Mark) → IsTree marks by_id → IsInOrder marks
-tree-ordered marks by_id tree = subst IsInOrder (sym tree.same) (IsInOrder-in_order by_id (distinct_by_id by_id tree.ordered))
+-- the list after the three phases of an edit
+pub all_moved : (edit : Edit) (old first lifted new : List (ℕ × KeptMark)) → HasDistinctIds (marks_of old) → IsPermutation (old ++ []) (first ++ lifted) → IsPermutation (moved_items edit first ++ moved_items edit lifted) new
+    → IsPermutation (moved_items edit old) new
+all_moved edit old first lifted new distinct one two =
+    let moved : IsPermutation (moved_items edit (old ++ [])) (moved_items edit (first ++ lifted)) = IsPermutation-map (λ (e : ℕ × KeptMark). (e.0, moved_kept edit e.1)) (old ++ []) (first ++ lifted) one in
+    IsPermutation-trans (moved_items edit old) (moved_items edit (first ++ lifted)) new (subst (λ l. IsPermutation (moved_items edit l) (moved_items edit (first ++ lifted))) (append-nil old) moved)
+    (subst (λ l. IsPermutation l new) (sym (moved-append edit first lifted)) two)
 
-pub tree-distinct : (marks by_id : List Mark) → IsTree marks by_id → HasDistinctIds marks
-tree-distinct marks by_id tree = subst HasDistinctIds (sym tree.same) (distinct_in_order by_id (distinct_by_id by_id tree.ordered))
+pub marks_all_moved : (edit : Edit) (old new : List (ℕ × KeptMark)) → HasDistinctIds (marks_of old) → IsInOrder (marks_of new) → IsPermutation (moved_items edit old) new
+    → marks_of new ≡ in_order (map (moved_mark edit) (marks_of old))
+marks_all_moved edit old new distinct ordered moved =
+    let same : IsPermutation (map (moved_mark edit) (marks_of old)) (marks_of new) =
+    subst (λ l. IsPermutation l (marks_of new)) (marks-moved edit old) (IsPermutation-map (λ (e : ℕ × KeptMark). as_mark e.1) (moved_items edit old) new moved) in
+    in_order-unique (map (moved_mark edit) (marks_of old)) (marks_of new) (distinct_map (moved_mark edit) (λ _. refl) (marks_of old) distinct) ordered
+    (HaveSame-permutation (map (moved_mark edit) (marks_of old)) (marks_of new) same)
 
-pub tree-same : (marks by_id : List Mark) → IsTree marks by_id → HaveSame marks by_id
-tree-same marks by_id tree = subst (λ (ms : List Mark). HaveSame ms by_id) (sym tree.same) (HaveSame-sym by_id (in_order by_id) (HaveSame-in_order by_id))
+-- Nodes of ids.
 
-live-same : (id : ℕ) (xs ys : List Mark) → HaveSame xs ys → is_live xs id ≡ true → is_live ys id ≡ true
-live-same id xs ys same live = elim (cases_Bool (is_live ys id)) [
-  | inl there ↦ there
-  | inr none ↦ absurd (both_ways (is_live xs id) (is_live-same ys xs id (HaveSame-sym xs ys same) none) live)
+pub node_put : (us : List (ℕ × KeptMark)) (e : ℕ × KeptMark) (vs : List (ℕ × KeptMark)) → is_live (marks_of (us ++ vs)) e.1.label.id ≡ false → (k : ℕ)
+    → node_in (us ++ e ∷ vs) k ≡ cond (eqb k e.1.label.id) (Some e.0) (node_in (us ++ vs) k)
+node_put [] e vs fresh k = refl
+node_put (u ∷ us) e vs fresh k =
+    let parts = or_parts (has_id e.1.label.id (as_mark u.1)) (is_live (marks_of (us ++ vs)) e.1.label.id) fresh in
+    ap (cond (eqb k u.1.label.id) (Some u.0)) (node_put us e vs parts.1 k)
+    ∙ past_other k e.1.label.id u.1.label.id (Some u.0) (node_in (us ++ vs) k) (Some e.0) (λ same. both_ways (has_id e.1.label.id (as_mark u.1)) parts.0 (eq-eqb u.1.label.id e.1.label.id same))
+
+pub node_without : (us : List (ℕ × KeptMark)) (e : ℕ × KeptMark) (vs : List (ℕ × KeptMark)) → is_live (marks_of (us ++ vs)) e.1.label.id ≡ false → (k : ℕ)
+    → node_in (us ++ vs) k ≡ cond (eqb k e.1.label.id) None (node_in (us ++ e ∷ vs) k)
+node_without us e vs fresh k = elim (cases_Bool (eqb k e.1.label.id)) [
+  | inl here ↦
+      ap (node_in (us ++ vs)) (eqb-true k e.1.label.id here) ∙ node_none (us ++ vs) e.1.label.id fresh
+      ∙ sym (cond-true (eqb k e.1.label.id) None (node_in (us ++ e ∷ vs) k) here)
+  | inr away ↦
+      sym (cond-false (eqb k e.1.label.id) (Some e.0) (node_in (us ++ vs) k) away) ∙ sym (node_put us e vs fresh k)
+      ∙ sym (cond-false (eqb k e.1.label.id) None (node_in (us ++ e ∷ vs) k) away)
 ]
 
-pub tree-is : (ms ns marks by_id : List Mark) → ms ≡ marks → ns ≡ by_id → IsTree marks by_id → IsTree ms ns
-tree-is ms ns marks by_id marks_is by_id_is tree =
-    record { ordered = subst IsById (sym by_id_is) tree.ordered; same = marks_is ∙ tree.same ∙ ap in_order (sym by_id_is) }
+-- the item that has an id
+node_at : (us : List (ℕ × KeptMark)) (e : ℕ × KeptMark) (vs : List (ℕ × KeptMark)) → HasDistinctIds (marks_of (us ++ e ∷ vs)) → node_in (us ++ e ∷ vs) e.1.label.id ≡ Some e.0
+node_at us e vs distinct =
+    node_put us e vs (fresh_at us e vs distinct) e.1.label.id
+    ∙ cond-true (eqb e.1.label.id e.1.label.id) (Some e.0) (node_in (us ++ vs) e.1.label.id) (eq-eqb e.1.label.id e.1.label.id refl)
 
--- One is put in.
+split_at : (es : List (ℕ × KeptMark)) (i : ℕ) (d : ℕ × KeptMark) → i < length es → (us : List (ℕ × KeptMark)) × ((vs : List (ℕ × KeptMark)) × (es ≡ us ++ get_or es i d ∷ vs))
+split_at [] i d below = absurd (omega arith)
+split_at (e ∷ es) zero d below = ([], (es, refl))
+split_at (e ∷ es) (suc i) d below = let (us, (vs, is)) = split_at es i d (omega arith) in (e ∷ us, (vs, ap (λ l. e ∷ l) is))
 
-pub insert-tree : (m : Mark) (marks by_id : List Mark) → IsTree marks by_id → is_live marks m.id ≡ false
-    → IsTree (insert marks (prefix_len (λ other. stands_before other m) marks) m) (insert by_id (prefix_len (λ other. ltb other.id m.id) by_id) m)
-insert-tree m marks by_id tree fresh =
-    let fresh_id : is_live by_id m.id ≡ false = is_live-same marks by_id m.id (tree-same marks by_id tree) fresh in
-    record {
-      ordered = IsById-insert m by_id fresh_id tree.ordered;
-      same = insert-rank m marks fresh ∙ ap (put_in_order m) tree.same ∙ in_order-insert m by_id fresh_id tree.ordered;
-    }
+node_contains : (es : List (ℕ × KeptMark)) (e : ℕ × KeptMark) → HasDistinctIds (marks_of es) → Contains es e → node_in es e.1.label.id ≡ Some e.0
+node_contains es e distinct (i, below, at) =
+    let (us, (vs, is)) = split_at es i e below in
+    let whole : es ≡ us ++ e ∷ vs = is ∙ ap (λ (f : ℕ × KeptMark). us ++ f ∷ vs) at in
+    ap (λ l. node_in l e.1.label.id) whole ∙ node_at us e vs (subst (λ l. HasDistinctIds (marks_of l)) whole distinct)
 
--- One is taken out.
+contains_at : (ws : List (ℕ × KeptMark)) (f : ℕ × KeptMark) (zs es : List (ℕ × KeptMark)) → es ≡ ws ++ f ∷ zs → Contains es f
+contains_at ws f zs es is = subst (λ l. Contains l f) (sym is) (length ws, omega (arith, length-append ws (f ∷ zs)), get_or_at ws f zs f (length ws) refl)
 
-IsById-without : (id : ℕ) (xs : List Mark) → IsById xs → IsById (without id xs)
-IsById-without id [] ordered = tt
-IsById-without id (x ∷ xs) ordered =
-    cond_both (not (has_id id x)) (x ∷ without id xs) (without id xs) IsById
-    (λ _. (list_all-filter (λ mark. not (has_id id mark)) (λ later. ltb x.id later.id) xs ordered.0, IsById-without id xs ordered.1))
-    (λ _. IsById-without id xs ordered.1)
+-- the same in another order
+pub node_permutation : (xs ys : List (ℕ × KeptMark)) → IsPermutation xs ys → HasDistinctIds (marks_of xs) → (k : ℕ) → node_in xs k ≡ node_in ys k
+node_permutation xs ys moved distinct k = by_node (node_in xs k) refl
+  where
+    by_node : (o : Option ℕ) → node_in xs k ≡ o → node_in xs k ≡ node_in ys k
+    by_node None e =
+        e ∙ sym (node_none ys k (sym (list_any-IsPermutation (has_id k) (marks_of xs) (marks_of ys) (IsPermutation-map (λ (f : ℕ × KeptMark). as_mark f.1) xs ys moved)) ∙ mark_none xs k e))
+    by_node (Some n) e =
+        let (us, (m, (vs, is, same, found))) = node_some xs k n e in
+        let there : Contains ys (n, m) = Contains-permutation xs ys (n, m) moved (contains_at us (n, m) vs xs is) in
+        e ∙ sym (ap (node_in ys) (sym same) ∙ node_contains ys (n, m) (distinct_permutation (marks_of xs) (marks_of ys) (IsPermutation-map (λ (f : ℕ × KeptMark). as_mark f.1) xs ys moved) distinct) there)
 
--- a mark is taken out of both lists
-abbrev pub IsRemoval : ℕ → Mark → List Mark → List Mark → Type 0
-IsRemoval id m marks by_id =
-    (prefix_len (λ other. stands_before other m) marks < length marks)
-    × IsTree (remove marks (prefix_len (λ other. stands_before other m) marks)) (remove by_id (prefix_len (λ other. ltb other.id id) by_id))
-    × (remove marks (prefix_len (λ other. stands_before other m) marks) ≡ without id marks)
+-- An edit leaves those in order that it does not touch.
 
-pub remove-tree : (id : ℕ) (m : Mark) (marks by_id : List Mark) → IsTree marks by_id → is_live marks id ≡ true
-    → m ≡ get_or by_id (prefix_len (λ other. ltb other.id id) by_id) m → IsRemoval id m marks by_id
-remove-tree id m marks by_id tree live read =
-    let live_id : is_live by_id id ≡ true = live-same id marks by_id (tree-same marks by_id tree) live in
-    let found : IsFoundAt id by_id = found_at id by_id tree.ordered live_id in
-    let is : m ≡ found.mark = read ∙ found.at m in
-    let id_is : m.id ≡ id = ap (λ (k : Mark). k.id) is ∙ found.same in
-    let there : Has marks m = subst (λ (k : Mark). Has marks k) (sym is) ((tree-same marks by_id tree).from found.mark found.there) in
-    let taken : remove marks (prefix_len (λ other. stands_before other m) marks) ≡ without id marks =
-    remove-rank m marks (tree-ordered marks by_id tree) (tree-distinct marks by_id tree) there ∙ ap (λ n. without n marks) id_is in
-    let taken_id : remove by_id (prefix_len (λ other. ltb other.id id) by_id) ≡ without id by_id = remove-below id by_id tree.ordered live_id in (
-      prefix_len-below (λ other. stands_before other m) marks m there (stands_before-itself m),
-      record {
-        ordered = subst IsById (sym taken_id) (IsById-without id by_id tree.ordered);
-        same = taken ∙ ap (without id) tree.same ∙ in_order-filter (λ mark. not (has_id id mark)) by_id (distinct_by_id by_id tree.ordered) ∙ ap in_order (sym taken_id);
-      },
-      taken,
-    )
+shifted_before : (a b : Mark) (u r : ℕ) → r ≤ a.span.start → a.span.start ≤ a.span.end → r ≤ b.span.start → b.span.start ≤ b.span.end → stands_before a b ≡ true
+    → stands_before (record a { span = record { start = a.span.start + u - r; end = a.span.end + u - r } }) (record b { span = record { start = b.span.start + u - r; end = b.span.end + u - r } }) ≡ true
+shifted_before a b u r la ua lb ub before = grind (arith, nat_tests)
 
-pub live-below : (id : ℕ) (marks by_id : List Mark) → IsTree marks by_id → is_live marks id ≡ true → prefix_len (λ other. ltb other.id id) by_id < length by_id
-live-below id marks by_id tree live = (found_at id by_id tree.ordered (live-same id marks by_id (tree-same marks by_id tree) live)).below
+lower_before : (a b : Mark) (s t : ℕ) → a.span.start < s → stands_before a (record b { span = record { start = s; end = t } }) ≡ true
+lower_before a b s t lt = grind (arith, nat_tests)
 
--- All move.
+not_lower : (a b : Mark) → b.span.start < a.span.start → stands_before a b ≡ true → ⊥
+not_lower a b lt before = grind (arith, nat_tests)
 
-IsById-moved : (edit : Edit) (xs : List Mark) → IsById xs → IsById (map (moved_mark edit) xs)
-IsById-moved edit [] ordered = tt
-IsById-moved edit (x ∷ xs) ordered =
-    (list_all-map (λ later. ltb x.id later.id) (moved_mark edit) xs ∙ ordered.0, IsById-moved edit xs ordered.1)
+-- each keeps its place
+pub kept_order : (edit : Edit) (x y : KeptMark) → edit.start ≤ edit.end → is_mark x → is_mark y → IsUntouched edit x → IsUntouched edit y → stands_before (as_mark x) (as_mark y) ≡ true
+    → stands_before (as_mark (moved_kept edit x)) (as_mark (moved_kept edit y)) ≡ true
+kept_order edit x y up h g (inl low) (inl low2) before =
+    subst (λ (k : KeptMark). stands_before (as_mark k) (as_mark (moved_kept edit y)) ≡ true) (sym (still_kept edit x h low))
+    (subst (λ (k : KeptMark). stands_before (as_mark x) (as_mark k) ≡ true) (sym (still_kept edit y g low2)) before)
+kept_order edit x y up h g (inl low) (inr high) before =
+    let a = as_mark x in let b = as_mark y in
+    let first = grounded x.start h.0 in let second = grounded y.start g.0 in
+    subst (λ (k : KeptMark). stands_before (as_mark k) (as_mark (moved_kept edit y)) ≡ true) (sym (still_kept edit x h low))
+    (subst (λ (s : Span). stands_before a (record b { span = s }) ≡ true) (sym (span_past b.span b.sticky b.collapse edit up (nat_order y g) (omega (arith, ints, second, high))))
+    (lower_before a b (b.span.start + edit.units - (edit.end - edit.start)) (b.span.end + edit.units - (edit.end - edit.start)) (omega (arith, ints, first, second, low, high, h.1, up))))
+kept_order edit x y up h g (inr high) (inl low) before =
+    let first = grounded x.start h.0 in let second = grounded y.start g.0 in
+    absurd (not_lower (as_mark x) (as_mark y) (omega (arith, ints, first, second, low, high, g.1, up)) before)
+kept_order edit x y up h g (inr high) (inr high2) before =
+    let a = as_mark x in let b = as_mark y in
+    let first = grounded x.start h.0 in let second = grounded y.start g.0 in
+    subst (λ (s : Span). stands_before (record a { span = s }) (as_mark (moved_kept edit y)) ≡ true) (sym (span_past a.span a.sticky a.collapse edit up (nat_order x h) (omega (arith, ints, first, high))))
+    (subst (λ (s : Span). stands_before (record a { span = record { start = a.span.start + edit.units - (edit.end - edit.start); end = a.span.end + edit.units - (edit.end - edit.start) } }) (record b { span = s }) ≡ true)
+    (sym (span_past b.span b.sticky b.collapse edit up (nat_order y g) (omega (arith, ints, second, high2))))
+    (shifted_before a b edit.units (edit.end - edit.start) (omega (arith, ints, first, high)) (nat_order x h) (omega (arith, ints, second, high2)) (nat_order y g) before))
 
-pub accept-tree : (edit : Edit) (marks by_id : List Mark) → IsTree marks by_id → IsTree (in_order (map (moved_mark edit) marks)) (map (moved_mark edit) by_id)
-accept-tree edit marks by_id tree = record {
-  ordered = IsById-moved edit by_id tree.ordered;
-  same = ap (λ ms. in_order (map (moved_mark edit) ms)) tree.same ∙ in_order-map (moved_mark edit) (λ _. refl) by_id (distinct_by_id by_id tree.ordered);
-}
+pub rest_ordered : (edit : Edit) (es : List (ℕ × KeptMark)) → edit.start ≤ edit.end → AreMarks es → Each (IsUntouched edit) es → IsInOrder (marks_of es) → IsInOrder (marks_of (moved_items edit es))
+rest_ordered edit [] up h g ordered = tt
+rest_ordered edit (e ∷ es) up (h, hs) (g, gs) ordered =
+    (later es hs gs (each_listed (stands_before (as_mark e.1)) es ordered.0), rest_ordered edit es up hs gs ordered.1)
+  where
+    later : (fs : List (ℕ × KeptMark)) → AreMarks fs → Each (IsUntouched edit) fs → Each (λ m. stands_before (as_mark e.1) (as_mark m) ≡ true) fs
+        → list_all (stands_before (as_mark (moved_kept edit e.1))) (marks_of (moved_items edit fs)) ≡ true
+    later [] a b c = refl
+    later (f ∷ fs) (a, rest) (b, bs) (c, cs) = and_from (stands_before (as_mark (moved_kept edit e.1)) (as_mark (moved_kept edit f.1))) _ (kept_order edit e.1 f.1 up h a g b c) (later fs rest bs cs)
 
-pub moved-distinct : (edit : Edit) (marks by_id : List Mark) → IsTree marks by_id → HasDistinctIds (map (moved_mark edit) marks)
-moved-distinct edit marks by_id tree = distinct_map (moved_mark edit) (λ _. refl) marks (tree-distinct marks by_id tree)
+pub can_move : (edit : Edit) (es : List (ℕ × KeptMark)) → All (λ (mark : Mark). (moved_mark edit mark).span.end < offset_limit) (marks_of es) → CanMove edit es
+can_move edit [] h = tt
+can_move edit (e ∷ es) h =
+    let P : Mark → Type 0 = λ mark. (moved_mark edit mark).span.end < offset_limit in
+    (All-head P (as_mark e.1) (marks_of es) h, can_move edit es (All-tail P (as_mark e.1) (marks_of es) h))
 
-pub tree-all : (P : Mark → Type 0) (marks by_id : List Mark) → IsTree marks by_id → All P marks → All P by_id
-tree-all P marks by_id tree all = All-from_in_order P by_id (subst (All P) tree.same all)
+pub distinct_moved : (edit : Edit) (old first lifted : List (ℕ × KeptMark)) → HasDistinctIds (marks_of old) → IsPermutation (old ++ []) (first ++ lifted) → HasDistinctIds (marks_of (moved_items edit first ++ moved_items edit lifted))
+distinct_moved edit old first lifted distinct moved =
+    let all : HasDistinctIds (marks_of (first ++ lifted)) =
+    distinct_permutation (marks_of (old ++ [])) (marks_of (first ++ lifted)) (IsPermutation-map (λ (f : ℕ × KeptMark). as_mark f.1) (old ++ []) (first ++ lifted) moved) (subst (λ l. HasDistinctIds (marks_of l)) (sym (append-nil old)) distinct) in
+    subst (λ l. HasDistinctIds (marks_of l)) (moved-append edit first lifted)
+    (subst HasDistinctIds (sym (marks-moved edit (first ++ lifted))) (distinct_map (moved_mark edit) (λ _. refl) (marks_of (first ++ lifted)) all))
 
--- what a whole slice of a vector is put back as
-pub put_back : (n : ℕ) (xs ys : List Mark) → n ≡ length xs → length ys ≡ n → take n (ys ++ drop (length ys) xs) ≡ ys
-put_back n xs ys all same =
-    ap (λ rest. take n (ys ++ rest)) (drop_all (length ys) xs (omega arith)) ∙ ap (take n) (append-nil ys) ∙ take_all n ys (omega arith)
+pub lengths_moved : (edit : Edit) (old new : List (ℕ × KeptMark)) → IsPermutation (moved_items edit old) new → length new ≡ length old
+lengths_moved edit old new moved = length_permutation (moved_items edit old) new moved ∙ length-map old (λ e. (e.0, moved_kept edit e.1))
 
--- The one of an id.
+pub names_moved : (edit : Edit) (old new : List (ℕ × KeptMark)) → HasDistinctIds (marks_of old) → IsPermutation (moved_items edit old) new → (k : ℕ) → node_in old k ≡ node_in new k
+names_moved edit old new distinct moved k =
+    sym (node_moved edit old k)
+    ∙ node_permutation (moved_items edit old) new moved (subst HasDistinctIds (sym (marks-moved edit old)) (distinct_map (moved_mark edit) (λ _. refl) (marks_of old) distinct)) k
 
-pub place-found : (id : ℕ) (m : Mark) (marks by_id : List Mark) → IsTree marks by_id → prefix_len (λ other. ltb other.id id) by_id < length by_id
-    → m ≡ get_or by_id (prefix_len (λ other. ltb other.id id) by_id) m → m.id ≡ id → Some m ≡ mark_of marks id
-place-found id m marks by_id tree below read same =
-    let there : Has by_id m = subst (λ (k : Mark). Has by_id k) (sym read) (Has-get_or by_id (prefix_len (λ other. ltb other.id id) by_id) m below) in
-    sym (subst (λ n. mark_of marks n ≡ Some m) same (mark_of-has marks m (tree-distinct marks by_id tree) ((tree-same marks by_id tree).from m there)))
-
-pub place-none : (id : ℕ) (marks by_id : List Mark) → IsTree marks by_id
-    → ((m : Mark) → prefix_len (λ other. ltb other.id id) by_id < length by_id → m ≡ get_or by_id (prefix_len (λ other. ltb other.id id) by_id) m → m.id ≡ id → ⊥)
-    → None ≡ mark_of marks id
-place-none id marks by_id tree not_there = elim (cases_Bool (is_live marks id)) [
-  | inl live ↦
-      let found : IsFoundAt id by_id = found_at id by_id tree.ordered (live-same id marks by_id (tree-same marks by_id tree) live) in
-      absurd (not_there found.mark found.below (sym (found.at found.mark)) found.same)
-  | inr none ↦ sym (mark_of-none marks id none)
-]
+pub distinct_all_moved : (edit : Edit) (old new : List (ℕ × KeptMark)) → HasDistinctIds (marks_of old) → IsPermutation (moved_items edit old) new → HasDistinctIds (marks_of new)
+distinct_all_moved edit old new distinct moved =
+    distinct_permutation (marks_of (moved_items edit old)) (marks_of new) (IsPermutation-map (λ (f : ℕ × KeptMark). as_mark f.1) (moved_items edit old) new moved)
+    (subst HasDistinctIds (sym (marks-moved edit old)) (distinct_map (moved_mark edit) (λ _. refl) (marks_of old) distinct))

@@ -1,1 +1,5 @@
 pub mod Tree
+pub mod Weave
+pub mod Laws
+pub mod Names
+pub mod Kept

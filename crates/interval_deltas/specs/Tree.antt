@@ -1,8 +1,12 @@
 -- What contracts see of a tree, and what its fields keep.
-use Rattle.std.specs.Prelude.{ℕ, ◌≡◌, true, nat_lt, List, [], ◌∷◌, ⊤}
-use Rattle.std.specs.List.{list_all}
+use Rattle.std.specs.Prelude.{ℕ, ◌≡◌, ◌==◌, List, [], ◌∷◌, length, Option, Some, None, if◌then◌else◌, count_by}
+use Rattle.rb_arena.specs.Value.{Listed}
 use Rattle.decoration_rules.specs.declared.Mark.{Mark}
-use Rattle.decoration_rules.specs.Marks.{in_order}
+use Rattle.decoration_rules.specs.Marks.{IsInOrder, HasDistinctIds}
+use Rattle.interval_deltas.specs.declared.names.Entry.{Entry}
+use Rattle.interval_deltas.specs.declared.weave.KeptMark.{KeptMark}
+use Rattle.interval_deltas.specs.Kept.{AreMarks, marks_of}
+use Rattle.interval_deltas.specs.Names.{node_of, is_named}
 
 pub record Shown : Type 0 where
   -- by start, then by end, then by id
@@ -10,12 +14,16 @@ pub record Shown : Type 0 where
   -- for how many more there is room
   pub spare : ℕ
 
--- each has a lower id than those after it
-abbrev pub IsById : List Mark → Type 0
-IsById [] = ⊤
-IsById (mark ∷ marks) = (list_all (λ later. nat_lt mark.id later.id) marks ≡ true) × IsById marks
+-- the node of the first item of that id
+abbrev pub node_in : List (ℕ × KeptMark) → ℕ → Option ℕ
+node_in [] id = None
+node_in (item ∷ items) id = if id == item.1.label.id then Some item.0 else node_in items id
 
--- the same decorations once by where they stand, and once by their ids
-pub record IsTree (marks by_id : List Mark) : Type 0 where
-  pub ordered : IsById by_id
-  pub same : marks ≡ in_order by_id
+-- the items are decorations in order, each under its name by its id, and none is loose
+pub record IsTree (tree : Listed KeptMark) (names : List Entry) : Type 0 where
+  pub loose : tree.loose ≡ []
+  pub values : AreMarks tree.items
+  pub ordered : IsInOrder (marks_of tree.items)
+  pub distinct : HasDistinctIds (marks_of tree.items)
+  pub named : (id : ℕ) → node_of names id ≡ node_in tree.items id
+  pub all : count_by is_named names ≡ length tree.items

@@ -1,9 +1,13 @@
 //! How decorations move, and the tree of them, in order of where they stand.
 #![tactic(auto)]
 
+mod accept;
+mod kept;
 mod moves;
-mod order;
+mod names;
+mod search;
 mod tree;
+mod weave;
 
 pub use decoration_rules::{Edit, Mark, Sticky};
 pub use moves::moved;

@@ -1,8 +1,7 @@
 //! The move of a decoration under an edit.
 
-ghost use Rattle.std.specs.Prelude.{◌≡◌, ◌<◌, ◌≤◌, ◌==◌, ◌&&◌, ◌||◌, nat_lt, map};
-ghost use Rattle.std.specs.List.{All};
-ghost use Rattle.decoration_rules.specs.Moves.{offset_limit, start_sticks, end_sticks, moved_offset, moved, moved_mark};
+ghost use Rattle.std.specs.Prelude.{◌≡◌, ◌<◌, ◌≤◌, ◌==◌, ◌&&◌, ◌||◌, nat_lt};
+ghost use Rattle.decoration_rules.specs.Moves.{offset_limit, start_sticks, end_sticks, moved_offset, moved};
 
 use decoration_rules::{Edit, Mark, Sticky};
 use text_lengths::Span;
@@ -73,15 +72,4 @@ fn stays_before(offset: u64, place: u64, stays: bool) -> bool
     ensures { result ≡ (nat_lt offset place || (offset == place && stays)) }
 {
     offset < place || (offset == place && stays)
-}
-
-/// Each decoration moves.
-pub(crate) fn move_all(marks: &mut [Mark], edit: &Edit)
-    requires upright { edit.now.start ≤ edit.now.end }
-    requires fits { All (λ mark. (moved_mark edit.now mark).span.end < offset_limit) marks.old }
-    ensures { marks.new ≡ map (moved_mark edit.now) marks.old }
-{
-    for mark in marks.iter_mut() {
-        mark.span = moved(mark.span, mark.sticky, mark.collapse, edit);
-    }
 }

@@ -1,39 +1,46 @@
 //! The decorations of a document, in order of where they stand.
 
-ghost use Rattle.std.specs.Prelude.{◌≡◌, ◌+◌, ◌<◌, ◌≤◌, ◌++◌, [], true, false, length, map, take, insert, vec_len, vec_capacity, OnOk, OnErr};
+ghost use Rattle.std.specs.Prelude.{◌≡◌, ◌+◌, ◌<◌, ◌≤◌, ◌++◌, ◌∷◌, [], true, false, length, map, take, vec_len, OnOk, OnErr};
 ghost use Rattle.std.specs.List.{All};
+ghost use Rattle.rb_arena.specs.Value.{AtPlace, PlaceAfter};
 ghost use Rattle.decoration_rules.specs.Moves.{offset_limit, moved_mark};
-ghost use Rattle.decoration_rules.specs.Marks.{in_order, put_in_order, is_live, mark_of, without, touches, touching};
+ghost use Rattle.decoration_rules.specs.Marks.{in_order, put_in_order, is_live, mark_of, without, touching, IsInOrder};
+ghost use Rattle.interval_deltas.specs.Weave.{is_mark};
+ghost use Rattle.interval_deltas.specs.Kept.{AreMarks, marks_of};
 
-use crate::moves::move_all;
-use crate::order::{put_in_order, rank, rank_by_id};
+use crate::accept::{land_all, lift_touched, shift_rest};
+use crate::kept::capped;
+use crate::names::Names;
+use crate::search::{first_reaching, last_before, reaching_after};
+use crate::weave::{KeptMark, Marks};
 use decoration_rules::{Edit, Mark};
+use raw_arena::NodeId;
+use rb_arena::RbTree;
 use std::alloc::{AllocError, Global};
 use std::marker::Model;
 use text_lengths::Span;
 
-/// The decorations of a document, by start, then by end, then by id. Only `reserve` and `search` take memory. They lie
-/// in vectors: a look-up by id halves, and every other call costs time in the number of decorations.
+/// The decorations of a document, by start, then by end, then by id. Only `reserve` and `search` take memory.
 #[derive(Drop)]
 pub struct IntervalTree {
     /// By start, then by end, then by id.
-    marks: Vec<Mark>,
-    /// The same, by id.
-    by_id: Vec<Mark>,
+    tree: RbTree<Marks>,
+    names: Names,
 }
 
 impl Model for IntervalTree {
-    ghost use Rattle.std.specs.Prelude.{◌-◌, min, vec_len, vec_capacity};
+    ghost use Rattle.std.specs.Prelude.{min};
     ghost use Rattle.interval_deltas.specs.Tree.{Shown, IsTree};
+    ghost use Rattle.interval_deltas.specs.Kept.{marks_of};
 
     ghost Value = { Shown };
 
     ghost view = { λ t. record {
-      marks = t.marks.items;
-      spare = min (vec_capacity t.marks - vec_len t.marks) (vec_capacity t.by_id - vec_len t.by_id);
+      marks = marks_of t.tree.items;
+      spare = min t.tree.spare t.names.spare;
     } };
 
-    ghost invariant = { λ t. IsTree t.marks.items t.by_id.items };
+    ghost invariant = { λ t. IsTree t.tree t.names.entries };
 }
 
 impl IntervalTree {
@@ -41,8 +48,8 @@ impl IntervalTree {
         ensures { result.marks ≡ [] }
     {
         IntervalTree {
-            marks: Vec::new(alloc),
-            by_id: Vec::new(alloc),
+            tree: RbTree::new(alloc),
+            names: Names::new(alloc),
         }
     }
 
@@ -50,7 +57,7 @@ impl IntervalTree {
     pub fn len(&self) -> u64
         ensures { result ≡ length self.now.marks }
     {
-        self.marks.len() as u64
+        self.names.len() as u64
     }
 
     /// Makes room for `n` more decorations. An error leaves the list as it was, and room that was there stays.
@@ -59,8 +66,8 @@ impl IntervalTree {
         ensures marks { self.new.marks ≡ self.old.marks }
         ensures kept { self.old.spare ≤ self.new.spare }
     {
-        self.marks.reserve(n as usize)?;
-        self.by_id.reserve(n as usize)
+        self.tree.reserve(n)?;
+        self.names.reserve(n)
     }
 
     /// Puts a decoration in, whose id is new.
@@ -72,10 +79,10 @@ impl IntervalTree {
         ensures marks { self.new.marks ≡ put_in_order mark self.old.marks }
         ensures room { self.old.spare ≤ self.new.spare + 1 }
     {
-        let at = rank(self.marks.as_slice(), &mark);
-        insert_at(&mut self.marks, at, mark);
-        let at_id = rank_by_id(self.by_id.as_slice(), mark.id);
-        insert_at(&mut self.by_id, at_id, mark);
+        let kept = KeptMark::of(&mark);
+        let at = last_before(&self.tree, kept.place());
+        let node = insert_behind(&mut self.tree, at, kept);
+        self.names.put(mark.id, node);
     }
 
     /// Takes the decoration of this id out.
@@ -84,10 +91,11 @@ impl IntervalTree {
         ensures marks { self.new.marks ≡ without id self.old.marks }
         ensures room { self.old.spare ≤ self.new.spare }
     {
-        let at_id = rank_by_id(self.by_id.as_slice(), id);
-        let mark = self.by_id.remove(at_id);
-        let at = rank(self.marks.as_slice(), &mark);
-        self.marks.remove(at);
+        let Some(node) = self.names.find(id) else {
+            return;
+        };
+        self.tree.remove(node);
+        self.names.forget(id);
     }
 
     /// Each decoration moves, as the text under it is edited.
@@ -98,21 +106,17 @@ impl IntervalTree {
         ensures moved { self.new.marks ≡ in_order (map (moved_mark edit.now) self.old.marks) }
         ensures room { self.old.spare ≤ self.new.spare }
     {
-        move_all(self.marks.as_mut_slice(), edit);
-        move_all(self.by_id.as_mut_slice(), edit);
-        put_in_order(self.marks.as_mut_slice());
+        lift_touched(&mut self.tree, edit);
+        shift_rest(&mut self.tree, edit);
+        land_all(&mut self.tree, edit);
     }
 
     /// The decoration of this id.
     pub fn place(&self, id: u64) -> Option<Mark>
         ensures { result ≡ mark_of self.now.marks id }
     {
-        let at = rank_by_id(self.by_id.as_slice(), id);
-        if at >= self.by_id.len() {
-            return None;
-        }
-        let mark = self.by_id[at];
-        if mark.id == id { Some(mark) } else { None }
+        let node = self.names.find(id)?;
+        Some(self.tree.get(node).mark())
     }
 
     /// Appends the decorations that share a unit with the span, or touch it. After an error `out` is as it was.
@@ -121,7 +125,7 @@ impl IntervalTree {
         ensures err { OnErr result (out.new.items ≡ out.old.items) }
     {
         let before = out.len();
-        let found = push_touching(self.marks.as_slice(), span, out);
+        let found = push_touching(&self.tree, self.len(), span, out);
         if found.is_err() {
             out.truncate(before);
         }
@@ -129,33 +133,49 @@ impl IntervalTree {
     }
 }
 
-// There is room for it.
-fn insert_at(marks: &mut Vec<Mark>, at: usize, mark: Mark)
-    requires place { at ≤ vec_len marks.old }
-    requires room { vec_len marks.old < vec_capacity marks.old }
-    ensures items { marks.new.items ≡ insert marks.old.items at mark }
-    ensures len { vec_len marks.new ≡ vec_len marks.old + 1 }
-    ensures capacity { vec_capacity marks.old ≤ vec_capacity marks.new }
+/// Puts a decoration right after another, or before all.
+fn insert_behind(tree: &mut RbTree<Marks>, id: Option<NodeId>, mark: KeptMark) -> NodeId
+    requires room { 0 < tree.old.spare }
+    requires named { PlaceAfter tree.old.items id }
+    requires value { is_mark mark }
+    requires values { AreMarks tree.old.items }
+    ensures items { AtPlace tree.old.items id (λ us vs.
+        tree.new.items ≡ us ++ (result, mark) ∷ vs) }
+    ensures loose { tree.new.loose ≡ tree.old.loose }
+    ensures spare { tree.new.spare + 1 ≡ tree.old.spare }
 {
-    marks.insert(at, mark).unwrap();
+    match id {
+        Some(id) => tree.insert_after(id, mark),
+        None => tree.insert_first(mark),
+    }
 }
 
-// After an error some of them stand behind what was there.
-fn push_touching(marks: &[Mark], span: Span, out: &mut Vec<Mark>) -> Result<(), AllocError>
-    ensures ok { OnOk result (out.new.items ≡ out.old.items ++ touching span marks.now) }
+// There are `count` in the tree. After an error some of them stand behind what was there.
+fn push_touching(
+    tree: &RbTree<Marks>,
+    count: u64,
+    span: Span,
+    out: &mut Vec<Mark>,
+) -> Result<(), AllocError>
+    requires count { count ≡ length tree.now.items }
+    requires values { AreMarks tree.now.items }
+    requires ordered { IsInOrder (marks_of tree.now.items) }
+    ensures ok { OnOk result (out.new.items
+        ≡ out.old.items ++ touching span (marks_of tree.now.items)) }
     ensures before { take (vec_len out.old) out.new.items ≡ out.old.items }
 {
-    for mark in marks {
-        if touches(span, mark) {
-            out.push(*mark)?;
+    let start = capped(span.start);
+    let mut next = first_reaching(tree, start);
+    for _turn in 0..count {
+        let Some(found) = next else {
+            return Ok(());
+        };
+        let mark = found.1.mark();
+        if mark.span.start > span.end {
+            return Ok(());
         }
+        out.push(mark)?;
+        next = reaching_after(tree, found.0, start);
     }
     Ok(())
-}
-
-/// Whether the decoration shares a unit with the span, or touches it.
-fn touches(span: Span, mark: &Mark) -> bool
-    ensures { result ≡ touches span mark.now }
-{
-    mark.span.start <= span.end && span.start <= mark.span.end
 }

@@ -1,12 +1,15 @@
 //! Where the lines of a text start.
 #![tactic(auto)]
 
-ghost use Rattle.std.specs.Prelude.{◌≡◌, ℕ, ◌+◌, ◌<◌, ◌≤◌, ◌^◌, ◌++◌, false, List, length, drop, get_or, OnOk, OnErr, IsOk, vec_len, vec_capacity, take};
-ghost use Rattle.line_starts.specs.Starts.{starts_of, break_count, break_ends_at};
+mod lanes;
+
+ghost use Rattle.std.specs.Prelude.{◌≡◌, ℕ, ◌+◌, ◌<◌, ◌≤◌, ◌^◌, ◌++◌, ◌∷◌, true, false, List, length, drop, get_or, OnOk, OnErr, IsOk, vec_len, vec_capacity, take};
+ghost use Rattle.line_starts.specs.Starts.{starts_of, break_count, break_ends_at, is_break_unit};
 ghost use Rattle.text_lengths.specs.Length.{length_plus};
-ghost use Rattle.text_rules.specs.Breaks.{ends_break, joins_pair};
+ghost use Rattle.text_rules.specs.Breaks.{break_ends, ends_break, joins_pair};
 ghost use Rattle.text_rules.specs.Lines.{text_length};
 
+use crate::lanes::{LANES, breaks_in_block, find_break};
 use std::alloc::AllocError;
 use text_lengths::Length;
 use unit_text::{CARRIAGE_RETURN, LINE_FEED};
@@ -52,10 +55,11 @@ fn push_break_ends(units: &[u16], start: u64, out: &mut Vec<u64>) -> Result<(), 
     ensures with_room { vec_len out.old + length units.now ≤ vec_capacity out.old → IsOk result }
     ensures capacity { vec_capacity out.old ≤ vec_capacity out.new }
 {
-    for at in 0..units.len() {
-        if is_break_end(units, at) {
-            out.push(start + at as u64 + 1)?;
-        }
+    let mut from = find_break(units, 0);
+    while from < units.len() {
+        let end = break_end(units, from);
+        out.push(start + end as u64)?;
+        from = find_break(units, end);
     }
     Ok(())
 }
@@ -66,12 +70,41 @@ pub fn count_breaks(units: &[u16]) -> u64
     ensures few { result < 2 ^ 63 }
 {
     let mut breaks = 0;
-    for at in 0..units.len() {
+    let mut at = 0;
+    while at + LANES < units.len() {
+        breaks += u64::from(breaks_in_block(units, at));
+        at += LANES;
+    }
+    breaks + breaks_from(units, at)
+}
+
+// How many breaks end with the units from a place on.
+fn breaks_from(units: &[u16], from: usize) -> u64
+    requires { from ≤ length units.now }
+    ensures { result ≡ length (break_ends 0 (drop from units.now)) }
+{
+    let mut breaks = 0;
+    for at in from..units.len() {
         if is_break_end(units, at) {
             breaks += 1;
         }
     }
     breaks
+}
+
+// The place after the break that begins at this place.
+fn break_end(units: &[u16], at: usize) -> usize
+    requires here { at < length units.now }
+    requires break_unit { is_break_unit (get_or units.now at 0) ≡ true }
+    ensures within { (at < result) × (result ≤ length units.now) }
+    ensures ends { (place : ℕ) → break_ends (place + at) (drop at units.now)
+        ≡ (place + result) ∷ break_ends (place + result) (drop result units.now) }
+{
+    if is_break_end(units, at) {
+        at + 1
+    } else {
+        at + 2
+    }
 }
 
 /// How long the units are. Cut in two anywhere but inside a CR LF, they are as long as the two parts together.

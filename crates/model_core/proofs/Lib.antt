@@ -9,5 +9,6 @@ pub mod Kept
 pub mod TextLines
 pub mod DirtyEdits
 pub mod EditedMarks
+pub mod Marking
 pub mod Staying
 pub mod Shelving

@@ -82,8 +82,8 @@ pub(crate) fn apply(
     for done in 0..ops.len() {
         let op = &ops[ops.len() - 1 - done];
         decorations.accept(&edit_with(op, forces));
-        last.mark(text, op);
-        text.replace(op.span, op.text.as_slice());
+        let dirty = text.replace(op.span, op.text.as_slice());
+        last.mark(dirty);
     }
 }
 

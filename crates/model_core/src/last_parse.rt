@@ -1,15 +1,13 @@
 //! The last parse of the text, and what each line of the text of now is to it.
 
-ghost use Rattle.std.specs.Prelude.{◌≡◌, ◌+◌, ◌<◌, ◌≤◌, ◌^◌, ◌∷◌, [], None, Some, false, true, length, is_some, replicate, IfOk, OnOk};
+ghost use Rattle.std.specs.Prelude.{◌≡◌, ◌+◌, ◌-◌, ◌<◌, ◌≤◌, ◌^◌, ◌∷◌, [], None, Some, false, true, length, is_some, replicate, IfOk, OnOk};
 ghost use Rattle.std.specs.Option.{option_copied};
 ghost use Rattle.batch_rules.specs.Batches.{most_units};
-ghost use Rattle.text_rules.specs.Edits.{edited};
 ghost use Rattle.text_rules.specs.Lines.{lines_of};
 ghost use Rattle.bracket_trees.specs.Tree.{IsTree};
 ghost use Rattle.mark_rules.specs.declared.Mark.TheVariants.{New};
-ghost use Rattle.mark_rules.specs.Marks.{clean_marks};
+ghost use Rattle.mark_rules.specs.Marks.{clean_marks, edited_marks};
 ghost use Rattle.model_core.specs.State.{fresh_tree};
-ghost use Rattle.model_core.specs.LineMarks.{marked_by};
 
 use bracket_nodes::Node;
 use line_hunks::Hunks;
@@ -17,7 +15,7 @@ use node_reuse::{OldReader, Parsed};
 use std::alloc::{AllocError, Global};
 use std::marker::Model;
 use text_buffer::TextBuffer;
-use text_rules::Op;
+use text_lengths::Dirty;
 
 /// The last parse, where there was one, and a mark for each line of the text of now.
 #[derive(Drop)]
@@ -85,20 +83,20 @@ impl LastParse {
         self.hunks.reserve(edits)
     }
 
-    /// Marks the lines that the op touches, when it has yet to be carried out on the text. There is room for it.
-    pub(crate) fn mark(&mut self, text: &TextBuffer, op: &Op)
-        requires ordered { op.now.span.start ≤ op.now.span.end }
-        requires within { op.now.span.end ≤ length text.now.units }
-        requires small { length (edited text.now.units op.now) + 1 < 2 ^ 62 }
-        requires lines { length self.old.marks ≡ length (lines_of text.now.units) }
+    /// Marks the lines that an edit of the text touched, as it answered. There is room for it.
+    pub(crate) fn mark(&mut self, dirty: Dirty)
         requires room { 0 < self.old.spare }
-        ensures marks { self.new.marks ≡ marked_by text.now.units op.now self.old.marks }
-        ensures lines { length self.new.marks ≡ length (lines_of (edited text.now.units op.now)) }
+        requires first { 1 ≤ dirty.first }
+        requires some { 1 ≤ dirty.old }
+        requires within { dirty.first - 1 + dirty.old ≤ length self.old.marks }
+        requires new { 1 ≤ dirty.new }
+        requires fits { length self.old.marks - dirty.old + dirty.new < 2 ^ 62 }
+        ensures marks { self.new.marks
+            ≡ edited_marks dirty.first dirty.old dirty.new self.old.marks }
         ensures room { self.old.spare ≤ self.new.spare + 1 }
         ensures parsed { self.new.parsed ≡ self.old.parsed }
         ensures tree { self.new.tree ≡ self.old.tree }
     {
-        let dirty = text.dirty_lines(op.span, op.text.as_slice());
         self.hunks.edit(dirty.first, dirty.old, dirty.new);
     }
 

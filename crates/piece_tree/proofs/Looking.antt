@@ -74,14 +74,6 @@ breaks_of p = p.breaks
 abbrev pub found_at : ℕ × Piece × PieceSum → Found
 found_at f = record { id = f.0; span = f.1.span; breaks = f.1.breaks; before = f.2 }
 
--- where the search for a place of the text ends, and how far into the piece
-pub found_place : (items : List (ℕ × Piece)) (offset : ℕ) (r : Option (ℕ × Piece × PieceSum)) (f : ℕ × Piece × PieceSum) → r ≡ Some f → searching.Found adding piece_turn (Offset offset) items r
-    → (us : List (ℕ × Piece)) × ((vs : List (ℕ × Piece)) × SplitsAt items f.0 us f.1 vs × (f.2.units ≡ units_in us) × (f.2.units ≤ offset) × ((offset < f.2.units + f.1.span.units) ⊎ (vs ≡ [])))
-found_place items offset r f some searched =
-    let (us, (vs, e, s, ends)) = subst (searching.Found adding piece_turn (Offset offset) items) some searched in
-    let (low, high) = ended (Offset offset) units_of offset (by_offset offset) us f.0 f.1 vs ends in let count = ap (λ (p : PieceSum). p.units) (s ∙ sum_is us) in
-    (us, (vs, e, count, omega (arith, low, count), elim high [ inl here ↦ inl (omega (arith, here, count)) | inr (none, past) ↦ inr none ]))
-
 -- what a look-up answers
 module _ (items : List (ℕ × Piece)) (entries : List Entry) (shown : entries_of items ≡ entries) (r : Option (ℕ × Piece × PieceSum)) (f : ℕ × Piece × PieceSum) (some : r ≡ Some f)
     (found : Found) (is : found ≡ found_at f) where

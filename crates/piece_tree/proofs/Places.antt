@@ -2,15 +2,16 @@
 use Rattle.std.proofs.Common.{◌≡◌, ℕ, ◌+◌, ◌-◌, ◌<◌, ◌≤◌, Option, Some, None, List, [], ◌∷◌, ◌++◌, length, refl, ap, sym, subst, ◌∙◌, append_assoc, arith}
 use Rattle.std.specs.List.{All}
 use Rattle.std.proofs.lemmas.List.{append-nil, length-append}
-use Rattle.std.proofs.lemmas.List.Elements.{All-append, All-tail}
+use Rattle.std.proofs.lemmas.List.Elements.{All-append, All-cons, All-tail}
 use Rattle.std.proofs.lemmas.Option.{none-some}
 use Rattle.std.specs.Option.{unwrap_or}
 use Rattle.chunk_buffers.specs.Chunks.{part_of}
 use Rattle.rb_arena.specs.Value.{IsItem, SplitsAt, SplitsAfter, EndsWith, PlaceAfter, first_or, last_or}
 use Rattle.piece_tree.specs.declared.piece.Piece.{Piece}
-use Rattle.piece_tree.specs.Pieces.{Entry, IsAmong, piece_of, front, back}
+use Rattle.piece_tree.specs.declared.piece.Found.{Found}
+use Rattle.piece_tree.specs.Pieces.{Entry, IsAmong, IsFound, last_of, pieces_of, unit_count, piece_of, front, back}
 use Rattle.piece_tree.specs.Inside.{entry_of, entries_of, in_order, Parted}
-use Rattle.piece_tree.proofs.Sums.{All-parts, in_order-append, units_in, units-split, units-append}
+use Rattle.piece_tree.proofs.Sums.{All-parts, entries-append, in_order-append, units_in, units-split, units-append}
 use Rattle.piece_tree.proofs.Cuts.{front-append, back-append, back_past, front_none, back_none, front_part, back_part}
 
 pub place_of : (items : List (ℕ × Piece)) (id : Option ℕ) (us vs : List (ℕ × Piece)) → SplitsAfter items id us vs → PlaceAfter items id
@@ -37,6 +38,21 @@ ends_later ws e (u ∷ us) = subst (λ l. EndsWith l (last_or (Some u.0) us)) (a
 pub ends_last : (us : List (ℕ × Piece)) → EndsWith us (last_or None us)
 ends_last [] = refl
 ends_last (u ∷ us) = ends_later [] u us
+
+-- the last item
+pub last_there : (us : List (ℕ × Piece)) (id : ℕ) → Some id ≡ last_or None us → (ws : List (ℕ × Piece)) × ((x : Piece) × (us ≡ ws ++ (id, x) ∷ []))
+last_there us id e = subst (EndsWith us) (sym e) (ends_last us)
+
+pub last_none : (us : List (ℕ × Piece)) → None ≡ last_or None us → us ≡ []
+last_none us e = subst (EndsWith us) (sym e) (ends_last us)
+
+last_pushed : (es : List Entry) (e : Entry) → last_of (es ++ e ∷ []) ≡ Some (e.id, e.piece.span)
+last_pushed [] e = refl
+last_pushed (d ∷ []) e = refl
+last_pushed (d ∷ f ∷ es) e = last_pushed (f ∷ es) e
+
+pub last_shown : (us ws : List (ℕ × Piece)) (id : ℕ) (x : Piece) → us ≡ ws ++ (id, x) ∷ [] → last_of (entries_of us) ≡ Some (id, x.span)
+last_shown us ws id x e = ap (λ l. last_of (entries_of l)) e ∙ ap last_of (entries-append ws ((id, x) ∷ [])) ∙ last_pushed (entries_of ws) (entry_of (id, x))
 
 -- the item that stands there
 pub next_at : (items : List (ℕ × Piece)) (after : Option ℕ) (us vs : List (ℕ × Piece)) (id : ℕ) (r : Option ℕ) → SplitsAfter items after us vs → r ≡ Some id → r ≡ first_or None vs
@@ -67,6 +83,17 @@ module _ (items new us : List (ℕ × Piece)) (id : ℕ) (x : Piece) (vs : List 
       let (first, second) = All-parts P (in_order us) (x ∷ in_order vs) (subst (All P) (ap in_order e ∙ in_order-append us ((id, x) ∷ vs)) all) in
       subst (All P) (sym (ap in_order is ∙ in_order-append us vs)) (All-append P (in_order us) (in_order vs) first (All-tail P x (in_order vs) second))
 
+-- what holds of all pieces holds still, where one gives way to another of which it holds
+pub all_set : (items new us : List (ℕ × Piece)) (id : ℕ) (x q : Piece) (vs : List (ℕ × Piece)) → SplitsAt items id us x vs → new ≡ us ++ (id, q) ∷ vs
+    → (P : Piece → Type 0) → P q → All P (in_order items) → All P (in_order new)
+all_set items new us id x q vs e is P holds all =
+    let (first, second) = All-parts P (in_order us) (x ∷ in_order vs) (subst (All P) (ap in_order e ∙ in_order-append us ((id, x) ∷ vs)) all) in
+    subst (All P) (sym (ap in_order is ∙ in_order-append us ((id, q) ∷ vs)))
+    (All-append P (in_order us) (q ∷ in_order vs) first (All-cons P q (in_order vs) holds (All-tail P x (in_order vs) second)))
+
+pub parted_set : (new us : List (ℕ × Piece)) (id : ℕ) (q : Piece) (vs : List (ℕ × Piece)) → new ≡ us ++ (id, q) ∷ vs → Parted new (Some id) (in_order us ++ q ∷ []) (in_order vs)
+parted_set new us id q vs is = (us ++ (id, q) ∷ [], (vs, (is ∙ sym (append_assoc us ((id, q) ∷ []) vs), (us, (q, refl))), in_order-append us ((id, q) ∷ []), refl))
+
 module _ (b : List (List ℕ)) where
   -- the place at which no piece goes on past the first units
   pub parted_here : (items us vs : List (ℕ × Piece)) (id : Option ℕ) (units rest : ℕ) → SplitsAfter items id us vs → units ≡ units_in us + rest
@@ -78,12 +105,11 @@ module _ (b : List (List ℕ)) where
       (us, (vs, (e, ends), sym first, sym second))
 
   -- after all pieces
-  pub parted_last : (items us : List (ℕ × Piece)) (id : ℕ) (x : Piece) (vs : List (ℕ × Piece)) (units : ℕ) → SplitsAt items id us x vs → vs ≡ [] → units_in us + x.span.units ≤ units
-      → Parted items (Some id) (front b units (in_order items)) (back b units (in_order items))
-  parted_last items us id x vs units e none past =
-      let whole = e ∙ ap (λ l. us ++ (id, x) ∷ l) none ∙ sym (append-nil (us ++ (id, x) ∷ [])) in
-      let count = units-split us id x [] in
-      parted_here items (us ++ (id, x) ∷ []) [] (Some id) units (units - (units_in us + x.span.units)) (whole, (us, (x, refl))) (omega (arith, past, count)) refl refl
+  pub parted_end : (items : List (ℕ × Piece)) (last : Option ℕ) (units end : ℕ) → last ≡ last_or None items → units ≡ units_in items → end ≡ units
+      → Parted items last (front b units (in_order items)) (back b end (in_order items))
+  parted_end items last units end is count same =
+      let here = parted_here items items [] last units 0 (sym (append-nil items), subst (EndsWith items) (sym is) (ends_last items)) (omega (arith, count)) refl refl in
+      subst (λ n. Parted items last (front b units (in_order items)) (back b n (in_order items))) (sym same) here
 
   -- before a piece
   pub parted_before : (items us : List (ℕ × Piece)) (id : ℕ) (x : Piece) (vs : List (ℕ × Piece)) (units : ℕ) (last : Option ℕ) → SplitsAt items id us x vs → last ≡ last_or None us
@@ -91,17 +117,24 @@ module _ (b : List (List ℕ)) where
   parted_before items us id x vs units last e is count some =
       parted_here items us ((id, x) ∷ vs) last units 0 (e, subst (EndsWith us) (sym is) (ends_last us)) (omega (arith, count)) (front_none b x (in_order vs) some) (back_none b x (in_order vs) some)
 
-  -- in a piece, which becomes two
-  pub parted_inside : (old new us : List (ℕ × Piece)) (id : ℕ) (x : Piece) (vs : List (ℕ × Piece)) (other units rest : ℕ) → SplitsAt old id us x vs
-      → new ≡ us ++ (id, piece_of b (part_of x.span 0 rest)) ∷ (other, piece_of b (part_of x.span rest x.span.units)) ∷ vs
-      → units ≡ units_in us + rest → 0 < rest → rest < x.span.units → Parted new (Some id) (front b units (in_order old)) (back b units (in_order old))
-  parted_inside old new us id x vs other units rest e is count some within =
-      let left : Piece = piece_of b (part_of x.span 0 rest) in let right : Piece = piece_of b (part_of x.span rest x.span.units) in
+  -- a place in a piece parts the pieces as it parts this one
+  pub parted_at : (items us : List (ℕ × Piece)) (id : ℕ) (x : Piece) (vs : List (ℕ × Piece)) (units own deleted : ℕ) (new : List (ℕ × Piece)) → SplitsAt items id us x vs → units ≡ units_in us + own
+      → 0 < own → own < x.span.units → Parted new (Some id) (in_order us ++ piece_of b (part_of x.span 0 own) ∷ []) (back b (own + deleted) (x ∷ in_order vs))
+      → Parted new (Some id) (front b units (in_order items)) (back b (units + deleted) (in_order items))
+  parted_at items us id x vs units own deleted new e count some within (fs, (bs, s, f, g)) =
       let parts = ap in_order e ∙ in_order-append us ((id, x) ∷ vs) in
-      let first = ap (front b units) parts ∙ front-append b (in_order us) (x ∷ in_order vs) units rest count ∙ ap (λ ps. in_order us ++ ps) (front_part b rest x (in_order vs) some within) in
-      let second = ap (back b units) parts ∙ back-append b (in_order us) (x ∷ in_order vs) units rest count ∙ back_part b rest x (in_order vs) some within in (
+      let first = ap (front b units) parts ∙ front-append b (in_order us) (x ∷ in_order vs) units own count ∙ ap (λ ps. in_order us ++ ps) (front_part b own x (in_order vs) some within) in
+      let second = ap (back b (units + deleted)) parts ∙ back-append b (in_order us) (x ∷ in_order vs) (units + deleted) (own + deleted) (omega (arith, count)) in
+      (fs, (bs, s, f ∙ sym first, g ∙ sym second))
+
+  -- the units inside a piece were left out of it
+  pub parted_inside : (new us : List (ℕ × Piece)) (id : ℕ) (x : Piece) (vs : List (ℕ × Piece)) (other own end : ℕ)
+      → new ≡ us ++ (id, piece_of b (part_of x.span 0 own)) ∷ (other, piece_of b (part_of x.span end x.span.units)) ∷ vs → 0 < end → end < x.span.units
+      → Parted new (Some id) (in_order us ++ piece_of b (part_of x.span 0 own) ∷ []) (back b end (x ∷ in_order vs))
+  parted_inside new us id x vs other own end is some within =
+      let left : Piece = piece_of b (part_of x.span 0 own) in let right : Piece = piece_of b (part_of x.span end x.span.units) in (
         us ++ (id, left) ∷ [],
-        ((other, right) ∷ vs, (is ∙ sym (append_assoc us ((id, left) ∷ []) ((other, right) ∷ vs)), (us, (left, refl))), in_order-append us ((id, left) ∷ []) ∙ sym first, sym second),
+        ((other, right) ∷ vs, (is ∙ sym (append_assoc us ((id, left) ∷ []) ((other, right) ∷ vs)), (us, (left, refl))), in_order-append us ((id, left) ∷ []), sym (back_part b end x (in_order vs) some within)),
       )
 
   -- the units that go in one turn: whole pieces, or the front of one
@@ -129,19 +162,29 @@ parted_order items id first second (us, (vs, s, f, g)) = ap in_order s.0 ∙ in_
 
 -- a list of entries that goes in two at a name
 pub split_entries : (items : List (ℕ × Piece)) (earlier later : List Entry) (id : ℕ) (p : Piece) → entries_of items ≡ earlier ++ record { id = id; piece = p } ∷ later
-    → (us : List (ℕ × Piece)) × ((vs : List (ℕ × Piece)) × SplitsAt items id us p vs × (entries_of vs ≡ later))
+    → (us : List (ℕ × Piece)) × ((vs : List (ℕ × Piece)) × SplitsAt items id us p vs × (entries_of us ≡ earlier) × (entries_of vs ≡ later))
 split_entries [] [] later id p e = absurd cc
 split_entries [] (x ∷ earlier) later id p e = absurd cc
 split_entries (i ∷ items) [] later id p e =
     let first : entry_of i ≡ record { id = id; piece = p } = cc in let rest : entries_of items ≡ later = cc in
-    ([], (items, λ j. ((first j).id, (first j).piece) ∷ items, rest))
+    ([], (items, λ j. ((first j).id, (first j).piece) ∷ items, refl, rest))
 split_entries (i ∷ items) (x ∷ earlier) later id p e =
-    let rest : entries_of items ≡ earlier ++ record { id = id; piece = p } ∷ later = cc in
-    let (us, (vs, at, after)) = split_entries items earlier later id p rest in (i ∷ us, (vs, λ j. i ∷ at j, after))
+    let first : entry_of i ≡ x = cc in let rest : entries_of items ≡ earlier ++ record { id = id; piece = p } ∷ later = cc in
+    let (us, (vs, at, before, after)) = split_entries items earlier later id p rest in (i ∷ us, (vs, λ j. i ∷ at j, λ j. first j ∷ before j, after))
 
 pub named_entry : (items : List (ℕ × Piece)) (entries : List Entry) (id : ℕ) → entries_of items ≡ entries → IsAmong entries id → IsItem items id
 named_entry items entries id shown is =
-    let (us, (vs, at, after)) = split_entries items is.earlier is.later id is.piece (shown ∙ is.place) in (us, (is.piece, (vs, at)))
+    let (us, (vs, at, before, after)) = split_entries items is.earlier is.later id is.piece (shown ∙ is.place) in (us, (is.piece, (vs, at)))
+
+-- where a looked-up piece stands
+abbrev pub piece_found : Found → Piece
+piece_found found = record { span = found.span; breaks = found.breaks }
+
+pub found_item : (items : List (ℕ × Piece)) (found : Found) → IsFound (entries_of items) found
+    → (us : List (ℕ × Piece)) × ((vs : List (ℕ × Piece)) × SplitsAt items found.id us (piece_found found) vs × (found.before.units ≡ units_in us))
+found_item items found is =
+    let (us, (vs, at, before, after)) = split_entries items is.earlier is.later found.id (piece_found found) is.place in
+    (us, (vs, at, ap (λ s. s.units) is.before ∙ ap (λ es. unit_count (pieces_of es)) (sym before)))
 
 -- the item after another
 pub item_after : (items us : List (ℕ × Piece)) (id : ℕ) (x : Piece) (vs : List (ℕ × Piece)) (other : ℕ) (r : Option ℕ) → SplitsAt items id us x vs → r ≡ Some other → r ≡ first_or None vs

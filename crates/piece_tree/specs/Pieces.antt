@@ -1,5 +1,5 @@
 -- The pieces of a text, as a list that is cut and inserted into.
-use Rattle.std.specs.Prelude.{ℕ, ◌≡◌, ◌+◌, ◌-◌, ◌==◌, ◌&&◌, Bool, Option, Some, None, nat_le, if◌then◌else◌, List, [], ◌∷◌, ◌++◌, map, sum_by}
+use Rattle.std.specs.Prelude.{ℕ, ◌≡◌, ◌+◌, ◌-◌, ◌<◌, ◌≤◌, ◌==◌, ◌&&◌, Bool, Option, Some, None, nat_le, if◌then◌else◌, List, [], ◌∷◌, ◌++◌, map, sum_by}
 use Rattle.chunk_buffers.specs.declared.span.ChunkSpan.{ChunkSpan}
 use Rattle.chunk_buffers.specs.Chunks.{units_at, LiesIn, part_of}
 use Rattle.line_starts.specs.Starts.{break_count}
@@ -87,6 +87,17 @@ pub record IsFound (entries : List Entry) (found : Found) : Type 0 where
   pub place : entries ≡ earlier ++ record { id = found.id; piece = record { span = found.span; breaks = found.breaks } } ∷ later
   pub before : found.before ≡ sum_of (pieces_of earlier)
 
+-- the looked-up piece has the unit at this offset
+pub record HasUnit (entries : List Entry) (found : Found) (offset : ℕ) : Type 0 where
+  pub piece : IsFound entries found
+  pub start : found.before.units ≤ offset
+  pub end : offset < found.before.units + found.span.units
+
+-- the offset is the end, where no piece was looked up, or the piece that was has the unit at it
+abbrev pub StandsAt : List Entry → Option Found → ℕ → Type 0
+StandsAt entries None offset = offset ≡ unit_count (pieces_of entries)
+StandsAt entries (Some found) offset = HasUnit entries found offset
+
 -- the entry has this name
 pub record IsAmong (entries : List Entry) (id : ℕ) : Type 0 where
   pub earlier : List Entry
@@ -98,3 +109,9 @@ pub record IsAmong (entries : List Entry) (id : ℕ) : Type 0 where
 abbrev pub first_of : List Entry → Option (ℕ × ChunkSpan)
 first_of [] = None
 first_of (e ∷ entries) = Some (e.id, e.piece.span)
+
+-- the name and the span of the last of these
+abbrev pub last_of : List Entry → Option (ℕ × ChunkSpan)
+last_of [] = None
+last_of (e ∷ []) = Some (e.id, e.piece.span)
+last_of (e ∷ f ∷ entries) = last_of (f ∷ entries)

@@ -1,53 +1,81 @@
-//! The changes of a splice: a cut, pieces that go, and one that comes.
-ghost use Rattle.std.specs.Prelude.{◌≡◌, ℕ, ◌+◌, ◌<◌, ◌≤◌, ◌^◌, ◌++◌, ◌∷◌, List, []};
+//! The changes of a splice: units that go, and a span that comes.
+ghost use Rattle.std.specs.Prelude.{◌≡◌, ℕ, ◌+◌, ◌<◌, ◌≤◌, ◌^◌, ◌++◌, ◌∷◌, List, [], Some};
 ghost use Rattle.std.specs.List.{All};
 ghost use Rattle.std.specs.Option.{ForSome};
 ghost use Rattle.chunk_buffers.specs.Chunks.{LiesIn, part_of};
-ghost use Rattle.rb_arena.specs.Searching.{Found};
 ghost use Rattle.rb_arena.specs.Value.{first_or, IsItem, PlaceAfter, SplitsAfter, SplitsAt};
-ghost use Rattle.piece_tree.specs.Pieces.{piece_of, piece_list, unit_count, IsPieceOf, goes_on, prolonged, followed, followed_by, front, back};
-ghost use Rattle.piece_tree.specs.Searches.{adding, piece_turn};
-ghost use Rattle.piece_tree.specs.Inside.{in_order, HasUnits, Parted};
+ghost use Rattle.piece_tree.specs.Pieces.{piece_of, piece_list, unit_count, IsPieceOf, goes_on, prolonged, followed, followed_by, front, back, StandsAt};
+ghost use Rattle.piece_tree.specs.Inside.{entries_of, in_order, HasUnits, Parted};
 
-use crate::piece::{Piece, PieceId, PieceSum};
-use crate::weave::{PieceWeave, Sought};
+use crate::piece::{Found, Piece, PieceId};
+use crate::weave::PieceWeave;
 use chunk_buffers::{ChunkSpan, Chunks};
 use rb_arena::RbTree;
-use std::marker::Brand;
-use std::sync::ledger::{Blank, Ledger};
-use steps::Steps;
 
-/// Cuts the piece that goes on past the first units, if one does. Answers the name of the last piece of these units.
-pub(crate) fn cut(tree: &mut RbTree<PieceWeave>, units: u64, chunks: &Chunks) -> Option<PieceId>
-    requires within { units ≤ unit_count (in_order tree.old.items) }
+/// Takes units out from the offset on, where the piece of the unit at the offset was looked up. Answers the name of the last piece
+/// before them.
+pub(crate) fn take_out(
+    tree: &mut RbTree<PieceWeave>,
+    at: &Option<Found>,
+    offset: u64,
+    deleted: u64,
+    chunks: &Chunks,
+) -> Option<PieceId>
+    requires place { StandsAt (entries_of tree.old.items) at.now offset }
+    requires range { offset + deleted ≤ unit_count (in_order tree.old.items) }
     requires small { unit_count (in_order tree.old.items) < 2 ^ 62 }
     requires room { 0 < tree.old.spare }
     requires pieces { All (IsPieceOf chunks.now.buffers) (in_order tree.old.items) }
     ensures parted { Parted tree.new.items result
-        (front chunks.now.buffers units (in_order tree.old.items))
-        (back chunks.now.buffers units (in_order tree.old.items)) }
+        (front chunks.now.buffers offset (in_order tree.old.items))
+        (back chunks.now.buffers (offset + deleted) (in_order tree.old.items)) }
     ensures room { tree.old.spare ≤ tree.new.spare + 1 }
 {
-    let (id, piece, before) = search(tree, Sought::Offset(units))?;
-    let rest = units - before.units;
-    // The search ended at the last piece: all pieces have no more units than these.
-    if piece.span.units <= rest {
-        return Some(id);
+    let Some(found) = at else {
+        return tree.last();
+    };
+    let own = offset - found.before.units;
+    if own == 0 {
+        let after = tree.prev(found.id);
+        remove_units(tree, &after, deleted, chunks);
+        return after;
     }
-    if rest == 0 {
-        return tree.prev(id);
+    take_out_inside(tree, found.id, own, deleted, chunks);
+    Some(found.id)
+}
+
+/// Takes units out that begin inside a piece. What is left of it before them keeps the name.
+fn take_out_inside(
+    tree: &mut RbTree<PieceWeave>,
+    id: PieceId,
+    own: u64,
+    deleted: u64,
+    chunks: &Chunks,
+)
+    requires some { 0 < own }
+    requires inside { HasUnits tree.old.items id (own + 1) }
+    requires small { unit_count (in_order tree.old.items) < 2 ^ 62 }
+    requires few { own + deleted < 2 ^ 62 }
+    requires room { 0 < tree.old.spare }
+    requires pieces { All (IsPieceOf chunks.now.buffers) (in_order tree.old.items) }
+    ensures parted { (us : List (ℕ × Piece)) (x : Piece) (vs : List (ℕ × Piece))
+        → SplitsAt tree.old.items id us x vs
+        → Parted tree.new.items (Some id)
+        (in_order us ++ piece_of chunks.now.buffers (part_of x.span 0 own) ∷ [])
+        (back chunks.now.buffers (own + deleted) (x ∷ in_order vs)) }
+    ensures room { tree.old.spare ≤ tree.new.spare + 1 }
+{
+    let span = tree.get(id).span;
+    if own + deleted < span.units {
+        divide(tree, id, own, own + deleted, chunks);
+        return;
     }
-    divide(tree, id, rest, chunks);
-    Some(id)
+    shorten(tree, id, chunks.part(span, 0, own), chunks);
+    remove_units(tree, &Some(id), own + deleted - span.units, chunks);
 }
 
 /// Takes that many units out that stand right after a piece, or at the start. Empty pieces before the units that stay go too.
-pub(crate) fn remove_units(
-    tree: &mut RbTree<PieceWeave>,
-    after: &Option<PieceId>,
-    units: u64,
-    chunks: &Chunks,
-)
+fn remove_units(tree: &mut RbTree<PieceWeave>, after: &Option<PieceId>, units: u64, chunks: &Chunks)
     requires place { PlaceAfter tree.old.items after.now }
     requires small { unit_count (in_order tree.old.items) < 2 ^ 62 }
     requires pieces { All (IsPieceOf chunks.now.buffers) (in_order tree.old.items) }
@@ -139,44 +167,24 @@ fn prolonged(first: ChunkSpan, second: ChunkSpan) -> ChunkSpan
     }
 }
 
-/// A search that nobody counts.
-fn search(tree: &RbTree<PieceWeave>, sought: Sought) -> Option<(PieceId, Piece, PieceSum)>
-    ensures { Found adding piece_turn sought tree.now.items result }
-{
-    search_for::<Brand>(tree, sought, Blank::new(1))
-}
-
-fn search_for<L: Ledger>(
-    tree: &RbTree<PieceWeave>,
-    sought: Sought,
-    blank: Blank,
-) -> Option<(PieceId, Piece, PieceSum)>
-    requires name { blank.name ≡ L.name }
-    requires parts { blank.parts ≡ L.parts }
-    requires some { 0 < L.parts }
-    ensures { Found adding piece_turn sought tree.now.items result }
-{
-    let mut steps = Steps::<L>::new(blank);
-    tree.descend(sought, &mut steps)
-}
-
-/// Cuts a piece in two. The left part keeps the name.
-fn divide(tree: &mut RbTree<PieceWeave>, id: PieceId, at: u64, chunks: &Chunks)
-    requires within { HasUnits tree.old.items id at }
+/// Cuts a piece in two, and leaves out what stands between two places in it. The left part keeps the name.
+fn divide(tree: &mut RbTree<PieceWeave>, id: PieceId, left: u64, right: u64, chunks: &Chunks)
+    requires ordered { left ≤ right }
+    requires within { HasUnits tree.old.items id right }
     requires small { unit_count (in_order tree.old.items) < 2 ^ 62 }
     requires room { 0 < tree.old.spare }
     requires pieces { All (IsPieceOf chunks.now.buffers) (in_order tree.old.items) }
     ensures items { (us : List (ℕ × Piece)) (x : Piece) (vs : List (ℕ × Piece))
         → SplitsAt tree.old.items id us x vs
         → (other : ℕ) × (tree.new.items
-        ≡ us ++ (id, piece_of chunks.now.buffers (part_of x.span 0 at))
-        ∷ (other, piece_of chunks.now.buffers (part_of x.span at x.span.units)) ∷ vs) }
+        ≡ us ++ (id, piece_of chunks.now.buffers (part_of x.span 0 left))
+        ∷ (other, piece_of chunks.now.buffers (part_of x.span right x.span.units)) ∷ vs) }
     ensures room { tree.old.spare ≤ tree.new.spare + 1 }
 {
     let span = tree.get(id).span;
-    shorten(tree, id, chunks.part(span, 0, at), chunks);
-    let right = chunks.part(span, at, span.units);
-    tree.insert_after(id, piece_of(chunks, right));
+    shorten(tree, id, chunks.part(span, 0, left), chunks);
+    let rest = chunks.part(span, right, span.units);
+    tree.insert_after(id, piece_of(chunks, rest));
 }
 
 /// Puts a span that is no longer in the place of a piece's.

@@ -4,10 +4,10 @@ ghost use Rattle.std.specs.Prelude.{◌≡◌, ℕ, ◌+◌, ◌-◌, ◌*◌, �
 ghost use Rattle.std.specs.List.{All};
 ghost use Rattle.std.specs.Option.{ForSome};
 ghost use Rattle.chunk_buffers.specs.Chunks.{LiesIn};
-ghost use Rattle.piece_tree.specs.Pieces.{pieces_of, unit_count, break_count_of, piece_list, IsPieceOf, spliced, IsFound, IsAmong, Entry, first_of};
+ghost use Rattle.piece_tree.specs.Pieces.{pieces_of, unit_count, break_count_of, piece_list, IsPieceOf, spliced, IsFound, IsAmong, StandsAt, Entry, first_of, last_of};
 ghost use Rattle.piece_tree.specs.Costs.{WithinLookUps};
 
-use crate::edits::{cut, insert_span, remove_units};
+use crate::edits::{insert_span, take_out};
 use crate::piece::{Found, Piece, PieceId, PieceSum};
 use crate::weave::{PieceWeave, Sought};
 use chunk_buffers::{ChunkSpan, Chunks};
@@ -131,8 +131,36 @@ impl PieceTree {
         Some((next, self.tree.get(next).span))
     }
 
-    /// Puts the span in the place of `deleted` units from the offset on. It takes no memory.
-    pub fn splice(&mut self, offset: u64, deleted: u64, span: Option<ChunkSpan>, chunks: &Chunks)
+    /// The last piece; None where there is none.
+    pub fn last(&self) -> Option<(PieceId, ChunkSpan)>
+        ensures { result ≡ last_of self.now.entries }
+    {
+        let last = self.tree.last()?;
+        Some((last, self.tree.get(last).span))
+    }
+
+    /// The piece before the one of this name.
+    pub fn prev(&self, id: PieceId) -> Option<(PieceId, ChunkSpan)>
+        requires { IsAmong self.now.entries id }
+        ensures { (earlier later : List Entry) (piece : Piece)
+            → self.now.entries ≡ earlier ++ record { id = id; piece = piece } ∷ later
+            → result ≡ last_of earlier }
+    {
+        let prev = self.tree.prev(id)?;
+        Some((prev, self.tree.get(prev).span))
+    }
+
+    /// Puts the span in the place of `deleted` units from the offset on, where the piece that has the unit at the offset was looked
+    /// up; None at the end. It makes no search, and takes no memory.
+    pub fn splice(
+        &mut self,
+        at: Option<Found>,
+        offset: u64,
+        deleted: u64,
+        span: Option<ChunkSpan>,
+        chunks: &Chunks,
+    )
+        requires place { StandsAt self.old.entries at offset }
         requires range { offset + deleted ≤ unit_count (pieces_of self.old.entries) }
         requires room { 0 < self.old.spare }
         requires inside { ForSome span (LiesIn chunks.now.buffers) }
@@ -144,9 +172,8 @@ impl PieceTree {
             (pieces_of self.old.entries) }
         ensures spare { self.new.spare + 1 ≡ self.old.spare }
     {
-        let at = cut(&mut self.tree, offset, chunks);
-        remove_units(&mut self.tree, &at, deleted, chunks);
-        insert_span(&mut self.tree, &at, span, chunks);
+        let after = take_out(&mut self.tree, &at, offset, deleted, chunks);
+        insert_span(&mut self.tree, &after, span, chunks);
         self.spare -= 1;
     }
 

@@ -36,8 +36,8 @@ module _ {X : Type 0} where
   numbered n (Some x ∷ cs) = (n, x) ∷ numbered (suc n) cs
 
   -- a value's name is the number of its slot
-  unfoldable pub live_of : List (List (Option X)) → map.FinMap nat_cmp X
-  live_of pages = map.from_entries (numbered 0 (row pages))
+  unfoldable pub live_of : List (Option X) → map.FinMap nat_cmp X
+  live_of slots = map.from_entries (numbered 0 slots)
 
 -- an empty slot is taken: the last of those that were given back, or else the first that was never used
 abbrev pub Vacates : List ℕ → ℕ → ℕ → List ℕ → ℕ → Type 0

@@ -1,5 +1,6 @@
 pub mod Arena
 pub mod Fields
+pub mod Links
 pub mod NodeLends
 pub mod PageLends
 pub mod SlotLends

@@ -5,21 +5,23 @@ ghost use Rattle.std.specs.Borrow.{sem};
 ghost use Rattle.raw_arena.specs.Arena.{node, nodes, IsLive, Vacates};
 
 use crate::name::NodeId;
-use crate::page::{Page, SLOTS};
+use crate::page::Page;
+use crate::spot::{MOST_PAGES, page_slots, slots_in, spot_of};
 use std::alloc::{AllocError, Global};
 use std::marker::Model;
 use std::sync::ledger::Ledger;
 use steps::Steps;
 
 /// Values of one type, each under a name of its own, in pages of raw memory that go back to the allocator at the
-/// arena's end. A slot is the value and nothing else, and no value is ever moved.
+/// arena's end. A slot is the value and nothing else, and no value is ever moved. The first page is small, and each next
+/// one twice as large.
 ///
 /// A contract sees the live values as a finite map from their names, and for how many more there is room.
 #[derive(Drop)]
 pub struct Arena<T: Copy> {
     pages: Vec<Page<T>>,
-    free: Vec<u64>,
-    fresh: u64,
+    free: Vec<u32>,
+    fresh: u32,
     alloc: Global,
 }
 
@@ -37,12 +39,9 @@ impl<T: Copy> Model for Arena<T> {
     ghost invariant = { fields_hold };
 }
 
-/// At most so many pages, so that each slot has a number.
-const MOST_PAGES: usize = 1 << 48;
-
 /// An empty slot: the one that was given back last, or else the next that was never used.
-fn vacate(free: &mut Vec<u64>, fresh: &mut u64) -> u64
-    requires { fresh.old < 2 ^ 63 }
+fn vacate(free: &mut Vec<u32>, fresh: &mut u32) -> u32
+    requires { fresh.old + 1 < 2 ^ 32 }
     ensures slot { Vacates free.old.items fresh.old result free.new.items fresh.new }
     ensures capacity { vec_capacity free.new ≡ vec_capacity free.old }
 {
@@ -57,7 +56,7 @@ fn vacate(free: &mut Vec<u64>, fresh: &mut u64) -> u64
 }
 
 /// Keeps an empty slot for later.
-fn give_back(free: &mut Vec<u64>, slot: u64)
+fn give_back(free: &mut Vec<u32>, slot: u32)
     requires { vec_len free.old < vec_capacity free.old }
     ensures items { free.new.items ≡ free.old.items ++ slot ∷ [] }
     ensures capacity { vec_capacity free.old ≤ vec_capacity free.new }
@@ -86,8 +85,7 @@ impl<T: Copy> Arena<T> {
         ensures room { OnOk result (count ≤ self.new.spare) }
         ensures kept { self.old.spare ≤ self.new.spare }
     {
-        let missing = count.saturating_sub(self.spare());
-        for _page in 0..missing.div_ceil(SLOTS as u64) {
+        while self.spare() < count {
             self.grow()?;
         }
         Ok(())
@@ -97,21 +95,21 @@ impl<T: Copy> Arena<T> {
     pub fn spare(&self) -> u64
         ensures { result ≡ self.now.spare }
     {
-        (self.free.len() + self.pages.len() * SLOTS) as u64 - self.fresh
+        (self.free.len() + slots_in(self.pages.len())) as u64 - self.fresh as u64
     }
 
     /// One page more.
     fn grow(&mut self) -> Result<(), AllocError>
         ensures live { self.new.live ≡ self.old.live }
-        ensures room { OnOk result (self.new.spare ≡ self.old.spare + 4096) }
+        ensures room { OnOk result (self.old.spare < self.new.spare) }
         ensures kept { OnErr result (self.new.spare ≡ self.old.spare) }
     {
-        if self.pages.len() >= MOST_PAGES {
+        let pages = self.pages.len();
+        if pages >= MOST_PAGES {
             return Err(AllocError);
         }
-        let slots = (self.pages.len() + 1) * SLOTS;
-        self.free.reserve(slots - self.free.len())?;
-        let page = Page::new(self.alloc)?;
+        self.free.reserve(slots_in(pages + 1) - self.free.len())?;
+        let page = Page::new(self.alloc, page_slots(pages))?;
         self.pages.push(page)?;
         Ok(())
     }
@@ -125,7 +123,8 @@ impl<T: Copy> Arena<T> {
         ensures few { map.len self.new.live + self.new.spare < 2 ^ 63 }
     {
         let slot = vacate(&mut self.free, &mut self.fresh);
-        self.pages[(slot / SLOTS as u64) as usize].fill((slot % SLOTS as u64) as usize, item);
+        let spot = spot_of(slot);
+        self.pages[spot.page].fill(spot.place, item);
         NodeId::new(slot)
     }
 
@@ -137,7 +136,8 @@ impl<T: Copy> Arena<T> {
         ensures spare { self.new.spare ≡ self.old.spare + 1 }
     {
         let slot = id.slot();
-        let item = self.pages[(slot / SLOTS as u64) as usize].empty((slot % SLOTS as u64) as usize);
+        let spot = spot_of(slot);
+        let item = self.pages[spot.page].empty(spot.place);
         give_back(&mut self.free, slot);
         item
     }
@@ -149,8 +149,8 @@ impl<T: Copy> Arena<T> {
         ensures step { steps.new ≡ steps.old + 1 }
     {
         steps.tick();
-        let slot = id.slot();
-        self.pages[(slot / SLOTS as u64) as usize].get((slot % SLOTS as u64) as usize)
+        let spot = spot_of(id.slot());
+        self.pages[spot.page].get(spot.place)
     }
 
     /// The value of that name, to write to. It counts as one step.
@@ -161,7 +161,7 @@ impl<T: Copy> Arena<T> {
         ensures step { steps.new ≡ steps.old + 1 }
     {
         steps.tick();
-        let slot = id.slot();
-        self.pages[(slot / SLOTS as u64) as usize].get_mut((slot % SLOTS as u64) as usize)
+        let spot = spot_of(id.slot());
+        self.pages[spot.page].get_mut(spot.place)
     }
 }

@@ -5,9 +5,10 @@ mod arena;
 mod block;
 mod name;
 mod page;
+mod spot;
 
 pub use arena::Arena;
-pub use name::NodeId;
+pub use name::{Link, NodeId};
 // A crate can name an arena in a contract only if the types of its fields are exported.
 #[doc(hidden)]
 pub use block::Block;

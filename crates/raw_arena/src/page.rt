@@ -1,4 +1,4 @@
-//! A page: a block of a fixed number of slots, as a list.
+//! A page: a block of slots, as a list.
 ghost use Rattle.std.specs.Prelude.{◌≡◌, ◌<◌, List, Option, Some, None, length, replicate, get_or, slice_set, IfOk};
 ghost use Rattle.std.specs.Borrow.{sem};
 ghost use Rattle.raw_arena.specs.Slots.{IsFilled};
@@ -8,17 +8,15 @@ use std::alloc::{AllocError, Global};
 use std::marker::Model;
 use std_alloc::room::may_hold;
 
-/// The slots of a page.
-pub(crate) const SLOTS: usize = 4096;
-
-/// `SLOTS` slots, which go back to their allocator at the page's end.
+/// Slots that go back to their allocator at the page's end.
 pub struct Page<T: Copy> {
     block: Block<T, Global>,
+    count: usize,
     alloc: Global,
 }
 
 impl<T: Copy> Model for Page<T> {
-    ghost use Rattle.std.specs.Prelude.{◌≡◌, List, Option, length};
+    ghost use Rattle.std.specs.Prelude.{◌≡◌, ◌<◌, List, Option, length};
     ghost use Rattle.std.specs.Coded.{coded_list, coded_option};
 
     ghost Value = { List (Option T) };
@@ -27,28 +25,37 @@ impl<T: Copy> Model for Page<T> {
 
     ghost view = { λ p. p.block.holds };
 
-    ghost invariant = { λ p. (length p.block.holds ≡ 4096) × (p.block.from ≡ p.alloc) };
+    ghost invariant = { λ p. (0 < p.count) × (length p.block.holds ≡ p.count) × (p.block.from ≡ p.alloc) };
 }
 
 impl<T: Copy> Drop for Page<T> {
     fn drop(self) {
-        let Page { block, alloc } = self;
-        block.free(&alloc, SLOTS);
+        let Page {
+            block,
+            count,
+            alloc,
+        } = self;
+        block.free(&alloc, count);
     }
 }
 
 impl<T: Copy> Page<T> {
     ghost use Rattle.raw_arena.specs.PageLends.{lends_item};
 
-    /// A page with no value yet.
-    pub(crate) fn new(alloc: Global) -> Result<Page<T>, AllocError>
-        ensures { IfOk result (λ p. p ≡ replicate 4096 None) }
+    /// A page of `count` empty slots.
+    pub(crate) fn new(alloc: Global, count: usize) -> Result<Page<T>, AllocError>
+        requires { 0 < count }
+        ensures { IfOk result (λ p. p ≡ replicate count None) }
     {
-        if !may_hold::<T>(SLOTS) {
+        if !may_hold::<T>(count) {
             return Err(AllocError);
         }
-        let block = Block::new(&alloc, SLOTS)?;
-        Ok(Page { block, alloc })
+        let block = Block::new(&alloc, count)?;
+        Ok(Page {
+            block,
+            count,
+            alloc,
+        })
     }
 
     pub(crate) fn fill(&mut self, index: usize, item: T)

@@ -1,4 +1,5 @@
 pub mod Cases
+pub mod Climbing
 pub mod Gaps
 pub mod Growing
 pub mod Heirs

@@ -1,5 +1,6 @@
 -- The shifts on the path to a place, summed from the place up.
 use Rattle.std.proofs.Common.{◌≡◌, ℕ, suc, ◌≤◌, Bool, Option, Some, None, refl, sym, ap, ◌∙◌, subst, arith}
+use Rattle.std.proofs.lemmas.Option.{none-some}
 use Rattle.std.specs.Option.{unwrap_or}
 use Rattle.std.specs.Ordering.{nat_cmp}
 use Rattle.std.specs.FinMap as map
@@ -72,6 +73,10 @@ module _ {X S B : Type 0} (w : Weaving X S B) (L : Lawful w) where
 
     pub along_done : (all by : B) (n : ℕ) → Along all None by n → by ≡ all
     along_done all by n (k, (t, e, made, wv, sum, le)) = sym (sum ∙ ap (λ l. w.plus (shift_at w l) by) (hole_top k (sym e)) ∙ still_plus by)
+
+    pub along_some : (all : B) (a : ℕ × Side) (by : B) (n : ℕ) → Along all (Some a) by n → 1 ≤ n
+    along_some all a by n (top, (t, e, made, wv, sum, le)) = absurd (none-some a (sym e))
+    along_some all a by n (on s c i d x k, (t, e, made, wv, sum, le)) = omega (arith, le)
 
     pub along_over : (all : B) (at : Option (ℕ × Side)) (by : B) → Along all at by 0 → at ≡ None
     along_over all at by (top, (t, e, made, wv, sum, le)) = e

@@ -5,7 +5,7 @@ use Rattle.rb_rules.specs.declared.slot.Side.{Side}
 use Rattle.rb_rules.specs.declared.weave.Weave.{Ghosts}
 use Rattle.rb_rules.specs.Tree.{Tree}
 use Rattle.rb_rules.specs.Memory.{AtSpot}
-use Rattle.rb_rules.specs.Weaving.{Weaving, HeldItem, HeldSum, CanSumUp, CanTurn}
+use Rattle.rb_rules.specs.Weaving.{Weaving, HeldItem, HeldSum, HeldBy, CanSumUp, CanTurn}
 use Rattle.rb_rules.specs.Sound.{CanTurnAt, TurnedAt, CanRenew, IsSlack, RenewedFrom}
 use Rattle.rb_arena.specs.declared.links.Links.{Links}
 
@@ -20,6 +20,10 @@ module _ {W X S B K : Type 0} (w : Ghosts W X S B K) where
 
   abbrev pub RelativeSum : S → Type 0
   RelativeSum sum = HeldSum w.weaving w.is_near w.is_sum w.is_value sum
+
+  -- a shift between two that a path may have
+  abbrev pub RelativeBy : B → Type 0
+  RelativeBy by = HeldBy w.weaving w.is_near by
 
   -- each number on the way to a node's data over subtrees with those sums
   abbrev pub CanSumOver : X → B → S → S → Type 0

@@ -1,15 +1,40 @@
--- What a search of the list answers.
-use Rattle.std.specs.Prelude.{◌≡◌, ℕ, ◌≤◌, ◌⊎◌, List, [], ◌∷◌, ◌++◌, Option, Some, None}
+-- What a search of the list answers, and where it stands on its way down a tree.
+use Rattle.std.specs.Prelude.{◌≡◌, ℕ, ◌*◌, ◌≤◌, ◌⊎◌, List, [], ◌∷◌, ◌++◌, Option, Some, None}
 use Rattle.rb_rules.specs.declared.slot.Data.{Data}
+use Rattle.rb_rules.specs.declared.slot.Slot.{Slot}
 use Rattle.rb_rules.specs.declared.weave.Turn.{Turn}
 use Rattle.rb_rules.specs.declared.weave.Turn.TheVariants.{Stop, Left, Right}
 use Rattle.rb_rules.specs.declared.weave.Weave.{Ghosts}
-use Rattle.rb_rules.specs.Tree.{Tree, height}
-use Rattle.rb_rules.specs.Memory.{Made}
+use Rattle.rb_rules.specs.Tree.{Tree, Hole, plug, root_of, height}
+use Rattle.rb_rules.specs.Memory.{Made, Spot, here}
 use Rattle.rb_rules.specs.Weaving.{Weaving}
-use Rattle.rb_rules.specs.Woven.{sum_of, Woven, Valued, entries}
+use Rattle.rb_rules.specs.Woven.{sum_of, Woven, Valued, entries, rights, shift_at, whole_in}
+use Rattle.rb_arena.specs.declared.descend.Next.{Next}
+use Rattle.rb_arena.specs.declared.descend.Next.TheVariants as next
+use Rattle.rb_arena.specs.declared.descend.Standing.{Standing}
 use Rattle.rb_arena.specs.declared.links.Links.{Links}
 use Rattle.rb_arena.specs.Value.{SplitsAt}
+
+module _ {X S B : Type 0} (w : Weaving X S B) where
+  -- the sum of some items and of one after them
+  abbrev pub past_item : X → S → S
+  past_item x before = w.join before (w.one x)
+
+  -- the sum of the items of the subtree where a search stands, and of these and those before them
+  abbrev pub inside : Links (Data X S B) → Standing X S B → S
+  inside tree s = w.shift_sum s.by (whole_in w tree.nodes.live s.at)
+
+  abbrev pub past_subtree : Links (Data X S B) → Standing X S B → S
+  past_subtree tree s = w.join s.before (inside tree s)
+
+  -- a search that goes right from a node with that slot, below a path with that shift
+  abbrev pub right_of_node : B → Slot (Data X S B) → ℕ × X × S → Standing X S B
+  right_of_node by slot asked =
+      record { at = slot.right; by = w.plus by slot.«data».delta; before = past_item asked.1 asked.2; last = Some asked }
+
+  -- the items after a node
+  abbrev pub items_after : Spot (Data X S B) → List (ℕ × X)
+  items_after s = entries w (w.plus (shift_at w s.hole) s.datum.delta) s.right ++ rights w s.hole
 
 module _ {X S B Key : Type 0} (w : Weaving X S B) (turn : Key → S → X → Turn) (key : Key) where
   -- where the search goes from the item x that stands after us
@@ -33,6 +58,40 @@ module _ {X S B Key : Type 0} (w : Weaving X S B) (turn : Key → S → X → Tu
   Found items None = items ≡ []
   Found items (Some f) = (us : List (ℕ × X)) × ((vs : List (ℕ × X)) × SplitsAt items f.0 us f.1 vs × (f.2 ≡ sum_of w us) × EndsAt us f.0 f.1 vs)
 
+  -- the item that was asked last is the last of us, and the search goes right from it; none was asked where there is none
+  abbrev pub AskedBefore : List (ℕ × X) → Option (ℕ × X × S) → Type 0
+  AskedBefore us None = us ≡ []
+  AskedBefore us (Some f) = (ws : List (ℕ × X)) × (us ≡ ws ++ (f.0, f.1) ∷ []) × (f.2 ≡ sum_of w ws) × Says ws f.1 Right
+
+  -- it is the first of vs, which stand after us, and the search goes left from it; none was asked where there is none
+  abbrev pub AskedAfter : List (ℕ × X) → List (ℕ × X) → Option (ℕ × X × S) → Type 0
+  AskedAfter us vs None = vs ≡ []
+  AskedAfter us vs (Some f) = (ws : List (ℕ × X)) × (vs ≡ (f.0, f.1) ∷ ws) × (f.2 ≡ sum_of w us) × Says us f.1 Left
+
+  -- the item asked last is right beside the place between us and vs, before which only the items ts stand
+  abbrev pub AskedLast : List (ℕ × X) → List (ℕ × X) → List (ℕ × X) → Option (ℕ × X × S) → Type 0
+  AskedLast us ts vs None = (us ≡ []) × (vs ≡ [])
+  AskedLast us ts vs (Some f) = AskedBefore us (Some f) ⊎ AskedAfter (us ++ ts) vs (Some f)
+
+  -- the search among some items stands at a subtree, to which those right before and right after it lead
+  pub record StandsIn (whole : Tree (Data X S B)) (items : List (ℕ × X)) (s : Standing X S B) : Type 0 where
+    pub hole : Hole (Data X S B)
+    pub subtree : Tree (Data X S B)
+    pub earlier : List (ℕ × X)
+    pub same : plug hole subtree ≡ whole
+    pub listed : items ≡ earlier ++ (entries w (shift_at w hole) subtree ++ rights w hole)
+    pub at_is : s.at ≡ root_of subtree
+    pub by_is : s.by ≡ shift_at w hole
+    pub before_is : s.before ≡ sum_of w earlier
+    pub right_before : RightBefore earlier
+    pub left_after : LeftAfter (earlier ++ entries w (shift_at w hole) subtree) (rights w hole)
+    pub asked : AskedLast earlier (entries w (shift_at w hole) subtree) (rights w hole) s.last
+
+  -- it has found its item, or stands at a subtree
+  abbrev pub StandsNext : Tree (Data X S B) → List (ℕ × X) → Next X S B → Type 0
+  StandsNext whole items (next.Stop f) = Found items (Some f)
+  StandsNext whole items (next.Down s) = StandsIn whole items s
+
 module _ {W X S B K : Type 0} (w : Ghosts W X S B K) (tree : Links (Data X S B)) where
   -- the tree keeps the right sums of values, and no path is longer than n nodes
   abbrev pub CanSearch : ℕ → Type 0
@@ -48,3 +107,43 @@ module _ {W X S B K : Type 0} (w : Ghosts W X S B K) (tree : Links (Data X S B))
   -- the answer is right for the items of the tree
   abbrev pub Finds : ℕ → K → Option (ℕ × X × S) → Type 0
   Finds n key found = WhereWoven n (λ t. Found w.weaving w.turn key (entries w.weaving w.weaving.still t) found)
+
+  module _ (n : ℕ) (key : K) (from : Standing X S B) where
+    -- a search among some values stands there, in a tree with the right sums
+    abbrev pub CanGoDown : Type 0
+    CanGoDown =
+        (beside : Tree (Data X S B)) × ((t : Tree (Data X S B)) × ((items : List (ℕ × X)) × Made beside tree.nodes.live tree.root t
+        × Woven w.weaving w.is_near w.weaving.still t × Valued w.weaving w.is_item w.is_value items × (height t ≤ n) × StandsIn w.weaving w.turn key t items from))
+
+    -- in whatever tree it stands, the answer is right for the items
+    abbrev pub FindsBelow : Option (ℕ × X × S) → Type 0
+    FindsBelow found = WhereWoven n (λ t. (items : List (ℕ × X)) → StandsIn w.weaving w.turn key t items from → Found w.weaving w.turn key items found)
+
+    -- and so many steps are no more than nodes on the longest path
+    abbrev pub StepsBelow : ℕ → Type 0
+    StepsBelow steps = WhereWoven n (λ t. (items : List (ℕ × X)) → StandsIn w.weaving w.turn key t items from → steps ≤ height t)
+
+  module _ (n id : ℕ) where
+    -- the node stands in a tree with the right sums, and the items after it are values
+    abbrev pub CanSearchAfter : Type 0
+    CanSearchAfter =
+        (s : Spot (Data X S B)) × Made s.beside tree.nodes.live tree.root (plug s.hole (here s id)) × Woven w.weaving w.is_near w.weaving.still (plug s.hole (here s id))
+        × (height (plug s.hole (here s id)) ≤ n) × Valued w.weaving w.is_item w.is_value (items_after w.weaving s)
+
+    -- wherever it stands so, this holds of the tree and of those items
+    abbrev pub WhereAfter : (Tree (Data X S B) → List (ℕ × X) → Type 0) → Type 0
+    WhereAfter P =
+        (s : Spot (Data X S B)) → Made s.beside tree.nodes.live tree.root (plug s.hole (here s id)) → Woven w.weaving w.is_near w.weaving.still (plug s.hole (here s id))
+        → height (plug s.hole (here s id)) ≤ n → P (plug s.hole (here s id)) (items_after w.weaving s)
+
+    -- the search among them goes on so
+    abbrev pub GoesOn : K → Next X S B → Type 0
+    GoesOn key how = WhereAfter (λ t items. StandsNext w.weaving w.turn key t items how)
+
+    -- the answer is right for them
+    abbrev pub FindsAfter : K → Option (ℕ × X × S) → Type 0
+    FindsAfter key found = WhereAfter (λ t items. Found w.weaving w.turn key items found)
+
+    -- so many steps are no more than so many times the nodes on the longest path
+    abbrev pub StepsAfter : ℕ → ℕ → Type 0
+    StepsAfter times steps = WhereAfter (λ t items. steps ≤ times * height t)

@@ -1,15 +1,45 @@
-//! A search from the top down.
-ghost use Rattle.std.specs.Prelude.{◌≡◌, ◌-◌, ◌≤◌};
+//! A search from the top down, or from a node on.
+ghost use Rattle.std.specs.Prelude.{◌≡◌, ◌-◌, ◌≤◌, IfSome};
+ghost use Rattle.raw_arena.specs.Arena.{IsLive};
 ghost use Rattle.rb_rules.specs.Tree.{height};
-ghost use Rattle.rb_arena.specs.Relative.{RelativeItem, RelativeSum, before_node};
+ghost use Rattle.rb_arena.specs.Relative.{RelativeItem, RelativeSum, RelativeBy, before_node};
 ghost use Rattle.rb_arena.specs.Searching.{CanSearch, Finds, WhereWoven};
+ghost use Rattle.rb_arena.specs.Searching.{past_item, inside, past_subtree, right_of_node};
+ghost use Rattle.rb_arena.specs.Searching.{CanGoDown, FindsBelow, StepsBelow};
+ghost use Rattle.rb_arena.specs.Searching.{CanSearchAfter, GoesOn, FindsAfter, StepsAfter};
 
 use crate::climb::LONGEST;
-use crate::links::Links;
+use crate::insert::{copy_of, shift_to};
+use crate::links::{Links, Place, place, visit};
+use crate::sums::whole;
 use raw_arena::NodeId;
-use rb_rules::{Data, Turn, Weave};
+use rb_rules::{Data, Side, Slot, Turn, Weave};
 use std::sync::ledger::Ledger;
 use steps::Steps;
+
+/// Where a search stands: at a subtree, with the shift of the path to it, the sum of the items
+/// before it, and the node that was asked last.
+#[derive(Clone, Copy)]
+pub struct Standing<X, S, B> {
+    pub at: Option<NodeId>,
+    pub by: B,
+    pub before: S,
+    pub last: Option<(NodeId, X, S)>,
+}
+
+/// How a search goes on from the nodes above: it has found its item, or goes down.
+pub enum Next<X, S, B> {
+    Stop((NodeId, X, S)),
+    Down(Standing<X, S, B>),
+}
+
+/// A node's item, below a path with that shift.
+fn item_below<W: Weave>(by: W::By, datum: &Data<W::Item, W::Sum, W::By>) -> W::Item
+    requires { RelativeItem W.Weave (W.weaving.shift by datum.now.item) }
+    ensures { result ≡ W.weaving.shift by datum.now.item }
+{
+    W::shift(by, datum.item)
+}
 
 /// A node's item and the sum of the items before it, by what the path to the node came to.
 fn at_node<W: Weave>(
@@ -28,7 +58,57 @@ fn at_node<W: Weave>(
     (item, W::join(before, left))
 }
 
-/// The item at which the search for a key ends, with its name and the sum of the items before it. Each node on the way counts as a step.
+/// The subtree on the right of a node that was asked, below the shift of the node's path.
+fn right_of<W: Weave>(
+    by: W::By,
+    slot: &Slot<Data<W::Item, W::Sum, W::By>>,
+    asked: (NodeId, W::Item, W::Sum),
+) -> Standing<W::Item, W::Sum, W::By>
+    requires sum { RelativeSum W.Weave (past_item W.weaving asked.1 asked.2) }
+    requires shift { RelativeBy W.Weave (W.weaving.plus by slot.now.«data».delta) }
+    ensures { result ≡ right_of_node W.weaving by slot.now asked }
+{
+    Standing {
+        at: slot.right,
+        by: W::plus(by, slot.data.delta),
+        before: W::join(asked.2, W::one(asked.1)),
+        last: Some(asked),
+    }
+}
+
+/// The item at which the search ends that goes down from there, with its name and the sum of the
+/// items before it. Each node on the way counts as a step.
+fn go_down<W: Weave, L: Ledger>(
+    tree: &Links<Data<W::Item, W::Sum, W::By>>,
+    from: Standing<W::Item, W::Sum, W::By>,
+    key: W::Key,
+    steps: &mut Steps<L>,
+) -> Option<(NodeId, W::Item, W::Sum)>
+    requires { CanGoDown W.Weave tree.now 126 key from }
+    ensures found { FindsBelow W.Weave tree.now 126 key from result }
+    ensures cost { StepsBelow W.Weave tree.now 126 key from (steps.new - steps.old) }
+{
+    let mut standing = from;
+    for _turn in 0..LONGEST {
+        let Some(id) = standing.at else {
+            return standing.last;
+        };
+        let slot = visit(&tree.nodes, id, steps);
+        let (item, sum) = at_node::<W>(standing.by, standing.before, &slot.data);
+        let asked = (id, item, sum);
+        match W::turn_at(key, sum, item) {
+            Turn::Stop => return Some(asked),
+            Turn::Left => {
+                standing.at = slot.left;
+                standing.last = Some(asked);
+            }
+            Turn::Right => standing = right_of::<W>(standing.by, &slot, asked),
+        }
+    }
+    standing.last
+}
+
+/// The item at which the search for a key ends, from the top.
 pub(crate) fn descend<W: Weave, L: Ledger>(
     tree: &Links<Data<W::Item, W::Sum, W::By>>,
     key: W::Key,
@@ -38,26 +118,90 @@ pub(crate) fn descend<W: Weave, L: Ledger>(
     ensures found { Finds W.Weave tree.now 126 key result }
     ensures cost { WhereWoven W.Weave tree.now 126 (λ t. steps.new - steps.old ≤ height t) }
 {
-    let mut at = tree.root;
-    let mut by = W::still();
-    let mut before = W::none();
-    let mut last = None;
+    let top = Standing {
+        at: tree.root,
+        by: W::still(),
+        before: W::none(),
+        last: None,
+    };
+    go_down::<W, L>(tree, top, key, steps)
+}
+
+/// The sum of the items before a subtree and in it.
+fn through<W: Weave>(
+    tree: &Links<Data<W::Item, W::Sum, W::By>>,
+    standing: &Standing<W::Item, W::Sum, W::By>,
+) -> W::Sum
+    requires live { IfSome standing.now.at (λ i. IsLive tree.now.nodes i) }
+    requires inside { RelativeSum W.Weave (inside W.weaving tree.now standing.now) }
+    requires sum { RelativeSum W.Weave (past_subtree W.weaving tree.now standing.now) }
+    ensures { result ≡ past_subtree W.weaving tree.now standing.now }
+{
+    let inside = W::shift_sum(standing.by, whole::<W>(&tree.nodes, standing.at));
+    W::join(standing.before, inside)
+}
+
+/// Climbs from a node, past the nodes from which the search among the items after it goes right,
+/// and tells where it goes on. Each node on the way counts once for the shift of its path, and once
+/// when it is passed.
+fn climb<W: Weave, L: Ledger>(
+    tree: &Links<Data<W::Item, W::Sum, W::By>>,
+    id: NodeId,
+    key: W::Key,
+    steps: &mut Steps<L>,
+) -> Next<W::Item, W::Sum, W::By>
+    requires { CanSearchAfter W.Weave tree.now 126 id }
+    ensures next { GoesOn W.Weave tree.now 126 id key result }
+    ensures cost { StepsAfter W.Weave tree.now 126 id 2 (steps.new - steps.old) }
+{
+    let mut at = place(tree, id);
+    let mut by = shift_to::<W, L>(tree, copy_of(&at), steps);
+    let slot = visit(&tree.nodes, id, steps);
+    let mut standing = Standing {
+        at: slot.right,
+        by: W::plus(by, slot.data.delta),
+        before: W::none(),
+        last: None,
+    };
     for _turn in 0..LONGEST {
-        let Some(id) = at else {
-            return last;
+        let Some(above) = at else {
+            return Next::Down(standing);
         };
-        let slot = *tree.nodes.visit(id, steps);
-        let (item, sum) = at_node::<W>(by, before, &slot.data);
-        last = Some((id, item, sum));
-        match W::turn_at(key, sum, item) {
-            Turn::Stop => return last,
-            Turn::Left => at = slot.left,
-            Turn::Right => {
-                before = W::join(sum, W::one(item));
-                by = W::plus(by, slot.data.delta);
-                at = slot.right;
+        let upper = above.0;
+        let slot = visit(&tree.nodes, upper, steps);
+        if above.1 == Side::Right {
+            by = W::minus(by, slot.data.delta);
+        } else {
+            let item = item_below::<W>(by, &slot.data);
+            let sum = through::<W>(tree, &standing);
+            let asked = (upper, item, sum);
+            match W::turn_at(key, sum, item) {
+                Turn::Stop => return Next::Stop(asked),
+                Turn::Left => {
+                    standing.last = Some(asked);
+                    return Next::Down(standing);
+                }
+                Turn::Right => standing = right_of::<W>(by, &slot, asked),
             }
         }
+        at = place(tree, upper);
     }
-    last
+    Next::Down(standing)
+}
+
+/// The item at which the search among the items after that one ends, with sums that begin after it.
+pub(crate) fn descend_after<W: Weave, L: Ledger>(
+    tree: &Links<Data<W::Item, W::Sum, W::By>>,
+    id: NodeId,
+    key: W::Key,
+    steps: &mut Steps<L>,
+) -> Option<(NodeId, W::Item, W::Sum)>
+    requires { CanSearchAfter W.Weave tree.now 126 id }
+    ensures found { FindsAfter W.Weave tree.now 126 id key result }
+    ensures cost { StepsAfter W.Weave tree.now 126 id 3 (steps.new - steps.old) }
+{
+    match climb::<W, L>(tree, id, key, steps) {
+        Next::Stop(found) => Some(found),
+        Next::Down(standing) => go_down::<W, L>(tree, standing, key, steps),
+    }
 }

@@ -1,7 +1,8 @@
 //! A new item at a place of the tree.
-ghost use Rattle.std.specs.Prelude.{◌≡◌, ◌+◌, ◌<◌, ◌^◌};
+ghost use Rattle.std.specs.Prelude.{◌≡◌, ◌+◌, ◌-◌, ◌<◌, ◌≤◌, ◌^◌};
 ghost use Rattle.std.specs.FinMap as map;
 ghost use Rattle.raw_arena.specs.Arena.{IsLive};
+ghost use Rattle.rb_rules.specs.Tree.{depth};
 ghost use Rattle.rb_rules.specs.Woven.{shift_at};
 ghost use Rattle.rb_rules.specs.Weaving.{HeldBy};
 ghost use Rattle.rb_arena.specs.Placing.{above_place, passed, IsWovenPlace, AtWovenPlace};
@@ -9,11 +10,14 @@ ghost use Rattle.rb_arena.specs.Placing.{Takes, TakesNear, TakesLeaf, TakesNode}
 ghost use Rattle.rb_arena.specs.Placing.{ListsAt, ListsLeafAt, ListsNodeAt, IsLeafFor};
 
 use crate::climb::{LONGEST, renew_up};
-use crate::links::{Links, Place, hang, place, read, write};
+use crate::links::{Links, Place, hang, place, read, visit, write};
 use crate::mend::mend;
 use crate::sums::summed;
 use raw_arena::NodeId;
-use rb_rules::{Data, Side, Slot, Weave};
+use rb_rules::{Data, Packed, Side, Slot, Weave};
+use std::marker::Brand;
+use std::sync::ledger::{Blank, Ledger};
+use steps::Steps;
 
 /// The node above a place.
 pub(crate) fn parent_at(at: &Place) -> Option<NodeId>
@@ -36,10 +40,15 @@ fn pass<W: Weave>(side: Side, delta: W::By, by: W::By) -> W::By
     }
 }
 
-/// What the shifts on the path to a place come to.
-pub(crate) fn path_shift<W: Weave>(tree: &Links<Data<W::Item, W::Sum, W::By>>, from: Place) -> W::By
+/// What the shifts on the path to a place come to. Each node on the path counts as a step.
+pub(crate) fn shift_to<W: Weave, L: Ledger>(
+    tree: &Links<Data<W::Item, W::Sum, W::By>>,
+    from: Place,
+    steps: &mut Steps<L>,
+) -> W::By
     requires { IsWovenPlace W.Weave tree.now from }
-    ensures { AtWovenPlace W.Weave tree.now from (λ k. result ≡ shift_at W.weaving k) }
+    ensures shift { AtWovenPlace W.Weave tree.now from (λ k. result ≡ shift_at W.weaving k) }
+    ensures cost { AtWovenPlace W.Weave tree.now from (λ k. steps.new - steps.old ≤ depth k) }
 {
     let mut at = from;
     let mut by = W::still();
@@ -47,11 +56,34 @@ pub(crate) fn path_shift<W: Weave>(tree: &Links<Data<W::Item, W::Sum, W::By>>, f
         let Some(above) = at else {
             return by;
         };
-        let delta = read(&tree.nodes, above.0).data.delta;
+        let delta = visit(&tree.nodes, above.0, steps).data.delta;
         by = pass::<W>(above.1, delta, by);
         at = place(tree, above.0);
     }
     by
+}
+
+fn blank_shift<W: Weave, L: Ledger>(
+    tree: &Links<Data<W::Item, W::Sum, W::By>>,
+    from: Place,
+    blank: Blank,
+) -> W::By
+    requires place { IsWovenPlace W.Weave tree.now from }
+    requires name { blank.name ≡ L.name }
+    requires parts { blank.parts ≡ L.parts }
+    requires some { 0 < L.parts }
+    ensures { AtWovenPlace W.Weave tree.now from (λ k. result ≡ shift_at W.weaving k) }
+{
+    let mut steps = Steps::<L>::new(blank);
+    shift_to::<W, L>(tree, from, &mut steps)
+}
+
+/// The same, and counts no step.
+pub(crate) fn path_shift<W: Weave>(tree: &Links<Data<W::Item, W::Sum, W::By>>, from: Place) -> W::By
+    requires { IsWovenPlace W.Weave tree.now from }
+    ensures { AtWovenPlace W.Weave tree.now from (λ k. result ≡ shift_at W.weaving k) }
+{
+    blank_shift::<W, Brand>(tree, from, Blank::new(1))
 }
 
 pub(crate) fn copy_of(at: &Place) -> Place
@@ -105,7 +137,7 @@ pub(crate) fn insert_at<W: Weave>(
     ensures few { map.len tree.new.nodes.live + tree.new.nodes.spare < 2 ^ 63 }
 {
     let leaf = leaf_at::<W>(tree, &at, item);
-    let id = tree.nodes.put(leaf);
+    let id = tree.nodes.put(Packed::of(&leaf));
     hang_leaf::<W>(tree, at, id);
     id
 }

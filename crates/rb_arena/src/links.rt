@@ -1,5 +1,5 @@
 //! A tree's nodes and their links, whatever data the nodes have.
-ghost use Rattle.std.specs.Prelude.{◌≡◌, ◌<◌, Some, None, IfSome};
+ghost use Rattle.std.specs.Prelude.{◌≡◌, ◌+◌, ◌<◌, Some, None, IfSome};
 ghost use Rattle.std.specs.FinMap as map;
 ghost use Rattle.raw_arena.specs.Arena.{node, IsLive};
 ghost use Rattle.rb_rules.specs.Tree.{fork};
@@ -9,7 +9,7 @@ ghost use Rattle.rb_rules.specs.Memory.{here, Stands, AtSpot, turned};
 ghost use Rattle.rb_arena.specs.Nodes.{Becomes, HasChildAt, HeadsChain, Inherits, strung};
 
 use raw_arena::{Arena, NodeId};
-use rb_rules::{Side, Slot};
+use rb_rules::{Packed, Side, Slot};
 use std::marker::Brand;
 use std::sync::ledger::{Blank, Ledger};
 use steps::Steps;
@@ -20,11 +20,24 @@ pub(crate) type Place = Option<(NodeId, Side)>;
 /// The nodes of a tree, and the topmost.
 #[derive(Drop)]
 pub struct Links<D: Copy> {
-    pub(crate) nodes: Arena<Slot<D>>,
+    pub(crate) nodes: Arena<Packed<D>>,
     pub(crate) root: Option<NodeId>,
 }
 
-fn seen<D: Copy, L: Ledger>(nodes: &Arena<Slot<D>>, id: NodeId, blank: Blank) -> Slot<D>
+/// Reads a node. It counts as a step.
+pub(crate) fn visit<D: Copy, L: Ledger>(
+    nodes: &Arena<Packed<D>>,
+    id: NodeId,
+    steps: &mut Steps<L>,
+) -> Slot<D>
+    requires { IsLive nodes.now id }
+    ensures value { node nodes.now id ≡ Some result }
+    ensures step { steps.new ≡ steps.old + 1 }
+{
+    nodes.visit(id, steps).slot()
+}
+
+fn seen<D: Copy, L: Ledger>(nodes: &Arena<Packed<D>>, id: NodeId, blank: Blank) -> Slot<D>
     requires live { IsLive nodes.now id }
     requires name { blank.name ≡ L.name }
     requires parts { blank.parts ≡ L.parts }
@@ -32,11 +45,11 @@ fn seen<D: Copy, L: Ledger>(nodes: &Arena<Slot<D>>, id: NodeId, blank: Blank) ->
     ensures { node nodes.now id ≡ Some result }
 {
     let mut steps = Steps::<L>::new(blank);
-    *nodes.visit(id, &mut steps)
+    visit(nodes, id, &mut steps)
 }
 
 /// Reads a node, and counts no step.
-pub(crate) fn read<D: Copy>(nodes: &Arena<Slot<D>>, id: NodeId) -> Slot<D>
+pub(crate) fn read<D: Copy>(nodes: &Arena<Packed<D>>, id: NodeId) -> Slot<D>
     requires { IsLive nodes.now id }
     ensures { node nodes.now id ≡ Some result }
 {
@@ -44,7 +57,7 @@ pub(crate) fn read<D: Copy>(nodes: &Arena<Slot<D>>, id: NodeId) -> Slot<D>
 }
 
 fn overwritten<D: Copy, L: Ledger>(
-    nodes: &mut Arena<Slot<D>>,
+    nodes: &mut Arena<Packed<D>>,
     id: NodeId,
     slot: Slot<D>,
     blank: Blank,
@@ -57,11 +70,11 @@ fn overwritten<D: Copy, L: Ledger>(
     ensures spare { nodes.new.spare ≡ nodes.old.spare }
 {
     let mut steps = Steps::<L>::new(blank);
-    *nodes.visit_mut(id, &mut steps) = slot;
+    *nodes.visit_mut(id, &mut steps) = Packed::of(&slot);
 }
 
 /// Writes a node, and counts no step.
-pub(crate) fn write<D: Copy>(nodes: &mut Arena<Slot<D>>, id: NodeId, slot: Slot<D>)
+pub(crate) fn write<D: Copy>(nodes: &mut Arena<Packed<D>>, id: NodeId, slot: Slot<D>)
     requires { IsLive nodes.old id }
     ensures live { nodes.new.live ≡ map.insert nodes.old.live id slot }
     ensures spare { nodes.new.spare ≡ nodes.old.spare }
@@ -80,7 +93,7 @@ pub(crate) fn place<D: Copy>(tree: &Links<D>, id: NodeId) -> Place
 }
 
 /// Gives a node, if there is one, another parent.
-fn adopt<D: Copy>(nodes: &mut Arena<Slot<D>>, id: Option<NodeId>, parent: Option<NodeId>)
+fn adopt<D: Copy>(nodes: &mut Arena<Packed<D>>, id: Option<NodeId>, parent: Option<NodeId>)
     requires { IfSome id (λ i. IsLive nodes.old i) }
     ensures live { nodes.new.live ≡ adopted nodes.old.live id parent }
     ensures spare { nodes.new.spare ≡ nodes.old.spare }
@@ -164,7 +177,7 @@ pub(crate) fn replace<D: Copy>(tree: &mut Links<D>, id: NodeId, heir: NodeId, da
 
 /// Puts a node that stands in no tree before a chain. Each node of a chain links to the next by its right link.
 pub(crate) fn string<D: Copy>(
-    nodes: &mut Arena<Slot<D>>,
+    nodes: &mut Arena<Packed<D>>,
     id: NodeId,
     front: Option<NodeId>,
     datum: D,
@@ -180,7 +193,7 @@ pub(crate) fn string<D: Copy>(
 }
 
 /// Takes the first node from a chain, and tells which is the first now.
-pub(crate) fn unstring<D: Copy>(nodes: &mut Arena<Slot<D>>, id: NodeId) -> Option<NodeId>
+pub(crate) fn unstring<D: Copy>(nodes: &mut Arena<Packed<D>>, id: NodeId) -> Option<NodeId>
     requires { HeadsChain nodes.old id }
     ensures next { (slot : Slot D) → node nodes.old id ≡ Some slot → result ≡ slot.right }
     ensures live { nodes.new.live ≡ adopted nodes.old.live result None }

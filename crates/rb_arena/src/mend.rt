@@ -11,7 +11,7 @@ use crate::climb::LONGEST;
 use crate::links::{Links, place, read, rewrite};
 use crate::sums::turn_node;
 use raw_arena::{Arena, NodeId};
-use rb_rules::{Data, Side, Slot, Weave};
+use rb_rules::{Data, Packed, Side, Weave};
 
 /// How a red node stands to the nodes above it.
 #[derive(Clone, Copy)]
@@ -40,7 +40,7 @@ pub(crate) fn paint<D: Copy>(tree: &mut Links<D>, id: NodeId, red: bool)
 }
 
 /// The child on that side, if it is red.
-pub(crate) fn red_child<D: Copy>(nodes: &Arena<Slot<D>>, id: NodeId, side: Side) -> Option<NodeId>
+pub(crate) fn red_child<D: Copy>(nodes: &Arena<Packed<D>>, id: NodeId, side: Side) -> Option<NodeId>
     requires { HasChild nodes.now.live id side }
     ensures { result ≡ red_child_in nodes.now.live id side }
 {

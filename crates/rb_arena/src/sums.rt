@@ -11,11 +11,11 @@ ghost use Rattle.rb_rules.specs.Woven.{whole_in};
 
 use crate::links::{Links, read, rewrite, turn};
 use raw_arena::{Arena, NodeId};
-use rb_rules::{Data, Side, Slot, Weave};
+use rb_rules::{Data, Packed, Side, Weave};
 
 /// The sum that the topmost node of a subtree keeps.
 pub(crate) fn whole<W: Weave>(
-    nodes: &Arena<Slot<Data<W::Item, W::Sum, W::By>>>,
+    nodes: &Arena<Packed<Data<W::Item, W::Sum, W::By>>>,
     id: Option<NodeId>,
 ) -> W::Sum
     requires { IfSome id (λ i. IsLive nodes.now i) }

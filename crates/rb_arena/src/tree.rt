@@ -14,7 +14,7 @@ ghost use Rattle.rb_arena.specs.Searching.{Found};
 ghost use Rattle.rb_arena.specs.Nodes.{StandsBelow, AtSpotBelow, StandsWithin, AtSpotWithin};
 
 use crate::climb::{LONGEST, renew_up};
-use crate::descend::descend;
+use crate::descend::{descend, descend_after};
 use crate::insert::{insert_at, land_at, parent_at};
 use crate::leave::{item_at, item_for, leave, loosen};
 use crate::links::{Links, Place, place, read, unstring};
@@ -152,6 +152,13 @@ impl<W: Weave> RbTree<W> {
         parent_at(&first_place(&self.links, None, self.links.root))
     }
 
+    /// The last item's name.
+    pub fn last(&self) -> Option<NodeId>
+        ensures { result ≡ last_or None self.now.items }
+    {
+        parent_at(&end_place(&self.links, None, self.links.root, Side::Right))
+    }
+
     /// The sum of all items.
     pub fn sum(&self) -> W::Sum
         ensures { result ≡ sum_of W.weaving self.now.items }
@@ -186,6 +193,20 @@ impl<W: Weave> RbTree<W> {
         ensures cost { 2 ^ (steps.new - steps.old) ≤ (length self.now.items + 1) ^ 2 }
     {
         descend::<W, L>(&self.links, key, steps)
+    }
+
+    /// Searches for a key among the items after that one, with sums that begin after it. Each node that is visited counts as a step.
+    pub fn descend_after<L: Ledger>(
+        &self,
+        id: NodeId,
+        key: W::Key,
+        steps: &mut Steps<L>,
+    ) -> Option<(NodeId, W::Item, W::Sum)>
+        requires named { IsItem self.now.items id }
+        ensures found { AtItem self.now.items id (λ us x vs. Found W.weaving W.turn key vs result) }
+        ensures cost { 2 ^ (steps.new - steps.old) ≤ (length self.now.items + 1) ^ 6 }
+    {
+        descend_after::<W, L>(&self.links, id, key, steps)
     }
 
     /// The item of that name.

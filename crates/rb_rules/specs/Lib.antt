@@ -1,5 +1,6 @@
 pub mod Colours
 pub mod Memory
+pub mod Packing
 pub mod Shape
 pub mod Shifts
 pub mod Sound

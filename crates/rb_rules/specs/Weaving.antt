@@ -1,5 +1,5 @@
 -- What the nodes of a tree keep, and how it is computed.
-use Rattle.std.specs.Prelude.{◌≡◌}
+use Rattle.std.specs.Prelude.{◌≡◌, Option, Some}
 use Rattle.rb_rules.specs.declared.slot.Data.{Data}
 use Rattle.rb_rules.specs.declared.slot.Side.{Side}
 use Rattle.rb_rules.specs.declared.slot.Side.TheVariants.{Left, Right}
@@ -81,3 +81,7 @@ module _ {X S B : Type 0} (w : Weaving X S B) (is_near : B → Type 0) (is_item 
       × CanSumUp (w.shift (w.minus w.still c.delta) n.item) (w.minus n.delta c.delta) mid far
   CanTurn Right n c mid far =
       CanSumUp n.item n.delta far mid × HeldItem w is_near is_item (w.shift n.delta c.item) × HeldBy w is_near (w.plus n.delta c.delta)
+
+-- a reach that a shift widens holds what the narrower one held, before the shift and after it
+abbrev pub Widens : {X S B : Type 0} → Weaving X S B → (B → B → Type 0) → (B → B → Option B) → Type 0
+Widens {X} {S} {B} w within widened = (reach by wider b : B) → widened reach by ≡ Some wider → within reach b → within wider b × within wider (w.plus by b)

@@ -1,6 +1,6 @@
 //! What the nodes of a tree keep.
 ghost use Rattle.std.specs.Prelude.{◌≡◌, Option, Some, IsSome};
-ghost use Rattle.rb_rules.specs.Weaving.{Weaving, Lawful, HeldItem, HeldSum, HeldBy, Sums};
+ghost use Rattle.rb_rules.specs.Weaving.{Weaving, Lawful, HeldItem, HeldSum, HeldBy, Sums, Widens};
 
 /// Where a search goes from a node.
 #[derive(Clone, Copy, PartialEq, Eq, Debug)]
@@ -97,7 +97,7 @@ pub trait Weave {
 
     ghost starts_within: { within weaving.still weaving.still };
 
-    ghost widens: { (reach by wider b : Self.By) → widened reach by ≡ Some wider → within reach b → within wider b × within wider (weaving.plus by b) };
+    ghost widens: { Widens weaving within widened };
 
     /// A shift that takes one value to another is itself no reach too great.
     ghost fits: { (by : Self.By) (x : Self.Item) → is_item x → is_item (weaving.shift by x) → IsSome (widened weaving.still by) };

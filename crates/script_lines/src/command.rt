@@ -10,7 +10,7 @@ ghost use Rattle.script_lines.specs.Commands.{open_in, place_in, op_of, op_in, s
 use crate::bracket::optional_table_at;
 use crate::fields::{
     LineFault, expect_only, flag_at, has_only, number_at, optional_number_at, position_in,
-    positions_at, span_at, text_at,
+    positions_at, span_at, span_from, text_at,
 };
 use crate::items::{Item, all_of, list_at};
 use crate::lists::{Ids, NewDecos};
@@ -282,12 +282,16 @@ fn op_of(alloc: Global, value: &Value) -> Result<LineOp, LineFault>
 fn place_in(value: &Value) -> Result<Place, LineFault>
     ensures { Reads result (place_in (view value.now)) }
 {
-    if value.get("at").is_some() {
-        let span = span_at(value, "at")?;
-        return Ok(Place::At(span));
+    match value.get("at") {
+        Some(field) => {
+            let span = span_from(field)?;
+            Ok(Place::At(span))
+        }
+        None => {
+            let (start, end) = positions_at(value, "range")?;
+            Ok(Place::InRange(start, end))
+        }
     }
-    let (start, end) = positions_at(value, "range")?;
-    Ok(Place::InRange(start, end))
 }
 
 fn decorate_in(alloc: Global, value: &Value) -> Result<Command, LineFault>

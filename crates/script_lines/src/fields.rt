@@ -1,9 +1,10 @@
 //! The fields of a JSON object.
 
-ghost use Rattle.std.specs.Prelude.{◌≡◌, true, false, map, string_bytes, OnOk, OnErr, IfErr};
+ghost use Rattle.std.specs.Prelude.{◌≡◌, true, false, map, string_bytes, option_and_then, OnOk, OnErr, IfErr};
 ghost use Rattle.std.specs.BTreeMap.{keys};
 ghost use Rattle.std.specs.List.{list_any, list_all};
 ghost use Rattle.std.specs.Str.{bytes_eq};
+ghost use Rattle.serde_json.specs.Find.{as_array};
 ghost use Rattle.serde_json.specs.View.{view, items_view};
 ghost use Rattle.script_lines.specs.Reading.{Reads};
 ghost use Rattle.script_lines.specs.Fields.{has_only, whole_number, number_at, optional_number_at, text_of, text_at, span_in, span_at, position_of, positions_in, positions_at, position_in, flag_at};
@@ -120,7 +121,13 @@ pub(crate) fn span_at(value: &Value, key: &str) -> Result<Span, LineFault>
     ensures { Reads result (span_at key.now (view value.now)) }
 {
     let field = value.get(key).ok_or(LineFault::Syntax)?;
-    let items = field.as_array().ok_or(LineFault::Syntax)?;
+    span_from(field)
+}
+
+pub(crate) fn span_from(value: &Value) -> Result<Span, LineFault>
+    ensures { Reads result (option_and_then span_in (as_array (view value.now))) }
+{
+    let items = value.as_array().ok_or(LineFault::Syntax)?;
     span_in(items.as_slice())
 }
 

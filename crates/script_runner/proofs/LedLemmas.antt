@@ -82,22 +82,27 @@ Went-line doc progress progress' bytes one line refused memory start read out le
 
 -- ---- the end of a line
 
-ended-break : (read after : List ℕ) → whole_lines (read ++ 10 ∷ after) ≡ whole_lines read ++ (cut read).rest ∷ whole_lines after
-ended-break read after = ap (λ c. c.ended) (cut-append_break read after)
+ended-break : (read end after : List ℕ) → IsInOneLine end
+    → whole_lines (read ++ (end ++ 10 ∷ after)) ≡ whole_lines read ++ ((cut read).rest ++ end) ∷ whole_lines after
+ended-break read end after one =
+    ap (λ x. (cut x).ended) (sym (append_assoc read end (10 ∷ after))) ∙ ap (λ c. c.ended) (cut-append_break (read ++ end) after)
+    ∙ ap (λ c. c.ended ++ c.rest ∷ whole_lines after) (cut-append_line read end one)
 
-rest-break : (read : List ℕ) → (cut (read ++ 10 ∷ [])).rest ≡ []
-rest-break read = ap (λ c. c.rest) (cut-append_break read [])
+rest-break : (read end : List ℕ) → (cut (read ++ (end ++ 10 ∷ []))).rest ≡ []
+rest-break read end =
+    ap (λ x. (cut x).rest) (sym (append_assoc read end (10 ∷ []))) ∙ ap (λ c. c.rest) (cut-append_break (read ++ end) [])
 
 pub counted_more : (n m a : ℕ) → n ≡ min a greatest_count → min (n + m) greatest_count ≡ min (a + m) greatest_count
 counted_more n m a is = omega arith
 
-module _ (doc doc' : FlatState) (progress progress' : Progress) (out out' : SinkState) where
-  pub Went-break : (answered : LineAnswered doc progress doc' progress' out out') → Went doc progress (10 ∷ []) answered.reply doc' progress'
-  Went-break answered start read written_so_far led = record {
+module _ (end : List ℕ) (doc doc' : FlatState) (progress progress' : Progress) (out out' : SinkState) where
+  pub Went-break : IsInOneLine end → (answered : LineAnswered end doc progress doc' progress' out out')
+      → Went doc progress (end ++ 10 ∷ []) answered.reply doc' progress'
+  Went-break one answered start read written_so_far led = record {
     replies = led.replies ++ answered.reply ∷ [];
-    transcript = rw (ended-break read []) (Transcript-push _ _ _ _ _ _ _ led.transcript (answered.turn _ led.line));
+    transcript = rw (ended-break read end [] one) (Transcript-push _ _ _ _ _ _ _ led.transcript (answered.turn _ led.line));
     out_is = rw (led.out_is, flat_map-append) (ap (λ x. written led.replies ++ x) (sym (append-nil answered.reply)));
-    line = rw (rest-break read) answered.line;
+    line = rw (rest-break read end) answered.line;
     refused = answered.refused ∙ counted_more progress.refused _ (refusals led.replies) led.refused
         ∙ ap (λ n. min n greatest_count) (sym (sum_by-append _ led.replies (answered.reply ∷ [])));
     memory = answered.memory ∙ counted_more progress.memory _ (memory_refusals led.replies) led.memory
@@ -105,12 +110,12 @@ module _ (doc doc' : FlatState) (progress progress' : Progress) (out out' : Sink
   }
 
   -- the reply to the line that ends here broke off
-  pub broken_at : (broken : LineBroken doc progress doc' out out') (start : FlatState) (read before : List ℕ) (lines others : List (List ℕ))
-      → lines ≡ whole_lines read ++ (cut read).rest ∷ others → Led start read before doc progress
+  pub broken_at : (broken : LineBroken end doc progress doc' out out') (start : FlatState) (read before : List ℕ) (lines others : List (List ℕ))
+      → lines ≡ whole_lines read ++ ((cut read).rest ++ end) ∷ others → Led start read before doc progress
       → Broken start lines (before ++ broken.sink.front) doc'
   broken_at broken start read before lines others lines_are led = record {
     done = whole_lines read;
-    line = (cut read).rest;
+    line = (cut read).rest ++ end;
     others = others;
     lines_are = lines_are;
     replies = led.replies;
@@ -123,9 +128,10 @@ module _ (doc doc' : FlatState) (progress progress' : Progress) (out out' : Sink
     out_is = ap (λ x. x ++ broken.sink.front) led.out_is;
   }
 
-  pub Broke-break : (after : List ℕ) (broken : LineBroken doc progress doc' out out') → Broke doc progress (10 ∷ after) broken.sink.front doc'
-  Broke-break after broken start read written_so_far led =
-      broken_at broken start read written_so_far _ (whole_lines after) (ended-break read after) led
+  pub Broke-break : IsInOneLine end → (after : List ℕ) (broken : LineBroken end doc progress doc' out out')
+      → Broke doc progress (end ++ 10 ∷ after) broken.sink.front doc'
+  Broke-break one after broken start read written_so_far led =
+      broken_at broken start read written_so_far _ (whole_lines after) (ended-break read end after one) led
 
 -- ---- a piece of the script
 
@@ -146,40 +152,39 @@ answered_to_start piece doc progress out = record {
   sink = record { wrote = Wrote-nothing out; faults = refl };
 }
 
-module _ (piece rest : List ℕ) (doc : FlatState) (progress : Progress) (mid : FlatState) (progress' progress'' : Progress) (out out' : SinkState)
-    (before : IsAnsweredTo piece rest doc progress mid progress' out out') (line : List ℕ) (one : IsInOneLine line)
-    (extended : (bytes : List ℕ) → IsLineSoFar progress'.line bytes → IsLineSoFar progress''.line (bytes ++ line))
-    (refused : progress''.refused ≡ progress'.refused) (memory : progress''.memory ≡ progress'.memory) where
-  with_line : Went doc progress (before.consumed ++ line) (before.added ++ []) mid progress''
-  with_line = Went-append _ _ _ _ _ _ _ _ _ _ before.went (Went-line mid progress' progress'' line one extended refused memory)
-
-  pub answered_to_line : (after : List ℕ) (doc' : FlatState) (progress''' : Progress) (out'' : SinkState) → rest ≡ line ++ 10 ∷ after
-      → LineAnswered mid progress'' doc' progress''' out' out'' → IsAnsweredTo piece after doc progress doc' progress''' out out''
-  answered_to_line after doc' progress''' out'' parts answered = record {
-    consumed = (before.consumed ++ line) ++ 10 ∷ [];
-    added = (before.added ++ []) ++ answered.reply;
-    whole = before.whole ∙ ap (λ x. before.consumed ++ x) parts ∙ sym (append_assoc before.consumed line (10 ∷ after))
-        ∙ sym (append_assoc (before.consumed ++ line) (10 ∷ []) after);
-    went = Went-append _ _ _ _ _ _ _ _ _ _ with_line (Went-break _ _ _ _ _ _ answered);
+module _ (piece rest : List ℕ) (doc : FlatState) (progress : Progress) (mid : FlatState) (progress' : Progress) (out out' : SinkState)
+    (before : IsAnsweredTo piece rest doc progress mid progress' out out') (line : List ℕ) (one : IsInOneLine line) where
+  pub answered_to_line : (after : List ℕ) (doc' : FlatState) (progress'' : Progress) (out'' : SinkState) → rest ≡ line ++ 10 ∷ after
+      → LineAnswered line mid progress' doc' progress'' out' out'' → IsAnsweredTo piece after doc progress doc' progress'' out out''
+  answered_to_line after doc' progress'' out'' parts answered = record {
+    consumed = before.consumed ++ (line ++ 10 ∷ []);
+    added = before.added ++ answered.reply;
+    whole = before.whole ∙ ap (λ x. before.consumed ++ x) (parts ∙ sym (append_assoc line (10 ∷ []) after))
+        ∙ sym (append_assoc before.consumed (line ++ 10 ∷ []) after);
+    went = Went-append _ _ _ _ _ _ _ _ _ _ before.went (Went-break line _ _ _ _ _ _ one answered);
     sink = record {
-      wrote = rw (append-nil before.added) (Wrote-append _ _ _ _ _ before.sink.wrote answered.sink.wrote);
+      wrote = Wrote-append _ _ _ _ _ before.sink.wrote answered.sink.wrote;
       faults = answered.sink.faults ∙ before.sink.faults;
     };
   }
 
   pub piece_broken : (after : List ℕ) (doc' : FlatState) (out'' : SinkState) → rest ≡ line ++ 10 ∷ after
-      → LineBroken mid progress'' doc' out' out'' → PieceBroken piece doc progress doc' out out''
+      → LineBroken line mid progress' doc' out' out'' → PieceBroken piece doc progress doc' out out''
   piece_broken after doc' out'' parts broken = record {
-    added = (before.added ++ []) ++ broken.sink.front;
-    broke = rw (before.whole, parts, ← append_assoc before.consumed line (10 ∷ after))
-        (Broke-append _ _ _ _ _ progress'' _ _ _ _ with_line (Broke-break _ _ _ progress'' _ _ after broken));
-    wrote = rw (append-nil before.added) (Wrote-append _ _ _ _ _ before.sink.wrote broken.sink.wrote);
+    added = before.added ++ broken.sink.front;
+    broke = rw (before.whole, parts)
+        (Broke-append _ _ _ _ progress' progress' _ _ _ _ before.went (Broke-break line _ _ _ progress' _ _ one after broken));
+    wrote = Wrote-append _ _ _ _ _ before.sink.wrote broken.sink.wrote;
     faults = subst (λ n. Rose n out''.faults) before.sink.faults broken.sink.faults;
   }
 
-  pub piece_answered : rest ≡ line → PieceAnswered piece doc progress mid progress'' out out'
-  piece_answered last = record {
+  pub piece_answered : (progress'' : Progress)
+      → ((bytes : List ℕ) → IsLineSoFar progress'.line bytes → IsLineSoFar progress''.line (bytes ++ line))
+      → progress''.refused ≡ progress'.refused → progress''.memory ≡ progress'.memory
+      → rest ≡ line → PieceAnswered piece doc progress mid progress'' out out'
+  piece_answered progress'' extended refused memory last = record {
     added = before.added ++ [];
-    went = rw (before.whole, last) with_line;
+    went = rw (before.whole, last)
+        (Went-append _ _ _ _ _ _ _ _ _ _ before.went (Went-line mid progress' progress'' line one extended refused memory));
     sink = rw (append-nil before.added) before.sink;
   }

@@ -9,8 +9,9 @@ use Rattle.document_rules.specs.Document.{FlatState}
 use Rattle.script_streams.specs.declared.Failed.{Failed}
 use Rattle.script_streams.specs.Streams.{SourceState, SinkState, Wrote, Gave, Given, NotGiven, Rose, greatest_count}
 use Rattle.script_streams.proofs.StreamLaws.{Wrote-append, Wrote-nothing, Gave-append, Gave-nothing}
+use Rattle.script_runner.specs.declared.line.PartialLine.{PartialLine}
 use Rattle.script_runner.specs.declared.serving.Progress.{Progress}
-use Rattle.script_runner.specs.Script.{cut, most_line_bytes, whole_lines, last_line, written}
+use Rattle.script_runner.specs.Script.{cut, most_line_bytes, whole_lines, last_line, written, Turn}
 use Rattle.script_runner.specs.Progress.{IsLineSoFar, refusals, memory_refusals, Led, LineAnswered, LineBroken, PieceAnswered, PieceBroken, AnswersPiece}
 use Rattle.script_runner.specs.declared.serving.Served.{Served}
 use Rattle.script_runner.specs.declared.serving.Served.TheVariants.{Ended, ReadFault, WriteFault, TooLong}
@@ -26,6 +27,9 @@ last_line_some (byte ∷ x) some = refl
 no_bytes : (line : ℕ) (x : List ℕ) (most : ℕ) → line ≡ min (length x) (most + 1) → line ≡ 0 → length x ≡ 0
 no_bytes line x most is none = omega arith
 
+pub nothing_so_far : (line : PartialLine) (bytes : List ℕ) → IsLineSoFar line bytes → line.len ≡ 0 → bytes ≡ []
+nothing_so_far line bytes so_far empty = nil_from_length bytes (no_bytes line.len bytes most_line_bytes so_far.len empty)
+
 some_bytes : (line : ℕ) (x : List ℕ) (most : ℕ) → line ≡ min (length x) (most + 1) → (line ≡ 0 → ⊥) → length x ≡ 0 → ⊥
 some_bytes line x most is some none = some (omega arith)
 
@@ -35,7 +39,7 @@ finish_empty doc progress out empty = record {
   added = [];
   answered = λ start read before led. record {
     replies = led.replies;
-    transcript = rw (nil_from_length (cut read).rest (no_bytes progress.line.len (cut read).rest most_line_bytes led.line.len empty), append-nil (whole_lines read)) led.transcript;
+    transcript = rw (nothing_so_far progress.line (cut read).rest led.line empty, append-nil (whole_lines read)) led.transcript;
     out_is = append-nil before ∙ led.out_is;
     refused_is = led.refused;
     memory_is = led.memory;
@@ -45,13 +49,14 @@ finish_empty doc progress out empty = record {
 }
 
 module _ (doc : FlatState) (progress : Progress) (doc' : FlatState) (progress' : Progress) (out out' : SinkState) (some : progress.line.len ≡ 0 → ⊥) where
-  pub finish_line : LineAnswered doc progress doc' progress' out out' → Finished doc progress doc' out out' progress'.refused progress'.memory
+  pub finish_line : LineAnswered [] doc progress doc' progress' out out' → Finished doc progress doc' out out' progress'.refused progress'.memory
   finish_line answered = record {
     added = answered.reply;
     answered = λ start read before led. record {
       replies = led.replies ++ answered.reply ∷ [];
       transcript = rw (last_line_some (cut read).rest (some_bytes progress.line.len (cut read).rest most_line_bytes led.line.len some))
-          (Transcript-push _ _ _ _ _ _ _ led.transcript (answered.turn _ led.line));
+          (Transcript-push _ _ _ _ _ _ _ led.transcript
+          (subst (λ line. Turn doc line answered.reply doc') (append-nil (cut read).rest) (answered.turn _ led.line)));
       out_is = rw (led.out_is, flat_map-append) (ap (λ x. written led.replies ++ x) (sym (append-nil answered.reply)));
       refused_is = answered.refused ∙ counted_more progress.refused _ (refusals led.replies) led.refused
           ∙ ap (λ n. min n greatest_count) (sym (sum_by-append _ led.replies (answered.reply ∷ [])));
@@ -62,12 +67,12 @@ module _ (doc : FlatState) (progress : Progress) (doc' : FlatState) (progress' :
     faults = answered.sink.faults;
   }
 
-  pub finish_broken : LineBroken doc progress doc' out out' → FinishBroken doc progress doc' out out'
+  pub finish_broken : LineBroken [] doc progress doc' out out' → FinishBroken doc progress doc' out out'
   finish_broken broken = record {
     added = broken.sink.front;
     broke = λ start read before led.
-        broken_at doc doc' progress progress' out out' broken start read before _ []
-        (rw (last_line_some (cut read).rest (some_bytes progress.line.len (cut read).rest most_line_bytes led.line.len some)) refl) led;
+        broken_at [] doc doc' progress progress' out out' broken start read before _ []
+        (rw (last_line_some (cut read).rest (some_bytes progress.line.len (cut read).rest most_line_bytes led.line.len some), append-nil (cut read).rest) refl) led;
     wrote = broken.sink.wrote;
     faults = broken.sink.faults;
   }

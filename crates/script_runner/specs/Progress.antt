@@ -57,24 +57,24 @@ Broke doc progress bytes added doc' =
 
 -- ---- one line
 
--- the line was answered, and the next one begins
-pub record LineAnswered (doc : FlatState) (progress : Progress) (doc' : FlatState) (progress' : Progress) (out out' : SinkState) : Type 0 where
+-- the line that these bytes end was answered, and the next one begins
+pub record LineAnswered (end : List ℕ) (doc : FlatState) (progress : Progress) (doc' : FlatState) (progress' : Progress) (out out' : SinkState) : Type 0 where
   pub reply : List ℕ
-  pub turn : (line : List ℕ) → IsLineSoFar progress.line line → Turn doc line reply doc'
+  pub turn : (line : List ℕ) → IsLineSoFar progress.line line → Turn doc (line ++ end) reply doc'
   pub sink : TakenWhole out out' reply
   pub line : IsLineSoFar progress'.line []
   pub refused : progress'.refused ≡ min (progress.refused + refusals (reply ∷ [])) greatest_count
   pub memory : progress'.memory ≡ min (progress.memory + memory_refusals (reply ∷ [])) greatest_count
 
--- the line was answered, but its reply was not written whole
-pub record LineBroken (doc : FlatState) (progress : Progress) (doc' : FlatState) (out out' : SinkState) : Type 0 where
+-- the line that these bytes end was answered, but its reply was not written whole
+pub record LineBroken (end : List ℕ) (doc : FlatState) (progress : Progress) (doc' : FlatState) (out out' : SinkState) : Type 0 where
   pub reply : List ℕ
-  pub turn : (line : List ℕ) → IsLineSoFar progress.line line → Turn doc line reply doc'
+  pub turn : (line : List ℕ) → IsLineSoFar progress.line line → Turn doc (line ++ end) reply doc'
   pub sink : Cut out out' reply
 
-abbrev pub AnswersLine : Result ⊤ Failed → FlatState → Progress → FlatState → Progress → SinkState → SinkState → Type 0
-AnswersLine (Ok x) doc progress doc' progress' out out' = LineAnswered doc progress doc' progress' out out'
-AnswersLine (Err failed) doc progress doc' progress' out out' = LineBroken doc progress doc' out out'
+abbrev pub AnswersLine : Result ⊤ Failed → List ℕ → FlatState → Progress → FlatState → Progress → SinkState → SinkState → Type 0
+AnswersLine (Ok x) end doc progress doc' progress' out out' = LineAnswered end doc progress doc' progress' out out'
+AnswersLine (Err failed) end doc progress doc' progress' out out' = LineBroken end doc progress doc' out out'
 
 -- ---- a piece of the script, cut anywhere
 

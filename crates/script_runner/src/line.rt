@@ -65,7 +65,7 @@ impl PartialLine {
     }
 }
 
-fn is_blank(bytes: &[u8]) -> bool
+pub(crate) fn is_blank(bytes: &[u8]) -> bool
     ensures { result ≡ is_blank bytes.now }
 {
     bytes.iter().all(|byte| is_blank_byte(*byte))

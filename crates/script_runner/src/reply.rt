@@ -1,6 +1,6 @@
 //! Commands carried out, and the replies to lines.
 
-ghost use Rattle.std.specs.Prelude.{◌≡◌, ℕ, List, false, if◌then◌else◌, IfOk, unwrap_or};
+ghost use Rattle.std.specs.Prelude.{◌≡◌, ◌++◌, ℕ, List, false, if◌then◌else◌, IfOk, unwrap_or};
 ghost use Rattle.bracket_rules.specs.Table.{standard_table};
 ghost use Rattle.document_rules.specs.Document.{flat_offset, flat_position};
 ghost use Rattle.script_lines.specs.Commands.{command_of};
@@ -13,7 +13,7 @@ ghost use Rattle.script_runner.specs.Bytes.{bytes_of, bytes_of_outcome};
 
 use crate::bracket_replies::{brackets_reply, level_reply, match_reply};
 use crate::decoration_replies::{deco_reply, decorate_reply, decos_reply};
-use crate::line::PartialLine;
+use crate::line::{MOST_LINE_BYTES, PartialLine, is_blank};
 use crate::ops::ops_at;
 use crate::outcome::{Outcome, Refused, Reply};
 use crate::snapshot_replies::{close_reply, read_reply, snapshot_reply, stops_reply};
@@ -22,8 +22,40 @@ use script_lines::{Command, LineOps, Refusal, Short, command_of, long_begin, lon
 use std::alloc::{AllocError, Global};
 use text_lengths::{Position, Span};
 
+/// Answers the line that these bytes end. One that lies whole in them is read where it lies.
+pub(crate) fn reply_at_end(
+    alloc: Global,
+    model: &mut Model,
+    line: &mut PartialLine,
+    end: &[u8],
+) -> Outcome
+    ensures turn { (bytes : List ℕ) → IsLineSoFar line.old bytes → Turn model.old.document
+        (bytes ++ end.now) (bytes_of_outcome result) model.new.document }
+    ensures accepted { IfOk result (λ reply. is_refused (bytes_of reply) ≡ false) }
+{
+    if line.len == 0 {
+        return reply_to_whole(alloc, model, end);
+    }
+    line.extend(end);
+    reply_to_kept(alloc, model, line)
+}
+
+/// Answers the line of these bytes.
+fn reply_to_whole(alloc: Global, model: &mut Model, line: &[u8]) -> Outcome
+    ensures turn { Turn model.old.document line.now (bytes_of_outcome result) model.new.document }
+    ensures accepted { IfOk result (λ reply. is_refused (bytes_of reply) ≡ false) }
+{
+    if line.len() > MOST_LINE_BYTES {
+        return Err(Refused(Refusal::Limit));
+    }
+    if is_blank(line) {
+        return Ok(Reply::Nothing);
+    }
+    reply_to_bytes(alloc, model, line)
+}
+
 /// Answers the line as far as its bytes are known.
-pub(crate) fn reply_to(alloc: Global, model: &mut Model, line: &PartialLine) -> Outcome
+fn reply_to_kept(alloc: Global, model: &mut Model, line: &PartialLine) -> Outcome
     ensures turn { (bytes : List ℕ) → IsLineSoFar line.now bytes
         → Turn model.old.document bytes (bytes_of_outcome result) model.new.document }
     ensures accepted { IfOk result (λ reply. is_refused (bytes_of reply) ≡ false) }

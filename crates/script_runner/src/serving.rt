@@ -9,7 +9,7 @@ ghost use Rattle.script_runner.specs.Serving.{Serves, Finishes};
 
 use crate::line::PartialLine;
 use crate::outcome::{Outcome, Refused, write_outcome};
-use crate::reply::reply_to;
+use crate::reply::reply_at_end;
 use memchr::memchr;
 use model_core::Model;
 use script_lines::Refusal;
@@ -121,23 +121,24 @@ fn finish<K: Sink>(alloc: Global, model: &mut Model, mut progress: Progress, out
     if progress.line.len == 0 {
         return progress.ended();
     }
-    match answer_line(alloc, model, &mut progress, out) {
+    match answer_line(alloc, model, &mut progress, &[], out) {
         Ok(()) => progress.ended(),
         Err(Failed) => Served::WriteFault,
     }
 }
 
-/// Answers the line that is complete now.
+/// Answers the line that these bytes end.
 fn answer_line<K: Sink>(
     alloc: Global,
     model: &mut Model,
     progress: &mut Progress,
+    end: &[u8],
     out: &mut K,
 ) -> Result<(), Failed>
-    ensures { AnswersLine result model.old.document progress.old model.new.document progress.new
-        (K.state out.old) (K.state out.new) }
+    ensures { AnswersLine result end.now model.old.document progress.old
+        model.new.document progress.new (K.state out.old) (K.state out.new) }
 {
-    let outcome = reply_to(alloc, model, &progress.line);
+    let outcome = reply_at_end(alloc, model, &mut progress.line, end);
     write_outcome(&outcome, out)?;
     progress.count(&outcome);
     progress.line.clear();
@@ -157,8 +158,7 @@ fn answer_piece<K: Sink>(
 {
     let mut rest = piece;
     while let Some((line, after)) = split_line(rest) {
-        progress.line.extend(line);
-        answer_line(alloc, model, progress, out)?;
+        answer_line(alloc, model, progress, line, out)?;
         rest = after;
     }
     progress.line.extend(rest);

@@ -112,7 +112,7 @@ module _ (b : List (List ℕ)) (entries : List Entry) (found : Found) (is : IsFo
   all_parts : All (IsPieceOf b) (pieces_of is.earlier ++ own ∷ pieces_of is.later)
   all_parts = subst (All (IsPieceOf b)) pieces_are all
 
-  all_earlier : All (IsPieceOf b) (pieces_of is.earlier)
+  pub all_earlier : All (IsPieceOf b) (pieces_of is.earlier)
   all_earlier =
       All-same (IsPieceOf b) (pieces_of is.earlier) (take (length (pieces_of is.earlier)) (pieces_of is.earlier ++ own ∷ pieces_of is.later))
       (sym (take_at (pieces_of is.earlier) (own ∷ pieces_of is.later) (length (pieces_of is.earlier)) refl))
@@ -139,6 +139,10 @@ module _ (b : List (List ℕ)) (entries : List Entry) (found : Found) (is : IsFo
   pub found_size : length own_text ≡ found.span.units
   found_size = length-units_at b found.span found_inside
 
+  pub found_reach : found.before.units + found.span.units ≤ length (spelled b (pieces_of entries))
+  found_reach =
+      omega (arith, ap length found_text, length-append earlier_text (own_text ++ later_text), length-append own_text later_text, found_start, found_size)
+
   pub found_unit : (offset : ℕ) → found.before.units ≤ offset → offset < found.before.units + found.span.units
       → get_or (spelled b (pieces_of entries)) offset 0 ≡ get_or own_text (offset - found.before.units) 0
   found_unit offset start end =
@@ -161,7 +165,7 @@ module _ (b : List (List ℕ)) (entries : List Entry) (found : Found) (is : IsFo
       sym (ap (take (length run)) (found_rest offset start end) ∙ take_at run later_text (length run) refl)
 
   module _ (full : All (λ (p : Piece). 0 < p.span.units) (pieces_of entries)) (unsplit : IsUnsplit b (pieces_of entries)) where
-    full_earlier : All (λ (p : Piece). 0 < p.span.units) (pieces_of is.earlier)
+    pub full_earlier : All (λ (p : Piece). 0 < p.span.units) (pieces_of is.earlier)
     full_earlier =
         let P : Piece → Type 0 = λ p. 0 < p.span.units in
         All-same P (pieces_of is.earlier) (take (length (pieces_of is.earlier)) (pieces_of is.earlier ++ own ∷ pieces_of is.later))
@@ -191,8 +195,7 @@ module _ (b : List (List ℕ)) (entries : List Entry) (found : Found) (is : IsFo
         → ends_with_pair (take (end - start) (drop start (spelled b (pieces_of entries)))) ≡ ends_with_pair (take own own_text)
     found_line_pair start end own end_is some within long =
         let x : List ℕ = spelled b (pieces_of entries) in
-        let reach : end ≤ length x =
-        omega (arith, ap length found_text, length-append earlier_text (own_text ++ later_text), length-append own_text later_text, found_start, found_size) in
+        let reach : end ≤ length x = omega (arith, found_reach) in
         pair_of_line x start end long reach ∙ ap (λ (n : ℕ). ends_with_pair (take n x)) (sym end_is) ∙ found_pair own some within
 
     pub earlier_breaks : length (break_ends 0 earlier_text) ≡ found.before.breaks

@@ -13,3 +13,4 @@ pub mod Growing
 pub mod Lasts
 pub mod Positions
 pub mod Touched
+pub mod Spots

@@ -7,7 +7,7 @@ use Rattle.text_rules.specs.Lines.{line_feed, carriage_return, begins_with}
 use Rattle.text_rules.specs.Breaks.{ends_with, joins_pair}
 use Rattle.text_rules.proofs.Breaks.{ends_with_push, and_false}
 
-ends_with_split : (unit : ℕ) (x : List ℕ) → ends_with unit x ≡ true → x ≡ take (length x - 1) x ++ unit ∷ []
+pub ends_with_split : (unit : ℕ) (x : List ℕ) → ends_with unit x ≡ true → x ≡ take (length x - 1) x ++ unit ∷ []
 ends_with_split unit [] e = absurd cc
 ends_with_split unit (u ∷ []) e = ap (λ (v : ℕ). v ∷ []) (eqb-true u unit e)
 ends_with_split unit (u ∷ v ∷ x) e =
@@ -18,7 +18,7 @@ begins_with_split : (unit : ℕ) (x : List ℕ) → begins_with unit x ≡ true 
 begins_with_split unit [] e = absurd cc
 begins_with_split unit (u ∷ x) e = ap (λ (v : ℕ). v ∷ x) (eqb-true u unit e)
 
-ends_with_some : (unit : ℕ) (x : List ℕ) → ends_with unit x ≡ true → 0 < length x
+pub ends_with_some : (unit : ℕ) (x : List ℕ) → ends_with unit x ≡ true → 0 < length x
 ends_with_some unit [] e = absurd cc
 ends_with_some unit (u ∷ x) e = omega arith
 
@@ -118,7 +118,3 @@ length-unit_if false unit = refl
 pub one_if_most : (b : Bool) → one_if b ≤ 1
 one_if_most true = omega arith
 one_if_most false = omega arith
-
-pub one_more_fits : (b : Bool) (n : ℕ) → n < 2 ^ 64 → (b ≡ true → n < 2 ^ 62) → n + one_if b < 2 ^ 64
-one_more_fits true n fits small = let less = small refl in omega arith
-one_more_fits false n fits small = omega arith

@@ -33,7 +33,7 @@ module _ (x : List ℕ) (span : Span) (text : List ℕ) (ordered : span.start �
   pub first_within : first ≤ last
   first_within = omega (arith, first_line_is, first_is x span text ordered within, f_within x span text ordered within, last_count)
 
-  new_count : new_dirty x span text + pairs ≡ breaks + 1 + after_return
+  pub new_count : new_dirty x span text + pairs ≡ breaks + 1 + after_return
   new_count =
       omega (arith, new_is x span text ordered within, pairs_are, breaks_are, break_count_is text, after_return_is_one, ap one_if return_is)
 
@@ -46,12 +46,14 @@ module _ (x : List ℕ) (span : Span) (text : List ℕ) (ordered : span.start �
       let new : breaks + 1 + after_return - pairs ≡ new_dirty x span text = omega (arith, new_count) in
       (λ i. record { first = first_line_is i; old = old i; new = new i })
 
-  pub before_counted : take (counted.first - 1) (lines_of (replaced x span text)) ≡ take (counted.first - 1) (lines_of x)
-  before_counted =
-      subst (λ (d : Dirty). take (d.first - 1) (lines_of (replaced x span text)) ≡ take (d.first - 1) (lines_of x)) (sym counted_is)
+-- the lines on both sides of those that an edit touches
+module _ (x : List ℕ) (span : Span) (text : List ℕ) (ordered : span.start ≤ span.end) (within : span.end ≤ length x) (dirty : Dirty) (is : dirty ≡ dirty_lines x span text) where
+  pub before_dirty : take (dirty.first - 1) (lines_of (replaced x span text)) ≡ take (dirty.first - 1) (lines_of x)
+  before_dirty =
+      subst (λ (d : Dirty). take (d.first - 1) (lines_of (replaced x span text)) ≡ take (d.first - 1) (lines_of x)) (sym is)
       (lines_before x span text ordered within)
 
-  pub after_counted : drop (counted.first - 1 + counted.new) (lines_of (replaced x span text)) ≡ drop (counted.first - 1 + counted.old) (lines_of x)
-  after_counted =
-      subst (λ (d : Dirty). drop (d.first - 1 + d.new) (lines_of (replaced x span text)) ≡ drop (d.first - 1 + d.old) (lines_of x)) (sym counted_is)
+  pub after_dirty : drop (dirty.first - 1 + dirty.new) (lines_of (replaced x span text)) ≡ drop (dirty.first - 1 + dirty.old) (lines_of x)
+  after_dirty =
+      subst (λ (d : Dirty). drop (d.first - 1 + d.new) (lines_of (replaced x span text)) ≡ drop (d.first - 1 + d.old) (lines_of x)) (sym is)
       (lines_after x span text ordered within)

@@ -5,6 +5,7 @@ mod breaks;
 mod lines;
 mod look_up;
 mod place;
+mod spot;
 mod text;
 mod walk;
 

@@ -2,12 +2,11 @@
 
 ghost use Rattle.std.specs.Prelude.{◌≡◌, ℕ, ◌+◌, ◌-◌, ◌<◌, ◌≤◌, ◌^◌, List, length, slice_index};
 ghost use Rattle.chunk_buffers.specs.Chunks.{units_at, LiesIn};
-ghost use Rattle.piece_tree.specs.Pieces.{pieces_of, unit_count, break_count_of, IsFound};
+ghost use Rattle.piece_tree.specs.Pieces.{pieces_of, unit_count, break_count_of, IsFound, HasUnit};
 ghost use Rattle.piece_tree.specs.Costs.{WithinLookUps};
 ghost use Rattle.unit_text.specs.Units.{cuts_pair};
 ghost use Rattle.text_rules.specs.Lines.{line_start};
 ghost use Rattle.text_buffer.specs.Text.{text_of, IsText};
-ghost use Rattle.text_buffer.specs.LookUps.{HasUnit};
 
 use chunk_buffers::Chunks;
 use piece_tree::{Found, PieceTree};
@@ -77,8 +76,8 @@ fn unit_before<L: Ledger>(
     unit_in(chunks, &other, offset - 1)
 }
 
-// The unit at an offset that the piece has.
-fn unit_in(chunks: &Chunks, found: &Found, offset: u64) -> u16
+/// The unit at an offset that the piece has.
+pub(crate) fn unit_in(chunks: &Chunks, found: &Found, offset: u64) -> u16
     requires inside { LiesIn chunks.now.buffers found.now.span }
     requires start { found.now.before.units ≤ offset }
     requires end { offset < found.now.before.units + found.now.span.units }

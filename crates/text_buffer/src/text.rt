@@ -16,9 +16,9 @@ use crate::breaks::ends_with_pair;
 use crate::lines::LineReader;
 use crate::look_up::{break_at, cuts_pair_at, piece_at};
 use crate::place::{push_line, start_of_line};
+use crate::spot::{dirty_between, found_before, joins_back, joins_front, one_if, spot_at};
 use crate::walk::push_span;
 use chunk_buffers::{ChunkSpan, Chunks};
-use line_starts::count_breaks;
 use piece_tree::PieceTree;
 use std::alloc::{AllocError, Global};
 use std::marker::{Brand, Model};
@@ -71,7 +71,7 @@ impl TextBuffer {
         if !units.is_empty() {
             pieces.reserve(1)?;
             let span = chunks.append_whole(units)?;
-            pieces.splice(0, 0, Some(span), &chunks);
+            pieces.splice(None, 0, 0, Some(span), &chunks);
         }
         Ok(TextBuffer { pieces, chunks })
     }
@@ -127,8 +127,8 @@ impl TextBuffer {
         self.pieces.spans(out)
     }
 
-    /// Puts the text in the place of the span. It takes no memory.
-    pub fn replace(&mut self, span: Span, text: &[u16])
+    /// Puts the text in the place of the span, and answers which lines it touched, as `dirty_lines` does. It takes no memory.
+    pub fn replace(&mut self, span: Span, text: &[u16]) -> Dirty
         requires ordered { span.start ≤ span.end }
         requires within { span.end ≤ length self.old.units }
         requires edits { 0 < self.old.spare_edits }
@@ -149,18 +149,28 @@ impl TextBuffer {
         ensures grown { Extends self.old.buffers self.new.buffers }
         ensures spare_edits { self.new.spare_edits + 1 ≡ self.old.spare_edits }
         ensures spare_units { self.old.spare_units ≤ self.new.spare_units + length text.now + 3 }
+        ensures dirty { result ≡ dirty_lines self.old.units span text.now }
+        ensures before { take (result.first - 1) (lines_of self.new.units)
+            ≡ take (result.first - 1) (lines_of self.old.units) }
+        ensures after { drop (result.first - 1 + result.new) (lines_of self.new.units)
+            ≡ drop (result.first - 1 + result.old) (lines_of self.old.units) }
     {
-        let front = self.joins_front(span, text);
-        let back = self.joins_back(span, text);
-        let start = span.start - one_if(front);
-        let end = span.end + one_if(back);
+        let start = spot_at(&self.pieces, &self.chunks, span.start);
+        let end = spot_at(&self.pieces, &self.chunks, span.end);
+        let dirty = dirty_between(&self.pieces, &self.chunks, &start, &end, text);
+        let front = joins_front(&start, &end, text);
+        let back = joins_back(&start, &end, text);
+        let at = found_before(&self.pieces, &start, front);
+        let from = span.start - one_if(front);
+        let to = span.end + one_if(back);
         let added = append_some(
             &mut self.chunks,
             carriage_return_if(front),
             text,
             line_feed_if(back),
         );
-        self.pieces.splice(start, end - start, added, &self.chunks);
+        self.pieces.splice(at, from, to - from, added, &self.chunks);
+        dirty
     }
 
     /// A reader of its lines, for one after another.
@@ -285,46 +295,9 @@ impl TextBuffer {
             drop (result.first - 1 + result.new) lines
             ≡ drop (result.first - 1 + result.old) (lines_of self.now.units) }
     {
-        let after_return = one_if(self.is_carriage_return_before(span.start));
-        let first = self.breaks_to(span.start - after_return) + 1;
-        let last = self.breaks_to(span.end) + 1;
-        let lines = count_breaks(text) + 1 + after_return;
-        Dirty {
-            first,
-            old: last + 1 - first,
-            new: lines - self.pairs_made(span, text),
-        }
-    }
-
-    // How many times a CR and an LF meet at the ends of the text, put in the place of the span.
-    fn pairs_made(&self, span: Span, text: &[u16]) -> u64
-        requires ordered { span.start ≤ span.end }
-        requires within { span.end ≤ length self.now.units }
-        ensures { let after = drop span.end self.now.units in
-            result ≡ one_if (joins_pair (take span.start self.now.units) (text.now ++ after))
-            + one_if (joins_pair text.now after) }
-    {
-        let front = one_if(self.joins_front(span, text));
-        if text.is_empty() {
-            return front;
-        }
-        front + one_if(self.joins_back(span, text))
-    }
-
-    // How many breaks end at the offset or before it.
-    fn breaks_to(&self, offset: u64) -> u64
-        requires { offset ≤ length self.now.units }
-        ensures count { result ≡ count_to offset (break_ends 0 self.now.units) }
-        ensures few { result < 2 ^ 62 }
-    {
-        if offset == self.len() {
-            return self.pieces.breaks();
-        }
-        let found = piece_at(&self.pieces, offset);
-        let own = self
-            .chunks
-            .breaks_to(found.span, offset - found.before.units);
-        found.before.breaks + own
+        let start = spot_at(&self.pieces, &self.chunks, span.start);
+        let end = spot_at(&self.pieces, &self.chunks, span.end);
+        dirty_between(&self.pieces, &self.chunks, &start, &end, text)
     }
 
     // The offset after the content of the line that starts here.
@@ -438,67 +411,6 @@ impl TextBuffer {
         let (_, run) = units.split_at((at - found.before.units) as usize);
         run
     }
-
-    // Whether a CR before the span and an LF at the start of what comes after it make a pair.
-    fn joins_front(&self, span: Span, text: &[u16]) -> bool
-        requires ordered { span.start ≤ span.end }
-        requires within { span.end ≤ length self.now.units }
-        ensures { result ≡ joins_pair (take span.start self.now.units)
-            (text.now ++ drop span.end self.now.units) }
-    {
-        if !self.is_carriage_return_before(span.start) {
-            return false;
-        }
-        if text.is_empty() {
-            return self.is_line_feed_at(span.end);
-        }
-        text[0] == LINE_FEED
-    }
-
-    // Whether a CR at the end of what comes before the span's end and an LF after it make a pair.
-    fn joins_back(&self, span: Span, text: &[u16]) -> bool
-        requires ordered { span.start ≤ span.end }
-        requires within { span.end ≤ length self.now.units }
-        ensures pair { result ≡ joins_pair (take span.start self.now.units ++ text.now)
-            (drop span.end self.now.units) }
-        ensures inside { result ≡ true → span.end < 2 ^ 62 }
-    {
-        if !self.is_line_feed_at(span.end) {
-            return false;
-        }
-        if text.is_empty() {
-            return self.is_carriage_return_before(span.start);
-        }
-        text[text.len() - 1] == CARRIAGE_RETURN
-    }
-
-    fn is_carriage_return_before(&self, offset: u64) -> bool
-        requires { offset ≤ length self.now.units }
-        ensures { result ≡ ends_with carriage_return (take offset self.now.units) }
-    {
-        if offset == 0 {
-            return false;
-        }
-        self.unit(offset - 1) == CARRIAGE_RETURN
-    }
-
-    fn is_line_feed_at(&self, offset: u64) -> bool
-        ensures unit { result ≡ begins_with line_feed (drop offset self.now.units) }
-        ensures inside { result ≡ true → offset < 2 ^ 62 }
-    {
-        if offset >= self.len() {
-            return false;
-        }
-        self.unit(offset) == LINE_FEED
-    }
-
-    // The unit at this offset.
-    fn unit(&self, offset: u64) -> u16
-        requires { offset < length self.now.units }
-        ensures { result ≡ slice_index self.now.units offset }
-    {
-        self.run_at(offset)[0]
-    }
 }
 
 impl Flat for TextBuffer {
@@ -519,12 +431,6 @@ impl Flat for TextBuffer {
     fn copy(&self, start: u64, end: u64, out: &mut Vec<u16>) -> Result<(), AllocError> {
         self.value(Span { start, end }, out)
     }
-}
-
-fn one_if(test: bool) -> u64
-    ensures { result ≡ one_if test }
-{
-    if test { 1 } else { 0 }
 }
 
 fn carriage_return_if(test: bool) -> &'static [u16]

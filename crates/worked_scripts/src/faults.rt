@@ -12,6 +12,8 @@ const SIZE: &[u8] = b"{\"cmd\":\"size\"}\n";
 
 const SIZES: &[u8] = b"{\"cmd\":\"size\"}\n{\"cmd\":\"size\"}\n{\"cmd\":\"size\"}\n";
 
+const EMOJI: &str = "{\"cmd\":\"open\",\"text\":\"\u{1F600}\"}\n";
+
 const BROKEN: &[u8] = b"{\"cmd\":\"edit\"";
 
 const ONE_REPLY: &[u8] = b"ok 0 1\n";
@@ -34,7 +36,9 @@ fn faults_and_cuts(rt: HostRuntime) -> Result<(), Fail> {
 
 fn byte_by_byte<R: AllocGlobal + Abort>(rt: &R) -> Result<(), AllocError> {
     let one = Stream { each: 1, plan: &[] };
-    expect_run(rt, "byte by byte", SIZES, one, one, THREE_REPLIES, 0)
+    expect_run(rt, "byte by byte", SIZES, one, one, THREE_REPLIES, 0)?;
+    let emoji = EMOJI.as_bytes();
+    expect_run(rt, "an emoji", emoji, one, one, b"ok 1 2 1\n", 0)
 }
 
 /// A script of which a read gives so many bytes, and one read fails; and what is written for it.
@@ -113,6 +117,12 @@ const LAST_LINES: &[LastLine] = &[
     LastLine {
         name: "a broken line at the end",
         script: BROKEN,
+        written: b"! syntax\n",
+        status: 1,
+    },
+    LastLine {
+        name: "a byte that UTF-8 has nowhere",
+        script: b"\xFF\n",
         written: b"! syntax\n",
         status: 1,
     },

@@ -170,7 +170,8 @@ impl Growing {
     }
 }
 
-fn push_times(part: &str, times: u64, line: &mut String) -> Result<(), AllocError> {
+/// Adds the part so many times.
+pub fn push_times(part: &str, times: u64, line: &mut String) -> Result<(), AllocError> {
     for _ in 0..times {
         line.push_str(part)?;
     }

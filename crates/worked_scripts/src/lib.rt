@@ -4,9 +4,13 @@
 #[cfg(test)]
 mod bracket_replies;
 #[cfg(test)]
+mod broken_lines;
+#[cfg(test)]
 mod deep;
 #[cfg(test)]
 mod draws;
+#[cfg(test)]
+mod each_fault;
 #[cfg(test)]
 mod faults;
 #[cfg(test)]
@@ -14,9 +18,13 @@ mod first_body;
 #[cfg(test)]
 mod flat_lines;
 #[cfg(test)]
+mod flat_marks;
+#[cfg(test)]
 mod generated;
 #[cfg(test)]
 mod library;
+#[cfg(test)]
+mod marked;
 #[cfg(test)]
 mod playing;
 #[cfg(test)]

@@ -2,14 +2,18 @@
 
 mod batches;
 mod decorated;
+mod every_command;
 mod kept;
+mod limits;
 mod nested;
 mod texts;
 
 use crate::runs::{ALL, expect_run};
 use batches::BATCHES;
 use decorated::{DECORATED, EACH_MODE, FOUR_MODES};
+pub use every_command::EVERY_COMMAND;
 use kept::KEPT;
+use limits::LIMITS;
 use nested::NESTED;
 use std::alloc::{AllocError, Global};
 use std::process::Abort;
@@ -18,13 +22,14 @@ use texts::TEXTS;
 
 /// The rows with which each script of a table begins, and the table. A blank line stands between two transcripts: a
 /// name, and a row for each line of the script, which has the reply behind `=>`.
-const TABLES: [(&str, &str); 6] = [
+const TABLES: [(&str, &str); 7] = [
     ("", TEXTS),
     ("", BATCHES),
     (FOUR_MODES, EACH_MODE),
     ("", DECORATED),
     ("", NESTED),
     ("", KEPT),
+    ("", LIMITS),
 ];
 
 #[test]
@@ -44,12 +49,7 @@ fn expect_replies<R: AllocGlobal + Abort>(
     first_rows: &str,
     rows: &str,
 ) -> Result<(), AllocError> {
-    let alloc: Global = rt.alloc();
-    let mut script = String::new(alloc);
-    let mut replies = String::new(alloc);
-    for row in first_rows.trim().lines().chain(rows.lines()) {
-        push_row(row, &mut script, &mut replies)?;
-    }
+    let (script, replies) = script_and_replies(rt.alloc(), first_rows, rows)?;
     let is_refused = replies.as_str().lines().any(|reply| reply.starts_with('!'));
     expect_run(
         rt,
@@ -60,6 +60,20 @@ fn expect_replies<R: AllocGlobal + Abort>(
         replies.as_bytes(),
         u8::from(is_refused),
     )
+}
+
+/// The lines of the rows, and the replies to them.
+pub fn script_and_replies(
+    alloc: Global,
+    first_rows: &str,
+    rows: &str,
+) -> Result<(String, String), AllocError> {
+    let mut script = String::new(alloc);
+    let mut replies = String::new(alloc);
+    for row in first_rows.trim().lines().chain(rows.trim().lines()) {
+        push_row(row, &mut script, &mut replies)?;
+    }
+    Ok((script, replies))
 }
 
 /// A row without `=>` expects an empty reply, which no run gives.

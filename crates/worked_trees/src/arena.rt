@@ -38,6 +38,32 @@ fn what_is_left<L: Ledger>(alloc: Global, blank: Blank) -> Result<(u64, u64), Al
     Ok((before, *arena.visit(left, &mut steps)))
 }
 
+/// So many values lie in four pages.
+const COUNT: u64 = 200;
+
+/// The last of many values, each of which is read right after it was put in.
+fn last_of_many<L: Ledger>(alloc: Global, blank: Blank) -> Result<u64, AllocError>
+    requires name { blank.name ≡ L.name }
+    requires parts { blank.parts ≡ L.parts }
+    requires some { 0 < L.parts }
+{
+    let mut arena: Arena<u64> = Arena::new(alloc);
+    let mut steps = Steps::<L>::new(blank);
+    let mut last = 0;
+    for value in 0..COUNT {
+        arena.reserve(1)?;
+        let id = arena.put(value);
+        last = *arena.visit(id, &mut steps);
+    }
+    Ok(last)
+}
+
+#[test]
+fn the_last_of_many_values_is_read(rt: HostRuntime) {
+    let last = last_of_many::<Brand>(rt.alloc(), Blank::new(1));
+    assert!(rt; matches!(last, Ok(199)));
+}
+
 #[test]
 fn the_second_of_two_values_is_left(rt: HostRuntime) {
     let left = what_is_left::<Brand>(rt.alloc(), Blank::new(1));

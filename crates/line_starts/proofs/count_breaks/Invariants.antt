@@ -1,9 +1,12 @@
-use Rattle.std.proofs.Common.{◌≡◌, ◌+◌, ◌≤◌, length, drop}
+use Rattle.std.proofs.Common.{◌≡◌, ◌+◌, ◌-◌, ◌≤◌, length, drop}
 use Rattle.text_rules.specs.Breaks.{break_ends}
 use Rattle.line_starts.proofs.count_breaks.Given as goal
 
 abbrev pub invariant-loop-at : goal.invariant-loop-at
 invariant-loop-at l = record {
-  counted : l.breaks + length (break_ends l.at (drop l.at l.units)) ≡ length (break_ends 0 l.units);
-  few : l.breaks ≤ l.at;
+  counted : l.breaks + length (break_ends 0 (drop l.at l.units)) ≡ length (break_ends 0 l.units);
+  within : l.at ≤ length l.units;
 }
+
+abbrev pub decreases-loop-at : goal.decreases-loop-at
+decreases-loop-at l = length l.units - l.at

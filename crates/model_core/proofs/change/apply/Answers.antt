@@ -12,7 +12,11 @@ use Rattle.model_core.proofs.Staying.{marked_turn}
 use Rattle.model_core.proofs.Turns.{turn}
 use Rattle.model_core.proofs.Carries.{carried_turn, carried_with-none}
 use Rattle.chunk_buffers.proofs.Spans.{Extends-refl, Extends-trans}
+use Rattle.text_rules.specs.Dirty.{dirty_lines}
+use Rattle.reuse_rules.specs.Edits.{IsEdited}
+use Rattle.model_core.proofs.Marking.{touched, marked, marks_fit, marks_lines}
 use Rattle.model_core.proofs.change.apply.Goals as goal
+use Rattle.model_core.proofs.change.apply.Goals.{After-replace-dirty}
 
 pub loop-done-init : goal.loop-done-init
 loop-done-init c =
@@ -44,45 +48,59 @@ accept-requires-clause-fits c =
     c.loop-done-test.true c.index-ops-ops.is c.loop-done.invariant.carried now.ordered now.within (omega (arith, now.few, c.requires.small)) in
     rw c.edit_with.ensures moved.fits
 
-pub mark-requires-clause-ordered : goal.mark-requires-clause-ordered
-mark-requires-clause-ordered c =
+pub replace-dirty-requires-clause-ordered : goal.replace-dirty-requires-clause-ordered
+replace-dirty-requires-clause-ordered c =
     (turn c.args.text.now.units c.args.ops.now c.loop-done.done c.index-ops-ops.result _ c.requires.standing c.loop-done-test.true c.index-ops-ops.is c.loop-done.invariant.units).ordered
 
-pub mark-requires-clause-small : goal.mark-requires-clause-small
-mark-requires-clause-small c =
-    let now = turn c.args.text.now.units c.args.ops.now c.loop-done.done c.index-ops-ops.result _ c.requires.standing c.loop-done-test.true c.index-ops-ops.is c.loop-done.invariant.units in
-    omega (arith, now.few, c.requires.small)
-
-pub mark-requires-clause-within : goal.mark-requires-clause-within
-mark-requires-clause-within c =
+pub replace-dirty-requires-clause-within : goal.replace-dirty-requires-clause-within
+replace-dirty-requires-clause-within c =
     (turn c.args.text.now.units c.args.ops.now c.loop-done.done c.index-ops-ops.result _ c.requires.standing c.loop-done-test.true c.index-ops-ops.is c.loop-done.invariant.units).within
 
-pub mark-requires-clause-lines : goal.mark-requires-clause-lines
-mark-requires-clause-lines c = c.loop-done.invariant.lines
+pub replace-dirty-requires-clause-edits : goal.replace-dirty-requires-clause-edits
+replace-dirty-requires-clause-edits c = omega (arith, c.requires.edits, c.loop-done.invariant.edits, c.loop-done-test.true)
+
+pub replace-dirty-requires-clause-room : goal.replace-dirty-requires-clause-room
+replace-dirty-requires-clause-room c =
+    let now = turn c.args.text.now.units c.args.ops.now c.loop-done.done c.index-ops-ops.result _ c.requires.standing c.loop-done-test.true c.index-ops-ops.is c.loop-done.invariant.units in
+    omega (arith, c.requires.room, c.loop-done.invariant.room, c.loop-done-test.true, now.units, now.left, ap length c.as_slice.ensures)
+
+pub replace-dirty-requires-clause-small : goal.replace-dirty-requires-clause-small
+replace-dirty-requires-clause-small c =
+    let now = turn c.args.text.now.units c.args.ops.now c.loop-done.done c.index-ops-ops.result _ c.requires.standing c.loop-done-test.true c.index-ops-ops.is c.loop-done.invariant.units in
+    rw c.as_slice.ensures (omega (arith, now.few, c.requires.small))
+
+-- the answer of the edit
+dirty_is : (c : After-replace-dirty) → c.replace-dirty.result ≡ dirty_lines c.loop-done.text.units c.index-ops-ops.result.span c.index-ops-ops.result.text
+dirty_is c = c.replace-dirty.ensures.dirty ∙ ap (dirty_lines c.loop-done.text.units c.index-ops-ops.result.span) c.as_slice.ensures
+
+edit_is : (c : After-replace-dirty) → let d = c.replace-dirty.result in
+    IsEdited d.first d.old d.new (lines_of c.loop-done.text.units) (lines_of (edited c.loop-done.text.units c.index-ops-ops.result))
+edit_is c =
+    let now = turn c.args.text.now.units c.args.ops.now c.loop-done.done c.index-ops-ops.result _ c.requires.standing c.loop-done-test.true c.index-ops-ops.is c.loop-done.invariant.units in
+    touched c.loop-done.text.units c.index-ops-ops.result c.replace-dirty.result (dirty_is c) now.ordered now.within
 
 pub mark-requires-clause-room : goal.mark-requires-clause-room
 mark-requires-clause-room c = omega (arith, c.requires.spare, c.loop-done.invariant.spare, c.loop-done-test.true)
 
-pub replace-requires-clause-ordered : goal.replace-requires-clause-ordered
-replace-requires-clause-ordered c =
-    (turn c.args.text.now.units c.args.ops.now c.loop-done.done c.index-ops-ops.result _ c.requires.standing c.loop-done-test.true c.index-ops-ops.is c.loop-done.invariant.units).ordered
+pub mark-requires-clause-first : goal.mark-requires-clause-first
+mark-requires-clause-first c = (edit_is (goal.at.mark-requires-clause-first c).After-replace-dirty).first_is
 
-pub replace-requires-clause-within : goal.replace-requires-clause-within
-replace-requires-clause-within c =
-    (turn c.args.text.now.units c.args.ops.now c.loop-done.done c.index-ops-ops.result _ c.requires.standing c.loop-done-test.true c.index-ops-ops.is c.loop-done.invariant.units).within
+pub mark-requires-clause-some : goal.mark-requires-clause-some
+mark-requires-clause-some c = (edit_is (goal.at.mark-requires-clause-some c).After-replace-dirty).some
 
-pub replace-requires-clause-edits : goal.replace-requires-clause-edits
-replace-requires-clause-edits c = omega (arith, c.requires.edits, c.loop-done.invariant.edits, c.loop-done-test.true)
+pub mark-requires-clause-new : goal.mark-requires-clause-new
+mark-requires-clause-new c = (edit_is (goal.at.mark-requires-clause-new c).After-replace-dirty).more
 
-pub replace-requires-clause-room : goal.replace-requires-clause-room
-replace-requires-clause-room c =
+pub mark-requires-clause-within : goal.mark-requires-clause-within
+mark-requires-clause-within c =
+    let edit = edit_is (goal.at.mark-requires-clause-within c).After-replace-dirty in
+    omega (arith, edit.within, c.loop-done.invariant.lines)
+
+pub mark-requires-clause-fits : goal.mark-requires-clause-fits
+mark-requires-clause-fits c =
     let now = turn c.args.text.now.units c.args.ops.now c.loop-done.done c.index-ops-ops.result _ c.requires.standing c.loop-done-test.true c.index-ops-ops.is c.loop-done.invariant.units in
-    omega (arith, c.requires.room, c.loop-done.invariant.room, c.loop-done-test.true, now.units, now.left, ap length c.as_slice.ensures)
-
-pub replace-requires-clause-small : goal.replace-requires-clause-small
-replace-requires-clause-small c =
-    let now = turn c.args.text.now.units c.args.ops.now c.loop-done.done c.index-ops-ops.result _ c.requires.standing c.loop-done-test.true c.index-ops-ops.is c.loop-done.invariant.units in
-    rw c.as_slice.ensures (omega (arith, now.few, c.requires.small))
+    let edit = edit_is (goal.at.mark-requires-clause-fits c).After-replace-dirty in
+    marks_fit c.loop-done.text.units c.index-ops-ops.result c.replace-dirty.result edit c.loop-done.last.marks c.loop-done.invariant.lines (omega (arith, now.few, c.requires.small))
 
 pub loop-done-preserved : goal.loop-done-preserved
 loop-done-preserved c =
@@ -91,24 +109,27 @@ loop-done-preserved c =
     c.loop-done-test.true c.index-ops-ops.is c.loop-done.invariant.carried now.ordered now.within (omega (arith, now.few, c.requires.small)) in
     let set : c.accept.new.self ≡ record { marks = in_order (map (moved_mark (edit_with c.args.forces c.index-ops-ops.result)) c.loop-done.decorations.marks); next_id = c.loop-done.decorations.next_id } =
     rw (← c.edit_with.ensures) c.accept.ensures.moved in
+    let at = (goal.at.loop-done-preserved c).After-replace-dirty in
+    let dirty = dirty_is at in
+    let edit = edit_is at in
     let span = c.index-ops-ops.result.span in
     let text = ap (λ (t : List ℕ). take span.start c.loop-done.text.units ++ t ++ drop span.end c.loop-done.text.units) c.as_slice.ensures in
-    let left : c.replace.new.self.units ≡ edited c.loop-done.text.units c.index-ops-ops.result = c.replace.ensures.units ∙ text in
+    let left : c.replace-dirty.new.self.units ≡ edited c.loop-done.text.units c.index-ops-ops.result = c.replace-dirty.ensures.units ∙ text in
     record {
       units = left ∙ sym now.leaves;
-      pieces = omega (arith, c.loop-done.invariant.pieces, c.replace.ensures.pieces);
-      edits = omega (arith, c.loop-done.invariant.edits, c.replace.ensures.spare_edits);
-      room = omega (arith, c.loop-done.invariant.room, c.replace.ensures.spare_units, now.units, ap length c.as_slice.ensures);
+      pieces = omega (arith, c.loop-done.invariant.pieces, c.replace-dirty.ensures.pieces);
+      edits = omega (arith, c.loop-done.invariant.edits, c.replace-dirty.ensures.spare_edits);
+      room = omega (arith, c.loop-done.invariant.room, c.replace-dirty.ensures.spare_units, now.units, ap length c.as_slice.ensures);
       carried = set ∙ sym moved.leaves;
       inside = record { sound = c.accept.ensures.sound; inside = rw (left, set) moved.inside };
-      marks = c.mark.ensures.marks
+      marks = c.mark.ensures.marks ∙ marked c.loop-done.text.units c.index-ops-ops.result c.replace-dirty.result dirty c.loop-done.last.marks
           ∙ marked_turn c.args.text.now.units c.args.ops.now c.args.last.now.marks c.loop-done.done c.index-ops-ops.result c.loop-done.text.units c.loop-done.last.marks
           c.loop-done-test.true c.index-ops-ops.is c.loop-done.invariant.units c.loop-done.invariant.marks;
-      lines = c.mark.ensures.lines ∙ ap (λ u. length (lines_of u)) (sym left);
+      lines = ap length c.mark.ensures.marks ∙ marks_lines c.loop-done.text.units c.index-ops-ops.result c.replace-dirty.result edit c.loop-done.last.marks c.loop-done.invariant.lines ∙ ap (λ u. length (lines_of u)) (sym left);
       spare = omega (arith, c.loop-done.invariant.spare, c.mark.ensures.room);
       parsed = c.mark.ensures.parsed ∙ c.loop-done.invariant.parsed;
       tree = c.mark.ensures.tree ∙ c.loop-done.invariant.tree;
-      grown = Extends-trans c.args.text.now.buffers c.loop-done.text.buffers c.replace.new.self.buffers c.loop-done.invariant.grown c.replace.ensures.grown;
+      grown = Extends-trans c.args.text.now.buffers c.loop-done.text.buffers c.replace-dirty.new.self.buffers c.loop-done.invariant.grown c.replace-dirty.ensures.grown;
     }
 
 pub returns-clause-units : goal.returns-clause-units

@@ -1,17 +1,12 @@
 use Rattle.std.proofs.Common.{refl, sym, ap, ◌∙◌, subst, arith}
 use Rattle.std.specs.Option.{unwrap_or}
 use Rattle.rb_rules.specs.Tree.{on, plug, above, height, root_of}
-use Rattle.rb_rules.specs.Memory.{Made, place_of, child}
+use Rattle.rb_rules.specs.Memory.{Made, child}
 use Rattle.rb_rules.proofs.Live.{forks_on, child-sided}
 use Rattle.rb_rules.proofs.Ups.{slot_above}
 use Rattle.rb_arena.specs.Value.{end_hole}
-use Rattle.rb_arena.proofs.Growing.{no_root, no_height, height-forked, end_tip, end_fork}
+use Rattle.rb_arena.proofs.Growing.{height-forked, end_fork}
 use Rattle.rb_arena.proofs.tree.end_place.Goals as goal
-
-pub returns-in_default : goal.returns-in_default
-returns-in_default g c = λ beside t k h.
-    let (t2, (k2, (e, made), r, le, same)) = c.loop-turn.invariant beside t k h in let side = c.args.side in
-    e ∙ ap place_of (sym (ap (end_hole side k2) (no_root t2 (sym r ∙ c.in_default.is)) ∙ end_tip side k2) ∙ same)
 
 pub read-requires : goal.read-requires
 read-requires g c =
@@ -30,8 +25,3 @@ loop-turn-preserved g c = λ beside t k h.
     let next = c.child-next.ensures ∙ ap (λ o. child side (unwrap_or o c.read.result)) (sym c.read.ensures ∙ slot) ∙ (child-sided side (above k2) (root_of x) (root_of y) b d).0 in
     let high = ap height is in let more = height-forked side b id d x y in
     (x, (on side b id d y k2, (refl, made2), next, omega (arith, high, more, le, c.loop-turn-test.true), sym (ap (end_hole side k2) is ∙ end_fork side k2 b id d x y) ∙ same))
-
-pub returns : goal.returns
-returns g c = λ beside t k h.
-    let (t2, (k2, (e, made), r, le, same)) = c.loop-turn.invariant beside t k h in let side = c.args.side in
-    e ∙ ap place_of (sym (ap (end_hole side k2) (no_height t2 (omega (arith, le, c.loop-turn-test.false))) ∙ end_tip side k2) ∙ same)

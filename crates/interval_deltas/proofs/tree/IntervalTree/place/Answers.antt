@@ -1,39 +1,32 @@
-use Rattle.std.proofs.Common.{◌≡◌, ltb, length, get_or, ap, sym, ◌∙◌, arith}
-use Rattle.std.specs.List.{prefix_len}
-use Rattle.std.proofs.lemmas.List.{get_or_default}
-use Rattle.decoration_rules.specs.declared.Mark.{Mark}
+use Rattle.std.proofs.Common.{◌≡◌, ◌∷◌, Some, None, sym, ◌∙◌, ap, subst}
 use Rattle.decoration_rules.specs.Marks.{mark_of}
-use Rattle.interval_deltas.specs.Tree.{Shown}
-use Rattle.interval_deltas.proofs.Trees.{place-found, place-none}
+use Rattle.decoration_rules.proofs.MarkLists.{mark_of-none}
+use Rattle.interval_deltas.specs.declared.weave.KeptMark.{KeptMark}
+use Rattle.interval_deltas.specs.Weave.{is_mark}
+use Rattle.interval_deltas.specs.Kept.{AreMarks, as_mark, marks_of}
+use Rattle.interval_deltas.specs.Tree.{Shown, node_in}
+use Rattle.interval_deltas.proofs.Items.{each_right}
+use Rattle.interval_deltas.proofs.Lists.{node_some, mark_none}
 use Rattle.interval_deltas.proofs.tree.IntervalTree.place.Goals as goal
 
-pub returns-then-at-len : goal.returns-then-at-len
-returns-then-at-len c =
-    let lower = λ (other : Mark). ltb other.id c.args.id in
-    let place : c.rank_by_id-at.result ≡ prefix_len lower c.self.inside.by_id.items = c.rank_by_id-at.ensures ∙ ap (prefix_len lower) c.as_slice.ensures.value in
-    place-none c.args.id c.self.inside.marks.items c.self.inside.by_id.items c.self.invariant
-    (λ m below read same. omega (arith, place, below, ap length c.as_slice.ensures.value))
-    ∙ ap (λ (s : Shown). mark_of s.marks c.args.id) c.self.view_is
+pub returns-in_err-node : goal.returns-in_err-node
+returns-in_err-node c =
+    let none : node_in c.self.inside.tree.items c.args.id ≡ None = sym (c.self.invariant.named c.args.id) ∙ sym c.find.ensures ∙ c.in_err-node.was in
+    c.from_residual.ensures ∙ sym (mark_of-none (marks_of c.self.inside.tree.items) c.args.id (mark_none c.self.inside.tree.items c.args.id none)) ∙ ap (λ (s : Shown). mark_of s.marks c.args.id) c.self.view_is
 
-pub returns-then-mark-id : goal.returns-then-mark-id
-returns-then-mark-id c =
-    let lower = λ (other : Mark). ltb other.id c.args.id in
-    let place : c.rank_by_id-at.result ≡ prefix_len lower c.self.inside.by_id.items = c.rank_by_id-at.ensures ∙ ap (prefix_len lower) c.as_slice.ensures.value in
-    place-found c.args.id c.index-mark.result.now c.self.inside.marks.items c.self.inside.by_id.items c.self.invariant
-    (omega (arith, place, ap length c.as_slice.ensures.value))
-    (c.index-mark.ensures ∙ ap (λ n. get_or c.self.inside.by_id.items n c.index-mark.result.now) place) c.if-mark-id.true
-    ∙ ap (λ (s : Shown). mark_of s.marks c.args.id) c.self.view_is
+pub get-requires : goal.get-requires
+get-requires c =
+    let some : node_in c.self.inside.tree.items c.args.id ≡ Some c.in_ok-node.node = sym (c.self.invariant.named c.args.id) ∙ sym c.find.ensures ∙ c.in_ok-node.was in
+    let (us, (m, (vs, is, same, found))) = node_some c.self.inside.tree.items c.args.id c.in_ok-node.node some in (us, (m, (vs, is)))
 
-pub returns-else-mark-id : goal.returns-else-mark-id
-returns-else-mark-id c =
-    let lower = λ (other : Mark). ltb other.id c.args.id in
-    let place : c.rank_by_id-at.result ≡ prefix_len lower c.self.inside.by_id.items = c.rank_by_id-at.ensures ∙ ap (prefix_len lower) c.as_slice.ensures.value in
-    place-none c.args.id c.self.inside.marks.items c.self.inside.by_id.items c.self.invariant
-    (λ m below read same. c.if-mark-id.false
-    (ap (λ (k : Mark). k.id)
-    (c.index-mark.ensures
-    ∙ ap (λ n. get_or c.self.inside.by_id.items n c.index-mark.result.now) place
-    ∙ get_or_default c.self.inside.by_id.items (prefix_len lower c.self.inside.by_id.items) c.index-mark.result.now m below
-    ∙ sym read)
-    ∙ same))
-    ∙ ap (λ (s : Shown). mark_of s.marks c.args.id) c.self.view_is
+pub mark-requires : goal.mark-requires
+mark-requires c =
+    let some : node_in c.self.inside.tree.items c.args.id ≡ Some c.in_ok-node.node = sym (c.self.invariant.named c.args.id) ∙ sym c.find.ensures ∙ c.in_ok-node.was in
+    let (us, (m, (vs, is, same, found))) = node_some c.self.inside.tree.items c.args.id c.in_ok-node.node some in
+    subst is_mark (sym (c.get.ensures us m vs is)) (each_right is_mark us ((c.in_ok-node.node, m) ∷ vs) (subst AreMarks is c.self.invariant.values)).0
+
+pub returns : goal.returns
+returns c =
+    let some : node_in c.self.inside.tree.items c.args.id ≡ Some c.in_ok-node.node = sym (c.self.invariant.named c.args.id) ∙ sym c.find.ensures ∙ c.in_ok-node.was in
+    let (us, (m, (vs, is, same, found))) = node_some c.self.inside.tree.items c.args.id c.in_ok-node.node some in
+    ap Some c.mark.ensures ∙ ap (λ (k : KeptMark). Some (as_mark k)) (c.get.ensures us m vs is) ∙ sym found ∙ ap (λ (s : Shown). mark_of s.marks c.args.id) c.self.view_is

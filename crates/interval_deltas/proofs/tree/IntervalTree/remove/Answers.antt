@@ -1,56 +1,49 @@
-use Rattle.std.proofs.Common.{◌≡◌, ltb, true, length, get_or, ap, sym, ◌∙◌, subst, arith}
-use Rattle.std.specs.List.{prefix_len, remove}
-use Rattle.decoration_rules.specs.declared.Mark.{Mark}
-use Rattle.decoration_rules.specs.Marks.{is_live, IsInOrder, stands_before, without}
-use Rattle.interval_deltas.specs.Tree.{Shown}
-use Rattle.interval_deltas.proofs.Trees.{IsRemoval, tree-ordered, tree-is, remove-tree, live-below}
-use Rattle.interval_deltas.proofs.tree.IntervalTree.remove.Goals.{After-rank_by_id-at_id, After-remove-mark, After-rank-at}
+use Rattle.std.proofs.Common.{◌≡◌, ◌∷◌, ◌++◌, ℕ, true, cond, eqb, length, Some, None, sym, ◌∙◌, ap, subst, arith}
+use Rattle.std.proofs.lemmas.Bool.{both_ways}
+use Rattle.std.proofs.lemmas.List.{length-append}
+use Rattle.decoration_rules.specs.Marks.{is_live, IsInOrder, HasDistinctIds, without}
+use Rattle.interval_deltas.specs.Weave.{is_mark}
+use Rattle.interval_deltas.specs.Kept.{AreMarks, marks_of}
+use Rattle.interval_deltas.specs.Tree.{Shown, node_in}
+use Rattle.interval_deltas.proofs.Items.{each_without, ordered_without}
+use Rattle.interval_deltas.proofs.Lists.{node_some, mark_none, fresh_at, taken_out, distinct_without}
+use Rattle.interval_deltas.proofs.Trees.{node_without}
 use Rattle.interval_deltas.proofs.tree.IntervalTree.remove.Goals as goal
 
-place_by_id : (c : After-rank_by_id-at_id) → c.rank_by_id-at_id.result ≡ prefix_len (λ other. ltb other.id c.args.id) c.self.inside.by_id.items
-place_by_id c = c.rank_by_id-at_id.ensures ∙ ap (prefix_len (λ (other : Mark). ltb other.id c.args.id)) c.as_slice.ensures.value
-
-live : (c : After-rank_by_id-at_id) → is_live c.self.inside.marks.items c.args.id ≡ true
-live c = ap (λ (s : Shown). is_live s.marks c.args.id) c.self.view_is ∙ c.requires
-
-pub remove-mark-requires : goal.remove-mark-requires
-remove-mark-requires c =
-    let at = (goal.at.remove-mark-requires c).After-rank_by_id-at_id in
-    omega (arith, place_by_id at, live-below c.args.id c.self.inside.marks.items c.self.inside.by_id.items c.self.invariant (live at), ap length c.as_slice.ensures.value)
-
-pub rank-at-requires : goal.rank-at-requires
-rank-at-requires c = subst IsInOrder (sym c.as_slice-2.ensures.value) (tree-ordered _ _ c.self.invariant)
-
-place : (c : After-rank-at) → c.rank-at.result ≡ prefix_len (λ other. stands_before other c.remove-mark.result) c.self.inside.marks.items
-place c = c.rank-at.ensures ∙ ap (prefix_len (λ (other : Mark). stands_before other c.remove-mark.result)) c.as_slice-2.ensures.value
-
-removed : (c : After-remove-mark) → is_live c.self.inside.marks.items c.args.id ≡ true
-    → c.rank_by_id-at_id.result ≡ prefix_len (λ other. ltb other.id c.args.id) c.self.inside.by_id.items
-    → IsRemoval c.args.id c.remove-mark.result c.self.inside.marks.items c.self.inside.by_id.items
-removed c is_live place_id =
-    remove-tree c.args.id c.remove-mark.result c.self.inside.marks.items c.self.inside.by_id.items c.self.invariant is_live
-    (c.remove-mark.ensures.value ∙ ap (λ n. get_or c.self.inside.by_id.items n c.remove-mark.result) place_id)
+pub returns-in_default-clause-marks : goal.returns-in_default-clause-marks
+returns-in_default-clause-marks c =
+    let items = c.self.inside.tree.items in
+    let none : node_in items c.args.id ≡ None = sym (c.self.invariant.named c.args.id) ∙ sym c.find.ensures ∙ c.in_default.is in
+    let live : is_live (marks_of items) c.args.id ≡ true = ap (λ (s : Shown). is_live s.marks c.args.id) c.self.view_is ∙ c.requires in
+    absurd (both_ways (is_live (marks_of items) c.args.id) (mark_none items c.args.id none) live)
 
 pub remove-requires : goal.remove-requires
 remove-requires c =
-    let at = goal.at.remove-requires c in
-    let id = at.After-rank_by_id-at_id in
-    omega (arith, place at.After-rank-at, (removed at.After-remove-mark (live id) (place_by_id id)).0, ap length c.as_slice-2.ensures.value)
+    let some : node_in c.self.inside.tree.items c.args.id ≡ Some c.in-Some.node = sym (c.self.invariant.named c.args.id) ∙ sym c.find.ensures ∙ c.in-Some.is in
+    let (us, (m, (vs, is, same, found))) = node_some c.self.inside.tree.items c.args.id c.in-Some.node some in (us, (m, (vs, is)))
 
 pub invariant_of-self : goal.invariant_of-self
 invariant_of-self c =
-    let at = goal.at.invariant_of-self c in
-    let id = at.After-rank_by_id-at_id in
-    tree-is c.remove.new.self.items c.remove-mark.new.self.items
-    (remove c.self.inside.marks.items (prefix_len (λ other. stands_before other c.remove-mark.result) c.self.inside.marks.items))
-    (remove c.self.inside.by_id.items (prefix_len (λ other. ltb other.id c.args.id) c.self.inside.by_id.items))
-    (c.remove.ensures.items ∙ ap (remove c.self.inside.marks.items) (place at.After-rank-at))
-    (c.remove-mark.ensures.items ∙ ap (remove c.self.inside.by_id.items) (place_by_id id))
-    (removed at.After-remove-mark (live id) (place_by_id id)).1
+    let items = c.self.inside.tree.items in let node = c.in-Some.node in let inv = c.self.invariant in
+    let some : node_in items c.args.id ≡ Some node = sym (inv.named c.args.id) ∙ sym c.find.ensures ∙ c.in-Some.is in
+    let (us, (m, (vs, is, same, found))) = node_some items c.args.id node some in
+    let left = c.remove.ensures.items us m vs is in
+    let distinct : HasDistinctIds (marks_of (us ++ (node, m) ∷ vs)) = subst (λ l. HasDistinctIds (marks_of l)) is inv.distinct in record {
+      loose = c.remove.ensures.loose ∙ inv.loose;
+      values = subst AreMarks (sym left) (each_without is_mark us (node, m) vs (subst AreMarks is inv.values));
+      ordered = subst (λ l. IsInOrder (marks_of l)) (sym left) (ordered_without us (node, m) vs (subst (λ l. IsInOrder (marks_of l)) is inv.ordered));
+      distinct = subst (λ l. HasDistinctIds (marks_of l)) (sym left) (distinct_without us (node, m) vs distinct);
+      named = λ k.
+          c.forget.ensures.node k ∙ ap (λ o. cond (eqb k c.args.id) None o) (inv.named k ∙ ap (λ l. node_in l k) is)
+          ∙ ap (λ (n : ℕ). cond (eqb k n) None (node_in (us ++ (node, m) ∷ vs) k)) (sym same)
+          ∙ sym (node_without us (node, m) vs (fresh_at us (node, m) vs distinct) k) ∙ ap (λ l. node_in l k) (sym left);
+      all = omega (arith, inv.all, c.forget.ensures.count, ap length is, ap length left, length-append us vs, length-append us ((node, m) ∷ vs));
+    }
 
 pub returns-clause-marks : goal.returns-clause-marks
 returns-clause-marks c =
-    let at = goal.at.returns-clause-marks c in
-    let id = at.After-rank_by_id-at_id in
-    c.remove.ensures.items ∙ ap (remove c.self.inside.marks.items) (place at.After-rank-at)
-    ∙ (removed at.After-remove-mark (live id) (place_by_id id)).2 ∙ ap (λ (s : Shown). without c.args.id s.marks) c.self.view_is
+    let items = c.self.inside.tree.items in let node = c.in-Some.node in
+    let some : node_in items c.args.id ≡ Some node = sym (c.self.invariant.named c.args.id) ∙ sym c.find.ensures ∙ c.in-Some.is in
+    let (us, (m, (vs, is, same, found))) = node_some items c.args.id node some in
+    let distinct : HasDistinctIds (marks_of (us ++ (node, m) ∷ vs)) = subst (λ l. HasDistinctIds (marks_of l)) is c.self.invariant.distinct in
+    ap marks_of (c.remove.ensures.items us m vs is) ∙ taken_out us (node, m) vs distinct ∙ ap (λ (n : ℕ). without n (marks_of (us ++ (node, m) ∷ vs))) same ∙ ap (λ l. without c.args.id (marks_of l)) (sym is) ∙ ap (λ (s : Shown). without c.args.id s.marks) c.self.view_is

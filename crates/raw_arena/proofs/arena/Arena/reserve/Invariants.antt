@@ -1,5 +1,8 @@
-use Rattle.std.proofs.Common.{◌≡◌, ◌+◌, ◌*◌}
+use Rattle.std.proofs.Common.{◌≡◌, ◌-◌, ◌≤◌}
 use Rattle.raw_arena.proofs.arena.Arena.reserve.Given as goal
 
-abbrev pub invariant-loop-page : goal.invariant-loop-page
-invariant-loop-page g l = (l.self.live ≡ l.initial.self.live) × (l.self.spare ≡ l.initial.self.spare + 4096 * l._page)
+abbrev pub invariant-loop-self : goal.invariant-loop-self
+invariant-loop-self g l = (l.self.live ≡ l.initial.self.live) × (l.initial.self.spare ≤ l.self.spare)
+
+abbrev pub decreases-loop-self : goal.decreases-loop-self
+decreases-loop-self g l = l.count - l.self.spare

@@ -1,15 +1,13 @@
-use Rattle.std.proofs.Common.{◌≡◌, ℕ, ◌+◌, ◌-◌, ◌*◌, ◌^◌, length, sym, ◌∙◌, ap, subst, arith, lit<}
-use Rattle.std.proofs.Math.Nat.{pow-le-pow_right, pow-suc, pow-zero, one-mul}
+use Rattle.std.proofs.Common.{◌≡◌, ◌+◌, ◌-◌, ◌*◌, ◌^◌, length, sym, ◌∙◌, ap, subst, arith, lit<}
+use Rattle.std.proofs.Math.Nat.{pow-le-pow_right}
 use Rattle.rb_rules.specs.Tree.{size, height}
 use Rattle.rb_rules.proofs.Balance.{bound}
 use Rattle.rb_rules.proofs.Wider.{woven_wider}
 use Rattle.rb_arena.specs.Searching.{Found}
+use Rattle.rb_arena.proofs.Climbing.{square_is}
 use Rattle.rb_arena.proofs.Growing.{length-entries}
 use Rattle.rb_arena.proofs.Listing.{low, items_are}
 use Rattle.rb_arena.proofs.tree.RbTree.descend.Goals as goal
-
-square_is : (k : ℕ) → k ^ 2 ≡ k * k
-square_is k = pow-suc k 1 ∙ ap (λ z. z * k) (pow-suc k 0 ∙ ap (λ z. z * k) (pow-zero k) ∙ one-mul k)
 
 pub descend-requires : goal.descend-requires
 descend-requires g c =

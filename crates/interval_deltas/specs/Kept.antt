@@ -1,0 +1,95 @@
+-- Decorations as a tree keeps them.
+use Rattle.std.specs.Prelude.{ℕ, ℤ, pos, ◌≡◌, ◌<◌, ◌≤ℤ◌, ◌<ℤ◌, ◌⊎◌, true, false, min, List, map, Option, Some, None}
+use Rattle.std.specs.Int.{cast_unsigned}
+use Rattle.std.proofs.Common.{w64}
+use Rattle.rb_rules.specs.Woven.{AllItems}
+use Rattle.rb_arena.specs.Value.{SplitsAt, SplitsAfter}
+use Rattle.rb_arena.specs.Searching.{Found}
+use Rattle.decoration_rules.specs.declared.Edit.{Edit}
+use Rattle.decoration_rules.specs.declared.Mark.{Mark}
+use Rattle.decoration_rules.specs.declared.Sticky.TheVariants.{AlwaysGrows}
+use Rattle.decoration_rules.specs.Marks.{stands_before}
+use Rattle.decoration_rules.specs.Moves.{offset_limit, moved_mark}
+use Rattle.interval_deltas.specs.declared.weave.KeptMark.{KeptMark}
+use Rattle.interval_deltas.specs.declared.weave.Place.{Place}
+use Rattle.interval_deltas.specs.declared.weave.Sought.TheVariants as sought
+use Rattle.interval_deltas.specs.Weave.{marks, mark_turn, is_mark}
+
+-- the decoration that is kept so, and how one is kept
+abbrev pub as_mark : KeptMark → Mark
+as_mark m = record {
+  id = m.label.id;
+  owner = m.label.owner;
+  span = record { start = cast_unsigned w64 m.start; end = cast_unsigned w64 m.end };
+  sticky = m.label.sticky;
+  collapse = m.label.collapse;
+}
+
+abbrev pub kept_of : Mark → KeptMark
+kept_of mark = record {
+  start = pos mark.span.start;
+  end = pos mark.span.end;
+  label = record { id = mark.id; owner = mark.owner; sticky = mark.sticky; collapse = mark.collapse };
+}
+
+abbrev pub place_of : KeptMark → Place
+place_of m = record { start = m.start; end = m.end; id = m.label.id }
+
+-- a decoration that stands at the place
+abbrev pub mark_at : Place → Mark
+mark_at p = as_mark (record { start = p.start; end = p.end; label = record { id = p.id; owner = 0; sticky = AlwaysGrows; collapse = false } })
+
+abbrev pub IsPlace : Place → Type 0
+IsPlace p = (pos 0 ≤ℤ p.start) × (pos 0 ≤ℤ p.end)
+
+-- an offset, and the limit for each that is beyond it
+abbrev pub capped : ℕ → ℤ
+capped offset = pos (min offset offset_limit)
+
+abbrev pub marks_of : List (ℕ × KeptMark) → List Mark
+marks_of items = map (λ item. as_mark item.1) items
+
+-- this holds of each
+abbrev pub Each : (KeptMark → Type 0) → List (ℕ × KeptMark) → Type 0
+Each P items = AllItems marks P items
+
+abbrev pub AreMarks : List (ℕ × KeptMark) → Type 0
+AreMarks items = Each is_mark items
+
+-- where it is after the edit
+abbrev pub moved_kept : Edit → KeptMark → KeptMark
+moved_kept edit m = kept_of (moved_mark edit (as_mark m))
+
+abbrev pub moved_items : Edit → List (ℕ × KeptMark) → List (ℕ × KeptMark)
+moved_items edit items = map (λ item. (item.0, moved_kept edit item.1)) items
+
+-- they lie below the limit after the edit
+abbrev pub CanMove : Edit → List (ℕ × KeptMark) → Type 0
+CanMove edit items = Each (λ m. (moved_mark edit (as_mark m)).span.end < offset_limit) items
+
+-- it stands before the edit or after it
+abbrev pub IsUntouched : Edit → KeptMark → Type 0
+IsUntouched edit m = (m.end <ℤ pos edit.start) ⊎ (pos edit.end <ℤ m.start)
+
+-- up to the item of that name, or where there is none before the first, all stand before the decoration, and none after it
+abbrev pub PartedAt : List (ℕ × KeptMark) → Mark → Option ℕ → Type 0
+PartedAt items mark id =
+    (us : List (ℕ × KeptMark)) × ((vs : List (ℕ × KeptMark)) × SplitsAfter items id us vs
+    × Each (λ m. stands_before (as_mark m) mark ≡ true) us × Each (λ m. stands_before (as_mark m) mark ≡ false) vs)
+
+-- the first that ends at the offset or later; none where all end before it
+abbrev pub FirstReaching : ℤ → List (ℕ × KeptMark) → Option (ℕ × KeptMark) → Type 0
+FirstReaching offset items None = Each (λ m. m.end <ℤ offset) items
+FirstReaching offset items (Some found) =
+    (us : List (ℕ × KeptMark)) × ((vs : List (ℕ × KeptMark)) × SplitsAt items found.0 us found.1 vs
+    × Each (λ m. m.end <ℤ offset) us × (offset ≤ℤ found.1.end))
+
+-- in whichever list the search for the offset ends there, that is the first which reaches the offset
+abbrev pub ShowsFirst : ℤ → Option (ℕ × KeptMark × Option ℤ) → Option (ℕ × KeptMark) → Type 0
+ShowsFirst offset end first =
+    (items : List (ℕ × KeptMark)) → Found marks mark_turn (sought.Reaching offset) items end → FirstReaching offset items first
+
+-- where none is told, the edit touches none
+abbrev pub FirstTouched : Edit → List (ℕ × KeptMark) → Option ℕ → Type 0
+FirstTouched edit items None = Each (IsUntouched edit) items
+FirstTouched edit items (Some id) = Unit {0}

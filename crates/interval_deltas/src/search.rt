@@ -1,0 +1,122 @@
+//! Searches in the tree, which nobody counts.
+ghost use Rattle.std.specs.Prelude.{◌≡◌, ◌<◌, None};
+ghost use Rattle.rb_arena.specs.Searching.{Found};
+ghost use Rattle.rb_arena.specs.Value.{first_or, AtItem, AtPlace, IsItem, PlaceAfter};
+ghost use Rattle.decoration_rules.specs.Marks.{IsInOrder};
+ghost use Rattle.interval_deltas.specs.Weave.{marks, mark_turn};
+ghost use Rattle.interval_deltas.specs.Kept.{AreMarks, marks_of, IsPlace, mark_at, PartedAt, FirstReaching, ShowsFirst};
+
+use crate::weave::{KeptMark, Marks, Place, Sought, placed};
+use raw_arena::NodeId;
+use rb_arena::RbTree;
+use std::marker::Brand;
+use std::sync::ledger::{Blank, Ledger};
+use steps::Steps;
+
+fn search(tree: &RbTree<Marks>, sought: Sought) -> Option<(NodeId, KeptMark, Option<i64>)>
+    ensures { Found marks mark_turn sought tree.now.items result }
+{
+    search_for::<Brand>(tree, sought, Blank::new(1))
+}
+
+/// The same among the decorations after that one.
+fn search_after(
+    tree: &RbTree<Marks>,
+    id: NodeId,
+    sought: Sought,
+) -> Option<(NodeId, KeptMark, Option<i64>)>
+    requires { IsItem tree.now.items id }
+    ensures { AtItem tree.now.items id (λ us x vs. Found marks mark_turn sought vs result) }
+{
+    search_after_for::<Brand>(tree, id, sought, Blank::new(1))
+}
+
+fn search_for<L: Ledger>(
+    tree: &RbTree<Marks>,
+    sought: Sought,
+    blank: Blank,
+) -> Option<(NodeId, KeptMark, Option<i64>)>
+    requires name { blank.name ≡ L.name }
+    requires parts { blank.parts ≡ L.parts }
+    requires some { 0 < L.parts }
+    ensures { Found marks mark_turn sought tree.now.items result }
+{
+    let mut steps = Steps::<L>::new(blank);
+    tree.descend(sought, &mut steps)
+}
+
+fn search_after_for<L: Ledger>(
+    tree: &RbTree<Marks>,
+    id: NodeId,
+    sought: Sought,
+    blank: Blank,
+) -> Option<(NodeId, KeptMark, Option<i64>)>
+    requires name { blank.name ≡ L.name }
+    requires parts { blank.parts ≡ L.parts }
+    requires some { 0 < L.parts }
+    requires named { IsItem tree.now.items id }
+    ensures { AtItem tree.now.items id (λ us x vs. Found marks mark_turn sought vs result) }
+{
+    let mut steps = Steps::<L>::new(blank);
+    tree.descend_after(id, sought, &mut steps)
+}
+
+/// The last decoration that stands before a place.
+pub(crate) fn last_before(tree: &RbTree<Marks>, place: Place) -> Option<NodeId>
+    requires values { AreMarks tree.now.items }
+    requires ordered { IsInOrder (marks_of tree.now.items) }
+    requires place { IsPlace place }
+    ensures { PartedAt tree.now.items (mark_at place) result }
+{
+    let (id, mark, _) = search(tree, Sought::Place(place))?;
+    if placed(&mark, &place).is_lt() {
+        Some(id)
+    } else {
+        tree.prev(id)
+    }
+}
+
+/// The first decoration that ends at the offset or later.
+pub(crate) fn first_reaching(tree: &RbTree<Marks>, offset: i64) -> Option<(NodeId, KeptMark)>
+    ensures { FirstReaching offset tree.now.items result }
+{
+    reached(search(tree, Sought::Reaching(offset)), offset)
+}
+
+/// The first decoration after that one that ends at the offset or later.
+pub(crate) fn reaching_after(
+    tree: &RbTree<Marks>,
+    id: NodeId,
+    offset: i64,
+) -> Option<(NodeId, KeptMark)>
+    requires { IsItem tree.now.items id }
+    ensures { AtItem tree.now.items id (λ us x vs. FirstReaching offset vs result) }
+{
+    reached(search_after(tree, id, Sought::Reaching(offset)), offset)
+}
+
+/// What a search for the offset ended at, if that reaches the offset.
+fn reached(
+    found: Option<(NodeId, KeptMark, Option<i64>)>,
+    offset: i64,
+) -> Option<(NodeId, KeptMark)>
+    ensures { ShowsFirst offset found result }
+{
+    let (id, mark, _) = found?;
+    if mark.end < offset {
+        None
+    } else {
+        Some((id, mark))
+    }
+}
+
+/// The decoration right after that one, or the first.
+pub(crate) fn next_after(tree: &RbTree<Marks>, id: &Option<NodeId>) -> Option<NodeId>
+    requires { PlaceAfter tree.now.items id.now }
+    ensures { AtPlace tree.now.items id.now (λ us vs. result ≡ first_or None vs) }
+{
+    match id {
+        Some(id) => tree.next(*id),
+        None => tree.first(),
+    }
+}

@@ -1,0 +1,203 @@
+//! Places of the text, each looked up by one search, and what an edit between two of them meets.
+
+ghost use Rattle.std.specs.Prelude.{◌≡◌, ℕ, ◌+◌, ◌-◌, ◌<◌, ◌≤◌, ◌^◌, ◌++◌, List, take, drop, IfSome};
+ghost use Rattle.chunk_buffers.specs.Chunks.{LiesIn};
+ghost use Rattle.piece_tree.specs.Pieces.{pieces_of, unit_count, HasUnit, StandsAt};
+ghost use Rattle.text_rules.specs.Lines.{line_feed, carriage_return, begins_with};
+ghost use Rattle.text_rules.specs.Breaks.{ends_with, joins_pair, count_to, break_ends};
+ghost use Rattle.text_rules.specs.Dirty.{dirty_lines};
+ghost use Rattle.text_buffer.specs.Text.{text_of, one_if, IsText};
+ghost use Rattle.text_buffer.specs.LookUps.{IsSpot, span_between, units_of};
+
+use crate::look_up::{piece_at, unit_in};
+use chunk_buffers::{ChunkSpan, Chunks};
+use line_starts::count_breaks;
+use piece_tree::{Found, PieceId, PieceTree};
+use text_lengths::Dirty;
+use unit_text::{CARRIAGE_RETURN, LINE_FEED};
+
+/// A place of the text, with what stands on both sides of it.
+#[derive(Clone, Copy)]
+pub(crate) struct Spot {
+    pub offset: u64,
+    /// The piece that has the unit at the place; None at the end.
+    pub found: Option<Found>,
+    /// Whether a CR stands right before the place.
+    pub after_return: bool,
+    /// Whether an LF stands right at the place.
+    pub before_feed: bool,
+}
+
+/// The place of this offset. It makes one search, or none at the end.
+pub(crate) fn spot_at(pieces: &PieceTree, chunks: &Chunks, offset: u64) -> Spot
+    requires text { IsText pieces.now chunks.now }
+    requires within { offset ≤ unit_count (pieces_of pieces.now.entries) }
+    ensures spot { IsSpot pieces.now chunks.now result }
+    ensures offset { result.offset ≡ offset }
+{
+    if offset == pieces.len() {
+        return Spot {
+            offset,
+            found: None,
+            after_return: ends_with_return(units_of(chunks, pieces.last())),
+            before_feed: false,
+        };
+    }
+    let found = piece_at(pieces, offset);
+    Spot {
+        offset,
+        found: Some(found),
+        after_return: is_after_return(pieces, chunks, &found, offset),
+        before_feed: unit_in(chunks, &found, offset) == LINE_FEED,
+    }
+}
+
+// Whether a CR stands right before an offset, whose own unit the piece has.
+fn is_after_return(pieces: &PieceTree, chunks: &Chunks, found: &Found, offset: u64) -> bool
+    requires text { IsText pieces.now chunks.now }
+    requires unit { HasUnit pieces.now.entries found.now offset }
+    ensures { result ≡ ends_with carriage_return (take offset (text_of pieces.now chunks.now).units) }
+{
+    if found.before.units < offset {
+        return unit_in(chunks, found, offset - 1) == CARRIAGE_RETURN;
+    }
+    ends_with_return(units_of(chunks, pieces.prev(found.id)))
+}
+
+// The units of a piece, if there is one.
+fn units_of(chunks: &Chunks, piece: Option<(PieceId, ChunkSpan)>) -> &[u16]
+    requires { IfSome piece (λ named. LiesIn chunks.now.buffers named.1) }
+    ensures { result.now ≡ units_of chunks.now.buffers piece }
+{
+    match piece {
+        Some((_, span)) => chunks.units(span),
+        None => &[],
+    }
+}
+
+fn ends_with_return(units: &[u16]) -> bool
+    ensures { result ≡ ends_with carriage_return units.now }
+{
+    if units.is_empty() {
+        return false;
+    }
+    units[units.len() - 1] == CARRIAGE_RETURN
+}
+
+// How many breaks end at the place or before it.
+fn breaks_to(pieces: &PieceTree, chunks: &Chunks, spot: &Spot) -> u64
+    requires text { IsText pieces.now chunks.now }
+    requires spot { IsSpot pieces.now chunks.now spot.now }
+    ensures count { result
+        ≡ count_to spot.now.offset (break_ends 0 (text_of pieces.now chunks.now).units) }
+    ensures few { result < 2 ^ 62 }
+{
+    let Some(found) = &spot.found else {
+        return pieces.breaks();
+    };
+    found.before.breaks + chunks.breaks_to(found.span, spot.offset - found.before.units)
+}
+
+// How many breaks end at the place or before it, without that of a CR right before it.
+fn breaks_before(pieces: &PieceTree, chunks: &Chunks, spot: &Spot) -> u64
+    requires text { IsText pieces.now chunks.now }
+    requires spot { IsSpot pieces.now chunks.now spot.now }
+    ensures count { result ≡ count_to (spot.now.offset - one_if spot.now.after_return)
+        (break_ends 0 (text_of pieces.now chunks.now).units) }
+    ensures few { result < 2 ^ 62 }
+{
+    // The break of a CR LF ends behind the LF.
+    let ends_here = spot.after_return && !spot.before_feed;
+    breaks_to(pieces, chunks, spot) - one_if(ends_here)
+}
+
+/// Which lines an edit touches that puts these units between the two places, and how many lines stand in their place after it.
+pub(crate) fn dirty_between(
+    pieces: &PieceTree,
+    chunks: &Chunks,
+    start: &Spot,
+    end: &Spot,
+    text: &[u16],
+) -> Dirty
+    requires text { IsText pieces.now chunks.now }
+    requires start { IsSpot pieces.now chunks.now start.now }
+    requires end { IsSpot pieces.now chunks.now end.now }
+    requires ordered { start.now.offset ≤ end.now.offset }
+    ensures { result ≡ dirty_lines (text_of pieces.now chunks.now).units
+        (span_between start.now end.now) text.now }
+{
+    let first = breaks_before(pieces, chunks, start) + 1;
+    let last = breaks_to(pieces, chunks, end) + 1;
+    let lines = count_breaks(text) + 1 + one_if(start.after_return);
+    Dirty {
+        first,
+        old: last + 1 - first,
+        new: lines - pairs_made(start, end, text),
+    }
+}
+
+// How many times a CR and an LF meet at the ends of the text, put between the two places.
+fn pairs_made(start: &Spot, end: &Spot, text: &[u16]) -> u64
+    ensures { (before after : List ℕ)
+        → start.now.after_return ≡ ends_with carriage_return before
+        → end.now.before_feed ≡ begins_with line_feed after
+        → result ≡ one_if (joins_pair before (text.now ++ after)) + one_if (joins_pair text.now after) }
+{
+    let front = one_if(joins_front(start, end, text));
+    if text.is_empty() {
+        return front;
+    }
+    front + one_if(joins_back(start, end, text))
+}
+
+/// Whether a CR before the first place and an LF at the start of what comes after it make a pair, once the text stands between the two.
+pub(crate) fn joins_front(start: &Spot, end: &Spot, text: &[u16]) -> bool
+    ensures { (before after : List ℕ)
+        → start.now.after_return ≡ ends_with carriage_return before
+        → end.now.before_feed ≡ begins_with line_feed after
+        → result ≡ joins_pair before (text.now ++ after) }
+{
+    if !start.after_return {
+        return false;
+    }
+    if text.is_empty() {
+        return end.before_feed;
+    }
+    text[0] == LINE_FEED
+}
+
+/// Whether a CR at the end of what comes before the second place and an LF after it make a pair, once the text stands between the two.
+pub(crate) fn joins_back(start: &Spot, end: &Spot, text: &[u16]) -> bool
+    ensures { (before after : List ℕ)
+        → start.now.after_return ≡ ends_with carriage_return before
+        → end.now.before_feed ≡ begins_with line_feed after
+        → result ≡ joins_pair (before ++ text.now) after }
+{
+    if !end.before_feed {
+        return false;
+    }
+    if text.is_empty() {
+        return start.after_return;
+    }
+    text[text.len() - 1] == CARRIAGE_RETURN
+}
+
+/// The piece that has the unit at the place, or the CR right before it, where that is taken along.
+pub(crate) fn found_before(pieces: &PieceTree, spot: &Spot, with_return: bool) -> Option<Found>
+    requires found { StandsAt pieces.now.entries spot.now.found spot.now.offset }
+    requires within { spot.now.offset ≤ unit_count (pieces_of pieces.now.entries) }
+    requires there { one_if with_return ≤ spot.now.offset }
+    ensures { StandsAt pieces.now.entries result (spot.now.offset - one_if with_return) }
+{
+    if with_return {
+        Some(piece_at(pieces, spot.offset - 1))
+    } else {
+        spot.found
+    }
+}
+
+pub(crate) fn one_if(test: bool) -> u64
+    ensures { result ≡ one_if test }
+{
+    if test { 1 } else { 0 }
+}

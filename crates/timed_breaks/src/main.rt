@@ -1,0 +1,70 @@
+//! Looks for the breaks of 100 MB of text in the way that its word names, so that the ways can be timed beside each other;
+//! or compares the ways on small texts.
+#![tactic(auto)]
+
+use line_starts::{count_breaks, find_starts};
+use plain_breaks::{TEXTS, agree_on};
+use std::alloc::{AllocError, Global};
+use std::{env, io};
+
+/// How many lines the text has.
+const LINES: usize = 1_666_667;
+
+/// How many units a line has, with its LF, of two bytes each.
+const LINE: usize = 30;
+
+const LINE_FEED: u16 = 10;
+
+const LETTER: u16 = 0x61;
+
+fn text(alloc: Global) -> Result<Vec<u16>, AllocError> {
+    let mut line = [LETTER; LINE];
+    line[LINE - 1] = LINE_FEED;
+    let mut units = Vec::with_capacity(alloc, LINES * LINE)?;
+    for _line in 0..LINES {
+        units.extend_from_slice(&line)?;
+    }
+    Ok(units)
+}
+
+/// On texts of each length up to this one the lanes are compared with the plain loops, with a break at each place.
+const LONGEST: usize = 200;
+
+/// On how many texts both ways agree.
+fn agreeing(alloc: Global) -> Result<u64, AllocError> {
+    let mut texts: u64 = 0;
+    for kind in TEXTS {
+        for len in 0..=LONGEST {
+            if agree_on(alloc, kind, len)? {
+                texts = texts.saturating_add(len as u64);
+            }
+        }
+    }
+    Ok(texts)
+}
+
+/// What is found in the way of this name: breaks, line starts, or the units alone for any other name.
+fn found(alloc: Global, way: &str, units: &[u16]) -> Result<u64, AllocError> {
+    let mut starts = Vec::new(alloc);
+    match way {
+        "count" => return Ok(count_breaks(units)),
+        "plain_count" => return Ok(plain_breaks::count_breaks(units)),
+        "starts" => find_starts(units, &mut starts)?,
+        "plain_starts" => plain_breaks::find_starts(units, &mut starts)?,
+        _ => return Ok(units.len() as u64),
+    }
+    Ok(starts.len() as u64)
+}
+
+fn main(rt: HostRuntime) -> io::Result<()> {
+    let mut words = env::args(&rt)?;
+    let _name = words.next();
+    let way = words.next();
+    let name = way.as_ref().map_or("", |word| word.as_str());
+    let number = match name {
+        "compare" => agreeing(rt.alloc())?,
+        _ => found(rt.alloc(), name, text(rt.alloc())?.as_slice())?,
+    };
+    println!(rt; "{number}")?;
+    Ok(())
+}

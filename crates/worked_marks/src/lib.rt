@@ -1,0 +1,5 @@
+//! Decorations that are shifted as far as numbers go, and back.
+#![tactic(auto)]
+
+#[cfg(test)]
+mod far;
