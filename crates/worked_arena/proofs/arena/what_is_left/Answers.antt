@@ -1,7 +1,7 @@
 use Rattle.std.proofs.Common.{sym, ◌∙◌, ap}
 use Rattle.std.specs.Option.{unwrap_or}
 use Rattle.raw_arena.proofs.Names.{get-insert_same}
-use Rattle.worked_trees.proofs.arena.what_is_left.Goals as goal
+use Rattle.worked_arena.proofs.arena.what_is_left.Goals as goal
 
 pub visit-requires : goal.visit-requires
 visit-requires g c = (4, get-insert_same c.put_two_take_one-left.new.arena.live c.put_two_take_one-left.result 4)

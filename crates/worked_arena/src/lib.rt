@@ -1,0 +1,5 @@
+//! Tests of the arena.
+#![tactic(auto)]
+
+#[cfg(test)]
+mod arena;
