@@ -81,15 +81,11 @@ impl<'a> LevelWalk<'a> {
                 if !self.here.start.before(place) {
                     return LevelStep::At(self.before);
                 }
-                let start = self.here.start.plus(&wide(*opening));
-                if closes_before(*closing, &inside.end(&start), place) {
+                let inside = self.here.inside(*opening, inside);
+                if closes_before(*closing, &inside.node.end(&inside.start), place) {
                     return LevelStep::At(self.level);
                 }
-                let here = Placed {
-                    start,
-                    node: inside,
-                };
-                LevelStep::On(within(here, self.level + 1, self.level + 1))
+                LevelStep::On(within(inside, self.level + 1, self.level + 1))
             }
             Shape::Two(a, b) => {
                 let first = within(self.here.first(a), self.level, self.before);

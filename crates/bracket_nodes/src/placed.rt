@@ -1,7 +1,7 @@
 // A node of a tree at its place, and the part of it that holds a place.
 ghost use Rattle.std.specs.Prelude.{◌+◌, ◌<◌, ◌≤◌, ◌^◌, ◌↔◌, ◌≡◌, IsTrue, IfSome, IfNone};
 ghost use Rattle.text_lengths.specs.Length.{no_length, length_plus};
-ghost use Rattle.bracket_trees.specs.Tree.{tree_length, weight, nesting, IsTree};
+ghost use Rattle.bracket_trees.specs.Tree.{tree_length, wide, weight, nesting, IsTree};
 ghost use Rattle.bracket_trees.specs.Parts.{Holds, IsPart, NoPartHolds};
 
 use crate::lists::Shared;
@@ -46,14 +46,7 @@ impl<'a> Placed<'a> {
     {
         let node = self.node;
         match &node.shape {
-            Shape::Pair(_, opening, inside, _) => {
-                let start = self.start.plus(&wide(*opening));
-                Placed {
-                    start,
-                    node: inside,
-                }
-                .holding(place)
-            }
+            Shape::Pair(_, opening, inside, _) => self.inside(*opening, inside).holding(place),
             Shape::Two(a, b) => {
                 let first = self.first(a);
                 if first.holds(place) {
@@ -83,6 +76,18 @@ impl<'a> Placed<'a> {
     {
         Placed {
             start: self.start,
+            node,
+        }
+    }
+
+    /// The node behind an opening bracket of that width, which starts where this one does.
+    pub fn inside(&self, opening: u64, node: &'a Shared) -> Placed<'a>
+        requires { self.now.start.lines + self.now.start.columns + opening < 2 ^ 64 }
+        ensures start { result.start ≡ length_plus self.now.start (wide opening) }
+        ensures node { result.node.now.value ≡ node.now.value }
+    {
+        Placed {
+            start: self.start.plus(&wide(opening)),
             node,
         }
     }

@@ -3,10 +3,11 @@ use Rattle.std.proofs.Common.{◌≡◌, ℕ, ◌+◌, ◌-◌, ◌<◌, ◌≤�
 use Rattle.std.proofs.lemmas.Bool.{cases_eq}
 use Rattle.std.proofs.lemmas.List.{length-append, length-map, map-set, get_or-map, length-set, length-take, length-take-le, length-drop, drop-drop, length_push, take_all, take_at, take-take, drop_at, drop-take, get_or-set_same, get_or-set_other, get_or_append_left}
 use Rattle.std.proofs.lemmas.List.Sums.{sum_by-set}
+use Rattle.std.proofs.Math.Seq.{map-set_same}
 use Rattle.text_rules.specs.Breaks.{joins_pair}
 use Rattle.chunk_buffers.specs.Buffer.{Filled, padding, padded}
 use Rattle.chunk_buffers.specs.declared.span.ChunkSpan.{ChunkSpan}
-use Rattle.chunk_buffers.specs.Chunks.{buffer_at, units_at, LiesIn, Extends, EndsLast, unit_count, part_of, last_room}
+use Rattle.chunk_buffers.specs.Chunks.{buffer_at, units_at, LiesIn, Extends, EndsLast, unit_count, part_of, last_buffer}
 
 module _ (front whole : List ℕ) (is_front : take (length front) whole ≡ front) where
   front_le : length front ≤ length whole
@@ -145,6 +146,12 @@ IsAppended-at items number old new start units text last old_is new_is start_is 
       last = appended_last bs number start units text new.units within new_units place units_is (omega (arith, last, length-map items (λ (b : Filled). b.units)));
     })
 
-pub last_room_some : (items : List Filled) → 0 < last_room items → 0 < length items
-last_room_some [] h = absurd (omega arith)
-last_room_some (b ∷ items) h = omega arith
+pub last_buffer_some : (items : List Filled) → 0 < (last_buffer items).room → 0 < length items
+last_buffer_some [] h = absurd (omega arith)
+last_buffer_some (b ∷ items) h = omega arith
+
+-- the units of the buffers, where one buffer was replaced by one with the same units
+pub same_units : (items : List Filled) (number : ℕ) (old new : Filled) → old ≡ get_or items number old → new.units ≡ old.units
+    → map (λ b. b.units) (set items number new) ≡ map (λ b. b.units) items
+same_units items number old new old_is units_are =
+    map-set_same (λ (b : Filled). b.units) items number new old (units_are ∙ ap (λ (b : Filled). b.units) old_is)

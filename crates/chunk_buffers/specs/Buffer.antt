@@ -4,10 +4,11 @@ use Rattle.std.specs.List.{prefix_len}
 use Rattle.line_starts.specs.Starts.{starts_of}
 use Rattle.text_rules.specs.Breaks.{joins_pair}
 
--- what contracts see of a buffer: its units, and how many more fit without memory
+-- what contracts see of a buffer: its units, and how many more units and breaks fit without memory
 pub record Filled : Type 0 where
   pub units : List ℕ
   pub room : ℕ
+  pub break_room : ℕ
 
 abbrev pub padding : ℕ
 padding = 0x5F

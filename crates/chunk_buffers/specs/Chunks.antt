@@ -9,6 +9,8 @@ pub record Shown : Type 0 where
   pub buffers : List (List ℕ)
   -- how many units may be appended without memory, where each text takes one more than its units
   pub spare : ℕ
+  -- how many breaks these units may have
+  pub spare_breaks : ℕ
 
 abbrev pub buffer_at : List (List ℕ) → ℕ → List ℕ
 buffer_at buffers number = slice_index_or buffers number []
@@ -42,6 +44,6 @@ unit_count buffers = sum_by length buffers
 abbrev pub part_of : ChunkSpan → ℕ → ℕ → ChunkSpan
 part_of span from to = record { buffer = span.buffer; start = span.start + from; units = to - from }
 
--- the room of the buffer that texts are appended to
-abbrev pub last_room : List Filled → ℕ
-last_room buffers = (slice_index_or buffers (length buffers - 1) (record { units = []; room = 0 })).room
+-- the buffer that texts are appended to
+abbrev pub last_buffer : List Filled → Filled
+last_buffer buffers = slice_index_or buffers (length buffers - 1) (record { units = []; room = 0; break_room = 0 })

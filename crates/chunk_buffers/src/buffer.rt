@@ -14,7 +14,7 @@ use unit_text::{CARRIAGE_RETURN, LINE_FEED};
 
 const PADDING: u16 = 0x5F;
 
-/// A buffer that texts are appended to. Contracts see its units, and how many more fit without memory.
+/// A buffer that texts are appended to. Contracts see its units, and how many more units and breaks fit without memory.
 #[derive(Drop)]
 pub(crate) struct Buffer {
     units: Vec<u16>,
@@ -23,7 +23,7 @@ pub(crate) struct Buffer {
 }
 
 impl Model for Buffer {
-    ghost use Rattle.std.specs.Prelude.{◌≡◌, ◌-◌, min, vec_len, vec_capacity};
+    ghost use Rattle.std.specs.Prelude.{◌≡◌, ◌-◌, vec_len, vec_capacity};
     ghost use Rattle.chunk_buffers.specs.Buffer.{Filled};
     ghost use Rattle.text_rules.specs.Breaks.{break_ends};
 
@@ -31,24 +31,27 @@ impl Model for Buffer {
 
     ghost view = { λ b. record {
       units = b.units.items;
-      room = min (vec_capacity b.units - vec_len b.units) (vec_capacity b.ends - vec_len b.ends);
+      room = vec_capacity b.units - vec_len b.units;
+      break_room = vec_capacity b.ends - vec_len b.ends;
     } };
 
     ghost invariant = { λ b. b.ends.items ≡ break_ends 0 b.units.items };
 }
 
 impl Buffer {
-    /// A buffer without units, and with room for that many.
-    pub(crate) fn with_room(alloc: Global, units: usize) -> Result<Buffer, AllocError>
-        ensures { IfOk result (λ buffer. (buffer.units ≡ []) × (units ≤ buffer.room)) }
+    /// A buffer without units, and with room for that many, which have that many breaks.
+    pub(crate) fn with_room(
+        alloc: Global,
+        units: usize,
+        breaks: usize,
+    ) -> Result<Buffer, AllocError>
+        ensures units { IfOk result (λ buffer. buffer.units ≡ []) }
+        ensures room { IfOk result (λ buffer. units ≤ buffer.room) }
+        ensures break_room { IfOk result (λ buffer. breaks ≤ buffer.break_room) }
     {
-        let mut buffer = Buffer {
-            units: Vec::new(alloc),
-            ends: Vec::new(alloc),
-        };
-        buffer.units.reserve(units)?;
-        buffer.ends.reserve(units)?;
-        Ok(buffer)
+        let ends = Vec::with_capacity(alloc, breaks)?;
+        let units = Vec::with_capacity(alloc, units)?;
+        Ok(Buffer { units, ends })
     }
 
     /// A buffer that holds the text, and no more room than it takes.
@@ -71,14 +74,30 @@ impl Buffer {
     pub(crate) fn room(&self) -> usize
         ensures { result ≡ self.now.room }
     {
-        let units = self.units.capacity() - self.units.len();
-        let ends = self.ends.capacity() - self.ends.len();
-        units.min(ends)
+        self.units.capacity() - self.units.len()
+    }
+
+    /// Makes room for that many breaks. An error leaves all as it was.
+    pub(crate) fn reserve_breaks(&mut self, breaks: usize) -> Result<(), AllocError>
+        ensures ok { OnOk result (breaks ≤ self.new.break_room) }
+        ensures kept { self.old.break_room ≤ self.new.break_room }
+        ensures units { self.new.units ≡ self.old.units }
+        ensures room { self.new.room ≡ self.old.room }
+    {
+        self.ends.reserve(breaks)
+    }
+
+    pub(crate) fn break_count(&self) -> u64
+        ensures { result ≡ break_count self.now.units }
+    {
+        self.ends.len() as u64
     }
 
     /// Appends the three texts as one, and answers where it starts.
     pub(crate) fn append(&mut self, before: &[u16], text: &[u16], after: &[u16]) -> usize
-        requires { length (before.now ++ text.now ++ after.now) < self.old.room }
+        requires room { length (before.now ++ text.now ++ after.now) < self.old.room }
+        requires breaks { break_count (before.now ++ text.now ++ after.now)
+            ≤ self.old.break_room }
         ensures units { let whole = before.now ++ text.now ++ after.now in
             self.new.units ≡ padded self.old.units whole ++ whole }
         ensures start { result ≡ length
@@ -86,6 +105,10 @@ impl Buffer {
         ensures fits { result + length (before.now ++ text.now ++ after.now) < 2 ^ 63 }
         ensures room { self.old.room
             ≤ self.new.room + length (before.now ++ text.now ++ after.now) + 1 }
+        ensures break_room { self.old.break_room
+            ≤ self.new.break_room + break_count (before.now ++ text.now ++ after.now) }
+        ensures breaks { break_count self.new.units ≡ break_count self.old.units
+            + break_count (before.now ++ text.now ++ after.now) }
     {
         let pair = self.would_make_pair(before, text, after);
         pad(&mut self.units, pair);
@@ -209,9 +232,9 @@ fn push_all(units: &mut Vec<u16>, before: &[u16], text: &[u16], after: &[u16])
 // The places after the breaks of the units, which stand from a place on. There is room for them.
 fn push_ends(units: &[u16], start: usize, ends: &mut Vec<u64>)
     requires fits { start + length units.now < 2 ^ 64 }
-    requires room { vec_len ends.old + length units.now ≤ vec_capacity ends.old }
+    requires room { vec_len ends.old + break_count units.now ≤ vec_capacity ends.old }
     ensures items { ends.new.items ≡ ends.old.items ++ break_ends_at start units.now }
-    ensures len { vec_len ends.new ≤ vec_len ends.old + length units.now }
+    ensures len { vec_len ends.new ≡ vec_len ends.old + break_count units.now }
     ensures capacity { vec_capacity ends.old ≤ vec_capacity ends.new }
 {
     let _ = find_break_ends(units, start as u64, ends);

@@ -20,46 +20,88 @@ const LEAST_ROOM: usize = 4096;
 #[derive(Drop)]
 pub struct Chunks {
     buffers: Vec<Buffer>,
+    /// For how many breaks there is room.
+    spare_breaks: u64,
     alloc: Global,
 }
 
 impl Model for Chunks {
-    ghost use Rattle.std.specs.Prelude.{map};
-    ghost use Rattle.chunk_buffers.specs.Chunks.{Shown, last_room};
+    ghost use Rattle.std.specs.Prelude.{map, ◌≤◌};
+    ghost use Rattle.chunk_buffers.specs.Chunks.{Shown, last_buffer};
 
     ghost Value = { Shown };
 
     ghost view = { λ c. record {
       buffers = map (λ b. b.units) c.buffers.items;
-      spare = last_room c.buffers.items;
+      spare = (last_buffer c.buffers.items).room;
+      spare_breaks = c.spare_breaks;
     } };
+
+    ghost invariant = { λ c. c.spare_breaks ≤ (last_buffer c.buffers.items).break_room };
 }
 
 impl Chunks {
     pub fn new(alloc: Global) -> Chunks
         ensures buffers { result.buffers ≡ [] }
         ensures spare { result.spare ≡ 0 }
+        ensures spare_breaks { result.spare_breaks ≡ 0 }
     {
         Chunks {
             buffers: Vec::new(alloc),
+            spare_breaks: 0,
             alloc,
         }
     }
 
-    /// Makes room for that many texts with that many units together. An error leaves all as it was.
-    pub fn reserve(&mut self, texts: u64, units: u64) -> Result<(), AllocError>
+    /// Makes room for that many texts with that many units and that many breaks together. An error leaves all as it was.
+    pub fn reserve(&mut self, texts: u64, units: u64, breaks: u64) -> Result<(), AllocError>
         ensures ok { OnOk result (texts + units ≤ self.new.spare) }
+        ensures breaks { OnOk result (breaks ≤ self.new.spare_breaks) }
         ensures same { Extends self.old.buffers self.new.buffers }
         ensures units { unit_count self.new.buffers ≡ unit_count self.old.buffers }
         ensures kept { self.old.spare ≤ self.new.spare }
+        ensures kept_breaks { self.old.spare_breaks ≤ self.new.spare_breaks }
         ensures err { OnErr result (self.new ≡ self.old) }
     {
         let room = texts.checked_add(units).ok_or(AllocError)? as usize;
-        if room <= self.room() {
+        if room > self.room() {
+            return self.begin_buffer(room, breaks.max(self.spare_breaks));
+        }
+        self.reserve_breaks(breaks)
+    }
+
+    // Makes room for that many breaks in the last buffer, or in a first one.
+    fn reserve_breaks(&mut self, breaks: u64) -> Result<(), AllocError>
+        ensures breaks { OnOk result (breaks ≤ self.new.spare_breaks) }
+        ensures same { Extends self.old.buffers self.new.buffers }
+        ensures units { unit_count self.new.buffers ≡ unit_count self.old.buffers }
+        ensures kept { self.old.spare ≤ self.new.spare }
+        ensures kept_breaks { self.old.spare_breaks ≤ self.new.spare_breaks }
+        ensures err { OnErr result (self.new ≡ self.old) }
+    {
+        if breaks <= self.spare_breaks {
             return Ok(());
         }
-        let buffer = Buffer::with_room(self.alloc, room.max(LEAST_ROOM))?;
+        if self.buffers.is_empty() {
+            return self.begin_buffer(0, breaks);
+        }
+        let number = self.buffers.len() - 1;
+        self.buffers[number].reserve_breaks(breaks as usize)?;
+        self.spare_breaks = breaks;
+        Ok(())
+    }
+
+    // Begins a buffer with room for that many units or more, and for just that many breaks.
+    fn begin_buffer(&mut self, units: usize, breaks: u64) -> Result<(), AllocError>
+        ensures room { OnOk result (units ≤ self.new.spare) }
+        ensures breaks { OnOk result (self.new.spare_breaks ≡ breaks) }
+        ensures same { Extends self.old.buffers self.new.buffers }
+        ensures units { unit_count self.new.buffers ≡ unit_count self.old.buffers }
+        ensures err { OnErr result (self.new ≡ self.old) }
+    {
+        let buffer = Buffer::with_room(self.alloc, units.max(LEAST_ROOM), breaks as usize)?;
         self.buffers.push(buffer)?;
+        self.spare_breaks = breaks;
         Ok(())
     }
 
@@ -75,13 +117,16 @@ impl Chunks {
 
     /// Appends the text, and takes no memory.
     pub fn append(&mut self, text: &[u16]) -> ChunkSpan
-        requires { length text.now < self.old.spare }
+        requires room { length text.now < self.old.spare }
+        requires breaks { break_count text.now ≤ self.old.spare_breaks }
         ensures shown { units_at self.new.buffers result ≡ text.now }
         ensures inside { LiesIn self.new.buffers result }
         ensures grown { Extends self.old.buffers self.new.buffers }
         ensures units { unit_count self.new.buffers
             ≤ unit_count self.old.buffers + length text.now + 1 }
         ensures spare { self.old.spare ≤ self.new.spare + length text.now + 1 }
+        ensures spare_breaks { self.old.spare_breaks
+            ≤ self.new.spare_breaks + break_count text.now }
         ensures last { EndsLast self.old.buffers self.new.buffers result text.now }
     {
         self.append_joined(&[], text, &[])
@@ -89,7 +134,9 @@ impl Chunks {
 
     /// Appends the three texts as one, and takes no memory.
     pub fn append_joined(&mut self, before: &[u16], text: &[u16], after: &[u16]) -> ChunkSpan
-        requires { length (before.now ++ text.now ++ after.now) < self.old.spare }
+        requires room { length (before.now ++ text.now ++ after.now) < self.old.spare }
+        requires breaks { break_count (before.now ++ text.now ++ after.now)
+            ≤ self.old.spare_breaks }
         ensures shown { units_at self.new.buffers result ≡ before.now ++ text.now ++ after.now }
         ensures inside { LiesIn self.new.buffers result }
         ensures grown { Extends self.old.buffers self.new.buffers }
@@ -97,12 +144,16 @@ impl Chunks {
             ≤ unit_count self.old.buffers + length (before.now ++ text.now ++ after.now) + 1 }
         ensures spare { self.old.spare
             ≤ self.new.spare + length (before.now ++ text.now ++ after.now) + 1 }
+        ensures spare_breaks { self.old.spare_breaks
+            ≤ self.new.spare_breaks + break_count (before.now ++ text.now ++ after.now) }
         ensures last { EndsLast self.old.buffers self.new.buffers result
             (before.now ++ text.now ++ after.now) }
     {
         let number = self.buffers.len() - 1;
         let buffer = &mut self.buffers[number];
+        let breaks = buffer.break_count();
         let start = buffer.append(before, text, after);
+        self.spare_breaks -= buffer.break_count() - breaks;
         ChunkSpan {
             buffer: number as u64,
             start: start as u64,
@@ -122,6 +173,7 @@ impl Chunks {
         let buffer = Buffer::of_text(self.alloc, text)?;
         let number = self.buffers.len();
         self.buffers.push(buffer)?;
+        self.spare_breaks = 0;
         Ok(ChunkSpan {
             buffer: number as u64,
             start: 0,

@@ -18,7 +18,7 @@ use unit_text::{CARRIAGE_RETURN, LINE_FEED};
 pub fn find_starts(units: &[u16], out: &mut Vec<u64>) -> Result<(), AllocError>
     ensures ok { OnOk result (out.new.items ≡ out.old.items ++ starts_of units.now) }
     ensures err { OnErr result (out.new.items ≡ out.old.items) }
-    ensures with_room { vec_len out.old + (length units.now + 1) ≤ vec_capacity out.old
+    ensures with_room { vec_len out.old + (break_count units.now + 1) ≤ vec_capacity out.old
         → IsOk result }
     ensures capacity { vec_capacity out.old ≤ vec_capacity out.new }
 {
@@ -36,7 +36,7 @@ pub fn find_break_ends(units: &[u16], start: u64, out: &mut Vec<u64>) -> Result<
     requires { start + length units.now < 2 ^ 64 }
     ensures ok { OnOk result (out.new.items ≡ out.old.items ++ break_ends_at start units.now) }
     ensures err { OnErr result (out.new.items ≡ out.old.items) }
-    ensures with_room { vec_len out.old + length units.now ≤ vec_capacity out.old → IsOk result }
+    ensures with_room { vec_len out.old + break_count units.now ≤ vec_capacity out.old → IsOk result }
     ensures capacity { vec_capacity out.old ≤ vec_capacity out.new }
 {
     let before = out.len();
@@ -52,7 +52,7 @@ fn push_break_ends(units: &[u16], start: u64, out: &mut Vec<u64>) -> Result<(), 
     requires { start + length units.now < 2 ^ 64 }
     ensures ok { OnOk result (out.new.items ≡ out.old.items ++ break_ends_at start units.now) }
     ensures before { take (vec_len out.old) out.new.items ≡ out.old.items }
-    ensures with_room { vec_len out.old + length units.now ≤ vec_capacity out.old → IsOk result }
+    ensures with_room { vec_len out.old + break_count units.now ≤ vec_capacity out.old → IsOk result }
     ensures capacity { vec_capacity out.old ≤ vec_capacity out.new }
 {
     let mut from = find_break(units, 0);

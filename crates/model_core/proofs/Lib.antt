@@ -12,3 +12,4 @@ pub mod EditedMarks
 pub mod Marking
 pub mod Staying
 pub mod Shelving
+pub mod Preparing

@@ -17,12 +17,13 @@ use Rattle.model_core.specs.declared.change.Way.{Way}
 use Rattle.model_core.specs.declared.change.Way.TheVariants.{Back, On}
 use Rattle.model_core.specs.Ways.{text_by, changes_by, LeadBy, decorations_by, marked_along, marked_step, next_steps, passed, alternative_after, flat_move}
 use Rattle.model_core.specs.Staying.{StaysWith}
+use Rattle.model_core.specs.Prepared.{next_unit_count, next_break_count}
 use Rattle.model_core.specs.State.{next_op_count}
-use Rattle.model_core.specs.History.{text_back, text_on, op_count, ops_by, history_of, LeadBack, LeadOn, IsHistory}
+use Rattle.model_core.specs.History.{text_back, text_on, op_count, unit_count, text_breaks, breaks_along, ops_by, history_of, LeadBack, LeadOn, IsHistory}
 use Rattle.bracket_rules.specs.Table.{Table}
 use Rattle.decoration_rules.specs.Decorations.{Decorations}
 use Rattle.mark_rules.specs.declared.Mark.{Mark}
-use Rattle.model_core.proofs.Turns.{ops_back, ops_on, few_back, few_on}
+use Rattle.model_core.proofs.Turns.{ops_back, ops_on, measured_back, measured_on, few_back, few_on}
 use Rattle.model_core.proofs.Staying.{MarkedBy, stays_back, stays_on, marked_step_back, marked_step_on}
 use Rattle.model_core.proofs.Carries.{carried_back-kept, carried_on-kept}
 use Rattle.model_core.proofs.Histories.{text_before-back, text_after-on, history-undone, IsHistory-undone, history-redone, IsHistory-redone}
@@ -58,7 +59,10 @@ pub record IsStep (way : Way) (now : List ℕ) (version alternative : ℕ) (d : 
       → flat_move way (document_of now version alternative d table shelf s) ≡ Ok (Some (document_of (text_by way now step.changes) (version + 1) (alternative_after way step) (decorations_by way d step.changes) table shelf (passed way s)))
   pub refused : greatest_version < version + 1 → flat_move way (document_of now version alternative d table shelf s) ≡ Err limit
   pub some : 0 < length (next_steps way s)
+  pub next : 0 < length (next_steps way (history_of now s))
   pub ops : next_op_count (next_steps way (history_of now s)) ≡ op_count way step.changes
+  pub units : next_unit_count way (next_steps way (history_of now s)) ≡ unit_count way step.changes
+  pub breaks : next_break_count way (next_steps way (history_of now s)) ≡ breaks_along way step.changes
   pub marks : (ms : List Mark) → marked_step way ms (next_steps way (history_of now s)) ≡ marked_along way ms (changes_by way now step.changes)
 
 undo_first : (now : List ℕ) (version alternative : ℕ) (d : Decorations) (table : Table) (shelf : FlatShelf) (step : Step Change) (rest redo : List (Step Change)) (is_open : Bool)
@@ -71,7 +75,10 @@ undo_first now version alternative d table shelf step rest redo is_open old =
       accepted = λ few. rw (lt-leb greatest_version version (omega (arith, few)), text_before-back step.changes now, carried_back-kept d now step.changes old.back.0, sym (history-undone rest redo step now old.back.0)) refl;
       refused = λ last. rw (le-leb greatest_version version (omega (arith, last))) refl;
       some = omega arith;
+      next = omega arith;
       ops = ops_back now step.changes old.back.0;
+      units = measured_back text_units now step.changes old.back.0;
+      breaks = measured_back text_breaks now step.changes old.back.0;
       marks = λ ms. refl;
     }
 
@@ -85,7 +92,10 @@ redo_first now version alternative d table shelf step undo rest is_open old =
       accepted = λ few. rw (lt-leb greatest_version version (omega (arith, few)), text_after-on step.changes now, carried_on-kept d now step.changes, sym (history-redone undo rest step is_open now old.on.0)) refl;
       refused = λ last. rw (le-leb greatest_version version (omega (arith, last))) refl;
       some = omega arith;
+      next = omega arith;
       ops = ops_on now step.changes;
+      units = measured_on text_units now step.changes;
+      breaks = measured_on text_breaks now step.changes;
       marks = λ ms. refl;
     }
 
@@ -104,6 +114,10 @@ pub no_step_on : (way : Way) (now : List ℕ) (version alternative : ℕ) (d : D
     → slice_get (next_steps way s) 0 ≡ None → flat_move way (document_of now version alternative d table shelf s) ≡ Ok None
 no_step_on Back now version alternative d table shelf s none = rw (none_of s.undo none) refl
 no_step_on On now version alternative d table shelf s none = rw (none_of s.redo none) refl
+
+pub no_next_on : (way : Way) (now : List ℕ) (s : Stack Change) → slice_get (next_steps way s) 0 ≡ None → next_steps way (history_of now s) ≡ []
+no_next_on Back now s none = rw (none_of s.undo none) refl
+no_next_on On now s none = rw (none_of s.redo none) refl
 
 -- ---- what holds on either way
 

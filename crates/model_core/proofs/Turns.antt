@@ -7,6 +7,7 @@ use Rattle.std.proofs.lemmas.List.Elements.{All-nil, All-cons}
 use Rattle.std.proofs.lemmas.List.Sums.{sum_by-cons, sum_by-drop_more, sum_by-take-drop}
 use Rattle.text_rules.specs.declared.Op.{Op}
 use Rattle.text_rules.specs.Edits.{edited}
+use Rattle.line_starts.specs.Starts.{break_count}
 use Rattle.batch_rules.specs.Batches.{most_units, applied_from, text_units, StandFrom, edited_backwards}
 use Rattle.batch_rules.proofs.Backwards.{backwards_step, backwards_few, IsStep}
 use Rattle.batch_rules.proofs.Standing.{text_units_applied, text_units_inverse}
@@ -15,7 +16,8 @@ use Rattle.document_rules.specs.Document.{FlatChange}
 use Rattle.model_core.specs.declared.change.Change.{Change}
 use Rattle.model_core.specs.declared.change.Way.{Way}
 use Rattle.model_core.specs.declared.change.Way.TheVariants.{Back, On}
-use Rattle.model_core.specs.History.{text_back, text_on, changes_back, changes_on, Leads, LeadBack, LeadOn, ops_by, op_count, unit_count}
+use Rattle.model_core.specs.Prepared.{ops_along}
+use Rattle.model_core.specs.History.{text_back, text_on, changes_back, changes_on, Leads, LeadBack, LeadOn, ops_by, op_count, unit_count, text_breaks, breaks_along}
 
 -- the op whose turn it is, after so many others, on the text of the moment
 pub record IsTurn (x : List ℕ) (ops : List Op) (done : ℕ) (op : Op) (now : List ℕ) : Type 0 where
@@ -25,6 +27,17 @@ pub record IsTurn (x : List ℕ) (ops : List Op) (done : ℕ) (op : Op) (now : L
   pub few : length (edited now op) ≤ length x + text_units ops
   pub units : text_units (drop (length ops - (done + 1)) ops) ≡ length op.text + text_units (drop (length ops - done) ops)
   pub left : text_units (drop (length ops - (done + 1)) ops) ≤ text_units ops
+  pub breaks : text_breaks (drop (length ops - (done + 1)) ops) ≡ break_count op.text + text_breaks (drop (length ops - done) ops)
+  pub breaks_left : text_breaks (drop (length ops - (done + 1)) ops) ≤ text_breaks ops
+
+-- a sum over the ops from a place on
+sum_from : (f : Op → ℕ) (ops : List Op) (i : ℕ) (op : Op) → i < length ops → op ≡ get_or ops i op → sum_by f (drop i ops) ≡ f op + sum_by f (drop (suc i) ops)
+sum_from f ops i op inside is =
+    let sum = sum_by-drop_more {X = Op} f ops i op inside in
+    let own : f (get_or ops i op) ≡ f op = ap f (sym is) in
+    let more : i + 1 ≡ suc i = omega arith in
+    let rest : sum_by f (drop (i + 1) ops) ≡ sum_by f (drop (suc i) ops) = ap (λ (k : ℕ). sum_by f (drop k ops)) more in
+    omega (arith, sum, own, rest)
 
 turn_at : (x : List ℕ) (ops : List Op) (i done : ℕ) (op : Op) (now : List ℕ) → StandFrom 0 x ops → i < length ops → length ops - (done + 1) ≡ i → length ops - done ≡ suc i
     → op ≡ get_or ops i op → now ≡ edited_backwards x (drop (suc i) ops) → IsTurn x ops done op now
@@ -33,18 +46,19 @@ turn_at x ops i done op now standing inside here next is text =
     subst (λ t. IsStep x op t (edited_backwards x (drop i ops))) (sym text)
     (subst (λ o. IsStep x o (edited_backwards x (drop (suc i) ops)) (edited_backwards x (drop i ops))) (sym is) (backwards_step 0 x ops i op standing inside)) in
     let few : length (edited_backwards x (drop i ops)) ≤ length x + text_units ops = backwards_few 0 x ops i standing in
-    let sum : text_units (drop i ops) ≡ length (get_or ops i op).text + text_units (drop (i + 1) ops) = sum_by-drop_more {X = Op} (λ o. length o.text) ops i op inside in
-    let own : length (get_or ops i op).text ≡ length op.text = ap (λ (o : Op). length o.text) (sym is) in
-    let more : i + 1 ≡ suc i = omega arith in
-    let rest : text_units (drop (i + 1) ops) ≡ text_units (drop (suc i) ops) = ap (λ (k : ℕ). text_units (drop k ops)) more in
+    let units : text_units (drop i ops) ≡ length op.text + text_units (drop (suc i) ops) = sum_from (λ o. length o.text) ops i op inside is in
+    let breaks : text_breaks (drop i ops) ≡ break_count op.text + text_breaks (drop (suc i) ops) = sum_from (λ o. break_count o.text) ops i op inside is in
     let all = sum_by-take-drop {X = Op} (λ o. length o.text) ops i in
+    let all_breaks = sum_by-take-drop {X = Op} (λ o. break_count o.text) ops i in
     record {
       ordered = step.ordered;
       within = step.within;
       leaves = rw here step.leaves;
       few = subst (λ t. length t ≤ length x + text_units ops) step.leaves few;
-      units = rw (here, next) (omega (arith, sum, own, rest));
+      units = rw (here, next) units;
       left = rw here (omega (arith, all));
+      breaks = rw (here, next) breaks;
+      breaks_left = rw here (omega (arith, all_breaks));
     }
 
 pub turn : (x : List ℕ) (ops : List Op) (done : ℕ) (op : Op) (now : List ℕ) → StandFrom 0 x ops → done < length ops
@@ -58,6 +72,9 @@ op_count-cons way c cs = sum_by-cons {X = Change} (λ d. length (ops_by way d)) 
 
 unit_count-cons : (way : Way) (c : Change) (cs : List Change) → unit_count way (c ∷ cs) ≡ text_units (ops_by way c) + unit_count way cs
 unit_count-cons way c cs = sum_by-cons {X = Change} (λ d. text_units (ops_by way d)) c cs
+
+breaks_along-cons : (way : Way) (c : Change) (cs : List Change) → breaks_along way (c ∷ cs) ≡ text_breaks (ops_by way c) + breaks_along way cs
+breaks_along-cons way c cs = sum_by-cons {X = Change} (λ d. text_breaks (ops_by way d)) c cs
 
 -- a batch that may be carried out on the text of the moment, with the room that it takes
 pub record IsFit (way : Way) (c : Change) (now : List ℕ) : Type 0 where
@@ -89,6 +106,8 @@ pub record IsTurnBack (after : List ℕ) (cs : List Change) (done : ℕ) (c : Ch
   pub units : unit_count Back (drop (length cs - (done + 1)) cs) ≡ text_units c.inverse + unit_count Back (drop (length cs - done) cs)
   pub ops_left : op_count Back (drop (length cs - (done + 1)) cs) ≤ op_count Back cs
   pub units_left : unit_count Back (drop (length cs - (done + 1)) cs) ≤ unit_count Back cs
+  pub breaks : breaks_along Back (drop (length cs - (done + 1)) cs) ≡ text_breaks c.inverse + breaks_along Back (drop (length cs - done) cs)
+  pub breaks_left : breaks_along Back (drop (length cs - (done + 1)) cs) ≤ breaks_along Back cs
 
 pub LeadBack-drop : (i : ℕ) (after : List ℕ) (cs : List Change) → LeadBack after cs → LeadBack after (drop i cs)
 LeadBack-drop zero after cs lead = lead
@@ -102,6 +121,7 @@ turn_back_at after cs i done c now lead inside here next is text =
     let led : LeadBack after (c ∷ drop (suc i) cs) = subst (LeadBack after) cut (LeadBack-drop i after cs lead) in
     let ops : op_count Back (drop i cs) ≡ length c.inverse + op_count Back (drop (suc i) cs) = rw cut (op_count-cons Back c (drop (suc i) cs)) in
     let units : unit_count Back (drop i cs) ≡ text_units c.inverse + unit_count Back (drop (suc i) cs) = rw cut (unit_count-cons Back c (drop (suc i) cs)) in
+    let breaks : breaks_along Back (drop i cs) ≡ text_breaks c.inverse + breaks_along Back (drop (suc i) cs) = rw cut (breaks_along-cons Back c (drop (suc i) cs)) in
     record {
       fit = subst (IsFit Back c) (sym text) (fit_back _ _ c led.0);
       leaves = rw (here, cut, text) refl;
@@ -109,6 +129,8 @@ turn_back_at after cs i done c now lead inside here next is text =
       units = rw (here, next) units;
       ops_left = rw here (omega (arith, sum_by-take-drop {X = Change} (λ d. length (ops_by Back d)) cs i));
       units_left = rw here (omega (arith, sum_by-take-drop {X = Change} (λ d. text_units (ops_by Back d)) cs i));
+      breaks = rw (here, next) breaks;
+      breaks_left = rw here (omega (arith, sum_by-take-drop {X = Change} (λ d. text_breaks (ops_by Back d)) cs i));
     }
 
 pub turn_back : (after : List ℕ) (cs : List Change) (done : ℕ) (c : Change) (now : List ℕ) → LeadBack after cs → done < length cs
@@ -124,6 +146,7 @@ pub record IsTurnOnAt (cs : List Change) (done : ℕ) (c : Change) (now : List �
   pub lead : LeadOn (applied_from 0 now c.batch) (drop (done + 1) cs)
   pub ops : op_count On (drop done cs) ≡ length c.batch + op_count On (drop (done + 1) cs)
   pub units : unit_count On (drop done cs) ≡ text_units c.batch + unit_count On (drop (done + 1) cs)
+  pub breaks : breaks_along On (drop done cs) ≡ text_breaks c.batch + breaks_along On (drop (done + 1) cs)
 
 pub turn_on_at : (cs : List Change) (done : ℕ) (c : Change) (now : List ℕ) → done < length cs → c ≡ slice_index_or cs done c → LeadOn now (drop done cs) → IsTurnOnAt cs done c now
 turn_on_at cs done c now inside is lead =
@@ -137,6 +160,7 @@ turn_on_at cs done c now inside is lead =
       lead = led.1;
       ops = ap (op_count On) cut ∙ op_count-cons On c (drop (done + 1) cs);
       units = ap (unit_count On) cut ∙ unit_count-cons On c (drop (done + 1) cs);
+      breaks = ap (breaks_along On) cut ∙ breaks_along-cons On c (drop (done + 1) cs);
     }
 
 -- a step has as many ops on either way as its batches have
@@ -153,6 +177,23 @@ ops_on before (c ∷ cs) =
     let after = applied_from 0 before c.batch in
     let first : FlatChange = record { before = before; ops = c.batch; after = after } in
     omega (arith, sum_by-cons {X = FlatChange} (λ change. length change.ops) first (changes_on after cs), op_count-cons On c cs, ops_on after cs)
+
+-- nor any measure of them, such as the units of their texts
+pub measured_back : (measure : List Op → ℕ) (after : List ℕ) (cs : List Change) → LeadBack after cs
+    → sum_by (λ (change : FlatChange). measure (ops_along Back change)) (changes_back after cs) ≡ sum_by (λ (c : Change). measure (ops_by Back c)) cs
+measured_back measure after [] lead = refl
+measured_back measure after (c ∷ cs) lead =
+    let first : FlatChange = record { before = text_back after (c ∷ cs); ops = c.batch; after = text_back after cs } in
+    let same : measure c.inverse ≡ measure (ops_along Back first) = ap measure lead.0.inverse in
+    omega (arith, sum_by-cons {X = FlatChange} (λ change. measure (ops_along Back change)) first (changes_back after cs), sum_by-cons {X = Change} (λ d. measure (ops_by Back d)) c cs, same, measured_back measure after cs lead.1)
+
+pub measured_on : (measure : List Op → ℕ) (before : List ℕ) (cs : List Change)
+    → sum_by (λ (change : FlatChange). measure (ops_along On change)) (changes_on before cs) ≡ sum_by (λ (c : Change). measure (ops_by On c)) cs
+measured_on measure before [] = refl
+measured_on measure before (c ∷ cs) =
+    let after = applied_from 0 before c.batch in
+    let first : FlatChange = record { before = before; ops = c.batch; after = after } in
+    omega (arith, sum_by-cons {X = FlatChange} (λ change. measure (ops_along On change)) first (changes_on after cs), sum_by-cons {X = Change} (λ d. measure (ops_by On d)) c cs, measured_on measure after cs)
 
 -- each change of a step is fit for its way
 pub few_back : (after : List ℕ) (cs : List Change) → LeadBack after cs → All (λ c. text_units (ops_by Back c) ≤ most_units) cs

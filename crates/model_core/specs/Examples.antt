@@ -5,7 +5,10 @@ use Rattle.mark_rules.specs.declared.Mark.TheVariants.{Kept, New}
 use Rattle.mark_rules.specs.Marks.{clean_marks}
 use Rattle.undo_rules.specs.Stack.{Step}
 use Rattle.document_rules.specs.Document.{FlatChange}
+use Rattle.model_core.specs.declared.change.Way.TheVariants.{Back, On}
 use Rattle.model_core.specs.State.{next_op_count}
+use Rattle.model_core.specs.History.{text_breaks}
+use Rattle.model_core.specs.Prepared.{next_unit_count}
 use Rattle.model_core.specs.LineMarks.{marked_by, marked_backwards, marked_back}
 
 abbrev insert : ℕ → Op
@@ -28,6 +31,21 @@ the_ops_of_all_batches_of_the_next_step = refl
 
 no_step_has_no_ops : next_op_count [] ≡ 0
 no_step_has_no_ops = refl
+
+their_texts_on_the_way_on : next_unit_count On (two_batches ∷ one_batch ∷ []) ≡ 3
+their_texts_on_the_way_on = refl
+
+no_text_takes_inserts_back : next_unit_count Back (two_batches ∷ one_batch ∷ []) ≡ 0
+no_text_takes_inserts_back = refl
+
+-- a CR and an LF in the texts of two ops
+abbrev two_halves_of_a_pair : List Op
+two_halves_of_a_pair =
+    record { span = record { start = 0; end = 0 }; text = codes "\r"; force = false }
+    ∷ record { span = record { start = 0; end = 0 }; text = codes "\n"; force = false } ∷ []
+
+each_text_counts_alone : text_breaks two_halves_of_a_pair ≡ 2
+each_text_counts_alone = refl
 
 -- `a`, a break, `b`, a break and `c`
 abbrev three_lines : List ℕ

@@ -1,6 +1,7 @@
 -- What the model keeps of the batches that it carried out, and the whole texts that they lead to and back from.
 use Rattle.std.specs.Prelude.{ℕ, ◌≡◌, ◌≤◌, List, [], ◌∷◌, length, sum_by, ⊤}
 use Rattle.text_rules.specs.declared.Op.{Op}
+use Rattle.line_starts.specs.Starts.{break_count}
 use Rattle.batch_rules.specs.Batches.{most_units, applied_from, inverse_from, text_units, StandFrom}
 use Rattle.undo_rules.specs.Stack.{Step, Stack}
 use Rattle.document_rules.specs.Document.{FlatChange}
@@ -79,9 +80,16 @@ abbrev pub ops_by : Way → Change → List Op
 ops_by Back c = c.inverse
 ops_by On c = c.batch
 
--- how many ops there are on the way, and how many units the texts of these have
+-- how many breaks the texts of the ops have together
+abbrev pub text_breaks : List Op → ℕ
+text_breaks ops = sum_by (λ op. break_count op.text) ops
+
+-- how many ops there are on the way, and how many units and breaks the texts of these have
 abbrev pub op_count : Way → List Change → ℕ
 op_count way cs = sum_by (λ c. length (ops_by way c)) cs
 
 abbrev pub unit_count : Way → List Change → ℕ
 unit_count way cs = sum_by (λ c. text_units (ops_by way c)) cs
+
+abbrev pub breaks_along : Way → List Change → ℕ
+breaks_along way cs = sum_by (λ c. text_breaks (ops_by way c)) cs

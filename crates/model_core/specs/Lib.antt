@@ -6,4 +6,5 @@ pub mod LineMarks
 pub mod Staying
 pub mod Ways
 pub mod Shelving
+pub mod Prepared
 mod Examples

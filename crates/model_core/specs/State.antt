@@ -1,5 +1,5 @@
 -- What contracts see of a model.
-use Rattle.std.specs.Prelude.{◌≡◌, ℕ, zero, suc, ◌+◌, ◌*◌, ◌≤◌, Bool, true, false, if◌then◌else◌, List, [], ◌∷◌, length, sum_by, Option, Some, None, Result, Ok, Err, OnOk, OnErr, ⊤}
+use Rattle.std.specs.Prelude.{◌≡◌, ℕ, zero, suc, ◌+◌, ◌*◌, ◌<◌, ◌≤◌, Bool, true, false, if◌then◌else◌, List, [], ◌∷◌, length, sum_by, Option, Some, None, Result, Ok, Err, OnOk, OnErr, ⊤}
 use Rattle.bracket_rules.specs.Table.{Table, is_table}
 use Rattle.bracket_trees.specs.Tree.{Tree}
 use Rattle.bracket_rules.specs.Rows.{text_rows}
@@ -12,6 +12,26 @@ use Rattle.undo_rules.specs.Stack.{Step}
 use Rattle.document_rules.specs.declared.ModelError.{ModelError}
 use Rattle.document_rules.specs.Document.{FlatChange, FlatState}
 use Rattle.document_rules.specs.Brackets.{line_contents}
+
+-- the room that was made for changes
+pub record Room : Type 0 where
+  -- for how many edits of the text, and for how many of the marks of its lines
+  pub edits : ℕ
+  pub marks : ℕ
+  -- for how many units of new texts; each edit takes up to three more than its text has
+  pub units : ℕ
+  -- for how many breaks of these texts; each edit takes up to two more than its text has
+  pub breaks : ℕ
+  -- for how many changes more that are kept for undo
+  pub changes : ℕ
+
+-- the old room is still there
+pub record KeepsRoom (old new : Room) : Type 0 where
+  pub edits : old.edits ≤ new.edits
+  pub marks : old.marks ≤ new.marks
+  pub units : old.units ≤ new.units
+  pub breaks : old.breaks ≤ new.breaks
+  pub changes : 0 < old.changes → 0 < new.changes
 
 pub record ModelState : Type 0 where
   -- the flat document that the model stands for
@@ -26,6 +46,8 @@ pub record ModelState : Type 0 where
   pub fresh : Bool
   -- in how many pieces the text lies
   pub pieces : ℕ
+  -- what can be changed without taking memory
+  pub room : Room
 
 -- the tree of a parse, where there was one
 abbrev pub parsed_tree : Option ParsedTree → Option Tree
@@ -84,19 +106,21 @@ pub record HasMoved (ops : ℕ) (left : List Mark) (result : Result Bool ModelEr
   pub fresh : AfterMove result (KeptBy ops old.fresh new.fresh) (new.fresh ≡ old.fresh)
   pub pieces : AfterMove result (GrownBy ops old.pieces new.pieces) (new.pieces ≡ old.pieces)
 
--- the last parse, what the lines are to it, and the pieces are as they were
+-- the last parse, what the lines are to it, and the pieces are as they were, and room that was there stays
 pub record KeepsParse (old new : ModelState) : Type 0 where
   pub parsed : new.parsed ≡ old.parsed
   pub tree : new.tree ≡ old.tree
   pub marks : new.marks ≡ old.marks
   pub fresh : new.fresh ≡ old.fresh
   pub pieces : new.pieces ≡ old.pieces
+  pub room : KeepsRoom old.room new.room
 
 -- What a question about brackets leaves: it parses the text where the tree is not that of the text of now, asks for the
--- new lines alone, and keeps each line then. An error leaves all as it was.
+-- new lines alone, and keeps each line then. An error leaves all as it was. Room that was there stays.
 pub record Renews {A : Type 0} (result : Result A ModelError) (old new : ModelState) : Type 0 where
   pub document : new.document ≡ old.document
   pub pieces : new.pieces ≡ old.pieces
+  pub room : KeepsRoom old.room new.room
   pub same : old.fresh ≡ true → new.parsed ≡ old.parsed
   pub same_tree : old.fresh ≡ true → new.tree ≡ old.tree
   pub same_marks : old.fresh ≡ true → new.marks ≡ old.marks

@@ -13,7 +13,7 @@ use Rattle.model_core.specs.declared.change.Way.{Way}
 use Rattle.model_core.specs.declared.change.Way.TheVariants.{Back, On}
 use Rattle.model_core.specs.State.{GrownBy}
 use Rattle.model_core.specs.Staying.{ParseState}
-use Rattle.model_core.specs.History.{text_back, text_on, changes_back, changes_on, LeadBack, LeadOn, op_count, unit_count}
+use Rattle.model_core.specs.History.{text_back, text_on, changes_back, changes_on, LeadBack, LeadOn, op_count, unit_count, breaks_along}
 use Rattle.model_core.specs.Carrying.{decorations_back, decorations_on, AreIn}
 use Rattle.model_core.specs.LineMarks.{marked_back, marked_on, undone_marks, redone_marks}
 
@@ -67,6 +67,7 @@ pub record CanLead (way : Way) (text : Text) (d : Decorations) (last : ParseStat
   pub lead : LeadBy way text.units cs
   pub edits : op_count way cs ≤ text.spare_edits
   pub room : unit_count way cs + 3 * op_count way cs ≤ text.spare_units
+  pub breaks : breaks_along way cs + 2 * op_count way cs ≤ text.spare_breaks
   pub lines : length last.marks ≡ length (lines_of text.units)
   pub spare : op_count way cs ≤ last.spare
   pub inside : AreIn (length text.units) d
@@ -82,11 +83,15 @@ pub record HasLed (way : Way) (old new : Text) (old_d d : Decorations) (old_last
   pub parsed : last.parsed ≡ old_last.parsed
   pub tree : last.tree ≡ old_last.tree
 
--- room was made, and else the text and the last parse are as they were
+-- room was made beside the one that was there, and else the text and the last parse are as they were
 pub record IsUntouched (old new : Text) (old_last last : ParseState) : Type 0 where
   pub units : new.units ≡ old.units
   pub spans : new.spans ≡ old.spans
   pub grown : Extends old.buffers new.buffers
+  pub edits : old.spare_edits ≤ new.spare_edits
+  pub room : old.spare_units ≤ new.spare_units
+  pub breaks : old.spare_breaks ≤ new.spare_breaks
+  pub spare : old_last.spare ≤ last.spare
   pub marks : last.marks ≡ old_last.marks
   pub parsed : last.parsed ≡ old_last.parsed
   pub tree : last.tree ≡ old_last.tree

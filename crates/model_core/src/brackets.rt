@@ -38,6 +38,7 @@ pub(crate) fn renew(
     ensures same_marks { is_some (fresh_tree last.old.tree last.old.marks) ≡ true
         → last.new.marks ≡ last.old.marks }
     ensures sure { OnErr result (is_some (fresh_tree last.old.tree last.old.marks) ≡ false) }
+    ensures room { last.old.spare ≤ last.new.spare }
     ensures parsed { OnErr result (last.new.parsed ≡ last.old.parsed) }
     ensures tree { OnErr result (last.new.tree ≡ last.old.tree) }
     ensures kept { OnErr result (last.new.marks ≡ last.old.marks) }

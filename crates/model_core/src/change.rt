@@ -5,7 +5,7 @@ ghost use Rattle.std.specs.List.{All};
 ghost use Rattle.std.specs.Option.{option_copied};
 ghost use Rattle.edit_stack.specs.Element.{step_of};
 ghost use Rattle.batch_rules.specs.Batches.{most_units, applied_from, text_units, StandFrom};
-ghost use Rattle.model_core.specs.History.{ops_by, op_count, unit_count};
+ghost use Rattle.model_core.specs.History.{ops_by, op_count, unit_count, text_breaks, breaks_along};
 ghost use Rattle.model_core.specs.Ways.{next_steps, passed, alternative_after, CanLead, HasLed, IsUntouched};
 ghost use Rattle.model_core.specs.State.{GrownBy};
 ghost use Rattle.chunk_buffers.specs.Chunks.{Extends};
@@ -17,6 +17,7 @@ use crate::last_parse::LastParse;
 use decorations::{DecoSet, Edit};
 use edit_batches::Batch;
 use edit_stack::{EditStack, Element};
+use line_starts::count_breaks;
 use std::alloc::AllocError;
 use text_buffer::TextBuffer;
 use text_rules::Op;
@@ -62,6 +63,7 @@ pub(crate) fn apply(
     requires small { length text.old.units + text_units ops.now + 1 < 2 ^ 62 }
     requires edits { length ops.now ≤ text.old.spare_edits }
     requires room { text_units ops.now + 3 * length ops.now ≤ text.old.spare_units }
+    requires breaks { text_breaks ops.now + 2 * length ops.now ≤ text.old.spare_breaks }
     requires lines { length last.old.marks ≡ length (lines_of text.old.units) }
     requires spare { length ops.now ≤ last.old.spare }
     requires inside { AreIn (length text.old.units) decorations.old }
@@ -70,6 +72,8 @@ pub(crate) fn apply(
     ensures edits { text.old.spare_edits ≤ text.new.spare_edits + length ops.now }
     ensures room { text.old.spare_units
         ≤ text.new.spare_units + (text_units ops.now + 3 * length ops.now) }
+    ensures breaks { text.old.spare_breaks
+        ≤ text.new.spare_breaks + (text_breaks ops.now + 2 * length ops.now) }
     ensures decorations { decorations.new ≡ carried_with forces decorations.old ops.now }
     ensures inside { AreIn (length text.new.units) decorations.new }
     ensures marks { last.new.marks ≡ marked_backwards text.old.units ops.now last.old.marks }
@@ -149,24 +153,39 @@ pub(crate) fn lead(
     }
 }
 
-/// Makes room for so many edits, whose texts have so many units together. An error leaves the text and the marks as they
-/// were.
+/// How many breaks the texts of the ops have together.
+pub(crate) fn text_breaks(ops: &[Op]) -> u64
+    requires { text_units ops.now < 2 ^ 64 }
+    ensures { result ≡ text_breaks ops.now }
+{
+    let mut breaks = 0;
+    for op in ops {
+        breaks += count_breaks(op.text.as_slice());
+    }
+    breaks
+}
+
+/// Makes room for so many edits, whose texts have so many units and breaks together. An error leaves the text and the
+/// marks as they were, and room that was there stays.
 pub(crate) fn make_room(
     text: &mut TextBuffer,
     last: &mut LastParse,
     edits: u64,
     units: u64,
+    breaks: u64,
 ) -> Result<(), AllocError>
     ensures edits { OnOk result (edits ≤ text.new.spare_edits) }
     ensures room { OnOk result (units + 3 * edits ≤ text.new.spare_units) }
+    ensures breaks { OnOk result (breaks + 2 * edits ≤ text.new.spare_breaks) }
     ensures spare { OnOk result (edits ≤ last.new.spare) }
     ensures kept { IsUntouched text.old text.new last.old last.new }
 {
-    text.reserve(edits, units)?;
+    text.reserve(edits, units, breaks)?;
     last.reserve(edits)
 }
 
-/// Makes room to lead the text along the changes this way. An error leaves the text and the marks as they were.
+/// Makes room to lead the text along the changes this way. An error leaves the text and the marks as they were, and room
+/// that was there stays.
 pub(crate) fn reserve_for(
     text: &mut TextBuffer,
     last: &mut LastParse,
@@ -177,19 +196,25 @@ pub(crate) fn reserve_for(
     ensures edits { OnOk result (op_count way changes.now ≤ text.new.spare_edits) }
     ensures room { OnOk result
         (unit_count way changes.now + 3 * op_count way changes.now ≤ text.new.spare_units) }
+    ensures breaks { OnOk result
+        (breaks_along way changes.now + 2 * op_count way changes.now ≤ text.new.spare_breaks) }
     ensures spare { OnOk result (op_count way changes.now ≤ last.new.spare) }
     ensures kept { IsUntouched text.old text.new last.old last.new }
 {
     let mut edits: u64 = 0;
     let mut units: u64 = 0;
+    let mut breaks: u64 = 0;
     for change in changes {
         let batch = change.batch_for(way);
         edits = edits
             .checked_add(batch.ops().len() as u64)
             .ok_or(AllocError)?;
         units = units.checked_add(batch.text_units()).ok_or(AllocError)?;
+        breaks = breaks
+            .checked_add(text_breaks(batch.ops()))
+            .ok_or(AllocError)?;
     }
-    make_room(text, last, edits, units)
+    make_room(text, last, edits, units, breaks)
 }
 
 /// The step that comes next on the way.

@@ -73,9 +73,10 @@ impl LastParse {
         })
     }
 
-    /// Makes room for so many edits. An error leaves parse and marks as they were.
+    /// Makes room for so many edits. An error leaves parse and marks as they were, and room that was there stays.
     pub(crate) fn reserve(&mut self, edits: u64) -> Result<(), AllocError>
         ensures room { OnOk result (edits ≤ self.new.spare) }
+        ensures kept { self.old.spare ≤ self.new.spare }
         ensures parsed { self.new.parsed ≡ self.old.parsed }
         ensures tree { self.new.tree ≡ self.old.tree }
         ensures marks { self.new.marks ≡ self.old.marks }
@@ -149,6 +150,7 @@ impl LastParse {
         ensures marks { self.new.marks ≡ clean_marks (length self.old.marks) }
         ensures fresh { fresh_tree self.new.tree self.new.marks ≡ Some parsed.tree }
         ensures rules { IsTree parsed.tree }
+        ensures room { self.old.spare ≤ self.new.spare }
     {
         // It tells that the tree meets the rules of nodes.
         let _length = parsed.tree().length();

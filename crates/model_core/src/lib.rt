@@ -6,6 +6,7 @@ mod change;
 mod last_parse;
 mod model;
 mod places;
+mod ready;
 mod text_lines;
 
 pub use bracket_nodes::{Entry, Status};
@@ -14,4 +15,5 @@ pub use decorations::{Deco, NewDeco};
 pub use document_rules::ModelError;
 pub use model::Model;
 pub use node_reuse::Parsed;
+pub use ready::Ready;
 pub use text_rules::Op;

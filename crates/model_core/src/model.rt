@@ -1,6 +1,6 @@
 //! The document and its calls.
 
-ghost use Rattle.std.specs.Prelude.{◌≡◌, ℕ, ◌≤◌, ◌-◌, ◌∷◌, [], true, false, List, length, replicate, None, IfSome, OnOk, OnErr, Ok, Err};
+ghost use Rattle.std.specs.Prelude.{◌≡◌, ℕ, ◌+◌, ◌-◌, ◌<◌, ◌≤◌, ◌∷◌, [], true, false, List, length, replicate, None, IfSome, OnOk, OnErr, Ok, Err};
 ghost use Rattle.std.specs.List.{All};
 ghost use Rattle.std.specs.Option.{option_copied};
 ghost use Rattle.text_buffer.specs.Costs.{WithinLookUps};
@@ -16,8 +16,9 @@ ghost use Rattle.batch_rules.specs.Batches.{sorted_ops};
 ghost use Rattle.mark_rules.specs.declared.Mark.TheVariants.{New};
 ghost use Rattle.model_core.specs.LineMarks.{marked_backwards, undone_marks, redone_marks};
 ghost use Rattle.model_core.specs.Ways.{flat_move, next_steps, marked_step};
+ghost use Rattle.model_core.specs.Prepared.{need_of, Acts, ArePairedTexts, CanCommit, HasActed, IsChangeOf, IsEnough, PreparesEdit, PreparesMove};
 ghost use Rattle.model_core.specs.State.{LeftAfter, KeptAfter, GrownAfter, HasMoved, KeepsParse, Renews, next_op_count};
-ghost use Rattle.document_rules.specs.Document.{new_document, flat_open, flat_edit, flat_stop, flat_undo, flat_redo, flat_decorate, flat_deco, flat_decos, flat_line, flat_value, flat_position, flat_offset, flat_line_count};
+ghost use Rattle.document_rules.specs.Document.{greatest_version, new_document, flat_open, flat_edit, flat_stop, flat_undo, flat_redo, flat_decorate, flat_deco, flat_decos, flat_line, flat_value, flat_position, flat_offset, flat_line_count};
 ghost use Rattle.document_rules.specs.Snapshots.{flat_snapshot, flat_peek_of, flat_skipped, flat_close_of};
 ghost use Rattle.document_rules.specs.Stops.{flat_stops};
 ghost use Rattle.model_core.specs.Errors.{error_of, refusal_of, shelf_error_of};
@@ -25,9 +26,11 @@ ghost use Rattle.model_core.specs.Errors.{error_of, refusal_of, shelf_error_of};
 use crate::brackets::{parse_again, renew};
 use crate::change::{
     Change, Way, alternative_after, apply, lead, make_room, next_step, pass_step, reserve_for,
+    text_breaks,
 };
 use crate::last_parse::{LastParse, unparsed};
 use crate::places::{is_position, place_of, told};
+use crate::ready::{Action, Ready};
 use bracket_nodes::Entry;
 use bracket_scan::BracketTable;
 use decorations::{Deco, DecoError, DecoSet, NewDeco};
@@ -92,6 +95,13 @@ impl std::marker::Model for Model {
       marks = m.last.marks;
       fresh = is_some (fresh_tree m.last.tree m.last.marks);
       pieces = length m.text.spans;
+      room = record {
+        edits = m.text.spare_edits;
+        marks = m.last.spare;
+        units = m.text.spare_units;
+        breaks = m.text.spare_breaks;
+        changes = m.history.spare;
+      };
     } };
 
     ghost invariant = { λ m. (length m.text.units ≤ most_units) × (m.version ≤ greatest_version)
@@ -174,8 +184,19 @@ impl Model {
         ensures fresh { KeptAfter (length ops.now) result self.old.fresh self.new.fresh }
         ensures pieces { GrownAfter (length ops.now) result self.old.pieces self.new.pieces }
     {
+        let ready = self.prepare(ops)?;
+        self.commit(ready);
+        Ok(())
+    }
+
+    /// Prepares to carry out the edits, with the refusals of `edit`, and makes room for it. The document stays as it is.
+    pub fn prepare(&mut self, ops: &[Op]) -> Result<Ready, ModelError>
+        ensures document { self.new.document ≡ self.old.document }
+        ensures parse { KeepsParse self.old self.new }
+        ensures ready { PreparesEdit ops.now result self.new }
+    {
         let batch = Batch::checked(self.alloc, ops, &self.text).map_err(error_of)?;
-        let version = raised(self.version, 1).ok_or(ModelError::Limit)?;
+        let next = raised(self.version, 1).ok_or(ModelError::Limit)?;
         let inverse = batch
             .inverse(self.alloc, &self.text)
             .map_err(|_| ModelError::Memory)?;
@@ -185,20 +206,110 @@ impl Model {
             &mut self.last,
             batch.ops().len() as u64,
             batch.text_units(),
+            text_breaks(batch.ops()),
         )
         .map_err(|_| ModelError::Memory)?;
+        Ok(Ready::making(next, Action::Edit(Change { batch, inverse })))
+    }
+
+    /// Prepares to undo the last step, and makes room for it; None where there is no step. `Limit` where the version would
+    /// pass its limit. The document stays as it is.
+    pub fn prepare_undo(&mut self) -> Result<Option<Ready>, ModelError>
+        ensures document { self.new.document ≡ self.old.document }
+        ensures parse { KeepsParse self.old self.new }
+        ensures ready { PreparesMove Way.Back result self.new }
+    {
+        self.prepare_move(Way::Back)
+    }
+
+    /// Prepares to make the step again that was undone last, and makes room for it; None where there is no step. `Limit`
+    /// where the version would pass its limit. The document stays as it is.
+    pub fn prepare_redo(&mut self) -> Result<Option<Ready>, ModelError>
+        ensures document { self.new.document ≡ self.old.document }
+        ensures parse { KeepsParse self.old self.new }
+        ensures ready { PreparesMove Way.On result self.new }
+    {
+        self.prepare_move(Way::On)
+    }
+
+    fn prepare_move(&mut self, way: Way) -> Result<Option<Ready>, ModelError>
+        ensures document { self.new.document ≡ self.old.document }
+        ensures parse { KeepsParse self.old self.new }
+        ensures ready { PreparesMove way result self.new }
+    {
+        let Some(step) = next_step(&self.history, way) else {
+            return Ok(None);
+        };
+        let next = raised(self.version, 1).ok_or(ModelError::Limit)?;
+        reserve_for(&mut self.text, &mut self.last, step.changes(), way).map_err(
+            |_| ModelError::Memory,
+        )?;
+        Ok(Some(Ready::making(next, Action::Move(way))))
+    }
+
+    /// Carries out what was prepared, which makes the next version, in the room that was made. It takes no memory. The
+    /// version is the one that it was prepared on; for an edit the rule takes the batch as it stands, and its inverse is
+    /// the one that was prepared; for an undo or redo there is a step. The tree of the last parse stays, and each line that
+    /// is touched is marked as new.
+    pub fn commit(&mut self, ready: Ready)
+        requires can { CanCommit self.old ready }
+        ensures document { Acts ready.action self.old.document self.new.document }
+        ensures paired_state { ArePairedTexts ready.action
+            → IsPairedState self.old.document → IsPairedState self.new.document }
+        ensures parse { HasActed ready.action self.old self.new }
+    {
+        let (version, action) = ready.into_parts();
+        match action {
+            Action::Edit(change) => self.carry_out(change, version),
+            Action::Move(way) => self.follow(way, version),
+        }
+    }
+
+    // Carries out the batch, which makes this version.
+    fn carry_out(&mut self, change: Change, version: u64)
+        requires next { version ≡ self.old.document.version + 1 }
+        requires last { version ≤ greatest_version }
+        requires change { IsChangeOf self.old.document.units change }
+        requires room { IsEnough self.old.room
+            (need_of (Action.Edit change) self.old.document) }
+        ensures document { Acts (Action.Edit change) self.old.document self.new.document }
+        ensures parse { HasActed (Action.Edit change) self.old self.new }
+    {
         apply(
             &mut self.text,
             &mut self.decorations,
             &mut self.last,
-            batch.ops(),
+            change.batch.ops(),
             true,
         );
-        self.history
-            .push(Change { batch, inverse }, self.alternative, version);
+        self.history.push(change, self.alternative, version);
         self.version = version;
         self.alternative = version;
-        Ok(())
+    }
+
+    // Goes the step along the way that comes next, which makes this version.
+    fn follow(&mut self, way: Way, version: u64)
+        requires next { version ≡ self.old.document.version + 1 }
+        requires last { version ≤ greatest_version }
+        requires some { 0 < length (next_steps way self.old.document.history) }
+        requires room { IsEnough self.old.room
+            (need_of (Action.Move way) self.old.document) }
+        ensures document { Acts (Action.Move way) self.old.document self.new.document }
+        ensures parse { HasActed (Action.Move way) self.old self.new }
+    {
+        let Some(step) = next_step(&self.history, way) else {
+            unreachable!()
+        };
+        lead(
+            &mut self.text,
+            &mut self.decorations,
+            &mut self.last,
+            step.changes(),
+            way,
+        );
+        self.version = version;
+        self.alternative = alternative_after(step, way);
+        pass_step(&mut self.history, way);
     }
 
     /// The next edit begins a step of undo.
@@ -245,22 +356,10 @@ impl Model {
             (marked_step way self.old.marks (next_steps way self.old.document.history))
             result self.old self.new }
     {
-        let Some(step) = next_step(&self.history, way) else {
+        let Some(ready) = self.prepare_move(way)? else {
             return Ok(false);
         };
-        let version = raised(self.version, 1).ok_or(ModelError::Limit)?;
-        let changes = step.changes();
-        reserve_for(&mut self.text, &mut self.last, changes, way).map_err(|_| ModelError::Memory)?;
-        lead(
-            &mut self.text,
-            &mut self.decorations,
-            &mut self.last,
-            changes,
-            way,
-        );
-        self.version = version;
-        self.alternative = alternative_after(step, way);
-        pass_step(&mut self.history, way);
+        self.commit(ready);
         Ok(true)
     }
 

@@ -7,11 +7,14 @@ use Rattle.std.specs.FinMap as map
 use Rattle.rb_rules.specs.declared.slot.Side.{Side}
 use Rattle.rb_rules.specs.declared.slot.Slot.{Slot}
 use Rattle.rb_rules.specs.Tree.{Tree, tip, fork, Hole, on, other, plug, root_of, above}
-use Rattle.rb_rules.specs.Memory.{Makes, Made, child}
-use Rattle.rb_rules.proofs.Live.{child-sided}
+use Rattle.rb_rules.specs.Memory.{Makes, Made, Spot, below, here, child}
+use Rattle.rb_rules.proofs.Live.{child-sided, slot_here}
+use Rattle.rb_rules.proofs.Spots.{live_below, makes_below}
 use Rattle.rb_rules.proofs.Ups.{slot_above, made_beside}
 use Rattle.rb_arena.specs.declared.mend.Case.TheVariants.{RedUncle}
-use Rattle.rb_arena.specs.Mending.{bent, by_uncle, red_in, red_child_in}
+use Rattle.rb_arena.specs.Mending.{bent, by_uncle, red_in, red_child_in, HasChild}
+use Rattle.rb_arena.specs.Nodes.{slot_of}
+use Rattle.rb_arena.proofs.Slots.{child-slot}
 
 module _ {D : Type 0} where
   -- the name of a tree's topmost node, if that is red
@@ -34,6 +37,15 @@ module _ {D : Type 0} where
   red_is m p tip h = refl
   red_is m p (fork true i d x y) (e, a, b) = ap (λ o. elim o [ None ↦ None | Some s ↦ cond s.red (Some i) None ]) e
   red_is m p (fork false i d x y) (e, a, b) = ap (λ o. elim o [ None ↦ None | Some s ↦ cond s.red (Some i) None ]) e
+
+  module _ (m : map.FinMap nat_cmp (Slot D)) (root : Option ℕ) (s : Spot D) (i : ℕ) (h : Made s.beside m root (plug s.hole (here s i))) where
+    -- a red child, as it is read
+    pub red_there : (side : Side) → red_child_in m i side ≡ red_name (below side s)
+    red_there side =
+        ap (λ o. elim o [ None ↦ None | Some n ↦ red_in m (child side n) ]) (slot_here m root s i h) ∙ ap (red_in m) (child-slot side s) ∙ red_is m (Some i) (below side s) (makes_below m root s i h side)
+
+    pub has_child : (side : Side) → HasChild m i side
+    has_child side = (slot_of s, slot_here m root s i h, rw (child-slot side s) (live_below m root s i h side))
 
   -- the red sibling of a node's parent, by the links of the grandparent
   pub red_child_is : (m : map.FinMap nat_cmp (Slot D)) (root : Option ℕ) (s : Side) (c : Bool) (g : ℕ) (d : D) (u : Tree D) (k : Hole D) (t : Tree D)

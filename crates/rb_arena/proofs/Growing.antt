@@ -17,7 +17,7 @@ use Rattle.rb_rules.specs.Memory.{Makes, Spot, here, below}
 use Rattle.rb_rules.specs.Weaving.{Weaving}
 use Rattle.rb_rules.specs.Woven.{entries, lefts, rights, shift_at}
 use Rattle.rb_rules.proofs.Balance.{bound}
-use Rattle.rb_arena.specs.Value.{grown, first_hole, end_hole, up_next, up_prev, up_on, nearest, neighbour_of}
+use Rattle.rb_arena.specs.Value.{grown, first_hole, end_hole, up_on, nearest, neighbour_of}
 
 module _ {D : Type 0} where
   pub grown_is : (m : map.FinMap nat_cmp (Slot D)) (n : ℕ) (p : Option ℕ) (t : Tree D) → Makes m p t → height t ≤ n → grown m n (root_of t) ≡ t
@@ -92,21 +92,9 @@ module _ {D : Type 0} where
   hole_depth top le = refl
   hole_depth (on s c i d x k) le = absurd (omega arith)
 
-  pub end_tip : (s : Side) (k : Hole D) → end_hole s k tip ≡ k
-  end_tip Left k = refl
-  end_tip Right k = refl
-
   pub end_fork : (s : Side) (k : Hole D) (c : Bool) (i : ℕ) (d : D) (x y : Tree D) → end_hole s k (forked s c i d x y) ≡ end_hole s (on s c i d y k) x
   end_fork Left k c i d x y = refl
   end_fork Right k c i d x y = refl
-
-  pub up_top : (s : Side) (k : Hole D) → k ≡ top → up_on s k ≡ None
-  up_top Left k is = ap up_next is
-  up_top Right k is = ap up_prev is
-
-  pub up_here : (s : Side) (c : Bool) (i : ℕ) (d : D) (x : Tree D) (k : Hole D) → up_on s (on s c i d x k) ≡ Some i
-  up_here Left c i d x k = refl
-  up_here Right c i d x k = refl
 
   pub up_past : (s z : Side) (c : Bool) (i : ℕ) (d : D) (x : Tree D) (k : Hole D) → (z ≡ s → ⊥) → up_on s (on z c i d x k) ≡ up_on s k
   up_past Left Left c i d x k differ = absurd (differ refl)

@@ -131,13 +131,13 @@ module _ {X S B : Type 0} (w : Weaving X S B) (L : Lawful w) (is_near : B → Ty
   pub heired : NoChild m heir → Stores w is_near is_item is_value beside m root (us ++ (id, x) ∷ (heir, y) ∷ vs) → Heired
   heired nc st =
       let st2 = subst (Stores w is_near is_item is_value beside m root) (sym (append_assoc us ((id, x) ∷ []) ((heir, y) ∷ vs))) st in
-      let (s, at) = spotted w L is_near is_item is_sum is_value sums parts thins beside m root heir (us ++ (id, x) ∷ []) y vs st2 in
-      let (tl, tr) = childless_spot w L is_near is_item is_sum is_value sums parts thins beside m root heir (us ++ (id, x) ∷ []) y vs s at.0 nc in
+      let at = spotted w L is_near is_item is_sum is_value sums parts thins beside m root heir (us ++ (id, x) ∷ []) y vs st2 in let s = at.spot in
+      let (tl, tr) = childless_spot w L is_near is_item is_sum is_value sums parts thins beside m root heir (us ++ (id, x) ∷ []) y vs s at.made nc in
       let bare : here s heir ≡ fork s.red heir s.datum tip tip = λ i. fork s.red heir s.datum (tl i) (tr i) in
-      let list : lefts w s.hole ≡ us ++ (id, x) ∷ [] = sym (at.4 ∙ ap (λ q. lefts w s.hole ++ entries w (shift_at w s.hole) q) tl ∙ append-nil (lefts w s.hole)) in
+      let list : lefts w s.hole ≡ us ++ (id, x) ∷ [] = sym (at.before ∙ ap (λ q. lefts w s.hole ++ entries w (shift_at w s.hole) q) tl ∙ append-nil (lefts w s.hole)) in
       let (c, (d, (l, (k, (r, same, us_is))))) = under w s.hole tip us id x list in
       let whole : plug s.hole (here s heir) ≡ plug (first_hole (on Right c id d l k) r) (fork s.red heir s.datum tip tip) = λ i. plug (same i) (bare i) in
-      let deep = at.6 in record {
+      let deep = at.low in record {
         hole = k;
         red = c;
         datum = d;
@@ -145,14 +145,14 @@ module _ {X S B : Type 0} (w : Weaving X S B) (L : Lawful w) (is_near : B → Ty
         right = r;
         leaf_red = s.red;
         leaf = s.datum;
-        made = subst (Made beside m root) whole at.0;
-        woven = subst (Woven w is_near w.still) whole at.1;
-        balanced = subst Balanced whole at.2;
+        made = subst (Made beside m root) whole at.made;
+        woven = subst (Woven w is_near w.still) whole at.woven;
+        balanced = subst Balanced whole at.balanced;
         before = us_is;
-        after = at.5 ∙ ap (λ q. entries w (w.plus (shift_at w s.hole) s.datum.delta) q ++ rights w s.hole) tr ∙ ap (rights w) same;
-        value = at.3 ∙ ap (λ q. w.shift (shift_at w q) s.datum.item) same;
+        after = at.after ∙ ap (λ q. entries w (w.plus (shift_at w s.hole) s.datum.delta) q ++ rights w s.hole) tr ∙ ap (rights w) same;
+        value = at.value ∙ ap (λ q. w.shift (shift_at w q) s.datum.item) same;
         low = subst (λ q. depth q ≤ 126) same (omega (arith, deep));
-        high = subst (λ t. height t ≤ 126) whole at.8;
+        high = subst (λ t. height t ≤ 126) whole at.high;
       }
 
 module _ {X S B : Type 0} {w : Weaving X S B} {L : Lawful w} {is_near : B → Type 0} {is_item : X → Type 0} {is_sum is_value : S → Type 0}
@@ -259,11 +259,11 @@ module _ {X S B : Type 0} (w : Weaving X S B) (L : Lawful w) (is_near : B → Ty
   abbrev pub IsNext : ℕ → Type 0
   IsNext heir = (y : X) × ((ws : List (ℕ × X)) × (vs ≡ (heir, y) ∷ ws) × OneChild m heir)
 
-  pub next_of : (s : Spot (Data X S B)) → Spotted w L is_near is_item is_sum is_value sums parts thins beside m root id us x vs s → (root_of s.right ≡ None → ⊥)
-      → (heir : ℕ) × ((above (first_hole (on Right s.red id s.datum s.left s.hole) s.right) ≡ Some heir) × IsNext heir)
-  next_of s at some =
-      let k0 = on Right s.red id s.datum s.left s.hole in let (c, (j, (d, (y, (k, same))))) = first_node k0 s.right some in
-      let list = at.5 ∙ sym (first-rights w k0 s.right) ∙ ap (rights w) same in let no : Tree (Data X S B) = tip in
-      let made = subst (Made beside m root) (sym (first-plug k0 s.right) ∙ ap (λ q. plug q no) same) at.0 in
+  pub next_of : (at : Spotted w L is_near is_item is_sum is_value sums parts thins beside m root id us x vs) → (root_of at.spot.right ≡ None → ⊥)
+      → let s = at.spot in (heir : ℕ) × ((above (first_hole (on Right s.red id s.datum s.left s.hole) s.right) ≡ Some heir) × IsNext heir)
+  next_of at some =
+      let s = at.spot in let k0 = on Right s.red id s.datum s.left s.hole in let (c, (j, (d, (y, (k, same))))) = first_node k0 s.right some in
+      let list = at.after ∙ sym (first-rights w k0 s.right) ∙ ap (rights w) same in let no : Tree (Data X S B) = tip in
+      let made = subst (Made beside m root) (sym (first-plug k0 s.right) ∙ ap (λ q. plug q no) same) at.made in
       let found = slot_here m root (record { beside = beside; hole = k; red = c; datum = d; left = tip; right = y }) j made in
       (j, (ap above same, (w.shift (shift_at w k) d.item, (entries w (w.plus (shift_at w k) d.delta) y ++ rights w k, list, (_, found, inl refl)))))

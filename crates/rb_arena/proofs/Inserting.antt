@@ -128,21 +128,17 @@ module _ {X S B : Type 0} (w : Weaving X S B) (L : Lawful w) (is_near : B → Ty
       rising_leaf beside m root le (u, made, wv2, alike) =
           let f : Data X S B → X × B = λ d. (d.item, d.delta) in
           let (k2, (t2, is, alike2, deep, fits)) = U.unplugged f k leaf u alike in
-          let (d2, (a, b, same, ea, eb)) = U.forked_back f Left t2 true id (own, w.still) tip tip alike2 in (
-            k2,
-            (
-              t2,
-              (
-                0,
-                subst (Made beside m root) is made,
-                (subst (Woven w is_near w.still) is wv2, ap (entries w w.still) (sym is) ∙ same_items w w.still u (plug k leaf) alike ∙ items_are),
-                ap root_of same,
-                U.rb_same f true 0 leaf t2 (sym alike2) (refl, (refl, refl), (refl, refl)),
-                fits false 0 (empty_fits k bal),
-                omega (arith, deep, le),
-              ),
-            ),
-          )
+          let (d2, (a, b, same, ea, eb)) = U.forked_back f Left t2 true id (own, w.still) tip tip alike2 in record {
+            hole = k2;
+            subtree = t2;
+            black = 0;
+            made = subst (Made beside m root) is made;
+            lists = (subst (Woven w is_near w.still) is wv2, ap (entries w w.still) (sym is) ∙ same_items w w.still u (plug k leaf) alike ∙ items_are);
+            named = ap root_of same;
+            red = U.rb_same f true 0 leaf t2 (sym alike2) (refl, (refl, refl), (refl, refl));
+            fits = fits false 0 (empty_fits k bal);
+            few = omega (arith, deep, le);
+          }
 
 -- a leaf for a hole is written under a name that stands in neither tree
 module _ {X S B : Type 0} (w : Weaving X S B) (is_near : B → Type 0) (is_item : X → Type 0) (is_value : S → Type 0) where

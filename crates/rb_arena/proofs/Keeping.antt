@@ -1,9 +1,11 @@
 -- The node of an item of a tree that is kept.
-use Rattle.std.proofs.Common.{◌≡◌, ℕ, ◌+◌, ◌≤◌, List, ◌∷◌, ◌++◌, Option, None, refl, sym, ap, ◌∙◌, subst, arith}
+use Rattle.std.proofs.Common.{◌≡◌, ℕ, ◌+◌, ◌≤◌, List, ◌∷◌, ◌++◌, length, length-append, Option, None, refl, sym, ap, ◌∙◌, subst, arith}
+use Rattle.std.specs.FinMap as map
 use Rattle.rb_rules.specs.declared.slot.Data.{Data}
+use Rattle.rb_rules.specs.declared.slot.Side.{Side}
 use Rattle.rb_rules.specs.declared.slot.Side.TheVariants.{Left, Right}
 use Rattle.rb_rules.specs.declared.weave.Weave.{Ghosts}
-use Rattle.rb_rules.specs.Tree.{plug, depth, height}
+use Rattle.rb_rules.specs.Tree.{Tree, plug, depth, height, root_of}
 use Rattle.rb_rules.specs.Memory.{Made, Spot, here}
 use Rattle.rb_rules.specs.Weaving.{Lawful, Sums}
 use Rattle.rb_rules.specs.Woven.{entries, Woven, AllItems, lefts, rights, shift_at}
@@ -11,11 +13,17 @@ use Rattle.rb_rules.proofs.Held.{items_right}
 use Rattle.rb_rules.proofs.Wider.{woven_wider}
 use Rattle.rb_arena.specs.declared.links.Links.{Links}
 use Rattle.rb_arena.specs.Leaving.{StoresBeside, WovenSpot, shown}
+use Rattle.rb_arena.specs.Rising.{MendedBeside}
 use Rattle.rb_arena.specs.Nodes.{StandsWithin, AtSpotWithin}
-use Rattle.rb_arena.specs.Value.{items_in, loose_in, KeepsWithin, IsItem, first_or, last_or, neighbour_of}
+use Rattle.rb_arena.specs.Value.{items_in, loose_in, Chain, KeepsWithin, IsItem, first_or, last_or, name_beside, neighbour_of}
 use Rattle.rb_arena.proofs.Growing.{depth_height}
-use Rattle.rb_arena.proofs.Listing.{low, items_are, loose_are}
+use Rattle.rb_arena.proofs.Leaving.{valued_without}
+use Rattle.rb_arena.proofs.Listing.{low, items_are, loose_are, keeps_mended}
 use Rattle.rb_arena.proofs.Locating.{lying, locate_in, next_is, prev_is}
+
+-- the tree is kept, and shows those items and those loose ones
+abbrev pub Shows : {W X S B K : Type 0} → Ghosts W X S B K → B → Links (Data X S B) → Option ℕ → List (ℕ × X) → List (ℕ × X) → Type 0
+Shows w reach links front items loose = KeepsWithin w reach links front × (items_in w.weaving links.nodes.live links.root ≡ items) × (loose_in w.weaving links.nodes.live front ≡ loose)
 
 module _ {W X S B K : Type 0} (w : Ghosts W X S B K) (reach : B) (links : Links (Data X S B)) (front : Option ℕ) (kept : KeepsWithin w reach links front) where
   abbrev pub all_items : List (ℕ × X)
@@ -80,13 +88,25 @@ module _ {W X S B K : Type 0} {w : Ghosts W X S B K} {reach : B} {links : Links 
   pub stands_there : StandsWithin links 126 id
   stands_there = (own_spot, made_there, low_there)
 
-  -- what is right beside the node is what is right beside its item
-  pub next_there : (o : Option ℕ) → AtSpotWithin links 126 id (λ s. o ≡ neighbour_of Right id s) → o ≡ first_or None vs
-  next_there o is =
-      let s = n.spot in is own_spot made_there low_there ∙ next_is w.weaving kept.beside s.hole s.red id s.datum s.left s.right ∙ ap (first_or None) (sym n.after)
+  pub stored_there : StoresBeside w links reach kept.beside (us ++ (id, x) ∷ vs)
+  stored_there = subst (StoresBeside w links reach kept.beside) n.listed (all_stored w reach links front kept)
 
-  pub prev_there : (o : Option ℕ) → AtSpotWithin links 126 id (λ s. o ≡ neighbour_of Left id s) → o ≡ last_or None us
-  prev_there o is =
+  -- the list without the item, in another tree and beside another chain; lists and memories have as many
+  pub without_item : (L : Lawful w.weaving) (sums : Sums w.weaving w.is_item w.is_sum) (parts : (a b : S) → w.is_value (w.weaving.join a b) → w.is_value a × w.is_value b)
+      (thins : (a b c : S) → w.is_value (w.weaving.join a (w.weaving.join b c)) → w.is_value (w.weaving.join a c))
+      (last : Links (Data X S B)) (front2 : Option ℕ) (chain : Tree (Data X S B)) → MendedBeside w reach chain last (us ++ vs) → front2 ≡ root_of chain → Chain w.weaving chain
+      → map.len last.nodes.live + 1 + length (entries w.weaving w.weaving.still kept.beside) ≡ map.len links.nodes.live + length (entries w.weaving w.weaving.still chain) → map.len last.nodes.live ≤ map.len links.nodes.live
+      → Shows w reach last front2 (us ++ vs) (entries w.weaving w.weaving.still chain)
+  without_item L sums parts thins last front2 chain mended first strung many less =
+      let all = kept.all in let few = kept.few in let long = ap length n.listed in let old = length-append us ((id, x) ∷ vs) in let new = length-append us vs in
+      keeps_mended w.weaving (w.within reach) w.is_item w.is_value last.nodes.live last.root front2 (us ++ vs) chain mended first strung
+      (valued_without w.weaving L (w.within reach) w.is_item w.is_sum w.is_value sums parts thins us (id, x) vs stored_there.1) (omega (arith, all, long, old, new, many)) (omega (arith, few, less))
+
+  -- what is right beside the node is what is right beside its item
+  pub beside_there : (side : Side) (o : Option ℕ) → AtSpotWithin links 126 id (λ s. o ≡ neighbour_of side id s) → o ≡ name_beside side us vs
+  beside_there Right o is =
+      let s = n.spot in is own_spot made_there low_there ∙ next_is w.weaving kept.beside s.hole s.red id s.datum s.left s.right ∙ ap (first_or None) (sym n.after)
+  beside_there Left o is =
       let s = n.spot in is own_spot made_there low_there ∙ prev_is w.weaving kept.beside s.hole s.red id s.datum s.left s.right ∙ ap (last_or None) (sym n.before)
 
 -- the node of any item stands in the tree

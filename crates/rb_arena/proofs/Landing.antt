@@ -18,7 +18,7 @@ use Rattle.rb_rules.proofs.Live.{Live, live_root}
 use Rattle.rb_arena.specs.Leaving.{loosened}
 use Rattle.rb_arena.specs.Placing.{CanTake, HangsAfter}
 use Rattle.rb_arena.specs.Rising.{Mended}
-use Rattle.rb_arena.specs.Value.{first_hole, items_in, loose_in, Chain, Keeps, PlaceAfter, SplitsAfter, front_of}
+use Rattle.rb_arena.specs.Value.{first_hole, items_in, loose_in, Chain, HasPut, Keeps, PlaceAfter, SplitsAfter, SumsPut, front_of}
 use Rattle.rb_arena.proofs.Growing.{first-plug}
 use Rattle.rb_arena.proofs.Inserting.{valued_renamed}
 use Rattle.rb_arena.proofs.Listing.{low, can_take, list_first, keeps_mended}
@@ -54,6 +54,11 @@ module _ {X : Type 0} where
   unfolding place_from
   put_from items None us vs (is, none) e = ap (λ l. e ∷ l) (is ∙ ap (λ l. l ++ vs) none) ∙ sym (ap (λ l. l ++ e ∷ vs) none)
   put_from items (Some id) us vs (is, (ws, (x, ends))) e = sym (ap (λ l. l ++ e ∷ vs) ends ∙ append_assoc ws ((id, x) ∷ []) (e ∷ vs))
+
+  -- the new list by the place of the entry
+  pub has_put_at : (items new : List (ℕ × X)) (id : Option ℕ) (e : ℕ × X) → ((at : PlaceAfter items id) → new ≡ put_at items id at e) → HasPut items new id e
+  has_put_at items new None e is = is tt
+  has_put_at items new (Some id) e is = λ us x vs split. is (us, (x, (vs, split)))
 
 module _ {X S B : Type 0} (w : Weaving X S B) (L : Lawful w) where
   pub loosened_list : (id : ℕ) (x : X) (chain : Tree (Data X S B)) → entries w w.still (loosened w id x chain) ≡ (id, x) ∷ entries w w.still chain
@@ -117,6 +122,12 @@ module _ {X S B : Type 0} (w : Weaving X S B) (L : Lawful w) where
         let (us, (vs, split)) = split_after items id at in
         let (t, (k, hangs, whole, l, r)) = placed w K.beside m root K.tree K.made (low w is_near is_item is_value m root front K) id us vs (sym same ∙ split.0, split.1) in
         (k, (t, hangs, whole, λ e. (λ i. l i ++ e ∷ r i) ∙ put_between items id at e))
+
+-- the sum of the items with one more at a place
+pub sums_put : {X S B : Type 0} (w : Weaving X S B) (is_value : S → Type 0) (items : List (ℕ × X)) (id : Option ℕ) (item : X) → SumsPut w is_value items id item → (at : PlaceAfter items id)
+    → is_value (sum_of w (put_at items id at (0, item)))
+sums_put w is_value items None item h at = h
+sums_put w is_value items (Some id) item h (us, (x, (vs, is))) = h us x vs is
 
 -- one more item at a place
 module _ {X S B : Type 0} (w : Weaving X S B) (L : Lawful w) (is_near : B → Type 0) (is_item : X → Type 0) (is_sum is_value : S → Type 0)

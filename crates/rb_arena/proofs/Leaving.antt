@@ -194,18 +194,34 @@ module _ {X S B : Type 0} (w : Weaving X S B) (L : Lawful w) (is_near : B → Ty
 
   -- a node with no child, by its item's place in the list
   module _ (beside : Tree (Data X S B)) (m : map.FinMap nat_cmp (Slot (Data X S B))) (root : Option ℕ) (id : ℕ) (us : List (ℕ × X)) (x : X) (vs : List (ℕ × X)) where
-    abbrev pub Spotted : Spot (Data X S B) → Type 0
-    Spotted s =
-        Made beside m root (plug s.hole (here s id)) × Woven w is_near w.still (plug s.hole (here s id)) × Balanced (plug s.hole (here s id))
-        × (x ≡ w.shift (shift_at w s.hole) s.datum.item) × (us ≡ lefts w s.hole ++ entries w (shift_at w s.hole) s.left)
-        × (vs ≡ entries w (w.plus (shift_at w s.hole) s.datum.delta) s.right ++ rights w s.hole) × (depth s.hole + height (here s id) ≤ 126)
-        × (entries w w.still (plug s.hole (here s id)) ≡ us ++ (id, x) ∷ vs) × (height (plug s.hole (here s id)) ≤ 126)
+    pub record Spotted : Type 0 where
+      pub spot : Spot (Data X S B)
+      pub made : Made beside m root (plug spot.hole (here spot id))
+      pub woven : Woven w is_near w.still (plug spot.hole (here spot id))
+      pub balanced : Balanced (plug spot.hole (here spot id))
+      pub value : x ≡ w.shift (shift_at w spot.hole) spot.datum.item
+      pub before : us ≡ lefts w spot.hole ++ entries w (shift_at w spot.hole) spot.left
+      pub after : vs ≡ entries w (w.plus (shift_at w spot.hole) spot.datum.delta) spot.right ++ rights w spot.hole
+      pub low : depth spot.hole + height (here spot id) ≤ 126
+      pub listed : entries w w.still (plug spot.hole (here spot id)) ≡ us ++ (id, x) ∷ vs
+      pub high : height (plug spot.hole (here spot id)) ≤ 126
 
-    pub spotted : Stores w is_near is_item is_value beside m root (us ++ (id, x) ∷ vs) → (s : Spot (Data X S B)) × Spotted s
+    pub spotted : Stores w is_near is_item is_value beside m root (us ++ (id, x) ∷ vs) → Spotted
     spotted ((t, made, (wv, e), bal), v, few) =
         let (s, whole, val, l, r) = locate_in w t us id x vs e in let deep = depth_height s.hole (here s id) in let high = ap height whole in
         let many = length-entries w w.still t in let long = ap length e in let low = not_high t bal (omega (arith, many, long, few)) in
-        (s, (subst (Made beside m root) (sym whole) made, subst (Woven w is_near w.still) (sym whole) wv, subst Balanced (sym whole) bal, val, l, r, omega (arith, deep, high, low), ap (entries w w.still) whole ∙ e, omega (arith, high, low)))
+        record {
+          spot = s;
+          made = rw whole made;
+          woven = rw whole wv;
+          balanced = rw whole bal;
+          value = val;
+          before = l;
+          after = r;
+          low = omega (arith, deep, high, low);
+          listed = ap (entries w w.still) whole ∙ e;
+          high = omega (arith, high, low);
+        }
 
     pub childless_spot : (s : Spot (Data X S B)) → Made beside m root (plug s.hole (here s id)) → NoChild m id → (s.left ≡ tip) × (s.right ≡ tip)
     childless_spot s made (n, found, none, none2) =
@@ -216,25 +232,28 @@ module _ {X S B : Type 0} (w : Weaving X S B) (L : Lawful w) (is_near : B → Ty
         → (m1 : map.FinMap nat_cmp (Slot (Data X S B))) (root1 : Option ℕ) → m1 ≡ hung m copy None → root1 ≡ root_hung root copy None
         → Unlinked w is_near is_item is_value beside m1 root1 at n.red id (us ++ vs)
     leaf_gone nc st n found at copy there same m1 root1 e1 er =
-        let (s, (made, wv, bal, val, l, r, low, all, high)) = spotted st in let (tl, tr) = childless_spot s made nc in
+        let at_ = spotted st in let s = at_.spot in let low = at_.low in let (tl, tr) = childless_spot s at_.made nc in
         let leaf : here s id ≡ fork s.red id s.datum tip tip = λ i. fork s.red id s.datum (tl i) (tr i) in
-        let place = there (lying beside s) made in let k = s.hole in
-        let us_is : us ≡ lefts w k = l ∙ ap (λ q. lefts w k ++ entries w (shift_at w k) q) tl ∙ append-nil (lefts w k) in
-        let vs_is : vs ≡ rights w k = r ∙ ap (λ q. entries w (w.plus (shift_at w k) s.datum.delta) q ++ rights w k) tr in
+        let place = there (lying beside s) at_.made in let k = s.hole in
+        let us_is : us ≡ lefts w k = at_.before ∙ ap (λ q. lefts w k ++ entries w (shift_at w k) q) tl ∙ append-nil (lefts w k) in
+        let vs_is : vs ≡ rights w k = at_.after ∙ ap (λ q. entries w (w.plus (shift_at w k) s.datum.delta) q ++ rights w k) tr in
         let list : lefts w k ++ rights w k ≡ us ++ vs = λ i. sym us_is i ++ sym vs_is i in
         let v = subst (Valued w is_item is_value) (sym list) (valued_without us (id, x) vs st.1) in
-        let unlinked = left_unlinked beside m root k s.red id s.datum (subst (λ t. Made beside m root (plug k t)) leaf made) (subst (λ t. Woven w is_near w.still (plug k t)) leaf wv)
-        (subst (λ t. Balanced (plug k t)) leaf bal) v (omega (arith, low)) (us ++ vs) list in
-        let red : s.red ≡ n.red = ap (λ o. o.red) (sym (upper_is m root (lying beside s) id made Left n found)) in
+        let unlinked = left_unlinked beside m root k s.red id s.datum (subst (λ t. Made beside m root (plug k t)) leaf at_.made) (subst (λ t. Woven w is_near w.still (plug k t)) leaf at_.woven)
+        (subst (λ t. Balanced (plug k t)) leaf at_.balanced) v (omega (arith, low)) (us ++ vs) list in
+        let red : s.red ≡ n.red = ap (λ o. o.red) (sym (upper_is m root (lying beside s) id at_.made Left n found)) in
         let mem : m1 ≡ hung m (place_of k) None = e1 ∙ ap (λ o. hung m o None) (same ∙ place) in
         let top_ : root1 ≡ root_hung root (place_of k) None = er ∙ ap (λ o. root_hung root o None) (same ∙ place) in
         subst {A = map.FinMap nat_cmp (Slot (Data X S B)) × Option ℕ × Option (ℕ × Side) × Bool} (λ q. Unlinked w is_near is_item is_value beside q.0 q.1 q.2 q.3 id (us ++ vs))
         (λ i. (sym mem i, sym top_ i, sym place i, red i)) unlinked
 
     -- a turn towards its one child's side makes a leaf of a node
-    module _ (s : Spot (Data X S B)) (at : Spotted s) (side : Side) (j : ℕ) (is : root_of (below side s) ≡ Some j) where
+    module _ (at : Spotted) (side : Side) (j : ℕ) (is : root_of (below side at.spot) ≡ Some j) where
+      abbrev s : Spot (Data X S B)
+      s = at.spot
+
       pub can_turn_down : Valued w is_item is_value (us ++ (id, x) ∷ vs) → CanTurnAt w is_near is_item is_value m root id side
-      can_turn_down v = (lying beside s, at.0, subst IsSome (sym (ap root_of (below_lying beside side s) ∙ is)) refl, at.1, subst (Valued w is_item is_value) (sym at.7) v)
+      can_turn_down v = (lying beside s, at.made, subst IsSome (sym (ap root_of (below_lying beside side s) ∙ is)) refl, at.woven, subst (Valued w is_item is_value) (sym at.listed) v)
 
       module _ (none : root_of (below (other side) s) ≡ None) (m2 : map.FinMap nat_cmp (Slot (Data X S B))) (root2 : Option ℕ) (done : TurnedAt w is_near m2 root2 id side (lying beside s)) where
         lower_leaf : (low : Data X S B) × ((high : Data X S B) × Made beside m2 root2 (plug s.hole (forked side false j high tip (fork true id low tip tip)))
@@ -243,16 +262,16 @@ module _ {X S B : Type 0} (w : Weaving X S B) (L : Lawful w) (is_near : B → Ty
         lower_leaf =
             let bare : here s id ≡ forked side s.red id s.datum (below side s) tip =
             here_forked side s id ∙ ap (forked side s.red id s.datum (below side s)) (no_root (below (other side) s) none) in
-            let (n, (b, r, f)) = C.unplugged s.hole (forked side s.red id s.datum (below side s) tip) (subst (λ t. Balanced (plug s.hole t)) bare at.2) in
+            let (n, (b, r, f)) = C.unplugged s.hole (forked side s.red id s.datum (below side s) tip) (subst (λ t. Balanced (plug s.hole t)) bare at.balanced) in
             let (black, bf, one, (e, leaf)) = one_red side s.red b n id j s.datum (below side s) is r in
-            let (low, (high, made2, (wv2, list2))) = done at.1 in
+            let (low, (high, made2, (wv2, list2))) = done at.woven in
             let now : turned side low high (here s id) ≡ forked side false j high tip (fork true id low tip tip) =
             ap (turned side low high) (bare ∙ (λ h. forked side (black h) id s.datum (leaf h) tip)) ∙ turn_is side id j s.datum e low high in (
               low,
               (
                 high,
                 subst (λ t. Made beside m2 root2 (plug s.hole t)) now made2,
-                subst (λ t. Lists w is_near (plug s.hole t) (us ++ (id, x) ∷ vs)) now (wv2, list2 ∙ at.7),
+                subst (λ t. Lists w is_near (plug s.hole t) (us ++ (id, x) ∷ vs)) now (wv2, list2 ∙ at.listed),
                 C.plugged false 1 s.hole (forked side false j high tip (fork true id low tip tip)) (C.black_forked side 0 j high tip (fork true id low tip tip) (false, (refl, refl)) (true, (refl, (refl, refl), (refl, refl))))
                     (subst (λ l. Fits false l s.hole) one (subst (λ a. Fits a n s.hole) bf f)),
               ),
@@ -270,22 +289,22 @@ module _ {X S B : Type 0} (w : Weaving X S B) (L : Lawful w) (is_near : B → Ty
     -- the same by what is read of the node
     module _ (stores : Stores w is_near is_item is_value beside m root (us ++ (id, x) ∷ vs)) (sl : Slot (Data X S B)) (found : map.get m id ≡ Some sl) where
       abbrev node : Spot (Data X S B)
-      node = (spotted stores).0
+      node = (spotted stores).spot
 
       child_is : (side : Side) → child side sl ≡ root_of (below side node)
-      child_is Left = ap (λ o. o.left) (upper_is m root (lying beside node) id (spotted stores).1.0 Left sl found)
-      child_is Right = ap (λ o. o.right) (upper_is m root (lying beside node) id (spotted stores).1.0 Left sl found)
+      child_is Left = ap (λ o. o.left) (upper_is m root (lying beside node) id (spotted stores).made Left sl found)
+      child_is Right = ap (λ o. o.right) (upper_is m root (lying beside node) id (spotted stores).made Left sl found)
 
       module _ (side : Side) (some : is_some (child side sl) ≡ true) where
         there : (j : ℕ) × (root_of (below side node) ≡ Some j)
         there = let (j, is) = some_of (child side sl) some in (j, sym (child_is side) ∙ is)
 
         pub can_turn_there : CanTurnAt w is_near is_item is_value m root id side
-        can_turn_there = can_turn_down node (spotted stores).1 side there.0 there.1 stores.1
+        can_turn_there = can_turn_down (spotted stores) side there.0 there.1 stores.1
 
         module _ (none : child (other side) sl ≡ None) (m2 : map.FinMap nat_cmp (Slot (Data X S B))) (root2 : Option ℕ) (done : AtSpot m root id (λ sp. TurnedAt w is_near m2 root2 id side sp)) where
           pub leaf_there : NoChild m2 id
-          leaf_there = down_leaf node (spotted stores).1 side there.0 there.1 (sym (child_is (other side)) ∙ none) m2 root2 (done (lying beside node) (spotted stores).1.0)
+          leaf_there = down_leaf (spotted stores) side there.0 there.1 (sym (child_is (other side)) ∙ none) m2 root2 (done (lying beside node) (spotted stores).made)
 
           pub mended_there : Mended w is_near beside m2 root2 (us ++ (id, x) ∷ vs)
-          mended_there = down_mended node (spotted stores).1 side there.0 there.1 (sym (child_is (other side)) ∙ none) m2 root2 (done (lying beside node) (spotted stores).1.0)
+          mended_there = down_mended (spotted stores) side there.0 there.1 (sym (child_is (other side)) ∙ none) m2 root2 (done (lying beside node) (spotted stores).made)

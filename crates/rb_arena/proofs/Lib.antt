@@ -15,6 +15,7 @@ pub mod Paths
 pub mod Searches
 pub mod Setting
 pub mod Shifting
+pub mod Slots
 pub mod Splitting
 pub mod Steps
 pub mod Turns

@@ -8,7 +8,7 @@ use Rattle.rb_rules.specs.Tree.{Tree, tip, fork, Hole, top, on, plug, above, roo
 use Rattle.rb_rules.specs.Memory.{Spot, here, below}
 use Rattle.rb_rules.specs.Weaving.{Weaving}
 use Rattle.rb_rules.specs.Woven.{entries, lefts, rights, shift_at, AllItems}
-use Rattle.rb_arena.specs.Value.{first_hole, first_or, up_next, last_hole, last_or, up_prev, neighbour_of}
+use Rattle.rb_arena.specs.Value.{end_hole, first_hole, first_or, up_next, last_hole, last_or, name_at_end, up_prev, neighbour_of}
 
 module _ {A : Type 0} where
   head_or : A → List A → A
@@ -81,10 +81,6 @@ module _ {X S B : Type 0} (w : Weaving X S B) where
   above_first k tip = refl
   above_first k (fork c i d x y) = above_first (on Left c i d y k) x ∙ first_of_left (above k) i (w.shift (shift_at w k) d.item) (entries w (shift_at w k) x) (entries w (w.plus (shift_at w k) d.delta) y)
 
-  pub first_of_both : (o : Option ℕ) (es fs : List (ℕ × X)) → first_or o (es ++ fs) ≡ first_or (first_or o fs) es
-  first_of_both o [] fs = refl
-  first_of_both o (e ∷ es) fs = refl
-
   -- the list up to a node, and what comes after it
   pub after_list : (s : Spot (Data X S B)) (id : ℕ) (x : X) (us zs : List (ℕ × X)) → x ≡ w.shift (shift_at w s.hole) s.datum.item → us ≡ lefts w s.hole ++ entries w (shift_at w s.hole) s.left
       → lefts w (on Right s.red id s.datum s.left s.hole) ++ zs ≡ us ++ (id, x) ∷ zs
@@ -120,6 +116,10 @@ module _ {X S B : Type 0} (w : Weaving X S B) where
   above_last k tip = refl
   above_last k (fork c i d x y) = above_last (on Right c i d x k) y
       ∙ last_of_right (above k) i (w.shift (shift_at w k) d.item) (entries w (shift_at w k) x) (entries w (w.plus (shift_at w k) d.delta) y)
+
+  pub above_end : (side : Side) (t : Tree (Data X S B)) → above (end_hole side top t) ≡ name_at_end side (entries w w.still t)
+  above_end Left t = above_first top t
+  above_end Right t = above_last top t
 
   pub last_of_tree : (o p : Option ℕ) (acc : B) (t : Tree (Data X S B)) (gs : List (ℕ × X)) → (root_of t ≡ None → ⊥) → last_or o (entries w acc t) ≡ last_or p (gs ++ entries w acc t)
   last_of_tree o p acc tip gs some = absurd (some refl)

@@ -15,6 +15,7 @@ use Rattle.rb_rules.specs.Woven.{Woven, shift_at}
 use Rattle.rb_rules.proofs.Knots.{data-sided}
 use Rattle.rb_rules.proofs.Ups.{hole_top, hole_on, spot_of, spot_hole, stands_above, slot_above}
 use Rattle.rb_rules.proofs.Weaves.{woven_at, near_of}
+use Rattle.rb_arena.proofs.Slots.{upper_at}
 use Rattle.rb_arena.specs.Placing.{passed, above_place}
 
 pub above-place : {D : Type 0} (k : Hole D) → above_place (place_of k) ≡ above k
@@ -39,7 +40,7 @@ module _ {X S B : Type 0} (w : Weaving X S B) (L : Lawful w) where
 
     pub stands_next : (all : B) (a : ℕ × Side) (by : B) (n : ℕ) → Along all (Some a) by n → Stands m root a.0
     stands_next all a by n (k, (t, e, made, wv, sum, le)) =
-        let (c, (d, x, k2, is)) = hole_on k a.0 a.1 (sym e) in (spot_of beside a.1 c d t x k2, stands_above m root a.1 c a.0 d x k2 t (subst (λ l. Made beside m root (plug l t)) is made))
+        let u = upper_at m root k t made (sym e) in (u.spot, u.made)
 
     datum_next : (s : Side) (c : Bool) (p : ℕ) (d : Data X S B) (x : Tree (Data X S B)) (k : Hole (Data X S B)) (t : Tree (Data X S B)) (slot : Slot (Data X S B))
         → Made beside m root (plug (on s c p d x k) t) → map.get m p ≡ Some slot → slot.«data» ≡ d

@@ -7,14 +7,14 @@ use Rattle.rb_rules.specs.declared.slot.Data.{Data}
 use Rattle.rb_rules.specs.declared.slot.Side.{Side}
 use Rattle.rb_rules.specs.declared.slot.Side.TheVariants.{Left, Right}
 use Rattle.rb_rules.specs.declared.slot.Slot.{Slot}
-use Rattle.rb_rules.specs.Tree.{Tree, tip, fork, Hole, top, on, other, forked, plug, root_of, depth}
+use Rattle.rb_rules.specs.Tree.{Tree, tip, fork, Hole, top, on, other, forked, plug, depth}
 use Rattle.rb_rules.specs.Colours.{Rb, Fits, Balanced}
-use Rattle.rb_rules.specs.Memory.{Made, Stands, AtSpot}
+use Rattle.rb_rules.specs.Memory.{Made, Spot, Stands, AtSpot, here}
 use Rattle.rb_rules.specs.Weaving.{Weaving, Lawful}
 use Rattle.rb_rules.specs.Woven.{Valued}
 use Rattle.rb_rules.specs.Sound.{Lists, CanTurnAt, TurnedAt}
 use Rattle.rb_rules.proofs.Holes.{forked-other, root-forked}
-use Rattle.rb_rules.proofs.Live.{forks, forks_on}
+use Rattle.rb_rules.proofs.Live.{forks_on}
 use Rattle.rb_rules.proofs.Ups.{spot_of, as_spot}
 use Rattle.rb_rules.proofs.Weaves.{woven_at, woven_replug, same_replug}
 use Rattle.rb_rules.proofs.Colouring as C
@@ -24,41 +24,62 @@ use Rattle.rb_arena.specs.Mending.{bent, case_of}
 use Rattle.rb_arena.specs.Rising.{Mended, Rising, Risen}
 
 module _ {D : Type 0} where
+  -- the red node's parent is red and the topmost node
+  pub record UnderRoot (k : Hole D) (p : ℕ) : Type 0 where
+    pub side : Side
+    pub datum : D
+    pub far : Tree D
+    pub is : k ≡ on side true p datum far top
+
+  -- its parent and the parent's sibling are red
+  pub record UnderUncle (k : Hole D) (p u g : ℕ) : Type 0 where
+    pub side : Side
+    pub datum : D
+    pub far : Tree D
+    pub upper : Side
+    pub grand : D
+    pub uncle : D
+    pub left : Tree D
+    pub right : Tree D
+    pub up : Hole D
+    pub is : k ≡ on side true p datum far (on upper false g grand (fork true u uncle left right) up)
+
+  -- its parent alone is red, on that side of the grandparent; it is on the side s of the parent
+  pub record Alone (h : ℕ) (k : Hole D) (s : Side) (p : ℕ) (upper : Side) (g : ℕ) : Type 0 where
+    pub datum : D
+    pub far : Tree D
+    pub grand : D
+    pub uncle : Tree D
+    pub up : Hole D
+    pub is : k ≡ on s true p datum far (on upper false g grand uncle up)
+    pub even : Rb false h uncle
+
   -- what each case says of the nodes above
   abbrev pub Shape : ℕ → Hole D → Case → Type 0
   Shape h k Settled = (k ≡ top) ⊎ ((s : Side) × ((p : ℕ) × (d : D) × (x : Tree D) × (k2 : Hole D) × (k ≡ on s false p d x k2)))
-  Shape h k (RedRoot p) = (s : Side) × ((d : D) × (x : Tree D) × (k ≡ on s true p d x top))
-  Shape h k (RedUncle p u g) =
-      (s : Side) × ((d : D) × (x : Tree D) × (s2 : Side) × (dg : D) × (ud : D) × (a : Tree D) × (b : Tree D) × (k2 : Hole D) × (k ≡ on s true p d x (on s2 false g dg (fork true u ud a b) k2)))
-  Shape h k (Outer g s) = (p : ℕ) × ((d : D) × (x : Tree D) × (dg : D) × (u : Tree D) × (k2 : Hole D) × (k ≡ on s true p d x (on s false g dg u k2)) × Rb false h u)
-  Shape h k (Inner p s g) = (d : D) × ((x : Tree D) × (dg : D) × (u : Tree D) × (k2 : Hole D) × (k ≡ on s true p d x (on (other s) false g dg u k2)) × Rb false h u)
+  Shape h k (RedRoot p) = UnderRoot k p
+  Shape h k (RedUncle p u g) = UnderUncle k p u g
+  Shape h k (Outer g s) = (p : ℕ) × Alone h k s p s g
+  Shape h k (Inner p s g) = Alone h k s p (other s) g
 
   bent_shape : (h : ℕ) (s s2 : Side) (p g : ℕ) (d : D) (x : Tree D) (dg : D) (u : Tree D) (k : Hole D) → Rb false h u
       → Shape h (on s true p d x (on s2 false g dg u k)) (bent s s2 p g)
-  bent_shape h Left Left p g d x dg u k r = (p, (d, x, dg, u, k, refl, r))
-  bent_shape h Right Right p g d x dg u k r = (p, (d, x, dg, u, k, refl, r))
-  bent_shape h Left Right p g d x dg u k r = (d, (x, dg, u, k, refl, r))
-  bent_shape h Right Left p g d x dg u k r = (d, (x, dg, u, k, refl, r))
+  bent_shape h Left Left p g d x dg u k r = (p, record { datum = d; far = x; grand = dg; uncle = u; up = k; is = refl; even = r })
+  bent_shape h Right Right p g d x dg u k r = (p, record { datum = d; far = x; grand = dg; uncle = u; up = k; is = refl; even = r })
+  bent_shape h Left Right p g d x dg u k r = record { datum = d; far = x; grand = dg; uncle = u; up = k; is = refl; even = r }
+  bent_shape h Right Left p g d x dg u k r = record { datum = d; far = x; grand = dg; uncle = u; up = k; is = refl; even = r }
 
-  pub case_shape : (h : ℕ) (k : Hole D) → Fits false h k → Shape h k (case_of k)
+  case_shape : (h : ℕ) (k : Hole D) → Fits false h k → Shape h k (case_of k)
   case_shape h top f = inl refl
   case_shape h (on s false p d x k) f = inr (s, (p, d, x, k, refl))
-  case_shape h (on s true p d x top) f = (s, (d, x, refl))
+  case_shape h (on s true p d x top) f = record { side = s; datum = d; far = x; is = refl }
   case_shape h (on s true p d x (on s2 true g dg u k)) (e, r, (ff, qa, qb)) = absurd (true≢false ff)
   case_shape h (on s true p d x (on s2 false g dg tip k)) (e, r, ((c, q), f)) = bent_shape h s s2 p g d x dg tip k (refl, q.1)
-  case_shape h (on s true p d x (on s2 false g dg (fork true u ud a b) k)) f = (s, (d, x, s2, dg, ud, a, b, k, refl))
+  case_shape h (on s true p d x (on s2 false g dg (fork true u ud a b) k)) f =
+      record { side = s; datum = d; far = x; upper = s2; grand = dg; uncle = ud; left = a; right = b; up = k; is = refl }
   case_shape h (on s true p d x (on s2 false g dg (fork false u ud a b) k)) (e, r, ((c, q), f)) = bent_shape h s s2 p g d x dg (fork false u ud a b) k (refl, q.1)
 
   module _ (m : map.FinMap nat_cmp (Slot D)) (root : Option ℕ) where
-    pub stands_named : (k : Hole D) (t : Tree D) (i : ℕ) → {beside : Tree D} → Made beside m root (plug k t) → root_of t ≡ Some i → Stands m root i
-    stands_named k t i {beside} h e = let (b, (d, x, y, is)) = forks t i e in (record { beside = beside; hole = k; red = b; datum = d; left = x; right = y }, subst (λ q. Made beside m root (plug k q)) is h)
-
-    -- the case that was found tells of the nodes above
-    pub shape_is : (h : ℕ) (k : Hole D) (t : Tree D) (i : ℕ) (r c : Case) → AtSpot m root i (λ s. r ≡ case_of s.hole) → {beside : Tree D} → Made beside m root (plug k t) → root_of t ≡ Some i → Fits false h k → r ≡ c → Shape h k c
-    shape_is h k t i r c found {beside} made e f same =
-        let (b, (d, x, y, is)) = forks t i e in
-        subst (Shape h k) (sym (found (record { beside = beside; hole = k; red = b; datum = d; left = x; right = y }) (subst (λ q. Made beside m root (plug k q)) is made)) ∙ same) (case_shape h k f)
-
     pub stands : (k : Hole D) (s : Side) (c : Bool) (i : ℕ) (d : D) (x y : Tree D) → {beside : Tree D} → Made beside m root (plug k (forked s c i d x y)) → Stands m root i
     stands k s c i d x y {beside} h = (spot_of beside s c d x y k, as_spot m root beside s c i d x y k h)
 
@@ -100,121 +121,165 @@ module _ {X S B : Type 0} (w : Weaving X S B) (L : Lawful w) (is_near : B → Ty
       turned_at m2 root2 Right done h (wv, e) =
           let (low, (high, made, (wv2, e2))) = done (record { beside = beside; hole = k; red = a; datum = dn; left = far; right = fork b c dc mid out }) h wv in (low, (high, made, (wv2, e2 ∙ e)))
 
-    -- What the arms do, for a red tree t of h black nodes on each path in the hole k.
-    module _ (k : Hole (Data X S B)) (t : Tree (Data X S B)) (h : ℕ) (made : Made beside m root (plug k t)) (lists : Lists w is_near (plug k t) es) (rt : Rb true h t) (f : Fits false h k) where
-      balanced_if : (c : (k ≡ top) ⊎ ((s : Side) × ((p : ℕ) × (d : Data X S B) × (x : Tree (Data X S B)) × (k2 : Hole (Data X S B)) × (k ≡ on s false p d x k2)))) → Balanced (plug k t)
-      balanced_if (inl e) = subst (λ l. Balanced (plug l t)) (sym e) (h, (true, rt))
-      balanced_if (inr (s, (p, d, x, k2, e))) = subst (λ l. Balanced (plug l t)) (sym e) (C.plugged true h (on s false p d x k2) t rt (subst (Fits false h) e f))
+-- what the arms do, for a red tree in a hole that may want a black one
+module _ {X S B : Type 0} {w : Weaving X S B} {is_near : B → Type 0} {beside : Tree (Data X S B)} {m : map.FinMap nat_cmp (Slot (Data X S B))} {root : Option ℕ} {es : List (ℕ × X)} {i n : ℕ}
+    (r : Rising w is_near beside m root es i n) where
+  -- its topmost node
+  pub record Topmost (s : Side) : Type 0 where
+    pub datum : Data X S B
+    pub near : Tree (Data X S B)
+    pub far : Tree (Data X S B)
+    pub is : r.subtree ≡ forked s true i datum near far
 
-      pub settled : Shape h k Settled → Mended w is_near beside m root es
-      settled c = (plug k t, made, lists, balanced_if c)
+  pub topmost : (s : Side) → Topmost s
+  topmost s =
+      let (c, (d, x, y, is)) = forks_on s r.subtree i r.named in let red : c ≡ true = red_root r.black s c i d x y (subst (Rb true r.black) is r.red) in
+      record { datum = d; near = x; far = y; is = is ∙ ap (λ l. forked s l i d x y) red }
 
-      module _ (s : Side) (p : ℕ) (d : Data X S B) (x : Tree (Data X S B)) where
-        pub stands_parent : (c : Bool) (k2 : Hole (Data X S B)) → k ≡ on s c p d x k2 → Stands m root p
-        stands_parent c k2 e = stands m root k2 s c p d t x (subst (λ l. Made beside m root (plug l t)) e made)
+  abbrev pub own_spot : Spot (Data X S B)
+  own_spot = let z = topmost Left in record { beside = beside; hole = r.hole; red = true; datum = z.datum; left = z.near; right = z.far }
 
-        pub root_blackened : (m2 : map.FinMap nat_cmp (Slot (Data X S B))) (root2 : Option ℕ) → k ≡ on s true p d x top → Painted m root m2 root2 p false → Mended w is_near beside m2 root2 es
-        root_blackened m2 root2 e done = (
-          forked s false p d t x,
-          painted m root m2 root2 top s true false p d t x done (subst (λ l. Made beside m root (plug l t)) e made),
-          recoloured top s true false p d t x es (subst (λ l. Lists w is_near (plug l t) es) e lists),
-          C.blackened_root s h t rt p d x (subst (Fits false h) e f),
-        )
+  pub stands_red : Made beside m root (plug r.hole (here own_spot i))
+  stands_red = subst (λ q. Made beside m root (plug r.hole q)) (topmost Left).is r.made
 
-        -- a red uncle: the parent and the uncle turn black, and the grandparent red
-        module _ (s2 : Side) (g : ℕ) (dg : Data X S B) (u : ℕ) (ud : Data X S B) (a b : Tree (Data X S B)) (k2 : Hole (Data X S B))
-            (e : k ≡ on s true p d x (on s2 false g dg (fork true u ud a b) k2)) (m2 m3 m4 : map.FinMap nat_cmp (Slot (Data X S B))) (root2 root3 root4 : Option ℕ) where
-          abbrev Parent : Tree (Data X S B)
-          Parent = forked s false p d t x
+  -- the case that was found tells of the nodes above
+  pub case_found : {found : Case} → AtSpot m root i (λ s. found ≡ case_of s.hole) → {c : Case} → found ≡ c → Shape r.black r.hole c
+  case_found told {c} is = subst (Shape r.black r.hole) (sym (told own_spot stands_red) ∙ is) (case_shape r.black r.hole r.fits)
 
-          abbrev Uncle : Bool → Tree (Data X S B)
-          Uncle c = fork c u ud a b
+  pub parent_stands : {s : Side} {c : Bool} {p : ℕ} {d : Data X S B} {x : Tree (Data X S B)} {k : Hole (Data X S B)} → r.hole ≡ on s c p d x k → Stands m root p
+  parent_stands {s} {c} {p} {d} {x} {k} e = stands m root k s c p d r.subtree x (subst (λ l. Made beside m root (plug l r.subtree)) e r.made)
 
-          swapped : (c c2 : Bool) → plug k2 (forked s2 c g dg Parent (Uncle c2)) ≡ plug (on (other s2) c g dg Parent k2) (Uncle c2)
-          swapped c c2 = ap (plug k2) (sym (forked-other s2 c g dg (Uncle c2) Parent))
+  pub settled : Shape r.black r.hole Settled → Mended w is_near beside m root es
+  settled c = (
+    plug r.hole r.subtree,
+    r.made,
+    r.lists,
+    elim c [
+      | inl e ↦ subst (λ l. Balanced (plug l r.subtree)) (sym e) (r.black, (true, r.red))
+      | inr (s, (p, d, x, k2, e)) ↦ subst (λ l. Balanced (plug l r.subtree)) (sym e) (C.plugged true r.black (on s false p d x k2) r.subtree r.red (subst (Fits false r.black) e r.fits))
+    ],
+  )
 
-          pub after_parent : Painted m root m2 root2 p false → Made beside m2 root2 (plug k2 (forked s2 false g dg Parent (Uncle true)))
-          after_parent done = painted m root m2 root2 (on s2 false g dg (Uncle true) k2) s true false p d t x done (subst (λ l. Made beside m root (plug l t)) e made)
+  module _ (L : Lawful w) {m2 : map.FinMap nat_cmp (Slot (Data X S B))} {root2 : Option ℕ} where
+    pub root_blackened : {p : ℕ} → UnderRoot r.hole p → Painted m root m2 root2 p false → Mended w is_near beside m2 root2 es
+    root_blackened {p} u done = (
+      forked u.side false p u.datum r.subtree u.far,
+      painted m root m2 root2 top u.side true false p u.datum r.subtree u.far done (subst (λ l. Made beside m root (plug l r.subtree)) u.is r.made),
+      recoloured w L is_near top u.side true false p u.datum r.subtree u.far es (subst (λ l. Lists w is_near (plug l r.subtree) es) u.is r.lists),
+      C.blackened_root u.side r.black r.subtree r.red p u.datum u.far (subst (Fits false r.black) u.is r.fits),
+    )
 
-          pub stands_uncle : Made beside m2 root2 (plug k2 (forked s2 false g dg Parent (Uncle true))) → Stands m2 root2 u
-          stands_uncle h2 = stands m2 root2 (on (other s2) false g dg Parent k2) Left true u ud a b (subst (Made beside m2 root2) (swapped false true) h2)
+  -- a red uncle: the parent and the uncle turn black, and the grandparent red
+  module _ {p u g : ℕ} (v : UnderUncle r.hole p u g) where
+    -- the grandparent's subtree, by which of the three are red
+    abbrev pub Family : Bool → Bool → Bool → Tree (Data X S B)
+    Family parent uncle grand = forked v.upper grand g v.grand (forked v.side parent p v.datum r.subtree v.far) (fork uncle u v.uncle v.left v.right)
 
-          pub after_uncle : Made beside m2 root2 (plug k2 (forked s2 false g dg Parent (Uncle true))) → Painted m2 root2 m3 root3 u false → Made beside m3 root3 (plug k2 (forked s2 false g dg Parent (Uncle false)))
-          after_uncle h2 done = subst (Made beside m3 root3) (sym (swapped false false))
-              (painted m2 root2 m3 root3 (on (other s2) false g dg Parent k2) Left true false u ud a b done (subst (Made beside m2 root2) (swapped false true) h2))
+    -- the same, by the uncle's place
+    abbrev Beside : Bool → Bool → Hole (Data X S B)
+    Beside parent grand = on (other v.upper) grand g v.grand (forked v.side parent p v.datum r.subtree v.far) v.up
 
-          pub stands_grand : Made beside m3 root3 (plug k2 (forked s2 false g dg Parent (Uncle false))) → Stands m3 root3 g
-          stands_grand h3 = stands m3 root3 k2 s2 false g dg Parent (Uncle false) h3
+    swapped : (parent uncle grand : Bool) → plug v.up (Family parent uncle grand) ≡ plug (Beside parent grand) (fork uncle u v.uncle v.left v.right)
+    swapped parent uncle grand = ap (plug v.up) (sym (forked-other v.upper grand g v.grand (fork uncle u v.uncle v.left v.right) (forked v.side parent p v.datum r.subtree v.far)))
 
-          pub risen_grand : (n : ℕ) → depth k ≤ n → Made beside m3 root3 (plug k2 (forked s2 false g dg Parent (Uncle false))) → Painted m3 root3 m4 root4 g true → Rising w is_near beside m4 root4 es g (n - 1)
-          risen_grand n le h3 done =
-              let l0 : Lists w is_near (plug k2 (forked s2 false g dg (forked s true p d t x) (Uncle true))) es = subst (λ l. Lists w is_near (plug l t) es) e lists in
-              let l1 = recoloured (on s2 false g dg (Uncle true) k2) s true false p d t x es l0 in
-              let l2 = recoloured (on (other s2) false g dg Parent k2) Left true false u ud a b es (subst (λ q. Lists w is_near q es) (swapped false true) l1) in
-              let l3 = subst (λ q. Lists w is_near q es) (sym (swapped false false)) l2 in
-              let (rb, fit) = C.uncle_red s h t rt p d x s2 g dg k2 u ud a b (subst (Fits false h) e f) in
-              let deep : suc (suc (depth k2)) ≤ n = let q = subst (λ l. depth l ≤ n) e le in omega (arith, q) in (
-                k2,
-                (
-                  forked s2 true g dg Parent (Uncle false),
-                  (
-                    suc h,
-                    painted m3 root3 m4 root4 k2 s2 false true g dg Parent (Uncle false) done h3,
-                    recoloured k2 s2 false true g dg Parent (Uncle false) es l3,
-                    root-forked s2 true g dg Parent (Uncle false),
-                    rb,
-                    fit,
-                    omega (arith, deep),
-                  ),
-                ),
-              )
+    pub after_parent : {m2 : map.FinMap nat_cmp (Slot (Data X S B))} {root2 : Option ℕ} → Painted m root m2 root2 p false → Made beside m2 root2 (plug v.up (Family false true false))
+    after_parent {m2} {root2} done =
+        painted m root m2 root2 (on v.upper false g v.grand (fork true u v.uncle v.left v.right) v.up) v.side true false p v.datum r.subtree v.far done (subst (λ l. Made beside m root (plug l r.subtree)) v.is r.made)
 
-      -- no red uncle, and the node on its parent's side of it
-      module _ (s : Side) (p g : ℕ) (d dg : Data X S B) (x u : Tree (Data X S B)) (k2 : Hole (Data X S B)) (e : k ≡ on s true p d x (on s false g dg u k2)) where
-        made_outer : Made beside m root (plug k2 (forked s false g dg (forked s true p d t x) u))
-        made_outer = subst (λ l. Made beside m root (plug l t)) e made
+    module _ {m2 : map.FinMap nat_cmp (Slot (Data X S B))} {root2 : Option ℕ} where
+      pub stands_uncle : Made beside m2 root2 (plug v.up (Family false true false)) → Stands m2 root2 u
+      stands_uncle h = stands m2 root2 (Beside false false) Left true u v.uncle v.left v.right (subst (Made beside m2 root2) (swapped false true false) h)
 
-        lists_outer : Lists w is_near (plug k2 (forked s false g dg (forked s true p d t x) u)) es
-        lists_outer = subst (λ l. Lists w is_near (plug l t) es) e lists
+      pub stands_grand : Made beside m2 root2 (plug v.up (Family false false false)) → Stands m2 root2 g
+      stands_grand h = stands m2 root2 v.up v.upper false g v.grand (forked v.side false p v.datum r.subtree v.far) (fork false u v.uncle v.left v.right) h
 
-        pub can_turn_outer : Valued w is_item is_value es → CanTurnAt w is_near is_item is_value m root g s
-        can_turn_outer v = can_turn_at k2 false true g p dg d t x u s made_outer lists_outer v
+      module _ {m3 : map.FinMap nat_cmp (Slot (Data X S B))} {root3 : Option ℕ} where
+        pub after_uncle : Made beside m2 root2 (plug v.up (Family false true false)) → Painted m2 root2 m3 root3 u false → Made beside m3 root3 (plug v.up (Family false false false))
+        after_uncle h done = subst (Made beside m3 root3) (sym (swapped false false false))
+            (painted m2 root2 m3 root3 (Beside false false) Left true false u v.uncle v.left v.right done (subst (Made beside m2 root2) (swapped false true false) h))
 
-        pub outer_turned : (m2 : map.FinMap nat_cmp (Slot (Data X S B))) (root2 : Option ℕ) → Rb false h u → AtSpot m root g (λ sp. TurnedAt w is_near m2 root2 g s sp) → Mended w is_near beside m2 root2 es
-        outer_turned m2 root2 ru done =
-            let (low, (high, made2, lists2)) = turned_at k2 false true g p dg d t x u m2 root2 s done made_outer lists_outer in
-            let (rb, fit) = C.outer s h t rt p d x g dg high low u k2 ru (subst (Fits false h) e f) in
-            (plug k2 (forked s false p high t (forked s true g low x u)), made2, lists2, C.plugged false (suc h) k2 (forked s false p high t (forked s true g low x u)) rb fit)
+        pub risen_grand : Lawful w → Made beside m2 root2 (plug v.up (Family false false false)) → Painted m2 root2 m3 root3 g true → Rising w is_near beside m3 root3 es g (n - 1)
+        risen_grand L h done =
+            let parent = forked v.side false p v.datum r.subtree v.far in let uncle = fork false u v.uncle v.left v.right in
+            let l0 : Lists w is_near (plug v.up (Family true true false)) es = subst (λ l. Lists w is_near (plug l r.subtree) es) v.is r.lists in
+            let l1 = recoloured w L is_near (on v.upper false g v.grand (fork true u v.uncle v.left v.right) v.up) v.side true false p v.datum r.subtree v.far es l0 in
+            let l2 = recoloured w L is_near (Beside false false) Left true false u v.uncle v.left v.right es (subst (λ q. Lists w is_near q es) (swapped false true false) l1) in
+            let l3 = subst (λ q. Lists w is_near q es) (sym (swapped false false false)) l2 in
+            let (rb, fit) = C.uncle_red v.side r.black r.subtree r.red p v.datum v.far v.upper g v.grand v.up u v.uncle v.left v.right (subst (Fits false r.black) v.is r.fits) in
+            let deep = ap depth v.is in let few = r.few in record {
+              hole = v.up;
+              subtree = Family false false true;
+              black = suc r.black;
+              made = painted m2 root2 m3 root3 v.up v.upper false true g v.grand parent uncle done h;
+              lists = recoloured w L is_near v.up v.upper false true g v.grand parent uncle es l3;
+              named = root-forked v.upper true g v.grand parent uncle;
+              red = rb;
+              fits = fit;
+              few = omega (arith, deep, few);
+            }
 
-      -- the node on the other side: a turn at the parent makes it the other case
-      module _ (s : Side) (z p : ℕ) (dz d : Data X S B) (a b x : Tree (Data X S B)) (k2 : Hole (Data X S B)) (e : k ≡ on s true p d x k2) (is : t ≡ forked s true z dz a b) where
-        made_inner : Made beside m root (plug k2 (forked s true p d (forked s true z dz a b) x))
-        made_inner = subst (λ q. Made beside m root (plug k2 (forked s true p d q x))) is (subst (λ l. Made beside m root (plug l t)) e made)
+  module _ (L : Lawful w) (is_item : X → Type 0) (is_value : S → Type 0) where
+    -- no red uncle, and the node on its parent's side of it
+    module _ {s : Side} {p g : ℕ} (o : Alone r.black r.hole s p s g) where
+      made_outer : Made beside m root (plug o.up (forked s false g o.grand (forked s true p o.datum r.subtree o.far) o.uncle))
+      made_outer = subst (λ l. Made beside m root (plug l r.subtree)) o.is r.made
 
-        lists_inner : Lists w is_near (plug k2 (forked s true p d (forked s true z dz a b) x)) es
-        lists_inner = subst (λ q. Lists w is_near (plug k2 (forked s true p d q x)) es) is (subst (λ l. Lists w is_near (plug l t) es) e lists)
+      lists_outer : Lists w is_near (plug o.up (forked s false g o.grand (forked s true p o.datum r.subtree o.far) o.uncle)) es
+      lists_outer = subst (λ l. Lists w is_near (plug l r.subtree) es) o.is r.lists
 
-        pub can_turn_inner : Valued w is_item is_value es → CanTurnAt w is_near is_item is_value m root p s
-        can_turn_inner v = can_turn_at k2 true true p z d dz a b x s made_inner lists_inner v
+      pub can_turn_outer : Valued w is_item is_value es → CanTurnAt w is_near is_item is_value m root g s
+      can_turn_outer v = can_turn_at w L is_near is_item is_value beside m root es o.up false true g p o.grand o.datum r.subtree o.far o.uncle s made_outer lists_outer v
 
-        pub inner_turned : (m2 : map.FinMap nat_cmp (Slot (Data X S B))) (root2 : Option ℕ) → AtSpot m root p (λ sp. TurnedAt w is_near m2 root2 p s sp)
-            → (low : Data X S B) × ((high : Data X S B) × Made beside m2 root2 (plug (on (other s) true z high a k2) (forked s true p low b x))
-            × Lists w is_near (plug (on (other s) true z high a k2) (forked s true p low b x)) es
-            × Rb true h (forked s true p low b x) × Fits false h (on (other s) true z high a k2))
-        inner_turned m2 root2 done =
-            let (low, (high, made2, lists2)) = turned_at k2 true true p z d dz a b x m2 root2 s done made_inner lists_inner in
-            let swap = ap (plug k2) (sym (forked-other s true z high (forked s true p low b x) a)) in
-            let (rb, fit) = C.inner s h z p dz d high low a b x k2 (subst (Rb true h) is rt) (subst (Fits false h) e f) in
-            (low, (high, subst (Made beside m2 root2) swap made2, subst (λ q. Lists w is_near q es) swap lists2, rb, fit))
+      pub outer_turned : {m2 : map.FinMap nat_cmp (Slot (Data X S B))} {root2 : Option ℕ} → AtSpot m root g (λ sp. TurnedAt w is_near m2 root2 g s sp) → Mended w is_near beside m2 root2 es
+      outer_turned {m2} {root2} done =
+          let (low, (high, made2, lists2)) = turned_at w L is_near is_item is_value beside m root es o.up false true g p o.grand o.datum r.subtree o.far o.uncle m2 root2 s done made_outer lists_outer in
+          let (rb, fit) = C.outer s r.black r.subtree r.red p o.datum o.far g o.grand high low o.uncle o.up o.even (subst (Fits false r.black) o.is r.fits) in
+          let t = forked s false p high r.subtree (forked s true g low o.far o.uncle) in (plug o.up t, made2, lists2, C.plugged false (suc r.black) o.up t rb fit)
 
-      -- the red tree's own node
-      pub red_node : (s : Side) (i : ℕ) → root_of t ≡ Some i → (dz : Data X S B) × ((a : Tree (Data X S B)) × (b : Tree (Data X S B)) × (t ≡ forked s true i dz a b))
-      red_node s i e = let (c, (d, x, y, is)) = forks_on s t i e in
-          let red : c ≡ true = red_root h s c i d x y (subst (Rb true h) is rt) in (d, (x, y, is ∙ ap (λ l. forked s l i d x y) red))
+    -- the node on the other side: a turn at the parent makes it the other case
+    module _ {s : Side} {p g : ℕ} (q : Alone r.black r.hole s p (other s) g) where
+      abbrev z : Topmost s
+      z = topmost s
+
+      abbrev above : Hole (Data X S B)
+      above = on (other s) false g q.grand q.uncle q.up
+
+      made_inner : Made beside m root (plug above (forked s true p q.datum (forked s true i z.datum z.near z.far) q.far))
+      made_inner = subst (λ t. Made beside m root (plug above (forked s true p q.datum t q.far))) z.is (subst (λ l. Made beside m root (plug l r.subtree)) q.is r.made)
+
+      lists_inner : Lists w is_near (plug above (forked s true p q.datum (forked s true i z.datum z.near z.far) q.far)) es
+      lists_inner = subst (λ t. Lists w is_near (plug above (forked s true p q.datum t q.far)) es) z.is (subst (λ l. Lists w is_near (plug l r.subtree) es) q.is r.lists)
+
+      pub can_turn_inner : Valued w is_item is_value es → CanTurnAt w is_near is_item is_value m root p s
+      can_turn_inner v = can_turn_at w L is_near is_item is_value beside m root es above true true p i q.datum z.datum z.near z.far q.far s made_inner lists_inner v
+
+      pub inner_turned : {m2 : map.FinMap nat_cmp (Slot (Data X S B))} {root2 : Option ℕ} → AtSpot m root p (λ sp. TurnedAt w is_near m2 root2 p s sp)
+          → (low : Rising w is_near beside m2 root2 es p n) × Alone low.black low.hole (other s) i (other s) g
+      inner_turned {m2} {root2} done =
+          let (low, (high, made2, lists2)) = turned_at w L is_near is_item is_value beside m root es above true true p i q.datum z.datum z.near z.far q.far m2 root2 s done made_inner lists_inner in
+          let swap = ap (plug above) (sym (forked-other s true i high (forked s true p low z.far q.far) z.near)) in
+          let (rb, fit) = C.inner s r.black i p z.datum q.datum high low z.near z.far q.far above (subst (Rb true r.black) z.is r.red) (subst (Fits false r.black) q.is r.fits) in
+          let deep = ap depth q.is in let few = r.few in (
+            record {
+              hole = on (other s) true i high z.near above;
+              subtree = forked s true p low z.far q.far;
+              black = r.black;
+              made = subst (Made beside m2 root2) swap made2;
+              lists = subst (λ t. Lists w is_near t es) swap lists2;
+              named = root-forked s true p low z.far q.far;
+              red = rb;
+              fits = fit;
+              few = omega (arith, deep, few);
+            },
+            record { datum = high; far = z.near; grand = q.grand; uncle = q.uncle; up = q.up; is = refl; even = q.even },
+          )
 
 -- at the top a red node does no harm
 module _ {X S B : Type 0} (w : Weaving X S B) (is_near : B → Type 0) (beside : Tree (Data X S B)) (m : map.FinMap nat_cmp (Slot (Data X S B))) (root : Option ℕ) (es : List (ℕ × X)) where
+  at_root : (k : Hole (Data X S B)) (t : Tree (Data X S B)) (h : ℕ) → Made beside m root (plug k t) → Lists w is_near (plug k t) es → Rb true h t → depth k ≤ 0 → Mended w is_near beside m root es
+  at_root top t h made lists red few = (t, made, lists, (h, (true, red)))
+  at_root (on s c p d x k) t h made lists red few = absurd (omega arith)
+
   pub at_last : (at : Option ℕ) → Risen w is_near beside m root es at 0 → Mended w is_near beside m root es
   at_last None r = r
-  at_last (Some i) (top, (t, (h, made, lists, e, rt, f, le))) = (t, made, lists, (h, (true, rt)))
-  at_last (Some i) (on s c p d x k, (t, (h, made, lists, e, rt, f, le))) = absurd (omega arith)
+  at_last (Some i) r = at_root r.hole r.subtree r.black r.made r.lists r.red r.few

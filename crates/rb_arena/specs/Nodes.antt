@@ -6,7 +6,7 @@ use Rattle.raw_arena.specs.Arena.{Nodes, node, IsLive}
 use Rattle.rb_rules.specs.declared.slot.Side.{Side}
 use Rattle.rb_rules.specs.declared.slot.Side.TheVariants.{Left}
 use Rattle.rb_rules.specs.declared.slot.Slot.{Slot}
-use Rattle.rb_rules.specs.Tree.{Tree, fork, plug, root_of, depth, height, count}
+use Rattle.rb_rules.specs.Tree.{Tree, fork, plug, root_of, above, depth, height, count}
 use Rattle.rb_rules.specs.Memory.{sided, adopted, Made, Spot, here, below, AtSpot}
 use Rattle.rb_arena.specs.declared.links.Links.{Links}
 
@@ -18,6 +18,10 @@ module _ {D : Type 0} where
   -- the node is live, and so is the one on its right, if any
   abbrev pub HeadsChain : Nodes (Slot D) → ℕ → Type 0
   HeadsChain nodes id = (slot : Slot D) × (node nodes id ≡ Some slot) × IfSome slot.right (λ i. IsLive nodes i)
+
+  -- a node's slot, by where it stands
+  abbrev pub slot_of : Spot D → Slot D
+  slot_of s = sided Left (above s.hole) (root_of s.left) (root_of s.right) s.red s.datum
 
   module _ (tree : Links D) where
     -- the node stands in the tree, with a child on that side

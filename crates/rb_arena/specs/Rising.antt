@@ -20,10 +20,16 @@ module _ {X S B : Type 0} (w : Weaving X S B) (is_near : B → Type 0) (beside :
 
   -- a tree with the items es lies in the memory, red-black but that the node of that name is red in a hole that may want a black one,
   -- with no more than n nodes above
-  abbrev pub Rising : ℕ → ℕ → Type 0
-  Rising i n =
-      (k : Hole (Data X S B)) × ((t : Tree (Data X S B)) × ((h : ℕ) × Made beside m root (plug k t) × Lists w is_near (plug k t) es
-      × (root_of t ≡ Some i) × Rb true h t × Fits false h k × (depth k ≤ n)))
+  pub record Rising (i n : ℕ) : Type 0 where
+    pub hole : Hole (Data X S B)
+    pub subtree : Tree (Data X S B)
+    pub black : ℕ
+    pub made : Made beside m root (plug hole subtree)
+    pub lists : Lists w is_near (plug hole subtree) es
+    pub named : root_of subtree ≡ Some i
+    pub red : Rb true black subtree
+    pub fits : Fits false black hole
+    pub few : depth hole ≤ n
 
   -- one or the other, by whether there is such a node
   abbrev pub Risen : Option ℕ → ℕ → Type 0

@@ -73,6 +73,11 @@ module _ {X : Type 0} where
   abbrev pub HasAfter : List (ℕ × X) → List (ℕ × X) → ℕ → ℕ × X → Type 0
   HasAfter old new id entry = AtItem old id (λ us x vs. new ≡ us ++ (id, x) ∷ entry ∷ vs)
 
+  -- the new list is the old one with that entry right after the item of that name, or before all items
+  abbrev pub HasPut : List (ℕ × X) → List (ℕ × X) → Option ℕ → ℕ × X → Type 0
+  HasPut old new None entry = new ≡ entry ∷ old
+  HasPut old new (Some id) entry = HasAfter old new id entry
+
   -- where the list is parted after the item of that name, or before all items, this holds of the parts
   abbrev pub AtPlace : List (ℕ × X) → Option ℕ → (List (ℕ × X) → List (ℕ × X) → Type 0) → Type 0
   AtPlace items id P = (us vs : List (ℕ × X)) → SplitsAfter items id us vs → P us vs
@@ -153,6 +158,11 @@ first_or o (e ∷ es) = Some e.0
 abbrev pub SumsTo : {X S B : Type 0} → Weaving X S B → (S → Type 0) → List (ℕ × X) → ℕ → X → Type 0
 SumsTo {X = X} w is_value items id item = (us : List (ℕ × X)) (x : X) (vs : List (ℕ × X)) → SplitsAt items id us x vs → is_value (sum_of w (us ++ (id, x) ∷ (0, item) ∷ vs))
 
+-- the same before all items, where none is named
+abbrev pub SumsPut : {X S B : Type 0} → Weaving X S B → (S → Type 0) → List (ℕ × X) → Option ℕ → X → Type 0
+SumsPut w is_value items None item = is_value (sum_of w ((0, item) ∷ items))
+SumsPut w is_value items (Some id) item = SumsTo w is_value items id item
+
 -- the nearest node above a hole that stands after it
 abbrev pub up_next : {D : Type 0} → Hole D → Option ℕ
 up_next top = None
@@ -170,6 +180,16 @@ SumsWith {X = X} w is_value items id item = (us : List (ℕ × X)) (x : X) (vs :
 abbrev pub last_or : {X : Type 0} → Option ℕ → List (ℕ × X) → Option ℕ
 last_or o [] = o
 last_or o (e ∷ es) = last_or (Some e.0) es
+
+-- the name of the item at that end of the list
+abbrev pub name_at_end : {X : Type 0} → Side → List (ℕ × X) → Option ℕ
+name_at_end Left items = first_or None items
+name_at_end Right items = last_or None items
+
+-- the name of the item beside a place that has us before it and vs after it
+abbrev pub name_beside : {X : Type 0} → Side → List (ℕ × X) → List (ℕ × X) → Option ℕ
+name_beside Left us vs = last_or None us
+name_beside Right us vs = first_or None vs
 
 -- one name or the other, by whether there is a third
 abbrev pub nearest : Option ℕ → Option ℕ → Option ℕ → Option ℕ

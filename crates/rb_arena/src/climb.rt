@@ -5,7 +5,7 @@ ghost use Rattle.rb_rules.specs.Sound.{renewed};
 ghost use Rattle.rb_arena.specs.Nodes.{Rewritten};
 ghost use Rattle.rb_arena.specs.Relative.{CanRenewNode, IsSlackFrom, RenewsFrom};
 
-use crate::links::{Links, read, rewrite};
+use crate::links::{Links, node_of, rewrite};
 use crate::sums::{summed, whole};
 use raw_arena::NodeId;
 use rb_rules::{Data, Weave};
@@ -20,7 +20,7 @@ fn renew<W: Weave>(tree: &mut Links<Data<W::Item, W::Sum, W::By>>, id: NodeId)
     ensures spare { tree.new.nodes.spare ≡ tree.old.nodes.spare }
     ensures as_many { map.len tree.new.nodes.live ≡ map.len tree.old.nodes.live }
 {
-    let slot = read(&tree.nodes, id);
+    let slot = node_of(tree, id);
     let left = whole::<W>(&tree.nodes, slot.left);
     let right = whole::<W>(&tree.nodes, slot.right);
     let datum = summed::<W>(slot.data.item, slot.data.delta, left, right);
@@ -42,7 +42,7 @@ pub(crate) fn renew_up<W: Weave>(
         let Some(id) = at else {
             return;
         };
-        at = read(&tree.nodes, id).parent;
+        at = node_of(tree, id).parent;
         renew::<W>(tree, id);
     }
 }

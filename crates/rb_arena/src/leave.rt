@@ -11,7 +11,7 @@ ghost use Rattle.rb_arena.specs.Leaving.{Unlinks, UnlinksBefore};
 use crate::climb::renew_up;
 use crate::close::close;
 use crate::insert::{copy_of, parent_at, path_shift};
-use crate::links::{Links, Place, hang, place, read, replace, string};
+use crate::links::{Links, Place, hang, node_of, place, read, replace, string};
 use crate::sums::turn_node;
 use crate::tree::first_place;
 use raw_arena::NodeId;
@@ -76,7 +76,7 @@ pub(crate) fn item_at<W: Weave>(tree: &Links<Data<W::Item, W::Sum, W::By>>, id: 
 {
     let at = place(tree, id);
     let by = path_shift::<W>(tree, at);
-    W::shift(by, read(&tree.nodes, id).data.item)
+    W::shift(by, node_of(tree, id).data.item)
 }
 
 /// What a node keeps of an item that is to stand there.

@@ -5,7 +5,7 @@ ghost use Rattle.rb_rules.specs.Shifts as shifts;
 ghost use Rattle.rb_arena.specs.Relative.{RelativeItem, RelativeSum};
 ghost use Rattle.rb_arena.specs.Shifting.{CanLevelAt, Levels};
 
-use crate::links::{Links, read, rewrite};
+use crate::links::{Links, node_of, rewrite};
 use raw_arena::NodeId;
 use rb_rules::{Data, Weave};
 
@@ -42,7 +42,7 @@ pub(crate) fn level<W: Weave>(
     let Some(id) = at else {
         return;
     };
-    let slot = read(&tree.nodes, id);
+    let slot = node_of(tree, id);
     let datum = level_datum::<W>(by, &slot.data);
     rewrite(tree, id, slot.red, datum);
     level::<W>(tree, slot.left, by, levels - 1);

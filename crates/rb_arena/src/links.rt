@@ -6,7 +6,7 @@ ghost use Rattle.rb_rules.specs.Tree.{fork};
 ghost use Rattle.rb_rules.specs.declared.slot.Slot.{Slot};
 ghost use Rattle.rb_rules.specs.Memory.{place_of, adopted, hung, root_hung};
 ghost use Rattle.rb_rules.specs.Memory.{here, Stands, AtSpot, turned};
-ghost use Rattle.rb_arena.specs.Nodes.{Becomes, HasChildAt, HeadsChain, Inherits, strung};
+ghost use Rattle.rb_arena.specs.Nodes.{Becomes, HasChildAt, HeadsChain, Inherits, slot_of, strung};
 
 use raw_arena::{Arena, NodeId};
 use rb_rules::{Packed, Side, Slot};
@@ -82,12 +82,21 @@ pub(crate) fn write<D: Copy>(nodes: &mut Arena<Packed<D>>, id: NodeId, slot: Slo
     overwritten::<D, Brand>(nodes, id, slot, Blank::new(1))
 }
 
+/// Reads a node of the tree.
+pub(crate) fn node_of<D: Copy>(tree: &Links<D>, id: NodeId) -> Slot<D>
+    requires { Stands tree.now.nodes.live tree.now.root id }
+    ensures value { node tree.now.nodes id ≡ Some result }
+    ensures slot { AtSpot tree.now.nodes.live tree.now.root id (λ s. result ≡ slot_of s) }
+{
+    read(&tree.nodes, id)
+}
+
 /// The place of a node of the tree.
 pub(crate) fn place<D: Copy>(tree: &Links<D>, id: NodeId) -> Place
     requires { Stands tree.now.nodes.live tree.now.root id }
     ensures { AtSpot tree.now.nodes.live tree.now.root id (λ s. result ≡ place_of s.hole) }
 {
-    let above = read(&tree.nodes, id).parent?;
+    let above = node_of(tree, id).parent?;
     let side = read(&tree.nodes, above).side_of(id);
     Some((above, side))
 }
@@ -128,7 +137,7 @@ pub(crate) fn rewrite<D: Copy>(tree: &mut Links<D>, id: NodeId, red: bool, datum
     ensures spare { tree.new.nodes.spare ≡ tree.old.nodes.spare }
     ensures as_many { map.len tree.new.nodes.live ≡ map.len tree.old.nodes.live }
 {
-    let mut slot = read(&tree.nodes, id);
+    let mut slot = node_of(tree, id);
     slot.red = red;
     slot.data = datum;
     write(&mut tree.nodes, id, slot);
@@ -142,7 +151,7 @@ pub(crate) fn turn<D: Copy>(tree: &mut Links<D>, id: NodeId, side: Side, low: D,
     ensures as_many { map.len tree.new.nodes.live ≡ map.len tree.old.nodes.live }
 {
     let at = place(tree, id);
-    let upper = read(&tree.nodes, id);
+    let upper = node_of(tree, id);
     let Some(child) = upper.child(side) else {
         return;
     };
@@ -167,7 +176,7 @@ pub(crate) fn replace<D: Copy>(tree: &mut Links<D>, id: NodeId, heir: NodeId, da
     ensures as_many { map.len tree.new.nodes.live ≡ map.len tree.old.nodes.live }
 {
     let at = place(tree, id);
-    let old = read(&tree.nodes, id);
+    let old = node_of(tree, id);
     adopt(&mut tree.nodes, old.left, Some(heir));
     adopt(&mut tree.nodes, old.right, Some(heir));
     hang(tree, at, Some(heir));

@@ -8,7 +8,7 @@ ghost use Rattle.rb_arena.specs.Rising.{IsRising, IsRisingFrom, RisesTo, MendsFr
 ghost use Rattle.rb_arena.specs.Mending.{case_of, bent, HasChild, red_child_in};
 
 use crate::climb::LONGEST;
-use crate::links::{Links, place, read, rewrite};
+use crate::links::{Links, node_of, place, read, rewrite};
 use crate::sums::turn_node;
 use raw_arena::{Arena, NodeId};
 use rb_rules::{Data, Packed, Side, Weave};
@@ -35,7 +35,7 @@ pub(crate) fn paint<D: Copy>(tree: &mut Links<D>, id: NodeId, red: bool)
     ensures spare { tree.new.nodes.spare ≡ tree.old.nodes.spare }
     ensures as_many { map.len tree.new.nodes.live ≡ map.len tree.old.nodes.live }
 {
-    let datum = read(&tree.nodes, id).data;
+    let datum = node_of(tree, id).data;
     rewrite(tree, id, red, datum);
 }
 
@@ -76,7 +76,7 @@ fn find_case<D: Copy>(tree: &Links<D>, id: NodeId) -> Case
     let Some(at) = place(tree, id) else {
         return Case::Settled;
     };
-    if !read(&tree.nodes, at.0).red {
+    if !node_of(tree, at.0).red {
         return Case::Settled;
     }
     let Some(above) = place(tree, at.0) else {

@@ -10,7 +10,7 @@ ghost use Rattle.rb_arena.specs.Shifting.{ShiftsUp, ShiftsAll, FindsReach};
 use crate::climb::{LONGEST, renew_up};
 use crate::insert::parent_at;
 use crate::level::level;
-use crate::links::{Links, Place, place, read, rewrite};
+use crate::links::{Links, Place, node_of, place, rewrite};
 use raw_arena::NodeId;
 use rb_rules::{Data, Side, Weave};
 
@@ -21,7 +21,7 @@ fn move_node<W: Weave>(tree: &mut Links<Data<W::Item, W::Sum, W::By>>, id: NodeI
     ensures spare { tree.new.nodes.spare ≡ tree.old.nodes.spare }
     ensures as_many { map.len tree.new.nodes.live ≡ map.len tree.old.nodes.live }
 {
-    let slot = read(&tree.nodes, id);
+    let slot = node_of(tree, id);
     let datum = Data {
         item: W::shift(by, slot.data.item),
         delta: W::plus(by, slot.data.delta),

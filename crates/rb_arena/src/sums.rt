@@ -9,7 +9,7 @@ ghost use Rattle.rb_arena.specs.Value.{with_item};
 ghost use Rattle.rb_rules.specs.Weaving as weaving;
 ghost use Rattle.rb_rules.specs.Woven.{whole_in};
 
-use crate::links::{Links, read, rewrite, turn};
+use crate::links::{Links, node_of, read, rewrite, turn};
 use raw_arena::{Arena, NodeId};
 use rb_rules::{Data, Packed, Side, Weave};
 
@@ -95,7 +95,7 @@ pub(crate) fn turn_node<W: Weave>(
     ensures spare { tree.new.nodes.spare ≡ tree.old.nodes.spare }
     ensures as_many { map.len tree.new.nodes.live ≡ map.len tree.old.nodes.live }
 {
-    let upper = read(&tree.nodes, id);
+    let upper = node_of(tree, id);
     let Some(child) = upper.child(side) else {
         return;
     };
@@ -117,7 +117,7 @@ pub(crate) fn replace_item<W: Weave>(
     ensures spare { tree.new.nodes.spare ≡ tree.old.nodes.spare }
     ensures as_many { map.len tree.new.nodes.live ≡ map.len tree.old.nodes.live }
 {
-    let slot = read(&tree.nodes, id);
+    let slot = node_of(tree, id);
     let datum = Data {
         item,
         delta: slot.data.delta,

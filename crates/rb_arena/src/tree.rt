@@ -3,9 +3,10 @@ ghost use Rattle.std.specs.Prelude.{◌≡◌, None, length, ◌-◌, ◌^◌, �
 ghost use Rattle.rb_rules.specs.Memory.{place_of};
 ghost use Rattle.rb_rules.specs.Woven.{sum_of};
 ghost use Rattle.rb_arena.specs.Value.{listed, first_hole, end_hole, up_on, neighbour_of};
-ghost use Rattle.rb_arena.specs.Value.{first_or, last_or, front_of};
-ghost use Rattle.rb_arena.specs.Value.{IsItem, AtItem, HasAfter, HasInstead, HasLifted, LeavesOut};
-ghost use Rattle.rb_arena.specs.Value.{SumsTo, SumsWith};
+ghost use Rattle.rb_arena.specs.Value.{first_or, last_or, front_of, name_at_end, name_beside};
+ghost use Rattle.rb_arena.specs.Value.{IsItem, AtItem, HasAfter, HasPut, HasInstead};
+ghost use Rattle.rb_arena.specs.Value.{HasLifted, LeavesOut};
+ghost use Rattle.rb_arena.specs.Value.{SumsTo, SumsPut, SumsWith};
 ghost use Rattle.rb_arena.specs.Value.{PlaceAfter, CanMoveAfter, SumsMoved, HasMoved};
 ghost use Rattle.rb_arena.specs.Value.{HasFront, AtFront, SumsLanded, HasLanded};
 ghost use Rattle.rb_arena.specs.Names.{HaveOwnNames};
@@ -17,7 +18,7 @@ use crate::climb::{LONGEST, renew_up};
 use crate::descend::{descend, descend_after};
 use crate::insert::{insert_at, land_at, parent_at};
 use crate::leave::{item_at, item_for, leave, loosen};
-use crate::links::{Links, Place, place, read, unstring};
+use crate::links::{Links, Place, node_of, place, read, unstring};
 use crate::shift::{reach_for, shift_from};
 use crate::sums::{replace_item, whole};
 use raw_arena::{Arena, NodeId};
@@ -84,7 +85,7 @@ fn place_after<D: Copy>(tree: &Links<D>, id: Option<NodeId>) -> Place
 {
     match id {
         None => first_place(tree, None, tree.root),
-        Some(id) => first_place(tree, Some((id, Side::Right)), read(&tree.nodes, id).right),
+        Some(id) => first_place(tree, Some((id, Side::Right)), node_of(tree, id).right),
     }
 }
 
@@ -111,7 +112,7 @@ fn neighbour<D: Copy>(tree: &Links<D>, id: NodeId, side: Side) -> Option<NodeId>
     requires { StandsWithin tree.now 126 id }
     ensures { AtSpotWithin tree.now 126 id (λ s. result ≡ neighbour_of side id s) }
 {
-    let below = read(&tree.nodes, id).child(side);
+    let below = node_of(tree, id).child(side);
     if below.is_none() {
         return above_on(tree, id, side.other());
     }
@@ -144,19 +145,35 @@ impl<W: Weave> RbTree<W> {
         self.links.nodes.reserve(count)
     }
 
+    /// The name of the item at that end. No name stands twice.
+    fn end(&self, side: Side) -> Option<NodeId>
+        ensures end { result ≡ name_at_end side self.now.items }
+        ensures names { HaveOwnNames self.now.items self.now.loose }
+    {
+        parent_at(&end_place(&self.links, None, self.links.root, side))
+    }
+
+    /// The name of the item right beside that one, on that side.
+    fn beside(&self, id: NodeId, side: Side) -> Option<NodeId>
+        requires { IsItem self.now.items id }
+        ensures { AtItem self.now.items id (λ us x vs. result ≡ name_beside side us vs) }
+    {
+        neighbour(&self.links, id, side)
+    }
+
     /// The first item's name. No name stands twice, among the items and the loose ones.
     pub fn first(&self) -> Option<NodeId>
         ensures first { result ≡ first_or None self.now.items }
         ensures names { HaveOwnNames self.now.items self.now.loose }
     {
-        parent_at(&first_place(&self.links, None, self.links.root))
+        self.end(Side::Left)
     }
 
     /// The last item's name.
     pub fn last(&self) -> Option<NodeId>
         ensures { result ≡ last_or None self.now.items }
     {
-        parent_at(&end_place(&self.links, None, self.links.root, Side::Right))
+        self.end(Side::Right)
     }
 
     /// The sum of all items.
@@ -171,7 +188,7 @@ impl<W: Weave> RbTree<W> {
         requires { IsItem self.now.items id }
         ensures { AtItem self.now.items id (λ us x vs. result ≡ first_or None vs) }
     {
-        neighbour(&self.links, id, Side::Right)
+        self.beside(id, Side::Right)
     }
 
     /// The name of the item before that one.
@@ -179,7 +196,7 @@ impl<W: Weave> RbTree<W> {
         requires { IsItem self.now.items id }
         ensures { AtItem self.now.items id (λ us x vs. result ≡ last_or None us) }
     {
-        neighbour(&self.links, id, Side::Left)
+        self.beside(id, Side::Left)
     }
 
     /// Searches for a key: an item at which the search ends, with its name and the sum of the items before it. The search ends
@@ -231,6 +248,20 @@ impl<W: Weave> RbTree<W> {
         renew_up::<W>(&mut self.links, Some(id));
     }
 
+    /// Puts an item right after that one, or before all others.
+    fn put_after(&mut self, id: Option<NodeId>, item: W::Item) -> NodeId
+        requires room { 0 < self.old.spare }
+        requires named { PlaceAfter self.old.items id }
+        requires value { W.is_item item }
+        requires sum { SumsPut W.weaving W.is_value self.old.items id item }
+        ensures items { HasPut self.old.items self.new.items id (result, item) }
+        ensures loose { self.new.loose ≡ self.old.loose }
+        ensures spare { self.new.spare + 1 ≡ self.old.spare }
+    {
+        let at = place_after(&self.links, id);
+        insert_at::<W>(&mut self.links, at, item)
+    }
+
     /// Puts an item right after that one.
     pub fn insert_after(&mut self, id: NodeId, item: W::Item) -> NodeId
         requires room { 0 < self.old.spare }
@@ -241,8 +272,7 @@ impl<W: Weave> RbTree<W> {
         ensures loose { self.new.loose ≡ self.old.loose }
         ensures spare { self.new.spare + 1 ≡ self.old.spare }
     {
-        let at = place_after(&self.links, Some(id));
-        insert_at::<W>(&mut self.links, at, item)
+        self.put_after(Some(id), item)
     }
 
     /// Puts an item before all others.
@@ -254,8 +284,7 @@ impl<W: Weave> RbTree<W> {
         ensures loose { self.new.loose ≡ self.old.loose }
         ensures spare { self.new.spare + 1 ≡ self.old.spare }
     {
-        let at = place_after(&self.links, None);
-        insert_at::<W>(&mut self.links, at, item)
+        self.put_after(None, item)
     }
 
     /// Takes the item of that name out. Its name is free again.

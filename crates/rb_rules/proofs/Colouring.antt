@@ -49,9 +49,6 @@ module _ {D : Type 0} where
     pub blackened_root : Fits false n (on s true p dp x top) → Balanced (forked s false p dp t x)
     blackened_root (e, a, b) = (suc n, (false, black_forked s n p dp t x (true, red) (false, a)))
 
-    pub no_two_reds : (s2 : Side) (g : ℕ) (dg : D) (u : Tree D) (k : Hole D) → Fits false n (on s true p dp x (on s2 true g dg u k)) → ⊥
-    no_two_reds s2 g dg u k (e, a, (f, b, c)) = true≢false f
-
     module _ (s2 : Side) (g : ℕ) (dg : D) (k : Hole D) where
       pub uncle_red : (ui : ℕ) (ud : D) (u v : Tree D) → Fits false n (on s true p dp x (on s2 false g dg (fork true ui ud u v) k))
           → Rb true (suc n) (forked s2 true g dg (forked s false p dp t x) (fork false ui ud u v)) × Fits false (suc n) k
@@ -69,9 +66,6 @@ module _ {D : Type 0} where
       let (e2, ra, rb) = of_red s true n z dz a b red in (red_forked s n p dp2 b x rb rx, (refl, ra, f))
 
   -- Removal: a tree with one black node too few on each path stands in a hole.
-  pub red_blackened : (n i : ℕ) (d : D) (x y : Tree D) (k : Hole D) → Rb true n (fork true i d x y) → Fits false (suc n) k → Balanced (plug k (fork false i d x y))
-  red_blackened n i d x y k (e, a, b) f = plugged false (suc n) k (fork false i d x y) (refl, (n, refl, (false, a), (false, b))) f
-
   module _ (s : Side) (n p : ℕ) (dp : D) (k : Hole D) where
     -- the brother of such a tree has a node
     pub some_brother : (c : Bool) → Fits false (suc n) (on s c p dp tip k) → ⊥

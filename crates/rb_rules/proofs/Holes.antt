@@ -3,7 +3,7 @@ use Rattle.std.proofs.Common.{◌≡◌, ℕ, ◌+◌, Bool, cond, eqb, Some, re
 use Rattle.std.proofs.lemmas.Bool.Decides.{eqb_tells}
 use Rattle.rb_rules.specs.declared.slot.Side.{Side}
 use Rattle.rb_rules.specs.declared.slot.Side.TheVariants.{Left, Right}
-use Rattle.rb_rules.specs.Tree.{Tree, Hole, top, on, other, forked, plug, root_of, count, count_round, size}
+use Rattle.rb_rules.specs.Tree.{Tree, Hole, top, on, other, forked, plug, root_of, count, count_round}
 
 -- a node counts its own name
 pub count_self : (i n : ℕ) → cond (eqb i i) 1 0 + n ≡ 1 + n
@@ -21,10 +21,6 @@ module _ {D : Type 0} where
   pub count-forked : (j : ℕ) (s : Side) (c : Bool) (i : ℕ) (d : D) (x y : Tree D) → count j (forked s c i d x y) ≡ cond (eqb j i) 1 0 + (count j x + count j y)
   count-forked j Left c i d x y = refl
   count-forked j Right c i d x y = omega arith
-
-  pub size-forked : (s : Side) (c : Bool) (i : ℕ) (d : D) (x y : Tree D) → size (forked s c i d x y) ≡ 1 + (size x + size y)
-  size-forked Left c i d x y = refl
-  size-forked Right c i d x y = omega arith
 
   pub count-plug : (j : ℕ) (k : Hole D) (t : Tree D) → count j (plug k t) ≡ count_round j k + count j t
   count-plug j top t = omega arith

@@ -90,13 +90,6 @@ module _ {D : Type 0} where
           let one = alone i in let own = count_root c i d x y in let P : map.FinMap nat_cmp (Slot D) → Type 0 = λ n. Around n root k o in
           subst P (sym (adopted_is m i p _ e)) (kept_round m i _ root k o (omega (arith, one, own)) g)
 
-      pub slot_adopted : (t : Tree D) (j : ℕ) (n : Slot D) → Makes m q t → count j t ≡ 0 → map.get m j ≡ Some n → map.get (adopted m (root_of t) p) j ≡ Some n
-      slot_adopted tip j n h none g = g
-      slot_adopted (fork c i d x y) j n (e, a, b) none g =
-          let own = count_root c i d x y in let P : map.FinMap nat_cmp (Slot D) → Type 0 = λ l. map.get l j ≡ Some n in
-          let ne : j ≢ i = λ same. let Q : ℕ → Type 0 = λ l. count l (fork c i d x y) ≡ 0 in let zero_ = subst Q same none in absurd (omega (arith, zero_, own)) in
-          subst P (sym (adopted_is m i p _ e)) (get-insert_other m i _ j ne ∙ g)
-
       pub adopted_made : (t : Tree D) → Makes m q t → ((j : ℕ) → count j t ≤ 1) → Makes (adopted m (root_of t) p) p t
       adopted_made tip h once = tt
       adopted_made (fork c i d x y) (e, a, b) once =

@@ -1,23 +1,15 @@
 -- What a tree's shape tells of it.
-use Rattle.std.proofs.Common.{◌≡◌, ℕ, ◌+◌, max, Bool, true, false, List, [], ◌∷◌, ◌++◌, refl, sym, ap, ◌∙◌, subst}
+use Rattle.std.proofs.Common.{◌≡◌, ℕ, Bool, true, false, List, [], ◌∷◌, ◌++◌, refl, sym, ap, ◌∙◌, subst}
 use Rattle.rb_rules.specs.declared.slot.Data.{Data}
 use Rattle.rb_rules.specs.declared.slot.Side.{Side}
 use Rattle.rb_rules.specs.declared.slot.Side.TheVariants.{Left, Right}
-use Rattle.rb_rules.specs.Tree.{Tree, tip, fork, Hole, top, on, forked, plug, size, height}
+use Rattle.rb_rules.specs.Tree.{Tree, tip, fork, Hole, top, on, forked, plug}
 use Rattle.rb_rules.specs.Colours.{Rb}
 use Rattle.rb_rules.specs.Shape.{each, shape}
 use Rattle.rb_rules.specs.Weaving.{Weaving}
 use Rattle.rb_rules.specs.Woven.{entries}
 
 module _ {D E : Type 0} (f : D → E) where
-  pub height-each : (t : Tree D) → height (each f t) ≡ height t
-  height-each tip = refl
-  height-each (fork c i d x y) = λ j. 1 + max (height-each x j) (height-each y j)
-
-  pub size-each : (t : Tree D) → size (each f t) ≡ size t
-  size-each tip = refl
-  size-each (fork c i d x y) = λ j. 1 + (size-each x j + size-each y j)
-
   pub rb_to_each : (c : Bool) (n : ℕ) (t : Tree D) → Rb c n t → Rb c n (each f t)
   rb_to_each c n tip r = r
   rb_to_each c n (fork true i d x y) (e, a, b) = (e, rb_to_each false n x a, rb_to_each false n y b)
@@ -53,9 +45,6 @@ module _ {X S B : Type 0} (w : Weaving X S B) where
 module _ {X S B : Type 0} where
   abbrev f : Data X S B → X × B
   f d = (d.item, d.delta)
-
-  pub same_height : (t u : Tree (Data X S B)) → shape t ≡ shape u → height t ≡ height u
-  same_height t u e = sym (height-each f t) ∙ ap height e ∙ height-each f u
 
   pub same_colours : (c : Bool) (n : ℕ) (t u : Tree (Data X S B)) → shape t ≡ shape u → Rb c n t → Rb c n u
   same_colours c n t u e r = rb_of_each f c n u (subst (Rb c n) e (rb_to_each f c n t r))

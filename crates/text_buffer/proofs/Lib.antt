@@ -14,3 +14,4 @@ pub mod Lasts
 pub mod Positions
 pub mod Touched
 pub mod Spots
+pub mod AddedBreaks

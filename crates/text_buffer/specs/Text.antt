@@ -14,9 +14,11 @@ pub record Text : Type 0 where
   -- the spans of the buffers that spell the units, one for each piece
   pub spans : List ChunkSpan
   pub buffers : List (List ℕ)
-  -- for how many edits there is room, and for how many units; each edit takes up to three more than its text has
+  -- for how many edits there is room, and for how many units and breaks; each edit takes up to three units and two
+  -- breaks more than its text has
   pub spare_edits : ℕ
   pub spare_units : ℕ
+  pub spare_breaks : ℕ
 
 -- the units of the pieces, one after another
 abbrev pub spelled : List (List ℕ) → List Piece → List ℕ
@@ -40,6 +42,7 @@ text_of tree chunks = record {
   buffers = chunks.buffers;
   spare_edits = tree.spare;
   spare_units = chunks.spare;
+  spare_breaks = chunks.spare_breaks;
 }
 
 -- at that offset of the text one of its spans ends, where the last buffer ends: what is appended next goes on from that span

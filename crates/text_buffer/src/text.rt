@@ -3,6 +3,7 @@
 ghost use Rattle.std.specs.Prelude.{◌≡◌, ℕ, ◌+◌, ◌-◌, ◌*◌, ◌<◌, ◌≤◌, ◌^◌, ◌&&◌, ◌++◌, ◌∷◌, List, [], true, false, if◌then◌else◌, length, map, take, drop, slice_index, slice_index_or, OnOk, OnErr, IfOk, IfSome};
 ghost use Rattle.std.specs.List.{All, flat_map};
 ghost use Rattle.chunk_buffers.specs.Chunks.{units_at, unit_count, LiesIn, Extends, EndsLast};
+ghost use Rattle.line_starts.specs.Starts.{break_count};
 ghost use Rattle.piece_tree.specs.Costs.{WithinLookUps};
 ghost use Rattle.unit_text.specs.Units.{is_place};
 ghost use Rattle.text_rules.specs.Positions.{position_of, is_position, offset_of};
@@ -29,6 +30,9 @@ use unit_text::{CARRIAGE_RETURN, Flat, LINE_FEED};
 
 /// What an edit may append beside its text: a CR, an LF, and a unit that keeps buffers apart.
 const UNITS_AN_EDIT: u64 = 3;
+
+/// What breaks an edit may append beside those of its text: its CR, and its LF.
+const BREAKS_AN_EDIT: u64 = 2;
 
 /// One text. Contracts see its units, and the spans that spell them.
 ///
@@ -76,22 +80,23 @@ impl TextBuffer {
         Ok(TextBuffer { pieces, chunks })
     }
 
-    /// Makes room for that many edits whose texts have that many units together. An error leaves the text as it was.
-    pub fn reserve(&mut self, edits: u64, units: u64) -> Result<(), AllocError>
+    /// Makes room for that many edits whose texts have that many units and breaks together. An error leaves the text as
+    /// it was.
+    pub fn reserve(&mut self, edits: u64, units: u64, breaks: u64) -> Result<(), AllocError>
         ensures edits { OnOk result (edits ≤ self.new.spare_edits) }
         ensures room { OnOk result (units + 3 * edits ≤ self.new.spare_units) }
+        ensures breaks { OnOk result (breaks + 2 * edits ≤ self.new.spare_breaks) }
         ensures kept_edits { self.old.spare_edits ≤ self.new.spare_edits }
         ensures kept_room { self.old.spare_units ≤ self.new.spare_units }
+        ensures kept_breaks { self.old.spare_breaks ≤ self.new.spare_breaks }
         ensures same { self.new.units ≡ self.old.units }
         ensures spans { self.new.spans ≡ self.old.spans }
         ensures grown { Extends self.old.buffers self.new.buffers }
         ensures appended { unit_count self.new.buffers ≡ unit_count self.old.buffers }
     {
-        let room = edits
-            .checked_mul(UNITS_AN_EDIT)
-            .and_then(|more| units.checked_add(more))
-            .ok_or(AllocError)?;
-        self.chunks.reserve(0, room)?;
+        let units = with_edits(units, edits, UNITS_AN_EDIT)?;
+        let breaks = with_edits(breaks, edits, BREAKS_AN_EDIT)?;
+        self.chunks.reserve(0, units, breaks)?;
         self.pieces.reserve(edits)
     }
 
@@ -133,6 +138,7 @@ impl TextBuffer {
         requires within { span.end ≤ length self.old.units }
         requires edits { 0 < self.old.spare_edits }
         requires room { length text.now + 3 ≤ self.old.spare_units }
+        requires breaks { break_count text.now + 2 ≤ self.old.spare_breaks }
         requires small { length (edited self.old.units
             (record { span = span; text = text.now; force = false })) < 2 ^ 62 }
         ensures units { self.new.units
@@ -149,6 +155,8 @@ impl TextBuffer {
         ensures grown { Extends self.old.buffers self.new.buffers }
         ensures spare_edits { self.new.spare_edits + 1 ≡ self.old.spare_edits }
         ensures spare_units { self.old.spare_units ≤ self.new.spare_units + length text.now + 3 }
+        ensures spare_breaks { self.old.spare_breaks
+            ≤ self.new.spare_breaks + break_count text.now + 2 }
         ensures dirty { result ≡ dirty_lines self.old.units span text.now }
         ensures before { take (result.first - 1) (lines_of self.new.units)
             ≡ take (result.first - 1) (lines_of self.old.units) }
@@ -433,6 +441,16 @@ impl Flat for TextBuffer {
     }
 }
 
+// This many, and so many more for each edit.
+fn with_edits(own: u64, edits: u64, each: u64) -> Result<u64, AllocError>
+    ensures { IfOk result (λ all. all ≡ own + each * edits) }
+{
+    edits
+        .checked_mul(each)
+        .and_then(|more| own.checked_add(more))
+        .ok_or(AllocError)
+}
+
 fn carriage_return_if(test: bool) -> &'static [u16]
     ensures { result.now ≡ unit_if test carriage_return }
 {
@@ -452,13 +470,17 @@ fn append_some(
     text: &[u16],
     after: &[u16],
 ) -> Option<ChunkSpan>
-    requires { length (before.now ++ text.now ++ after.now) < chunks.old.spare }
+    requires room { length (before.now ++ text.now ++ after.now) < chunks.old.spare }
+    requires breaks { break_count (before.now ++ text.now ++ after.now)
+        ≤ chunks.old.spare_breaks }
     ensures added { IsAdded chunks.new.buffers result (before.now ++ text.now ++ after.now) }
     ensures grown { Extends chunks.old.buffers chunks.new.buffers }
     ensures units { unit_count chunks.new.buffers
         ≤ unit_count chunks.old.buffers + length (before.now ++ text.now ++ after.now) + 1 }
     ensures spare { chunks.old.spare
         ≤ chunks.new.spare + length (before.now ++ text.now ++ after.now) + 1 }
+    ensures spare_breaks { chunks.old.spare_breaks
+        ≤ chunks.new.spare_breaks + break_count (before.now ++ text.now ++ after.now) }
     ensures last { IfSome result (λ span.
         EndsLast chunks.old.buffers chunks.new.buffers span (before.now ++ text.now ++ after.now)) }
 {

@@ -1,6 +1,7 @@
 //! Units from UTF-8, and back.
 
-ghost use Rattle.std.specs.Prelude.{◌≡◌, ◌&&◌, ◌<◌, ◌++◌, ◌∷◌, [], true, length, unwrap_or, IfNone, IfSome, OnOk, OnErr, take, vec_len};
+ghost use Rattle.std.specs.Prelude.{◌≡◌, ◌&&◌, ◌<◌, ◌≤◌, ◌++◌, ◌∷◌, [], true, length, unwrap_or, IfNone, IfSome, OnOk, OnErr, take, vec_len};
+ghost use Rattle.std.specs.Char.Escape.{encode_utf16};
 ghost use Rattle.std.specs.Char.Utf16.{utf16_lossy_chars, is_high_surrogate, is_low_surrogate, surrogate_pair_char, lone_unit_char};
 ghost use Rattle.unit_text.specs.Text.{units_of, utf8_of};
 
@@ -27,10 +28,23 @@ fn push_units(text: &str, out: &mut Vec<u16>) -> Result<(), AllocError>
     ensures before { take (vec_len out.old) out.new.items ≡ out.old.items }
 {
     for c in text.chars() {
-        let mut pair = [0u16; 2];
-        out.extend_from_slice(c.encode_utf16(&mut pair))?;
+        push_char(c, out)?;
     }
     Ok(())
+}
+
+// Most characters are one unit, which needs no copy of a pair.
+fn push_char(c: char, out: &mut Vec<u16>) -> Result<(), AllocError>
+    ensures ok { OnOk result (out.new.items ≡ out.old.items ++ encode_utf16 c) }
+    ensures err { OnErr result (out.new.items ≡ out.old.items) }
+    ensures grown { vec_len out.old ≤ vec_len out.new }
+{
+    if let Ok(unit) = u16::try_from(c) {
+        out.push(unit)?;
+        return Ok(());
+    }
+    let mut pair = [0u16; 2];
+    out.extend_from_slice(c.encode_utf16(&mut pair))
 }
 
 /// Appends the text of the units in UTF-8, with U+FFFD for each surrogate that stands in no pair. After an error `out`

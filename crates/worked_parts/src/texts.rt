@@ -1,5 +1,6 @@
-//! The spans of an edited text, and the lines that an edit touches.
+//! The spans of an edited text, the lines that an edit touches, and a text in a buffer with just the room for it.
 
+use chunk_buffers::Chunks;
 use std::test::Fail;
 use text_buffer::TextBuffer;
 use text_lengths::{Dirty, Span};
@@ -14,7 +15,7 @@ const X: u16 = 0x58;
 #[test]
 fn spans_of_an_edited_text(rt: HostRuntime) -> Result<(), Fail> {
     let mut text = TextBuffer::of_units(rt.alloc(), &[A, 13, X, 10, B])?;
-    text.reserve(1, 0)?;
+    text.reserve(1, 0, 0)?;
     text.replace(Span { start: 2, end: 3 }, &[]);
     let mut spans = Vec::new(rt.alloc());
     text.spans(&mut spans)?;
@@ -37,5 +38,16 @@ fn lines_that_an_edit_touches(rt: HostRuntime) -> Result<(), Fail> {
         new: 2,
     };
     assert_eq!(rt; dirty, touched);
+    Ok(())
+}
+
+/// A CR, and a CR LF behind it.
+#[test]
+fn text_with_just_the_room_for_its_breaks(rt: HostRuntime) -> Result<(), Fail> {
+    let mut chunks = Chunks::new(rt.alloc());
+    chunks.reserve(1, 3, 2)?;
+    let span = chunks.append(&[13, 13, 10]);
+    assert_eq!(rt; chunks.breaks(span), 2);
+    assert_eq!(rt; chunks.units(span), [13, 13, 10].as_slice());
     Ok(())
 }

@@ -5,6 +5,8 @@ use Rattle.decoration_rules.specs.Moves.{moved_mark}
 use Rattle.decoration_rules.specs.Marks.{in_order}
 use Rattle.batch_rules.specs.Batches.{text_units, edited_backwards}
 use Rattle.batch_rules.proofs.Backwards.{backwards_is_one_pass}
+use Rattle.line_starts.specs.Starts.{break_count}
+use Rattle.model_core.specs.History.{text_breaks}
 use Rattle.model_core.specs.Carrying.{edit_with, carried_with}
 use Rattle.text_rules.specs.Lines.{lines_of}
 use Rattle.model_core.specs.LineMarks.{marked_backwards}
@@ -26,6 +28,7 @@ loop-done-init c =
       pieces = omega arith;
       edits = omega arith;
       room = omega arith;
+      breaks = omega arith;
       carried = sym (ap (carried_with c.args.forces c.args.decorations.now) none ∙ carried_with-none c.args.forces c.args.decorations.now c.requires.inside.sound);
       inside = c.requires.inside;
       marks = sym (ap (λ o. marked_backwards c.args.text.now.units o c.args.last.now.marks) none);
@@ -63,6 +66,11 @@ pub replace-dirty-requires-clause-room : goal.replace-dirty-requires-clause-room
 replace-dirty-requires-clause-room c =
     let now = turn c.args.text.now.units c.args.ops.now c.loop-done.done c.index-ops-ops.result _ c.requires.standing c.loop-done-test.true c.index-ops-ops.is c.loop-done.invariant.units in
     omega (arith, c.requires.room, c.loop-done.invariant.room, c.loop-done-test.true, now.units, now.left, ap length c.as_slice.ensures)
+
+pub replace-dirty-requires-clause-breaks : goal.replace-dirty-requires-clause-breaks
+replace-dirty-requires-clause-breaks c =
+    let now = turn c.args.text.now.units c.args.ops.now c.loop-done.done c.index-ops-ops.result _ c.requires.standing c.loop-done-test.true c.index-ops-ops.is c.loop-done.invariant.units in
+    omega (arith, c.requires.breaks, c.loop-done.invariant.breaks, c.loop-done-test.true, now.breaks, now.breaks_left, ap break_count c.as_slice.ensures)
 
 pub replace-dirty-requires-clause-small : goal.replace-dirty-requires-clause-small
 replace-dirty-requires-clause-small c =
@@ -120,6 +128,7 @@ loop-done-preserved c =
       pieces = omega (arith, c.loop-done.invariant.pieces, c.replace-dirty.ensures.pieces);
       edits = omega (arith, c.loop-done.invariant.edits, c.replace-dirty.ensures.spare_edits);
       room = omega (arith, c.loop-done.invariant.room, c.replace-dirty.ensures.spare_units, now.units, ap length c.as_slice.ensures);
+      breaks = omega (arith, c.loop-done.invariant.breaks, c.replace-dirty.ensures.spare_breaks, now.breaks, ap break_count c.as_slice.ensures);
       carried = set ∙ sym moved.leaves;
       inside = record { sound = c.accept.ensures.sound; inside = rw (left, set) moved.inside };
       marks = c.mark.ensures.marks ∙ marked c.loop-done.text.units c.index-ops-ops.result c.replace-dirty.result dirty c.loop-done.last.marks
@@ -155,6 +164,12 @@ returns-clause-room c =
     let ops = c.args.ops.now in
     let all : length ops - c.loop-done.done ≡ 0 = omega arith in
     omega (arith, c.loop-done.invariant.room, ap (λ (k : ℕ). text_units (drop k ops)) all)
+
+pub returns-clause-breaks : goal.returns-clause-breaks
+returns-clause-breaks c =
+    let ops = c.args.ops.now in
+    let all : length ops - c.loop-done.done ≡ 0 = omega arith in
+    omega (arith, c.loop-done.invariant.breaks, ap (λ (k : ℕ). text_breaks (drop k ops)) all)
 
 pub returns-clause-marks : goal.returns-clause-marks
 returns-clause-marks c =

@@ -1,7 +1,7 @@
 use Rattle.std.proofs.Common.{false, ◌+◌, length, drop, ap, sym, ◌∙◌, subst, arith}
 use Rattle.std.proofs.lemmas.List.{drop_all}
 use Rattle.batch_rules.specs.Batches.{text_units, applied_from}
-use Rattle.model_core.specs.History.{text_on, changes_on, LeadOn}
+use Rattle.model_core.specs.History.{text_on, changes_on, LeadOn, text_breaks}
 use Rattle.model_core.specs.Carrying.{carried_with, decorations_on}
 use Rattle.model_core.proofs.Carries.{decorations_on-cut}
 use Rattle.model_core.specs.LineMarks.{marked_backwards, marked_on}
@@ -19,11 +19,13 @@ apply-requires c =
     let old = c.loop-change.invariant in
     let ops = ap length c.ops.ensures.ops in
     let units = ap text_units c.ops.ensures.ops in
+    let breaks = ap text_breaks c.ops.ensures.ops in
     record {
       standing = rw c.ops.ensures.ops now.fit.standing;
       small = omega (arith, now.fit.few, now.fit.units, units);
       edits = omega (arith, old.edits, now.ops, ops);
       room = omega (arith, old.room, now.ops, now.units, ops, units);
+      breaks = omega (arith, old.breaks, now.ops, now.breaks, ops, breaks);
       lines = old.lines;
       spare = omega (arith, old.spare, now.ops, ops);
       inside = old.inside;
@@ -43,6 +45,7 @@ loop-change-preserved c =
       pieces = omega (arith, c.loop-change.invariant.pieces, c.apply.ensures.pieces, now.ops, ap length c.ops.ensures.ops);
       edits = omega (arith, c.loop-change.invariant.edits, c.apply.ensures.edits, now.ops, ap length c.ops.ensures.ops);
       room = omega (arith, c.loop-change.invariant.room, c.apply.ensures.room, now.ops, now.units, ap length c.ops.ensures.ops, ap text_units c.ops.ensures.ops);
+      breaks = omega (arith, c.loop-change.invariant.breaks, c.apply.ensures.breaks, now.ops, now.breaks, ap length c.ops.ensures.ops, ap text_breaks c.ops.ensures.ops);
       carried = ap (λ d. decorations_on d (drop (c.loop-change.change-index + 1) c.args.changes.now)) moved
           ∙ sym (decorations_on-cut c.loop-change.decorations c.args.changes.now c.loop-change.change-index c.change-item.result c.loop-change-test.true c.change-item.is) ∙ c.loop-change.invariant.carried;
       inside = c.apply.ensures.inside;

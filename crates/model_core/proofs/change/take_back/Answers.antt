@@ -2,7 +2,7 @@ use Rattle.std.proofs.Common.{◌≡◌, ℕ, suc, true, ◌+◌, ◌-◌, [], l
 use Rattle.std.proofs.lemmas.List.{drop_all}
 use Rattle.batch_rules.specs.Batches.{text_units, applied_from}
 use Rattle.model_core.specs.declared.change.Way.TheVariants.{Back}
-use Rattle.model_core.specs.History.{text_back, changes_back, op_count}
+use Rattle.model_core.specs.History.{text_back, changes_back, op_count, text_breaks}
 use Rattle.model_core.specs.Carrying.{carried_with, decorations_back}
 use Rattle.model_core.proofs.Carries.{decorations_back-cut}
 use Rattle.model_core.specs.LineMarks.{marked_backwards, marked_back}
@@ -20,6 +20,7 @@ loop-done-init c =
       pieces = omega arith;
       edits = omega arith;
       room = omega arith;
+      breaks = omega arith;
       carried = sym (ap (decorations_back c.args.decorations.now) none);
       inside = c.requires.inside;
       marks = sym (ap (λ d. marked_back c.args.last.now.marks (changes_back c.args.text.now.units d)) none);
@@ -51,6 +52,11 @@ apply-requires-clause-room c =
     let now = turn_now c in
     omega (arith, c.requires.room, c.loop-done.invariant.room, now.ops, now.units, now.ops_left, now.units_left, ap length c.ops.ensures.ops, ap text_units c.ops.ensures.ops)
 
+pub apply-requires-clause-breaks : goal.apply-requires-clause-breaks
+apply-requires-clause-breaks c =
+    let now = turn_now c in
+    omega (arith, c.requires.breaks, c.loop-done.invariant.breaks, now.ops, now.breaks, now.ops_left, now.breaks_left, ap length c.ops.ensures.ops, ap text_breaks c.ops.ensures.ops)
+
 pub apply-requires-clause-lines : goal.apply-requires-clause-lines
 apply-requires-clause-lines c = c.loop-done.invariant.lines
 
@@ -73,6 +79,7 @@ loop-done-preserved c =
       pieces = omega (arith, c.loop-done.invariant.pieces, c.apply.ensures.pieces, now.ops, ap length c.ops.ensures.ops);
       edits = omega (arith, c.loop-done.invariant.edits, c.apply.ensures.edits, now.ops, ap length c.ops.ensures.ops);
       room = omega (arith, c.loop-done.invariant.room, c.apply.ensures.room, now.ops, now.units, ap length c.ops.ensures.ops, ap text_units c.ops.ensures.ops);
+      breaks = omega (arith, c.loop-done.invariant.breaks, c.apply.ensures.breaks, now.ops, now.breaks, ap length c.ops.ensures.ops, ap text_breaks c.ops.ensures.ops);
       carried = c.apply.ensures.decorations ∙ ap (carried_with true c.loop-done.decorations) c.ops.ensures.ops ∙ ap (λ d. carried_with true d c.index-changes-changes.result.inverse) (c.loop-done.invariant.carried ∙ before) ∙ sym cut;
       inside = c.apply.ensures.inside;
       marks = c.apply.ensures.marks ∙ ap (λ ops. marked_backwards c.loop-done.text.units ops c.loop-done.last.marks) c.ops.ensures.ops

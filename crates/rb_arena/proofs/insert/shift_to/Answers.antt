@@ -1,4 +1,4 @@
-use Rattle.std.proofs.Common.{◌≡◌, suc, ◌-◌, ◌+◌, Some, sym, subst, arith}
+use Rattle.std.proofs.Common.{◌≡◌, suc, ◌-◌, ◌+◌, Some, arith}
 use Rattle.rb_rules.specs.declared.slot.Data.{Data}
 use Rattle.rb_rules.specs.Tree.{Tree, Hole, depth}
 use Rattle.rb_rules.specs.Memory.{Stands}
@@ -16,7 +16,7 @@ loop-turn-init g c = (
   (λ beside tree k ((e, made), wv, le).
       let t = g.W.Weave in let laws = g.met.W.Weave in let m = c.args.tree.now.nodes.live in let root = c.args.tree.now.root in
       let (along, near) = along_start t.weaving laws.laws t.is_near beside m root k tree c.args.from (depth k - 0) e made wv (omega arith) in
-      (subst (λ b. Along t.weaving laws.laws t.is_near beside m root (shift_at t.weaving k) c.args.from b (depth k - 0)) (sym c.still-by.ensures) along, near, omega arith)),
+      (rw c.still-by.ensures along, near, omega arith)),
   no_step c.args.steps.now,
 )
 
@@ -25,16 +25,14 @@ returns-in_default g c = record {
   shift = λ beside tree k h.
       let t = g.W.Weave in let laws = g.met.W.Weave in let m = c.args.tree.now.nodes.live in let root = c.args.tree.now.root in let l = c.loop-turn in
       along_done t.weaving laws.laws t.is_near beside m root (shift_at t.weaving k) l.by (depth k - l._turn)
-      (subst (λ o. Along t.weaving laws.laws t.is_near beside m root (shift_at t.weaving k) o l.by (depth k - l._turn)) c.in_default.is (l.invariant.0 beside tree k h).0);
+      (rw c.in_default.is at (l.invariant.0 beside tree k h).0);
   cost = λ beside tree k h. let few = (c.loop-turn.invariant.0 beside tree k h).2 in let is = c.loop-turn.invariant.1 in omega (arith, few, is);
 }
 
 module _ (g : Over) (c : In-Some g) (beside t : Tree (Data g.row.W-Item.Denot g.row.W-Sum.Denot g.row.W-By.Denot)) (k : Hole (Data g.row.W-Item.Denot g.row.W-Sum.Denot g.row.W-By.Denot)) (h : WovenAt g.W.Weave.weaving g.W.Weave.is_near beside c.args.tree.now.nodes.live c.args.tree.now.root c.args.from t k) where
   -- what is left of the path, from the node above
   along : Along g.W.Weave.weaving g.met.W.Weave.laws g.W.Weave.is_near beside c.args.tree.now.nodes.live c.args.tree.now.root (shift_at g.W.Weave.weaving k) (Some c.in-Some.above) c.loop-turn.by (depth k - c.loop-turn._turn)
-  along =
-      subst (λ o. Along g.W.Weave.weaving g.met.W.Weave.laws g.W.Weave.is_near beside c.args.tree.now.nodes.live c.args.tree.now.root (shift_at g.W.Weave.weaving k) o c.loop-turn.by (depth k - c.loop-turn._turn))
-      c.in-Some.is (c.loop-turn.invariant.0 beside t k h).0
+  along = rw c.in-Some.is at (c.loop-turn.invariant.0 beside t k h).0
 
   stands : Stands c.args.tree.now.nodes.live c.args.tree.now.root c.in-Some.above.0
   stands =
@@ -64,8 +62,8 @@ loop-turn-preserved g c =
           let some = along_some t.weaving laws.laws t.is_near beside m root (shift_at t.weaving k) c.in-Some.above l.by (depth k - l._turn) here in
           let fewer : depth k - l._turn ≡ suc (depth k - (l._turn + 1)) = omega (arith, some) in
           let next = along_next t.weaving laws.laws t.is_near beside m root (shift_at t.weaving k) c.in-Some.above l.by (depth k - (l._turn + 1)) c.visit-delta.result c.place-at.result
-          (subst (λ n. Along t.weaving laws.laws t.is_near beside m root (shift_at t.weaving k) (Some c.in-Some.above) l.by n) fewer here) c.visit-delta.ensures.value c.place-at.ensures in
-          (subst (λ b. Along t.weaving laws.laws t.is_near beside m root (shift_at t.weaving k) c.place-at.result b (depth k - (l._turn + 1))) (sym c.pass-by.ensures) next, (l.invariant.0 beside tree k h).1, omega (arith, some))),
+          (rw fewer at here) c.visit-delta.ensures.value c.place-at.ensures in
+          (rw c.pass-by.ensures next, (l.invariant.0 beside tree k h).1, omega (arith, some))),
       one_step c.args.steps.now l._turn l.steps c.visit-delta.new.steps l.invariant.1 c.visit-delta.ensures.step,
     )
 
@@ -75,8 +73,8 @@ returns g c = record {
       let t = g.W.Weave in let laws = g.met.W.Weave in let m = c.args.tree.now.nodes.live in let root = c.args.tree.now.root in let l = c.loop-turn in
       let low = h.2 in
       let over : depth k - l._turn ≡ 0 = omega (arith, c.loop-turn-test.false, low) in
-      let last = subst (λ n. Along t.weaving laws.laws t.is_near beside m root (shift_at t.weaving k) l.at l.by n) over (l.invariant.0 beside tree k h).0 in
+      let last = rw over at (l.invariant.0 beside tree k h).0 in
       let none = along_over t.weaving laws.laws t.is_near beside m root (shift_at t.weaving k) l.at l.by last in
-      along_done t.weaving laws.laws t.is_near beside m root (shift_at t.weaving k) l.by 0 (subst (λ o. Along t.weaving laws.laws t.is_near beside m root (shift_at t.weaving k) o l.by 0) none last);
+      along_done t.weaving laws.laws t.is_near beside m root (shift_at t.weaving k) l.by 0 (rw none at last);
   cost = λ beside tree k h. let few = (c.loop-turn.invariant.0 beside tree k h).2 in let is = c.loop-turn.invariant.1 in omega (arith, few, is);
 }

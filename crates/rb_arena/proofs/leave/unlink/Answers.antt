@@ -26,15 +26,14 @@ use Rattle.rb_arena.proofs.leave.unlink.Goals as goal
 module _ (g : Over) (tree : Links (Data g.row.W-Item.Denot g.row.W-Sum.Denot g.row.W-By.Denot)) (id : ℕ) (reach : g.row.W-By.Denot) (beside : Tree (Data g.row.W-Item.Denot g.row.W-Sum.Denot g.row.W-By.Denot)) (us : List (ℕ × g.row.W-Item.Denot)) (x : g.row.W-Item.Denot) (vs : List (ℕ × g.row.W-Item.Denot))
     (st : StoresBeside g.W.Weave tree reach beside (us ++ (id, x) ∷ vs)) where
   -- the node stands in the tree
-  found : (s : Spot (Data g.row.W-Item.Denot g.row.W-Sum.Denot g.row.W-By.Denot))
-      × Spotted g.W.Weave.weaving g.met.W.Weave.laws (g.W.Weave.within reach) g.W.Weave.is_item g.W.Weave.is_sum g.W.Weave.is_value g.met.W.Weave.sums g.met.W.Weave.parts g.met.W.Weave.thins
-      beside tree.nodes.live tree.root id us x vs s
+  found : Spotted g.W.Weave.weaving g.met.W.Weave.laws (g.W.Weave.within reach) g.W.Weave.is_item g.W.Weave.is_sum g.W.Weave.is_value g.met.W.Weave.sums g.met.W.Weave.parts g.met.W.Weave.thins
+      beside tree.nodes.live tree.root id us x vs
   found =
       let t = g.W.Weave in let laws = g.met.W.Weave in
       spotted t.weaving laws.laws (t.within reach) t.is_item t.is_sum t.is_value laws.sums laws.parts laws.thins beside tree.nodes.live tree.root id us x vs st
 
   abbrev node : Spot (Data g.row.W-Item.Denot g.row.W-Sum.Denot g.row.W-By.Denot)
-  node = lying beside found.0
+  node = lying beside found.spot
 
   abbrev on_right : Hole (Data g.row.W-Item.Denot g.row.W-Sum.Denot g.row.W-By.Denot)
   on_right = on Right node.red id node.datum node.left node.hole
@@ -42,10 +41,10 @@ module _ (g : Over) (tree : Links (Data g.row.W-Item.Denot g.row.W-Sum.Denot g.r
   -- the subtree on its right, by what is read of it
   module _ (slot : Slot (Data g.row.W-Item.Denot g.row.W-Sum.Denot g.row.W-By.Denot)) (read : map.get tree.nodes.live id ≡ Some slot) where
     right_is : slot.right ≡ root_of node.right
-    right_is = ap (λ n. n.right) (upper_is tree.nodes.live tree.root node id found.1.0 Left slot read)
+    right_is = ap (λ n. n.right) (upper_is tree.nodes.live tree.root node id found.made Left slot read)
 
     starts : StartsAt beside tree.nodes.live tree.root (Some (id, Right)) slot.right node.right on_right
-    starts = let deep = found.1.6 in ((refl, found.1.0), right_is, omega (arith, deep))
+    starts = let deep = found.low in ((refl, found.made), right_is, omega (arith, deep))
 
 module _ (g : Over) (c : After-unwrap_or-heir g) (reach : g.row.W-By.Denot) (beside : Tree (Data g.row.W-Item.Denot g.row.W-Sum.Denot g.row.W-By.Denot)) (us : List (ℕ × g.row.W-Item.Denot)) (x : g.row.W-Item.Denot) (vs : List (ℕ × g.row.W-Item.Denot))
     (st : StoresBeside g.W.Weave c.args.tree.now reach beside (us ++ (c.args.id, x) ∷ vs)) where
@@ -61,7 +60,7 @@ module _ (g : Over) (c : After-unwrap_or-heir g) (reach : g.row.W-By.Denot) (bes
       let right = right_is g c.args.tree.now c.args.id reach beside us x vs st c.read.result c.read.ensures in let k = on_right g c.args.tree.now c.args.id reach beside us x vs st in
       let start = starts g c.args.tree.now c.args.id reach beside us x vs st c.read.result c.read.ensures in
       let (j, (is, after)) = next_of t.weaving laws.laws (t.within reach) t.is_item t.is_sum t.is_value laws.sums laws.parts laws.thins beside c.args.tree.now.nodes.live c.args.tree.now.root c.args.id us x vs
-      (found g c.args.tree.now c.args.id reach beside us x vs st).0 (found g c.args.tree.now c.args.id reach beside us x vs st).1
+      (found g c.args.tree.now c.args.id reach beside us x vs st)
       (λ none. false≢true (sym (ap is_some (right ∙ none)) ∙ c.is_none.ensures ∙ ap not c.if-is_none.false)) in
       let named : c.parent_at.result ≡ Some j = c.parent_at.ensures ∙ ap above_place (c.first_place.ensures beside r k start) ∙ above-place (first_hole k r) ∙ is in
       subst Next (sym (c.unwrap_or-heir.ensures ∙ ap (λ o. unwrap_or o c.args.id) named)) after
@@ -81,7 +80,7 @@ module _ (g : Over) (c : After-unwrap_or-heir g) (reach : g.row.W-By.Denot) (bes
 pub read-requires : goal.read-requires
 read-requires g c =
     let (reach, (beside, (us, (x, (vs, st))))) = c.requires in let m = c.args.tree.now.nodes.live in let root = c.args.tree.now.root in
-    (_, slot_here m root (node g c.args.tree.now c.args.id reach beside us x vs st) c.args.id (found g c.args.tree.now c.args.id reach beside us x vs st).1.0)
+    (_, slot_here m root (node g c.args.tree.now c.args.id reach beside us x vs st) c.args.id (found g c.args.tree.now c.args.id reach beside us x vs st).made)
 
 pub first_place-requires : goal.first_place-requires
 first_place-requires g c =

@@ -1,7 +1,6 @@
-use Rattle.std.proofs.Common.{None, sym, ap, ◌∙◌, subst}
-use Rattle.std.specs.Prelude.{IfSome}
+use Rattle.std.proofs.Common.{None, ap, ◌∙◌}
 use Rattle.std.specs.FinMap as map
-use Rattle.rb_rules.proofs.Live.{Live, live_hung, len_hung}
+use Rattle.rb_rules.proofs.Live.{live_hung, len_hung}
 use Rattle.rb_rules.proofs.Spots.{at_place}
 use Rattle.rb_arena.proofs.Leaving.{spotted, leaf_gone}
 use Rattle.rb_arena.proofs.Locating.{lying}
@@ -10,13 +9,15 @@ use Rattle.rb_arena.proofs.leave.unlink_leaf.Goals as goal
 pub place-at-requires : goal.place-at-requires
 place-at-requires g c =
     let t = g.W.Weave in let laws = g.met.W.Weave in let m = c.args.tree.now.nodes.live in let root = c.args.tree.now.root in
-    let (reach, (beside, (us, (x, (vs, st))))) = c.requires.item in let found = spotted t.weaving laws.laws (t.within reach) t.is_item t.is_sum t.is_value laws.sums laws.parts laws.thins beside m root c.args.id us x vs st in let s = lying beside found.0 in let made = found.1.0 in (s, made)
+    let (reach, (beside, (us, (x, (vs, st))))) = c.requires.item in
+    let found = spotted t.weaving laws.laws (t.within reach) t.is_item t.is_sum t.is_value laws.sums laws.parts laws.thins beside m root c.args.id us x vs st in (lying beside found.spot, found.made)
 
 pub hang-requires : goal.hang-requires
 hang-requires g c =
     let t = g.W.Weave in let laws = g.met.W.Weave in let m = c.args.tree.now.nodes.live in let root = c.args.tree.now.root in
-    let (reach, (beside, (us, (x, (vs, st))))) = c.requires.item in let found = spotted t.weaving laws.laws (t.within reach) t.is_item t.is_sum t.is_value laws.sums laws.parts laws.thins beside m root c.args.id us x vs st in let s = lying beside found.0 in let made = found.1.0 in
-    subst (λ o. IfSome o (λ at. Live m at.0)) (sym (c.copy_of.ensures ∙ c.place-at.ensures s made)) (at_place m root s c.args.id made)
+    let (reach, (beside, (us, (x, (vs, st))))) = c.requires.item in
+    let found = spotted t.weaving laws.laws (t.within reach) t.is_item t.is_sum t.is_value laws.sums laws.parts laws.thins beside m root c.args.id us x vs st in let s = lying beside found.spot in
+    rw (c.copy_of.ensures, c.place-at.ensures s found.made) (at_place m root s c.args.id found.made)
 
 pub returns-clause-unlinked : goal.returns-clause-unlinked
 returns-clause-unlinked g c = λ reach beside us x vs st.
@@ -25,9 +26,7 @@ returns-clause-unlinked g c = λ reach beside us x vs st.
     c.place-at.result c.copy_of.result c.place-at.ensures c.copy_of.ensures z.nodes.live z.root c.hang.ensures.live c.hang.ensures.root
 
 pub returns-clause-live : goal.returns-clause-live
-returns-clause-live g c =
-    let m = c.args.tree.now.nodes.live in
-    subst (λ q. Live q c.args.id) (sym c.hang.ensures.live) (live_hung m c.copy_of.result None c.args.id (c.read-red.result, c.read-red.ensures))
+returns-clause-live g c = rw c.hang.ensures.live (live_hung _ _ _ c.args.id (c.read-red.result, c.read-red.ensures))
 
 pub returns-clause-as_many : goal.returns-clause-as_many
 returns-clause-as_many g c = ap map.len c.hang.ensures.live ∙ len_hung c.args.tree.now.nodes.live c.copy_of.result None

@@ -1,4 +1,4 @@
-use Rattle.std.proofs.Common.{◌≡◌, ◌-◌, refl, ◌∙◌, subst, arith}
+use Rattle.std.proofs.Common.{◌≡◌, ◌-◌, refl, ◌∙◌, arith}
 use Rattle.rb_arena.specs.Rising.{Risen}
 use Rattle.rb_arena.proofs.Steps.{at_last}
 use Rattle.rb_arena.proofs.Turns.{after_turn}
@@ -6,8 +6,7 @@ use Rattle.rb_arena.proofs.mend.mend.Goals as goal
 
 pub step-at-requires : goal.step-at-requires
 step-at-requires g c =
-    let t = g.W.Weave in let l = c.loop-turn in let (reach, (beside, (es, h, v))) = c.requires in
-    (reach, (beside, (es, (128 - l._turn, subst (λ o. Risen t.weaving (t.within reach) beside l.tree.nodes.live l.tree.root es o (128 - l._turn)) c.in-Some.is (l.invariant.0 reach beside es h v), v))))
+    let l = c.loop-turn in let (reach, (beside, (es, h, v))) = c.requires in (reach, (beside, (es, (128 - l._turn, rw c.in-Some.is at (l.invariant.0 reach beside es h v), v))))
 
 pub loop-turn-init : goal.loop-turn-init
 loop-turn-init g c = ((λ reach beside es h v. h), refl, refl)
@@ -16,7 +15,7 @@ pub returns-clause-mended : goal.returns-clause-mended
 returns-clause-mended g c = λ reach beside es h v.
     let t = g.W.Weave in let l = c.loop-turn in
     let over : 128 - l._turn ≡ 0 = omega (arith, c.loop-turn-test.false) in
-    at_last t.weaving (t.within reach) beside l.tree.nodes.live l.tree.root es l.at (subst (λ n. Risen t.weaving (t.within reach) beside l.tree.nodes.live l.tree.root es l.at n) over (l.invariant.0 reach beside es h v))
+    at_last t.weaving (t.within reach) beside l.tree.nodes.live l.tree.root es l.at (rw over at (l.invariant.0 reach beside es h v))
 
 pub loop-turn-preserved : goal.loop-turn-preserved
 loop-turn-preserved g c =
@@ -29,6 +28,4 @@ loop-turn-preserved g c =
     )
 
 pub returns-in_default-clause-mended : goal.returns-in_default-clause-mended
-returns-in_default-clause-mended g c = λ reach beside es h v.
-    let t = g.W.Weave in let l = c.loop-turn in
-    subst (λ o. Risen t.weaving (t.within reach) beside l.tree.nodes.live l.tree.root es o (128 - l._turn)) c.in_default.is (l.invariant.0 reach beside es h v)
+returns-in_default-clause-mended g c = λ reach beside es h v. rw c.in_default.is at (c.loop-turn.invariant.0 reach beside es h v)

@@ -19,18 +19,18 @@ pub returns-in_default-clause-made : goal.returns-in_default-clause-made
 returns-in_default-clause-made g c = λ beside u k h.
     let t = g.W.Weave in let laws = g.met.W.Weave in let l = c.loop-turn in let whole = plug (moved t.weaving c.args.by k) u in
     ended t.weaving laws.laws t.is_near t.is_item t.is_sum t.is_value laws.sums laws.parts l.tree.nodes.live l.tree.root beside c.args.by (128 - l._turn) whole
-    (subst (λ o. Shifting t.weaving t.is_near t.is_item l.tree.nodes.live l.tree.root beside o c.args.by (128 - l._turn) whole) c.in_default.is (l.invariant.0 beside u k h))
+    (rw c.in_default.is at (l.invariant.0 beside u k h))
 
 pub place-at-requires : goal.place-at-requires
 place-at-requires g c =
     let t = g.W.Weave in let laws = g.met.W.Weave in let l = c.loop-turn in let (beside, (u, (k, h))) = c.requires in let whole = plug (moved t.weaving c.args.by k) u in
     stands_above t.weaving laws.laws t.is_near t.is_item t.is_sum t.is_value laws.sums laws.parts l.tree.nodes.live l.tree.root beside c.args.by (128 - l._turn) whole c.in-Some.above.0 c.in-Some.above.1
-    (subst (λ o. Shifting t.weaving t.is_near t.is_item l.tree.nodes.live l.tree.root beside o c.args.by (128 - l._turn) whole) c.in-Some.is (l.invariant.0 beside u k h))
+    (rw c.in-Some.is at (l.invariant.0 beside u k h))
 
 pub move_node-requires : goal.move_node-requires
 move_node-requires g c =
     let t = g.W.Weave in let laws = g.met.W.Weave in let l = c.loop-turn in let (beside, (u, (k, h))) = c.requires in let whole = plug (moved t.weaving c.args.by k) u in
-    let here = subst (λ o. Shifting t.weaving t.is_near t.is_item l.tree.nodes.live l.tree.root beside o c.args.by (128 - l._turn) whole) c.in-Some.is (l.invariant.0 beside u k h) in
+    let here = rw c.in-Some.is at (l.invariant.0 beside u k h) in
     can_move t.weaving laws.laws t.is_near t.is_item t.is_sum t.is_value laws.sums laws.parts l.tree.nodes.live l.tree.root beside c.args.by (128 - l._turn) whole c.in-Some.above.0
     (subst (λ s. Shifting t.weaving t.is_near t.is_item l.tree.nodes.live l.tree.root beside (Some (c.in-Some.above.0, s)) c.args.by (128 - l._turn) whole) c.in-Left.is here)
 
@@ -51,9 +51,8 @@ module _ (g : Over) (c : goal.Joined-above g) where
   before s side beside u k h =
       let t = g.W.Weave in let l = c.loop-turn in let whole = plug (moved t.weaving c.args.by k) u in
       let fewer : 128 - l._turn ≡ suc (128 - (l._turn + 1)) = omega (arith, c.loop-turn-test.true) in
-      let here = subst (λ o. Shifting t.weaving t.is_near t.is_item l.tree.nodes.live l.tree.root beside o c.args.by (128 - l._turn) whole) c.in-Some.is (l.invariant.0 beside u k h) in
-      subst (λ n. Shifting t.weaving t.is_near t.is_item l.tree.nodes.live l.tree.root beside (Some (c.in-Some.above.0, s)) c.args.by n whole) fewer
-      (subst (λ q. Shifting t.weaving t.is_near t.is_item l.tree.nodes.live l.tree.root beside (Some (c.in-Some.above.0, q)) c.args.by (128 - l._turn) whole) side here)
+      let here = rw c.in-Some.is at (l.invariant.0 beside u k h) in
+      rw fewer at (subst (λ q. Shifting t.weaving t.is_near t.is_item l.tree.nodes.live l.tree.root beside (Some (c.in-Some.above.0, q)) c.args.by (128 - l._turn) whole) side here)
 
 pub loop-turn-preserved : goal.loop-turn-preserved
 loop-turn-preserved g c =
@@ -83,7 +82,7 @@ pub returns-clause-made : goal.returns-clause-made
 returns-clause-made g c = λ beside u k h.
     let t = g.W.Weave in let laws = g.met.W.Weave in let l = c.loop-turn in let whole = plug (moved t.weaving c.args.by k) u in
     let over : 128 - l._turn ≡ 0 = omega (arith, c.loop-turn-test.false) in
-    let last = subst (λ n. Shifting t.weaving t.is_near t.is_item l.tree.nodes.live l.tree.root beside l.at c.args.by n whole) over (l.invariant.0 beside u k h) in
+    let last = rw over at (l.invariant.0 beside u k h) in
     let none = none_above t.weaving laws.laws t.is_near t.is_item t.is_sum t.is_value laws.sums laws.parts l.tree.nodes.live l.tree.root beside l.at c.args.by whole last in
     ended t.weaving laws.laws t.is_near t.is_item t.is_sum t.is_value laws.sums laws.parts l.tree.nodes.live l.tree.root beside c.args.by 0 whole
-    (subst (λ o. Shifting t.weaving t.is_near t.is_item l.tree.nodes.live l.tree.root beside o c.args.by 0 whole) none last)
+    (rw none at last)

@@ -3,23 +3,19 @@ use Rattle.std.specs.Prelude.{is_some, not}
 use Rattle.std.proofs.lemmas.Bool.{false≢true}
 use Rattle.rb_rules.specs.Tree.{Hole, on, plug, above, other, root_of, depth, height}
 use Rattle.rb_rules.specs.Memory.{Made, Spot, here, below, child}
-use Rattle.rb_rules.proofs.Live.{slot_here, child-sided}
-use Rattle.rb_rules.proofs.Spots.{upper_is}
 use Rattle.rb_arena.specs.Placing.{StartsAt, above_place}
 use Rattle.rb_arena.specs.Value.{end_hole, up_on}
 use Rattle.rb_arena.proofs.Growing.{forked_here, height-below, neighbour_none, neighbour_some}
 use Rattle.rb_arena.proofs.Leaving.{none_of}
 use Rattle.rb_arena.proofs.Paths.{above-place}
+use Rattle.rb_arena.proofs.Slots.{child-slot}
 use Rattle.rb_arena.proofs.tree.neighbour.Given.{Over}
 use Rattle.rb_arena.proofs.tree.neighbour.Goals.{After-is_none}
 use Rattle.rb_arena.proofs.tree.neighbour.Goals as goal
 
 module _ (g : Over) (c : After-is_none g) (s : Spot g.row.D.Denot) (made : Made s.beside c.args.tree.now.nodes.live c.args.tree.now.root (plug s.hole (here s c.args.id))) where
   below_is : c.child-below.result ≡ root_of (below c.args.side s)
-  below_is =
-      let side = c.args.side in
-      c.child-below.ensures ∙ ap (child side) (upper_is c.args.tree.now.nodes.live c.args.tree.now.root s c.args.id made side c.read.result c.read.ensures)
-      ∙ (child-sided side (above s.hole) (root_of (below side s)) (root_of (below (other side) s)) s.red s.datum).0
+  below_is = c.child-below.ensures ∙ ap (child c.args.side) (c.node_of.ensures.slot s made) ∙ child-slot c.args.side s
 
   -- the place of the subtree on that side
   abbrev hole_below : Hole g.row.D.Denot
@@ -34,8 +30,8 @@ module _ (g : Over) (c : After-is_none g) (s : Spot g.row.D.Denot) (made : Made 
         omega (arith, high, le),
       )
 
-pub read-requires : goal.read-requires
-read-requires g c = let (s, made, le) = c.requires in (_, slot_here c.args.tree.now.nodes.live c.args.tree.now.root s c.args.id made)
+pub node_of-requires : goal.node_of-requires
+node_of-requires g c = let (s, made, le) = c.requires in (s, made)
 
 pub above_on-requires : goal.above_on-requires
 above_on-requires g c = let (s, made, le) = c.requires in (s, made, omega (arith, le))

@@ -39,6 +39,7 @@ returns-in-Some-clause-parse c =
     record {
       document = search rules;
       pieces = search rules;
+      room = search rules;
       same = search rules;
       same_tree = search rules;
       same_marks = search rules;

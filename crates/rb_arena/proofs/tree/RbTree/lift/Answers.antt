@@ -1,38 +1,26 @@
-use Rattle.std.proofs.Common.{◌≡◌, ℕ, List, ◌++◌, length, length-append, ◌∷◌, Some, refl, sym, ap, ◌∙◌, subst, arith}
-use Rattle.rb_rules.specs.Woven.{entries, Valued}
-use Rattle.rb_arena.specs.Leaving.{Stores, loosened}
-use Rattle.rb_arena.specs.Value.{items_in, loose_in, Keeps, SplitsAt}
+use Rattle.std.proofs.Common.{ℕ, List, ◌++◌, ◌∷◌, length, Some, refl, ap, ◌∙◌, arith}
+use Rattle.rb_arena.specs.Leaving.{loosened}
+use Rattle.rb_arena.specs.Value.{SplitsAt}
+use Rattle.rb_arena.proofs.Keeping.{Shows, loose_seen, node_of, stored_there, without_item}
 use Rattle.rb_arena.proofs.Landing.{loosened_list}
-use Rattle.rb_arena.proofs.Leaving.{valued_without}
-use Rattle.rb_arena.proofs.Listing.{items_are, loose_are, keeps_mended}
 use Rattle.rb_arena.proofs.tree.RbTree.lift.Given.{Over}
 use Rattle.rb_arena.proofs.tree.RbTree.lift.Goals as goal
 
 pub loosen-requires : goal.loosen-requires
 loosen-requires g c =
-    let t = g.W.Weave in let laws = g.met.W.Weave in let w = t.weaving in let K = c.self.invariant in let reach = c.self.inside.reach in let front = c.self.inside.loose in let m = c.self.inside.links.nodes.live in let root = c.self.inside.links.root in
-    let same : c.args.self.now.items ≡ entries w w.still K.tree = sym (ap (λ l. l.items) c.self.view_is) ∙ items_are w (t.within reach) t.is_item t.is_value m root front K in
-    let (us, (x, (vs, e))) = c.requires in let list = sym same ∙ e in let all = K.all in let few = K.few in let long = ap length list in
-    let st : Stores w (t.within reach) t.is_item t.is_value K.beside m root (us ++ (c.args.id, x) ∷ vs)
-    = ((K.tree, K.made, (K.woven, list), K.balanced), subst (Valued w t.is_item t.is_value) list K.values, omega (arith, all, few, long)) in
-    (reach, (K.beside, (us, (x, (vs, st, K.first)))))
+    let (us, (x, (vs, e))) = c.requires in let K = c.self.invariant in
+    let n = node_of g.W.Weave c.self.inside.reach c.self.inside.links c.self.inside.loose K us c.args.id x vs (ap (λ l. l.items) c.self.view_is) e in
+    (c.self.inside.reach, (K.beside, (us, (x, (vs, stored_there n, K.first)))))
 
 kept : (g : Over) (c : goal.After-self-1 g) (us : List (ℕ × g.row.W-Item.Denot)) (x : g.row.W-Item.Denot) (vs : List (ℕ × g.row.W-Item.Denot)) → SplitsAt c.args.self.now.items c.args.id us x vs
-    → Keeps g.W.Weave.weaving (g.W.Weave.within c.self.inside.reach) g.W.Weave.is_item g.W.Weave.is_value c.loosen.new.tree.nodes.live c.loosen.new.tree.root (Some c.args.id)
-    × (items_in g.W.Weave.weaving c.loosen.new.tree.nodes.live c.loosen.new.tree.root ≡ us ++ vs)
-    × (loose_in g.W.Weave.weaving c.loosen.new.tree.nodes.live (Some c.args.id) ≡ (c.args.id, x) ∷ c.args.self.now.loose)
+    → Shows g.W.Weave c.self.inside.reach c.loosen.new.tree (Some c.args.id) (us ++ vs) ((c.args.id, x) ∷ c.args.self.now.loose)
 kept g c us x vs e =
-    let t = g.W.Weave in let laws = g.met.W.Weave in let w = t.weaving in let K = c.self.invariant in let reach = c.self.inside.reach in let front = c.self.inside.loose in let m = c.self.inside.links.nodes.live in let root = c.self.inside.links.root in
-    let same : c.args.self.now.items ≡ entries w w.still K.tree = sym (ap (λ l. l.items) c.self.view_is) ∙ items_are w (t.within reach) t.is_item t.is_value m root front K in
-    let left : c.args.self.now.loose ≡ entries w w.still K.beside = sym (ap (λ l. l.loose) c.self.view_is) ∙ loose_are w (t.within reach) t.is_item t.is_value m root front K in
-    let list = sym same ∙ e in let all = K.all in let few = K.few in let long = ap length list in let v = subst (Valued w t.is_item t.is_value) list K.values in
-    let st : Stores w (t.within reach) t.is_item t.is_value K.beside m root (us ++ (c.args.id, x) ∷ vs) = ((K.tree, K.made, (K.woven, list), K.balanced), v, omega (arith, all, few, long)) in
-    let z = c.loosen.new.tree in let many = c.loosen.ensures.as_many in let chain = loosened_list w laws.laws c.args.id x K.beside in let more = ap length chain in
-    let n1 = length-append us vs in let n2 = length-append us ((c.args.id, x) ∷ vs) in
-    let (keeps, is, hung) = keeps_mended w (t.within reach) t.is_item t.is_value z.nodes.live z.root (Some c.args.id) (us ++ vs) (loosened w c.args.id x K.beside)
-    (c.loosen.ensures.mended reach K.beside us x vs st K.first) refl (refl, refl, K.chain)
-    (valued_without w laws.laws (t.within reach) t.is_item t.is_sum t.is_value laws.sums laws.parts laws.thins us (c.args.id, x) vs v) (omega (arith, many, all, n1, n2, long, more)) (omega (arith, few, many)) in
-    (keeps, is, hung ∙ chain ∙ ap (λ l. (c.args.id, x) ∷ l) (sym left))
+    let w = g.W.Weave.weaving in let laws = g.met.W.Weave in let K = c.self.invariant in let reach = c.self.inside.reach in let links = c.self.inside.links in let many = c.loosen.ensures.as_many in
+    let n = node_of g.W.Weave reach links c.self.inside.loose K us c.args.id x vs (ap (λ l. l.items) c.self.view_is) e in
+    let chain = loosened_list w laws.laws c.args.id x K.beside in let more = ap length chain in
+    let (keeps, is, hung) = without_item n laws.laws laws.sums laws.parts laws.thins c.loosen.new.tree (Some c.args.id) (loosened w c.args.id x K.beside)
+    (c.loosen.ensures.mended reach K.beside us x vs (stored_there n) K.first) refl (refl, refl, K.chain) (omega (arith, many, more)) (omega (arith, many)) in
+    (keeps, is, hung ∙ chain ∙ ap (λ l. (c.args.id, x) ∷ l) (loose_seen g.W.Weave reach links c.self.inside.loose K (ap (λ l. l.loose) c.self.view_is)))
 
 pub invariant_of-self : goal.invariant_of-self
 invariant_of-self g c = let (us, (x, (vs, e))) = c.requires in (kept g c us x vs e).0

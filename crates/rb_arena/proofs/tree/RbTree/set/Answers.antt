@@ -1,6 +1,6 @@
-use Rattle.std.proofs.Common.{◌≡◌, ℕ, List, ◌++◌, ◌∷◌, ap, ◌∙◌}
-use Rattle.rb_arena.specs.Value.{items_in, loose_in, KeepsWithin, SplitsAt}
-use Rattle.rb_arena.proofs.Keeping.{node_of, own_spot, made_there, woven_spot}
+use Rattle.std.proofs.Common.{ℕ, List, ◌++◌, ◌∷◌, ap, ◌∙◌}
+use Rattle.rb_arena.specs.Value.{SplitsAt}
+use Rattle.rb_arena.proofs.Keeping.{Shows, node_of, own_spot, made_there, woven_spot}
 use Rattle.rb_arena.proofs.Setting.{slack_there, kept_there}
 use Rattle.rb_arena.proofs.tree.RbTree.set.Given.{Over}
 use Rattle.rb_arena.proofs.tree.RbTree.set.Goals as goal
@@ -26,9 +26,7 @@ renew_up-requires g c =
     (c.self.inside.reach, (c.self.invariant.beside, (_, slack (c.replace_item.ensures.made (own_spot n) (made_there n)))))
 
 kept : (g : Over) (c : goal.After-renew_up g) (us : List (ℕ × g.row.W-Item.Denot)) (x : g.row.W-Item.Denot) (vs : List (ℕ × g.row.W-Item.Denot)) → SplitsAt c.args.self.now.items c.args.id us x vs
-    → KeepsWithin g.W.Weave c.self.inside.reach c.renew_up.new.tree c.self.inside.loose
-    × (items_in g.W.Weave.weaving c.renew_up.new.tree.nodes.live c.renew_up.new.tree.root ≡ us ++ (c.args.id, c.args.item) ∷ vs)
-    × (loose_in g.W.Weave.weaving c.renew_up.new.tree.nodes.live c.self.inside.loose ≡ c.args.self.now.loose)
+    → Shows g.W.Weave c.self.inside.reach c.renew_up.new.tree c.self.inside.loose (us ++ (c.args.id, c.args.item) ∷ vs) c.args.self.now.loose
 kept g c us x vs e =
     let laws = g.met.W.Weave in let z = c.replace_item.new.tree in let last = c.renew_up.new.tree in
     let n = node_of g.W.Weave c.self.inside.reach c.self.inside.links c.self.inside.loose c.self.invariant us c.args.id x vs (ap (λ l. l.items) c.self.view_is) e in

@@ -7,6 +7,7 @@ use Rattle.text_rules.specs.Breaks.{joins_pair}
 use Rattle.text_rules.specs.Lines.{carriage_return, line_feed, lines_of}
 use Rattle.text_rules.specs.Dirty.{dirty_lines}
 use Rattle.text_buffer.proofs.Touched.{before_dirty, after_dirty}
+use Rattle.text_buffer.proofs.AddedBreaks.{added_breaks}
 use Rattle.text_buffer.proofs.Spelling.{length-spelled}
 use Rattle.text_buffer.proofs.Extended.{pieces-extended}
 use Rattle.text_buffer.proofs.Replacing.{front_within, back_within, length-unit_if, one_if_most}
@@ -70,6 +71,11 @@ pub overflow_add-to : goal.overflow_add-to
 overflow_add-to c =
     let size = ap (λ v. length v.units) c.self.view_is in
     omega (arith, c.spot_at-end.ensures.spot.small, size, c.requires.within, c.one_if-2.ensures, one_if_most c.joins_back-back.result)
+
+pub append_some-added-requires-clause-breaks : goal.append_some-added-requires-clause-breaks
+append_some-added-requires-clause-breaks c =
+    let most = added_breaks c.carriage_return_if.result.now c.args.text.now c.line_feed_if.result.now c.joins_front-front.result c.joins_back-back.result c.carriage_return_if.ensures c.line_feed_if.ensures in
+    omega (arith, most, ap (λ v. v.spare_breaks) c.self.view_is, c.requires.breaks)
 
 pub splice-requires-clause-place : goal.splice-requires-clause-place
 splice-requires-clause-place c =
@@ -219,6 +225,11 @@ returns-clause-grows c = λ some none.
     grows_later (text_of c.splice.new.self c.append_some-added.new.chunks) old new (front new from ps) (back new to ps) c.append_some-added.result (cr ++ text ++ lf) (c.args.span.start + length text)
     c.append_some-added.ensures.added c.append_some-added.ensures.last (omega (arith, some, added_size)) (ap (map (λ p. p.span)) c.splice.ensures.spliced) refl
     (omega (arith, added_size, units-front new from ps (omega (arith, count, size)), inside, c.one_if.ensures))
+
+pub returns-clause-spare_breaks : goal.returns-clause-spare_breaks
+returns-clause-spare_breaks c =
+    let most = added_breaks c.carriage_return_if.result.now c.args.text.now c.line_feed_if.result.now c.joins_front-front.result c.joins_back-back.result c.carriage_return_if.ensures c.line_feed_if.ensures in
+    omega (arith, most, ap (λ v. v.spare_breaks) c.self.view_is, c.append_some-added.ensures.spare_breaks)
 
 pub returns-clause-dirty : goal.returns-clause-dirty
 returns-clause-dirty c =

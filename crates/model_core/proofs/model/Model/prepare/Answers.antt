@@ -1,0 +1,85 @@
+use Rattle.std.proofs.Common.{◌≡◌, ◌+◌, ◌≤◌, Ok, ap, arith}
+use Rattle.std.proofs.lemmas.Grind.{common_steps}
+use Rattle.batch_rules.specs.Batches.{checked_batch, inverse_from, text_units}
+use Rattle.batch_rules.proofs.Standing.{accepted, text_units_applied}
+use Rattle.document_rules.specs.Document.{greatest_version}
+use Rattle.model_core.specs.State.{ModelState}
+use Rattle.model_core.proofs.Staying.{stays_as}
+use Rattle.model_core.proofs.Shelving.{shown-grown, IsShelf-grown}
+use Rattle.model_core.proofs.Preparing.{edit_ready}
+use Rattle.model_core.proofs.model.Model.prepare.Goals as goal
+
+pub text_units-requires : goal.text_units-requires
+text_units-requires c =
+    let x = c.self.inside.text.units in
+    let rule : checked_batch x c.args.ops.now ≡ Ok c.in_ok-batch.batch = grind (arith, common_steps) in
+    let ok = accepted x c.args.ops.now c.in_ok-batch.batch rule in
+    omega (arith, text_units_applied 0 x c.in_ok-batch.batch ok.standing, ok.fits)
+
+pub text_breaks-requires : goal.text_breaks-requires
+text_breaks-requires c =
+    let x = c.self.inside.text.units in
+    let rule : checked_batch x c.args.ops.now ≡ Ok c.in_ok-batch.batch = grind (arith, common_steps) in
+    let ok = accepted x c.args.ops.now c.in_ok-batch.batch rule in
+    omega (arith, text_units_applied 0 x c.in_ok-batch.batch ok.standing, ok.fits, ap text_units c.ops-2.ensures.ops)
+
+pub invariant_of-self-in_err-map_err-2 : goal.invariant_of-self-in_err-map_err-2
+invariant_of-self-in_err-map_err-2 c =
+    let m = c.self.inside in
+    let text = c.make_room.ensures.kept.units in
+    let stack : c.reserve.new.self.stack ≡ m.history.stack = grind (arith, common_steps) in (
+      rw text c.self.invariant.0,
+      c.self.invariant.1,
+      rw (text, stack) c.self.invariant.2,
+      rw text c.self.invariant.3,
+      stays_as m.last.tree c.make_room.new.last.tree m.last.marks c.make_room.new.last.marks m.table m.text.units c.make_room.new.text.units
+          c.make_room.ensures.kept.tree c.make_room.ensures.kept.marks text c.self.invariant.4,
+      IsShelf-grown m.text.buffers c.make_room.new.text.buffers m.shelf c.make_room.ensures.kept.grown c.self.invariant.5,
+    )
+
+pub returns-in_err-map_err-2-clause-document : goal.returns-in_err-map_err-2-clause-document
+returns-in_err-map_err-2-clause-document c =
+    let m = c.self.inside in
+    let stack : c.reserve.new.self.stack ≡ m.history.stack = grind (arith, common_steps) in
+    let shelf = shown-grown m.text.buffers c.make_room.new.text.buffers m.shelf c.make_room.ensures.kept.grown c.self.invariant.5 in
+    rw (c.make_room.ensures.kept.units, stack, shelf) (ap (λ (s : ModelState). s.document) c.self.view_is)
+
+pub invariant_of-self-2 : goal.invariant_of-self-2
+invariant_of-self-2 c =
+    let m = c.self.inside in
+    let text = c.make_room.ensures.kept.units in
+    let stack : c.reserve.new.self.stack ≡ m.history.stack = grind (arith, common_steps) in (
+      rw text c.self.invariant.0,
+      c.self.invariant.1,
+      rw (text, stack) c.self.invariant.2,
+      rw text c.self.invariant.3,
+      stays_as m.last.tree c.make_room.new.last.tree m.last.marks c.make_room.new.last.marks m.table m.text.units c.make_room.new.text.units
+          c.make_room.ensures.kept.tree c.make_room.ensures.kept.marks text c.self.invariant.4,
+      IsShelf-grown m.text.buffers c.make_room.new.text.buffers m.shelf c.make_room.ensures.kept.grown c.self.invariant.5,
+    )
+
+pub returns-clause-document : goal.returns-clause-document
+returns-clause-document c =
+    let m = c.self.inside in
+    let stack : c.reserve.new.self.stack ≡ m.history.stack = grind (arith, common_steps) in
+    let shelf = shown-grown m.text.buffers c.make_room.new.text.buffers m.shelf c.make_room.ensures.kept.grown c.self.invariant.5 in
+    rw (c.make_room.ensures.kept.units, stack, shelf) (ap (λ (s : ModelState). s.document) c.self.view_is)
+
+pub returns-clause-ready : goal.returns-clause-ready
+returns-clause-ready c =
+    let m = c.self.inside in
+    let sorted = c.in_ok-batch.batch in
+    let text = c.make_room.ensures.kept.units in
+    let rule : checked_batch m.text.units c.args.ops.now ≡ Ok sorted = grind (arith, common_steps) in
+    let inverse : c.in_ok-inverse.inverse ≡ inverse_from 0 0 m.text.units sorted = grind (arith, common_steps) in
+    let next : c.in_ok-next.next ≡ m.version + 1 = grind (arith, common_steps) in
+    let last : c.in_ok-next.next ≤ greatest_version = grind (arith, common_steps) in
+    edit_ready _ c.args.ops.now sorted c.in_ok-inverse.inverse c.making.result (rw text rule) (rw text inverse) c.making.ensures.action
+    (omega (arith, next, c.making.ensures.version)) (omega (arith, next, last))
+    (record {
+      edits = grind (arith, common_steps);
+      marks = grind (arith, common_steps);
+      units = grind (arith, common_steps);
+      breaks = grind (arith, common_steps);
+      changes = grind (arith, common_steps);
+    })

@@ -1,0 +1,105 @@
+use Rattle.std.proofs.Common.{◌≡◌, ◌+◌, ◌*◌, ◌<◌, ◌≤◌, slice_get, Some, None, Err, ap, sym, ◌∙◌, arith}
+use Rattle.std.proofs.lemmas.Grind.{common_steps}
+use Rattle.edit_stack.specs.Element.{step_of}
+use Rattle.document_rules.specs.Refusals.{limit}
+use Rattle.document_rules.specs.Document.{greatest_version}
+use Rattle.model_core.specs.State.{ModelState}
+use Rattle.model_core.specs.History.{op_count, unit_count, breaks_along}
+use Rattle.model_core.specs.Ways.{next_steps, flat_move}
+use Rattle.model_core.proofs.Staying.{stays_as}
+use Rattle.model_core.proofs.Stepping.{IsStep, step_on, no_next_on, few_by}
+use Rattle.model_core.proofs.Preparing.{move_ready}
+use Rattle.snapshots.specs.Shown as shelves
+use Rattle.model_core.proofs.Shelving.{shown-grown, IsShelf-grown}
+use Rattle.model_core.proofs.model.Model.prepare_move.Goals as goal
+use Rattle.model_core.proofs.model.Model.prepare_move.Goals.{In-Some}
+
+step_taken : (c : In-Some)
+    → IsStep c.args.way c.self.inside.text.units c.self.inside.version c.self.inside.alternative c.self.inside.decorations c.self.inside.table (shelves.shown c.self.inside.text.buffers c.self.inside.shelf)
+    c.self.inside.history.stack (step_of c.in-Some.step.now)
+step_taken c =
+    let next : slice_get (next_steps c.args.way c.self.inside.history.stack) 0 ≡ Some (step_of c.in-Some.step.now) = grind (arith, common_steps) in
+    step_on c.args.way _ _ _ _ _ _ c.self.inside.history.stack _ next c.self.invariant.2
+
+pub returns-in_default-clause-ready : goal.returns-in_default-clause-ready
+returns-in_default-clause-ready c =
+    let m = c.self.inside in
+    let none : slice_get (next_steps c.args.way m.history.stack) 0 ≡ None = grind (arith, common_steps) in
+    sym (ap (λ (s : ModelState). next_steps c.args.way s.document.history) c.self.view_is) ∙ no_next_on c.args.way m.text.units m.history.stack none
+
+pub reserve_for-requires : goal.reserve_for-requires
+reserve_for-requires c =
+    let step = step_taken (goal.at.reserve_for-requires c).In-Some in
+    rw c.changes.ensures (few_by c.args.way c.self.inside.text.units (step_of c.in-Some.step.now).changes step.lead)
+
+pub returns-in_err-next-clause-ready : goal.returns-in_err-next-clause-ready
+returns-in_err-next-clause-ready c =
+    let way = c.args.way in
+    let step = step_taken (goal.at.returns-in_err-next-clause-ready c).In-Some in
+    let last : greatest_version < c.self.inside.version + 1 = grind (arith, common_steps) in
+    let refused : flat_move way c.args.self.now.document ≡ Err limit = sym (ap (λ (s : ModelState). flat_move way s.document) c.self.view_is) ∙ step.refused last in
+    grind (arith, common_steps)
+
+pub invariant_of-self : goal.invariant_of-self
+invariant_of-self c =
+    let m = c.self.inside in
+    let text = c.reserve_for.ensures.kept.units in (
+      rw text c.self.invariant.0,
+      c.self.invariant.1,
+      rw text c.self.invariant.2,
+      rw text c.self.invariant.3,
+      stays_as m.last.tree c.reserve_for.new.last.tree m.last.marks c.reserve_for.new.last.marks m.table m.text.units c.reserve_for.new.text.units
+          c.reserve_for.ensures.kept.tree c.reserve_for.ensures.kept.marks text c.self.invariant.4,
+      IsShelf-grown m.text.buffers c.reserve_for.new.text.buffers m.shelf c.reserve_for.ensures.kept.grown c.self.invariant.5,
+    )
+
+pub returns-in_err-map_err-clause-document : goal.returns-in_err-map_err-clause-document
+returns-in_err-map_err-clause-document c =
+    let m = c.self.inside in
+    let shelf = shown-grown m.text.buffers c.reserve_for.new.text.buffers m.shelf c.reserve_for.ensures.kept.grown c.self.invariant.5 in
+    rw (c.reserve_for.ensures.kept.units, shelf) (ap (λ (s : ModelState). s.document) c.self.view_is)
+
+pub invariant_of-self-2 : goal.invariant_of-self-2
+invariant_of-self-2 c =
+    let m = c.self.inside in
+    let text = c.reserve_for.ensures.kept.units in (
+      rw text c.self.invariant.0,
+      c.self.invariant.1,
+      rw text c.self.invariant.2,
+      rw text c.self.invariant.3,
+      stays_as m.last.tree c.reserve_for.new.last.tree m.last.marks c.reserve_for.new.last.marks m.table m.text.units c.reserve_for.new.text.units
+          c.reserve_for.ensures.kept.tree c.reserve_for.ensures.kept.marks text c.self.invariant.4,
+      IsShelf-grown m.text.buffers c.reserve_for.new.text.buffers m.shelf c.reserve_for.ensures.kept.grown c.self.invariant.5,
+    )
+
+pub returns-clause-document : goal.returns-clause-document
+returns-clause-document c =
+    let m = c.self.inside in
+    let shelf = shown-grown m.text.buffers c.reserve_for.new.text.buffers m.shelf c.reserve_for.ensures.kept.grown c.self.invariant.5 in
+    rw (c.reserve_for.ensures.kept.units, shelf) (ap (λ (s : ModelState). s.document) c.self.view_is)
+
+pub returns-clause-ready : goal.returns-clause-ready
+returns-clause-ready c =
+    let m = c.self.inside in
+    let way = c.args.way in
+    let changes = (step_of c.in-Some.step.now).changes in
+    let kept = c.reserve_for.ensures.kept in
+    let step = step_taken (goal.at.returns-clause-ready c).In-Some in
+    let next : c.in_ok-next.next ≡ m.version + 1 = grind (arith, common_steps) in
+    let edits = step.ops in
+    let units = step.units in
+    let breaks = step.breaks in
+    let told : changes ≡ c.changes.result.now = sym c.changes.ensures in
+    let room : op_count way changes ≤ c.reserve_for.new.text.spare_edits = rw told (grind (arith, common_steps)) in
+    let marks : op_count way changes ≤ c.reserve_for.new.last.spare = rw told (grind (arith, common_steps)) in
+    let more : unit_count way changes + 3 * op_count way changes ≤ c.reserve_for.new.text.spare_units = rw told (grind (arith, common_steps)) in
+    let broken : breaks_along way changes + 2 * op_count way changes ≤ c.reserve_for.new.text.spare_breaks = rw told (grind (arith, common_steps)) in
+    move_ready way _ c.making.result c.making.ensures.action (omega (arith, next, c.making.ensures.version))
+    (rw kept.units step.next)
+    (record {
+      edits = rw kept.units (omega (arith, edits, room));
+      marks = rw kept.units (omega (arith, edits, marks));
+      units = rw kept.units (omega (arith, edits, units, more));
+      breaks = rw kept.units (omega (arith, edits, breaks, broken));
+      changes = omega arith;
+    })

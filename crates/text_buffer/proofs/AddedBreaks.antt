@@ -1,0 +1,50 @@
+-- How many breaks an edit appends: those of its text, and two more at most.
+use Rattle.std.proofs.Common.{◌≡◌, ℕ, ◌+◌, ◌≤◌, ◌==◌, ◌&&◌, ◌||◌, Bool, cond, true, false, List, [], ◌∷◌, ◌++◌, length, ap, arith}
+use Rattle.text_rules.specs.Lines.{line_feed, carriage_return, begins_with}
+use Rattle.text_rules.specs.Breaks.{ends_break, break_ends}
+use Rattle.text_rules.proofs.Breaks.{break_ends_few}
+use Rattle.line_starts.specs.Starts.{break_count}
+use Rattle.line_starts.proofs.Starts.{break_count_is}
+use Rattle.line_starts.proofs.Blocks.{same_count}
+use Rattle.text_buffer.specs.Text.{unit_if}
+
+-- the last unit of a front ends a break before other units only if it does so at the end of a text
+last_most : (cr lf joined : Bool) (end : ℕ) (ends : List ℕ)
+    → length (cond (cond (cr && joined) false (cr || lf)) (end ∷ ends) ends) ≤ length (cond (cond (cr && false) false (cr || lf)) (end ∷ []) []) + length ends
+last_most true lf true end ends = omega arith
+last_most true lf false end ends = omega arith
+last_most false true joined end ends = omega arith
+last_most false false joined end ends = omega arith
+
+ends_most : (at : ℕ) (x y : List ℕ) → length (break_ends at (x ++ y)) ≤ length (break_ends at x) + length (break_ends 0 y)
+ends_most at [] y = omega (arith, same_count at 0 y)
+ends_most at (u ∷ []) y =
+    let last = last_most (u == carriage_return) (u == line_feed) (begins_with line_feed y) (at + 1) (break_ends (at + 1) y) in
+    omega (arith, last, same_count (at + 1) 0 y)
+ends_most at (u ∷ v ∷ x) y =
+    let rest = ends_most (at + 1) (v ∷ x) y in
+    elim (ends_break u (v ∷ x)) as (λ b. length (cond b ((at + 1) ∷ break_ends (at + 1) ((v ∷ x) ++ y)) (break_ends (at + 1) ((v ∷ x) ++ y)))
+    ≤ length (cond b ((at + 1) ∷ break_ends (at + 1) (v ∷ x)) (break_ends (at + 1) (v ∷ x))) + length (break_ends 0 y))
+    [ true ↦ omega arith | false ↦ omega arith ]
+
+-- two texts as one have no more breaks than the two
+break_count-append : (x y : List ℕ) → break_count (x ++ y) ≤ break_count x + break_count y
+break_count-append x y = omega (arith, break_count_is (x ++ y), break_count_is x, break_count_is y, ends_most 0 x y)
+
+one_break_most : (b : Bool) (unit : ℕ) → break_count (unit_if b unit) ≤ 1
+one_break_most true unit = omega (arith, break_count_is (unit ∷ []), break_ends_few 0 (unit ∷ []))
+one_break_most false unit = omega arith
+
+-- what an edit appends
+pub added_breaks : (cr text lf : List ℕ) (front back : Bool) → cr ≡ unit_if front carriage_return → lf ≡ unit_if back line_feed
+    → break_count (cr ++ text ++ lf) ≤ break_count text + 2
+added_breaks cr text lf front back cr_is lf_is =
+    omega (
+      arith,
+      break_count-append (cr ++ text) lf,
+      break_count-append cr text,
+      ap break_count cr_is,
+      ap break_count lf_is,
+      one_break_most front carriage_return,
+      one_break_most back line_feed,
+    )
