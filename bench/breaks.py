@@ -5,6 +5,7 @@ from pathlib import Path
 
 TIMED = Path(__file__).resolve().parent.parent / "crates" / "timed_breaks" / "out" / "timed_breaks"
 UNITS = 50_000_010
+PASSES = 10
 RUNS = 5
 WAYS = (("count the breaks", "count", "plain_count"), ("find the line starts", "starts", "plain_starts"))
 
@@ -29,5 +30,5 @@ def print_breaks() -> None:
     print("\n| nanoseconds for 1,000 units | by lanes | one by one | times |")
     print("| --- | --: | --: | --: |")
     for what, lanes, plain in WAYS:
-        ours, theirs = (max(seconds(way) - text, 1e-6) * 1e12 / UNITS for way in (lanes, plain))
+        ours, theirs = (max(seconds(way) - text, 1e-6) * 1e12 / (UNITS * PASSES) for way in (lanes, plain))
         print(f"| {what} | {ours:,.0f} | {theirs:,.0f} | x{theirs / ours:.1f} |")

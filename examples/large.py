@@ -51,9 +51,6 @@ def mixed(count: int) -> list[int]:
 
 
 CASES = [
-    Case("a blank line as long as may be", b" " * MOST_BYTES + b"\n", b"", 0),
-    Case("a longer one", b" " * (MOST_BYTES + 1) + b"\n" + SIZE + b"\n", b"! limit\nok 0 1\n", 1),
-    Case("a longer one, without its break", b" " * (MOST_BYTES + 1), b"! limit\n", 1),
     Case("a command as long as may be", as_long(MOST_BYTES) + b"\n", b"ok 0 1\n", 0),
     Case("a longer one", as_long(MOST_BYTES + 1) + b"\n" + SIZE + b"\n", b"! limit\nok 0 1\n", 1),
     Case(

@@ -18,7 +18,10 @@ pub(crate) fn has_bad_span<F: Flat>(ops: &[Op], text: &F) -> bool
 fn is_bad_span<F: Flat>(text: &F, span: Span) -> bool
     ensures { result ≡ is_bad_span (F.units text.now) span }
 {
-    span.start > span.end || !(text.is_place(span.start) && text.is_place(span.end))
+    if span.start > span.end || !text.is_place(span.start) {
+        return true;
+    }
+    span.start < span.end && !text.is_place(span.end)
 }
 
 /// Whether one of the edits, which are in order, starts below the end of the one before it.

@@ -12,4 +12,5 @@ pub mod EditedMarks
 pub mod Marking
 pub mod Staying
 pub mod Shelving
+pub mod Untouched
 pub mod Preparing

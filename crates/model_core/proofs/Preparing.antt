@@ -1,27 +1,29 @@
 -- What is prepared: the ops of a batch in their order are accepted as the batch was, and the room that steps take.
-use Rattle.std.proofs.Common.{◌≡◌, ℕ, ◌+◌, ◌<◌, ◌≤◌, true, false, nat_le, List, [], ◌∷◌, length, Ok, refl, ap, sym, subst, ◌∙◌, arith}
+use Rattle.std.proofs.Common.{◌≡◌, ℕ, ◌+◌, ◌<◌, ◌≤◌, true, false, nat_le, List, [], ◌∷◌, length, Result, Ok, Err, refl, ap, sym, subst, ◌∙◌, arith}
 use Rattle.std.specs.List.{All}
 use Rattle.std.proofs.lemmas.Bool.{lt-leb, le-ltb}
 use Rattle.std.proofs.lemmas.List.Elements.{All-head, All-tail}
 use Rattle.unit_text.specs.Units.{IsPaired}
 use Rattle.text_rules.specs.declared.Op.{Op}
+use Rattle.batch_rules.specs.Refusals.{BatchRefusal}
 use Rattle.batch_rules.specs.Batches.{checked_batch, sorted_ops, has_bad_span, overlap, inverse_from, applied_from, text_units, StandFrom}
 use Rattle.batch_rules.proofs.Answers.{accepted_in_order}
 use Rattle.batch_rules.proofs.Order.{sorted_ops_standing, length-sorted_ops, All-sorted_ops}
 use Rattle.batch_rules.proofs.Pairs.{HasPairedText}
 use Rattle.batch_rules.proofs.Standing.{accepted, IsGood}
 use Rattle.undo_rules.specs.Stack.{Step}
-use Rattle.document_rules.specs.Document.{FlatChange, FlatState, greatest_version, after_batch, flat_edit}
+use Rattle.document_rules.specs.Refusals.{FlatRefusal}
+use Rattle.document_rules.specs.Document.{FlatChange, FlatState, greatest_version, after_batch, edited_by, flat_edit}
 use Rattle.document_rules.specs.Paired.{IsPairedState}
 use Rattle.document_rules.proofs.PairedStates.{IsPairedState-edit}
 use Rattle.model_core.specs.declared.change.Way.{Way}
 use Rattle.model_core.specs.declared.change.Way.TheVariants.{Back, On}
 use Rattle.model_core.specs.declared.ready.Action.{Action}
 use Rattle.model_core.specs.declared.ready.Action.TheVariants.{Edit, Move}
-use Rattle.model_core.specs.State.{ModelState, KeepsRoom, KeptBy, GrownBy, KeepsParse, next_op_count}
+use Rattle.model_core.specs.State.{ModelState, KeepsRoom, KeptBy, GrownBy, KeepsParse}
 use Rattle.model_core.specs.Ways.{next_steps}
 use Rattle.model_core.specs.History.{text_breaks}
-use Rattle.model_core.specs.Prepared.{Prepared, IsEnough, need_of, next_unit_count, next_break_count, IsChangeOf, CanAct, CanCommit, Acts, HasActed, ArePairedTexts, IsEditReady, IsMoveReady}
+use Rattle.model_core.specs.Prepared.{Prepared, IsEnough, need_of, next_op_count, next_unit_count, next_break_count, IsChangeOf, CanAct, CanCommit, Acts, HasActed, ArePairedTexts, IsEditReady, IsMoveReady}
 use Rattle.model_core.proofs.Editing.{edited_paired}
 use Rattle.model_core.proofs.Stepping.{IsPairedState-by}
 
@@ -60,6 +62,19 @@ module _ (f : FlatState) (ops sorted : List Op) (rule : checked_batch f.units op
       let below : nat_le greatest_version f.version ≡ false = lt-leb greatest_version f.version (omega (arith, few)) in
       rw (rule, below) refl
 
+-- the batch that was accepted
+ruled : (f : FlatState) (ops : List Op) (answer : Result (List Op) BatchRefusal) (next : FlatState) → checked_batch f.units ops ≡ answer
+    → edited_by f ops answer ≡ Ok next → checked_batch f.units ops ≡ Ok (sorted_ops ops)
+ruled f ops (Err why) next is done = absurd cc
+ruled f ops (Ok sorted) next is done = is ∙ ap (λ (s : List Op). Ok s) (accepted f.units ops sorted is).in_order
+
+-- what is prepared makes the same document of the ops in their order
+pub same_in_order : (ops : List Op) (now : ModelState) (ready : Prepared) → IsEditReady ops now ready
+    → flat_edit now.document (sorted_ops ops) ≡ flat_edit now.document ops
+same_in_order ops now ready is =
+    let f : FlatState = now.document in
+    edit_again f ops (sorted_ops ops) (ruled f ops (checked_batch f.units ops) (after_batch f ops (sorted_ops ops)) refl is.accepted)
+
 -- ---- what commit asks for
 
 pub can_commit : (now : ModelState) (ready : Prepared) (action : Action) → ready.action ≡ action → ready.version ≡ now.document.version
@@ -81,7 +96,6 @@ edit_ready now ops sorted back ready rule inverse is version few room =
       action = is ∙ ap (λ (b : List Op). Edit (record { batch = sorted; inverse = b })) inverse
           ∙ ap (λ (s : List Op). Edit (record { batch = s; inverse = inverse_from 0 0 f.units s })) ok.in_order;
       accepted = edit_accepted f ops sorted rule few ∙ ap (λ (s : List Op). Ok (after_batch f ops s)) ok.in_order;
-      same = ap (flat_edit f) (sym ok.in_order) ∙ edit_again f ops sorted rule;
       can = can_commit now ready (Edit (record { batch = sorted; inverse = back })) is version
           (record { accepted = checked_again f.units ops sorted rule; inverse = inverse }) room;
     }
@@ -91,6 +105,10 @@ pub move_ready : (way : Way) (now : ModelState) (ready : Prepared) → ready.act
 move_ready way now ready is version some room = record { action = is; can = can_commit now ready (Move way) is version some room }
 
 -- ---- what is left
+
+-- a rule makes one document
+one_document : (answer : Result FlatState FlatRefusal) (one other : FlatState) → answer ≡ Ok one → answer ≡ Ok other → one ≡ other
+one_document answer one other is also = cc
 
 pub IsPairedState-acted : (action : Action) (old new : FlatState) → Acts action old new → ArePairedTexts action → IsPairedState old → IsPairedState new
 IsPairedState-acted (Edit change) old new done texts paired = IsPairedState-edit (Ok tt) old new change.batch done texts paired
@@ -113,10 +131,12 @@ module _ (old mid new : ModelState) (ready : Prepared) (same : mid.document ≡ 
       let can : CanAct action mid.document = subst (λ a. CanAct a mid.document) is.action is.can.action in
       let made : Acts action mid.document new.document = subst (λ a. Acts a mid.document new.document) is.action done in
       let left : HasActed action mid new = subst (λ a. HasActed a mid new) is.action acted in
-      let whole : new.document ≡ after_batch mid.document ops sorted = cc in
+      let again : flat_edit mid.document sorted ≡ flat_edit mid.document ops = same_in_order ops mid ready is in
+      let whole : new.document ≡ after_batch mid.document ops sorted =
+      one_document (flat_edit mid.document sorted) new.document (after_batch mid.document ops sorted) made (again ∙ is.accepted) in
       let units : new.document.units ≡ applied_from 0 x sorted = ap (λ (f : FlatState). f.units) whole in
       record {
-        document = ap (λ f. flat_edit f ops) (sym same) ∙ sym is.same ∙ made;
+        document = ap (λ f. flat_edit f ops) (sym same) ∙ sym again ∙ made;
         paired = λ paired texts.
             subst IsPaired (sym units) (edited_paired x sorted sorted can.accepted (subst (λ (f : FlatState). IsPaired f.units) (sym same) paired) (All-sorted_ops HasPairedText ops texts));
         fresh = subst (λ b. KeptBy (length ops) b new.fresh) kept.fresh (subst (λ n. KeptBy n mid.fresh new.fresh) (length-sorted_ops ops) left.fresh);

@@ -17,13 +17,12 @@ use Rattle.model_core.specs.declared.change.Way.{Way}
 use Rattle.model_core.specs.declared.change.Way.TheVariants.{Back, On}
 use Rattle.model_core.specs.Ways.{text_by, changes_by, LeadBy, decorations_by, marked_along, marked_step, next_steps, passed, alternative_after, flat_move}
 use Rattle.model_core.specs.Staying.{StaysWith}
-use Rattle.model_core.specs.Prepared.{next_unit_count, next_break_count}
-use Rattle.model_core.specs.State.{next_op_count}
+use Rattle.model_core.specs.Prepared.{next_op_count, next_unit_count, next_break_count}
 use Rattle.model_core.specs.History.{text_back, text_on, op_count, unit_count, text_breaks, breaks_along, ops_by, history_of, LeadBack, LeadOn, IsHistory}
 use Rattle.bracket_rules.specs.Table.{Table}
 use Rattle.decoration_rules.specs.Decorations.{Decorations}
 use Rattle.mark_rules.specs.declared.Mark.{Mark}
-use Rattle.model_core.proofs.Turns.{ops_back, ops_on, measured_back, measured_on, few_back, few_on}
+use Rattle.model_core.proofs.Turns.{ops_back, measured_back, measured_on, few_back, few_on}
 use Rattle.model_core.proofs.Staying.{MarkedBy, stays_back, stays_on, marked_step_back, marked_step_on}
 use Rattle.model_core.proofs.Carries.{carried_back-kept, carried_on-kept}
 use Rattle.model_core.proofs.Histories.{text_before-back, text_after-on, history-undone, IsHistory-undone, history-redone, IsHistory-redone}
@@ -93,7 +92,7 @@ redo_first now version alternative d table shelf step undo rest is_open old =
       refused = λ last. rw (le-leb greatest_version version (omega (arith, last))) refl;
       some = omega arith;
       next = omega arith;
-      ops = ops_on now step.changes;
+      ops = measured_on length now step.changes;
       units = measured_on text_units now step.changes;
       breaks = measured_on text_breaks now step.changes;
       marks = λ ms. refl;

@@ -163,7 +163,7 @@ turn_on_at cs done c now inside is lead =
       breaks = ap (breaks_along On) cut ∙ breaks_along-cons On c (drop (done + 1) cs);
     }
 
--- a step has as many ops on either way as its batches have
+-- a step has as many ops on the way back as its batches have
 pub ops_back : (after : List ℕ) (cs : List Change) → LeadBack after cs → sum_by (λ (change : FlatChange). length change.ops) (changes_back after cs) ≡ op_count Back cs
 ops_back after [] lead = refl
 ops_back after (c ∷ cs) lead =
@@ -171,14 +171,7 @@ ops_back after (c ∷ cs) lead =
     let same : length c.inverse ≡ length c.batch = ap length lead.0.inverse ∙ length-inverse_from 0 0 (text_back after (c ∷ cs)) c.batch in
     omega (arith, sum_by-cons {X = FlatChange} (λ change. length change.ops) first (changes_back after cs), op_count-cons Back c cs, same, ops_back after cs lead.1)
 
-pub ops_on : (before : List ℕ) (cs : List Change) → sum_by (λ (change : FlatChange). length change.ops) (changes_on before cs) ≡ op_count On cs
-ops_on before [] = refl
-ops_on before (c ∷ cs) =
-    let after = applied_from 0 before c.batch in
-    let first : FlatChange = record { before = before; ops = c.batch; after = after } in
-    omega (arith, sum_by-cons {X = FlatChange} (λ change. length change.ops) first (changes_on after cs), op_count-cons On c cs, ops_on after cs)
-
--- nor any measure of them, such as the units of their texts
+-- a measure of the ops on a way, such as the units of their texts, is that of the kept ones
 pub measured_back : (measure : List Op → ℕ) (after : List ℕ) (cs : List Change) → LeadBack after cs
     → sum_by (λ (change : FlatChange). measure (ops_along Back change)) (changes_back after cs) ≡ sum_by (λ (c : Change). measure (ops_by Back c)) cs
 measured_back measure after [] lead = refl

@@ -1,14 +1,18 @@
 -- Worked examples of the definitions.
-use Rattle.std.specs.Prelude.{◌≡◌, ℕ, List, [], ◌∷◌, codes, false, refl}
+use Rattle.std.specs.Prelude.{◌≡◌, ℕ, List, [], ◌∷◌, None, codes, false, refl}
+use Rattle.std.proofs.Common.{arith}
 use Rattle.text_rules.specs.declared.Op.{Op}
 use Rattle.mark_rules.specs.declared.Mark.TheVariants.{Kept, New}
 use Rattle.mark_rules.specs.Marks.{clean_marks}
 use Rattle.undo_rules.specs.Stack.{Step}
-use Rattle.document_rules.specs.Document.{FlatChange}
+use Rattle.bracket_rules.specs.Table.{standard_table}
+use Rattle.document_rules.specs.Document.{FlatChange, new_document}
+use Rattle.model_core.specs.declared.change.Change.{Change}
 use Rattle.model_core.specs.declared.change.Way.TheVariants.{Back, On}
-use Rattle.model_core.specs.State.{next_op_count}
+use Rattle.model_core.specs.declared.ready.Action.TheVariants.{Edit}
+use Rattle.model_core.specs.State.{Room, ModelState}
 use Rattle.model_core.specs.History.{text_breaks}
-use Rattle.model_core.specs.Prepared.{next_unit_count}
+use Rattle.model_core.specs.Prepared.{Need, CanCommit, IsEnough, next_op_count, next_unit_count, next_break_count}
 use Rattle.model_core.specs.LineMarks.{marked_by, marked_backwards, marked_back}
 
 abbrev insert : ℕ → Op
@@ -68,3 +72,58 @@ typed_in_line_two = record { before = three_lines; ops = insert 2 ∷ []; after 
 
 undone_lines_are_new : marked_back (clean_marks 3) (typed_in_line_two ∷ []) ≡ Kept 1 ∷ New ∷ Kept 3 ∷ []
 undone_lines_are_new = refl
+
+abbrev replace : ℕ → ℕ → List ℕ → Op
+replace start end text = record { span = record { start = start; end = end }; text = text; force = false }
+
+-- a break behind `a`, and then a text with two breaks in the place of both
+abbrev two_changes : Step FlatChange
+two_changes = record {
+  changes = record { before = codes "a"; ops = replace 1 1 (codes "\n") ∷ []; after = codes "a\n" }
+      ∷ record { before = codes "a\n"; ops = replace 0 2 (codes "b\r\nc\n") ∷ []; after = codes "b\r\nc\n" } ∷ [];
+  alt_before = 1;
+  alt_after = 3;
+}
+
+the_breaks_of_both_changes : next_break_count On (two_changes ∷ one_batch ∷ []) ≡ 3
+the_breaks_of_both_changes = refl
+
+the_break_that_comes_back : next_break_count Back (two_changes ∷ one_batch ∷ []) ≡ 1
+the_break_that_comes_back = refl
+
+-- two edits, whose texts have five units and one break
+abbrev two_edits : Need
+two_edits = record { edits = 2; units = 5; breaks = 1; changes = 1 }
+
+-- room for them, with so many breaks
+abbrev room_with : ℕ → Room
+room_with breaks = record { edits = 2; marks = 2; units = 11; breaks = breaks; changes = 1 }
+
+five_breaks_are_enough : IsEnough (room_with 5) two_edits
+five_breaks_are_enough = record { edits = omega arith; marks = omega arith; units = omega arith; breaks = omega arith; changes = omega arith }
+
+four_breaks_are_one_too_few : IsEnough (room_with 4) two_edits → ⊥
+four_breaks_are_one_too_few enough = omega (arith, enough.breaks)
+
+-- a document of one line, with room for one edit that puts one unit in
+abbrev six_letters : ModelState
+six_letters = record {
+  document = new_document (codes "abcdef") standard_table;
+  parsed = None;
+  tree = None;
+  marks = New ∷ [];
+  fresh = false;
+  pieces = 1;
+  room = record { edits = 1; marks = 1; units = 4; breaks = 2; changes = 1 };
+}
+
+-- `x` in the place of `cd`, and what takes it back
+abbrev two_by_one : Change
+two_by_one = record { batch = replace 2 4 (codes "x") ∷ []; inverse = replace 2 3 (codes "cd") ∷ [] }
+
+two_units_make_way_for_one : CanCommit six_letters (record { version = 1; action = Edit two_by_one })
+two_units_make_way_for_one = record {
+  version = refl;
+  action = record { accepted = refl; inverse = refl };
+  room = record { edits = omega arith; marks = omega arith; units = omega arith; breaks = omega arith; changes = omega arith };
+}

@@ -13,7 +13,7 @@ use Rattle.model_core.specs.declared.change.Way.{Way}
 use Rattle.model_core.specs.declared.change.Way.TheVariants.{Back, On}
 use Rattle.model_core.specs.declared.ready.Action.{Action}
 use Rattle.model_core.specs.declared.ready.Action.TheVariants.{Edit, Move}
-use Rattle.model_core.specs.State.{Room, ModelState, KeptBy, GrownBy, next_op_count}
+use Rattle.model_core.specs.State.{units_beside_text, breaks_beside_text, Room, ModelState, KeptBy, GrownBy}
 use Rattle.model_core.specs.LineMarks.{marked_backwards}
 use Rattle.model_core.specs.History.{text_breaks}
 use Rattle.model_core.specs.Ways.{next_steps, flat_move, marked_step}
@@ -31,15 +31,22 @@ abbrev pub ops_along : Way → FlatChange → List Op
 ops_along Back change = inverse_from 0 0 change.before change.ops
 ops_along On change = change.ops
 
--- how many units the texts of these have in the step that comes next, in all of its batches; none where there is no step
-abbrev pub next_unit_count : Way → List (Step FlatChange) → ℕ
-next_unit_count way [] = 0
-next_unit_count way (step ∷ steps) = sum_by (λ change. text_units (ops_along way change)) step.changes
+-- a measure of these, over all batches of the step that comes next; 0 where there is no step
+abbrev pub next_sum : (List Op → ℕ) → Way → List (Step FlatChange) → ℕ
+next_sum measure way [] = 0
+next_sum measure way (step ∷ steps) = sum_by (λ change. measure (ops_along way change)) step.changes
 
--- how many breaks they have
+-- how many ops that step has, be it undone or made again
+abbrev pub next_op_count : List (Step FlatChange) → ℕ
+next_op_count steps = next_sum length On steps
+
+-- how many units their texts have
+abbrev pub next_unit_count : Way → List (Step FlatChange) → ℕ
+next_unit_count way steps = next_sum text_units way steps
+
+-- how many breaks these have
 abbrev pub next_break_count : Way → List (Step FlatChange) → ℕ
-next_break_count way [] = 0
-next_break_count way (step ∷ steps) = sum_by (λ change. text_breaks (ops_along way change)) step.changes
+next_break_count way steps = next_sum text_breaks way steps
 
 -- the room that an action takes
 pub record Need : Type 0 where
@@ -66,8 +73,8 @@ need_of (Move way) f = record {
 pub record IsEnough (room : Room) (need : Need) : Type 0 where
   pub edits : need.edits ≤ room.edits
   pub marks : need.edits ≤ room.marks
-  pub units : need.units + 3 * need.edits ≤ room.units
-  pub breaks : need.breaks + 2 * need.edits ≤ room.breaks
+  pub units : need.units + units_beside_text * need.edits ≤ room.units
+  pub breaks : need.breaks + breaks_beside_text * need.edits ≤ room.breaks
   pub changes : need.changes ≤ room.changes
 
 -- ---- what is asked of the document
@@ -114,11 +121,10 @@ ArePairedTexts (Move way) = ⊤
 
 -- ---- what the calls that prepare answer, on the document of now
 
--- `accepted` and `same`: the rule accepts the ops, and makes the same document of them in their order.
+-- The rule accepts the ops. It makes the same document of them in their order: `same_in_order` of proofs/Preparing.antt.
 pub record IsEditReady (ops : List Op) (now : ModelState) (ready : Prepared) : Type 0 where
   pub action : ready.action ≡ Edit (record { batch = sorted_ops ops; inverse = inverse_of now.document.units ops })
   pub accepted : flat_edit now.document ops ≡ Ok (after_batch now.document ops (sorted_ops ops))
-  pub same : flat_edit now.document (sorted_ops ops) ≡ flat_edit now.document ops
   pub can : CanCommit now ready
 
 pub record IsMoveReady (way : Way) (now : ModelState) (ready : Prepared) : Type 0 where

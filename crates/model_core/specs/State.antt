@@ -1,5 +1,5 @@
 -- What contracts see of a model.
-use Rattle.std.specs.Prelude.{◌≡◌, ℕ, zero, suc, ◌+◌, ◌*◌, ◌<◌, ◌≤◌, Bool, true, false, if◌then◌else◌, List, [], ◌∷◌, length, sum_by, Option, Some, None, Result, Ok, Err, OnOk, OnErr, ⊤}
+use Rattle.std.specs.Prelude.{◌≡◌, ℕ, zero, suc, ◌+◌, ◌*◌, ◌<◌, ◌≤◌, Bool, true, false, if◌then◌else◌, List, length, Option, Some, None, Result, Ok, Err, OnOk, OnErr, ⊤}
 use Rattle.bracket_rules.specs.Table.{Table, is_table}
 use Rattle.bracket_trees.specs.Tree.{Tree}
 use Rattle.bracket_rules.specs.Rows.{text_rows}
@@ -8,19 +8,26 @@ use Rattle.mark_rules.specs.declared.Mark.{Mark}
 use Rattle.mark_rules.specs.Marks.{has_new, clean_marks}
 use Rattle.node_reuse.specs.Texts.{new_lines}
 use Rattle.node_reuse.specs.ParsedTree.{ParsedTree}
-use Rattle.undo_rules.specs.Stack.{Step}
 use Rattle.document_rules.specs.declared.ModelError.{ModelError}
-use Rattle.document_rules.specs.Document.{FlatChange, FlatState}
+use Rattle.document_rules.specs.Document.{FlatState}
 use Rattle.document_rules.specs.Brackets.{line_contents}
+
+-- an edit may append the CR before its text and the LF behind it, so that no piece ends inside a pair, and one unit of padding
+abbrev pub units_beside_text : ℕ
+units_beside_text = 3
+
+-- the CR and the LF are a break each at most, and the padding is none
+abbrev pub breaks_beside_text : ℕ
+breaks_beside_text = 2
 
 -- the room that was made for changes
 pub record Room : Type 0 where
   -- for how many edits of the text, and for how many of the marks of its lines
   pub edits : ℕ
   pub marks : ℕ
-  -- for how many units of new texts; each edit takes up to three more than its text has
+  -- for how many units of new texts; each edit takes up to `units_beside_text` more than its text has
   pub units : ℕ
-  -- for how many breaks of these texts; each edit takes up to two more than its text has
+  -- for how many breaks of these texts; each edit takes up to `breaks_beside_text` more than its text has
   pub breaks : ℕ
   -- for how many changes more that are kept for undo
   pub changes : ℕ
@@ -131,8 +138,3 @@ pub record Renews {A : Type 0} (result : Result A ModelError) (old new : ModelSt
   pub tree : OnErr result (new.tree ≡ old.tree)
   pub marks : OnErr result (new.marks ≡ old.marks)
   pub kept : OnErr result (new.fresh ≡ old.fresh)
-
--- how many ops the step that comes next has, in all of its batches; none where there is no step
-abbrev pub next_op_count : List (Step FlatChange) → ℕ
-next_op_count [] = 0
-next_op_count (step ∷ steps) = sum_by (λ change. length change.ops) step.changes

@@ -11,7 +11,7 @@ use Rattle.document_rules.specs.Document.{FlatChange, FlatState, flat_undo, flat
 use Rattle.model_core.specs.declared.change.Change.{Change}
 use Rattle.model_core.specs.declared.change.Way.{Way}
 use Rattle.model_core.specs.declared.change.Way.TheVariants.{Back, On}
-use Rattle.model_core.specs.State.{GrownBy}
+use Rattle.model_core.specs.State.{units_beside_text, breaks_beside_text, GrownBy}
 use Rattle.model_core.specs.Staying.{ParseState}
 use Rattle.model_core.specs.History.{text_back, text_on, changes_back, changes_on, LeadBack, LeadOn, op_count, unit_count, breaks_along}
 use Rattle.model_core.specs.Carrying.{decorations_back, decorations_on, AreIn}
@@ -66,8 +66,8 @@ flat_move On f = flat_redo f
 pub record CanLead (way : Way) (text : Text) (d : Decorations) (last : ParseState) (cs : List Change) : Type 0 where
   pub lead : LeadBy way text.units cs
   pub edits : op_count way cs ≤ text.spare_edits
-  pub room : unit_count way cs + 3 * op_count way cs ≤ text.spare_units
-  pub breaks : breaks_along way cs + 2 * op_count way cs ≤ text.spare_breaks
+  pub room : unit_count way cs + units_beside_text * op_count way cs ≤ text.spare_units
+  pub breaks : breaks_along way cs + breaks_beside_text * op_count way cs ≤ text.spare_breaks
   pub lines : length last.marks ≡ length (lines_of text.units)
   pub spare : op_count way cs ≤ last.spare
   pub inside : AreIn (length text.units) d

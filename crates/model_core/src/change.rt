@@ -7,7 +7,7 @@ ghost use Rattle.edit_stack.specs.Element.{step_of};
 ghost use Rattle.batch_rules.specs.Batches.{most_units, applied_from, text_units, StandFrom};
 ghost use Rattle.model_core.specs.History.{ops_by, op_count, unit_count, text_breaks, breaks_along};
 ghost use Rattle.model_core.specs.Ways.{next_steps, passed, alternative_after, CanLead, HasLed, IsUntouched};
-ghost use Rattle.model_core.specs.State.{GrownBy};
+ghost use Rattle.model_core.specs.State.{units_beside_text, breaks_beside_text, GrownBy};
 ghost use Rattle.chunk_buffers.specs.Chunks.{Extends};
 ghost use Rattle.text_rules.specs.Lines.{lines_of};
 ghost use Rattle.model_core.specs.LineMarks.{marked_backwards};
@@ -62,18 +62,20 @@ pub(crate) fn apply(
     requires standing { StandFrom 0 text.old.units ops.now }
     requires small { length text.old.units + text_units ops.now + 1 < 2 ^ 62 }
     requires edits { length ops.now ≤ text.old.spare_edits }
-    requires room { text_units ops.now + 3 * length ops.now ≤ text.old.spare_units }
-    requires breaks { text_breaks ops.now + 2 * length ops.now ≤ text.old.spare_breaks }
+    requires room { text_units ops.now + units_beside_text * length ops.now
+        ≤ text.old.spare_units }
+    requires breaks { text_breaks ops.now + breaks_beside_text * length ops.now
+        ≤ text.old.spare_breaks }
     requires lines { length last.old.marks ≡ length (lines_of text.old.units) }
     requires spare { length ops.now ≤ last.old.spare }
     requires inside { AreIn (length text.old.units) decorations.old }
     ensures units { text.new.units ≡ applied_from 0 text.old.units ops.now }
     ensures pieces { GrownBy (length ops.now) (length text.old.spans) (length text.new.spans) }
     ensures edits { text.old.spare_edits ≤ text.new.spare_edits + length ops.now }
-    ensures room { text.old.spare_units
-        ≤ text.new.spare_units + (text_units ops.now + 3 * length ops.now) }
-    ensures breaks { text.old.spare_breaks
-        ≤ text.new.spare_breaks + (text_breaks ops.now + 2 * length ops.now) }
+    ensures room { text.old.spare_units ≤ text.new.spare_units
+        + (text_units ops.now + units_beside_text * length ops.now) }
+    ensures breaks { text.old.spare_breaks ≤ text.new.spare_breaks
+        + (text_breaks ops.now + breaks_beside_text * length ops.now) }
     ensures decorations { decorations.new ≡ carried_with forces decorations.old ops.now }
     ensures inside { AreIn (length text.new.units) decorations.new }
     ensures marks { last.new.marks ≡ marked_backwards text.old.units ops.now last.old.marks }
@@ -175,8 +177,8 @@ pub(crate) fn make_room(
     breaks: u64,
 ) -> Result<(), AllocError>
     ensures edits { OnOk result (edits ≤ text.new.spare_edits) }
-    ensures room { OnOk result (units + 3 * edits ≤ text.new.spare_units) }
-    ensures breaks { OnOk result (breaks + 2 * edits ≤ text.new.spare_breaks) }
+    ensures room { OnOk result (units + units_beside_text * edits ≤ text.new.spare_units) }
+    ensures breaks { OnOk result (breaks + breaks_beside_text * edits ≤ text.new.spare_breaks) }
     ensures spare { OnOk result (edits ≤ last.new.spare) }
     ensures kept { IsUntouched text.old text.new last.old last.new }
 {
@@ -194,10 +196,10 @@ pub(crate) fn reserve_for(
 ) -> Result<(), AllocError>
     requires { All (λ c. text_units (ops_by way c) ≤ most_units) changes.now }
     ensures edits { OnOk result (op_count way changes.now ≤ text.new.spare_edits) }
-    ensures room { OnOk result
-        (unit_count way changes.now + 3 * op_count way changes.now ≤ text.new.spare_units) }
-    ensures breaks { OnOk result
-        (breaks_along way changes.now + 2 * op_count way changes.now ≤ text.new.spare_breaks) }
+    ensures room { OnOk result (unit_count way changes.now
+        + units_beside_text * op_count way changes.now ≤ text.new.spare_units) }
+    ensures breaks { OnOk result (breaks_along way changes.now
+        + breaks_beside_text * op_count way changes.now ≤ text.new.spare_breaks) }
     ensures spare { OnOk result (op_count way changes.now ≤ last.new.spare) }
     ensures kept { IsUntouched text.old text.new last.old last.new }
 {

@@ -20,7 +20,10 @@ use Rattle.rb_rules.proofs.Held.{can_sum_up, items_right, valued_left, valued_ri
 use Rattle.rb_rules.proofs.Shapes.{same_items}
 use Rattle.rb_rules.proofs.Unshaping as U
 use Rattle.rb_rules.proofs.Weaves.{woven_at, near_of, woven_summed, entries-plug}
-use Rattle.rb_arena.specs.Placing.{CanTake, leaf_of, IsLeaf}
+use Rattle.rb_rules.proofs.Wider.{woven_wider}
+use Rattle.rb_rules.specs.declared.weave.Weave.{Ghosts}
+use Rattle.rb_arena.specs.declared.links.Links.{Links}
+use Rattle.rb_arena.specs.Placing.{CanTake, leaf_of, IsLeaf, IsLeafFor, TakesAt, TakesIn}
 use Rattle.rb_arena.specs.Rising.{Rising}
 
 empty_fits : {D : Type 0} (k : Hole D) → Balanced (plug k tip) → Fits false 0 k
@@ -149,3 +152,14 @@ module _ {X S B : Type 0} (w : Weaving X S B) (is_near : B → Type 0) (is_item 
     (((e, subst (λ l. Made beside l root (plug k tip)) (sym new) (written_apart m id slot root (plug k tip) apart made)), wv, le), bal, v),
     (ap (λ l. map.get l id) new ∙ get-insert_same m id slot ∙ ap Some is, apart),
   )
+
+-- the leaf that was made for a place may hang there, once it is written under such a name
+module _ {W X S B K : Type 0} (t : Ghosts W X S B K) (near : (reach by : B) → t.within reach by → t.is_near by) (old : Links (Data X S B)) (at : Option (ℕ × Side)) (item : X) (reach : B) (beside : Tree (Data X S B)) (k : Hole (Data X S B))
+    (can : TakesIn t old at reach beside item k) where
+  pub takes_near : TakesAt t old at beside item k
+  takes_near = let ((here, wv, le), bal, v) = can in ((here, woven_wider t.weaving (t.within reach) t.is_near (near reach) t.weaving.still (plug k tip) wv, le), bal, v)
+
+  pub leaf_hangs : {slot : Slot (Data X S B)} → IsLeafFor t old at item slot → (id : ℕ) → count id (plug k tip) + count id beside ≡ 0 → {m2 : map.FinMap nat_cmp (Slot (Data X S B))} → m2 ≡ map.insert old.nodes.live id slot
+      → CanTake t.weaving (t.within reach) beside m2 old.root at t.is_item t.is_value item k × IsLeaf t.weaving beside m2 id item k
+  leaf_hangs {slot} leaf id apart {m2} new =
+      written_leaf t.weaving (t.within reach) t.is_item t.is_value beside old.nodes.live m2 old.root at id item k slot can apart (leaf beside k takes_near) new

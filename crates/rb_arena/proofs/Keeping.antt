@@ -30,10 +30,10 @@ module _ {W X S B K : Type 0} (w : Ghosts W X S B K) (reach : B) (links : Links 
   all_items = entries w.weaving w.weaving.still kept.tree
 
   pub items_seen : {items : List (ℕ × X)} → items_in w.weaving links.nodes.live links.root ≡ items → items ≡ all_items
-  items_seen is = sym is ∙ items_are w.weaving (w.within reach) w.is_item w.is_value links.nodes.live links.root front kept
+  items_seen is = sym is ∙ items_are kept
 
   pub loose_seen : {loose : List (ℕ × X)} → loose_in w.weaving links.nodes.live front ≡ loose → entries w.weaving w.weaving.still kept.beside ≡ loose
-  loose_seen is = sym (loose_are w.weaving (w.within reach) w.is_item w.is_value links.nodes.live links.root front kept) ∙ is
+  loose_seen is = sym (loose_are kept) ∙ is
 
   pub all_stored : StoresBeside w links reach kept.beside all_items
   all_stored = let all = kept.all in let few = kept.few in ((kept.tree, kept.made, (kept.woven, refl), kept.balanced), kept.values, omega (arith, all, few))
@@ -51,7 +51,7 @@ module _ {W X S B K : Type 0} (w : Ghosts W X S B K) (reach : B) (links : Links 
   pub node_of : {items : List (ℕ × X)} → items_in w.weaving links.nodes.live links.root ≡ items → items ≡ us ++ (id, x) ∷ vs → Node
   node_of is e =
       let listed : entries w.weaving w.weaving.still kept.tree ≡ us ++ (id, x) ∷ vs
-      = sym (items_are w.weaving (w.within reach) w.is_item w.is_value links.nodes.live links.root front kept) ∙ is ∙ e in
+      = sym (items_are kept) ∙ is ∙ e in
       let (s, whole, value, before, after) = locate_in w.weaving kept.tree us id x vs listed in
       record { spot = s; whole = whole; value = value; before = before; after = after; listed = listed }
 
@@ -69,7 +69,7 @@ module _ {W X S B K : Type 0} {w : Ghosts W X S B K} {reach : B} {links : Links 
   pub low_there : depth n.spot.hole + height (here n.spot id) ≤ 126
   low_there =
       let deep = depth_height n.spot.hole (here n.spot id) in let high = ap height n.whole in
-      let lo = low w.weaving (w.within reach) w.is_item w.is_value links.nodes.live links.root front kept in omega (arith, deep, high, lo)
+      let lo = low kept in omega (arith, deep, high, lo)
 
   pub few_above : depth n.spot.hole ≤ 126
   few_above = let lo = low_there in omega (arith, lo)

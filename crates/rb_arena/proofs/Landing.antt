@@ -109,19 +109,19 @@ module _ {X S B : Type 0} (w : Weaving X S B) (L : Lawful w) where
   put_length items (Some id) (us, (x, (vs, is))) e =
       let old = length-append us ((id, x) ∷ vs) in let new = length-append us ((id, x) ∷ e ∷ vs) in let same = ap length is in omega (arith, old, new, same)
 
-  -- the tree that hangs at a place, and the list with one more there
-  module _ (is_near : B → Type 0) (is_item : X → Type 0) (is_value : S → Type 0) (m : map.FinMap nat_cmp (Slot (Data X S B))) (root front : Option ℕ) (K : Keeps w is_near is_item is_value m root front)
-      (items : List (ℕ × X)) (same : items ≡ entries w w.still K.tree) where
-    abbrev pub Hanging : (id : Option ℕ) → PlaceAfter items id → Type 0
-    Hanging id at =
-        (k : Hole (Data X S B)) × ((t : Tree (Data X S B)) × HangsAfter K.beside m root id t k × (plug k t ≡ K.tree)
-        × ((e : ℕ × X) → lefts w k ++ e ∷ (entries w (shift_at w k) t ++ rights w k) ≡ put_at items id at e))
+-- the tree that hangs at a place, and the list with one more there
+module _ {X S B : Type 0} {w : Weaving X S B} {is_near : B → Type 0} {is_item : X → Type 0} {is_value : S → Type 0} {m : map.FinMap nat_cmp (Slot (Data X S B))} {root front : Option ℕ}
+    (K : Keeps w is_near is_item is_value m root front) {items : List (ℕ × X)} (same : items ≡ entries w w.still K.tree) where
+  abbrev pub Hanging : (id : Option ℕ) → PlaceAfter items id → Type 0
+  Hanging id at =
+      (k : Hole (Data X S B)) × ((t : Tree (Data X S B)) × HangsAfter K.beside m root id t k × (plug k t ≡ K.tree)
+      × ((e : ℕ × X) → lefts w k ++ e ∷ (entries w (shift_at w k) t ++ rights w k) ≡ put_at items id at e))
 
-    pub hanging : (id : Option ℕ) (at : PlaceAfter items id) → Hanging id at
-    hanging id at =
-        let (us, (vs, split)) = split_after items id at in
-        let (t, (k, hangs, whole, l, r)) = placed w K.beside m root K.tree K.made (low w is_near is_item is_value m root front K) id us vs (sym same ∙ split.0, split.1) in
-        (k, (t, hangs, whole, λ e. (λ i. l i ++ e ∷ r i) ∙ put_between items id at e))
+  pub hanging : (id : Option ℕ) (at : PlaceAfter items id) → Hanging id at
+  hanging id at =
+      let (us, (vs, split)) = split_after items id at in
+      let (t, (k, hangs, whole, l, r)) = placed w K.beside m root K.tree K.made (low K) id us vs (sym same ∙ split.0, split.1) in
+      (k, (t, hangs, whole, λ e. (λ i. l i ++ e ∷ r i) ∙ put_between items id at e))
 
 -- the sum of the items with one more at a place
 pub sums_put : {X S B : Type 0} (w : Weaving X S B) (is_value : S → Type 0) (items : List (ℕ × X)) (id : Option ℕ) (item : X) → SumsPut w is_value items id item → (at : PlaceAfter items id)
@@ -130,12 +130,10 @@ sums_put w is_value items None item h at = h
 sums_put w is_value items (Some id) item h (us, (x, (vs, is))) = h us x vs is
 
 -- one more item at a place
-module _ {X S B : Type 0} (w : Weaving X S B) (L : Lawful w) (is_near : B → Type 0) (is_item : X → Type 0) (is_sum is_value : S → Type 0)
-    (sums : Sums w is_item is_sum) (parts : (a b : S) → is_value (w.join a b) → is_value a × is_value b)
-    (m : map.FinMap nat_cmp (Slot (Data X S B))) (root front : Option ℕ) (K : Keeps w is_near is_item is_value m root front) (items : List (ℕ × X)) (same : items ≡ entries w w.still K.tree)
-    (to : Option ℕ) (place : PlaceAfter items to) where
-  abbrev hung_at : Hanging w L is_near is_item is_value m root front K items same to place
-  hung_at = hanging w L is_near is_item is_value m root front K items same to place
+module _ {X S B : Type 0} {w : Weaving X S B} {is_near : B → Type 0} {is_item : X → Type 0} {is_value : S → Type 0} {m : map.FinMap nat_cmp (Slot (Data X S B))} {root front : Option ℕ}
+    (K : Keeps w is_near is_item is_value m root front) {items : List (ℕ × X)} (same : items ≡ entries w w.still K.tree) (to : Option ℕ) (place : PlaceAfter items to) where
+  abbrev hung_at : Hanging K same to place
+  hung_at = hanging K same to place
 
   abbrev pub hole : Hole (Data X S B)
   hole = first_hole hung_at.0 hung_at.1.0
@@ -143,31 +141,31 @@ module _ {X S B : Type 0} (w : Weaving X S B) (L : Lawful w) (is_near : B → Ty
   pub hole_is : plug hole tip ≡ K.tree
   hole_is = first-plug hung_at.0 hung_at.1.0 ∙ hung_at.1.2
 
-  module _ (item : X) (value : is_item item) (sum : is_value (sum_of w (put_at items to place (0, item)))) where
+  module _ (L : Lawful w) {is_sum : S → Type 0} (sums : Sums w is_item is_sum) (parts : (a b : S) → is_value (w.join a b) → is_value a × is_value b)
+      (item : X) (value : is_item item) (sum : is_value (sum_of w (put_at items to place (0, item)))) where
     list_is : (i : ℕ) → lefts w hole ++ (i, item) ∷ rights w hole ≡ put_at items to place (i, item)
-    list_is i = list_first w is_near is_item is_value m root front K hung_at.0 hung_at.1.0 hung_at.1.2 i item ∙ hung_at.1.3 (i, item)
+    list_is i = list_first K hung_at.0 hung_at.1.0 hung_at.1.2 i item ∙ hung_at.1.3 (i, item)
 
     valued : Valued w is_item is_value (put_at items to place (0, item))
     valued = (put_items w L is_item items to place (0, item) value (subst (AllItems w is_item) (sym same) K.values.0), sum)
 
-    pub can_put : (at : Option (ℕ × Side)) → at ≡ place_of hole → CanTake w is_near K.beside m root at is_item is_value item hole
-    can_put at there =
-        can_take w is_near is_item is_value m root front K hung_at.0 hung_at.1.0 hung_at.1.2 at item there (subst (Valued w is_item is_value) (sym (hung_at.1.3 (0, item))) valued)
+    pub can_put : {at : Option (ℕ × Side)} → at ≡ place_of hole → CanTake w is_near K.beside m root at is_item is_value item hole
+    can_put {at} there =
+        can_take K hung_at.0 hung_at.1.0 hung_at.1.2 at item there (subst (Valued w is_item is_value) (sym (hung_at.1.3 (0, item))) valued)
 
-    pub has_put : (i : ℕ) (beside : Tree (Data X S B)) (front2 : Option ℕ) (m2 : map.FinMap nat_cmp (Slot (Data X S B))) (root2 : Option ℕ)
+    pub has_put : (i : ℕ) {beside : Tree (Data X S B)} {front2 : Option ℕ} {m2 : map.FinMap nat_cmp (Slot (Data X S B))} {root2 : Option ℕ}
         → Mended w is_near beside m2 root2 (lefts w hole ++ (i, item) ∷ rights w hole) → front2 ≡ root_of beside → Chain w beside
         → suc (length items) + length (entries w w.still beside) ≡ map.len m2 → map.len m2 < 2 ^ 63
         → Keeps w is_near is_item is_value m2 root2 front2 × (items_in w m2 root2 ≡ put_at items to place (i, item)) × (loose_in w m2 front2 ≡ entries w w.still beside)
-    has_put i beside front2 m2 root2 mended first chain many few =
+    has_put i {beside} {front2} {m2} {root2} mended first chain many few =
         let renamed = valued_renamed w L is_near is_item is_sum is_value sums parts (lefts w hole) (rights w hole) 0 i item (subst (Valued w is_item is_value) (sym (list_is 0)) valued) in
         let one = put_length w L items to place (i, item) in
         keeps_mended w is_near is_item is_value m2 root2 front2 (put_at items to place (i, item)) beside (subst (Mended w is_near beside m2 root2) (list_is i) mended) first chain
         (subst (Valued w is_item is_value) (list_is i) renamed) (omega (arith, one, many)) few
 
 -- the front loose node lands at a place
-module _ {X S B : Type 0} (w : Weaving X S B) (L : Lawful w) (is_near : B → Type 0) (is_item : X → Type 0) (is_sum is_value : S → Type 0)
-    (sums : Sums w is_item is_sum) (parts : (a b : S) → is_value (w.join a b) → is_value a × is_value b)
-    (m : map.FinMap nat_cmp (Slot (Data X S B))) (root front : Option ℕ) (K : Keeps w is_near is_item is_value m root front) (landing : ℕ) (starts : front ≡ Some landing) where
+module _ {X S B : Type 0} {w : Weaving X S B} (L : Lawful w) {is_near : B → Type 0} {is_item : X → Type 0} {is_value : S → Type 0} {m : map.FinMap nat_cmp (Slot (Data X S B))} {root front : Option ℕ}
+    (K : Keeps w is_near is_item is_value m root front) {landing : ℕ} (starts : front ≡ Some landing) where
   abbrev pub Front : Type 0
   Front =
       (c : Bool) × ((d : Data X S B) × ((rest : Tree (Data X S B)) × (K.beside ≡ fork c landing d tip rest) × Chain w rest × (entries w w.still K.beside ≡ (landing, d.item) ∷ entries w w.still rest)))
@@ -190,23 +188,23 @@ module _ {X S B : Type 0} (w : Weaving X S B) (L : Lawful w) (is_near : B → Ty
   pub next_lives : IfSome front_slot.right (Live m)
   next_lives = live_root m root (Some landing) rest made_front.aside.2
 
-  module _ (items : List (ℕ × X)) (same : items ≡ entries w w.still K.tree) (to : Option ℕ) (place : PlaceAfter items to) (item : X) (value : is_item item)
-      (sum : is_value (sum_of w (put_at items to place (0, item)))) where
+  module _ {items : List (ℕ × X)} (same : items ≡ entries w w.still K.tree) (to : Option ℕ) (place : PlaceAfter items to)
+      {is_sum : S → Type 0} (sums : Sums w is_item is_sum) (parts : (a b : S) → is_value (w.join a b) → is_value a × is_value b) (item : X) (value : is_item item) (sum : is_value (sum_of w (put_at items to place (0, item)))) where
     abbrev pub landing_hole : Hole (Data X S B)
-    landing_hole = hole w L is_near is_item is_sum is_value sums parts m root front K items same to place
+    landing_hole = hole K same to place
 
-    module _ (at : Option (ℕ × Side)) (there : at ≡ place_of landing_hole) (front2 : Option ℕ) (next : front2 ≡ front_slot.right) (m2 : map.FinMap nat_cmp (Slot (Data X S B))) (new : m2 ≡ adopted m front2 None) where
+    module _ {at : Option (ℕ × Side)} (there : at ≡ place_of landing_hole) {front2 : Option ℕ} (next : front2 ≡ front_slot.right) {m2 : map.FinMap nat_cmp (Slot (Data X S B))} (new : m2 ≡ adopted m front2 None) where
       pub can_land : CanTake w is_near rest m2 root at is_item is_value item landing_hole × (count landing (plug landing_hole tip) + count landing rest ≡ 0)
       can_land =
-          let old = subst (Made (fork the_front.0 landing the_front.1.0 tip rest) m root) (sym (hole_is w L is_near is_item is_sum is_value sums parts m root front K items same to place)) made_front in
+          let old = subst (Made (fork the_front.0 landing the_front.1.0 tip rest) m root) (sym (hole_is K same to place)) made_front in
           let (made, apart) = unstrung m root (plug landing_hole tip) landing the_front.1.0 the_front.0 rest old in
           let made2 = subst (λ l. Made rest l root (plug landing_hole tip)) (sym (new ∙ ap (λ o. adopted m o None) next)) made in
-          let (((e, _), wv, le), bal, v) = can_put w L is_near is_item is_sum is_value sums parts m root front K items same to place item value sum at there in
+          let (((e, _), wv, le), bal, v) = can_put K same to place L sums parts item value sum there in
           ((((e, made2), wv, le), bal, v), apart)
 
-      pub landed : (m3 : map.FinMap nat_cmp (Slot (Data X S B))) (root3 : Option ℕ) → Mended w is_near rest m3 root3 (lefts w landing_hole ++ (landing, item) ∷ rights w landing_hole) → map.len m3 ≡ map.len m
+      pub landed : {m3 : map.FinMap nat_cmp (Slot (Data X S B))} {root3 : Option ℕ} → Mended w is_near rest m3 root3 (lefts w landing_hole ++ (landing, item) ∷ rights w landing_hole) → map.len m3 ≡ map.len m
           → Keeps w is_near is_item is_value m3 root3 front2 × (items_in w m3 root3 ≡ put_at items to place (landing, item)) × (loose_in w m3 front2 ≡ entries w w.still rest)
-      landed m3 root3 mended many =
+      landed mended many =
           let old = ap length same in let less = ap length the_front.1.1.3 in let all = K.all in let few = K.few in
-          has_put w L is_near is_item is_sum is_value sums parts m root front K items same to place item value sum landing rest front2 m3 root3 mended next the_front.1.1.2
+          has_put K same to place L sums parts item value sum landing mended next the_front.1.1.2
           (omega (arith, old, less, all, many)) (omega (arith, few, many))

@@ -136,21 +136,17 @@ module _ {X S B : Type 0} (w : Weaving X S B) (L : Lawful w) (is_near : B → Ty
           let (u, made, wv, alike) = done in let (k2, (same, place, deep, fits)) = emptied_back shaped k u alike in
           let fit = fits false 1 (subst (λ c. Fits c (leaf_height c) k) is_black h.6) in
           let le = h.5 in let few = few_steps k2 in
-          at_top w L is_near is_item is_value beside m2 root2 (lefts w k ++ rights w k) at 129 (
-            k2,
-            (
-              tip,
-              (
-                0,
-                subst (Made beside m2 root2) same made,
-                (subst (Woven w is_near w.still) same wv, ap (entries w w.still) (sym same) ∙ same_items w w.still u (plug k tip) alike ∙ list_is),
-                h.0 ∙ sym place,
-                (refl, refl),
-                fit,
-                omega (arith, le, few, deep),
-              ),
-            ),
-          )
+          at_top w L is_near is_item is_value beside m2 root2 (lefts w k ++ rights w k) at 129 (record {
+            hole = k2;
+            subtree = tip;
+            black = 0;
+            made = subst (Made beside m2 root2) same made;
+            lists = (subst (Woven w is_near w.still) same wv, ap (entries w w.still) (sym same) ∙ same_items w w.still u (plug k tip) alike ∙ list_is);
+            there = h.0 ∙ sym place;
+            even = (refl, refl);
+            fits = fit;
+            few = omega (arith, le, few, deep);
+          })
 
   -- The node that has left goes from the memory, or comes to the front of what lies beside.
   module _ (beside : Tree (Data X S B)) (m m2 : map.FinMap nat_cmp (Slot (Data X S B))) (root : Option ℕ) (at : Option (ℕ × Side)) (red : Bool) (id : ℕ) (es : List (ℕ × X))

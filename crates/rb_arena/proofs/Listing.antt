@@ -10,6 +10,7 @@ use Rattle.rb_rules.specs.Colours.{Balanced}
 use Rattle.rb_rules.specs.Memory.{Makes, Made, place_of}
 use Rattle.rb_rules.specs.Weaving.{Weaving}
 use Rattle.rb_rules.specs.Woven.{entries, Woven, Valued, lefts, rights, shift_at}
+use Rattle.rb_rules.proofs.Wider.{woven_wider}
 use Rattle.rb_arena.specs.Placing.{CanTake, StartsAt}
 use Rattle.rb_arena.specs.Rising.{Mended}
 use Rattle.rb_arena.specs.Value.{grown, first_hole, items_in, loose_in, Chain, Keeps}
@@ -72,30 +73,35 @@ module _ {X S B : Type 0} (w : Weaving X S B) (is_near : B → Type 0) (is_item 
         loose_same w m front beside (length es) first made.aside all,
       )
 
-  module _ (m : map.FinMap nat_cmp (Slot (Data X S B))) (root front : Option ℕ) (K : Keeps w is_near is_item is_value m root front) where
-    pub low : height (Keeps.tree K) ≤ 126
-    low = low_tree w m K.tree (length (entries w w.still K.beside)) K.balanced K.all K.few
+module _ {X S B : Type 0} {w : Weaving X S B} {is_near : B → Type 0} {is_item : X → Type 0} {is_value : S → Type 0} {m : map.FinMap nat_cmp (Slot (Data X S B))} {root front : Option ℕ}
+    (K : Keeps w is_near is_item is_value m root front) where
+  pub low : height (Keeps.tree K) ≤ 126
+  low = low_tree w m K.tree (length (entries w w.still K.beside)) K.balanced K.all K.few
 
-    pub items_are : items_in w m root ≡ entries w w.still K.tree
-    items_are = items_same w m root K.tree K.made low
+  pub items_are : items_in w m root ≡ entries w w.still K.tree
+  items_are = items_same w m root K.tree K.made low
 
-    pub loose_are : loose_in w m front ≡ entries w w.still K.beside
-    loose_are = loose_same w m front K.beside (length (entries w w.still K.tree)) K.first K.made.aside K.all
+  pub loose_are : loose_in w m front ≡ entries w w.still K.beside
+  loose_are = loose_same w m front K.beside (length (entries w w.still K.tree)) K.first K.made.aside K.all
 
-    pub starts_top : StartsAt K.beside m root None root K.tree top
-    starts_top = ((refl, K.made), K.made.from, omega (arith, low))
+  -- the sums are right for all shifts that a path may have
+  pub woven_near : (near : B → Type 0) → ((by : B) → is_near by → near by) → Woven w near w.still K.tree
+  woven_near near wide = woven_wider w is_near near wide w.still K.tree K.woven
 
-    -- a tree's first place, by the tree that hangs at a place k
-    module _ (k : Hole (Data X S B)) (t : Tree (Data X S B)) (whole : plug k t ≡ K.tree) where
-      pub can_take : (at : Option (ℕ × Side)) (x : X) → at ≡ place_of (first_hole k t) → Valued w is_item is_value (lefts w k ++ (0, x) ∷ (entries w (shift_at w k) t ++ rights w k))
-          → CanTake w is_near K.beside m root at is_item is_value x (first_hole k t)
-      can_take at x e v =
-          let same : plug (first_hole k t) tip ≡ K.tree = first-plug k t ∙ whole in let q = first_hole k t in
-          let none : Tree (Data X S B) = tip in let deep = depth_height (first_hole k t) none in let high = ap height same in let l = low in (
-            ((e, subst (Made K.beside m root) (sym same) K.made), subst (Woven w is_near w.still) (sym same) K.woven, omega (arith, deep, high, l)),
-            subst Balanced (sym same) K.balanced,
-            subst (Valued w is_item is_value) (sym (λ i. first-lefts w k t i ++ (0, x) ∷ first-rights w k t i)) v,
-          )
+  pub starts_top : StartsAt K.beside m root None root K.tree top
+  starts_top = ((refl, K.made), K.made.from, omega (arith, low))
 
-      pub list_first : (i : ℕ) (x : X) → lefts w (first_hole k t) ++ (i, x) ∷ rights w (first_hole k t) ≡ lefts w k ++ (i, x) ∷ (entries w (shift_at w k) t ++ rights w k)
-      list_first i x = λ j. first-lefts w k t j ++ (i, x) ∷ first-rights w k t j
+  -- a tree's first place, by the tree that hangs at a place k
+  module _ (k : Hole (Data X S B)) (t : Tree (Data X S B)) (whole : plug k t ≡ K.tree) where
+    pub can_take : (at : Option (ℕ × Side)) (x : X) → at ≡ place_of (first_hole k t) → Valued w is_item is_value (lefts w k ++ (0, x) ∷ (entries w (shift_at w k) t ++ rights w k))
+        → CanTake w is_near K.beside m root at is_item is_value x (first_hole k t)
+    can_take at x e v =
+        let same : plug (first_hole k t) tip ≡ K.tree = first-plug k t ∙ whole in let q = first_hole k t in
+        let none : Tree (Data X S B) = tip in let deep = depth_height (first_hole k t) none in let high = ap height same in let l = low in (
+          ((e, subst (Made K.beside m root) (sym same) K.made), subst (Woven w is_near w.still) (sym same) K.woven, omega (arith, deep, high, l)),
+          subst Balanced (sym same) K.balanced,
+          subst (Valued w is_item is_value) (sym (λ i. first-lefts w k t i ++ (0, x) ∷ first-rights w k t i)) v,
+        )
+
+    pub list_first : (i : ℕ) (x : X) → lefts w (first_hole k t) ++ (i, x) ∷ rights w (first_hole k t) ≡ lefts w k ++ (i, x) ∷ (entries w (shift_at w k) t ++ rights w k)
+    list_first i x = λ j. first-lefts w k t j ++ (i, x) ∷ first-rights w k t j

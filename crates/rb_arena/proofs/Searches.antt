@@ -8,7 +8,7 @@ use Rattle.rb_rules.specs.declared.slot.Side.TheVariants as side
 use Rattle.rb_rules.specs.declared.slot.Slot.{Slot}
 use Rattle.rb_rules.specs.declared.weave.Turn.{Turn}
 use Rattle.rb_rules.specs.declared.weave.Turn.TheVariants as turns
-use Rattle.rb_rules.specs.Tree.{Tree, fork, Hole, on, plug, root_of, above, height}
+use Rattle.rb_rules.specs.Tree.{Tree, fork, Hole, top, on, plug, root_of, above, height}
 use Rattle.rb_rules.specs.Memory.{sided, Made, Spot}
 use Rattle.rb_rules.specs.Weaving.{Weaving, Lawful, Sums, HeldItem, HeldSum, HeldBy}
 use Rattle.rb_rules.specs.Woven.{entries, sum_of, Woven, Valued, rights, shift_at}
@@ -238,3 +238,20 @@ one_step start n so_far now is one = omega (arith, is, one)
 
 pub no_turns : (n : ℕ) → 128 ≤ n → 128 - n ≡ 0
 no_turns n le = omega arith
+
+-- where a search from the top starts
+pub stands_top : {X S B Key : Type 0} (w : Weaving X S B) (turn : Key → S → X → Turn) (key : Key) (whole : Tree (Data X S B)) {root : Option ℕ} {by : B} {before : S} → root ≡ root_of whole → by ≡ w.still → before ≡ w.none
+    → StandsIn w turn key whole (entries w w.still whole) (record { at = root; by = by; before = before; last = None })
+stands_top w turn key whole from still none = record {
+  hole = top;
+  subtree = whole;
+  earlier = [];
+  same = refl;
+  listed = sym (append-nil (entries w w.still whole));
+  at_is = from;
+  by_is = still;
+  before_is = none;
+  right_before = inl refl;
+  left_after = inl refl;
+  asked = (refl, refl);
+}

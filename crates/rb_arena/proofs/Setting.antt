@@ -121,4 +121,4 @@ module _ {W X S B K : Type 0} {w : Ghosts W X S B K} {reach : B} {links : Links 
       let all = kept.all in let few = kept.few in let n1 = length-append us ((id, y) ∷ vs) in let n2 = length-append us ((id, x) ∷ vs) in let n3 = ap length n.listed in
       let (keeps, are, left) = keeps_mended w.weaving (w.within reach) w.is_item w.is_value m3 root3 front (us ++ (id, y) ∷ vs) kept.beside mended kept.first kept.chain values_there
       (omega (arith, many, all, n1, n2, n3)) (omega (arith, few, many)) in
-      (keeps, are, left ∙ sym (loose_are w.weaving (w.within reach) w.is_item w.is_value links.nodes.live links.root front kept))
+      (keeps, are, left ∙ sym (loose_are kept))

@@ -1,5 +1,5 @@
 -- What the slot of a node tells of the subtrees below it, where the node above it stands, and which nodes stay live.
-use Rattle.std.proofs.Common.{◌≡◌, ℕ, Bool, Option, Some, refl, sym, ap, ◌∙◌, subst}
+use Rattle.std.proofs.Common.{◌≡◌, ℕ, Bool, Option, None, Some, refl, sym, ap, ◌∙◌, subst}
 use Rattle.std.specs.Prelude.{IfSome}
 use Rattle.std.proofs.lemmas.Option.{IfSome_then}
 use Rattle.std.specs.Ordering.{nat_cmp}
@@ -8,11 +8,11 @@ use Rattle.rb_rules.specs.declared.slot.Data.{Data}
 use Rattle.rb_rules.specs.declared.slot.Side.{Side}
 use Rattle.rb_rules.specs.declared.slot.Side.TheVariants.{Left, Right}
 use Rattle.rb_rules.specs.declared.slot.Slot.{Slot}
-use Rattle.rb_rules.specs.Tree.{Tree, Hole, on, other, plug, root_of}
-use Rattle.rb_rules.specs.Memory.{Made, AtSpot, Spot, adopted, below, child, here, place_of}
+use Rattle.rb_rules.specs.Tree.{Tree, Hole, on, other, plug, root_of, above}
+use Rattle.rb_rules.specs.Memory.{Made, AtSpot, Spot, adopted, below, child, here, place_of, side_by_name}
 use Rattle.rb_rules.specs.Weaving.{Weaving}
 use Rattle.rb_rules.specs.Woven.{whole_at, whole_in}
-use Rattle.rb_rules.proofs.Live.{Live, live_adopted}
+use Rattle.rb_rules.proofs.Live.{Live, len_insert, live_above, live_adopted, no_place, side_is}
 use Rattle.rb_rules.proofs.Ups.{hole_on}
 use Rattle.rb_rules.proofs.Spots.{makes_below, whole_in_is}
 use Rattle.rb_arena.specs.Nodes.{slot_of}
@@ -58,6 +58,29 @@ module _ {D : Type 0} where
     pub parent_of : (s : Spot D) (i : ℕ) → Made s.beside m root (plug s.hole (here s i)) → {place : Option (ℕ × Side)} → AtSpot m root i (λ q. place ≡ place_of q.hole) → {at : ℕ × Side} → place ≡ Some at
         → Upper s.beside s.hole (here s i) at
     parent_of s i h told is = upper_at s.hole (here s i) h (sym (told s h) ∙ is)
+
+-- the node above a node
+above_some : {D : Type 0} (m : map.FinMap nat_cmp (Slot D)) (o : Option ℕ) → ((j : ℕ) → o ≡ Some j → Live m j) → IfSome o (Live m)
+above_some m None h = tt
+above_some m (Some j) h = h j refl
+
+pub above_lives : {D : Type 0} (m : map.FinMap nat_cmp (Slot D)) (root : Option ℕ) (s : Spot D) (i : ℕ) → Made s.beside m root (plug s.hole (here s i)) → IfSome (above s.hole) (Live m)
+above_lives m root s i h = above_some m (above s.hole) (live_above m root s i h)
+
+module _ {D : Type 0} where
+  -- a node that is written leaves as many
+  pub len_written : (m m2 : map.FinMap nat_cmp (Slot D)) (i : ℕ) (slot written : Slot D) → m2 ≡ map.insert m i written → map.get m i ≡ Some slot → map.len m2 ≡ map.len m
+  len_written m m2 i slot written new is = ap map.len new ∙ len_insert m i written (slot, is)
+
+  -- where a node is, by its links
+  pub placed_top : (s : Spot D) (slot : Slot D) → slot ≡ slot_of s → slot.parent ≡ None → place_of s.hole ≡ None
+  placed_top s slot is none = no_place s.hole (ap (λ n. n.parent) (sym is) ∙ none)
+
+  pub placed_on : (m : map.FinMap nat_cmp (Slot D)) (root : Option ℕ) (i : ℕ) (s : Spot D) (slot : Slot D) (j : ℕ) (n : Slot D) → Made s.beside m root (plug s.hole (here s i)) → slot ≡ slot_of s → slot.parent ≡ Some j
+      → map.get m j ≡ Some n → place_of s.hole ≡ Some (j, side_by_name n i)
+  placed_on m root i s slot j n h is up found = sym (side_is m root s i h j (ap (λ q. q.parent) (sym is) ∙ up) n found)
+
+  pub ruleset places = (placed_top, placed_on)
 
 -- the sum that the topmost node below a node keeps
 pub whole_below : {X S B : Type 0} (w : Weaving X S B) (m : map.FinMap nat_cmp (Slot (Data X S B))) (root : Option ℕ) (s : Spot (Data X S B)) (i : ℕ) → Made s.beside m root (plug s.hole (here s i)) → (side : Side)

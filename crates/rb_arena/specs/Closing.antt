@@ -21,13 +21,20 @@ steps_left top = 0
 steps_left (on s true i d x k) = 1
 steps_left (on s false i d x k) = 2 + depth k
 
-module _ {X S B : Type 0} (w : Weaving X S B) (is_near : B → Type 0) (beside : Tree (Data X S B)) (m : map.FinMap nat_cmp (Slot (Data X S B))) (root : Option ℕ) (es : List (ℕ × X)) where
+module _ {X S B : Type 0} (w : Weaving X S B) (is_near : B → Type 0) (beside : Tree (Data X S B))
+    (m : map.FinMap nat_cmp (Slot (Data X S B))) (root : Option ℕ) (es : List (ℕ × X)) where
   -- a tree with the items es lies in the memory, red-black but that it has one black node too few on each path through that place;
   -- it is closed in no more than n steps
-  abbrev pub Short : Option (ℕ × Side) → ℕ → Type 0
-  Short at n =
-      (k : Hole (Data X S B)) × ((t : Tree (Data X S B)) × ((h : ℕ) × Made beside m root (plug k t) × Lists w is_near (plug k t) es
-      × (at ≡ place_of k) × Rb false h t × Fits false (suc h) k × (steps_left k ≤ n)))
+  pub record Short (at : Option (ℕ × Side)) (n : ℕ) : Type 0 where
+    pub hole : Hole (Data X S B)
+    pub subtree : Tree (Data X S B)
+    pub black : ℕ
+    pub made : Made beside m root (plug hole subtree)
+    pub lists : Lists w is_near (plug hole subtree) es
+    pub there : at ≡ place_of hole
+    pub even : Rb false black subtree
+    pub fits : Fits false (suc black) hole
+    pub few : steps_left hole ≤ n
 
   -- one or the other, by whether there is such a place
   abbrev pub Closing : Option (ℕ × Side) → ℕ → Type 0

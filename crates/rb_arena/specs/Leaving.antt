@@ -36,7 +36,8 @@ module _ {D : Type 0} (m : map.FinMap nat_cmp (Slot D)) (id : ℕ) where
   abbrev pub NoChild : Type 0
   NoChild = (n : Slot D) × (map.get m id ≡ Some n) × (n.left ≡ None) × (n.right ≡ None)
 
-module _ {X S B : Type 0} (w : Weaving X S B) (is_near : B → Type 0) (is_item : X → Type 0) (is_value : S → Type 0) (beside : Tree (Data X S B)) (m : map.FinMap nat_cmp (Slot (Data X S B))) (root : Option ℕ) where
+module _ {X S B : Type 0} (w : Weaving X S B) (is_near : B → Type 0) (is_item : X → Type 0) (is_value : S → Type 0)
+    (beside : Tree (Data X S B)) (m : map.FinMap nat_cmp (Slot (Data X S B))) (root : Option ℕ) where
   -- a red-black tree with the right sums and the items es lies in the memory
   abbrev pub Stores : List (ℕ × X) → Type 0
   Stores es = Mended w is_near beside m root es × Valued w is_item is_value es × (length es < 2 ^ 63)
@@ -44,7 +45,8 @@ module _ {X S B : Type 0} (w : Weaving X S B) (is_near : B → Type 0) (is_item 
   -- a tree with the hole k lies in the memory, in which there was a leaf of that colour; above it the sums may be wrong
   abbrev pub Emptied : Option (ℕ × Side) → Bool → Hole (Data X S B) → Type 0
   Emptied at red k =
-      (at ≡ place_of k) × Made beside m root (plug k tip) × is_near (shift_at w k) × Slack w is_near k × Valued w is_item is_value (lefts w k ++ rights w k)
+      (at ≡ place_of k) × Made beside m root (plug k tip) × is_near (shift_at w k) × Slack w is_near k
+      × Valued w is_item is_value (lefts w k ++ rights w k)
       × (depth k ≤ 128) × Fits red (leaf_height red) k
 
   -- the node of that name has left a tree, whose other items are es, and stands in neither tree; the place is where a node is missing now
@@ -56,7 +58,8 @@ module _ {X S B : Type 0} (w : Weaving X S B) (is_near : B → Type 0) (is_item 
 abbrev pub shown : {X S B : Type 0} → Weaving X S B → Spot (Data X S B) → X → X
 shown w s x = w.shift (shift_at w s.hole) x
 
-module _ {X S B : Type 0} (w : Weaving X S B) (is_near : B → Type 0) (m : map.FinMap nat_cmp (Slot (Data X S B))) (root : Option ℕ) (id : ℕ) where
+module _ {X S B : Type 0} (w : Weaving X S B) (is_near : B → Type 0) (m : map.FinMap nat_cmp (Slot (Data X S B)))
+    (root : Option ℕ) (id : ℕ) where
   -- a node of a tree with the right sums, with no more than 128 nodes above
   abbrev pub WovenSpot : Spot (Data X S B) → Type 0
   WovenSpot s = Made s.beside m root (plug s.hole (here s id)) × Woven w is_near w.still (plug s.hole (here s id)) × (depth s.hole ≤ 128)
@@ -74,7 +77,8 @@ module _ {W X S B K : Type 0} (w : Ghosts W X S B K) where
     -- it stores an item of that name
     abbrev pub StoresItem : ℕ → Type 0
     StoresItem id =
-        (reach : B) × ((beside : Tree (Data X S B)) × ((us : List (ℕ × X)) × ((x : X) × ((vs : List (ℕ × X)) × StoresBeside reach beside (us ++ (id, x) ∷ vs)))))
+        (reach : B) × ((beside : Tree (Data X S B)) × ((us : List (ℕ × X)) × ((x : X) × ((vs : List (ℕ × X))
+        × StoresBeside reach beside (us ++ (id, x) ∷ vs)))))
 
     -- the same, with a chain beside it that begins with that node, if any
     abbrev pub StoresItemBeside : ℕ → Option ℕ → Type 0
@@ -100,7 +104,9 @@ module _ {W X S B K : Type 0} (w : Ghosts W X S B K) where
 
     -- and its item, with the shifts of its path, is a value
     abbrev pub StandsValued : ℕ → Type 0
-    StandsValued id = (s : Spot (Data X S B)) × WovenSpot w.weaving w.is_near tree.nodes.live tree.root id s × w.is_item (shown w.weaving s s.datum.item)
+    StandsValued id =
+        (s : Spot (Data X S B)) × WovenSpot w.weaving w.is_near tree.nodes.live tree.root id s
+        × w.is_item (shown w.weaving s s.datum.item)
 
     -- wherever it stands so, this holds
     abbrev pub AtWoven : ℕ → (Spot (Data X S B) → Type 0) → Type 0

@@ -24,13 +24,17 @@ module _ {D : Type 0} where
   slot_of s = sided Left (above s.hole) (root_of s.left) (root_of s.right) s.red s.datum
 
   module _ (tree : Links D) where
+    -- the node stands there in the tree
+    abbrev pub StandsAs : ℕ → Spot D → Type 0
+    StandsAs id s = Made s.beside tree.nodes.live tree.root (plug s.hole (here s id))
+
     -- the node stands in the tree, with a child on that side
     abbrev pub HasChildAt : ℕ → Side → Type 0
-    HasChildAt id side = (s : Spot D) × Made s.beside tree.nodes.live tree.root (plug s.hole (here s id)) × IsSome (root_of (below side s))
+    HasChildAt id side = (s : Spot D) × StandsAs id s × IsSome (root_of (below side s))
 
     -- the node stands in the tree, below no more than n others
     abbrev pub StandsBelow : ℕ → ℕ → Type 0
-    StandsBelow n id = (s : Spot D) × Made s.beside tree.nodes.live tree.root (plug s.hole (here s id)) × (depth s.hole ≤ n)
+    StandsBelow n id = (s : Spot D) × StandsAs id s × (depth s.hole ≤ n)
 
     -- wherever it does, this holds
     abbrev pub AtSpotBelow : ℕ → ℕ → (Spot D → Type 0) → Type 0
@@ -38,7 +42,7 @@ module _ {D : Type 0} where
 
     -- the node stands in the tree, on no path longer than n nodes
     abbrev pub StandsWithin : ℕ → ℕ → Type 0
-    StandsWithin n id = (s : Spot D) × Made s.beside tree.nodes.live tree.root (plug s.hole (here s id)) × (depth s.hole + height (here s id) ≤ n)
+    StandsWithin n id = (s : Spot D) × StandsAs id s × (depth s.hole + height (here s id) ≤ n)
 
     -- wherever it does, this holds
     abbrev pub AtSpotWithin : ℕ → ℕ → (Spot D → Type 0) → Type 0

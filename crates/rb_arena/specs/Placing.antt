@@ -29,7 +29,8 @@ module _ {D : Type 0} (beside : Tree D) (m : map.FinMap nat_cmp (Slot D)) (root 
   abbrev pub HoleAt : Tree D → Hole D → Type 0
   HoleAt t k = (place ≡ place_of k) × Made beside m root (plug k t)
 
-module _ {X S B : Type 0} (w : Weaving X S B) (is_near : B → Type 0) (beside : Tree (Data X S B)) (m : map.FinMap nat_cmp (Slot (Data X S B))) (root : Option ℕ) (place : Option (ℕ × Side)) where
+module _ {X S B : Type 0} (w : Weaving X S B) (is_near : B → Type 0) (beside : Tree (Data X S B))
+    (m : map.FinMap nat_cmp (Slot (Data X S B))) (root : Option ℕ) (place : Option (ℕ × Side)) where
   -- the same for a tree that keeps the right sums, with no more than 128 nodes above
   abbrev pub WovenAt : Tree (Data X S B) → Hole (Data X S B) → Type 0
   WovenAt t k = HoleAt beside m root place t k × Woven w is_near w.still (plug k t) × (depth k ≤ 128)
@@ -44,12 +45,14 @@ abbrev pub leaf_of : {X S B : Type 0} → Weaving X S B → Hole (Data X S B) �
 leaf_of w k x = summed w (w.shift (w.minus w.still (shift_at w k)) x) w.still w.none w.none
 
 -- the name is that of a leaf for the hole, which stands neither in the tree nor in the one beside
-abbrev pub IsLeaf : {X S B : Type 0} → Weaving X S B → Tree (Data X S B) → map.FinMap nat_cmp (Slot (Data X S B)) → ℕ → X → Hole (Data X S B) → Type 0
+abbrev pub IsLeaf : {X S B : Type 0} → Weaving X S B → Tree (Data X S B) → map.FinMap nat_cmp (Slot (Data X S B)) → ℕ → X
+    → Hole (Data X S B) → Type 0
 IsLeaf w beside m id x k =
     (map.get m id ≡ Some (sided Left (above k) None None true (leaf_of w k x))) × (count id (plug k tip) + count id beside ≡ 0)
 
 -- the tree hangs at the place, with no path longer than 128 nodes
-abbrev pub StartsAt : {D : Type 0} → Tree D → map.FinMap nat_cmp (Slot D) → Option ℕ → Option (ℕ × Side) → Option ℕ → Tree D → Hole D → Type 0
+abbrev pub StartsAt : {D : Type 0} → Tree D → map.FinMap nat_cmp (Slot D) → Option ℕ → Option (ℕ × Side) → Option ℕ
+    → Tree D → Hole D → Type 0
 StartsAt beside m root from below t k = HoleAt beside m root from t k × (below ≡ root_of t) × (height t ≤ 128)
 
 -- the place on the right of the node of that name, or the topmost
@@ -79,38 +82,45 @@ module _ {D : Type 0} (tree : Links D) where
 
 module _ {W X S B K : Type 0} (w : Ghosts W X S B K) where
   module _ (tree : Links (Data X S B)) (at : Option (ℕ × Side)) where
-    -- the place is one of a tree with the right sums
+    -- the place is that of a hole of a tree with the right sums
+    abbrev pub WovenIn : Tree (Data X S B) → Tree (Data X S B) → Hole (Data X S B) → Type 0
+    WovenIn beside t k = WovenAt w.weaving w.is_near beside tree.nodes.live tree.root at t k
+
+    -- there is such a tree
     abbrev pub IsWovenPlace : Type 0
-    IsWovenPlace =
-        (beside : Tree (Data X S B)) × ((t : Tree (Data X S B)) × ((k : Hole (Data X S B)) × WovenAt w.weaving w.is_near beside tree.nodes.live tree.root at t k))
+    IsWovenPlace = (beside : Tree (Data X S B)) × ((t : Tree (Data X S B)) × ((k : Hole (Data X S B)) × WovenIn beside t k))
 
     -- whatever hole that is, this holds
     abbrev pub AtWovenPlace : (Hole (Data X S B) → Type 0) → Type 0
-    AtWovenPlace P = (beside t : Tree (Data X S B)) (k : Hole (Data X S B)) → WovenAt w.weaving w.is_near beside tree.nodes.live tree.root at t k → P k
+    AtWovenPlace P = (beside t : Tree (Data X S B)) (k : Hole (Data X S B)) → WovenIn beside t k → P k
 
-    -- the item may come to the place
+    -- the item may come to that hole, which is at the place
+    abbrev pub TakesAt : Tree (Data X S B) → X → Hole (Data X S B) → Type 0
+    TakesAt beside item k = CanTake w.weaving w.is_near beside tree.nodes.live tree.root at w.is_item w.is_value item k
+
+    -- it may come to the place
     abbrev pub TakesNear : X → Type 0
-    TakesNear item =
-        (beside : Tree (Data X S B)) × ((k : Hole (Data X S B)) × CanTake w.weaving w.is_near beside tree.nodes.live tree.root at w.is_item w.is_value item k)
+    TakesNear item = (beside : Tree (Data X S B)) × ((k : Hole (Data X S B)) × TakesAt beside item k)
 
     -- the slot is that of a leaf with the item, in whatever hole is at the place
     abbrev pub IsLeafFor : X → Slot (Data X S B) → Type 0
     IsLeafFor item slot =
-        (beside : Tree (Data X S B)) (k : Hole (Data X S B)) → CanTake w.weaving w.is_near beside tree.nodes.live tree.root at w.is_item w.is_value item k
+        (beside : Tree (Data X S B)) (k : Hole (Data X S B)) → TakesAt beside item k
         → slot ≡ sided Left (above k) None None true (leaf_of w.weaving k item)
 
-    -- the item may come to that hole, which is at the place
+    -- the item may come to that hole with all shifts within a reach
     abbrev pub TakesIn : B → Tree (Data X S B) → X → Hole (Data X S B) → Type 0
     TakesIn reach beside item k = CanTake w.weaving (w.within reach) beside tree.nodes.live tree.root at w.is_item w.is_value item k
 
-    -- the same with all shifts within some reach
+    -- there are such a hole and such a reach
     abbrev pub Takes : X → Type 0
     Takes item = (reach : B) × ((beside : Tree (Data X S B)) × ((k : Hole (Data X S B)) × TakesIn reach beside item k))
 
     -- and the node stands in no tree
     abbrev pub TakesNode : ℕ → X → Type 0
     TakesNode id item =
-        (reach : B) × ((beside : Tree (Data X S B)) × ((k : Hole (Data X S B)) × TakesIn reach beside item k × (count id (plug k tip) + count id beside ≡ 0)))
+        (reach : B) × ((beside : Tree (Data X S B)) × ((k : Hole (Data X S B)) × TakesIn reach beside item k
+        × (count id (plug k tip) + count id beside ≡ 0)))
 
     -- the node is a leaf for the place
     abbrev pub TakesLeaf : ℕ → Type 0
@@ -128,11 +138,13 @@ module _ {W X S B K : Type 0} (w : Ghosts W X S B K) where
     -- the same of a node that stood in no tree
     abbrev pub ListsNodeAt : X → Type 0
     ListsNodeAt item =
-        (reach : B) (beside : Tree (Data X S B)) (k : Hole (Data X S B)) → TakesIn old at reach beside item k → count id (plug k tip) + count id beside ≡ 0
+        (reach : B) (beside : Tree (Data X S B)) (k : Hole (Data X S B)) → TakesIn old at reach beside item k
+        → count id (plug k tip) + count id beside ≡ 0
         → MendedBeside w reach beside new (lefts w.weaving k ++ (id, item) ∷ rights w.weaving k)
 
     -- and of one that was a leaf for the place
     abbrev pub ListsLeafAt : Type 0
     ListsLeafAt =
-        (reach : B) (beside : Tree (Data X S B)) (k : Hole (Data X S B)) (x : X) → TakesIn old at reach beside x k → IsLeaf w.weaving beside old.nodes.live id x k
+        (reach : B) (beside : Tree (Data X S B)) (k : Hole (Data X S B)) (x : X) → TakesIn old at reach beside x k
+        → IsLeaf w.weaving beside old.nodes.live id x k
         → MendedBeside w reach beside new (lefts w.weaving k ++ (id, x) ∷ rights w.weaving k)

@@ -55,5 +55,6 @@ module _ {W X S B K : Type 0} (w : Ghosts W X S B K) where
   -- whatever such a tree it was, it is right now, and alike but for the sums
   abbrev pub RenewsFrom : Links (Data X S B) → Links (Data X S B) → Option ℕ → ℕ → Type 0
   RenewsFrom old new from n =
-      (reach : B) (beside t : Tree (Data X S B)) → IsSlack w.weaving (w.within reach) w.is_item w.is_value beside old.nodes.live old.root from n t
+      (reach : B) (beside t : Tree (Data X S B))
+      → IsSlack w.weaving (w.within reach) w.is_item w.is_value beside old.nodes.live old.root from n t
       → RenewedFrom w.weaving (w.within reach) beside new.nodes.live new.root t

@@ -13,7 +13,8 @@ use Rattle.rb_rules.specs.Woven.{Valued}
 use Rattle.rb_rules.specs.Sound.{Lists}
 use Rattle.rb_arena.specs.declared.links.Links.{Links}
 
-module _ {X S B : Type 0} (w : Weaving X S B) (is_near : B → Type 0) (beside : Tree (Data X S B)) (m : map.FinMap nat_cmp (Slot (Data X S B))) (root : Option ℕ) (es : List (ℕ × X)) where
+module _ {X S B : Type 0} (w : Weaving X S B) (is_near : B → Type 0) (beside : Tree (Data X S B))
+    (m : map.FinMap nat_cmp (Slot (Data X S B))) (root : Option ℕ) (es : List (ℕ × X)) where
   -- a red-black tree with the items es lies in the memory
   abbrev pub Mended : Type 0
   Mended = (t : Tree (Data X S B)) × Made beside m root t × Lists w is_near t es × Balanced t

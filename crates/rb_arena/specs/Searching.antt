@@ -56,7 +56,8 @@ module _ {X S B Key : Type 0} (w : Weaving X S B) (turn : Key → S → X → Tu
   -- the answer: an item at which the search ends, with the sum of the items before it, or none where the list is empty
   abbrev pub Found : List (ℕ × X) → Option (ℕ × X × S) → Type 0
   Found items None = items ≡ []
-  Found items (Some f) = (us : List (ℕ × X)) × ((vs : List (ℕ × X)) × SplitsAt items f.0 us f.1 vs × (f.2 ≡ sum_of w us) × EndsAt us f.0 f.1 vs)
+  Found items (Some f) =
+      (us : List (ℕ × X)) × ((vs : List (ℕ × X)) × SplitsAt items f.0 us f.1 vs × (f.2 ≡ sum_of w us) × EndsAt us f.0 f.1 vs)
 
   -- the item that was asked last is the last of us, and the search goes right from it; none was asked where there is none
   abbrev pub AskedBefore : List (ℕ × X) → Option (ℕ × X × S) → Type 0
@@ -93,56 +94,51 @@ module _ {X S B Key : Type 0} (w : Weaving X S B) (turn : Key → S → X → Tu
   StandsNext whole items (next.Down s) = StandsIn whole items s
 
 module _ {W X S B K : Type 0} (w : Ghosts W X S B K) (tree : Links (Data X S B)) where
-  -- the tree keeps the right sums of values, and no path is longer than n nodes
-  abbrev pub CanSearch : ℕ → Type 0
-  CanSearch n =
-      (beside : Tree (Data X S B)) × ((t : Tree (Data X S B)) × Made beside tree.nodes.live tree.root t × Woven w.weaving w.is_near w.weaving.still t
-      × Valued w.weaving w.is_item w.is_value (entries w.weaving w.weaving.still t) × (height t ≤ n))
+  -- the tree keeps the right sums
+  abbrev pub KeepsSums : Tree (Data X S B) → Type 0
+  KeepsSums t = Woven w.weaving w.is_near w.weaving.still t
 
   -- whatever tree with the right sums it is, this holds
   abbrev pub WhereWoven : ℕ → (Tree (Data X S B) → Type 0) → Type 0
   WhereWoven n P =
-      (beside t : Tree (Data X S B)) → Made beside tree.nodes.live tree.root t → Woven w.weaving w.is_near w.weaving.still t → height t ≤ n → P t
-
-  -- the answer is right for the items of the tree
-  abbrev pub Finds : ℕ → K → Option (ℕ × X × S) → Type 0
-  Finds n key found = WhereWoven n (λ t. Found w.weaving w.turn key (entries w.weaving w.weaving.still t) found)
+      (beside t : Tree (Data X S B)) → Made beside tree.nodes.live tree.root t → KeepsSums t → height t ≤ n → P t
 
   module _ (n : ℕ) (key : K) (from : Standing X S B) where
     -- a search among some values stands there, in a tree with the right sums
     abbrev pub CanGoDown : Type 0
     CanGoDown =
         (beside : Tree (Data X S B)) × ((t : Tree (Data X S B)) × ((items : List (ℕ × X)) × Made beside tree.nodes.live tree.root t
-        × Woven w.weaving w.is_near w.weaving.still t × Valued w.weaving w.is_item w.is_value items × (height t ≤ n) × StandsIn w.weaving w.turn key t items from))
+        × KeepsSums t × Valued w.weaving w.is_item w.is_value items × (height t ≤ n) × StandsIn w.weaving w.turn key t items from))
 
     -- in whatever tree it stands, the answer is right for the items
     abbrev pub FindsBelow : Option (ℕ × X × S) → Type 0
-    FindsBelow found = WhereWoven n (λ t. (items : List (ℕ × X)) → StandsIn w.weaving w.turn key t items from → Found w.weaving w.turn key items found)
+    FindsBelow found =
+        WhereWoven n (λ t. (items : List (ℕ × X)) → StandsIn w.weaving w.turn key t items from → Found w.weaving w.turn key items found)
 
     -- and so many steps are no more than nodes on the longest path
     abbrev pub StepsBelow : ℕ → Type 0
     StepsBelow steps = WhereWoven n (λ t. (items : List (ℕ × X)) → StandsIn w.weaving w.turn key t items from → steps ≤ height t)
 
   module _ (n id : ℕ) where
+    -- the tree in which the node stands there
+    abbrev pub whole_of : Spot (Data X S B) → Tree (Data X S B)
+    whole_of s = plug s.hole (here s id)
+
     -- the node stands in a tree with the right sums, and the items after it are values
     abbrev pub CanSearchAfter : Type 0
     CanSearchAfter =
-        (s : Spot (Data X S B)) × Made s.beside tree.nodes.live tree.root (plug s.hole (here s id)) × Woven w.weaving w.is_near w.weaving.still (plug s.hole (here s id))
-        × (height (plug s.hole (here s id)) ≤ n) × Valued w.weaving w.is_item w.is_value (items_after w.weaving s)
+        (s : Spot (Data X S B)) × Made s.beside tree.nodes.live tree.root (whole_of s) × KeepsSums (whole_of s) × (height (whole_of s) ≤ n)
+        × Valued w.weaving w.is_item w.is_value (items_after w.weaving s)
 
     -- wherever it stands so, this holds of the tree and of those items
     abbrev pub WhereAfter : (Tree (Data X S B) → List (ℕ × X) → Type 0) → Type 0
     WhereAfter P =
-        (s : Spot (Data X S B)) → Made s.beside tree.nodes.live tree.root (plug s.hole (here s id)) → Woven w.weaving w.is_near w.weaving.still (plug s.hole (here s id))
-        → height (plug s.hole (here s id)) ≤ n → P (plug s.hole (here s id)) (items_after w.weaving s)
+        (s : Spot (Data X S B)) → Made s.beside tree.nodes.live tree.root (whole_of s) → KeepsSums (whole_of s) → height (whole_of s) ≤ n
+        → P (whole_of s) (items_after w.weaving s)
 
     -- the search among them goes on so
     abbrev pub GoesOn : K → Next X S B → Type 0
     GoesOn key how = WhereAfter (λ t items. StandsNext w.weaving w.turn key t items how)
-
-    -- the answer is right for them
-    abbrev pub FindsAfter : K → Option (ℕ × X × S) → Type 0
-    FindsAfter key found = WhereAfter (λ t items. Found w.weaving w.turn key items found)
 
     -- so many steps are no more than so many times the nodes on the longest path
     abbrev pub StepsAfter : ℕ → ℕ → Type 0

@@ -20,21 +20,28 @@ use Rattle.rb_arena.specs.Rising.{Mended, MendedBeside}
 
 module _ {X S B : Type 0} (w : Weaving X S B) (is_near : B → Type 0) (is_item : X → Type 0) where
   module _ (is_value : S → Type 0) (beside : Tree (Data X S B)) (m : map.FinMap nat_cmp (Slot (Data X S B))) (root : Option ℕ) where
-    -- the tree hangs at that name, below a path whose shifts come to acc; it keeps the right sums of values, and none of its paths is longer than n nodes
+    -- the tree hangs at that name, below a path whose shifts come to acc; it keeps the right sums of values, and none of its paths
+    -- is longer than n nodes
     abbrev pub CanLevel : Option ℕ → B → ℕ → Hole (Data X S B) → Tree (Data X S B) → Type 0
-    CanLevel at acc n k t = Made beside m root (plug k t) × (at ≡ root_of t) × Woven w is_near acc t × Valued w is_item is_value (entries w acc t) × (height t ≤ n)
+    CanLevel at acc n k t =
+        Made beside m root (plug k t) × (at ≡ root_of t) × Woven w is_near acc t
+        × Valued w is_item is_value (entries w acc t) × (height t ≤ n)
 
   module _ (m : map.FinMap nat_cmp (Slot (Data X S B))) (root : Option ℕ) where
     -- the node's item and its right subtree may move
     abbrev pub CanMove : B → ℕ → Type 0
-    CanMove by i = (s : Spot (Data X S B)) × Made s.beside m root (plug s.hole (here s i)) × HeldItem w is_near is_item (w.shift by s.datum.item) × HeldBy w is_near (w.plus by s.datum.delta)
+    CanMove by i =
+        (s : Spot (Data X S B)) × Made s.beside m root (plug s.hole (here s i))
+        × HeldItem w is_near is_item (w.shift by s.datum.item) × HeldBy w is_near (w.plus by s.datum.delta)
 
     -- each item after the place is a value once moved, and no path's shift is too great then; there are no more than n nodes above
     abbrev pub CanShift : Tree (Data X S B) → Option (ℕ × Side) → B → ℕ → Tree (Data X S B) → Hole (Data X S B) → Type 0
     CanShift beside at by n t k =
-        HoleAt beside m root at t k × is_near (shift_at w k) × Slack w is_near (moved w by k) × AllItems w is_item (shifted w by (rights w k)) × (depth k ≤ n)
+        HoleAt beside m root at t k × is_near (shift_at w k) × Slack w is_near (moved w by k)
+        × AllItems w is_item (shifted w by (rights w k)) × (depth k ≤ n)
 
-module _ {X S B : Type 0} (w : Weaving X S B) (beside : Tree (Data X S B)) (m : map.FinMap nat_cmp (Slot (Data X S B))) (root : Option ℕ) where
+module _ {X S B : Type 0} (w : Weaving X S B) (beside : Tree (Data X S B)) (m : map.FinMap nat_cmp (Slot (Data X S B)))
+    (root : Option ℕ) where
   -- the items after the place may move: all are values then
   abbrev pub CanShiftFrom : (B → Type 0) → (X → Type 0) → (S → Type 0) → Option (ℕ × Side) → B → Hole (Data X S B) → Type 0
   CanShiftFrom is_near is_item is_value at by k =
@@ -64,7 +71,8 @@ module _ {W X S B K : Type 0} (w : Ghosts W X S B K) where
     abbrev pub CanShiftAll : Option (ℕ × Side) → B → Type 0
     CanShiftAll at by =
         (from : B) × ((reach : B) × ((beside : Tree (Data X S B)) × ((k : Hole (Data X S B))
-        × (w.widened from by ≡ Some reach) × CanShiftFrom w.weaving beside tree.nodes.live tree.root (w.within from) w.is_item w.is_value at by k)))
+        × (w.widened from by ≡ Some reach)
+        × CanShiftFrom w.weaving beside tree.nodes.live tree.root (w.within from) w.is_item w.is_value at by k)))
 
   module _ (old new : Links (Data X S B)) where
     -- whatever the subtree was, it is levelled, and all else is as it was

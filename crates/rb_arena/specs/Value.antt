@@ -29,7 +29,8 @@ module _ {X : Type 0} where
   abbrev pub listed_code : Coded X → Coded (Listed X)
   listed_code c =
       let entries = coded_list (coded× coded_ℕ c) in
-      code_by (List (ℕ × X) × (List (ℕ × X) × ℕ)) (coded× entries (coded× entries coded_ℕ)) (λ l. (l.items, (l.loose, l.spare))) (λ p. listed p.0 p.1.0 p.1.1) (λ _. refl)
+      code_by (List (ℕ × X) × (List (ℕ × X) × ℕ)) (coded× entries (coded× entries coded_ℕ))
+      (λ l. (l.items, (l.loose, l.spare))) (λ p. listed p.0 p.1.0 p.1.1) (λ _. refl)
 
   -- the items are us, then x under that name, and then vs
   abbrev pub SplitsAt : List (ℕ × X) → ℕ → List (ℕ × X) → X → List (ℕ × X) → Type 0
@@ -93,7 +94,8 @@ module _ {X : Type 0} where
   -- the new list is the old one with that item at the place, under the name of the front loose one
   abbrev pub HasLanded : Listed X → List (ℕ × X) → Option ℕ → X → Type 0
   HasLanded old new id item =
-      (front : ℕ × X) (rest us vs : List (ℕ × X)) → old.loose ≡ front ∷ rest → SplitsAfter old.items id us vs → new ≡ us ++ (front.0, item) ∷ vs
+      (front : ℕ × X) (rest us vs : List (ℕ × X)) → old.loose ≡ front ∷ rest → SplitsAfter old.items id us vs
+      → new ≡ us ++ (front.0, item) ∷ vs
 
   -- the first, if any
   abbrev pub front_of : List (ℕ × X) → Option (ℕ × X)
@@ -156,7 +158,7 @@ first_or o (e ∷ es) = Some e.0
 
 -- the sum of the items is a value once that item stands right after the one of that name
 abbrev pub SumsTo : {X S B : Type 0} → Weaving X S B → (S → Type 0) → List (ℕ × X) → ℕ → X → Type 0
-SumsTo {X = X} w is_value items id item = (us : List (ℕ × X)) (x : X) (vs : List (ℕ × X)) → SplitsAt items id us x vs → is_value (sum_of w (us ++ (id, x) ∷ (0, item) ∷ vs))
+SumsTo w is_value items id item = AtItem items id (λ us x vs. is_value (sum_of w (us ++ (id, x) ∷ (0, item) ∷ vs)))
 
 -- the same before all items, where none is named
 abbrev pub SumsPut : {X S B : Type 0} → Weaving X S B → (S → Type 0) → List (ℕ × X) → Option ℕ → X → Type 0
@@ -174,7 +176,7 @@ with_item d x = record { item = x; delta = d.delta; before = d.before; whole = d
 
 -- the sum of the items is a value once that item stands in the place of the one of that name
 abbrev pub SumsWith : {X S B : Type 0} → Weaving X S B → (S → Type 0) → List (ℕ × X) → ℕ → X → Type 0
-SumsWith {X = X} w is_value items id item = (us : List (ℕ × X)) (x : X) (vs : List (ℕ × X)) → SplitsAt items id us x vs → is_value (sum_of w (us ++ (id, item) ∷ vs))
+SumsWith w is_value items id item = AtItem items id (λ us x vs. is_value (sum_of w (us ++ (id, item) ∷ vs)))
 
 -- the name of the last item, or o where there is none
 abbrev pub last_or : {X : Type 0} → Option ℕ → List (ℕ × X) → Option ℕ
@@ -221,7 +223,8 @@ module _ {D : Type 0} where
   -- the node right beside that one in the order, on that side: an end of the subtree there, or where there is none, a node above
   abbrev pub neighbour_of : Side → ℕ → Spot D → Option ℕ
   neighbour_of side id s =
-      nearest (up_on (other side) s.hole) (above (end_hole (other side) (on side s.red id s.datum (below (other side) s) s.hole) (below side s))) (root_of (below side s))
+      let far = other side in let under = on side s.red id s.datum (below far s) s.hole in
+      nearest (up_on far s.hole) (above (end_hole far under (below side s))) (root_of (below side s))
 
 module _ {W X S B K : Type 0} (w : Ghosts W X S B K) (items : List (ℕ × X)) (id : Option ℕ) where
   -- each item after the place is a value once moved

@@ -1,12 +1,10 @@
 //! A search from the top down, or from a node on.
-ghost use Rattle.std.specs.Prelude.{◌≡◌, ◌-◌, ◌≤◌, IfSome};
+ghost use Rattle.std.specs.Prelude.{◌≡◌, ◌-◌, IfSome};
 ghost use Rattle.raw_arena.specs.Arena.{IsLive};
-ghost use Rattle.rb_rules.specs.Tree.{height};
 ghost use Rattle.rb_arena.specs.Relative.{RelativeItem, RelativeSum, RelativeBy, before_node};
-ghost use Rattle.rb_arena.specs.Searching.{CanSearch, Finds, WhereWoven};
 ghost use Rattle.rb_arena.specs.Searching.{past_item, inside, past_subtree, right_of_node};
 ghost use Rattle.rb_arena.specs.Searching.{CanGoDown, FindsBelow, StepsBelow};
-ghost use Rattle.rb_arena.specs.Searching.{CanSearchAfter, GoesOn, FindsAfter, StepsAfter};
+ghost use Rattle.rb_arena.specs.Searching.{CanSearchAfter, GoesOn, StepsAfter};
 
 use crate::climb::LONGEST;
 use crate::insert::{copy_of, shift_to};
@@ -78,7 +76,7 @@ fn right_of<W: Weave>(
 
 /// The item at which the search ends that goes down from there, with its name and the sum of the
 /// items before it. Each node on the way counts as a step.
-fn go_down<W: Weave, L: Ledger>(
+pub(crate) fn go_down<W: Weave, L: Ledger>(
     tree: &Links<Data<W::Item, W::Sum, W::By>>,
     from: Standing<W::Item, W::Sum, W::By>,
     key: W::Key,
@@ -108,25 +106,6 @@ fn go_down<W: Weave, L: Ledger>(
     standing.last
 }
 
-/// The item at which the search for a key ends, from the top.
-pub(crate) fn descend<W: Weave, L: Ledger>(
-    tree: &Links<Data<W::Item, W::Sum, W::By>>,
-    key: W::Key,
-    steps: &mut Steps<L>,
-) -> Option<(NodeId, W::Item, W::Sum)>
-    requires { CanSearch W.Weave tree.now 126 }
-    ensures found { Finds W.Weave tree.now 126 key result }
-    ensures cost { WhereWoven W.Weave tree.now 126 (λ t. steps.new - steps.old ≤ height t) }
-{
-    let top = Standing {
-        at: tree.root,
-        by: W::still(),
-        before: W::none(),
-        last: None,
-    };
-    go_down::<W, L>(tree, top, key, steps)
-}
-
 /// The sum of the items before a subtree and in it.
 fn through<W: Weave>(
     tree: &Links<Data<W::Item, W::Sum, W::By>>,
@@ -144,7 +123,7 @@ fn through<W: Weave>(
 /// Climbs from a node, past the nodes from which the search among the items after it goes right,
 /// and tells where it goes on. Each node on the way counts once for the shift of its path, and once
 /// when it is passed.
-fn climb<W: Weave, L: Ledger>(
+pub(crate) fn climb<W: Weave, L: Ledger>(
     tree: &Links<Data<W::Item, W::Sum, W::By>>,
     id: NodeId,
     key: W::Key,
@@ -187,21 +166,4 @@ fn climb<W: Weave, L: Ledger>(
         at = place(tree, upper);
     }
     Next::Down(standing)
-}
-
-/// The item at which the search among the items after that one ends, with sums that begin after it.
-pub(crate) fn descend_after<W: Weave, L: Ledger>(
-    tree: &Links<Data<W::Item, W::Sum, W::By>>,
-    id: NodeId,
-    key: W::Key,
-    steps: &mut Steps<L>,
-) -> Option<(NodeId, W::Item, W::Sum)>
-    requires { CanSearchAfter W.Weave tree.now 126 id }
-    ensures found { FindsAfter W.Weave tree.now 126 id key result }
-    ensures cost { StepsAfter W.Weave tree.now 126 id 3 (steps.new - steps.old) }
-{
-    match climb::<W, L>(tree, id, key, steps) {
-        Next::Stop(found) => Some(found),
-        Next::Down(standing) => go_down::<W, L>(tree, standing, key, steps),
-    }
 }

@@ -87,11 +87,15 @@ pub(crate) fn node_of<D: Copy>(tree: &Links<D>, id: NodeId) -> Slot<D>
     requires { Stands tree.now.nodes.live tree.now.root id }
     ensures value { node tree.now.nodes id ≡ Some result }
     ensures slot { AtSpot tree.now.nodes.live tree.now.root id (λ s. result ≡ slot_of s) }
+    ensures above { IfSome result.parent (λ i. IsLive tree.now.nodes i) }
+    ensures left { IfSome result.left (λ i. IsLive tree.now.nodes i) }
+    ensures right { IfSome result.right (λ i. IsLive tree.now.nodes i) }
 {
     read(&tree.nodes, id)
 }
 
 /// The place of a node of the tree.
+#[tactic(auto, using(crate::proofs::Slots::places))]
 pub(crate) fn place<D: Copy>(tree: &Links<D>, id: NodeId) -> Place
     requires { Stands tree.now.nodes.live tree.now.root id }
     ensures { AtSpot tree.now.nodes.live tree.now.root id (λ s. result ≡ place_of s.hole) }
@@ -131,6 +135,7 @@ pub(crate) fn hang<D: Copy>(tree: &mut Links<D>, place: Place, child: Option<Nod
 }
 
 /// Writes a node's colour and data.
+#[tactic(auto, using(crate::proofs::Slots::len_written))]
 pub(crate) fn rewrite<D: Copy>(tree: &mut Links<D>, id: NodeId, red: bool, datum: D)
     requires { Stands tree.old.nodes.live tree.old.root id }
     ensures made { Becomes tree.old tree.new id (λ s. fork red id datum s.left s.right) }

@@ -15,7 +15,7 @@ ghost use Rattle.rb_arena.specs.Searching.{Found};
 ghost use Rattle.rb_arena.specs.Nodes.{StandsBelow, AtSpotBelow, StandsWithin, AtSpotWithin};
 
 use crate::climb::{LONGEST, renew_up};
-use crate::descend::{descend, descend_after};
+use crate::descend::{Next, Standing, climb, go_down};
 use crate::insert::{insert_at, land_at, parent_at};
 use crate::leave::{item_at, item_for, leave, loosen};
 use crate::links::{Links, Place, node_of, place, read, unstring};
@@ -209,7 +209,13 @@ impl<W: Weave> RbTree<W> {
         ensures found { Found W.weaving W.turn key self.now.items result }
         ensures cost { 2 ^ (steps.new - steps.old) ≤ (length self.now.items + 1) ^ 2 }
     {
-        descend::<W, L>(&self.links, key, steps)
+        let top = Standing {
+            at: self.links.root,
+            by: W::still(),
+            before: W::none(),
+            last: None,
+        };
+        go_down::<W, L>(&self.links, top, key, steps)
     }
 
     /// Searches for a key among the items after that one, with sums that begin after it. Each node that is visited counts as a step.
@@ -223,7 +229,10 @@ impl<W: Weave> RbTree<W> {
         ensures found { AtItem self.now.items id (λ us x vs. Found W.weaving W.turn key vs result) }
         ensures cost { 2 ^ (steps.new - steps.old) ≤ (length self.now.items + 1) ^ 6 }
     {
-        descend_after::<W, L>(&self.links, id, key, steps)
+        match climb::<W, L>(&self.links, id, key, steps) {
+            Next::Stop(found) => Some(found),
+            Next::Down(standing) => go_down::<W, L>(&self.links, standing, key, steps),
+        }
     }
 
     /// The item of that name.

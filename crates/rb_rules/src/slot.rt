@@ -26,8 +26,8 @@ pub struct Slot<D> {
     pub parent: Option<NodeId>,
     pub left: Option<NodeId>,
     pub right: Option<NodeId>,
-    pub red: bool,
     pub data: D,
+    pub red: bool,
 }
 
 impl Side {
@@ -98,15 +98,15 @@ impl<D: Copy> Slot<D> {
                 parent,
                 left: near,
                 right: far,
-                red,
                 data: datum,
+                red,
             },
             Side::Right => Slot {
                 parent,
                 left: far,
                 right: near,
-                red,
                 data: datum,
+                red,
             },
         }
     }

@@ -1,6 +1,6 @@
 //! Look-ups of pieces, and what they say of the text.
 
-ghost use Rattle.std.specs.Prelude.{◌≡◌, ℕ, ◌+◌, ◌-◌, ◌<◌, ◌≤◌, ◌^◌, List, length, slice_index};
+ghost use Rattle.std.specs.Prelude.{◌≡◌, ℕ, ◌+◌, ◌-◌, ◌<◌, ◌≤◌, ◌^◌, List, length, slice_index, IfSome};
 ghost use Rattle.chunk_buffers.specs.Chunks.{units_at, LiesIn};
 ghost use Rattle.piece_tree.specs.Pieces.{pieces_of, unit_count, break_count_of, IsFound, HasUnit};
 ghost use Rattle.piece_tree.specs.Costs.{WithinLookUps};
@@ -32,6 +32,21 @@ fn piece_at_for<L: Ledger>(pieces: &PieceTree, offset: u64, blank: Blank) -> Fou
 {
     let mut steps = Steps::<L>::new(blank);
     pieces.find_offset(offset, &mut steps)
+}
+
+/// The same, with a piece that may have it. No search is made where it does.
+pub(crate) fn piece_near(pieces: &PieceTree, near: &Option<Found>, offset: u64) -> Found
+    requires offset { offset < unit_count (pieces_of pieces.now.entries) }
+    requires near { IfSome near.now (IsFound pieces.now.entries) }
+    ensures { HasUnit pieces.now.entries result offset }
+{
+    if let Some(found) = near
+        && found.before.units <= offset
+        && offset - found.before.units < found.span.units
+    {
+        return *found;
+    }
+    piece_at(pieces, offset)
 }
 
 /// Whether the offset, whose unit the piece has, stands inside a pair of surrogates. The unit before

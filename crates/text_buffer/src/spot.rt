@@ -2,14 +2,14 @@
 
 ghost use Rattle.std.specs.Prelude.{◌≡◌, ℕ, ◌+◌, ◌-◌, ◌<◌, ◌≤◌, ◌^◌, ◌++◌, List, take, drop, IfSome};
 ghost use Rattle.chunk_buffers.specs.Chunks.{LiesIn};
-ghost use Rattle.piece_tree.specs.Pieces.{pieces_of, unit_count, HasUnit, StandsAt};
+ghost use Rattle.piece_tree.specs.Pieces.{pieces_of, unit_count, IsFound, HasUnit, StandsAt};
 ghost use Rattle.text_rules.specs.Lines.{line_feed, carriage_return, begins_with};
 ghost use Rattle.text_rules.specs.Breaks.{ends_with, joins_pair, count_to, break_ends};
 ghost use Rattle.text_rules.specs.Dirty.{dirty_lines};
 ghost use Rattle.text_buffer.specs.Text.{text_of, one_if, IsText};
 ghost use Rattle.text_buffer.specs.LookUps.{IsSpot, span_between, units_of};
 
-use crate::look_up::{piece_at, unit_in};
+use crate::look_up::{piece_at, piece_near, unit_in};
 use chunk_buffers::{ChunkSpan, Chunks};
 use line_starts::count_breaks;
 use piece_tree::{Found, PieceId, PieceTree};
@@ -28,9 +28,16 @@ pub(crate) struct Spot {
     pub before_feed: bool,
 }
 
-/// The place of this offset. It makes one search, or none at the end.
-pub(crate) fn spot_at(pieces: &PieceTree, chunks: &Chunks, offset: u64) -> Spot
+/// The place of this offset, near a piece that may have its unit. It makes one search, or none where that piece has it, or at
+/// the end.
+pub(crate) fn spot_at(
+    pieces: &PieceTree,
+    chunks: &Chunks,
+    near: &Option<Found>,
+    offset: u64,
+) -> Spot
     requires text { IsText pieces.now chunks.now }
+    requires near { IfSome near.now (IsFound pieces.now.entries) }
     requires within { offset ≤ unit_count (pieces_of pieces.now.entries) }
     ensures spot { IsSpot pieces.now chunks.now result }
     ensures offset { result.offset ≡ offset }
@@ -43,7 +50,7 @@ pub(crate) fn spot_at(pieces: &PieceTree, chunks: &Chunks, offset: u64) -> Spot
             before_feed: false,
         };
     }
-    let found = piece_at(pieces, offset);
+    let found = piece_near(pieces, near, offset);
     Spot {
         offset,
         found: Some(found),

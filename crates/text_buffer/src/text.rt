@@ -163,8 +163,8 @@ impl TextBuffer {
         ensures after { drop (result.first - 1 + result.new) (lines_of self.new.units)
             ≡ drop (result.first - 1 + result.old) (lines_of self.old.units) }
     {
-        let start = spot_at(&self.pieces, &self.chunks, span.start);
-        let end = spot_at(&self.pieces, &self.chunks, span.end);
+        let start = spot_at(&self.pieces, &self.chunks, &None, span.start);
+        let end = spot_at(&self.pieces, &self.chunks, &start.found, span.end);
         let dirty = dirty_between(&self.pieces, &self.chunks, &start, &end, text);
         let front = joins_front(&start, &end, text);
         let back = joins_back(&start, &end, text);
@@ -303,8 +303,8 @@ impl TextBuffer {
             drop (result.first - 1 + result.new) lines
             ≡ drop (result.first - 1 + result.old) (lines_of self.now.units) }
     {
-        let start = spot_at(&self.pieces, &self.chunks, span.start);
-        let end = spot_at(&self.pieces, &self.chunks, span.end);
+        let start = spot_at(&self.pieces, &self.chunks, &None, span.start);
+        let end = spot_at(&self.pieces, &self.chunks, &start.found, span.end);
         dirty_between(&self.pieces, &self.chunks, &start, &end, text)
     }
 

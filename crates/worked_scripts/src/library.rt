@@ -8,14 +8,18 @@ use unit_text::{Units, units_of, utf8_of};
 
 #[test]
 fn a_document_is_edited_and_read(rt: HostRuntime) -> Result<(), Fail> {
-    let alloc = rt.alloc();
-    let mut model = Model::new(alloc);
-    open(alloc, &mut model)?;
-    edit(alloc, &mut model)?;
-    let mut shown = Vec::new(alloc);
-    show_first_line(alloc, &model, &mut shown)?;
+    let mut model = Model::new(rt.alloc());
+    let shown = edited_first_line(rt.alloc(), &mut model)?;
     assert_eq!(rt; shown.as_slice(), b"aXd".as_slice());
     Ok(())
+}
+
+fn edited_first_line(alloc: Global, model: &mut Model) -> Result<Vec<u8>, Fail> {
+    open(alloc, model)?;
+    edit(alloc, model)?;
+    let mut shown = Vec::new(alloc);
+    show_first_line(alloc, model, &mut shown)?;
+    Ok(shown)
 }
 
 fn open(alloc: Global, model: &mut Model) -> Result<(), Fail> {

@@ -1,7 +1,7 @@
 //! Scripts that are played.
 
-use crate::runs::run_line;
 use memory_streams::{Fault, MemSink, MemSource, SureSink};
+use script_checks::run_line;
 use std::alloc::{AllocError, Global};
 use std::process::Abort;
 use std::test::Fail;

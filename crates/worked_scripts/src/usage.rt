@@ -1,7 +1,7 @@
 //! Words that are no command.
 
-use crate::runs::run_line;
 use memory_streams::{MemSink, MemSource, SureSink};
+use script_checks::run_line;
 use std::test::Fail;
 
 const NO_COMMANDS: &[&str] = &[

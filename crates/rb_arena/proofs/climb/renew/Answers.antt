@@ -1,17 +1,7 @@
 use Rattle.rb_rules.specs.declared.slot.Side.TheVariants.{Left, Right}
-use Rattle.rb_rules.proofs.Spots.{live_below}
 use Rattle.rb_rules.proofs.Climbs.{can_renew}
 use Rattle.rb_arena.proofs.Slots.{whole_below}
 use Rattle.rb_arena.proofs.climb.renew.Goals as goal
-
-pub node_of-slot-requires : goal.node_of-slot-requires
-node_of-slot-requires g c = let (s, h, wl, wr, v) = c.requires in (s, h)
-
-pub whole-left-requires : goal.whole-left-requires
-whole-left-requires g c = let (s, h, wl, wr, v) = c.requires in rw (c.node_of-slot.ensures.slot s h) (live_below _ _ s c.args.id h Left)
-
-pub whole-right-requires : goal.whole-right-requires
-whole-right-requires g c = let (s, h, wl, wr, v) = c.requires in rw (c.node_of-slot.ensures.slot s h) (live_below _ _ s c.args.id h Right)
 
 pub summed-datum-requires : goal.summed-datum-requires
 summed-datum-requires g c =

@@ -11,9 +11,6 @@ use Rattle.rb_arena.proofs.Searches.{no_step, one_step}
 use Rattle.rb_arena.proofs.descend.climb.Goals.{then-eq, else-eq+in-Right}
 use Rattle.rb_arena.proofs.descend.climb.Goals as goal
 
-pub place-at-requires : goal.place-at-requires
-place-at-requires g c = let (s, made, wv, le, v) = c.requires in (s, made)
-
 pub shift_to-by-requires : goal.shift_to-by-requires
 shift_to-by-requires g c =
     let (s, made, wv, le, v) = c.requires in

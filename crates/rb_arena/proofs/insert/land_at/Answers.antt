@@ -1,31 +1,23 @@
 use Rattle.std.proofs.Common.{ap, ◌∙◌}
 use Rattle.std.specs.FinMap as map
-use Rattle.rb_rules.specs.Tree.{tip, plug}
 use Rattle.rb_rules.proofs.Live.{len_insert}
-use Rattle.rb_rules.proofs.Wider.{woven_wider}
-use Rattle.rb_arena.proofs.Inserting.{written_leaf}
+use Rattle.rb_arena.proofs.Inserting.{takes_near, leaf_hangs}
 use Rattle.rb_arena.proofs.insert.land_at.Goals as goal
 
 pub leaf_at-leaf-requires : goal.leaf_at-leaf-requires
 leaf_at-leaf-requires g c =
-    let t = g.W.Weave in let laws = g.met.W.Weave in let w = t.weaving in let (reach, (beside, (k, (h, bal, v), apart))) = c.requires.hole in
-    (beside, (k, ((h.0, woven_wider w (t.within reach) t.is_near (laws.within_near reach) w.still (plug k tip) h.1, h.2), bal, v)))
+    let (reach, (beside, (k, can, apart))) = c.requires.hole in (beside, (k, takes_near g.W.Weave g.met.W.Weave.within_near c.args.tree.now c.args.at c.args.item reach beside k can))
 
 pub hang_leaf-requires : goal.hang_leaf-requires
 hang_leaf-requires g c =
-    let t = g.W.Weave in let laws = g.met.W.Weave in let w = t.weaving in let m = c.args.tree.now.nodes.live in let root = c.args.tree.now.root in
-    let (reach, (beside, (k, (h, bal, v), apart))) = c.requires.hole in
-    let leaf = c.leaf_at-leaf.ensures beside k ((h.0, woven_wider w (t.within reach) t.is_near (laws.within_near reach) w.still (plug k tip) h.1, h.2), bal, v) in
-    let (take, is) = written_leaf w (t.within reach) t.is_item t.is_value beside m c.write.new.nodes.live root c.args.at c.args.id c.args.item k c.leaf_at-leaf.result (h, bal, v) apart leaf c.write.ensures.live in
+    let (reach, (beside, (k, can, apart))) = c.requires.hole in
+    let (take, is) = leaf_hangs g.W.Weave g.met.W.Weave.within_near c.args.tree.now c.args.at c.args.item reach beside k can c.leaf_at-leaf.ensures c.args.id apart c.write.ensures.live in
     (reach, (beside, (k, (c.args.item, take, is))))
 
 pub returns-clause-mended : goal.returns-clause-mended
-returns-clause-mended g c = λ reach beside k (h, bal, v) apart.
-    let t = g.W.Weave in let laws = g.met.W.Weave in let w = t.weaving in let m = c.args.tree.now.nodes.live in let root = c.args.tree.now.root in
-    let leaf = c.leaf_at-leaf.ensures beside k ((h.0, woven_wider w (t.within reach) t.is_near (laws.within_near reach) w.still (plug k tip) h.1, h.2), bal, v) in
-    let (take, is) = written_leaf w (t.within reach) t.is_item t.is_value beside m c.write.new.nodes.live root c.args.at c.args.id c.args.item k c.leaf_at-leaf.result (h, bal, v) apart leaf c.write.ensures.live in
+returns-clause-mended g c = λ reach beside k can apart.
+    let (take, is) = leaf_hangs g.W.Weave g.met.W.Weave.within_near c.args.tree.now c.args.at c.args.item reach beside k can c.leaf_at-leaf.ensures c.args.id apart c.write.ensures.live in
     c.hang_leaf.ensures.mended reach beside k c.args.item take is
 
 pub returns-clause-as_many : goal.returns-clause-as_many
-returns-clause-as_many g c =
-    let m = c.args.tree.now.nodes.live in c.hang_leaf.ensures.as_many ∙ ap map.len c.write.ensures.live ∙ len_insert m c.args.id c.leaf_at-leaf.result c.requires.live
+returns-clause-as_many g c = c.hang_leaf.ensures.as_many ∙ ap map.len c.write.ensures.live ∙ len_insert _ c.args.id c.leaf_at-leaf.result c.requires.live

@@ -1,14 +1,8 @@
 use Rattle.rb_rules.specs.Memory.{here}
 use Rattle.rb_arena.proofs.leave.item_at.Goals as goal
 
-pub place-at-requires : goal.place-at-requires
-place-at-requires g c = let (s, spot, value) = c.requires in (s, spot.0)
-
 pub path_shift-by-requires : goal.path_shift-by-requires
 path_shift-by-requires g c = let (s, spot, value) = c.requires in (s.beside, (here s c.args.id, (s.hole, ((c.place-at.ensures s spot.0, spot.0), spot.1, spot.2))))
-
-pub node_of-requires : goal.node_of-requires
-node_of-requires g c = let (s, spot, value) = c.requires in (s, spot.0)
 
 pub shift-requires : goal.shift-requires
 shift-requires g c =

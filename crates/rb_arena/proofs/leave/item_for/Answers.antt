@@ -2,9 +2,6 @@ use Rattle.rb_rules.specs.Memory.{here}
 use Rattle.rb_arena.proofs.Setting.{can_go_back, can_store, stored}
 use Rattle.rb_arena.proofs.leave.item_for.Goals as goal
 
-pub place-at-requires : goal.place-at-requires
-place-at-requires g c = let (s, spot) = c.requires.spot in (s, spot.0)
-
 pub path_shift-by-requires : goal.path_shift-by-requires
 path_shift-by-requires g c = let (s, spot) = c.requires.spot in (s.beside, (here s c.args.id, (s.hole, ((c.place-at.ensures s spot.0, spot.0), spot.1, spot.2))))
 

@@ -1,5 +1,5 @@
 use Rattle.std.proofs.Common.{◌∙◌}
-use Rattle.rb_rules.specs.declared.slot.Side.TheVariants.{Left, Right}
+use Rattle.rb_rules.specs.declared.slot.Side.TheVariants.{Right}
 use Rattle.rb_rules.specs.Tree.{root_of}
 use Rattle.rb_rules.specs.Memory.{place_of}
 use Rattle.rb_rules.proofs.Detaching.{replaced}
@@ -7,9 +7,6 @@ use Rattle.rb_rules.proofs.Live.{live_insert, live_adopted, live_hung, len_inser
 use Rattle.rb_rules.proofs.Spots.{at_place, live_below}
 use Rattle.rb_arena.proofs.Slots.{name_adopted, place_adopted}
 use Rattle.rb_arena.proofs.links.replace.Goals as goal
-
-pub adopt-requires : goal.adopt-requires
-adopt-requires g c = let (s, h) = c.requires.stands in rw (c.node_of-old.ensures.slot s h) (live_below _ _ s c.args.id h Left)
 
 pub adopt-requires-2 : goal.adopt-requires-2
 adopt-requires-2 g c =

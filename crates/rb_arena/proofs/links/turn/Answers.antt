@@ -6,12 +6,6 @@ use Rattle.rb_rules.proofs.Spots.{at_place, live_below, live_below_below, turn_m
 use Rattle.rb_arena.proofs.Slots.{child_there, place_adopted}
 use Rattle.rb_arena.proofs.links.turn.Goals as goal
 
-pub node_of-upper-requires : goal.node_of-upper-requires
-node_of-upper-requires g c = let (s, h, f) = c.requires in (s, h)
-
-pub place-at-requires : goal.place-at-requires
-place-at-requires g c = let (s, h, f) = c.requires in (s, h)
-
 pub returns-in_default-clause-made : goal.returns-in_default-clause-made
 returns-in_default-clause-made g c = λ s2 h2.
     let (s, h, f) = c.requires in absurd (false≢true (rw (child_there c.args.side s _ _ _ (c.node_of-upper.ensures.slot s h) c.child.ensures c.in_default.is) at f))

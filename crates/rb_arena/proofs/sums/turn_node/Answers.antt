@@ -5,9 +5,6 @@ use Rattle.rb_rules.proofs.Knots.{can_turn_here, turn_lists}
 use Rattle.rb_arena.proofs.Slots.{child_there}
 use Rattle.rb_arena.proofs.sums.turn_node.Goals as goal
 
-pub node_of-upper-requires : goal.node_of-upper-requires
-node_of-upper-requires g c = let (s, h, f, wv, v) = c.requires in (s, h)
-
 pub returns-in_default-clause-turned : goal.returns-in_default-clause-turned
 returns-in_default-clause-turned g c = λ s2 h2 reach wv2.
     let (s, h, f, wv, v) = c.requires in absurd (false≢true (rw (child_there c.args.side s _ _ _ (c.node_of-upper.ensures.slot s h) c.child.ensures c.in_default.is) at f))

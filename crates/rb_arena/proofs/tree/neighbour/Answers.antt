@@ -30,9 +30,6 @@ module _ (g : Over) (c : After-is_none g) (s : Spot g.row.D.Denot) (made : Made 
         omega (arith, high, le),
       )
 
-pub node_of-requires : goal.node_of-requires
-node_of-requires g c = let (s, made, le) = c.requires in (s, made)
-
 pub above_on-requires : goal.above_on-requires
 above_on-requires g c = let (s, made, le) = c.requires in (s, made, omega (arith, le))
 

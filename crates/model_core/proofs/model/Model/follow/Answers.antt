@@ -2,10 +2,10 @@ use Rattle.std.proofs.Common.{◌≡◌, ◌+◌, ◌≤◌, length, is_some, sl
 use Rattle.std.proofs.lemmas.Grind.{common_steps}
 use Rattle.edit_stack.specs.Element.{step_of}
 use Rattle.document_rules.specs.Document.{greatest_version}
-use Rattle.model_core.specs.State.{ModelState, next_op_count, fresh_tree}
+use Rattle.model_core.specs.State.{ModelState, fresh_tree}
 use Rattle.model_core.specs.History.{op_count, unit_count, breaks_along}
 use Rattle.model_core.specs.Ways.{text_by, changes_by, decorations_by, marked_along, marked_step, next_steps, passed, alternative_after, flat_move}
-use Rattle.model_core.specs.Prepared.{next_unit_count, next_break_count}
+use Rattle.model_core.specs.Prepared.{next_op_count, next_unit_count, next_break_count}
 use Rattle.model_core.proofs.Staying.{stays_as, kept_as}
 use Rattle.model_core.proofs.Stepping.{IsStep, step_on, no_next_on, fits_by, stays_by, marked_by_way}
 use Rattle.snapshots.specs.Shown as shelves

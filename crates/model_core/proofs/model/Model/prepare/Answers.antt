@@ -4,8 +4,7 @@ use Rattle.batch_rules.specs.Batches.{checked_batch, inverse_from, text_units}
 use Rattle.batch_rules.proofs.Standing.{accepted, text_units_applied}
 use Rattle.document_rules.specs.Document.{greatest_version}
 use Rattle.model_core.specs.State.{ModelState}
-use Rattle.model_core.proofs.Staying.{stays_as}
-use Rattle.model_core.proofs.Shelving.{shown-grown, IsShelf-grown}
+use Rattle.model_core.proofs.Untouched.{parts_untouched, document_untouched}
 use Rattle.model_core.proofs.Preparing.{edit_ready}
 use Rattle.model_core.proofs.model.Model.prepare.Goals as goal
 
@@ -26,44 +25,30 @@ text_breaks-requires c =
 pub invariant_of-self-in_err-map_err-2 : goal.invariant_of-self-in_err-map_err-2
 invariant_of-self-in_err-map_err-2 c =
     let m = c.self.inside in
-    let text = c.make_room.ensures.kept.units in
-    let stack : c.reserve.new.self.stack ≡ m.history.stack = grind (arith, common_steps) in (
-      rw text c.self.invariant.0,
-      c.self.invariant.1,
-      rw (text, stack) c.self.invariant.2,
-      rw text c.self.invariant.3,
-      stays_as m.last.tree c.make_room.new.last.tree m.last.marks c.make_room.new.last.marks m.table m.text.units c.make_room.new.text.units
-          c.make_room.ensures.kept.tree c.make_room.ensures.kept.marks text c.self.invariant.4,
-      IsShelf-grown m.text.buffers c.make_room.new.text.buffers m.shelf c.make_room.ensures.kept.grown c.self.invariant.5,
-    )
+    let stack : c.reserve.new.self.stack ≡ m.history.stack = grind (arith, common_steps) in
+    parts_untouched m.text c.make_room.new.text m.last c.make_room.new.last c.make_room.ensures.kept m.history.stack c.reserve.new.self.stack stack
+    m.decorations m.table m.shelf m.version _ c.self.invariant.1 c.self.invariant
 
 pub returns-in_err-map_err-2-clause-document : goal.returns-in_err-map_err-2-clause-document
 returns-in_err-map_err-2-clause-document c =
     let m = c.self.inside in
     let stack : c.reserve.new.self.stack ≡ m.history.stack = grind (arith, common_steps) in
-    let shelf = shown-grown m.text.buffers c.make_room.new.text.buffers m.shelf c.make_room.ensures.kept.grown c.self.invariant.5 in
-    rw (c.make_room.ensures.kept.units, stack, shelf) (ap (λ (s : ModelState). s.document) c.self.view_is)
+    document_untouched m.text c.make_room.new.text m.last c.make_room.new.last c.make_room.ensures.kept m.history.stack c.reserve.new.self.stack stack
+    m.decorations m.table m.shelf m.version m.alternative _ c.self.invariant.5 (ap (λ (s : ModelState). s.document) c.self.view_is)
 
 pub invariant_of-self-2 : goal.invariant_of-self-2
 invariant_of-self-2 c =
     let m = c.self.inside in
-    let text = c.make_room.ensures.kept.units in
-    let stack : c.reserve.new.self.stack ≡ m.history.stack = grind (arith, common_steps) in (
-      rw text c.self.invariant.0,
-      c.self.invariant.1,
-      rw (text, stack) c.self.invariant.2,
-      rw text c.self.invariant.3,
-      stays_as m.last.tree c.make_room.new.last.tree m.last.marks c.make_room.new.last.marks m.table m.text.units c.make_room.new.text.units
-          c.make_room.ensures.kept.tree c.make_room.ensures.kept.marks text c.self.invariant.4,
-      IsShelf-grown m.text.buffers c.make_room.new.text.buffers m.shelf c.make_room.ensures.kept.grown c.self.invariant.5,
-    )
+    let stack : c.reserve.new.self.stack ≡ m.history.stack = grind (arith, common_steps) in
+    parts_untouched m.text c.make_room.new.text m.last c.make_room.new.last c.make_room.ensures.kept m.history.stack c.reserve.new.self.stack stack
+    m.decorations m.table m.shelf m.version _ (grind (arith, common_steps)) c.self.invariant
 
 pub returns-clause-document : goal.returns-clause-document
 returns-clause-document c =
     let m = c.self.inside in
     let stack : c.reserve.new.self.stack ≡ m.history.stack = grind (arith, common_steps) in
-    let shelf = shown-grown m.text.buffers c.make_room.new.text.buffers m.shelf c.make_room.ensures.kept.grown c.self.invariant.5 in
-    rw (c.make_room.ensures.kept.units, stack, shelf) (ap (λ (s : ModelState). s.document) c.self.view_is)
+    document_untouched m.text c.make_room.new.text m.last c.make_room.new.last c.make_room.ensures.kept m.history.stack c.reserve.new.self.stack stack
+    m.decorations m.table m.shelf m.version m.alternative _ c.self.invariant.5 (ap (λ (s : ModelState). s.document) c.self.view_is)
 
 pub returns-clause-ready : goal.returns-clause-ready
 returns-clause-ready c =

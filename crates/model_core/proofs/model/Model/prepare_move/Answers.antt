@@ -1,16 +1,15 @@
-use Rattle.std.proofs.Common.{◌≡◌, ◌+◌, ◌*◌, ◌<◌, ◌≤◌, slice_get, Some, None, Err, ap, sym, ◌∙◌, arith}
+use Rattle.std.proofs.Common.{◌≡◌, ◌+◌, ◌*◌, ◌<◌, ◌≤◌, slice_get, Some, None, Err, refl, ap, sym, ◌∙◌, arith}
 use Rattle.std.proofs.lemmas.Grind.{common_steps}
 use Rattle.edit_stack.specs.Element.{step_of}
 use Rattle.document_rules.specs.Refusals.{limit}
 use Rattle.document_rules.specs.Document.{greatest_version}
-use Rattle.model_core.specs.State.{ModelState}
+use Rattle.model_core.specs.State.{units_beside_text, breaks_beside_text, ModelState}
 use Rattle.model_core.specs.History.{op_count, unit_count, breaks_along}
 use Rattle.model_core.specs.Ways.{next_steps, flat_move}
-use Rattle.model_core.proofs.Staying.{stays_as}
 use Rattle.model_core.proofs.Stepping.{IsStep, step_on, no_next_on, few_by}
+use Rattle.model_core.proofs.Untouched.{parts_untouched, document_untouched}
 use Rattle.model_core.proofs.Preparing.{move_ready}
 use Rattle.snapshots.specs.Shown as shelves
-use Rattle.model_core.proofs.Shelving.{shown-grown, IsShelf-grown}
 use Rattle.model_core.proofs.model.Model.prepare_move.Goals as goal
 use Rattle.model_core.proofs.model.Model.prepare_move.Goals.{In-Some}
 
@@ -43,40 +42,26 @@ returns-in_err-next-clause-ready c =
 pub invariant_of-self : goal.invariant_of-self
 invariant_of-self c =
     let m = c.self.inside in
-    let text = c.reserve_for.ensures.kept.units in (
-      rw text c.self.invariant.0,
-      c.self.invariant.1,
-      rw text c.self.invariant.2,
-      rw text c.self.invariant.3,
-      stays_as m.last.tree c.reserve_for.new.last.tree m.last.marks c.reserve_for.new.last.marks m.table m.text.units c.reserve_for.new.text.units
-          c.reserve_for.ensures.kept.tree c.reserve_for.ensures.kept.marks text c.self.invariant.4,
-      IsShelf-grown m.text.buffers c.reserve_for.new.text.buffers m.shelf c.reserve_for.ensures.kept.grown c.self.invariant.5,
-    )
+    parts_untouched m.text c.reserve_for.new.text m.last c.reserve_for.new.last c.reserve_for.ensures.kept m.history.stack m.history.stack refl
+    m.decorations m.table m.shelf m.version _ c.self.invariant.1 c.self.invariant
 
 pub returns-in_err-map_err-clause-document : goal.returns-in_err-map_err-clause-document
 returns-in_err-map_err-clause-document c =
     let m = c.self.inside in
-    let shelf = shown-grown m.text.buffers c.reserve_for.new.text.buffers m.shelf c.reserve_for.ensures.kept.grown c.self.invariant.5 in
-    rw (c.reserve_for.ensures.kept.units, shelf) (ap (λ (s : ModelState). s.document) c.self.view_is)
+    document_untouched m.text c.reserve_for.new.text m.last c.reserve_for.new.last c.reserve_for.ensures.kept m.history.stack m.history.stack refl
+    m.decorations m.table m.shelf m.version m.alternative _ c.self.invariant.5 (ap (λ (s : ModelState). s.document) c.self.view_is)
 
 pub invariant_of-self-2 : goal.invariant_of-self-2
 invariant_of-self-2 c =
     let m = c.self.inside in
-    let text = c.reserve_for.ensures.kept.units in (
-      rw text c.self.invariant.0,
-      c.self.invariant.1,
-      rw text c.self.invariant.2,
-      rw text c.self.invariant.3,
-      stays_as m.last.tree c.reserve_for.new.last.tree m.last.marks c.reserve_for.new.last.marks m.table m.text.units c.reserve_for.new.text.units
-          c.reserve_for.ensures.kept.tree c.reserve_for.ensures.kept.marks text c.self.invariant.4,
-      IsShelf-grown m.text.buffers c.reserve_for.new.text.buffers m.shelf c.reserve_for.ensures.kept.grown c.self.invariant.5,
-    )
+    parts_untouched m.text c.reserve_for.new.text m.last c.reserve_for.new.last c.reserve_for.ensures.kept m.history.stack m.history.stack refl
+    m.decorations m.table m.shelf m.version _ c.self.invariant.1 c.self.invariant
 
 pub returns-clause-document : goal.returns-clause-document
 returns-clause-document c =
     let m = c.self.inside in
-    let shelf = shown-grown m.text.buffers c.reserve_for.new.text.buffers m.shelf c.reserve_for.ensures.kept.grown c.self.invariant.5 in
-    rw (c.reserve_for.ensures.kept.units, shelf) (ap (λ (s : ModelState). s.document) c.self.view_is)
+    document_untouched m.text c.reserve_for.new.text m.last c.reserve_for.new.last c.reserve_for.ensures.kept m.history.stack m.history.stack refl
+    m.decorations m.table m.shelf m.version m.alternative _ c.self.invariant.5 (ap (λ (s : ModelState). s.document) c.self.view_is)
 
 pub returns-clause-ready : goal.returns-clause-ready
 returns-clause-ready c =
@@ -92,8 +77,8 @@ returns-clause-ready c =
     let told : changes ≡ c.changes.result.now = sym c.changes.ensures in
     let room : op_count way changes ≤ c.reserve_for.new.text.spare_edits = rw told (grind (arith, common_steps)) in
     let marks : op_count way changes ≤ c.reserve_for.new.last.spare = rw told (grind (arith, common_steps)) in
-    let more : unit_count way changes + 3 * op_count way changes ≤ c.reserve_for.new.text.spare_units = rw told (grind (arith, common_steps)) in
-    let broken : breaks_along way changes + 2 * op_count way changes ≤ c.reserve_for.new.text.spare_breaks = rw told (grind (arith, common_steps)) in
+    let more : unit_count way changes + units_beside_text * op_count way changes ≤ c.reserve_for.new.text.spare_units = rw told (grind (arith, common_steps)) in
+    let broken : breaks_along way changes + breaks_beside_text * op_count way changes ≤ c.reserve_for.new.text.spare_breaks = rw told (grind (arith, common_steps)) in
     move_ready way _ c.making.result c.making.ensures.action (omega (arith, next, c.making.ensures.version))
     (rw kept.units step.next)
     (record {

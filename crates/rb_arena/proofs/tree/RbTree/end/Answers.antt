@@ -12,12 +12,12 @@ use Rattle.rb_arena.proofs.tree.RbTree.end.Goals as goal
 pub end_place-requires : goal.end_place-requires
 end_place-requires g c =
     let t = g.W.Weave in let links = c.self.inside.links in let K = c.self.invariant in
-    (K.beside, (K.tree, (top, starts_top t.weaving (t.within c.self.inside.reach) t.is_item t.is_value links.nodes.live links.root c.self.inside.loose K)))
+    (K.beside, (K.tree, (top, starts_top K)))
 
 pub returns-clause-end : goal.returns-clause-end
 returns-clause-end g c =
     let t = g.W.Weave in let links = c.self.inside.links in let K = c.self.invariant in let side = c.args.side in
-    let start = starts_top t.weaving (t.within c.self.inside.reach) t.is_item t.is_value links.nodes.live links.root c.self.inside.loose K in
+    let start = starts_top K in
     c.parent_at.ensures ∙ ap above_place (c.end_place.ensures K.beside K.tree top start) ∙ above-place (end_hole side top K.tree) ∙ above_end t.weaving side K.tree
     ∙ ap (name_at_end side) (sym (items_seen t c.self.inside.reach links c.self.inside.loose K (ap (λ l. l.items) c.self.view_is)))
 

@@ -1,11 +1,9 @@
-//! A script of every command, of which each read fails in turn, and then each write.
+//! A script of which each read fails in turn, or each write.
 
-use crate::runs::{ALL, Stream, expect_run};
-use crate::transcripts::{EVERY_COMMAND, script_and_replies};
 use memory_streams::Fault;
+use script_checks::{ALL_READ, ALL_WRITTEN, Reads, Writes, difference, script_and_replies};
 use std::alloc::{AllocError, Global};
 use std::process::Abort;
-use std::test::Fail;
 
 /// The most bytes that a read gives.
 const READ_BYTES: usize = 7;
@@ -14,20 +12,21 @@ const READ_BYTES: usize = 7;
 const WRITTEN_BYTES: usize = 3;
 
 /// The lines that came whole before a read failed have their replies, and no other has.
-#[test]
-fn each_read_fails(rt: HostRuntime) -> Result<(), Fail> {
-    let (script, replies) = script_and_replies(rt.alloc(), "", EVERY_COMMAND)?;
+pub fn expect_each_read_fault<R: AllocGlobal + Abort>(
+    rt: &R,
+    rows: &str,
+) -> Result<(), AllocError> {
+    let (script, replies) = script_and_replies(rt.alloc(), "", rows)?;
     let (script, replies) = (script.as_bytes(), replies.as_str());
     let mut given = Vec::new(rt.alloc());
     let mut call = 1;
     for piece in script.chunks(READ_BYTES) {
         let written = replies_to(rt.alloc(), given.as_slice(), replies)?;
-        expect_read_fault(&rt, script, call, written.as_bytes())?;
+        expect_read_fault(rt, script, call, written.as_bytes())?;
         given.extend_from_slice(piece)?;
         call = call.saturating_add(1);
     }
-    expect_read_fault(&rt, script, call, replies.as_bytes())?;
-    Ok(())
+    expect_read_fault(rt, script, call, replies.as_bytes())
 }
 
 /// The replies to the lines that come whole in the first bytes of a script.
@@ -46,23 +45,35 @@ fn expect_read_fault<R: AllocGlobal + Abort>(
     call: u64,
     written: &[u8],
 ) -> Result<(), AllocError> {
-    let source = Stream {
+    let reads = Reads {
         each: READ_BYTES,
-        plan: &[Fault::Fails { call }],
+        failing: Some(call),
     };
     let name = format!(in rt.alloc(); "read {call} fails")?;
-    expect_run(rt, name.as_str(), script, source, ALL, written, 4)
+    let found = difference(
+        rt.alloc(),
+        name.as_str(),
+        script,
+        reads,
+        ALL_WRITTEN,
+        written,
+        4,
+    )?;
+    assert!(rt; found.is_none(), "{found:?}");
+    Ok(())
 }
 
 /// What was taken before a write failed is there, and nothing else.
-#[test]
-fn each_write_fails(rt: HostRuntime) -> Result<(), Fail> {
-    let (script, replies) = script_and_replies(rt.alloc(), "", EVERY_COMMAND)?;
+pub fn expect_each_write_fault<R: AllocGlobal + Abort>(
+    rt: &R,
+    rows: &str,
+) -> Result<(), AllocError> {
+    let (script, replies) = script_and_replies(rt.alloc(), "", rows)?;
     let mut written = Vec::new(rt.alloc());
     let mut call = 1;
     for reply in replies.as_str().split_inclusive('\n') {
         let reply = reply.as_bytes();
-        call = each_write_of(&rt, script.as_bytes(), reply, call, &mut written)?;
+        call = each_write_of(rt, script.as_bytes(), reply, call, &mut written)?;
     }
     Ok(())
 }
@@ -90,10 +101,20 @@ fn expect_write_fault<R: AllocGlobal + Abort>(
     call: u64,
     written: &[u8],
 ) -> Result<(), AllocError> {
-    let sink = Stream {
+    let writes = Writes {
         each: WRITTEN_BYTES,
-        plan: &[Fault::Fails { call }],
+        faults: &[Fault::Fails { call }],
     };
     let name = format!(in rt.alloc(); "write {call} fails")?;
-    expect_run(rt, name.as_str(), script, ALL, sink, written, 5)
+    let found = difference(
+        rt.alloc(),
+        name.as_str(),
+        script,
+        ALL_READ,
+        writes,
+        written,
+        5,
+    )?;
+    assert!(rt; found.is_none(), "{found:?}");
+    Ok(())
 }

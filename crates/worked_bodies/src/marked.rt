@@ -2,7 +2,7 @@
 
 use crate::draws::Draws;
 use crate::flat_marks::{FlatEdit, FlatMark};
-use crate::runs::{ALL, expect_run};
+use script_checks::{ALL_READ, ALL_WRITTEN, difference, push_times};
 use std::alloc::{AllocError, Global};
 use std::process::Abort;
 use std::test::Fail;
@@ -46,9 +46,7 @@ impl Marked {
 
     fn open(&mut self) -> Result<(), AllocError> {
         self.script.push_str("{\"cmd\":\"open\",\"text\":\"")?;
-        for _unit in 0..UNITS {
-            self.script.push('a')?;
-        }
+        push_times("a", UNITS, &mut self.script)?;
         self.script.push_str("\"}\n")?;
         let reply = format!(in self.alloc; "ok 1 {} 1\n", self.len)?;
         self.replies.push_str(reply.as_str())
@@ -121,9 +119,7 @@ impl Marked {
             edit.force
         )?;
         self.script.push_str(begin.as_str())?;
-        for _unit in 0..edit.units {
-            self.script.push('b')?;
-        }
+        push_times("b", edit.units, &mut self.script)?;
         self.script.push_str("\"}]}\n")?;
         for mark in self.marks.iter_mut() {
             *mark = mark.after(&edit);
@@ -193,5 +189,15 @@ fn expect_same_marks<R: AllocGlobal + Abort>(rt: &R) -> Result<(), AllocError> {
     let len = marked.len;
     marked.ask_for_span(0, len)?;
     let (script, replies) = (marked.script.as_bytes(), marked.replies.as_bytes());
-    expect_run(rt, "marks", script, ALL, ALL, replies, 0)
+    let found = difference(
+        rt.alloc(),
+        "marks",
+        script,
+        ALL_READ,
+        ALL_WRITTEN,
+        replies,
+        0,
+    )?;
+    assert!(rt; found.is_none(), "{found:?}");
+    Ok(())
 }

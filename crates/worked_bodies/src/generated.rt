@@ -2,7 +2,7 @@
 
 use crate::draws::Draws;
 use crate::first_body::OneList;
-use crate::runs::{ALL, expect_run};
+use script_checks::{ALL_READ, ALL_WRITTEN, difference, push_times};
 use std::alloc::{AllocError, Global};
 use std::process::Abort;
 use std::test::Fail;
@@ -170,14 +170,6 @@ impl Growing {
     }
 }
 
-/// Adds the part so many times.
-pub fn push_times(part: &str, times: u64, line: &mut String) -> Result<(), AllocError> {
-    for _ in 0..times {
-        line.push_str(part)?;
-    }
-    Ok(())
-}
-
 #[test]
 fn the_first_body_answers_the_same(rt: HostRuntime) -> Result<(), Fail> {
     for kind in KINDS {
@@ -196,5 +188,15 @@ fn expect_same<R: AllocGlobal + Abort>(rt: &R, kind: &Kind, seed: u64) -> Result
     }
     let status = if growing.document.was_refused() { 1 } else { 0 };
     let (script, replies) = (growing.script.as_bytes(), growing.replies.as_slice());
-    expect_run(rt, kind.name, script, ALL, ALL, replies, status)
+    let found = difference(
+        rt.alloc(),
+        kind.name,
+        script,
+        ALL_READ,
+        ALL_WRITTEN,
+        replies,
+        status,
+    )?;
+    assert!(rt; found.is_none(), "{found:?}");
+    Ok(())
 }
