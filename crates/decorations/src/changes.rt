@@ -63,7 +63,7 @@ fn is_bad<F: Flat>(new: &NewDeco, text: &F) -> bool
     ensures { result ≡ is_bad (F.units text.now) new.now }
 {
     new.span.end < new.span.start
-        || !(text.is_place(new.span.start) && text.is_place(new.span.end))
+        || !text.are_places(new.span.start, new.span.end)
         || new.stick > GREATEST_MODE
 }
 

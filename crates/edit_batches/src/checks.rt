@@ -1,27 +1,16 @@
 //! The tests of a batch.
 
 ghost use Rattle.std.specs.Prelude.{◌≡◌, nat_lt, length};
-ghost use Rattle.text_rules.specs.Edits.{is_bad_span};
 ghost use Rattle.batch_rules.specs.Batches.{most_units, has_bad_span, overlap, applied_from, StandFrom};
 
 use batch_rules::MOST_TEXT_UNITS;
-use text_lengths::Span;
-use text_rules::Op;
+use text_rules::{Op, is_bad_span};
 use unit_text::Flat;
 
 pub(crate) fn has_bad_span<F: Flat>(ops: &[Op], text: &F) -> bool
     ensures { result ≡ has_bad_span (F.units text.now) ops.now }
 {
     ops.iter().any(|op| is_bad_span(text, op.span))
-}
-
-fn is_bad_span<F: Flat>(text: &F, span: Span) -> bool
-    ensures { result ≡ is_bad_span (F.units text.now) span }
-{
-    if span.start > span.end || !text.is_place(span.start) {
-        return true;
-    }
-    span.start < span.end && !text.is_place(span.end)
 }
 
 /// Whether one of the edits, which are in order, starts below the end of the one before it.

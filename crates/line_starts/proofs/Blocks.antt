@@ -1,85 +1,54 @@
 -- What several units that are looked at together tell of the breaks.
-use Rattle.std.proofs.Common.{◌≡◌, ℕ, zero, suc, ◌+◌, ◌<◌, ◌≤◌, ◌==◌, Bool, cond, true, false, not, ◌&&◌, ◌||◌, if◌then◌else◌, List, [], ◌∷◌, length, take, drop, map, replicate, count_by, refl, ap, sym, ◌∙◌, add-zero, add_assoc, arith}
-use lib.Lanes.{zip2, sel_l}
+use Rattle.std.proofs.Common.{◌≡◌, ℕ, zero, suc, ◌+◌, ◌-◌, ◌*◌, ◌/◌, ◌^◌, ◌<◌, ◌≤◌, ◌==◌, Bool, cond, true, false, not, ◌&&◌, ◌||◌, if◌then◌else◌, List, [], ◌∷◌, ◌++◌, length, take, drop, map, refl, ap, ap₂, sym, subst, ◌∙◌, add-zero, arith, eqb, bit_and, bit_or}
+use native.Mathlib.Nat.{pow-suc, pow-zero, mul_comm, zero-div, div-one, div-div-eq-div-mul}
+use lib.Count.{ones, ones-le, count_trailing_zeros}
+use lib.Lanes.{chunk, zip2, mask_l, top}
 use Rattle.std.specs.List.{prefix_len}
-use Rattle.std.proofs.lemmas.Bool.{eqb-true, false≢true}
-use Rattle.std.proofs.lemmas.List.{drop-drop}
-use Rattle.std.proofs.lemmas.List.Sums.{sum_by-cons}
-use Rattle.text_rules.specs.Lines.{line_feed, carriage_return, begins_with}
+use Rattle.std.proofs.lemmas.Bool.{eqb-true}
+use Rattle.std.proofs.lemmas.List.{length-append, length-drop, drop-drop, map-id}
+use Rattle.std.proofs.lemmas.Simd.{length-chunk, length-zip2, ones-mask_l_cons, trailing_mask_l}
+use Rattle.text_rules.specs.Lines.{line_feed, carriage_return}
 use Rattle.text_rules.specs.Breaks.{ends_break, break_ends}
-use Rattle.line_starts.specs.Starts.{is_break_unit}
 
--- ---- lanes that are chosen by a comparison
-
-pub chosen : (unit instead n : ℕ) (xs : List ℕ) → length xs ≡ n
-    → sel_l (map (λ x. x == unit) xs) (replicate n instead) xs ≡ map (λ x. cond (x == unit) instead x) xs
-chosen unit instead n [] e = refl
-chosen unit instead zero (x ∷ xs) e = absurd (omega arith)
-chosen unit instead (suc n) (x ∷ xs) e = ap (λ s. cond (x == unit) instead x ∷ s) (chosen unit instead n xs (omega arith))
-
-pub chosen_by : (unit instead n : ℕ) (xs ys : List ℕ) → length xs ≡ n → length ys ≡ n
-    → sel_l (map (λ y. y == unit) ys) (replicate n instead) xs ≡ zip2 (λ x y. cond (y == unit) instead x) xs ys
-chosen_by unit instead n [] [] e f = refl
-chosen_by unit instead n [] (y ∷ ys) e f = absurd (omega arith)
-chosen_by unit instead n (x ∷ xs) [] e f = absurd (omega arith)
-chosen_by unit instead zero (x ∷ xs) (y ∷ ys) e f = absurd (omega arith)
-chosen_by unit instead (suc n) (x ∷ xs) (y ∷ ys) e f =
-    ap (λ s. cond (y == unit) instead x ∷ s) (chosen_by unit instead n xs ys (omega arith) (omega arith))
-
--- ---- units of which no break is made
-
-feed_for_return : (is_return is_feed : Bool) (u : ℕ) → (u == line_feed) ≡ is_feed → (cond is_return line_feed u == line_feed) ≡ (is_return || is_feed)
-feed_for_return true is_feed u e = refl
-feed_for_return false is_feed u e = e
-
--- a CR or an LF is an LF once each CR is made one
-pub before_feed : (xs : List ℕ) → prefix_len (λ u. not (u == line_feed)) (map (λ u. cond (u == carriage_return) line_feed u) xs) ≡ prefix_len (λ u. not (is_break_unit u)) xs
-before_feed [] = refl
-before_feed (u ∷ xs) =
-    (λ i. cond (not (feed_for_return (u == carriage_return) (u == line_feed) u refl i)) (1 + before_feed xs i) 0)
-
-no_end : (is_return is_feed before_feed : Bool) → (is_return || is_feed) ≡ false → (if is_return && before_feed then false else is_return || is_feed) ≡ false
-no_end true is_feed before_feed e = absurd cc
-no_end false is_feed before_feed e = e
-
-pub ends_no_break : (u : ℕ) (after : List ℕ) → is_break_unit u ≡ false → ends_break u after ≡ false
-ends_no_break u after e = no_end (u == carriage_return) (u == line_feed) (begins_with line_feed after) e
-
-passes : (b : Bool) (n k : ℕ) → suc k ≤ cond (not b) (1 + n) 0 → (b ≡ false) × (k ≤ n)
-passes true n k h = absurd (omega arith)
-passes false n k h = (refl, omega arith)
-
--- units of which no break is made move the breaks after them
-pub skipped : (at k n : ℕ) (s : List ℕ) → k ≤ prefix_len (λ u. not (is_break_unit u)) (take n s) → break_ends at s ≡ break_ends (at + k) (drop k s)
-skipped at zero n s h = ap (λ a. break_ends a s) (sym (add-zero at))
-skipped at (suc k) zero s h = absurd (omega arith)
-skipped at (suc k) (suc n) [] h = absurd (omega arith)
-skipped at (suc k) (suc n) (u ∷ s) h =
-    let passed = passes (is_break_unit u) (prefix_len (λ v. not (is_break_unit v)) (take n s)) k h in
-    let one : break_ends at (u ∷ s) ≡ break_ends (at + 1) s = rw (ends_no_break u s passed.0) refl in
-    one ∙ skipped (at + 1) k n s passed.1 ∙ ap (λ a. break_ends a (drop k s)) (omega arith)
-
--- ... from one place of a text to another
-pub skipped_from : (from at plain n : ℕ) (x : List ℕ) → plain ≡ prefix_len (λ u. not (is_break_unit u)) (take n (drop at x))
-    → ((place : ℕ) → break_ends (place + from) (drop from x) ≡ break_ends (place + at) (drop at x))
-    → (place : ℕ) → break_ends (place + from) (drop from x) ≡ break_ends (place + (at + plain)) (drop (at + plain) x)
-skipped_from from at plain n x e before place =
-    before place ∙ skipped (place + at) plain n (drop at x) (omega (arith, e))
-    ∙ (λ i. break_ends (add_assoc place at plain i) (drop-drop plain at x i))
-
--- ---- breaks that are counted by lanes
-
+-- as many breaks, wherever the text stands
 pub same_count : (at to : ℕ) (s : List ℕ) → length (break_ends at s) ≡ length (break_ends to s)
 same_count at to [] = refl
 same_count at to (u ∷ s) = elim (ends_break u s) as (λ b. length (cond b ((at + 1) ∷ break_ends (at + 1) s) (break_ends (at + 1) s)) ≡ length (cond b ((to + 1) ∷ break_ends (to + 1) s) (break_ends (to + 1) s)))
     [ true ↦ ap suc (same_count (at + 1) (to + 1) s) | false ↦ same_count (at + 1) (to + 1) s ]
 
--- an LF ends a break, and so does a CR that no LF follows
-abbrev pub not_before_feed : ℕ → ℕ → ℕ
-not_before_feed u next = cond (next == line_feed) 0 u
+pub fewer_later : (from to : ℕ) (x : List ℕ) → from ≤ to → length (break_ends 0 (drop to x)) ≤ length (break_ends 0 (drop from x))
+fewer_later zero zero x h = omega arith
+fewer_later (suc from) zero x h = absurd (omega arith)
+fewer_later zero (suc to) [] h = omega arith
+fewer_later (suc from) (suc to) [] h = omega arith
+fewer_later (suc from) (suc to) (u ∷ x) h = fewer_later from to x (omega arith)
+fewer_later zero (suc to) (u ∷ x) h =
+    let later = fewer_later 0 to x (omega arith) in
+    let same = same_count 0 1 x in
+    elim (ends_break u x) as (λ b. length (break_ends 0 (drop to x)) ≤ length (cond b (1 ∷ break_ends 1 x) (break_ends 1 x)))
+    [ true ↦ omega (arith, later, same) | false ↦ omega (arith, later, same) ]
 
-count_cons : (unit u : ℕ) (s : List ℕ) → count_by (λ v. v == unit) (u ∷ s) ≡ cond (u == unit) 1 0 + count_by (λ v. v == unit) s
-count_cons unit u s = sum_by-cons (λ v. cond (v == unit) 1 0) u s
+-- ---- lanes by comparisons
+
+-- a unit with the one after it
+abbrev pub ends_before : ℕ → ℕ → Bool
+ends_before unit next = ends_break unit (next ∷ [])
+
+abbrev pub hit : ℕ → ℕ → ℕ
+hit a b = cond (eqb a b) 65535 0
+
+abbrev pub miss : ℕ → ℕ → ℕ
+miss a b = cond (not (eqb a b)) 65535 0
+
+lane : (is_feed is_return feed_after : Bool) → (is_return ≡ true → is_feed ≡ true → ⊥)
+    → top 15 (bit_or (cond is_feed 65535 0) (bit_and (cond is_return 65535 0) (cond (not feed_after) 65535 0))) ≡ cond (is_return && feed_after) false (is_return || is_feed)
+lane true true feed_after apart = absurd (apart refl refl)
+lane true false true apart = refl
+lane true false false apart = refl
+lane false true true apart = refl
+lane false true false apart = refl
+lane false false true apart = refl
+lane false false false apart = refl
 
 not_both : (u : ℕ) → (u == carriage_return) ≡ true → (u == line_feed) ≡ true → ⊥
 not_both u r f =
@@ -87,44 +56,109 @@ not_both u r f =
     let feed : u ≡ line_feed = eqb-true u line_feed f in
     omega (arith, is, feed)
 
--- one unit of the lanes, by what it is and whether an LF comes after it
-one_more : (rest u : ℕ) (is_return is_feed before : Bool) (ends : List ℕ) (q : ℕ) → rest ≡ length ends
-    → (u == carriage_return) ≡ is_return → (u == line_feed) ≡ is_feed
-    → cond is_feed 1 0 + cond (cond before 0 u == carriage_return) 1 0 + rest
-    ≡ length (cond (cond (is_return && before) false (is_return || is_feed)) (q ∷ ends) ends)
-one_more rest u true true before ends q e r f = absurd (not_both u r f)
-one_more rest u true false true ends q e r f = omega (arith, e)
-one_more rest u true false false ends q e r f = rw r (omega (arith, e))
-one_more rest u false true true ends q e r f = omega (arith, e)
-one_more rest u false true false ends q e r f = rw r (omega (arith, e))
-one_more rest u false false true ends q e r f = omega (arith, e)
-one_more rest u false false false ends q e r f = rw r (omega (arith, e))
+pub lanes_end : (xs ys : List ℕ) → map (top 15) (zip2 bit_or (map (λ x. hit x 10) xs) (zip2 bit_and (map (λ x. hit x 13) xs) (map (λ y. miss y 10) ys))) ≡ zip2 ends_before xs ys
+lanes_end [] ys = refl
+lanes_end (x ∷ xs) [] = refl
+lanes_end (x ∷ xs) (y ∷ ys) = ap₂ (λ b bs. b ∷ bs) (lane (x == line_feed) (x == carriage_return) (y == line_feed) (not_both x)) (lanes_end xs ys)
 
--- the breaks that end with one of the first k units, after which a unit comes
-pub counted : (k p q : ℕ) (s : List ℕ) → k < length s
-    → count_by (λ u. u == line_feed) (take k s) + count_by (λ u. u == carriage_return) (zip2 not_before_feed (take k s) (take k (drop 1 s))) + length (break_ends p (drop k s))
-    ≡ length (break_ends q s)
-counted k p q [] h = absurd (omega arith)
-counted (suc k) p q (u ∷ []) h = absurd (omega arith)
-counted zero p q (u ∷ s) h = omega (arith, same_count p q (u ∷ s))
-counted (suc k) p q (u ∷ v ∷ s) h =
-    let later = counted k p (q + 1) (v ∷ s) (omega arith) in
-    let feeds = count_cons line_feed u (take k (v ∷ s)) in
-    let returns = count_cons carriage_return (not_before_feed u v) (zip2 not_before_feed (take k (v ∷ s)) (take k s)) in
-    let step = one_more (length (break_ends (q + 1) (v ∷ s))) u (u == carriage_return) (u == line_feed) (v == line_feed) (break_ends (q + 1) (v ∷ s)) (q + 1) refl refl refl in
-    omega (arith, later, feeds, returns, step)
+-- ---- units that are marked
 
--- ---- a break that begins at a place
+-- the place after each marked unit, where the first unit has a place
+abbrev pub marked : ℕ → List Bool → List ℕ
+marked place [] = []
+marked place (m ∷ ms) = if m then (place + 1) ∷ marked (place + 1) ms else marked (place + 1) ms
 
--- a CR that ends no break has an LF after it, which does
-returns_before : (is_return is_feed before : Bool) → (is_return || is_feed) ≡ true → cond (is_return && before) false (is_return || is_feed) ≡ false → (is_return ≡ true) × (before ≡ true)
-returns_before true is_feed true e f = (refl, refl)
-returns_before true is_feed false e f = absurd cc
-returns_before false is_feed before e f = absurd cc
+-- the breaks that end with the first k units, after which a unit comes
+pub block_ends : (k place : ℕ) (s : List ℕ) → k < length s → marked place (zip2 ends_before (take k s) (take k (drop 1 s))) ++ break_ends (place + k) (drop k s) ≡ break_ends place s
+block_ends k place [] h = absurd (omega arith)
+block_ends zero place (u ∷ s) h = ap (λ n. break_ends n (u ∷ s)) (add-zero place)
+block_ends (suc k) place (u ∷ []) h = absurd (omega arith)
+block_ends (suc k) place (u ∷ v ∷ s) h =
+    let marks = marked (place + 1) (zip2 ends_before (take k (v ∷ s)) (take k s)) in
+    let rest = break_ends (place + suc k) (drop k (v ∷ s)) in
+    let ends = break_ends (place + 1) (v ∷ s) in
+    let later : marks ++ rest ≡ ends = ap (λ n. marks ++ break_ends n (drop k (v ∷ s))) (omega arith) ∙ block_ends k (place + 1) (v ∷ s) (omega arith) in
+    elim (ends_break u (v ∷ s)) as (λ b. cond b ((place + 1) ∷ marks) marks ++ rest ≡ cond b ((place + 1) ∷ ends) ends)
+    [ true ↦ ap (λ l. (place + 1) ∷ l) later | false ↦ later ]
 
-pub pair_end : (at : ℕ) (u : ℕ) (after : List ℕ) → is_break_unit u ≡ true → ends_break u after ≡ false
-    → (0 < length after) × (break_ends at (u ∷ after) ≡ (at + 2) ∷ break_ends (at + 2) (drop 1 after))
-pair_end at u [] e f = absurd (false≢true (returns_before (u == carriage_return) (u == line_feed) false e f).1)
-pair_end at u (v ∷ after) e f =
-    let feed : v ≡ line_feed = eqb-true v line_feed (returns_before (u == carriage_return) (u == line_feed) (v == line_feed) e f).1 in
-    (omega arith, rw (f, feed) (ap (λ n. n ∷ break_ends n after) (omega arith)))
+-- the marks of 32 units from a place on, after which a unit comes
+abbrev pub block_marks : ℕ → List ℕ → List Bool
+block_marks at x = zip2 ends_before (chunk at 32 x) (chunk (at + 1) 32 x)
+
+module _ (at : ℕ) (x : List ℕ) (inside : at + 32 < length x) where
+  pub length-block_marks : length (block_marks at x) ≡ 32
+  length-block_marks =
+      let long = length-chunk at 32 x (omega arith) in
+      length-zip2 ends_before (chunk at 32 x) (chunk (at + 1) 32 x) (long ∙ sym (length-chunk (at + 1) 32 x (omega arith))) ∙ long
+
+  pub block_breaks : (place : ℕ) → marked place (block_marks at x) ++ break_ends (place + 32) (drop (at + 32) x) ≡ break_ends place (drop at x)
+  block_breaks place =
+      sym (λ i. marked place (zip2 ends_before (chunk at 32 x) (take 32 (drop-drop 1 at x i))) ++ break_ends (place + 32) (drop-drop 32 at x i))
+      ∙ block_ends 32 place (drop at x) (omega (arith, length-drop at x))
+
+marks_counted : (place : ℕ) (ms : List Bool) → ones (mask_l ms) ≡ length (marked place ms)
+marks_counted place [] = omega (arith, ones-le 0 0 (omega arith))
+marks_counted place (true ∷ ms) = omega (arith, ones-mask_l_cons true ms, marks_counted (place + 1) ms)
+marks_counted place (false ∷ ms) = omega (arith, ones-mask_l_cons false ms, marks_counted (place + 1) ms)
+
+pub block_count : (at : ℕ) (x : List ℕ) → at + 32 < length x → ones (mask_l (block_marks at x)) + length (break_ends 0 (drop (at + 32) x)) ≡ length (break_ends 0 (drop at x))
+block_count at x inside =
+    let ms = block_marks at x in
+    let rest = drop (at + 32) x in
+    omega (arith, marks_counted 0 ms, same_count 0 (0 + 32) rest, length-append (marked 0 ms) (break_ends (0 + 32) rest), ap length (block_breaks at x inside 0))
+
+-- ---- marks by the bits of a number
+
+halved : (m : Bool) (n : ℕ) → (cond m 1 0 + 2 * n) / 2 ≡ n
+halved true n = omega arith
+halved false n = omega arith
+
+mask_dropped : (k : ℕ) (ms : List Bool) → mask_l ms / 2 ^ k ≡ mask_l (drop k ms)
+mask_dropped zero ms = ap (λ n. mask_l ms / n) (pow-zero 2) ∙ div-one (mask_l ms)
+mask_dropped (suc k) [] = zero-div (2 ^ suc k)
+mask_dropped (suc k) (m ∷ ms) =
+    ap (λ n. mask_l (m ∷ ms) / n) (pow-suc 2 k ∙ mul_comm (2 ^ k) 2) ∙ sym (div-div-eq-div-mul (mask_l (m ∷ ms)) 2 (2 ^ k))
+    ∙ ap (λ n. n / 2 ^ k) (halved m (mask_l ms)) ∙ mask_dropped k ms
+
+some_marked : (ms : List Bool) → 0 < mask_l ms → prefix_len not ms < length ms
+some_marked [] h = absurd (omega arith)
+some_marked (true ∷ ms) h = omega arith
+some_marked (false ∷ ms) h = omega (arith, some_marked ms (omega arith))
+
+pub none_marked : (place : ℕ) (ms : List Bool) → mask_l ms ≡ 0 → marked place ms ≡ []
+none_marked place [] h = refl
+none_marked place (true ∷ ms) h = absurd (omega (arith, h))
+none_marked place (false ∷ ms) h = none_marked (place + 1) ms (omega (arith, h))
+
+marked_first : (place n : ℕ) (ms : List Bool) → prefix_len not ms ≡ n → n < length ms → marked place ms ≡ (place + suc n) ∷ marked (place + suc n) (drop (suc n) ms)
+marked_first place n [] e h = absurd (omega arith)
+marked_first place zero (true ∷ ms) e h = refl
+marked_first place (suc n) (true ∷ ms) e h = absurd (omega (arith, e))
+marked_first place zero (false ∷ ms) e h = absurd (omega (arith, e))
+marked_first place (suc n) (false ∷ ms) e h = marked_first (place + 1) n ms (omega (arith, e)) (omega arith) ∙ ap (λ k. k ∷ marked k (drop (suc n) ms)) (omega arith)
+
+-- the lowest bit that is set, and the bits above it
+first_mark : (place steps : ℕ) (ms : List Bool) → length ms ≤ 64 → 0 < mask_l ms → steps ≡ count_trailing_zeros 64 (mask_l ms) + 1
+    → (steps ≤ length ms) × (marked place ms ≡ (place + steps) ∷ marked (place + steps) (drop steps ms))
+first_mark place steps ms few some is =
+    let unmarked = prefix_len not ms in
+    let lowest : count_trailing_zeros 64 (mask_l ms) ≡ unmarked =
+    subst (λ l. 0 < mask_l l → count_trailing_zeros 64 (mask_l l) ≡ unmarked) (map-id ms) (trailing_mask_l (λ m. m) 64 ms few) some in
+    let here = some_marked ms some in
+    let found : suc unmarked ≡ steps = omega (arith, is, lowest) in
+    (omega (arith, found, here), subst (λ n. marked place ms ≡ (place + n) ∷ marked (place + n) (drop n ms)) found (marked_first place unmarked ms refl here))
+
+-- ... in a block, of which the units before a place were seen
+pub next_mark : (start place left steps : ℕ) (ms : List Bool) → length ms ≡ 32 → start ≤ place → left ≡ mask_l (drop (place - start) ms) → (left ≡ 0 → ⊥)
+    → steps ≡ count_trailing_zeros 64 left + 1
+    → (place + steps ≤ start + 32) × (left / 2 ^ (count_trailing_zeros 64 left + 1) ≡ mask_l (drop (place + steps - start) ms))
+    × (marked place (drop (place - start) ms) ≡ (place + steps) ∷ marked (place + steps) (drop (place + steps - start) ms))
+next_mark start place left steps ms many after bits some is =
+    let rest = drop (place - start) ms in
+    let few = length-drop (place - start) ms in
+    let on : drop steps rest ≡ drop (place + steps - start) ms = drop-drop steps (place - start) ms ∙ ap (λ n. drop n ms) (omega arith) in
+    let first = first_mark place steps rest (omega (arith, few, many)) (omega (arith, bits, some)) (is ∙ ap (λ n. count_trailing_zeros 64 n + 1) bits) in (
+      omega (arith, first.0, few, many),
+      ap₂ (λ l n. l / 2 ^ n) bits (sym is) ∙ mask_dropped steps rest ∙ ap mask_l on,
+      first.1 ∙ ap (λ l. (place + steps) ∷ marked (place + steps) l) on,
+    )

@@ -1,7 +1,7 @@
 -- Where the lines of a text start, and how many breaks it has. Lines are cut as the text buffer of VS Code cuts them.
-use Rattle.std.specs.Prelude.{ℕ, ◌+◌, ◌-◌, ◌==◌, ◌||◌, Bool, List, length, map, drop}
+use Rattle.std.specs.Prelude.{ℕ, ◌+◌, ◌-◌, List, length, map, drop}
 use Rattle.std.specs.List.{range_with_len}
-use Rattle.text_rules.specs.Lines.{lines_of, line_start, line_feed, carriage_return}
+use Rattle.text_rules.specs.Lines.{lines_of, line_start}
 
 -- the start of each line, from line 1 on
 abbrev pub starts_of : List ℕ → List ℕ
@@ -14,7 +14,3 @@ break_count x = length (lines_of x) - 1
 -- the place after each break, for a text that stands at a place in a longer one
 abbrev pub break_ends_at : ℕ → List ℕ → List ℕ
 break_ends_at place x = map (λ start. place + start) (drop 1 (starts_of x))
-
--- a unit of which breaks are made
-abbrev pub is_break_unit : ℕ → Bool
-is_break_unit u = u == carriage_return || u == line_feed

@@ -3,13 +3,13 @@
 
 mod lanes;
 
-ghost use Rattle.std.specs.Prelude.{◌≡◌, ℕ, ◌+◌, ◌<◌, ◌≤◌, ◌^◌, ◌++◌, ◌∷◌, true, false, List, length, drop, get_or, OnOk, OnErr, IsOk, vec_len, vec_capacity, take};
-ghost use Rattle.line_starts.specs.Starts.{starts_of, break_count, break_ends_at, is_break_unit};
+ghost use Rattle.std.specs.Prelude.{◌≡◌, ℕ, ◌+◌, ◌*◌, ◌<◌, ◌≤◌, ◌^◌, ◌++◌, true, false, List, length, drop, get_or, OnOk, OnErr, IsOk, vec_len, vec_capacity, take};
+ghost use Rattle.line_starts.specs.Starts.{starts_of, break_count, break_ends_at};
 ghost use Rattle.text_lengths.specs.Length.{length_plus};
 ghost use Rattle.text_rules.specs.Breaks.{break_ends, ends_break, joins_pair};
 ghost use Rattle.text_rules.specs.Lines.{text_length};
 
-use crate::lanes::{LANES, breaks_in_block, find_break};
+use crate::lanes::{LANES, breaks_in_block, breaks_in_blocks, ends_in_block};
 use std::alloc::AllocError;
 use text_lengths::Length;
 use unit_text::{CARRIAGE_RETURN, LINE_FEED};
@@ -55,11 +55,52 @@ fn push_break_ends(units: &[u16], start: u64, out: &mut Vec<u64>) -> Result<(), 
     ensures with_room { vec_len out.old + break_count units.now ≤ vec_capacity out.old → IsOk result }
     ensures capacity { vec_capacity out.old ≤ vec_capacity out.new }
 {
-    let mut from = find_break(units, 0);
-    while from < units.len() {
-        let end = break_end(units, from);
-        out.push(start + end as u64)?;
-        from = find_break(units, end);
+    let mut at = 0;
+    while at + LANES < units.len() {
+        push_block(units, at, start + at as u64, out)?;
+        at += LANES;
+    }
+    push_rest(units, at, start, out)
+}
+
+// Appends the place after each break that ends with one of `LANES` units, the first of which has the place `start`.
+fn push_block(units: &[u16], at: usize, start: u64, out: &mut Vec<u64>) -> Result<(), AllocError>
+    requires within { at + 32 < length units.now }
+    requires short { start + 32 < 2 ^ 64 }
+    ensures ok { OnOk result (out.new.items ++ break_ends (start + 32) (drop (at + 32) units.now)
+        ≡ out.old.items ++ break_ends start (drop at units.now)) }
+    ensures before { take (vec_len out.old) out.new.items ≡ out.old.items }
+    ensures grown { vec_len out.old ≤ vec_len out.new }
+    ensures with_room { vec_len out.old + length (break_ends start (drop at units.now))
+        ≤ vec_capacity out.old → IsOk result }
+    ensures capacity { vec_capacity out.old ≤ vec_capacity out.new }
+{
+    let mut left = ends_in_block(units, at);
+    let mut place = start;
+    while left != 0 {
+        let steps = left.trailing_zeros() + 1;
+        place += u64::from(steps);
+        out.push(place)?;
+        left >>= steps;
+    }
+    Ok(())
+}
+
+// Appends the place after each break that ends with one of the units from a place on.
+fn push_rest(units: &[u16], from: usize, start: u64, out: &mut Vec<u64>) -> Result<(), AllocError>
+    requires within { from ≤ length units.now }
+    requires short { start + length units.now < 2 ^ 64 }
+    ensures ok { OnOk result (out.new.items
+        ≡ out.old.items ++ break_ends (start + from) (drop from units.now)) }
+    ensures before { take (vec_len out.old) out.new.items ≡ out.old.items }
+    ensures with_room { vec_len out.old + length (break_ends (start + from) (drop from units.now))
+        ≤ vec_capacity out.old → IsOk result }
+    ensures capacity { vec_capacity out.old ≤ vec_capacity out.new }
+{
+    for at in from..units.len() {
+        if is_break_end(units, at) {
+            out.push(start + at as u64 + 1)?;
+        }
     }
     Ok(())
 }
@@ -69,42 +110,61 @@ pub fn count_breaks(units: &[u16]) -> u64
     ensures breaks { result ≡ break_count units.now }
     ensures few { result < 2 ^ 63 }
 {
+    let quarter = apart(units);
     let mut breaks = 0;
     let mut at = 0;
-    while at + LANES < units.len() {
+    while at + LANES < quarter {
+        breaks += breaks_in_blocks(units, at, quarter);
+        at += LANES;
+    }
+    breaks
+        + breaks_between(units, at, quarter)
+        + breaks_between(units, quarter + at, quarter * 2)
+        + breaks_between(units, quarter * 2 + at, quarter * 3)
+        + breaks_between(units, quarter * 3 + at, units.len())
+}
+
+/// From how many units on a text is gone over at four places in turn: memory brings these sooner than one after another.
+const LONG: usize = 65_536;
+
+// How far these places are apart; 0 for a text that is gone over from its beginning.
+fn apart(units: &[u16]) -> usize
+    ensures { result * 4 ≤ length units.now }
+{
+    if units.len() < LONG {
+        0
+    } else {
+        units.len() / 4
+    }
+}
+
+// How many breaks end with the units between two places.
+fn breaks_between(units: &[u16], from: usize, to: usize) -> u64
+    requires { (from ≤ to) × (to ≤ length units.now) }
+    ensures { result + length (break_ends 0 (drop to units.now))
+        ≡ length (break_ends 0 (drop from units.now)) }
+{
+    let mut breaks = 0;
+    let mut at = from;
+    while at + LANES < to {
         breaks += u64::from(breaks_in_block(units, at));
         at += LANES;
     }
-    breaks + breaks_from(units, at)
+    breaks + breaks_one_by_one(units, at, to)
 }
 
-// How many breaks end with the units from a place on.
-fn breaks_from(units: &[u16], from: usize) -> u64
-    requires { from ≤ length units.now }
-    ensures { result ≡ length (break_ends 0 (drop from units.now)) }
+fn breaks_one_by_one(units: &[u16], from: usize, to: usize) -> u64
+    requires { (from ≤ to) × (to ≤ length units.now) }
+    ensures { result + length (break_ends 0 (drop to units.now))
+        ≡ length (break_ends 0 (drop from units.now)) }
 {
     let mut breaks = 0;
-    for at in from..units.len() {
+    for at in from..to {
         if is_break_end(units, at) {
             breaks += 1;
         }
     }
     breaks
-}
-
-// The place after the break that begins at this place.
-fn break_end(units: &[u16], at: usize) -> usize
-    requires here { at < length units.now }
-    requires break_unit { is_break_unit (get_or units.now at 0) ≡ true }
-    ensures within { (at < result) × (result ≤ length units.now) }
-    ensures ends { (place : ℕ) → break_ends (place + at) (drop at units.now)
-        ≡ (place + result) ∷ break_ends (place + result) (drop result units.now) }
-{
-    if is_break_end(units, at) {
-        at + 1
-    } else {
-        at + 2
-    }
 }
 
 /// How long the units are. Cut in two anywhere but inside a CR LF, they are as long as the two parts together.

@@ -6,7 +6,6 @@ ghost use Rattle.std.specs.Option.{option_copied};
 ghost use Rattle.text_buffer.specs.Costs.{WithinLookUps};
 ghost use Rattle.unit_text.specs.Units.{IsPaired};
 ghost use Rattle.decoration_rules.specs.Moves.{IsSpanIn};
-ghost use Rattle.text_rules.specs.Edits.{is_bad_span};
 ghost use Rattle.document_rules.specs.Outcomes.{Changes, ChangesWith, Moves, Appends, Gives};
 ghost use Rattle.bracket_rules.specs.Table.{standard_table};
 ghost use Rattle.document_rules.specs.Brackets.{flat_brackets, flat_match, flat_level, IsSmall};
@@ -45,7 +44,7 @@ use steps::Steps;
 use stops::stops;
 use text_buffer::TextBuffer;
 use text_lengths::{Position, Span, raised};
-use text_rules::Op;
+use text_rules::{Op, is_bad_span};
 use unit_text::Flat;
 
 /// A document: its text, which version of it that is, what can be undone and redone, and texts of earlier moments.
@@ -632,12 +631,6 @@ impl Model {
     {
         (self.version, self.alternative)
     }
-}
-
-fn is_bad_span(text: &TextBuffer, span: Span) -> bool
-    ensures { result ≡ is_bad_span text.now.units span }
-{
-    span.start > span.end || !(text.is_place(span.start) && text.is_place(span.end))
 }
 
 fn error_of(error: BatchError) -> ModelError

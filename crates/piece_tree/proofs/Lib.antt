@@ -4,3 +4,4 @@ pub mod Looking
 pub mod Places
 pub mod Costs
 pub mod Prolonged
+pub mod Neighbours

@@ -87,6 +87,13 @@ pub record IsFound (entries : List Entry) (found : Found) : Type 0 where
   pub place : entries ≡ earlier ++ record { id = found.id; piece = record { span = found.span; breaks = found.breaks } } ∷ later
   pub before : found.before ≡ sum_of (pieces_of earlier)
 
+-- one looked-up piece stands right before another
+pub record AreNeighbours (entries : List Entry) (first second : Found) : Type 0 where
+  pub left : IsFound entries first
+  pub right : IsFound entries second
+  pub before : second.before
+      ≡ record { units = first.before.units + first.span.units; breaks = first.before.breaks + first.breaks }
+
 -- the looked-up piece has the unit at this offset
 pub record HasUnit (entries : List Entry) (found : Found) (offset : ℕ) : Type 0 where
   pub piece : IsFound entries found

@@ -1,10 +1,10 @@
 //! The tree of pieces, with look-ups by units and by breaks.
 
-ghost use Rattle.std.specs.Prelude.{◌≡◌, ℕ, ◌+◌, ◌-◌, ◌*◌, ◌<◌, ◌≤◌, ◌^◌, ◌++◌, ◌∷◌, List, [], length, map, Option, OnOk, OnErr};
+ghost use Rattle.std.specs.Prelude.{◌≡◌, ℕ, ◌+◌, ◌-◌, ◌*◌, ◌<◌, ◌≤◌, ◌^◌, ◌++◌, ◌∷◌, List, [], length, map, Option, MatchOption, OnOk, OnErr};
 ghost use Rattle.std.specs.List.{All};
 ghost use Rattle.std.specs.Option.{ForSome};
 ghost use Rattle.chunk_buffers.specs.Chunks.{LiesIn};
-ghost use Rattle.piece_tree.specs.Pieces.{pieces_of, unit_count, break_count_of, piece_list, IsPieceOf, spliced, IsFound, IsAmong, StandsAt, Entry, first_of, last_of};
+ghost use Rattle.piece_tree.specs.Pieces.{pieces_of, unit_count, break_count_of, piece_list, IsPieceOf, spliced, IsFound, AreNeighbours, IsAmong, StandsAt, Entry, first_of, last_of};
 ghost use Rattle.piece_tree.specs.Costs.{WithinLookUps};
 
 use crate::edits::{insert_span, take_out};
@@ -148,6 +148,35 @@ impl PieceTree {
     {
         let prev = self.tree.prev(id)?;
         Some((prev, self.tree.get(prev).span))
+    }
+
+    /// The piece after a looked-up one, as a look-up tells it. It makes no search.
+    pub fn next_found(&self, near: &Found) -> Option<Found>
+        requires { IsFound self.now.entries near.now }
+        ensures { (is : IsFound self.now.entries near.now)
+            → MatchOption result (is.later ≡ []) (AreNeighbours self.now.entries near.now) }
+    {
+        let next = self.tree.next(near.id)?;
+        let before = PieceSum {
+            units: near.before.units + near.span.units,
+            breaks: near.before.breaks + near.breaks,
+        };
+        Some(found((next, self.tree.get(next), before)))
+    }
+
+    /// The piece before a looked-up one, as a look-up tells it. It makes no search.
+    pub fn prev_found(&self, near: &Found) -> Option<Found>
+        requires { IsFound self.now.entries near.now }
+        ensures { (is : IsFound self.now.entries near.now)
+            → MatchOption result (is.earlier ≡ []) (λ prev. AreNeighbours self.now.entries prev near.now) }
+    {
+        let prev = self.tree.prev(near.id)?;
+        let piece = self.tree.get(prev);
+        let before = PieceSum {
+            units: near.before.units - piece.span.units,
+            breaks: near.before.breaks - piece.breaks,
+        };
+        Some(found((prev, piece, before)))
     }
 
     /// Puts the span in the place of `deleted` units from the offset on, where the piece that has the unit at the offset was looked

@@ -62,10 +62,20 @@ fn agree(alloc: Global, units: &[u16]) -> Result<bool, AllocError> {
     Ok(starts.as_slice() == plain.as_slice() && count_breaks(units) == breaks)
 }
 
+/// Whether both ways agree on the text of this length whose break begins at `from`.
+pub fn agree_on_one(
+    alloc: Global,
+    kind: Kind,
+    from: usize,
+    len: usize,
+) -> Result<bool, AllocError> {
+    agree(alloc, text(alloc, kind, from, len)?.as_slice())
+}
+
 /// Whether both ways agree on each text of this length.
 pub fn agree_on(alloc: Global, kind: Kind, len: usize) -> Result<bool, AllocError> {
     for from in 0..len {
-        if !agree(alloc, text(alloc, kind, from, len)?.as_slice())? {
+        if !agree_on_one(alloc, kind, from, len)? {
             return Ok(false);
         }
     }

@@ -4,5 +4,5 @@
 mod compare;
 mod plain;
 
-pub use compare::{Kind, TEXTS, agree_on};
+pub use compare::{Kind, TEXTS, agree_on, agree_on_one};
 pub use plain::{count_breaks, find_starts};

@@ -9,11 +9,12 @@ use std::marker::Model;
 /// A node as it lies in memory: each of its links has four bytes. A contract sees it as the node.
 #[derive(Copy)]
 pub struct Packed<D: Copy> {
+    data: D,
     parent: Link,
     left: Link,
     right: Link,
+    /// The last field, so that no padding stands between others and is copied with them.
     red: bool,
-    data: D,
 }
 
 impl<D: Copy> Model for Packed<D> {
@@ -44,11 +45,11 @@ impl<D: Copy> Packed<D> {
         ensures { result ≡ slot.now }
     {
         Packed {
+            data: slot.data,
             parent: Link::of(slot.parent),
             left: Link::of(slot.left),
             right: Link::of(slot.right),
             red: slot.red,
-            data: slot.data,
         }
     }
 

@@ -172,6 +172,14 @@ module _ (b : List (List ℕ)) (entries : List Entry) (found : Found) (is : IsFo
         (sym (take_at (pieces_of is.earlier) (own ∷ pieces_of is.later) (length (pieces_of is.earlier)) refl))
         (All-take P (length (pieces_of is.earlier)) (pieces_of is.earlier ++ own ∷ pieces_of is.later) (subst (All P) pieces_are full))
 
+    pub found_full : 0 < found.span.units
+    found_full =
+        let P : Piece → Type 0 = λ p. 0 < p.span.units in
+        All-head P own (pieces_of is.later)
+        (All-same P (own ∷ pieces_of is.later) (drop (length (pieces_of is.earlier)) (pieces_of is.earlier ++ own ∷ pieces_of is.later))
+        (sym (drop_at (pieces_of is.earlier) (own ∷ pieces_of is.later) (length (pieces_of is.earlier)) refl))
+        (All-drop P (length (pieces_of is.earlier)) (pieces_of is.earlier ++ own ∷ pieces_of is.later) (subst (All P) pieces_are full)))
+
     pub parts : (joins_pair earlier_text (own_text ++ later_text) ≡ false) × (IsUnsplit b (pieces_of is.earlier) × IsUnsplit b (own ∷ pieces_of is.later))
     parts = unsplit-parts b (pieces_of is.earlier) (own ∷ pieces_of is.later) all_earlier full_earlier (subst (IsUnsplit b) pieces_are unsplit)
 

@@ -1,6 +1,6 @@
 //! Look-ups of pieces, and what they say of the text.
 
-ghost use Rattle.std.specs.Prelude.{◌≡◌, ℕ, ◌+◌, ◌-◌, ◌<◌, ◌≤◌, ◌^◌, List, length, slice_index, IfSome};
+ghost use Rattle.std.specs.Prelude.{◌≡◌, ℕ, ◌+◌, ◌-◌, ◌<◌, ◌≤◌, ◌^◌, ◌&&◌, nat_le, nat_lt, List, length, slice_index, IfSome};
 ghost use Rattle.chunk_buffers.specs.Chunks.{units_at, LiesIn};
 ghost use Rattle.piece_tree.specs.Pieces.{pieces_of, unit_count, break_count_of, IsFound, HasUnit};
 ghost use Rattle.piece_tree.specs.Costs.{WithinLookUps};
@@ -34,19 +34,74 @@ fn piece_at_for<L: Ledger>(pieces: &PieceTree, offset: u64, blank: Blank) -> Fou
     pieces.find_offset(offset, &mut steps)
 }
 
-/// The same, with a piece that may have it. No search is made where it does.
+/// The same, near a piece: no search is made where that one has it, or the one after it.
 pub(crate) fn piece_near(pieces: &PieceTree, near: &Option<Found>, offset: u64) -> Found
     requires offset { offset < unit_count (pieces_of pieces.now.entries) }
     requires near { IfSome near.now (IsFound pieces.now.entries) }
     ensures { HasUnit pieces.now.entries result offset }
 {
     if let Some(found) = near
-        && found.before.units <= offset
-        && offset - found.before.units < found.span.units
+        && let Some(beside) = piece_beside(pieces, found, offset)
     {
-        return *found;
+        return beside;
     }
     piece_at(pieces, offset)
+}
+
+// The piece that has the unit, where it is this one or the one after it.
+fn piece_beside(pieces: &PieceTree, near: &Found, offset: u64) -> Option<Found>
+    requires { IsFound pieces.now.entries near.now }
+    ensures { IfSome result (λ found. HasUnit pieces.now.entries found offset) }
+{
+    if has_unit(near, offset) {
+        return Some(*near);
+    }
+    let next = pieces.next_found(near)?;
+    if has_unit(&next, offset) {
+        return Some(next);
+    }
+    None
+}
+
+fn has_unit(found: &Found, offset: u64) -> bool
+    ensures { result ≡ (nat_le found.now.before.units offset
+        && nat_lt offset (found.now.before.units + found.now.span.units)) }
+{
+    found.before.units <= offset && offset - found.before.units < found.span.units
+}
+
+/// Whether the offset, whose unit the piece has, stands inside a pair of surrogates. The unit before it is read without a search.
+pub(crate) fn cuts_pair_beside(
+    pieces: &PieceTree,
+    chunks: &Chunks,
+    found: &Found,
+    offset: u64,
+) -> bool
+    requires text { IsText pieces.now chunks.now }
+    requires unit { HasUnit pieces.now.entries found.now offset }
+    ensures { result ≡ cuts_pair (text_of pieces.now chunks.now).units offset }
+{
+    if offset == 0 {
+        return false;
+    }
+    let before = unit_beside(pieces, chunks, found, offset);
+    cuts_pair(&[before, unit_in(chunks, found, offset)], 1)
+}
+
+// The unit before an offset whose own unit the piece has, from that piece or the one before it.
+fn unit_beside(pieces: &PieceTree, chunks: &Chunks, found: &Found, offset: u64) -> u16
+    requires text { IsText pieces.now chunks.now }
+    requires some { 0 < offset }
+    requires unit { HasUnit pieces.now.entries found.now offset }
+    ensures { result ≡ slice_index (text_of pieces.now chunks.now).units (offset - 1) }
+{
+    if found.before.units < offset {
+        return unit_in(chunks, found, offset - 1);
+    }
+    let Some(prev) = pieces.prev_found(found) else {
+        unreachable!();
+    };
+    unit_in(chunks, &prev, offset - 1)
 }
 
 /// Whether the offset, whose unit the piece has, stands inside a pair of surrogates. The unit before

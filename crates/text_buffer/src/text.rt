@@ -15,7 +15,7 @@ ghost use Rattle.text_buffer.specs.Text.{unit_if, one_if, IsAdded, GrowsAt};
 
 use crate::breaks::ends_with_pair;
 use crate::lines::LineReader;
-use crate::look_up::{break_at, cuts_pair_at, piece_at};
+use crate::look_up::{break_at, cuts_pair_at, cuts_pair_beside, piece_at, piece_near};
 use crate::place::{push_line, start_of_line};
 use crate::spot::{dirty_between, found_before, joins_back, joins_front, one_if, spot_at};
 use crate::walk::push_span;
@@ -384,15 +384,26 @@ impl TextBuffer {
         !cuts_pair_at(&self.pieces, &self.chunks, &found, offset, steps)
     }
 
-    // `is_place`, with look-ups that nobody counts.
-    fn is_place_for<L: Ledger>(&self, offset: u64, blank: Blank) -> bool
-        requires name { blank.name ≡ L.name }
-        requires parts { blank.parts ≡ L.parts }
-        requires some { 0 < L.parts }
-        ensures { result ≡ is_place self.now.units offset }
+    // Whether the offsets are places. The second is looked for where the first was found.
+    fn has_places(&self, start: u64, end: u64) -> bool
+        requires { start ≤ end }
+        ensures { result ≡ (is_place self.now.units start && is_place self.now.units end) }
     {
-        let mut steps = Steps::<L>::new(blank);
-        self.is_place_counted(offset, &mut steps)
+        if start >= self.len() {
+            return end == self.len();
+        }
+        let first = piece_at(&self.pieces, start);
+        if cuts_pair_beside(&self.pieces, &self.chunks, &first, start) {
+            return false;
+        }
+        if end == start {
+            return true;
+        }
+        if end >= self.len() {
+            return end == self.len();
+        }
+        let last = piece_near(&self.pieces, &Some(first), end);
+        !cuts_pair_beside(&self.pieces, &self.chunks, &last, end)
     }
 
     /// Appends the units of the span. An error leaves `out` as it was.
@@ -429,7 +440,11 @@ impl Flat for TextBuffer {
     }
 
     fn is_place(&self, offset: u64) -> bool {
-        self.is_place_for::<Brand>(offset, Blank::new(1))
+        self.has_places(offset, offset)
+    }
+
+    fn are_places(&self, start: u64, end: u64) -> bool {
+        self.has_places(start, end)
     }
 
     fn run(&self, at: u64) -> &[u16] {

@@ -2,8 +2,11 @@
 //! about.
 #![tactic(auto)]
 
+ghost use Rattle.std.specs.Prelude.{◌≡◌};
+ghost use Rattle.text_rules.specs.Edits.{is_bad_span};
+
 use text_lengths::Span;
-use unit_text::Units;
+use unit_text::{Flat, Units};
 
 /// One edit: the text takes the place of the units in the span.
 #[derive(Drop, Debug)]
@@ -12,4 +15,11 @@ pub struct Op {
     pub text: Units,
     /// Whether marks at the edit's place move to its end, whatever their stickiness.
     pub force: bool,
+}
+
+/// Whether the span's start is above its end, or one of the two is no place of the text.
+pub fn is_bad_span<F: Flat>(text: &F, span: Span) -> bool
+    ensures { result ≡ is_bad_span (F.units text.now) span }
+{
+    span.start > span.end || !text.are_places(span.start, span.end)
 }

@@ -1,6 +1,6 @@
 //! A text that is read without a copy.
 
-ghost use Rattle.std.specs.Prelude.{◌≡◌, ◌-◌, ◌<◌, ◌≤◌, ◌++◌, List, ℕ, length, drop, take, OnOk, OnErr};
+ghost use Rattle.std.specs.Prelude.{◌≡◌, ◌-◌, ◌<◌, ◌≤◌, ◌++◌, ◌&&◌, List, ℕ, length, drop, take, OnOk, OnErr};
 ghost use Rattle.unit_text.specs.Units.{is_place};
 
 use crate::units::{Units, cuts_pair};
@@ -17,6 +17,11 @@ pub trait Flat {
     /// Whether the offset is at most the length, and does not stand inside a pair of surrogates.
     fn is_place(&self, offset: u64) -> bool
         ensures { result ≡ is_place (units self.now) offset };
+
+    /// Whether each of two offsets, the first of which is not above the second, is a place.
+    fn are_places(&self, start: u64, end: u64) -> bool
+        requires { start ≤ end }
+        ensures { result ≡ (is_place (units self.now) start && is_place (units self.now) end) };
 
     /// Some of the units that stand from `at` on: at least one of them.
     fn run(&self, at: u64) -> &[u16]
@@ -43,6 +48,10 @@ impl Flat for Units {
     fn is_place(&self, offset: u64) -> bool {
         let units = self.as_slice();
         offset <= units.len() as u64 && !cuts_pair(units, offset)
+    }
+
+    fn are_places(&self, start: u64, end: u64) -> bool {
+        self.is_place(start) && self.is_place(end)
     }
 
     fn run(&self, at: u64) -> &[u16] {

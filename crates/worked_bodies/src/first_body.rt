@@ -1,7 +1,4 @@
 //! The document's first body: one list of units that each edit copies, and that each question about brackets parses whole.
-ghost use Rattle.std.specs.Prelude.{◌≡◌};
-ghost use Rattle.text_rules.specs.Edits.{is_bad_span};
-
 use crate::bracket_replies::{push_brackets, push_level, push_partner};
 use crate::flat_lines::{line_content, line_count, line_starts};
 use crate::whole_parse::whole_parse;
@@ -14,6 +11,7 @@ use script_lines::{
 use std::alloc::{AllocError, Global};
 use std::mem::replace;
 use text_lengths::{Position, Span};
+use text_rules::is_bad_span;
 use unit_text::{Flat, Units};
 
 /// A document whose text is one list. It keeps one step of undo.
@@ -241,12 +239,6 @@ impl OneList {
         self.was_refused = true;
         out.extend_from_slice(refusal(reason).as_slice())
     }
-}
-
-fn is_bad_span(text: &Units, span: Span) -> bool
-    ensures { result ≡ is_bad_span text.now span }
-{
-    span.start > span.end || !(text.is_place(span.start) && text.is_place(span.end))
 }
 
 /// The text with the new one in the place of the span.

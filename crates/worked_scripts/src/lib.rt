@@ -8,6 +8,8 @@ mod playing;
 #[cfg(test)]
 mod prepared;
 #[cfg(test)]
+mod told;
+#[cfg(test)]
 mod transcripts;
 #[cfg(test)]
 mod usage;

@@ -1,8 +1,8 @@
 use Rattle.std.proofs.Common.{◌+◌, ◌<◌, length, drop, ap, sym, ◌∙◌, arith}
 use Rattle.line_starts.proofs.Blocks.{same_count}
 use Rattle.line_starts.proofs.Starts.{break_ends_at_end, break_ends_at_other}
-use Rattle.line_starts.proofs.breaks_from.Goals as goal
-use Rattle.line_starts.proofs.breaks_from.Goals.{then-is_break_end, else-is_break_end}
+use Rattle.line_starts.proofs.breaks_one_by_one.Goals as goal
+use Rattle.line_starts.proofs.breaks_one_by_one.Goals.{then-is_break_end, else-is_break_end}
 
 pub loop-at-preserved : goal.loop-at-preserved
 loop-at-preserved c =

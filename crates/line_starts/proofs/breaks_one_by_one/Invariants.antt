@@ -1,6 +1,6 @@
 use Rattle.std.proofs.Common.{◌≡◌, ◌+◌, ◌≤◌, length, drop}
 use Rattle.text_rules.specs.Breaks.{break_ends}
-use Rattle.line_starts.proofs.breaks_from.Given as goal
+use Rattle.line_starts.proofs.breaks_one_by_one.Given as goal
 
 abbrev pub invariant-loop-at : goal.invariant-loop-at
 invariant-loop-at l = record {

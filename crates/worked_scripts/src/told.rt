@@ -1,0 +1,30 @@
+//! What is told of a run that goes another way than the test says.
+
+use script_checks::{ALL_READ, ALL_WRITTEN, difference};
+use std::test::Fail;
+
+/// What a run is said to write and to end with, and whether it goes another way.
+const SAID: &[(&[u8], u8, bool)] = &[
+    (b"! syntax\n", 1, false),
+    (b"! syntax\n", 0, true),
+    (b"! range\n", 1, true),
+    (b"! syntax\nok\n", 1, true),
+];
+
+#[test]
+fn a_run_that_goes_another_way_is_told(rt: HostRuntime) -> Result<(), Fail> {
+    for (written, status, is_told) in SAID {
+        let script = b"{\n".as_slice();
+        let found = difference(
+            rt.alloc(),
+            "one line",
+            script,
+            ALL_READ,
+            ALL_WRITTEN,
+            written,
+            *status,
+        )?;
+        assert_eq!(rt; found.is_some(), *is_told, "{status}: {found:?}");
+    }
+    Ok(())
+}
