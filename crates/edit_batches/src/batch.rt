@@ -33,18 +33,19 @@ impl Model for Batch {
 
 impl Batch {
     /// A batch of these edits of the text, in their order. `Range` where a span is none of the text; else `Overlap` where two of them
-    /// overlap; else `Limit` where the new text would be too long. The memory that it takes is taken after `Range`.
-    pub fn checked<F: Flat>(alloc: Global, ops: &[Op], text: &F) -> Result<Batch, BatchError>
-        ensures rule { Checks result (checked_batch (F.units text.now) ops.now) }
+    /// overlap; else `Limit` where the new text would be too long. They are sorted where they lie; what memory the sort takes is taken
+    /// after `Range`.
+    pub fn checked<F: Flat>(ops: Vec<Op>, text: &F) -> Result<Batch, BatchError>
+        ensures rule { Checks result (checked_batch (F.units text.now) ops.items) }
         ensures standing { IfOk result (λ b. StandFrom 0 (F.units text.now) b) }
         ensures fits { IfOk result
             (λ b. length (applied_from 0 (F.units text.now) b) ≤ most_units) }
         ensures texts { IfOk result (λ b. text_units b ≤ most_units) }
     {
-        if has_bad_span(ops, text) {
+        if has_bad_span(&ops, text) {
             return Err(BatchError::Range);
         }
-        let ops = sorted_ops(alloc, ops).map_err(|_| BatchError::Memory)?;
+        let ops = sorted_ops(ops).map_err(|_| BatchError::Memory)?;
         if overlap(&ops) {
             return Err(BatchError::Overlap);
         }

@@ -7,8 +7,8 @@ ghost use Rattle.interval_deltas.specs.Weave.{marks, mark_turn};
 ghost use Rattle.interval_deltas.specs.Kept.{AreMarks, marks_of, IsPlace, mark_at, PartedAt, FirstReaching, ShowsFirst};
 
 use crate::weave::{KeptMark, Marks, Place, Sought, placed};
-use raw_arena::NodeId;
 use rb_arena::RbTree;
+use slot_arena::NodeId;
 use std::marker::Brand;
 use std::sync::ledger::{Blank, Ledger};
 use steps::Steps;

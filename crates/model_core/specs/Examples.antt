@@ -97,7 +97,7 @@ two_edits = record { edits = 2; units = 5; breaks = 1; changes = 1 }
 
 -- room for them, with so many breaks
 abbrev room_with : ℕ → Room
-room_with breaks = record { edits = 2; marks = 2; units = 11; breaks = breaks; changes = 1 }
+room_with breaks = record { edits = 2; marks = 2; units = 135; breaks = breaks; changes = 1 }
 
 five_breaks_are_enough : IsEnough (room_with 5) two_edits
 five_breaks_are_enough = record { edits = omega arith; marks = omega arith; units = omega arith; breaks = omega arith; changes = omega arith }
@@ -114,7 +114,7 @@ six_letters = record {
   marks = New ∷ [];
   fresh = false;
   pieces = 1;
-  room = record { edits = 1; marks = 1; units = 4; breaks = 2; changes = 1 };
+  room = record { edits = 1; marks = 1; units = 66; breaks = 2; changes = 1 };
 }
 
 -- `x` in the place of `cd`, and what takes it back

@@ -13,7 +13,8 @@ use Rattle.model_core.specs.declared.change.Way.{Way}
 use Rattle.model_core.specs.declared.change.Way.TheVariants.{Back, On}
 use Rattle.model_core.specs.declared.ready.Action.{Action}
 use Rattle.model_core.specs.declared.ready.Action.TheVariants.{Edit, Move}
-use Rattle.model_core.specs.State.{units_beside_text, breaks_beside_text, Room, ModelState, KeptBy, GrownBy}
+use Rattle.model_core.specs.State.{Room, ModelState, KeptBy, GrownBy}
+use Rattle.text_buffer.specs.Text.{units_beside_text, breaks_beside_text}
 use Rattle.model_core.specs.LineMarks.{marked_backwards}
 use Rattle.model_core.specs.History.{text_breaks}
 use Rattle.model_core.specs.Ways.{next_steps, flat_move, marked_step}

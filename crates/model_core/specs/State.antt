@@ -12,14 +12,6 @@ use Rattle.document_rules.specs.declared.ModelError.{ModelError}
 use Rattle.document_rules.specs.Document.{FlatState}
 use Rattle.document_rules.specs.Brackets.{line_contents}
 
--- an edit may append the CR before its text and the LF behind it, so that no piece ends inside a pair, and one unit of padding
-abbrev pub units_beside_text : ℕ
-units_beside_text = 3
-
--- the CR and the LF are a break each at most, and the padding is none
-abbrev pub breaks_beside_text : ℕ
-breaks_beside_text = 2
-
 -- the room that was made for changes
 pub record Room : Type 0 where
   -- for how many edits of the text, and for how many of the marks of its lines
@@ -90,9 +82,9 @@ abbrev pub LeftAfter : {X : Type 0} → Result ⊤ ModelError → X → X → X 
 LeftAfter (Ok x) accepted old new = new ≡ accepted
 LeftAfter (Err e) accepted old new = new ≡ old
 
--- so many ops add six pieces each at most
+-- so many ops add two pieces each at most
 abbrev pub GrownBy : ℕ → ℕ → ℕ → Type 0
-GrownBy ops old new = new ≤ old + 6 * ops
+GrownBy ops old new = new ≤ old + 2 * ops
 
 -- In how many pieces the text lies after a call of so many ops: what changes nothing leaves them.
 abbrev pub GrownAfter : ℕ → Result ⊤ ModelError → ℕ → ℕ → Type 0

@@ -11,7 +11,8 @@ use Rattle.document_rules.specs.Document.{FlatChange, FlatState, flat_undo, flat
 use Rattle.model_core.specs.declared.change.Change.{Change}
 use Rattle.model_core.specs.declared.change.Way.{Way}
 use Rattle.model_core.specs.declared.change.Way.TheVariants.{Back, On}
-use Rattle.model_core.specs.State.{units_beside_text, breaks_beside_text, GrownBy}
+use Rattle.model_core.specs.State.{GrownBy}
+use Rattle.text_buffer.specs.Text.{units_beside_text, breaks_beside_text}
 use Rattle.model_core.specs.Staying.{ParseState}
 use Rattle.model_core.specs.History.{text_back, text_on, changes_back, changes_on, LeadBack, LeadOn, op_count, unit_count, breaks_along}
 use Rattle.model_core.specs.Carrying.{decorations_back, decorations_on, AreIn}

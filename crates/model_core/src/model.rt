@@ -165,23 +165,23 @@ impl Model {
     }
 
     /// Carries out the edits at once, which makes the next version. `Range` where a span is none of the text; else
-    /// `Overlap` where two spans overlap; else `Limit` where the new text or the version would pass its limit. All
-    /// memory is taken before the first change. The tree of the last parse stays, and each line that an edit touches is
-    /// marked as new.
-    pub fn edit(&mut self, ops: &[Op]) -> Result<(), ModelError>
+    /// `Overlap` where two spans overlap; else `Limit` where the new text or the version would pass its limit. The edits
+    /// are kept with the texts that they came with; all other memory is taken before the first change. The tree of the
+    /// last parse stays, and each line that an edit touches is marked as new.
+    pub fn edit(&mut self, ops: Vec<Op>) -> Result<(), ModelError>
         ensures document { Changes result self.old.document self.new.document
-            (flat_edit self.old.document ops.now) }
-        ensures paired { IsPaired self.old.document.units → All (λ op. IsPaired op.text) ops.now
+            (flat_edit self.old.document ops.items) }
+        ensures paired { IsPaired self.old.document.units → All (λ op. IsPaired op.text) ops.items
             → IsPaired self.new.document.units }
-        ensures paired_state { All (λ op. IsPaired op.text) ops.now
+        ensures paired_state { All (λ op. IsPaired op.text) ops.items
             → IsPairedState self.old.document → IsPairedState self.new.document }
         ensures parsed { self.new.parsed ≡ self.old.parsed }
         ensures tree { self.new.tree ≡ self.old.tree }
         ensures marks { LeftAfter result
-            (marked_backwards self.old.document.units (sorted_ops ops.now) self.old.marks)
+            (marked_backwards self.old.document.units (sorted_ops ops.items) self.old.marks)
             self.old.marks self.new.marks }
-        ensures fresh { KeptAfter (length ops.now) result self.old.fresh self.new.fresh }
-        ensures pieces { GrownAfter (length ops.now) result self.old.pieces self.new.pieces }
+        ensures fresh { KeptAfter (length ops.items) result self.old.fresh self.new.fresh }
+        ensures pieces { GrownAfter (length ops.items) result self.old.pieces self.new.pieces }
     {
         let ready = self.prepare(ops)?;
         self.commit(ready);
@@ -189,12 +189,12 @@ impl Model {
     }
 
     /// Prepares to carry out the edits, with the refusals of `edit`, and makes room for it. The document stays as it is.
-    pub fn prepare(&mut self, ops: &[Op]) -> Result<Ready, ModelError>
+    pub fn prepare(&mut self, ops: Vec<Op>) -> Result<Ready, ModelError>
         ensures document { self.new.document ≡ self.old.document }
         ensures parse { KeepsParse self.old self.new }
-        ensures ready { PreparesEdit ops.now result self.new }
+        ensures ready { PreparesEdit ops.items result self.new }
     {
-        let batch = Batch::checked(self.alloc, ops, &self.text).map_err(error_of)?;
+        let batch = Batch::checked(ops, &self.text).map_err(error_of)?;
         let next = raised(self.version, 1).ok_or(ModelError::Limit)?;
         let inverse = batch
             .inverse(self.alloc, &self.text)

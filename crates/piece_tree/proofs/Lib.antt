@@ -5,3 +5,4 @@ pub mod Places
 pub mod Costs
 pub mod Prolonged
 pub mod Neighbours
+pub mod Overwritten

@@ -60,6 +60,7 @@ module _ (entries : List Entry) (near : Found) (is : IsFound entries near) where
       place = is.place ∙ ap (λ l. is.earlier ++ own ∷ l) after ∙ sym (append_assoc is.earlier (own ∷ []) (e ∷ ws));
       before = ap (λ (s : PieceSum). record { units = s.units + near.span.units; breaks = s.breaks + near.breaks }) is.before ∙ sym (sum_push is.earlier own);
     };
+    beside = refl;
     before = refl;
   }
 
@@ -90,6 +91,7 @@ module _ (entries : List Entry) (near : Found) (is : IsFound entries near) where
           before = λ i. record { units = units_are i; breaks = breaks_are i };
         };
         right = is;
+        beside = before;
         before = λ i. record { units = all_units i; breaks = all_breaks i };
       }
 

@@ -1,5 +1,5 @@
 -- Pieces that a span is put behind.
-use Rattle.std.proofs.Common.{◌≡◌, ℕ, ◌+◌, ◌-◌, ◌<◌, ◌≤◌, ◌==◌, Bool, true, false, Option, Some, None, List, [], ◌∷◌, ◌++◌, length, take, drop, refl, ap, sym, subst, ◌∙◌, append_assoc, arith}
+use Rattle.std.proofs.Common.{◌≡◌, ℕ, ◌+◌, ◌-◌, ◌≤◌, ◌==◌, Bool, true, false, Option, Some, None, List, [], ◌∷◌, ◌++◌, length, take, drop, refl, ap, sym, subst, ◌∙◌, append_assoc, arith}
 use Rattle.std.specs.List.{All}
 use Rattle.std.specs.Option.{ForSome}
 use Rattle.std.proofs.Math.Seq.{take-add}
@@ -11,7 +11,7 @@ use Rattle.chunk_buffers.specs.declared.span.ChunkSpan.{ChunkSpan}
 use Rattle.chunk_buffers.specs.Chunks.{units_at, buffer_at, LiesIn}
 use Rattle.rb_arena.specs.Value.{SplitsAt}
 use Rattle.piece_tree.specs.declared.piece.Piece.{Piece}
-use Rattle.piece_tree.specs.Pieces.{unit_count, piece_of, piece_list, IsPieceOf, goes_on, prolonged, followed, followed_by, front, back, spliced}
+use Rattle.piece_tree.specs.Pieces.{unit_count, piece_of, piece_list, IsPieceOf, goes_on, goes_on_from, prolonged, followed, followed_by, front, back, spliced}
 use Rattle.piece_tree.specs.Inside.{in_order, Parted}
 use Rattle.piece_tree.proofs.Sums.{units-cons, in_order-append}
 use Rattle.piece_tree.proofs.Cuts.{units-front, units-back, pieces-front, pieces-back}
@@ -52,6 +52,12 @@ module _ (b : List (List ℕ)) where
   followed-last [] p span = refl
   followed-last (q ∷ []) p span = refl
   followed-last (q ∷ r ∷ ps) p span = ap (λ qs. q ∷ qs) (followed-last (r ∷ ps) p span)
+
+  -- a span that does not go on from the last piece is a piece of its own
+  pub followed_new : (ps : List Piece) (span : ChunkSpan) → goes_on_from ps span ≡ false → followed b ps span ≡ ps ++ piece_of b span ∷ []
+  followed_new [] span apart = refl
+  followed_new (p ∷ []) span apart = followed_apart p span apart
+  followed_new (p ∷ q ∷ ps) span apart = ap (λ qs. p ∷ qs) (followed_new (q ∷ ps) span apart)
 
   ends_one : (p : Piece) (span : ChunkSpan) (goes : Bool) → goes_on p.span span ≡ goes
       → (us : List Piece) × ((g : Piece) × (followed b (p ∷ []) span ≡ us ++ g ∷ []) × (g.span.buffer ≡ span.buffer) × (g.span.start + g.span.units ≡ span.start + span.units))

@@ -74,6 +74,13 @@ pub small_set : (items us : List (ℕ × Piece)) (id : ℕ) (x : Piece) (vs : Li
     → q.span.units ≤ x.span.units + more → units_in items + more < 2 ^ 62 → is_small (woven.sum_of adding (us ++ (id, q) ∷ vs))
 small_set items us id x vs q more e size small = small_of (us ++ (id, q) ∷ vs) (omega (arith, units-split us id q vs, units-split us id x vs, ap units_in e, size, small))
 
+-- the sums stay small where a piece gives way to one that fits among the others, wherever it stands
+pub small_among : (items us ws : List (ℕ × Piece)) (id : ℕ) (x y : Piece) (vs zs : List (ℕ × Piece)) (q : Piece) → SplitsAt items id us x vs → SplitsAt items id ws y zs
+    → x ≡ y → units_in us + q.span.units + units_in vs < 2 ^ 62 → is_small (woven.sum_of adding (ws ++ (id, q) ∷ zs))
+small_among items us ws id x y vs zs q e f same fits =
+    let size = ap (λ (p : Piece). p.span.units) same in
+    small_of (ws ++ (id, q) ∷ zs) (omega (arith, units-split ws id q zs, units-split ws id y zs, units-split us id x vs, ap units_in e, ap units_in f, size, fits))
+
 pub small_after : (items us : List (ℕ × Piece)) (id : ℕ) (x : Piece) (vs : List (ℕ × Piece)) (q : Piece) → SplitsAt items id us x vs
     → units_in items + q.span.units < 2 ^ 62 → is_small (woven.sum_of adding (us ++ (id, x) ∷ (0, q) ∷ vs))
 small_after items us id x vs q e small =

@@ -1,5 +1,5 @@
 -- How the list of pieces lies in a tree.
-use Rattle.std.specs.Prelude.{ℕ, ◌≡◌, ◌*◌, ◌<◌, ◌≤◌, ◌^◌, Option, List, map}
+use Rattle.std.specs.Prelude.{ℕ, ◌≡◌, ◌+◌, ◌-◌, ◌*◌, ◌<◌, ◌≤◌, ◌^◌, Option, List, map}
 use Rattle.std.specs.List.{All}
 use Rattle.rb_arena.specs.Value.{SplitsAfter, SplitsAt}
 use Rattle.piece_tree.specs.declared.piece.Piece.{Piece}
@@ -30,3 +30,10 @@ Parted items id front back =
 -- the piece of that name has at least n units
 abbrev pub HasUnits : List (ℕ × Piece) → ℕ → ℕ → Type 0
 HasUnits items id n = (us : List (ℕ × Piece)) × ((x : Piece) × ((vs : List (ℕ × Piece)) × SplitsAt items id us x vs × (n ≤ x.span.units)))
+
+-- the pieces have fewer than 2 ^ 62 units once so many stand in the place of the piece of that name and of those behind it that go
+abbrev pub HasRoomAt : List (ℕ × Piece) → ℕ → ℕ → ℕ → Type 0
+HasRoomAt items id behind units =
+    (us : List (ℕ × Piece))
+    × ((x : Piece)
+    × ((vs : List (ℕ × Piece)) × SplitsAt items id us x vs × (unit_count (in_order us) + units + (unit_count (in_order vs) - behind) < 2 ^ 62)))

@@ -3,3 +3,4 @@ pub mod Searches
 pub mod Adding
 pub mod Inside
 pub mod Costs
+mod Examples

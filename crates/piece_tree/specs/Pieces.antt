@@ -1,5 +1,5 @@
 -- The pieces of a text, as a list that is cut and inserted into.
-use Rattle.std.specs.Prelude.{ℕ, ◌≡◌, ◌+◌, ◌-◌, ◌<◌, ◌≤◌, ◌==◌, ◌&&◌, Bool, Option, Some, None, nat_le, if◌then◌else◌, List, [], ◌∷◌, ◌++◌, map, sum_by}
+use Rattle.std.specs.Prelude.{ℕ, ◌≡◌, ◌+◌, ◌-◌, ◌<◌, ◌≤◌, ◌==◌, ◌&&◌, not, Bool, false, Option, Some, None, nat_le, if◌then◌else◌, List, [], ◌∷◌, ◌++◌, map, sum_by}
 use Rattle.chunk_buffers.specs.declared.span.ChunkSpan.{ChunkSpan}
 use Rattle.chunk_buffers.specs.Chunks.{units_at, LiesIn, part_of}
 use Rattle.line_starts.specs.Starts.{break_count}
@@ -41,6 +41,18 @@ piece_list buffers (Some span) = piece_of buffers span ∷ []
 -- whether the second span starts where the first one ends, in the same buffer
 abbrev pub goes_on : ChunkSpan → ChunkSpan → Bool
 goes_on first second = first.buffer == second.buffer && first.start + first.units == second.start
+
+-- whether the span goes on from the last of the pieces
+abbrev pub goes_on_from : List Piece → ChunkSpan → Bool
+goes_on_from [] span = false
+goes_on_from (p ∷ []) span = goes_on p.span span
+goes_on_from (p ∷ q ∷ ps) span = goes_on_from (q ∷ ps) span
+
+-- whether a looked-up piece gives way whole to a span that comes at the offset: it starts there, all its units go, and the span does
+-- not go on from the pieces before it
+abbrev pub gives_way : Found → ℕ → ℕ → ChunkSpan → List Piece → Bool
+gives_way found offset deleted span earlier =
+    found.before.units == offset && nat_le found.span.units deleted && not (goes_on_from earlier span)
 
 -- the first span with the units of one that goes on from it
 abbrev pub prolonged : ChunkSpan → ChunkSpan → ChunkSpan
@@ -87,10 +99,11 @@ pub record IsFound (entries : List Entry) (found : Found) : Type 0 where
   pub place : entries ≡ earlier ++ record { id = found.id; piece = record { span = found.span; breaks = found.breaks } } ∷ later
   pub before : found.before ≡ sum_of (pieces_of earlier)
 
--- one looked-up piece stands right before another
+-- One looked-up piece stands right before another: before the second stand those that stand before the first, and the first.
 pub record AreNeighbours (entries : List Entry) (first second : Found) : Type 0 where
   pub left : IsFound entries first
   pub right : IsFound entries second
+  pub beside : right.earlier ≡ left.earlier ++ record { id = first.id; piece = record { span = first.span; breaks = first.breaks } } ∷ []
   pub before : second.before
       ≡ record { units = first.before.units + first.span.units; breaks = first.before.breaks + first.breaks }
 

@@ -4,17 +4,108 @@ ghost use Rattle.std.specs.List.{All};
 ghost use Rattle.std.specs.Option.{ForSome};
 ghost use Rattle.chunk_buffers.specs.Chunks.{LiesIn, part_of};
 ghost use Rattle.rb_arena.specs.Value.{first_or, IsItem, PlaceAfter, SplitsAfter, SplitsAt};
-ghost use Rattle.piece_tree.specs.Pieces.{piece_of, piece_list, unit_count, IsPieceOf, goes_on, prolonged, followed, followed_by, front, back, StandsAt};
-ghost use Rattle.piece_tree.specs.Inside.{entries_of, in_order, HasUnits, Parted};
+ghost use Rattle.piece_tree.specs.Pieces.{piece_of, piece_list, unit_count, IsPieceOf, goes_on, goes_on_from, gives_way, prolonged, followed, spliced, front, back, StandsAt};
+ghost use Rattle.piece_tree.specs.Inside.{entries_of, in_order, HasRoomAt, HasUnits, Parted};
 
 use crate::piece::{Found, Piece, PieceId};
 use crate::weave::PieceWeave;
 use chunk_buffers::{ChunkSpan, Chunks};
 use rb_arena::RbTree;
 
+/// Puts a span, if there is one, in the place of units from the offset on, where the piece of the unit at the offset was looked up.
+pub(crate) fn replace_units(
+    tree: &mut RbTree<PieceWeave>,
+    at: &Option<Found>,
+    offset: u64,
+    deleted: u64,
+    span: Option<ChunkSpan>,
+    chunks: &Chunks,
+)
+    requires place { StandsAt (entries_of tree.old.items) at.now offset }
+    requires range { offset + deleted ≤ unit_count (in_order tree.old.items) }
+    requires small { unit_count (in_order tree.old.items) < 2 ^ 62 }
+    requires room { 1 < tree.old.spare }
+    requires inside { ForSome span (LiesIn chunks.now.buffers) }
+    requires pieces { All (IsPieceOf chunks.now.buffers) (in_order tree.old.items) }
+    requires fits { unit_count (in_order tree.old.items)
+        + unit_count (piece_list chunks.now.buffers span) < 2 ^ 62 + deleted }
+    ensures spliced { in_order tree.new.items
+        ≡ spliced chunks.now.buffers offset (offset + deleted) span (in_order tree.old.items) }
+    ensures room { tree.old.spare ≤ tree.new.spare + 2 }
+{
+    let Some(span) = span else {
+        take_out(tree, at, offset, deleted, chunks);
+        return;
+    };
+    if let Some(found) = at
+        && gives_way(tree, found, offset, deleted, span)
+    {
+        overwrite(tree, found.id, deleted - found.span.units, span, chunks);
+        return;
+    }
+    let after = take_out(tree, at, offset, deleted, chunks);
+    insert_span(tree, &after, span, chunks);
+}
+
+/// Whether a looked-up piece gives way whole to a span that comes at the offset, in the place of so many units.
+fn gives_way(
+    tree: &RbTree<PieceWeave>,
+    found: &Found,
+    offset: u64,
+    deleted: u64,
+    span: ChunkSpan,
+) -> bool
+    requires { IsItem tree.now.items found.now.id }
+    ensures { (us : List (ℕ × Piece)) (x : Piece) (vs : List (ℕ × Piece))
+        → SplitsAt tree.now.items found.now.id us x vs
+        → result ≡ gives_way found.now offset deleted span (in_order us) }
+{
+    if found.before.units != offset || deleted < found.span.units {
+        return false;
+    }
+    !goes_on_before(tree, found.id, span)
+}
+
+/// Whether a span goes on from the piece right before that one.
+fn goes_on_before(tree: &RbTree<PieceWeave>, id: PieceId, span: ChunkSpan) -> bool
+    requires { IsItem tree.now.items id }
+    ensures { (us : List (ℕ × Piece)) (x : Piece) (vs : List (ℕ × Piece))
+        → SplitsAt tree.now.items id us x vs → result ≡ goes_on_from (in_order us) span }
+{
+    match tree.prev(id) {
+        Some(before) => goes_on(tree.get(before).span, span),
+        None => false,
+    }
+}
+
+/// Puts a span in the place of a piece and of that many units right behind it. The piece's node keeps its place and its name.
+fn overwrite(
+    tree: &mut RbTree<PieceWeave>,
+    id: PieceId,
+    behind: u64,
+    span: ChunkSpan,
+    chunks: &Chunks,
+)
+    requires small { unit_count (in_order tree.old.items) < 2 ^ 62 }
+    requires inside { LiesIn chunks.now.buffers span }
+    requires pieces { All (IsPieceOf chunks.now.buffers) (in_order tree.old.items) }
+    requires fits { HasRoomAt tree.old.items id behind span.units }
+    ensures items { (us : List (ℕ × Piece)) (x : Piece) (vs : List (ℕ × Piece))
+        → SplitsAt tree.old.items id us x vs
+        → in_order tree.new.items
+        ≡ in_order us ++ piece_of chunks.now.buffers span
+        ∷ back chunks.now.buffers behind (in_order vs) }
+    ensures room { tree.old.spare ≤ tree.new.spare }
+{
+    remove_units(tree, &Some(id), behind, chunks);
+    // By what this piece gives up, the span fits.
+    let _own = tree.get(id);
+    tree.set(id, piece_of(chunks, span));
+}
+
 /// Takes units out from the offset on, where the piece of the unit at the offset was looked up. Answers the name of the last piece
 /// before them.
-pub(crate) fn take_out(
+fn take_out(
     tree: &mut RbTree<PieceWeave>,
     at: &Option<Found>,
     offset: u64,
@@ -98,26 +189,22 @@ fn remove_units(tree: &mut RbTree<PieceWeave>, after: &Option<PieceId>, units: u
     }
 }
 
-/// Puts a span, if there is one, right behind a piece, or at the start.
-pub(crate) fn insert_span(
+/// Puts a span right behind a piece, or at the start.
+fn insert_span(
     tree: &mut RbTree<PieceWeave>,
     after: &Option<PieceId>,
-    span: Option<ChunkSpan>,
+    span: ChunkSpan,
     chunks: &Chunks,
 )
     requires place { PlaceAfter tree.old.items after.now }
     requires room { 0 < tree.old.spare }
-    requires inside { ForSome span (LiesIn chunks.now.buffers) }
+    requires inside { LiesIn chunks.now.buffers span }
     requires pieces { All (IsPieceOf chunks.now.buffers) (in_order tree.old.items) }
-    requires small { unit_count (in_order tree.old.items)
-        + unit_count (piece_list chunks.now.buffers span) < 2 ^ 62 }
+    requires small { unit_count (in_order tree.old.items) + span.units < 2 ^ 62 }
     ensures items { (first second : List Piece) → Parted tree.old.items after.now first second
-        → in_order tree.new.items ≡ followed_by chunks.now.buffers first span ++ second }
+        → in_order tree.new.items ≡ followed chunks.now.buffers first span ++ second }
     ensures room { tree.old.spare ≤ tree.new.spare + 1 }
 {
-    let Some(span) = span else {
-        return;
-    };
     match after {
         Some(id) => put_behind(tree, *id, span, chunks),
         None => {
@@ -149,10 +236,11 @@ fn put_behind(tree: &mut RbTree<PieceWeave>, id: PieceId, span: ChunkSpan, chunk
 
 /// Whether the second span starts where the first one ends, in the same buffer.
 fn goes_on(first: ChunkSpan, second: ChunkSpan) -> bool
-    requires { first.start + first.units < 2 ^ 64 }
     ensures { result ≡ goes_on first second }
 {
-    first.buffer == second.buffer && first.start + first.units == second.start
+    first.buffer == second.buffer
+        && first.start <= second.start
+        && second.start - first.start == first.units
 }
 
 /// The first span with the units of one that goes on from it.

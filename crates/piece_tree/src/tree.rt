@@ -7,7 +7,7 @@ ghost use Rattle.chunk_buffers.specs.Chunks.{LiesIn};
 ghost use Rattle.piece_tree.specs.Pieces.{pieces_of, unit_count, break_count_of, piece_list, IsPieceOf, spliced, IsFound, AreNeighbours, IsAmong, StandsAt, Entry, first_of, last_of};
 ghost use Rattle.piece_tree.specs.Costs.{WithinLookUps};
 
-use crate::edits::{insert_span, take_out};
+use crate::edits::replace_units;
 use crate::piece::{Found, Piece, PieceId, PieceSum};
 use crate::weave::{PieceWeave, Sought};
 use chunk_buffers::{ChunkSpan, Chunks};
@@ -201,8 +201,7 @@ impl PieceTree {
             (pieces_of self.old.entries) }
         ensures spare { self.new.spare + 1 ≡ self.old.spare }
     {
-        let after = take_out(&mut self.tree, &at, offset, deleted, chunks);
-        insert_span(&mut self.tree, &after, span, chunks);
+        replace_units(&mut self.tree, &at, offset, deleted, span, chunks);
         self.spare -= 1;
     }
 

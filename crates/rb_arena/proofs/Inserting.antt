@@ -3,7 +3,7 @@ use Rattle.std.proofs.Common.{◌≡◌, ℕ, ◌+◌, ◌≤◌, true, false, L
 use Rattle.std.specs.Ordering.{nat_cmp}
 use Rattle.std.specs.FinMap as map
 use Rattle.rb_rules.specs.declared.slot.Data.{Data}
-use Rattle.raw_arena.proofs.Names.{get-insert_same}
+use Rattle.slot_arena.proofs.Names.{get-insert_same}
 use Rattle.rb_rules.specs.declared.slot.Side.{Side}
 use Rattle.rb_rules.specs.declared.slot.Side.TheVariants.{Left}
 use Rattle.rb_rules.specs.declared.slot.Slot.{Slot}

@@ -7,8 +7,8 @@ ghost use Rattle.rb_arena.specs.Relative.{CanRenewNode, IsSlackFrom, RenewsFrom}
 
 use crate::links::{Links, node_of, rewrite};
 use crate::sums::{summed, whole};
-use raw_arena::NodeId;
 use rb_rules::{Data, Weave};
+use slot_arena::NodeId;
 
 /// The most nodes on a path, by the balance of the tree.
 pub(crate) const LONGEST: u32 = 128;

@@ -1,7 +1,7 @@
 //! A new item at a place of the tree.
 ghost use Rattle.std.specs.Prelude.{◌≡◌, ◌+◌, ◌-◌, ◌<◌, ◌≤◌, ◌^◌};
 ghost use Rattle.std.specs.FinMap as map;
-ghost use Rattle.raw_arena.specs.Arena.{IsLive};
+ghost use Rattle.slot_arena.specs.Arena.{IsLive};
 ghost use Rattle.rb_rules.specs.Tree.{depth};
 ghost use Rattle.rb_rules.specs.Woven.{shift_at};
 ghost use Rattle.rb_rules.specs.Weaving.{HeldBy};
@@ -13,8 +13,8 @@ use crate::climb::{LONGEST, renew_up};
 use crate::links::{Links, Place, hang, place, read, visit, write};
 use crate::mend::mend;
 use crate::sums::summed;
-use raw_arena::NodeId;
 use rb_rules::{Data, Packed, Side, Slot, Weave};
+use slot_arena::NodeId;
 use std::marker::Brand;
 use std::sync::ledger::{Blank, Ledger};
 use steps::Steps;

@@ -1,7 +1,7 @@
 //! A node leaves the tree.
 ghost use Rattle.std.specs.Prelude.{◌≡◌, ◌+◌};
 ghost use Rattle.std.specs.FinMap as map;
-ghost use Rattle.raw_arena.specs.Arena.{IsLive};
+ghost use Rattle.slot_arena.specs.Arena.{IsLive};
 ghost use Rattle.rb_arena.specs.Leaving.{NoChild, OneChild, IsEmptied};
 ghost use Rattle.rb_arena.specs.Leaving.{StoresItem, StoresItemBeside, StoresBoth};
 ghost use Rattle.rb_arena.specs.Leaving.{StandsWoven, StandsValued, AtWoven, shown};
@@ -14,8 +14,8 @@ use crate::insert::{copy_of, parent_at, path_shift};
 use crate::links::{Links, Place, hang, node_of, place, read, replace, string};
 use crate::sums::turn_node;
 use crate::tree::first_place;
-use raw_arena::NodeId;
 use rb_rules::{Data, Side, Weave};
+use slot_arena::NodeId;
 
 /// What a node leaves where it goes from a tree: an empty place, and whether a red node is missing there.
 struct Vacancy {

@@ -10,8 +10,8 @@ ghost use Rattle.rb_arena.specs.Mending.{case_of, bent, HasChild, red_child_in};
 use crate::climb::LONGEST;
 use crate::links::{Links, node_of, place, read, rewrite};
 use crate::sums::turn_node;
-use raw_arena::{Arena, NodeId};
 use rb_rules::{Data, Packed, Side, Weave};
+use slot_arena::{Arena, NodeId};
 
 /// How a red node stands to the nodes above it.
 #[derive(Clone, Copy)]

@@ -1,7 +1,7 @@
 //! A node's data: its sums, and what a turn makes of them.
 ghost use Rattle.std.specs.Prelude.{◌≡◌, IfSome};
 ghost use Rattle.std.specs.FinMap as map;
-ghost use Rattle.raw_arena.specs.Arena.{IsLive};
+ghost use Rattle.slot_arena.specs.Arena.{IsLive};
 ghost use Rattle.rb_rules.specs.Memory.{Stands};
 ghost use Rattle.rb_arena.specs.Nodes.{Rewritten};
 ghost use Rattle.rb_arena.specs.Relative.{CanSumOver, CanTurnOver, CanTurnNode, Turns};
@@ -10,8 +10,8 @@ ghost use Rattle.rb_rules.specs.Weaving as weaving;
 ghost use Rattle.rb_rules.specs.Woven.{whole_in};
 
 use crate::links::{Links, node_of, read, rewrite, turn};
-use raw_arena::{Arena, NodeId};
 use rb_rules::{Data, Packed, Side, Weave};
+use slot_arena::{Arena, NodeId};
 
 /// The sum that the topmost node of a subtree keeps.
 pub(crate) fn whole<W: Weave>(

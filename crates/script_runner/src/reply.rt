@@ -135,7 +135,7 @@ fn edit_reply(alloc: Global, model: &mut Model, ops: LineOps) -> Outcome
     ensures { Tells model.old.document (Command.Edit ops) result model.new.document }
 {
     let ops = ops_at(alloc, model, ops)?;
-    model.edit(&ops)?;
+    model.edit(ops)?;
     Ok(change_reply(model))
 }
 

@@ -1,5 +1,5 @@
 -- How many breaks an edit appends: those of its text, and two more at most.
-use Rattle.std.proofs.Common.{◌≡◌, ℕ, ◌+◌, ◌≤◌, ◌==◌, ◌&&◌, ◌||◌, Bool, cond, true, false, List, [], ◌∷◌, ◌++◌, length, ap, arith}
+use Rattle.std.proofs.Common.{ℕ, ◌+◌, ◌≤◌, ◌==◌, ◌&&◌, ◌||◌, Bool, cond, true, false, List, [], ◌∷◌, ◌++◌, length, arith}
 use Rattle.text_rules.specs.Lines.{line_feed, carriage_return, begins_with}
 use Rattle.text_rules.specs.Breaks.{ends_break, break_ends}
 use Rattle.text_rules.proofs.Breaks.{break_ends_few}
@@ -31,20 +31,10 @@ ends_most at (u ∷ v ∷ x) y =
 break_count-append : (x y : List ℕ) → break_count (x ++ y) ≤ break_count x + break_count y
 break_count-append x y = omega (arith, break_count_is (x ++ y), break_count_is x, break_count_is y, ends_most 0 x y)
 
-one_break_most : (b : Bool) (unit : ℕ) → break_count (unit_if b unit) ≤ 1
+pub one_break_most : (b : Bool) (unit : ℕ) → break_count (unit_if b unit) ≤ 1
 one_break_most true unit = omega (arith, break_count_is (unit ∷ []), break_ends_few 0 (unit ∷ []))
 one_break_most false unit = omega arith
 
 -- what an edit appends
-pub added_breaks : (cr text lf : List ℕ) (front back : Bool) → cr ≡ unit_if front carriage_return → lf ≡ unit_if back line_feed
-    → break_count (cr ++ text ++ lf) ≤ break_count text + 2
-added_breaks cr text lf front back cr_is lf_is =
-    omega (
-      arith,
-      break_count-append (cr ++ text) lf,
-      break_count-append cr text,
-      ap break_count cr_is,
-      ap break_count lf_is,
-      one_break_most front carriage_return,
-      one_break_most back line_feed,
-    )
+pub added_breaks : (before text after : List ℕ) → break_count before ≤ 1 → break_count after ≤ 1 → break_count (before ++ text ++ after) ≤ break_count text + 2
+added_breaks before text after one two = omega (arith, break_count-append (before ++ text) after, break_count-append before text, one, two)

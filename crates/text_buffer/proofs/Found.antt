@@ -103,10 +103,10 @@ module _ (b : List (List ℕ)) (entries : List Entry) (found : Found) (is : IsFo
   abbrev pub later_text : List ℕ
   later_text = spelled b (pieces_of is.later)
 
-  abbrev own : Piece
+  abbrev pub own : Piece
   own = record { span = found.span; breaks = found.breaks }
 
-  pieces_are : pieces_of entries ≡ pieces_of is.earlier ++ own ∷ pieces_of is.later
+  pub pieces_are : pieces_of entries ≡ pieces_of is.earlier ++ own ∷ pieces_of is.later
   pieces_are = ap pieces_of is.place ∙ map-append (λ (e : Entry). e.piece) is.earlier _
 
   all_parts : All (IsPieceOf b) (pieces_of is.earlier ++ own ∷ pieces_of is.later)
@@ -124,7 +124,7 @@ module _ (b : List (List ℕ)) (entries : List Entry) (found : Found) (is : IsFo
       (sym (drop_at (pieces_of is.earlier) (own ∷ pieces_of is.later) (length (pieces_of is.earlier)) refl))
       (All-drop (IsPieceOf b) (length (pieces_of is.earlier)) (pieces_of is.earlier ++ own ∷ pieces_of is.later) all_parts)
 
-  own_is : IsPieceOf b own
+  pub own_is : IsPieceOf b own
   own_is = All-head (IsPieceOf b) own (pieces_of is.later) all_later
 
   pub found_inside : LiesIn b found.span

@@ -1,5 +1,5 @@
 -- An edit that prolongs a piece adds none.
-use Rattle.std.proofs.Common.{◌≡◌, ℕ, ◌+◌, ◌-◌, ◌<◌, ◌≤◌, ◌==◌, ◌&&◌, Bool, true, false, if◌then◌else◌, Option, Some, None, List, [], ◌∷◌, ◌++◌, length, take, drop, map, refl, ap, sym, subst, ◌∙◌, append_assoc, arith}
+use Rattle.std.proofs.Common.{◌≡◌, ℕ, ◌+◌, ◌-◌, ◌<◌, ◌≤◌, ◌&&◌, true, false, if◌then◌else◌, Option, Some, None, List, [], ◌∷◌, ◌++◌, length, take, drop, map, refl, ap, sym, subst, ◌∙◌, append_assoc, arith}
 use Rattle.std.specs.List.{All, sum_by}
 use Rattle.std.specs.Option.{IfSome}
 use Rattle.std.proofs.lemmas.Bool.{eq-eqb}
@@ -10,17 +10,17 @@ use Rattle.chunk_buffers.specs.declared.span.ChunkSpan.{ChunkSpan}
 use Rattle.chunk_buffers.specs.Buffer.{padding, padded}
 use Rattle.chunk_buffers.specs.Chunks.{buffer_at, units_at, EndsLast}
 use Rattle.piece_tree.specs.declared.piece.Piece.{Piece}
-use Rattle.piece_tree.specs.Pieces.{unit_count, piece_of, IsPieceOf, goes_on, prolonged, followed, followed_by, front, back, spliced}
+use Rattle.piece_tree.specs.declared.piece.Found.{Found}
+use Rattle.piece_tree.specs.Pieces.{Entry, StandsAt, pieces_of, unit_count, piece_of, IsPieceOf, goes_on, prolonged, followed, followed_by, front, back, spliced}
 use Rattle.piece_tree.proofs.Sums.{units-cons, All-parts}
 use Rattle.piece_tree.proofs.Cuts.{front-append, back-append, front_none}
-use Rattle.piece_tree.proofs.Prolonged.{followed_on, followed-last, followed_ends, units-followed}
+use Rattle.piece_tree.proofs.Prolonged.{followed_on, followed-last, followed_ends, units-followed, length-followed_by}
 use Rattle.text_rules.specs.Lines.{line_feed, carriage_return, begins_with}
 use Rattle.text_rules.specs.Breaks.{ends_with, joins_pair}
-use Rattle.text_buffer.specs.Text.{Text, GrowsAt, IsAdded, spelled, unit_if, one_if}
+use Rattle.text_buffer.specs.Text.{Text, GrowsAt, IsAdded, spelled}
 use Rattle.text_buffer.proofs.Spelling.{spelled-append, spelled-front, length-units_at}
 use Rattle.text_buffer.proofs.Borders.{ends_with-append, ends_with-drop, length-back, some_units}
 use Rattle.text_buffer.proofs.Followed.{IsFull}
-use Rattle.text_buffer.proofs.Replacing.{front_border, joins_front}
 
 -- a list of pieces that goes in two at a span
 pub split_spans : (ps : List Piece) (earlier : List ChunkSpan) (span : ChunkSpan) (later : List ChunkSpan) → map (λ p. p.span) ps ≡ earlier ++ span ∷ later
@@ -135,14 +135,65 @@ grows_later t old b fs ks (Some span) w offset added put some spans_are buffers_
     grows_behind t b fs ks span offset spans_are buffers_are (omega (arith, length-units_at b span added.0, ap length added.1.0, count))
     (omega (arith, put.last, put.count)) put.end
 
--- what an edit puts in makes no pair with what comes before it, where a CR before it was taken along
-pub apart_at : (x text : List ℕ) (start end : ℕ) (front_joins back_joins : Bool) (one : ℕ) (cr lf : List ℕ) → start ≤ length x
-    → front_joins ≡ joins_pair (take start x) (text ++ drop end x) → back_joins ≡ joins_pair (take start x ++ text) (drop end x)
-    → one ≡ one_if front_joins → cr ≡ unit_if front_joins carriage_return → lf ≡ unit_if back_joins line_feed
-    → joins_pair (take (start - one) x) (cr ++ text ++ lf) ≡ false
-apart_at x text start end front_joins back_joins one cr lf inside front_is back_is one_is cr_is lf_is =
-    let w : List ℕ = (unit_if front_joins carriage_return ++ text) ++ unit_if back_joins line_feed in
-    let whole_is : cr ++ text ++ lf ≡ w = ap (λ c. c ++ text ++ lf) cr_is ∙ ap (λ l. (unit_if front_joins carriage_return ++ text) ++ l) lf_is in
-    ap (joins_pair (take (start - one) x)) whole_is ∙ ap (λ (n : ℕ). joins_pair (take (start - n) x) w) one_is
-    ∙ joins_front (take (start - one_if front_joins) x) w (drop (end + one_if back_joins) x)
-    (front_border x text start end inside back_joins (sym back_is) front_joins (sym front_is))
+-- a place where a piece ends stands inside none
+pub at_border : (us ks vs ls : List Piece) (p q : Piece) → us ++ p ∷ vs ≡ ks ++ q ∷ ls → unit_count ks < unit_count us + p.span.units
+    → unit_count us + p.span.units < unit_count ks + q.span.units → ⊥
+at_border [] [] vs ls p q e low high = let same : p ≡ q = cc in omega (arith, ap (λ (r : Piece). r.span.units) same)
+at_border [] (k ∷ ks) vs ls p q e low high =
+    let same : p ≡ k = cc in omega (arith, ap (λ (r : Piece). r.span.units) same, units-cons k ks)
+at_border (u ∷ us) [] vs ls p q e low high =
+    let same : u ≡ q = cc in omega (arith, ap (λ (r : Piece). r.span.units) same, units-cons u us)
+at_border (u ∷ us) (k ∷ ks) vs ls p q e low high =
+    let same : u ≡ k = cc in let rest : us ++ p ∷ vs ≡ ks ++ q ∷ ls = cc in let units = ap (λ (r : Piece). r.span.units) same in
+    at_border us ks vs ls p q rest (omega (arith, units, units-cons u us, units-cons k ks)) (omega (arith, units, units-cons u us, units-cons k ks))
+
+-- two pieces of one list that have the same unit are one
+same_piece : (us ks vs ls : List Piece) (p q : Piece) (offset : ℕ) → us ++ p ∷ vs ≡ ks ++ q ∷ ls → unit_count us ≤ offset → offset < unit_count us + p.span.units
+    → unit_count ks ≤ offset → offset < unit_count ks + q.span.units → (unit_count us ≡ unit_count ks) × (p ≡ q)
+same_piece [] [] vs ls p q offset e start end low high = (refl, cc)
+same_piece [] (k ∷ ks) vs ls p q offset e start end low high =
+    let same : p ≡ k = cc in absurd (omega (arith, ap (λ (r : Piece). r.span.units) same, units-cons k ks))
+same_piece (u ∷ us) [] vs ls p q offset e start end low high =
+    let same : u ≡ q = cc in absurd (omega (arith, ap (λ (r : Piece). r.span.units) same, units-cons u us))
+same_piece (u ∷ us) (k ∷ ks) vs ls p q offset e start end low high =
+    let same : u ≡ k = cc in let rest : us ++ p ∷ vs ≡ ks ++ q ∷ ls = cc in let units = ap (λ (r : Piece). r.span.units) same in
+    let one = units-cons u us in let two = units-cons k ks in
+    let (count, is) = same_piece us ks vs ls p q (offset - u.span.units) rest (omega (arith, one)) (omega (arith, one)) (omega (arith, two, units)) (omega (arith, two, units)) in
+    (omega (arith, one, two, units, count), is)
+
+-- the piece that was looked up for a unit of another is that one
+pub found_there : (entries : List Entry) (us : List Piece) (p : Piece) (vs : List Piece) (at : Option Found) (offset : ℕ) → pieces_of entries ≡ us ++ p ∷ vs → StandsAt entries at offset
+    → unit_count us ≤ offset → offset < unit_count us + p.span.units → (found : Found) × (at ≡ Some found) × (found.before.units ≡ unit_count us) × (found.span ≡ p.span)
+found_there entries us p vs None offset is here start end =
+    absurd (omega (arith, here, ap unit_count is, sum_by-append (λ (q : Piece). q.span.units) us (p ∷ vs), units-cons p vs))
+found_there entries us p vs (Some found) offset is here start end =
+    let before = ap (λ s. s.units) here.piece.before in
+    let own : Piece = record { span = found.span; breaks = found.breaks } in
+    let whole : us ++ p ∷ vs ≡ pieces_of here.piece.earlier ++ own ∷ pieces_of here.piece.later =
+    sym is ∙ ap pieces_of here.piece.place ∙ map-append (λ (e : Entry). e.piece) here.piece.earlier _ in
+    let (count, same) = same_piece us (pieces_of here.piece.earlier) vs (pieces_of here.piece.later) p own offset whole start end
+    (omega (arith, before, here.start)) (omega (arith, before, here.end)) in
+    (found, refl, omega (arith, before, count), sym (ap (λ (q : Piece). q.span) same))
+
+-- where a span takes the place of one piece, there are no more pieces than before
+pub takes_place : (b : List (List ℕ)) (us : List Piece) (p : Piece) (vs ps : List Piece) (from to : ℕ) (span : Option ChunkSpan) → ps ≡ us ++ p ∷ vs → All IsFull ps
+    → from ≡ unit_count us → to ≡ unit_count us + p.span.units → length (spliced b from to span ps) ≤ length ps
+takes_place b us p vs ps from to span is full first last =
+    let own = (All-parts IsFull us (p ∷ vs) (subst (All IsFull) is full)).1 in
+    let head = ap (front b from) is ∙ front-append b us (p ∷ vs) from 0 (omega (arith, first)) in
+    let none = ap length (front_zero b (p ∷ vs) own) in
+    let regrouped : ps ≡ (us ++ p ∷ []) ++ vs = is ∙ sym (append_assoc us (p ∷ []) vs) in
+    let whole : to ≡ unit_count (us ++ p ∷ []) + 0 = omega (arith, sum_by-append (λ (q : Piece). q.span.units) us (p ∷ []), units-cons p [], last) in
+    let tail = ap (back b to) regrouped ∙ back-append b (us ++ p ∷ []) vs to 0 whole in
+    omega (
+      arith,
+      length-append (followed_by b (front b from ps) span) (back b to ps),
+      length-followed_by b (front b from ps) span,
+      ap length head,
+      length-append us (front b 0 (p ∷ vs)),
+      none,
+      ap length tail,
+      length-back b 0 vs,
+      ap length is,
+      length-append us (p ∷ vs),
+    )

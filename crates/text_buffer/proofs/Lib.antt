@@ -15,3 +15,4 @@ pub mod Positions
 pub mod Touched
 pub mod Spots
 pub mod AddedBreaks
+pub mod Along

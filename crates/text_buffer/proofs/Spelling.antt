@@ -41,7 +41,7 @@ module _ (b : List (List ℕ)) where
       let head : IsPieceOf b p = All-head (IsPieceOf b) p ps all in
       omega (arith, units-cons p ps, length-append (units_at b p.span) (spelled b ps), length-units_at p.span head.inside, length-spelled ps (All-tail (IsPieceOf b) p ps all))
 
-  front_of_piece : (p : Piece) (n : ℕ) → IsPieceOf b p → n ≤ p.span.units → units_at b (part_of p.span 0 n) ≡ take n (units_at b p.span)
+  pub front_of_piece : (p : Piece) (n : ℕ) → IsPieceOf b p → n ≤ p.span.units → units_at b (part_of p.span 0 n) ≡ take n (units_at b p.span)
   front_of_piece p n is h = units_at-part b p.span 0 n (omega arith) h is.inside ∙ ap (λ (k : ℕ). take k (units_at b p.span)) (let e : n - 0 ≡ n = omega arith in e)
 
   pub back_of_piece : (p : Piece) (n : ℕ) → IsPieceOf b p → n ≤ p.span.units → units_at b (part_of p.span n p.span.units) ≡ drop n (units_at b p.span)

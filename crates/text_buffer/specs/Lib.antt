@@ -1,4 +1,6 @@
 pub mod Text
 pub mod Places
 pub mod LookUps
+pub mod Along
+mod Examples
 pub use Rattle.piece_tree.specs.Costs

@@ -8,14 +8,26 @@ use Rattle.piece_tree.specs.Pieces.{Pieces, pieces_of, IsPieceOf}
 use Rattle.text_rules.specs.Lines.{line_feed, carriage_return}
 use Rattle.text_rules.specs.Breaks.{joins_pair}
 
+-- the most units that an edit takes along on each side of its span
+abbrev pub most_along : ℕ
+most_along = 32
+
+-- how many units an edit may append beside those of its text: what it takes along on both sides, and one that keeps buffers apart
+abbrev pub units_beside_text : ℕ
+units_beside_text = 65
+
+-- and how many breaks: one on each side
+abbrev pub breaks_beside_text : ℕ
+breaks_beside_text = 2
+
 -- what contracts see of a text buffer
 pub record Text : Type 0 where
   pub units : List ℕ
   -- the spans of the buffers that spell the units, one for each piece
   pub spans : List ChunkSpan
   pub buffers : List (List ℕ)
-  -- for how many edits there is room, and for how many units and breaks; each edit takes up to three units and two
-  -- breaks more than its text has
+  -- for how many edits there is room, and for how many units and breaks; each edit takes up to `units_beside_text` and
+  -- `breaks_beside_text` more than its text has
   pub spare_edits : ℕ
   pub spare_units : ℕ
   pub spare_breaks : ℕ

@@ -1,6 +1,7 @@
 //! One text in pieces over buffers that are only appended to.
 #![tactic(auto)]
 
+mod beside;
 mod breaks;
 mod lines;
 mod look_up;

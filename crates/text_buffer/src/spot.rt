@@ -2,14 +2,14 @@
 
 ghost use Rattle.std.specs.Prelude.{◌≡◌, ℕ, ◌+◌, ◌-◌, ◌<◌, ◌≤◌, ◌^◌, ◌++◌, List, take, drop, IfSome};
 ghost use Rattle.chunk_buffers.specs.Chunks.{LiesIn};
-ghost use Rattle.piece_tree.specs.Pieces.{pieces_of, unit_count, IsFound, HasUnit, StandsAt};
+ghost use Rattle.piece_tree.specs.Pieces.{pieces_of, unit_count, IsFound, HasUnit};
 ghost use Rattle.text_rules.specs.Lines.{line_feed, carriage_return, begins_with};
 ghost use Rattle.text_rules.specs.Breaks.{ends_with, joins_pair, count_to, break_ends};
 ghost use Rattle.text_rules.specs.Dirty.{dirty_lines};
 ghost use Rattle.text_buffer.specs.Text.{text_of, one_if, IsText};
 ghost use Rattle.text_buffer.specs.LookUps.{IsSpot, span_between, units_of};
 
-use crate::look_up::{piece_at, piece_near, unit_in};
+use crate::look_up::{piece_near, unit_in};
 use chunk_buffers::{ChunkSpan, Chunks};
 use line_starts::count_breaks;
 use piece_tree::{Found, PieceId, PieceTree};
@@ -28,8 +28,8 @@ pub(crate) struct Spot {
     pub before_feed: bool,
 }
 
-/// The place of this offset, near a piece that may have its unit. It makes one search, or none where that piece has it, or at
-/// the end.
+/// The place of this offset, near a piece that may have its unit. It makes one search, or none where that piece or the next one
+/// has it, or at the end.
 pub(crate) fn spot_at(
     pieces: &PieceTree,
     chunks: &Chunks,
@@ -187,20 +187,6 @@ pub(crate) fn joins_back(start: &Spot, end: &Spot, text: &[u16]) -> bool
         return start.after_return;
     }
     text[text.len() - 1] == CARRIAGE_RETURN
-}
-
-/// The piece that has the unit at the place, or the CR right before it, where that is taken along.
-pub(crate) fn found_before(pieces: &PieceTree, spot: &Spot, with_return: bool) -> Option<Found>
-    requires found { StandsAt pieces.now.entries spot.now.found spot.now.offset }
-    requires within { spot.now.offset ≤ unit_count (pieces_of pieces.now.entries) }
-    requires there { one_if with_return ≤ spot.now.offset }
-    ensures { StandsAt pieces.now.entries result (spot.now.offset - one_if with_return) }
-{
-    if with_return {
-        Some(piece_at(pieces, spot.offset - 1))
-    } else {
-        spot.found
-    }
 }
 
 pub(crate) fn one_if(test: bool) -> u64

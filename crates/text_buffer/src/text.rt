@@ -11,13 +11,15 @@ ghost use Rattle.text_rules.specs.Edits.{edited};
 ghost use Rattle.text_rules.specs.Dirty.{dirty_lines, replaced};
 ghost use Rattle.text_rules.specs.Lines.{Line, lines_of, line_at, line_start, line_feed, carriage_return, begins_with};
 ghost use Rattle.text_rules.specs.Breaks.{ends_with, joins_pair, count_to, break_ends};
-ghost use Rattle.text_buffer.specs.Text.{unit_if, one_if, IsAdded, GrowsAt};
+ghost use Rattle.text_buffer.specs.Along.{LeavesLittle};
+ghost use Rattle.text_buffer.specs.Text.{units_beside_text, breaks_beside_text, IsAdded, GrowsAt};
 
+use crate::beside::{found_before, rests_of, units_along};
 use crate::breaks::ends_with_pair;
 use crate::lines::LineReader;
 use crate::look_up::{break_at, cuts_pair_at, cuts_pair_beside, piece_at, piece_near};
 use crate::place::{push_line, start_of_line};
-use crate::spot::{dirty_between, found_before, joins_back, joins_front, one_if, spot_at};
+use crate::spot::{dirty_between, joins_back, joins_front, spot_at};
 use crate::walk::push_span;
 use chunk_buffers::{ChunkSpan, Chunks};
 use piece_tree::PieceTree;
@@ -28,10 +30,10 @@ use steps::Steps;
 use text_lengths::{Dirty, Position, Span};
 use unit_text::{CARRIAGE_RETURN, Flat, LINE_FEED};
 
-/// What an edit may append beside its text: a CR, an LF, and a unit that keeps buffers apart.
-const UNITS_AN_EDIT: u64 = 3;
+/// What an edit may append beside its text: what it takes along on both sides, and a unit that keeps buffers apart.
+const UNITS_AN_EDIT: u64 = 65;
 
-/// What breaks an edit may append beside those of its text: its CR, and its LF.
+/// What breaks an edit may append beside those of its text: one on each side.
 const BREAKS_AN_EDIT: u64 = 2;
 
 /// One text. Contracts see its units, and the spans that spell them.
@@ -84,8 +86,8 @@ impl TextBuffer {
     /// it was.
     pub fn reserve(&mut self, edits: u64, units: u64, breaks: u64) -> Result<(), AllocError>
         ensures edits { OnOk result (edits ≤ self.new.spare_edits) }
-        ensures room { OnOk result (units + 3 * edits ≤ self.new.spare_units) }
-        ensures breaks { OnOk result (breaks + 2 * edits ≤ self.new.spare_breaks) }
+        ensures room { OnOk result (units + units_beside_text * edits ≤ self.new.spare_units) }
+        ensures breaks { OnOk result (breaks + breaks_beside_text * edits ≤ self.new.spare_breaks) }
         ensures kept_edits { self.old.spare_edits ≤ self.new.spare_edits }
         ensures kept_room { self.old.spare_units ≤ self.new.spare_units }
         ensures kept_breaks { self.old.spare_breaks ≤ self.new.spare_breaks }
@@ -132,31 +134,34 @@ impl TextBuffer {
         self.pieces.spans(out)
     }
 
-    /// Puts the text in the place of the span, and answers which lines it touched, as `dirty_lines` does. It takes no memory.
+    /// Puts the text in the place of the span, and answers which lines it touched, as `dirty_lines` does. What it leaves of a
+    /// piece that it cuts, where that is little, comes with the text. It takes no memory.
     pub fn replace(&mut self, span: Span, text: &[u16]) -> Dirty
         requires ordered { span.start ≤ span.end }
         requires within { span.end ≤ length self.old.units }
         requires edits { 0 < self.old.spare_edits }
-        requires room { length text.now + 3 ≤ self.old.spare_units }
-        requires breaks { break_count text.now + 2 ≤ self.old.spare_breaks }
+        requires room { length text.now + units_beside_text ≤ self.old.spare_units }
+        requires breaks { break_count text.now + breaks_beside_text ≤ self.old.spare_breaks }
         requires small { length (edited self.old.units
             (record { span = span; text = text.now; force = false })) < 2 ^ 62 }
         ensures units { self.new.units
             ≡ edited self.old.units (record { span = span; text = text.now; force = false }) }
-        ensures pieces { length self.new.spans ≤ length self.old.spans + 6 }
+        ensures pieces { length self.new.spans ≤ length self.old.spans + 2 }
+        ensures taken { LeavesLittle self.old span → length self.new.spans ≤ length self.old.spans }
         ensures typed { let after = drop span.end self.old.units in GrowsAt self.old span.start
             → joins_pair (take span.start self.old.units) (text.now ++ after) ≡ false
             → length self.new.spans ≤ length self.old.spans }
-        ensures grows { let after = drop span.end self.old.units in 0 < length text.now
-            → joins_pair (take span.start self.old.units ++ text.now) after ≡ false
+        ensures grows { let after = drop span.end self.old.units in span.start ≡ span.end
+            → 0 < length text.now → joins_pair (take span.start self.old.units ++ text.now) after ≡ false
             → GrowsAt self.new (span.start + length text.now) }
         ensures appended { unit_count self.new.buffers
-            ≤ unit_count self.old.buffers + length text.now + 8 }
+            ≤ unit_count self.old.buffers + length text.now + units_beside_text }
         ensures grown { Extends self.old.buffers self.new.buffers }
         ensures spare_edits { self.new.spare_edits + 1 ≡ self.old.spare_edits }
-        ensures spare_units { self.old.spare_units ≤ self.new.spare_units + length text.now + 3 }
+        ensures spare_units { self.old.spare_units
+            ≤ self.new.spare_units + length text.now + units_beside_text }
         ensures spare_breaks { self.old.spare_breaks
-            ≤ self.new.spare_breaks + break_count text.now + 2 }
+            ≤ self.new.spare_breaks + break_count text.now + breaks_beside_text }
         ensures dirty { result ≡ dirty_lines self.old.units span text.now }
         ensures before { take (result.first - 1) (lines_of self.new.units)
             ≡ take (result.first - 1) (lines_of self.old.units) }
@@ -166,17 +171,17 @@ impl TextBuffer {
         let start = spot_at(&self.pieces, &self.chunks, &None, span.start);
         let end = spot_at(&self.pieces, &self.chunks, &start.found, span.end);
         let dirty = dirty_between(&self.pieces, &self.chunks, &start, &end, text);
-        let front = joins_front(&start, &end, text);
-        let back = joins_back(&start, &end, text);
-        let at = found_before(&self.pieces, &start, front);
-        let from = span.start - one_if(front);
-        let to = span.end + one_if(back);
-        let added = append_some(
-            &mut self.chunks,
-            carriage_return_if(front),
-            text,
-            line_feed_if(back),
-        );
+        let rests = rests_of(&self.pieces, &self.chunks, &start, &end, text);
+        let front_joins = joins_front(&start, &end, text);
+        let back_joins = joins_back(&start, &end, text);
+        let front = units_along(&self.chunks, rests.front, front_joins, CARRIAGE_RETURN);
+        let back = units_along(&self.chunks, rests.back, back_joins, LINE_FEED);
+        let before = front.as_slice();
+        let after = back.as_slice();
+        let at = found_before(&self.pieces, &start, before.len() as u64);
+        let from = span.start - before.len() as u64;
+        let to = span.end + after.len() as u64;
+        let added = append_some(&mut self.chunks, before, text, after);
         self.pieces.splice(at, from, to - from, added, &self.chunks);
         dirty
     }
@@ -464,18 +469,6 @@ fn with_edits(own: u64, edits: u64, each: u64) -> Result<u64, AllocError>
         .checked_mul(each)
         .and_then(|more| own.checked_add(more))
         .ok_or(AllocError)
-}
-
-fn carriage_return_if(test: bool) -> &'static [u16]
-    ensures { result.now ≡ unit_if test carriage_return }
-{
-    if test { &[CARRIAGE_RETURN] } else { &[] }
-}
-
-fn line_feed_if(test: bool) -> &'static [u16]
-    ensures { result.now ≡ unit_if test line_feed }
-{
-    if test { &[LINE_FEED] } else { &[] }
 }
 
 // Appends the three texts as one, if they have any unit.

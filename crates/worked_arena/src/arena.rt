@@ -1,9 +1,9 @@
 //! What no clause says: that each call which can want memory succeeds, on one path through all calls.
 ghost use Rattle.std.specs.Prelude.{◌≡◌, ◌<◌, ◌≤◌, Some, IfOk};
 ghost use Rattle.std.specs.FinMap as map;
-ghost use Rattle.raw_arena.specs.Arena.{node};
+ghost use Rattle.slot_arena.specs.Arena.{node};
 
-use raw_arena::{Arena, NodeId};
+use slot_arena::{Arena, NodeId};
 use std::alloc::{AllocError, Global};
 use std::marker::Brand;
 use std::sync::ledger::{Blank, Ledger};
@@ -38,7 +38,7 @@ fn what_is_left<L: Ledger>(alloc: Global, blank: Blank) -> Result<(u64, u64), Al
     Ok((before, *arena.visit(left, &mut steps)))
 }
 
-/// So many values lie in four pages.
+/// For so many values the arena grows five times.
 const COUNT: u64 = 200;
 
 /// The last of many values, each of which is read right after it was put in.

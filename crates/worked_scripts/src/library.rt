@@ -35,7 +35,7 @@ fn edit(alloc: Global, model: &mut Model) -> Result<(), Fail> {
         text: Units::copy_of(alloc, &[0x58])?,
         force: false,
     };
-    model.edit(&[op])?;
+    model.edit(vec![in alloc; op]?)?;
     Ok(())
 }
 

@@ -51,7 +51,7 @@ fn edit_later(alloc: Global, model: &mut Model) -> Result<(u64, u64), Fail> {
         text: Units::copy_of(alloc, &[0x58])?,
         force: false,
     };
-    let ready = model.prepare(&[op])?;
+    let ready = model.prepare(vec![in alloc; op]?)?;
     let (version, _) = model.versions();
     let prepared = (model.len(), version);
     model.commit(ready);

@@ -1,7 +1,8 @@
 use Rattle.std.proofs.Common.{◌≡◌, ◌+◌, ◌-◌, ◌*◌, ◌≤◌, length, drop}
 use Rattle.batch_rules.specs.Batches.{text_units, edited_backwards}
 use Rattle.model_core.specs.History.{text_breaks}
-use Rattle.model_core.specs.State.{units_beside_text, breaks_beside_text, GrownBy}
+use Rattle.model_core.specs.State.{GrownBy}
+use Rattle.text_buffer.specs.Text.{units_beside_text, breaks_beside_text}
 use Rattle.text_rules.specs.Lines.{lines_of}
 use Rattle.model_core.specs.LineMarks.{marked_backwards}
 use Rattle.chunk_buffers.specs.Chunks.{Extends}

@@ -1,7 +1,7 @@
 use Rattle.std.proofs.Common.{◌≡◌, ◌+◌, ◌*◌, ◌≤◌, length, drop}
 use Rattle.model_core.specs.declared.change.Way.TheVariants.{On}
 use Rattle.model_core.specs.History.{text_on, changes_on, LeadOn, op_count, unit_count, breaks_along}
-use Rattle.model_core.specs.State.{units_beside_text, breaks_beside_text}
+use Rattle.text_buffer.specs.Text.{units_beside_text, breaks_beside_text}
 use Rattle.text_rules.specs.Lines.{lines_of}
 use Rattle.model_core.specs.LineMarks.{marked_on}
 use Rattle.chunk_buffers.specs.Chunks.{Extends}
@@ -12,7 +12,7 @@ abbrev pub invariant-loop-change : goal.invariant-loop-change
 invariant-loop-change l = record {
   units : text_on l.text.units (drop l.change-index l.changes) ≡ text_on l.fn.text.units l.changes;
   lead : LeadOn l.text.units (drop l.change-index l.changes);
-  pieces : length l.text.spans + 6 * op_count On (drop l.change-index l.changes) ≤ length l.fn.text.spans + 6 * op_count On l.changes;
+  pieces : length l.text.spans + 2 * op_count On (drop l.change-index l.changes) ≤ length l.fn.text.spans + 2 * op_count On l.changes;
   edits : op_count On (drop l.change-index l.changes) ≤ l.text.spare_edits;
   room : unit_count On (drop l.change-index l.changes) + units_beside_text * op_count On (drop l.change-index l.changes) ≤ l.text.spare_units;
   breaks : breaks_along On (drop l.change-index l.changes) + breaks_beside_text * op_count On (drop l.change-index l.changes) ≤ l.text.spare_breaks;

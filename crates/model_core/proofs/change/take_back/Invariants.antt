@@ -1,7 +1,8 @@
 use Rattle.std.proofs.Common.{◌≡◌, ◌+◌, ◌-◌, ◌*◌, ◌≤◌, length, drop}
 use Rattle.model_core.specs.declared.change.Way.TheVariants.{Back}
 use Rattle.model_core.specs.History.{text_back, changes_back, op_count, unit_count, breaks_along}
-use Rattle.model_core.specs.State.{units_beside_text, breaks_beside_text, GrownBy}
+use Rattle.model_core.specs.State.{GrownBy}
+use Rattle.text_buffer.specs.Text.{units_beside_text, breaks_beside_text}
 use Rattle.text_rules.specs.Lines.{lines_of}
 use Rattle.model_core.specs.LineMarks.{marked_back}
 use Rattle.chunk_buffers.specs.Chunks.{Extends}

@@ -1,17 +1,10 @@
-use Rattle.std.proofs.Common.{◌≡◌, true, false, ap, sym, subst, ◌∙◌, arith}
-use Rattle.chunk_buffers.specs.Chunks.{LiesIn}
-use Rattle.piece_tree.specs.Pieces.{IsPieceOf, piece_of, goes_on, prolonged}
+use Rattle.std.proofs.Common.{◌≡◌, true, false, ap, sym, ◌∙◌, arith}
+use Rattle.piece_tree.specs.Pieces.{piece_of, goes_on, prolonged}
 use Rattle.piece_tree.specs.Inside.{in_order}
 use Rattle.piece_tree.proofs.Cuts.{span_few}
 use Rattle.piece_tree.proofs.Prolonged.{inside-prolonged, behind_on, behind_apart}
-use Rattle.piece_tree.proofs.Sums.{at_place, small_set, small_after}
+use Rattle.piece_tree.proofs.Sums.{small_set, small_after}
 use Rattle.piece_tree.proofs.edits.put_behind.Goals as goal
-
-pub goes_on-requires : goal.goes_on-requires
-goes_on-requires c =
-    let b = c.args.chunks.now.buffers in let (us, (x, (vs, e))) = c.requires.named in
-    let lies = subst (λ p. LiesIn b p.span) (sym (c.get.ensures us x vs e)) (at_place (IsPieceOf b) c.args.tree.now.items us c.args.id x vs e c.requires.pieces).inside in
-    omega (arith, lies.fits)
 
 pub set-requires-clause-value : goal.set-requires-clause-value
 set-requires-clause-value c =

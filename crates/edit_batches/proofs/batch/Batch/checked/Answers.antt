@@ -9,19 +9,19 @@ stand_in_order x ops sorted same good apart = rw same (sorted_ops_stand x ops go
 
 pub is_too_long-requires : goal.is_too_long-requires
 is_too_long-requires g c =
-    stand_in_order (g.F.Flat.units c.args.text.now) c.args.ops.now c.deref-2.result.now (search rules) (search rules) (search rules)
+    stand_in_order (g.F.Flat.units c.args.text.now) c.args.ops.items c.deref-3.result.now (search rules) (search rules) (search rules)
 
 pub returns-clause-standing : goal.returns-clause-standing
 returns-clause-standing g c =
-    stand_in_order (g.F.Flat.units c.args.text.now) c.args.ops.now c.in_ok-ops.ops.items (search rules) (search rules) (search rules)
+    stand_in_order (g.F.Flat.units c.args.text.now) c.args.ops.items c.in_ok-ops.ops.items (search rules) (search rules) (search rules)
 
 pub returns-clause-texts : goal.returns-clause-texts
 returns-clause-texts g c =
-    let standing = stand_in_order (g.F.Flat.units c.args.text.now) c.args.ops.now c.in_ok-ops.ops.items (search rules) (search rules) (search rules) in
+    let standing = stand_in_order (g.F.Flat.units c.args.text.now) c.args.ops.items c.in_ok-ops.ops.items (search rules) (search rules) (search rules) in
     let fits : length (applied_from 0 (g.F.Flat.units c.args.text.now) c.in_ok-ops.ops.items) ≤ most_units = search rules in
     omega (arith, fits, text_units_applied 0 (g.F.Flat.units c.args.text.now) c.in_ok-ops.ops.items standing)
 
 pub invariant_of-result : goal.invariant_of-result
 invariant_of-result g c =
     follow_standing 0 (g.F.Flat.units c.args.text.now) c.in_ok-ops.ops.items
-    (stand_in_order (g.F.Flat.units c.args.text.now) c.args.ops.now c.in_ok-ops.ops.items (search rules) (search rules) (search rules))
+    (stand_in_order (g.F.Flat.units c.args.text.now) c.args.ops.items c.in_ok-ops.ops.items (search rules) (search rules) (search rules))

@@ -6,18 +6,18 @@ use Rattle.model_core.proofs.Preparing.{IsEdited, edited_as_prepared}
 use Rattle.model_core.proofs.model.Model.edit.Goals as goal
 use Rattle.model_core.proofs.model.Model.edit.Goals.{After-commit}
 
-edited : (c : After-commit) → IsEdited c.args.ops.now c.args.self.now c.commit.new.self
+edited : (c : After-commit) → IsEdited c.args.ops.items c.args.self.now c.commit.new.self
 edited c =
-    let is : IsEditReady c.args.ops.now c.prepare.new.self c.in_ok-ready.ready = grind (arith, common_steps) in
+    let is : IsEditReady c.args.ops.items c.prepare.new.self c.in_ok-ready.ready = grind (arith, common_steps) in
     edited_as_prepared c.args.self.now c.prepare.new.self c.commit.new.self c.in_ok-ready.ready c.prepare.ensures.document c.prepare.ensures.parse
-    c.commit.ensures.document c.commit.ensures.parse c.args.ops.now is
+    c.commit.ensures.document c.commit.ensures.parse c.args.ops.items is
 
 pub returns-clause-paired : goal.returns-clause-paired
 returns-clause-paired c = (edited (goal.at.returns-clause-paired c).After-commit).paired
 
 pub returns-clause-paired_state : goal.returns-clause-paired_state
 returns-clause-paired_state c =
-    λ texts paired. IsPairedState-edit (Ok tt) c.args.self.now.document _ c.args.ops.now (edited (goal.at.returns-clause-paired_state c).After-commit).document texts paired
+    λ texts paired. IsPairedState-edit (Ok tt) c.args.self.now.document _ c.args.ops.items (edited (goal.at.returns-clause-paired_state c).After-commit).document texts paired
 
 pub returns-clause-fresh : goal.returns-clause-fresh
 returns-clause-fresh c = (edited (goal.at.returns-clause-fresh c).After-commit).fresh

@@ -11,15 +11,15 @@ use Rattle.model_core.proofs.model.Model.prepare.Goals as goal
 pub text_units-requires : goal.text_units-requires
 text_units-requires c =
     let x = c.self.inside.text.units in
-    let rule : checked_batch x c.args.ops.now ≡ Ok c.in_ok-batch.batch = grind (arith, common_steps) in
-    let ok = accepted x c.args.ops.now c.in_ok-batch.batch rule in
+    let rule : checked_batch x c.args.ops.items ≡ Ok c.in_ok-batch.batch = grind (arith, common_steps) in
+    let ok = accepted x c.args.ops.items c.in_ok-batch.batch rule in
     omega (arith, text_units_applied 0 x c.in_ok-batch.batch ok.standing, ok.fits)
 
 pub text_breaks-requires : goal.text_breaks-requires
 text_breaks-requires c =
     let x = c.self.inside.text.units in
-    let rule : checked_batch x c.args.ops.now ≡ Ok c.in_ok-batch.batch = grind (arith, common_steps) in
-    let ok = accepted x c.args.ops.now c.in_ok-batch.batch rule in
+    let rule : checked_batch x c.args.ops.items ≡ Ok c.in_ok-batch.batch = grind (arith, common_steps) in
+    let ok = accepted x c.args.ops.items c.in_ok-batch.batch rule in
     omega (arith, text_units_applied 0 x c.in_ok-batch.batch ok.standing, ok.fits, ap text_units c.ops-2.ensures.ops)
 
 pub invariant_of-self-in_err-map_err-2 : goal.invariant_of-self-in_err-map_err-2
@@ -55,11 +55,11 @@ returns-clause-ready c =
     let m = c.self.inside in
     let sorted = c.in_ok-batch.batch in
     let text = c.make_room.ensures.kept.units in
-    let rule : checked_batch m.text.units c.args.ops.now ≡ Ok sorted = grind (arith, common_steps) in
+    let rule : checked_batch m.text.units c.args.ops.items ≡ Ok sorted = grind (arith, common_steps) in
     let inverse : c.in_ok-inverse.inverse ≡ inverse_from 0 0 m.text.units sorted = grind (arith, common_steps) in
     let next : c.in_ok-next.next ≡ m.version + 1 = grind (arith, common_steps) in
     let last : c.in_ok-next.next ≤ greatest_version = grind (arith, common_steps) in
-    edit_ready _ c.args.ops.now sorted c.in_ok-inverse.inverse c.making.result (rw text rule) (rw text inverse) c.making.ensures.action
+    edit_ready _ c.args.ops.items sorted c.in_ok-inverse.inverse c.making.result (rw text rule) (rw text inverse) c.making.ensures.action
     (omega (arith, next, c.making.ensures.version)) (omega (arith, next, last))
     (record {
       edits = grind (arith, common_steps);

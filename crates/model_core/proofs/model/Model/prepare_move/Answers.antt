@@ -3,7 +3,8 @@ use Rattle.std.proofs.lemmas.Grind.{common_steps}
 use Rattle.edit_stack.specs.Element.{step_of}
 use Rattle.document_rules.specs.Refusals.{limit}
 use Rattle.document_rules.specs.Document.{greatest_version}
-use Rattle.model_core.specs.State.{units_beside_text, breaks_beside_text, ModelState}
+use Rattle.model_core.specs.State.{ModelState}
+use Rattle.text_buffer.specs.Text.{units_beside_text, breaks_beside_text}
 use Rattle.model_core.specs.History.{op_count, unit_count, breaks_along}
 use Rattle.model_core.specs.Ways.{next_steps, flat_move}
 use Rattle.model_core.proofs.Stepping.{IsStep, step_on, no_next_on, few_by}

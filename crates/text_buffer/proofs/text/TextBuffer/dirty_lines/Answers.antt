@@ -1,4 +1,4 @@
-use Rattle.std.proofs.Common.{◌≡◌, ◌+◌, ◌-◌, length, take, drop, ap, ◌∙◌, arith}
+use Rattle.std.proofs.Common.{◌∙◌, arith}
 use Rattle.text_rules.specs.Dirty.{dirty_lines}
 use Rattle.text_buffer.proofs.Found.{units_shown}
 use Rattle.text_buffer.proofs.Touched.{before_dirty, after_dirty}

@@ -1,35 +1,79 @@
-use Rattle.std.proofs.Common.{◌≡◌, ◌+◌, ◌-◌, ◌++◌, false, take, length, map, drop, refl, subst, ◌∙◌, ap, sym, arith}
+use Rattle.std.proofs.Common.{◌≡◌, ◌+◌, ◌-◌, ◌<◌, ◌≤◌, ◌∷◌, ◌++◌, ◌==◌, true, false, Some, List, ℕ, take, length, map, drop, refl, subst, ◌∙◌, ap, sym, arith}
+use Rattle.std.proofs.lemmas.Bool.{false≢true, eq-eqb}
 use Rattle.std.proofs.lemmas.List.{length-map, length-append}
-use Rattle.chunk_buffers.specs.Chunks.{buffer_at}
+use Rattle.chunk_buffers.specs.declared.span.ChunkSpan.{ChunkSpan}
+use Rattle.chunk_buffers.specs.Chunks.{buffer_at, LiesIn, part_of}
+use Rattle.chunk_buffers.specs.Chunks as C
+use Rattle.piece_tree.specs.declared.piece.Piece.{Piece}
 use Rattle.piece_tree.specs.Pieces.{pieces_of, unit_count, front, back, StandsAt}
 use Rattle.piece_tree.proofs.Cuts.{units-front}
 use Rattle.text_rules.specs.Breaks.{joins_pair}
 use Rattle.text_rules.specs.Lines.{carriage_return, line_feed, lines_of}
 use Rattle.text_rules.specs.Dirty.{dirty_lines}
+use Rattle.text_buffer.specs.Text.{text_of, most_along, GrowsAt}
+use Rattle.text_buffer.specs.Along.{is_little, rest_before, rest_behind, units_along, LeavesLittle}
 use Rattle.text_buffer.proofs.Touched.{before_dirty, after_dirty}
 use Rattle.text_buffer.proofs.AddedBreaks.{added_breaks}
-use Rattle.text_buffer.proofs.Spelling.{length-spelled}
+use Rattle.text_buffer.proofs.Along.{IsFrontAlong, IsBackAlong, front_along, back_along, front_fits, back_fits, rests_front, rests_back, front_cuts, if_some, none_along, both_cut, first_length, last_length, little_units}
+use Rattle.text_buffer.proofs.Spots.{spot_within}
 use Rattle.text_buffer.proofs.Extended.{pieces-extended}
-use Rattle.text_buffer.proofs.Replacing.{front_within, back_within, length-unit_if, one_if_most}
-use Rattle.text_buffer.proofs.Edited.{IsReplaced, IsReplaced-of, units-added, length-edited}
-use Rattle.text_buffer.specs.Text.{one_if, text_of, GrowsAt}
-use Rattle.text_buffer.proofs.Growing.{split_spans, adds_none, grows_later, apart_at}
-use Rattle.text_buffer.proofs.Found.{units_shown}
+use Rattle.text_buffer.proofs.Edited.{IsReplaced, IsReplaced-of, front_border, units-added, length-edited}
+use Rattle.text_buffer.proofs.Growing.{split_spans, adds_none, grows_later, at_border, takes_place}
+use Rattle.text_buffer.proofs.Found.{units_shown, own, pieces_are}
 use Rattle.text_buffer.proofs.text.TextBuffer.replace.Goals as goal
-use Rattle.text_buffer.proofs.text.TextBuffer.replace.Goals.{After-joins_back-back}
+use Rattle.text_buffer.proofs.text.TextBuffer.replace.Goals.{After-joins_back-back_joins, After-as_slice-after}
 
 -- what was asked at the two ends
-front_is : (c : After-joins_back-back) → c.joins_front-front.result ≡ joins_pair (take c.args.span.start c.args.self.now.units) (c.args.text.now ++ drop c.args.span.end c.args.self.now.units)
+front_is : (c : After-joins_back-back_joins) → c.joins_front-front_joins.result ≡ joins_pair (take c.args.span.start c.args.self.now.units) (c.args.text.now ++ drop c.args.span.end c.args.self.now.units)
 front_is c =
     let x = (text_of c.self.inside.pieces c.self.inside.chunks).units in
-    c.joins_front-front.ensures (take c.spot_at-start.result.offset x) (drop c.spot_at-end.result.offset x) c.spot_at-start.ensures.spot.after_return c.spot_at-end.ensures.spot.before_feed
+    c.joins_front-front_joins.ensures (take c.spot_at-start.result.offset x) (drop c.spot_at-end.result.offset x) c.spot_at-start.ensures.spot.after_return c.spot_at-end.ensures.spot.before_feed
     ∙ (λ i. joins_pair (take (c.spot_at-start.ensures.offset i) (c.self.view_is i).units) (c.args.text.now ++ drop (c.spot_at-end.ensures.offset i) (c.self.view_is i).units))
 
-back_is : (c : After-joins_back-back) → c.joins_back-back.result ≡ joins_pair (take c.args.span.start c.args.self.now.units ++ c.args.text.now) (drop c.args.span.end c.args.self.now.units)
+back_is : (c : After-joins_back-back_joins) → c.joins_back-back_joins.result ≡ joins_pair (take c.args.span.start c.args.self.now.units ++ c.args.text.now) (drop c.args.span.end c.args.self.now.units)
 back_is c =
     let x = (text_of c.self.inside.pieces c.self.inside.chunks).units in
-    c.joins_back-back.ensures (take c.spot_at-start.result.offset x) (drop c.spot_at-end.result.offset x) c.spot_at-start.ensures.spot.after_return c.spot_at-end.ensures.spot.before_feed
+    c.joins_back-back_joins.ensures (take c.spot_at-start.result.offset x) (drop c.spot_at-end.result.offset x) c.spot_at-start.ensures.spot.after_return c.spot_at-end.ensures.spot.before_feed
     ∙ (λ i. joins_pair (take (c.spot_at-start.ensures.offset i) (c.self.view_is i).units ++ c.args.text.now) (drop (c.spot_at-end.ensures.offset i) (c.self.view_is i).units))
+
+-- the rests are those at the two places
+front_rest : (c : After-joins_back-back_joins) (part : ChunkSpan) → c.rests_of-rests.result.front ≡ Some part
+    → rest_before c.self.inside.chunks.buffers c.spot_at-start.result.found c.spot_at-start.result.offset ≡ Some part
+front_rest c part e =
+    rests_front c.self.inside.chunks.buffers c.spot_at-start.result c.spot_at-end.result (length c.args.text.now) part (sym (ap (λ r. r.front) c.rests_of-rests.ensures) ∙ e)
+
+back_rest : (c : After-joins_back-back_joins) (part : ChunkSpan) → c.rests_of-rests.result.back ≡ Some part
+    → ((c.spot_at-start.result.offset == c.spot_at-end.result.offset) ≡ false)
+    × (rest_behind c.self.inside.chunks.buffers c.spot_at-end.result.found c.spot_at-end.result.offset ≡ Some part)
+back_rest c part e =
+    rests_back c.self.inside.chunks.buffers c.spot_at-start.result c.spot_at-end.result (length c.args.text.now) part (sym (ap (λ r. r.back) c.rests_of-rests.ensures) ∙ e)
+
+-- what is taken along on both sides
+ahead : (c : After-as_slice-after) → c.joins_front-front_joins.result ≡ joins_pair (take c.args.span.start c.args.self.now.units) (c.args.text.now ++ drop c.args.span.end c.args.self.now.units)
+    → ((part : ChunkSpan) → c.rests_of-rests.result.front ≡ Some part → rest_before c.self.inside.chunks.buffers c.spot_at-start.result.found c.spot_at-start.result.offset ≡ Some part)
+    → IsFrontAlong c.args.self.now.units c.args.span.start c.joins_front-front_joins.result c.as_slice-before.result.now
+ahead c joins rest =
+    let tree = c.self.inside.pieces in let chunks = c.self.inside.chunks in let spot = c.spot_at-start.result in let there = c.spot_at-start.ensures.spot in
+    let x_is = ap (λ v. v.units) c.self.view_is in let at = c.spot_at-start.ensures.offset in
+    let more : List ℕ = c.args.text.now ++ drop c.args.span.end c.args.self.now.units in
+    let here = joins ∙ (λ i. joins_pair (take (sym at i) (sym x_is i)) more) in
+    let is = front_along tree chunks c.self.invariant spot there (spot_within tree chunks spot.found spot.offset c.self.invariant there.found)
+    c.rests_of-rests.result.front c.joins_front-front_joins.result more here rest in
+    subst {A = List ℕ × ℕ × List ℕ} (λ p. IsFrontAlong p.0 p.1 c.joins_front-front_joins.result p.2)
+    (λ i. (x_is i, at i, sym (c.as_slice-before.ensures.value ∙ c.units_along-front.ensures) i)) is
+
+behind : (c : After-as_slice-after) → c.joins_back-back_joins.result ≡ joins_pair (take c.args.span.start c.args.self.now.units ++ c.args.text.now) (drop c.args.span.end c.args.self.now.units)
+    → ((part : ChunkSpan) → c.rests_of-rests.result.back ≡ Some part → rest_behind c.self.inside.chunks.buffers c.spot_at-end.result.found c.spot_at-end.result.offset ≡ Some part)
+    → IsBackAlong c.args.self.now.units c.args.span.end c.joins_back-back_joins.result c.as_slice-after.result.now
+behind c joins rest =
+    let tree = c.self.inside.pieces in let chunks = c.self.inside.chunks in let spot = c.spot_at-end.result in let there = c.spot_at-end.ensures.spot in
+    let x_is = ap (λ v. v.units) c.self.view_is in let at = c.spot_at-end.ensures.offset in
+    let more : List ℕ = take c.args.span.start c.args.self.now.units ++ c.args.text.now in
+    let here = joins ∙ (λ i. joins_pair more (drop (sym at i) (sym x_is i))) in
+    let is = back_along tree chunks c.self.invariant spot there (spot_within tree chunks spot.found spot.offset c.self.invariant there.found)
+    c.rests_of-rests.result.back c.joins_back-back_joins.result more here rest in
+    subst {A = List ℕ × ℕ × List ℕ} (λ p. IsBackAlong p.0 p.1 c.joins_back-back_joins.result p.2)
+    (λ i. (x_is i, at i, sym (c.as_slice-after.ensures.value ∙ c.units_along-back.ensures) i)) is
 
 pub spot_at-start-requires-clause-within : goal.spot_at-start-requires-clause-within
 spot_at-start-requires-clause-within c =
@@ -39,62 +83,82 @@ pub spot_at-end-requires-clause-within : goal.spot_at-end-requires-clause-within
 spot_at-end-requires-clause-within c =
     omega (arith, units_shown c.self.inside.pieces c.self.inside.chunks c.args.self.now c.self.invariant c.self.view_is, c.requires.within)
 
+-- what a front or a back takes along fits
+pub units_along-front-requires-clause-inside : goal.units_along-front-requires-clause-inside
+units_along-front-requires-clause-inside c =
+    let at = (goal.at.units_along-front-requires-clause-inside c).After-joins_back-back_joins in
+    let tree = c.self.inside.pieces in let chunks = c.self.inside.chunks in let spot = c.spot_at-start.result in let there = c.spot_at-start.ensures.spot in
+    if_some (LiesIn chunks.buffers) c.rests_of-rests.result.front
+    (λ part e. (front_fits tree chunks c.self.invariant spot there (spot_within tree chunks spot.found spot.offset c.self.invariant there.found) part (front_rest at part e)).0)
+
+pub units_along-front-requires-clause-few : goal.units_along-front-requires-clause-few
+units_along-front-requires-clause-few c =
+    let at = (goal.at.units_along-front-requires-clause-few c).After-joins_back-back_joins in
+    let tree = c.self.inside.pieces in let chunks = c.self.inside.chunks in let spot = c.spot_at-start.result in let there = c.spot_at-start.ensures.spot in
+    if_some (λ span. span.units ≤ most_along) c.rests_of-rests.result.front
+    (λ part e. (front_fits tree chunks c.self.invariant spot there (spot_within tree chunks spot.found spot.offset c.self.invariant there.found) part (front_rest at part e)).1)
+
+pub units_along-back-requires-clause-inside : goal.units_along-back-requires-clause-inside
+units_along-back-requires-clause-inside c =
+    let at = (goal.at.units_along-back-requires-clause-inside c).After-joins_back-back_joins in
+    let tree = c.self.inside.pieces in let chunks = c.self.inside.chunks in let spot = c.spot_at-end.result in let there = c.spot_at-end.ensures.spot in
+    if_some (LiesIn chunks.buffers) c.rests_of-rests.result.back
+    (λ part e. (back_fits tree chunks c.self.invariant spot there (spot_within tree chunks spot.found spot.offset c.self.invariant there.found) part (back_rest at part e).1).0)
+
+pub units_along-back-requires-clause-few : goal.units_along-back-requires-clause-few
+units_along-back-requires-clause-few c =
+    let at = (goal.at.units_along-back-requires-clause-few c).After-joins_back-back_joins in
+    let tree = c.self.inside.pieces in let chunks = c.self.inside.chunks in let spot = c.spot_at-end.result in let there = c.spot_at-end.ensures.spot in
+    if_some (λ span. span.units ≤ most_along) c.rests_of-rests.result.back
+    (λ part e. (back_fits tree chunks c.self.invariant spot there (spot_within tree chunks spot.found spot.offset c.self.invariant there.found) part (back_rest at part e).1).1)
+
 pub found_before-at-requires-clause-there : goal.found_before-at-requires-clause-there
 found_before-at-requires-clause-there c =
-    let at = (goal.at.found_before-at-requires-clause-there c).After-joins_back-back in
-    omega (
-      arith,
-      front_within c.args.self.now.units c.args.text.now c.args.span.start c.args.span.end (omega arith) c.joins_front-front.result (sym (front_is at)),
-      c.spot_at-start.ensures.offset,
-    )
+    let to = goal.at.found_before-at-requires-clause-there c in let at = to.After-joins_back-back_joins in
+    let there = (ahead to.After-as_slice-after (front_is at) (front_rest at)).there in
+    omega (arith, there, c.spot_at-start.ensures.offset)
 
 pub found_before-at-requires-clause-within : goal.found_before-at-requires-clause-within
 found_before-at-requires-clause-within c =
-    omega (
-      arith,
-      units_shown c.self.inside.pieces c.self.inside.chunks c.args.self.now c.self.invariant c.self.view_is,
-      c.requires.ordered,
-      c.requires.within,
-      c.spot_at-start.ensures.offset,
-    )
+    omega (arith, units_shown c.self.inside.pieces c.self.inside.chunks c.args.self.now c.self.invariant c.self.view_is, c.requires.ordered, c.requires.within, c.spot_at-start.ensures.offset)
 
 pub overflow_sub-from : goal.overflow_sub-from
 overflow_sub-from c =
-    let at = (goal.at.overflow_sub-from c).After-joins_back-back in
-    omega (
-      arith,
-      front_within c.args.self.now.units c.args.text.now c.args.span.start c.args.span.end (omega arith) c.joins_front-front.result (sym (front_is at)),
-      c.one_if.ensures,
-    )
+    let to = goal.at.overflow_sub-from c in let at = to.After-joins_back-back_joins in
+    omega (arith, (ahead to.After-as_slice-after (front_is at) (front_rest at)).there)
 
 pub overflow_add-to : goal.overflow_add-to
 overflow_add-to c =
+    let to = goal.at.overflow_add-to c in let at = to.After-joins_back-back_joins in
+    let few = (behind to.After-as_slice-after (back_is at) (λ part e. (back_rest at part e).1)).few in
     let size = ap (λ v. length v.units) c.self.view_is in
-    omega (arith, c.spot_at-end.ensures.spot.small, size, c.requires.within, c.one_if-2.ensures, one_if_most c.joins_back-back.result)
+    omega (arith, c.spot_at-end.ensures.spot.small, size, c.requires.within, few)
+
+pub append_some-added-requires-clause-room : goal.append_some-added-requires-clause-room
+append_some-added-requires-clause-room c =
+    let to = goal.at.append_some-added-requires-clause-room c in let at = to.After-joins_back-back_joins in
+    let one = (ahead to.After-as_slice-after (front_is at) (front_rest at)).few in
+    let two = (behind to.After-as_slice-after (back_is at) (λ part e. (back_rest at part e).1)).few in
+    let before = c.as_slice-before.result.now in let after = c.as_slice-after.result.now in
+    omega (arith, one, two, length-append (before ++ c.args.text.now) after, length-append before c.args.text.now, ap (λ v. v.spare_units) c.self.view_is, c.requires.room)
 
 pub append_some-added-requires-clause-breaks : goal.append_some-added-requires-clause-breaks
 append_some-added-requires-clause-breaks c =
-    let most = added_breaks c.carriage_return_if.result.now c.args.text.now c.line_feed_if.result.now c.joins_front-front.result c.joins_back-back.result c.carriage_return_if.ensures c.line_feed_if.ensures in
-    omega (arith, most, ap (λ v. v.spare_breaks) c.self.view_is, c.requires.breaks)
+    let to = goal.at.append_some-added-requires-clause-breaks c in let at = to.After-joins_back-back_joins in
+    let one = (ahead to.After-as_slice-after (front_is at) (front_rest at)).breaks in
+    let two = (behind to.After-as_slice-after (back_is at) (λ part e. (back_rest at part e).1)).breaks in
+    omega (arith, added_breaks c.as_slice-before.result.now c.args.text.now c.as_slice-after.result.now one two, ap (λ v. v.spare_breaks) c.self.view_is, c.requires.breaks)
 
 pub splice-requires-clause-place : goal.splice-requires-clause-place
 splice-requires-clause-place c =
-    let from : c.spot_at-start.result.offset - one_if c.joins_front-front.result ≡ c.args.span.start - c.one_if.result = omega (arith, c.spot_at-start.ensures.offset, c.one_if.ensures) in
+    let from : c.spot_at-start.result.offset - length c.as_slice-before.result.now ≡ c.args.span.start - length c.as_slice-before.result.now = omega (arith, c.spot_at-start.ensures.offset) in
     subst (StandsAt c.self.inside.pieces.entries c.found_before-at.result) from c.found_before-at.ensures
 
 pub splice-requires-clause-range : goal.splice-requires-clause-range
 splice-requires-clause-range c =
-    let at = (goal.at.splice-requires-clause-range c).After-joins_back-back in
-    let x = c.args.self.now.units in
-    let count = length-spelled c.self.inside.chunks.buffers (pieces_of c.self.inside.pieces.entries) c.self.invariant.pieces in
-    let size = ap (λ v. length v.units) c.self.view_is in
-    omega (
-      arith,
-      count,
-      size,
-      back_within x c.args.text.now c.args.span.start c.args.span.end (omega arith) c.joins_back-back.result (sym (back_is at)) c.requires.within,
-      c.one_if-2.ensures,
-    )
+    let to = goal.at.splice-requires-clause-range c in let at = to.After-joins_back-back_joins in
+    let there = (behind to.After-as_slice-after (back_is at) (λ part e. (back_rest at part e).1)).there in
+    omega (arith, units_shown c.self.inside.pieces c.self.inside.chunks c.args.self.now c.self.invariant c.self.view_is, there, c.requires.ordered)
 
 pub splice-requires-clause-pieces : goal.splice-requires-clause-pieces
 splice-requires-clause-pieces c =
@@ -102,57 +166,55 @@ splice-requires-clause-pieces c =
 
 pub splice-requires-clause-small : goal.splice-requires-clause-small
 splice-requires-clause-small c =
-    let at = (goal.at.splice-requires-clause-small c).After-joins_back-back in
-    let x = c.args.self.now.units in
-    let count = length-spelled c.self.inside.chunks.buffers (pieces_of c.self.inside.pieces.entries) c.self.invariant.pieces in
-    let size = ap (λ v. length v.units) c.self.view_is in
-    let cr = c.carriage_return_if.result.now in
-    let lf = c.line_feed_if.result.now in
-    let added = units-added c.append_some-added.new.chunks.buffers c.append_some-added.result (cr ++ c.args.text.now ++ lf) c.append_some-added.ensures.added in
+    let to = goal.at.splice-requires-clause-small c in let at = to.After-joins_back-back_joins in
+    let one = (ahead to.After-as_slice-after (front_is at) (front_rest at)).there in
+    let two = (behind to.After-as_slice-after (back_is at) (λ part e. (back_rest at part e).1)).there in
+    let before = c.as_slice-before.result.now in let after = c.as_slice-after.result.now in let text = c.args.text.now in
+    let count = units_shown c.self.inside.pieces c.self.inside.chunks c.args.self.now c.self.invariant c.self.view_is in
+    let added = units-added c.append_some-added.new.chunks.buffers c.append_some-added.result (before ++ text ++ after) c.append_some-added.ensures.added in
     omega (
       arith,
       count,
-      size,
       added,
-      length-append (cr ++ c.args.text.now) lf,
-      length-append cr c.args.text.now,
-      ap length c.carriage_return_if.ensures,
-      ap length c.line_feed_if.ensures,
-      length-unit_if c.joins_front-front.result carriage_return,
-      length-unit_if c.joins_back-back.result line_feed,
-      front_within x c.args.text.now c.args.span.start c.args.span.end (omega arith) c.joins_front-front.result (sym (front_is at)),
-      c.one_if.ensures,
-      c.one_if-2.ensures,
-      length-edited x c.args.text.now c.args.span.start c.args.span.end (omega arith),
+      length-append (before ++ text) after,
+      length-append before text,
+      one,
+      two,
+      c.requires.small,
+      c.requires.ordered,
+      length-edited c.args.self.now.units text c.args.span.start c.args.span.end (omega (arith, c.requires.ordered, c.requires.within)),
     )
 
-replaced : (c : goal.After-splice)
-    → c.joins_front-front.result ≡ joins_pair (take c.args.span.start c.args.self.now.units) (c.args.text.now ++ drop c.args.span.end c.args.self.now.units)
-    → c.joins_back-back.result ≡ joins_pair (take c.args.span.start c.args.self.now.units ++ c.args.text.now) (drop c.args.span.end c.args.self.now.units)
+replaced : (c : goal.After-splice) → IsFrontAlong c.args.self.now.units c.args.span.start c.joins_front-front_joins.result c.as_slice-before.result.now
+    → IsBackAlong c.args.self.now.units c.args.span.end c.joins_back-back_joins.result c.as_slice-after.result.now
+    → c.joins_front-front_joins.result ≡ joins_pair (take c.args.span.start c.args.self.now.units) (c.args.text.now ++ drop c.args.span.end c.args.self.now.units)
+    → c.joins_back-back_joins.result ≡ joins_pair (take c.args.span.start c.args.self.now.units ++ c.args.text.now) (drop c.args.span.end c.args.self.now.units)
     → IsReplaced c.append_some-added.new.chunks.buffers (pieces_of c.self.inside.pieces.entries) (pieces_of c.splice.new.self.entries)
     c.args.self.now.units c.args.text.now c.args.span.start c.args.span.end
-replaced c front back =
-    IsReplaced-of c.self.inside.chunks.buffers c.append_some-added.new.chunks.buffers (pieces_of c.self.inside.pieces.entries) (pieces_of c.splice.new.self.entries)
-    c.args.self.now.units c.args.text.now c.args.span.start c.args.span.end c.joins_front-front.result c.joins_back-back.result c.append_some-added.result
-    c.one_if.result c.one_if-2.result c.carriage_return_if.result.now c.line_feed_if.result.now
+replaced c one two front back =
+    let before = c.as_slice-before.result.now in let after = c.as_slice-after.result.now in
+    IsReplaced-of c.args.self.now.units c.args.text.now before after c.args.span.start c.args.span.end
+    c.joins_front-front_joins.result c.joins_back-back_joins.result front back one two
+    c.self.inside.chunks.buffers c.append_some-added.new.chunks.buffers (pieces_of c.self.inside.pieces.entries) (pieces_of c.splice.new.self.entries) c.append_some-added.result
+    (c.args.span.start - length before) (c.args.span.start - length before + (c.args.span.end + length after - (c.args.span.start - length before)))
     c.append_some-added.ensures.grown c.self.invariant.pieces c.self.invariant.full c.self.invariant.unsplit (ap (λ v. v.units) c.self.view_is)
-    c.requires.ordered c.requires.within front back c.one_if.ensures c.one_if-2.ensures
-    c.carriage_return_if.ensures c.line_feed_if.ensures c.append_some-added.ensures.added c.splice.ensures.spliced
+    c.requires.ordered refl (omega (arith, c.requires.ordered)) c.append_some-added.ensures.added c.splice.ensures.spliced
 
 pub invariant_of-self : goal.invariant_of-self
 invariant_of-self c =
-    let at = (goal.at.invariant_of-self c).After-joins_back-back in
-    let r = replaced c (front_is at) (back_is at) in
+    let to = goal.at.invariant_of-self c in let at = to.After-joins_back-back_joins in
+    let r = replaced c (ahead to.After-as_slice-after (front_is at) (front_rest at)) (behind to.After-as_slice-after (back_is at) (λ part e. (back_rest at part e).1)) (front_is at) (back_is at) in
     record { pieces = r.pieces; full = r.full; unsplit = r.unsplit }
 
 pub returns-clause-units : goal.returns-clause-units
 returns-clause-units c =
-    let at = (goal.at.returns-clause-units c).After-joins_back-back in (replaced c (front_is at) (back_is at)).text_is
+    let to = goal.at.returns-clause-units c in let at = to.After-joins_back-back_joins in
+    (replaced c (ahead to.After-as_slice-after (front_is at) (front_rest at)) (behind to.After-as_slice-after (back_is at) (λ part e. (back_rest at part e).1)) (front_is at) (back_is at)).text_is
 
 pub returns-clause-pieces : goal.returns-clause-pieces
 returns-clause-pieces c =
-    let at = (goal.at.returns-clause-pieces c).After-joins_back-back in
-    let few = (replaced c (front_is at) (back_is at)).few in
+    let to = goal.at.returns-clause-pieces c in let at = to.After-joins_back-back_joins in
+    let few = (replaced c (ahead to.After-as_slice-after (front_is at) (front_rest at)) (behind to.After-as_slice-after (back_is at) (λ part e. (back_rest at part e).1)) (front_is at) (back_is at)).few in
     omega (
       arith,
       few,
@@ -161,30 +223,79 @@ returns-clause-pieces c =
       ap (λ v. length v.spans) c.self.view_is,
     )
 
+-- where the span leaves little of the one piece that it lies in, the new span takes the place of that piece
+taken_in : (c : goal.After-splice) (us : List Piece) (p : Piece) (vs : List Piece) → pieces_of c.self.inside.pieces.entries ≡ us ++ p ∷ vs → c.spot_at-start.result.offset < c.spot_at-end.result.offset
+    → is_little c.self.inside.chunks.buffers (part_of p.span 0 (c.spot_at-start.result.offset - unit_count us)) ≡ true
+    → is_little c.self.inside.chunks.buffers (part_of p.span (c.spot_at-end.result.offset - unit_count us) p.span.units) ≡ true
+    → length (pieces_of c.splice.new.self.entries) ≤ length (pieces_of c.self.inside.pieces.entries)
+taken_in c us p vs is some ahead behind =
+    let tree = c.self.inside.pieces in let chunks = c.self.inside.chunks in let start = c.spot_at-start.result in let end = c.spot_at-end.result in
+    let one = c.spot_at-start.ensures.spot in let two = c.spot_at-end.ensures.spot in
+    let both = c.rests_of-rests.ensures ∙ both_cut tree chunks c.self.invariant start end one two us p vs is some ahead behind (length c.args.text.now) in
+    let low = little_units chunks.buffers (part_of p.span 0 (start.offset - unit_count us)) ahead in
+    let high = little_units chunks.buffers (part_of p.span (end.offset - unit_count us) p.span.units) behind in
+    let first : length c.as_slice-before.result.now ≡ start.offset - unit_count us =
+    ap length (c.as_slice-before.ensures.value ∙ c.units_along-front.ensures ∙ ap (λ r. units_along chunks.buffers r.front c.joins_front-front_joins.result carriage_return) both)
+    ∙ first_length tree chunks c.self.invariant start end one two us p vs is some ahead behind in
+    let last : length c.as_slice-after.result.now ≡ p.span.units - (end.offset - unit_count us) =
+    ap length (c.as_slice-after.ensures.value ∙ c.units_along-back.ensures ∙ ap (λ r. units_along chunks.buffers r.back c.joins_back-back_joins.result line_feed) both)
+    ∙ last_length tree chunks c.self.invariant start end one two us p vs is some ahead behind in
+    let from = c.args.span.start - length c.as_slice-before.result.now in
+    let few = takes_place c.append_some-added.new.chunks.buffers us p vs (pieces_of tree.entries) from (from + (c.args.span.end + length c.as_slice-after.result.now - from)) c.append_some-added.result
+    is c.self.invariant.full (omega (arith, first, low, c.spot_at-start.ensures.offset)) (omega (arith, first, last, low, high, some, c.spot_at-start.ensures.offset, c.spot_at-end.ensures.offset)) in
+    omega (arith, few, ap length c.splice.ensures.spliced)
+
+pub returns-clause-taken : goal.returns-clause-taken
+returns-clause-taken c = λ little.
+    let b = c.self.inside.chunks.buffers in let ps = pieces_of c.self.inside.pieces.entries in
+    let place = subst (λ t. LeavesLittle t c.args.span) (sym c.self.view_is) little in
+    let (us, (p, (vs, is, count, same))) = split_spans ps place.earlier place.own place.later place.among in
+    let one = c.spot_at-start.ensures.offset in let two = c.spot_at-end.ensures.offset in
+    let first : is_little b (part_of p.span 0 (c.spot_at-start.result.offset - unit_count us)) ≡ true = rw (same, one, count) place.front in
+    let last : is_little b (part_of p.span (c.spot_at-end.result.offset - unit_count us) p.span.units) ≡ true = rw (same, two, count) place.back in
+    let few = taken_in c us p vs is (omega (arith, one, two, place.some)) first last in
+    omega (arith, few, length-map (pieces_of c.splice.new.self.entries) (λ p. p.span), length-map ps (λ p. p.span), ap (λ v. length v.spans) c.self.view_is)
+
+-- where the text goes on from a span, the place stands inside no piece, and nothing is taken along before it
+none_ahead : (c : After-as_slice-after) → ((part : ChunkSpan) → c.rests_of-rests.result.front ≡ Some part → rest_before c.self.inside.chunks.buffers c.spot_at-start.result.found c.spot_at-start.result.offset ≡ Some part)
+    → GrowsAt (text_of c.self.inside.pieces c.self.inside.chunks) c.args.span.start → c.joins_front-front_joins.result ≡ false → length c.as_slice-before.result.now ≡ 0
+none_ahead c rest place apart =
+    let tree = c.self.inside.pieces in let chunks = c.self.inside.chunks in let spot = c.spot_at-start.result in let there = c.spot_at-start.ensures.spot in
+    let (us, (p, (vs, is, count, same))) = split_spans (pieces_of tree.entries) place.earlier place.span place.later place.among in
+    ap length (c.as_slice-before.ensures.value ∙ c.units_along-front.ensures
+    ∙ none_along chunks.buffers c.rests_of-rests.result.front c.joins_front-front_joins.result carriage_return (λ part e.
+    let (found, has, cut) = front_cuts tree chunks c.self.invariant spot there (spot_within tree chunks spot.found spot.offset c.self.invariant there.found) part (rest part e) in
+    let before = ap (λ s. s.units) has.piece.before in let units = ap (λ (s : ChunkSpan). s.units) same in
+    at_border us (pieces_of has.piece.earlier) vs (pieces_of has.piece.later) p (own chunks.buffers tree.entries found has.piece c.self.invariant.pieces)
+    (sym is ∙ pieces_are chunks.buffers tree.entries found has.piece c.self.invariant.pieces)
+    (omega (arith, before, units, count, place.ends, cut, c.spot_at-start.ensures.offset)) (omega (arith, before, units, count, place.ends, has.end, c.spot_at-start.ensures.offset))) apart)
+
 pub returns-clause-typed : goal.returns-clause-typed
 returns-clause-typed c = λ grows none.
-    let at = (goal.at.returns-clause-typed c).After-joins_back-back in
+    let to = goal.at.returns-clause-typed c in let at = to.After-joins_back-back_joins in
     let old = c.self.inside.chunks.buffers in
     let new = c.append_some-added.new.chunks.buffers in
     let ps = pieces_of c.self.inside.pieces.entries in
-    let x = c.args.self.now.units in
     let start = c.args.span.start in
-    let cr = c.carriage_return_if.result.now in
-    let lf = c.line_feed_if.result.now in
-    let one = c.one_if.result in
+    let before = c.as_slice-before.result.now in
+    let after = c.as_slice-after.result.now in
+    let text = c.args.text.now in
     let x_is = ap (λ v. v.units) c.self.view_is in
     let place = subst (λ t. GrowsAt t start) (sym c.self.view_is) grows in
     let (us, (p, (vs, is, count, same))) = split_spans ps place.earlier place.span place.later place.among in
-    let none_joined : one ≡ 0 = c.one_if.ensures ∙ ap one_if (front_is at ∙ none) in
-    let ends : unit_count us + p.span.units ≡ start - one = omega (arith, count, ap (λ s. s.units) same, place.ends, none_joined) in
-    let last : p.span.buffer + 1 ≡ length old = ap (λ s. s.buffer + 1) same ∙ place.last in
+    let ahead_is = ahead to.After-as_slice-after (front_is at) (front_rest at) in
+    let behind_is = behind to.After-as_slice-after (back_is at) (λ part e. (back_rest at part e).1) in
+    let none_taken = none_ahead to.After-as_slice-after (front_rest at) place (front_is at ∙ none) in
+    let from = start - length before in
+    let ends : unit_count us + p.span.units ≡ from = omega (arith, count, ap (λ (s : ChunkSpan). s.units) same, place.ends, none_taken) in
+    let last : p.span.buffer + 1 ≡ length old = ap (λ (s : ChunkSpan). s.buffer + 1) same ∙ place.last in
     let end : p.span.start + p.span.units ≡ length (buffer_at old p.span.buffer) =
-    subst (λ s. s.start + s.units ≡ length (buffer_at old s.buffer)) (sym same) place.end in
-    let apart = apart_at x c.args.text.now start c.args.span.end c.joins_front-front.result c.joins_back-back.result one cr lf (omega arith)
-    (front_is at) (back_is at) c.one_if.ensures c.carriage_return_if.ensures c.line_feed_if.ensures in
-    let few = adds_none old new ps us p vs (start - one) is ends last end c.self.invariant.full c.self.invariant.pieces (cr ++ c.args.text.now ++ lf)
-    (subst (λ y. joins_pair (take (start - one) y) (cr ++ c.args.text.now ++ lf) ≡ false) (sym x_is) apart) c.append_some-added.result
-    (start - one + (c.args.span.end + c.one_if-2.result - (start - one))) (omega arith) c.append_some-added.ensures.last in
+    subst (λ (s : ChunkSpan). s.start + s.units ≡ length (buffer_at old s.buffer)) (sym same) place.end in
+    let border = front_border c.args.self.now.units text before after start c.args.span.end c.joins_front-front_joins.result c.joins_back-back_joins.result
+    (front_is at) (back_is at) ahead_is behind_is in
+    let few = adds_none old new ps us p vs from is ends last end c.self.invariant.full c.self.invariant.pieces (before ++ text ++ after)
+    (subst (λ y. joins_pair (take from y) (before ++ text ++ after) ≡ false) (sym x_is) border) c.append_some-added.result
+    (from + (c.args.span.end + length after - from)) (omega arith) c.append_some-added.ensures.last in
     omega (
       arith,
       few,
@@ -194,42 +305,57 @@ returns-clause-typed c = λ grows none.
       ap (λ v. length v.spans) c.self.view_is,
     )
 
+-- where nothing is removed and no pair is made, nothing is taken along behind the place
+none_behind : (c : After-as_slice-after) → ((part : ChunkSpan) → c.rests_of-rests.result.back ≡ Some part
+    → ((c.spot_at-start.result.offset == c.spot_at-end.result.offset) ≡ false) × (rest_behind c.self.inside.chunks.buffers c.spot_at-end.result.found c.spot_at-end.result.offset ≡ Some part))
+    → c.args.span.start ≡ c.args.span.end → c.joins_back-back_joins.result ≡ false → length c.as_slice-after.result.now ≡ 0
+none_behind c rest same apart =
+    let start = c.spot_at-start.result.offset in let end = c.spot_at-end.result.offset in
+    let one : start ≡ end = c.spot_at-start.ensures.offset ∙ same ∙ sym c.spot_at-end.ensures.offset in
+    ap length (c.as_slice-after.ensures.value ∙ c.units_along-back.ensures
+    ∙ none_along c.self.inside.chunks.buffers c.rests_of-rests.result.back c.joins_back-back_joins.result line_feed (λ part e. absurd (false≢true (sym (rest part e).0 ∙ eq-eqb start end one))) apart)
+
 pub returns-clause-grows : goal.returns-clause-grows
-returns-clause-grows c = λ some none.
-    let at = (goal.at.returns-clause-grows c).After-joins_back-back in
+returns-clause-grows c = λ same some none.
+    let to = goal.at.returns-clause-grows c in let at = to.After-joins_back-back_joins in
     let old = c.self.inside.chunks.buffers in
     let new = c.append_some-added.new.chunks.buffers in
     let ps = pieces_of c.self.inside.pieces.entries in
     let text = c.args.text.now in
-    let cr = c.carriage_return_if.result.now in
-    let lf = c.line_feed_if.result.now in
-    let from = c.args.span.start - c.one_if.result in
-    let to = from + (c.args.span.end + c.one_if-2.result - from) in
-    let count = length-spelled old ps c.self.invariant.pieces in
-    let size = ap (λ v. length v.units) c.self.view_is in
-    let inside = front_within c.args.self.now.units text c.args.span.start c.args.span.end (omega arith) c.joins_front-front.result (sym (front_is at)) in
-    let none_joined : c.one_if-2.result ≡ 0 = c.one_if-2.ensures ∙ ap one_if (back_is at ∙ none) in
-    let added_size : length (cr ++ text ++ lf) ≡ c.one_if.result + length text =
-    omega (
-      arith,
-      length-append (cr ++ text) lf,
-      length-append cr text,
-      ap length c.carriage_return_if.ensures,
-      ap length c.line_feed_if.ensures,
-      length-unit_if c.joins_front-front.result carriage_return,
-      length-unit_if c.joins_back-back.result line_feed,
-      c.one_if.ensures,
-      c.one_if-2.ensures,
-      none_joined,
-    ) in
-    grows_later (text_of c.splice.new.self c.append_some-added.new.chunks) old new (front new from ps) (back new to ps) c.append_some-added.result (cr ++ text ++ lf) (c.args.span.start + length text)
+    let before = c.as_slice-before.result.now in
+    let after = c.as_slice-after.result.now in
+    let from = c.args.span.start - length before in
+    let till = from + (c.args.span.end + length after - from) in
+    let count = units_shown c.self.inside.pieces c.self.inside.chunks c.args.self.now c.self.invariant c.self.view_is in
+    let there = (ahead to.After-as_slice-after (front_is at) (front_rest at)).there in
+    let none_taken = none_behind to.After-as_slice-after (back_rest at) same (back_is at ∙ none) in
+    let added_size : length (before ++ text ++ after) ≡ length before + length text = omega (arith, length-append (before ++ text) after, length-append before text, none_taken) in
+    grows_later (text_of c.splice.new.self c.append_some-added.new.chunks) old new (front new from ps) (back new till ps) c.append_some-added.result (before ++ text ++ after) (c.args.span.start + length text)
     c.append_some-added.ensures.added c.append_some-added.ensures.last (omega (arith, some, added_size)) (ap (map (λ p. p.span)) c.splice.ensures.spliced) refl
-    (omega (arith, added_size, units-front new from ps (omega (arith, count, size)), inside, c.one_if.ensures))
+    (omega (arith, added_size, units-front new from ps (omega (arith, count, c.requires.ordered, c.requires.within)), there))
+
+pub returns-clause-appended : goal.returns-clause-appended
+returns-clause-appended c =
+    let to = goal.at.returns-clause-appended c in let at = to.After-joins_back-back_joins in
+    let one = (ahead to.After-as_slice-after (front_is at) (front_rest at)).few in
+    let two = (behind to.After-as_slice-after (back_is at) (λ part e. (back_rest at part e).1)).few in
+    let before = c.as_slice-before.result.now in let after = c.as_slice-after.result.now in
+    omega (arith, one, two, length-append (before ++ c.args.text.now) after, length-append before c.args.text.now, c.append_some-added.ensures.units, ap (λ v. C.unit_count v.buffers) c.self.view_is)
+
+pub returns-clause-spare_units : goal.returns-clause-spare_units
+returns-clause-spare_units c =
+    let to = goal.at.returns-clause-spare_units c in let at = to.After-joins_back-back_joins in
+    let one = (ahead to.After-as_slice-after (front_is at) (front_rest at)).few in
+    let two = (behind to.After-as_slice-after (back_is at) (λ part e. (back_rest at part e).1)).few in
+    let before = c.as_slice-before.result.now in let after = c.as_slice-after.result.now in
+    omega (arith, one, two, length-append (before ++ c.args.text.now) after, length-append before c.args.text.now, c.append_some-added.ensures.spare, ap (λ v. v.spare_units) c.self.view_is)
 
 pub returns-clause-spare_breaks : goal.returns-clause-spare_breaks
 returns-clause-spare_breaks c =
-    let most = added_breaks c.carriage_return_if.result.now c.args.text.now c.line_feed_if.result.now c.joins_front-front.result c.joins_back-back.result c.carriage_return_if.ensures c.line_feed_if.ensures in
-    omega (arith, most, ap (λ v. v.spare_breaks) c.self.view_is, c.append_some-added.ensures.spare_breaks)
+    let to = goal.at.returns-clause-spare_breaks c in let at = to.After-joins_back-back_joins in
+    let one = (ahead to.After-as_slice-after (front_is at) (front_rest at)).breaks in
+    let two = (behind to.After-as_slice-after (back_is at) (λ part e. (back_rest at part e).1)).breaks in
+    omega (arith, added_breaks c.as_slice-before.result.now c.args.text.now c.as_slice-after.result.now one two, ap (λ v. v.spare_breaks) c.self.view_is, c.append_some-added.ensures.spare_breaks)
 
 pub returns-clause-dirty : goal.returns-clause-dirty
 returns-clause-dirty c =

@@ -1,8 +1,0 @@
--- What a page ends as, once a `&mut` into it has ended.
-use Rattle.std.specs.Prelude.{ℕ, List, slice_set, Option, Some}
-use Rattle.std.specs.Borrow.{Fml, RattleType, MutBor, Lends}
-use Rattle.raw_arena.specs.contracts.page.Page.{the_row}
-
--- the slot holds the last value that was written through r
-abbrev pub lends_item : (R : RattleType) → MutBor (List (Option R.Denot)) → ℕ → MutBor R.Denot → Fml
-lends_item R page i r = Lends (the_row R) R page r (λ w. slice_set page.now i (Some w))

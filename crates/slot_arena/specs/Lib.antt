@@ -1,0 +1,4 @@
+pub mod Arena
+pub mod Fields
+pub mod Links
+pub mod NodeLends
