@@ -2,15 +2,39 @@
 use Rattle.std.proofs.Common.{◌≡◌, ℕ, ◌+◌, ◌-◌, ◌≤◌, ◌<◌, ◌==◌, leb, Bool, true, false, ◌&&◌, if◌then◌else◌, List, [], ◌∷◌, ◌++◌, length, take, drop, get_or, map, refl, ap, sym, ◌∙◌, add-zero, arith}
 use Rattle.std.proofs.Common.{Result, Ok, Err}
 use Rattle.std.specs.Prelude.{IsOk, OnOk}
-use Rattle.std.proofs.lemmas.Bool.{lt-leb, both_ways}
+use Rattle.std.proofs.lemmas.Bool.{leb-true, lt-leb, both_ways}
 use Rattle.std.proofs.lemmas.List.{drop-drop, length-drop, length-append, length-map, length-take-le, get_or-map, get_or-drop, get_or-take, get_or_append_left, get_or_at}
-use Rattle.std.proofs.lemmas.List.Sums.{prefix_len-le-length}
+use Rattle.std.proofs.lemmas.List.Sums.{prefix_len-le-length, prefix_len_passes}
 use Rattle.text_rules.specs.Lines.{line_feed, carriage_return, line_start}
 use Rattle.text_rules.specs.Breaks.{break_ends, joins_pair, count_to, ends_with}
-use Rattle.text_rules.proofs.Breaks.{break_ends-take, break_ends_moved, drop-count_to, count_to-drop, count_to-take, count_to-moved, line_start_is, joins_pair_at, ends_with_last}
+use Rattle.text_rules.proofs.Breaks.{break_ends-take, break_ends_moved, break_ends_above, drop-count_to, count_to-drop, count_to-take, count_to-moved, line_start_is, joins_pair_at, ends_with_last}
 use Rattle.line_starts.specs.Starts.{break_count}
+use Rattle.line_starts.proofs.Blocks.{same_count}
 use Rattle.line_starts.proofs.Starts.{break_count_is, starts_of_is}
 use Rattle.chunk_buffers.specs.Buffer.{cut, breaks_to}
+
+-- the breaks that end up to a place, and those of what stands from there on
+pub count_to-rest : (place : ℕ) (x : List ℕ) → count_to place (break_ends 0 x) + length (break_ends 0 (drop place x)) ≡ length (break_ends 0 x)
+count_to-rest place x =
+    let rest = ap length (drop-count_to 0 place place x (omega arith)) in
+    let most = prefix_len-le-length (λ e. leb e place) (break_ends 0 x) in
+    omega (arith, rest, most, length-drop (count_to place (break_ends 0 x)) (break_ends 0 x), same_count place 0 (drop place x))
+
+module _ (place : ℕ) (x : List ℕ) (i : ℕ) where
+  -- a break among those that end up to a place ends there or before
+  pub ends_by : i < count_to place (break_ends 0 x) → get_or (break_ends 0 x) i 0 ≤ place
+  ends_by h = leb-true (get_or (break_ends 0 x) i 0) place (prefix_len_passes (λ e. leb e place) (break_ends 0 x) i 0 h)
+
+  -- and one that is not ends behind it
+  pub ends_behind : count_to place (break_ends 0 x) ≤ i → i < length (break_ends 0 x) → place < get_or (break_ends 0 x) i 0
+  ends_behind h inside =
+      let n = count_to place (break_ends 0 x) in
+      let there : n + (i - n) ≡ i = omega arith in
+      let rest = drop-count_to 0 place place x (omega arith) in
+      let moved : get_or (break_ends place (drop place x)) (i - n) 0 ≡ get_or (break_ends 0 x) i 0 =
+      ap (λ s. get_or s (i - n) 0) (sym rest) ∙ get_or-drop n (break_ends 0 x) (i - n) 0 ∙ ap (λ k. get_or (break_ends 0 x) k 0) there in
+      let long : i - n < length (break_ends place (drop place x)) = omega (arith, ap length rest, length-drop n (break_ends 0 x)) in
+      omega (arith, moved, break_ends_above place place (drop place x) (omega arith) (i - n) 0 long)
 
 -- the place at which a cut ends a break that goes on in the whole text
 abbrev pub cut_end : List ℕ → ℕ → ℕ → List ℕ

@@ -1,13 +1,13 @@
 -- Spans of buffers that grow.
-use Rattle.std.proofs.Common.{◌≡◌, ℕ, ◌+◌, ◌-◌, ◌<◌, ◌≤◌, ◌^◌, Bool, true, false, cond, List, [], ◌∷◌, ◌++◌, length, take, drop, set, get_or, map, refl, ap, sym, subst, ◌∙◌, inl, inr, append_assoc, arith}
+use Rattle.std.proofs.Common.{◌≡◌, ℕ, ◌+◌, ◌-◌, ◌<◌, ◌≤◌, Bool, true, false, cond, List, [], ◌∷◌, ◌++◌, length, take, drop, set, get_or, map, refl, ap, sym, subst, ◌∙◌, inl, inr, append_assoc, arith}
 use Rattle.std.proofs.lemmas.Bool.{cases_eq}
 use Rattle.std.proofs.lemmas.List.{length-append, length-map, map-set, get_or-map, length-set, length-take, length-take-le, length-drop, drop-drop, length_push, take_all, take_at, take-take, drop_at, drop-take, get_or-set_same, get_or-set_other, get_or_append_left}
 use Rattle.std.proofs.lemmas.List.Sums.{sum_by-set}
 use Rattle.std.proofs.Math.Seq.{map-set_same}
 use Rattle.text_rules.specs.Breaks.{joins_pair}
-use Rattle.chunk_buffers.specs.Buffer.{Filled, padding, padded}
+use Rattle.chunk_buffers.specs.Buffer.{most_units, Filled, padding, padded}
 use Rattle.chunk_buffers.specs.declared.span.ChunkSpan.{ChunkSpan}
-use Rattle.chunk_buffers.specs.Chunks.{buffer_at, units_at, LiesIn, Extends, EndsLast, unit_count, part_of, last_buffer}
+use Rattle.chunk_buffers.specs.Chunks.{most_buffers, buffer_at, units_at, LiesIn, Extends, EndsLast, unit_count, part_of, last_buffer}
 
 module _ (front whole : List ℕ) (is_front : take (length front) whole ≡ front) where
   front_le : length front ≤ length whole
@@ -42,6 +42,7 @@ Extends-push bs b = record {
 pub LiesIn-extended : (old new : List (List ℕ)) (span : ChunkSpan) → Extends old new → LiesIn old span → LiesIn new span
 LiesIn-extended old new span grown lies = record {
   buffer = omega arith;
+  few = lies.few;
   end = omega (arith, front_le _ _ (grown.fronts span.buffer lies.buffer));
   fits = lies.fits;
 }
@@ -83,9 +84,10 @@ module _ (bs : List (List ℕ)) (number start units : ℕ) (text new : List ℕ)
       ∙ ap (take units) (drop_at (padded (buffer_at bs number) text) text start (sym start_is))
       ∙ take_all units text (omega arith)
 
-  pub appended_inside : start + units < 2 ^ 63 → LiesIn (set bs number new) appended
-  appended_inside fits = record {
+  pub appended_inside : number < most_buffers → start + units ≤ most_units → LiesIn (set bs number new) appended
+  appended_inside few fits = record {
     buffer = omega (arith, length-set bs number new);
+    few = few;
     end = omega (arith, ap length there, length-append (padded (buffer_at bs number) text) text);
     fits = fits;
   }
@@ -128,9 +130,9 @@ pub record IsAppended (old new : List (List ℕ)) (span : ChunkSpan) (text : Lis
 
 pub IsAppended-at : (items : List Filled) (number : ℕ) (old new : Filled) (start units : ℕ) (text : List ℕ) → number + 1 ≡ length items
     → old ≡ get_or items number old → new.units ≡ padded old.units text ++ text → start ≡ length (padded old.units text) → units ≡ length text
-    → start + length text < 2 ^ 63
+    → length items ≤ most_buffers → start + length text ≤ most_units
     → IsAppended (map (λ b. b.units) items) (map (λ b. b.units) (set items number new)) (record { buffer = number; start = start; units = units }) text
-IsAppended-at items number old new start units text last old_is new_is start_is units_is fits =
+IsAppended-at items number old new start units text last old_is new_is start_is units_is few fits =
     let inside : number < length items = omega (arith, last) in
     let bs : List (List ℕ) = map (λ b. b.units) items in
     let here : buffer_at bs number ≡ old.units = get_or-map (λ (b : Filled). b.units) items number old [] inside ∙ ap (λ (b : Filled). b.units) (sym old_is) in
@@ -140,7 +142,7 @@ IsAppended-at items number old new start units text last old_is new_is start_is 
     rw (map-set (λ (b : Filled). b.units) items number new)
     (record {
       shown = appended_shown bs number start units text new.units within new_units place units_is;
-      inside = appended_inside bs number start units text new.units within new_units place units_is (omega arith);
+      inside = appended_inside bs number start units text new.units within new_units place units_is (omega (arith, last, few)) (omega arith);
       grown = appended_grown bs number start units text new.units within new_units place units_is;
       few = appended_count bs number start units text new.units within new_units place units_is;
       last = appended_last bs number start units text new.units within new_units place units_is (omega (arith, last, length-map items (λ (b : Filled). b.units)));

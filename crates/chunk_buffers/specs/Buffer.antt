@@ -1,5 +1,5 @@
 -- A buffer that texts are appended to.
-use Rattle.std.specs.Prelude.{ℕ, ◌-◌, List, [], ◌∷◌, ◌++◌, take, drop, if◌then◌else◌, nat_le}
+use Rattle.std.specs.Prelude.{ℕ, ◌-◌, ◌^◌, List, [], ◌∷◌, ◌++◌, take, drop, if◌then◌else◌, nat_le}
 use Rattle.std.specs.List.{prefix_len}
 use Rattle.line_starts.specs.Starts.{starts_of}
 use Rattle.text_rules.specs.Breaks.{joins_pair}
@@ -9,6 +9,10 @@ pub record Filled : Type 0 where
   pub units : List ℕ
   pub room : ℕ
   pub break_room : ℕ
+
+-- a buffer holds no more units, so that a place in it is a number of 32 bits
+abbrev pub most_units : ℕ
+most_units = 2 ^ 32 - 1
 
 abbrev pub padding : ℕ
 padding = 0x5F

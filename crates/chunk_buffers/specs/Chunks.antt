@@ -1,7 +1,7 @@
 -- Texts that lie in buffers, which only grow at their ends.
 use Rattle.std.specs.Prelude.{ℕ, ◌≡◌, ◌+◌, ◌-◌, ◌<◌, ◌≤◌, ◌^◌, List, [], length, take, drop, sum_by, slice_index_or}
 use Rattle.chunk_buffers.specs.declared.span.ChunkSpan.{ChunkSpan}
-use Rattle.chunk_buffers.specs.Buffer.{Filled, padded}
+use Rattle.chunk_buffers.specs.Buffer.{Filled, most_units, padded}
 
 -- what contracts see of chunks
 pub record Shown : Type 0 where
@@ -12,6 +12,10 @@ pub record Shown : Type 0 where
   -- how many breaks these units may have
   pub spare_breaks : ℕ
 
+-- there are no more buffers, so that the number of one is a number of 32 bits
+abbrev pub most_buffers : ℕ
+most_buffers = 2 ^ 32 - 1
+
 abbrev pub buffer_at : List (List ℕ) → ℕ → List ℕ
 buffer_at buffers number = slice_index_or buffers number []
 
@@ -19,11 +23,12 @@ buffer_at buffers number = slice_index_or buffers number []
 abbrev pub units_at : List (List ℕ) → ChunkSpan → List ℕ
 units_at buffers span = take span.units (drop span.start (buffer_at buffers span.buffer))
 
--- the span lies in these buffers
+-- the span lies in these buffers, of which there are fewer than 2^32
 pub record LiesIn (buffers : List (List ℕ)) (span : ChunkSpan) : Type 0 where
   pub buffer : span.buffer < length buffers
+  pub few : span.buffer < most_buffers
   pub end : span.start + span.units ≤ length (buffer_at buffers span.buffer)
-  pub fits : span.start + span.units < 2 ^ 63
+  pub fits : span.start + span.units ≤ most_units
 
 -- each old buffer is a front of its new one, so that a span shows the same units for good
 pub record Extends (old new : List (List ℕ)) : Type 0 where

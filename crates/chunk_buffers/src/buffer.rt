@@ -2,17 +2,23 @@
 
 ghost use Rattle.std.specs.Prelude.{◌≡◌, ℕ, ◌+◌, ◌-◌, ◌<◌, ◌≤◌, ◌&&◌, ◌==◌, ◌^◌, ◌++◌, ◌∷◌, if◌then◌else◌, List, [], length, take, drop, get_or, OnOk, OnErr, IfOk, IsOk, vec_len, vec_capacity};
 ghost use Rattle.std.specs.List.Sorted.{IsNonDecreasingBy};
-ghost use Rattle.chunk_buffers.specs.Buffer.{Filled, padding, padded, cut, breaks_to};
+ghost use Rattle.chunk_buffers.specs.Buffer.{Filled, most_units, padding, padded, cut, breaks_to};
 ghost use Rattle.line_starts.specs.Starts.{break_count, break_ends_at};
 ghost use Rattle.text_rules.specs.Lines.{line_start, line_feed, carriage_return, begins_with};
 ghost use Rattle.text_rules.specs.Breaks.{joins_pair, count_to, break_ends, ends_with};
 
-use line_starts::{count_breaks, find_break_ends};
+use line_starts::{breaks_between, count_breaks, find_break_ends, nth_break_end};
 use std::alloc::{AllocError, Global};
 use std::marker::Model;
 use unit_text::{CARRIAGE_RETURN, LINE_FEED};
 
 const PADDING: u16 = 0x5F;
+
+/// Breaks between places that are no further apart are found by reading the units, and others by searching where they end.
+const NEAR: usize = 64;
+
+/// A buffer holds no more units, so that a place in it is a number of 32 bits.
+const MOST_UNITS: usize = u32::MAX as usize;
 
 /// A buffer that texts are appended to. Contracts see its units, and how many more units and breaks fit without memory.
 #[derive(Drop)]
@@ -23,23 +29,24 @@ pub(crate) struct Buffer {
 }
 
 impl Model for Buffer {
-    ghost use Rattle.std.specs.Prelude.{◌≡◌, ◌-◌, vec_len, vec_capacity};
-    ghost use Rattle.chunk_buffers.specs.Buffer.{Filled};
+    ghost use Rattle.std.specs.Prelude.{◌≡◌, ◌-◌, ◌≤◌, min, vec_len, vec_capacity};
+    ghost use Rattle.chunk_buffers.specs.Buffer.{Filled, most_units};
     ghost use Rattle.text_rules.specs.Breaks.{break_ends};
 
     ghost Value = { Filled };
 
     ghost view = { λ b. record {
       units = b.units.items;
-      room = vec_capacity b.units - vec_len b.units;
+      room = min most_units (vec_capacity b.units) - vec_len b.units;
       break_room = vec_capacity b.ends - vec_len b.ends;
     } };
 
-    ghost invariant = { λ b. b.ends.items ≡ break_ends 0 b.units.items };
+    ghost invariant = { λ b. (b.ends.items ≡ break_ends 0 b.units.items) × (vec_len b.units ≤ most_units) };
 }
 
 impl Buffer {
-    /// A buffer without units, and with room for that many, which have that many breaks.
+    /// A buffer without units, and with room for that many, which have that many breaks. It fails where memory is short, and for more
+    /// units than a buffer holds.
     pub(crate) fn with_room(
         alloc: Global,
         units: usize,
@@ -49,16 +56,23 @@ impl Buffer {
         ensures room { IfOk result (λ buffer. units ≤ buffer.room) }
         ensures break_room { IfOk result (λ buffer. breaks ≤ buffer.break_room) }
     {
+        if units > MOST_UNITS {
+            return Err(AllocError);
+        }
         let ends = Vec::with_capacity(alloc, breaks)?;
         let units = Vec::with_capacity(alloc, units)?;
         Ok(Buffer { units, ends })
     }
 
-    /// A buffer that holds the text, and no more room than it takes.
+    /// A buffer that holds the text, and no more room than it takes. It fails where memory is short, and for a text that is longer
+    /// than a buffer.
     pub(crate) fn of_text(alloc: Global, text: &[u16]) -> Result<Buffer, AllocError>
         ensures units { IfOk result (λ buffer. buffer.units ≡ text.now) }
-        ensures fits { OnOk result (length text.now < 2 ^ 63) }
+        ensures fits { OnOk result (length text.now ≤ most_units) }
     {
+        if text.len() > MOST_UNITS {
+            return Err(AllocError);
+        }
         let mut ends = Vec::with_capacity(alloc, count_breaks(text) as usize)?;
         find_break_ends(text, 0, &mut ends)?;
         let units = Vec::from_slice(alloc, text)?;
@@ -74,7 +88,7 @@ impl Buffer {
     pub(crate) fn room(&self) -> usize
         ensures { result ≡ self.now.room }
     {
-        self.units.capacity() - self.units.len()
+        MOST_UNITS.min(self.units.capacity()) - self.units.len()
     }
 
     /// Makes room for that many breaks. An error leaves all as it was.
@@ -102,7 +116,7 @@ impl Buffer {
             self.new.units ≡ padded self.old.units whole ++ whole }
         ensures start { result ≡ length
             (padded self.old.units (before.now ++ text.now ++ after.now)) }
-        ensures fits { result + length (before.now ++ text.now ++ after.now) < 2 ^ 63 }
+        ensures fits { result + length (before.now ++ text.now ++ after.now) ≤ most_units }
         ensures room { self.old.room
             ≤ self.new.room + length (before.now ++ text.now ++ after.now) + 1 }
         ensures break_room { self.old.break_room
@@ -131,11 +145,11 @@ impl Buffer {
         requires inside { to ≤ length self.now.units }
         ensures { result ≡ break_count (cut self.now.units from to) }
     {
-        let whole = self.ends_to(to) - self.ends_to(from);
+        let whole = self.ends_between(from, to);
         if cuts_pair(self.units(), from, to) {
-            whole as u64 + 1
+            whole + 1
         } else {
-            whole as u64
+            whole
         }
     }
 
@@ -147,12 +161,30 @@ impl Buffer {
         requires there { k ≤ break_count (cut self.now.units from to) }
         ensures { result ≡ line_start (cut self.now.units from to) (k + 1) }
     {
-        let index = self.ends_to(from) + (k - 1) as usize;
-        if index < self.ends_to(to) {
-            self.end(index) - from as u64
-        } else {
-            (to - from) as u64
+        (self.nth_end(from, to, k) - from) as u64
+    }
+
+    // The place after the `k`-th break that ends behind the first place, and at most the second place.
+    fn nth_end(&self, from: usize, to: usize, k: u64) -> usize
+        requires ordered { from ≤ to }
+        requires inside { to ≤ length self.now.units }
+        requires first { 0 < k }
+        requires there { k ≤ break_count (cut self.now.units from to) }
+        ensures there { let ends = break_ends 0 self.now.units in
+            count_to from ends + k ≤ count_to to ends
+            → result ≡ get_or ends (count_to from ends + k - 1) 0 }
+        ensures past { let ends = break_ends 0 self.now.units in
+            count_to to ends < count_to from ends + k → result ≡ to }
+        ensures within { (from ≤ result) × (result ≤ to) }
+    {
+        if to - from <= NEAR {
+            return nth_break_end(self.units(), from, to, k);
         }
+        let index = self.ends_to(from) + (k - 1) as usize;
+        if index >= self.ends.len() {
+            return to;
+        }
+        to.min(self.end(index) as usize)
     }
 
     /// How many breaks of the units between two places end `place` units after the first of them, or earlier.
@@ -161,7 +193,21 @@ impl Buffer {
         requires inside { to ≤ length self.now.units }
         ensures { result ≡ breaks_to (cut self.now.units from to) place }
     {
-        (self.ends_to(from + place) - self.ends_to(from)) as u64
+        self.ends_between(from, from + place)
+    }
+
+    // How many breaks end behind the first place, up to the second.
+    fn ends_between(&self, from: usize, to: usize) -> u64
+        requires ordered { from ≤ to }
+        requires inside { to ≤ length self.now.units }
+        ensures count { result + count_to from (break_ends 0 self.now.units)
+            ≡ count_to to (break_ends 0 self.now.units) }
+        ensures few { result < 2 ^ 63 }
+    {
+        if to - from <= NEAR {
+            return breaks_between(self.units(), from, to);
+        }
+        (self.ends_to(to) - self.ends_to(from)) as u64
     }
 
     fn end(&self, index: usize) -> u64

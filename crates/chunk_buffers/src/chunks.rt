@@ -14,6 +14,9 @@ use std::marker::Model;
 /// The least room of a buffer, in units.
 const LEAST_ROOM: usize = 4096;
 
+/// There are no more buffers, so that the number of one is a number of 32 bits.
+const MOST_BUFFERS: usize = u32::MAX as usize;
+
 /// Texts in buffers that only grow at their ends, so that a span shows the same units for good.
 ///
 /// A buffer is never moved: where a text has no room in the last one, a new one is begun.
@@ -26,8 +29,8 @@ pub struct Chunks {
 }
 
 impl Model for Chunks {
-    ghost use Rattle.std.specs.Prelude.{map, ◌≤◌};
-    ghost use Rattle.chunk_buffers.specs.Chunks.{Shown, last_buffer};
+    ghost use Rattle.std.specs.Prelude.{map, length, ◌≤◌};
+    ghost use Rattle.chunk_buffers.specs.Chunks.{Shown, last_buffer, most_buffers};
 
     ghost Value = { Shown };
 
@@ -37,7 +40,7 @@ impl Model for Chunks {
       spare_breaks = c.spare_breaks;
     } };
 
-    ghost invariant = { λ c. c.spare_breaks ≤ (last_buffer c.buffers.items).break_room };
+    ghost invariant = { λ c. (c.spare_breaks ≤ (last_buffer c.buffers.items).break_room) × (length c.buffers.items ≤ most_buffers) };
 }
 
 impl Chunks {
@@ -53,7 +56,8 @@ impl Chunks {
         }
     }
 
-    /// Makes room for that many texts with that many units and that many breaks together. An error leaves all as it was.
+    /// Makes room for that many texts with that many units and that many breaks together. It fails where memory is short, and where
+    /// they are longer than a buffer may be. An error leaves all as it was.
     pub fn reserve(&mut self, texts: u64, units: u64, breaks: u64) -> Result<(), AllocError>
         ensures ok { OnOk result (texts + units ≤ self.new.spare) }
         ensures breaks { OnOk result (breaks ≤ self.new.spare_breaks) }
@@ -100,6 +104,9 @@ impl Chunks {
         ensures err { OnErr result (self.new ≡ self.old) }
     {
         let buffer = Buffer::with_room(self.alloc, units.max(LEAST_ROOM), breaks as usize)?;
+        if self.buffers.len() == MOST_BUFFERS {
+            return Err(AllocError);
+        }
         self.buffers.push(buffer)?;
         self.spare_breaks = breaks;
         Ok(())
@@ -155,13 +162,14 @@ impl Chunks {
         let start = buffer.append(before, text, after);
         self.spare_breaks -= buffer.break_count() - breaks;
         ChunkSpan {
-            buffer: number as u64,
-            start: start as u64,
-            units: (before.len() + text.len() + after.len()) as u64,
+            buffer: number as u32,
+            start: start as u32,
+            units: (before.len() + text.len() + after.len()) as u32,
         }
     }
 
-    /// Appends the text to a buffer of its own, which takes the memory for it and no more.
+    /// Appends the text to a buffer of its own, which takes the memory for it and no more. It fails where memory is short, and for a
+    /// text that is longer than a buffer may be.
     pub fn append_whole(&mut self, text: &[u16]) -> Result<ChunkSpan, AllocError>
         ensures shown { IfOk result (λ span. units_at self.new.buffers span ≡ text.now) }
         ensures inside { IfOk result (λ span. LiesIn self.new.buffers span) }
@@ -172,12 +180,15 @@ impl Chunks {
     {
         let buffer = Buffer::of_text(self.alloc, text)?;
         let number = self.buffers.len();
+        if number == MOST_BUFFERS {
+            return Err(AllocError);
+        }
         self.buffers.push(buffer)?;
         self.spare_breaks = 0;
         Ok(ChunkSpan {
-            buffer: number as u64,
+            buffer: number as u32,
             start: 0,
-            units: text.len() as u64,
+            units: text.len() as u32,
         })
     }
 
@@ -186,8 +197,8 @@ impl Chunks {
         requires { LiesIn self.now.buffers span }
         ensures { result.now ≡ units_at self.now.buffers span }
     {
-        let (start, end) = (span.start as usize, (span.start + span.units) as usize);
-        &self.buffers[span.buffer as usize].units()[start..end]
+        let start = span.start as usize;
+        &self.buffers[span.buffer as usize].units()[start..start + span.units as usize]
     }
 
     /// How many breaks the units of the span have.
@@ -232,8 +243,8 @@ impl Chunks {
     {
         ChunkSpan {
             buffer: span.buffer,
-            start: span.start + from,
-            units: to - from,
+            start: span.start + from as u32,
+            units: (to - from) as u32,
         }
     }
 }

@@ -4,9 +4,9 @@
 #[derive(Clone, Copy, PartialEq, Eq, Debug)]
 pub struct ChunkSpan {
     /// The number of the buffer, from 0.
-    pub buffer: u64,
+    pub buffer: u32,
     /// How many units of the buffer stand before it.
-    pub start: u64,
+    pub start: u32,
     /// How many units it has.
-    pub units: u64,
+    pub units: u32,
 }

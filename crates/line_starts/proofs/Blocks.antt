@@ -1,11 +1,12 @@
 -- What several units that are looked at together tell of the breaks.
-use Rattle.std.proofs.Common.{◌≡◌, ℕ, zero, suc, ◌+◌, ◌-◌, ◌*◌, ◌/◌, ◌^◌, ◌<◌, ◌≤◌, ◌==◌, Bool, cond, true, false, not, ◌&&◌, ◌||◌, if◌then◌else◌, List, [], ◌∷◌, ◌++◌, length, take, drop, map, refl, ap, ap₂, sym, subst, ◌∙◌, add-zero, arith, eqb, bit_and, bit_or}
-use native.Mathlib.Nat.{pow-suc, pow-zero, mul_comm, zero-div, div-one, div-div-eq-div-mul}
+use Rattle.std.proofs.Common.{◌≡◌, ℕ, zero, suc, ◌+◌, ◌-◌, ◌*◌, ◌/◌, ◌%◌, ◌^◌, ◌<◌, ◌≤◌, ◌==◌, Bool, cond, true, false, not, ◌&&◌, ◌||◌, if◌then◌else◌, List, [], ◌∷◌, ◌++◌, length, take, drop, map, refl, ap, ap₂, sym, subst, ◌∙◌, add-zero, arith, eqb, bit_and, bit_or}
+use native.Mathlib.Nat.{pow-suc, pow-zero, mul_comm, zero-div, zero-mod, mod-one, div-one, div-div-eq-div-mul}
 use lib.Count.{ones, ones-le, count_trailing_zeros}
 use lib.Lanes.{chunk, zip2, mask_l, top}
 use Rattle.std.specs.List.{prefix_len}
 use Rattle.std.proofs.lemmas.Bool.{eqb-true}
-use Rattle.std.proofs.lemmas.List.{length-append, length-drop, drop-drop, map-id}
+use Rattle.std.proofs.lemmas.List.{length-append, length-drop, drop-drop, take-take, map-id}
+use Rattle.std.proofs.lemmas.Nat.{mod-pow-add}
 use Rattle.std.proofs.lemmas.Simd.{length-chunk, length-zip2, ones-mask_l_cons, trailing_mask_l}
 use Rattle.text_rules.specs.Lines.{line_feed, carriage_return}
 use Rattle.text_rules.specs.Breaks.{ends_break, break_ends}
@@ -107,11 +108,46 @@ block_count at x inside =
     let rest = drop (at + 32) x in
     omega (arith, marks_counted 0 ms, same_count 0 (0 + 32) rest, length-append (marked 0 ms) (break_ends (0 + 32) rest), ap length (block_breaks at x inside 0))
 
--- ---- marks by the bits of a number
+-- ---- the first of the marks
 
 halved : (m : Bool) (n : ℕ) → (cond m 1 0 + 2 * n) / 2 ≡ n
 halved true n = omega arith
 halved false n = omega arith
+
+odd : (m : Bool) (n : ℕ) → (cond m 1 0 + 2 * n) % 2 ≡ cond m 1 0
+odd true n = omega arith
+odd false n = omega arith
+
+-- a mask of the first marks is what is left of the mask of all
+mask_front : (k : ℕ) (ms : List Bool) → mask_l ms % 2 ^ k ≡ mask_l (take k ms)
+mask_front zero ms = ap (λ n. mask_l ms % n) (pow-zero 2) ∙ mod-one (mask_l ms)
+mask_front (suc k) [] = zero-mod (2 ^ suc k)
+mask_front (suc k) (m ∷ ms) =
+    let half = ap (λ n. n % 2 ^ k) (halved m (mask_l ms)) ∙ mask_front k ms in
+    let parts : mask_l (m ∷ ms) % 2 ^ suc k ≡ (mask_l (m ∷ ms) / 2 % 2 ^ k) * 2 + mask_l (m ∷ ms) % 2 = ap (λ n. mask_l (m ∷ ms) % 2 ^ n) (omega arith) ∙ mod-pow-add (mask_l (m ∷ ms)) k 1 in
+    omega (arith, parts, half, odd m (mask_l ms))
+
+take-zip2 : (k : ℕ) (xs ys : List ℕ) → take k (zip2 ends_before xs ys) ≡ zip2 ends_before (take k xs) (take k ys)
+take-zip2 zero xs ys = refl
+take-zip2 (suc k) [] ys = refl
+take-zip2 (suc k) (x ∷ xs) [] = refl
+take-zip2 (suc k) (x ∷ xs) (y ∷ ys) = ap (λ l. ends_before x y ∷ l) (take-zip2 k xs ys)
+
+module _ (at : ℕ) (x : List ℕ) (inside : at + 32 < length x) (k : ℕ) (few : k ≤ 32) where
+  pub front_count : ones (mask_l (block_marks at x) % 2 ^ k) + length (break_ends 0 (drop (at + k) x)) ≡ length (break_ends 0 (drop at x))
+  front_count =
+      let s = drop at x in
+      let marks : take k (block_marks at x) ≡ zip2 ends_before (take k s) (take k (drop 1 s)) =
+      take-zip2 k (chunk at 32 x) (chunk (at + 1) 32 x)
+      ∙ (λ i. zip2 ends_before (take-take k 32 s few i) (take-take k 32 (drop (at + 1) x) few i))
+      ∙ sym (λ i. zip2 ends_before (take k s) (take k (drop-drop 1 at x i))) in
+      let all = ap length (block_ends k 0 s (omega (arith, length-drop at x))) in
+      let counted = ap ones (mask_front k (block_marks at x) ∙ ap mask_l marks) ∙ marks_counted 0 (zip2 ends_before (take k s) (take k (drop 1 s))) in
+      let rest = same_count 0 (0 + k) (drop k s) in
+      let there = ap (λ l. length (break_ends 0 l)) (drop-drop k at x) in
+      omega (arith, counted, all, rest, there, length-append (marked 0 (zip2 ends_before (take k s) (take k (drop 1 s)))) (break_ends (0 + k) (drop k s)))
+
+-- ---- marks by the bits of a number
 
 mask_dropped : (k : ℕ) (ms : List Bool) → mask_l ms / 2 ^ k ≡ mask_l (drop k ms)
 mask_dropped zero ms = ap (λ n. mask_l ms / n) (pow-zero 2) ∙ div-one (mask_l ms)

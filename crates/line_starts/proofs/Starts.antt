@@ -1,14 +1,15 @@
 -- The definitions of starts by the places at which breaks end.
-use Rattle.std.proofs.Common.{◌≡◌, ℕ, ◌+◌, ◌<◌, ◌≤◌, true, false, List, [], ◌∷◌, ◌++◌, length, drop, get_or, ap, sym, ◌∙◌, add-zero, add_assoc, append_assoc, arith}
-use Rattle.std.proofs.lemmas.List.{drop_more, drop_all}
+use Rattle.std.proofs.Common.{◌≡◌, ℕ, ◌+◌, ◌<◌, ◌≤◌, true, false, List, [], ◌∷◌, ◌++◌, length, drop, get_or, refl, ap, sym, ◌∙◌, add-zero, add_assoc, append_assoc, arith}
+use Rattle.std.proofs.lemmas.Bool.{le-leb}
+use Rattle.std.proofs.lemmas.List.{drop_more, drop_all, get_or-drop}
 use Rattle.text_lengths.specs.declared.Length.{Length}
 use Rattle.text_lengths.specs.Length.{length_of, length_plus}
 use Rattle.text_lengths.proofs.Lengths.{plus_none}
 use Rattle.text_rules.specs.Lines.{text_length}
 use Rattle.text_rules.proofs.TextLengths.{counted_break, counted_column}
 use Rattle.line_starts.specs.Starts.{starts_of, break_count, break_ends_at}
-use Rattle.text_rules.specs.Breaks.{break_ends, ends_break}
-use Rattle.text_rules.proofs.Breaks.{starts_are, break_ends_moved, line_count_is}
+use Rattle.text_rules.specs.Breaks.{break_ends, count_to, ends_break}
+use Rattle.text_rules.proofs.Breaks.{starts_are, break_ends_moved, line_count_is, drop-count_to, count_to-drop, count_to_none}
 
 pub starts_of_is : (x : List ℕ) → starts_of x ≡ 0 ∷ break_ends 0 x
 starts_of_is x = starts_are x
@@ -25,6 +26,30 @@ module _ (at i : ℕ) (x : List ℕ) (inside : i < length x) where
 
   pub break_ends_at_other : ends_break (get_or x i 0) (drop (i + 1) x) ≡ false → break_ends at (drop i x) ≡ break_ends (at + 1) (drop (i + 1) x)
   break_ends_at_other e = rw (drop_more x i 0 inside, e)
+
+-- how many breaks end up to a place, one unit further on
+module _ (i : ℕ) (x : List ℕ) (inside : i < length x) where
+  further : count_to i (break_ends 0 x) + count_to (i + 1) (break_ends i (drop i x)) ≡ count_to (i + 1) (break_ends 0 x)
+  further =
+      ap (λ s. count_to i (break_ends 0 x) + count_to (i + 1) s) (sym (drop-count_to 0 i i x (omega arith))) ∙ count_to-drop i (i + 1) (break_ends 0 x) (omega arith)
+
+  pub count_at_end : ends_break (get_or x i 0) (drop (i + 1) x) ≡ true
+      → (count_to (i + 1) (break_ends 0 x) ≡ count_to i (break_ends 0 x) + 1) × (get_or (break_ends 0 x) (count_to i (break_ends 0 x)) 0 ≡ i + 1)
+  count_at_end e =
+      let here : break_ends i (drop i x) ≡ (i + 1) ∷ break_ends (i + 1) (drop (i + 1) x) = break_ends_at_end i i x inside e in
+      let none : count_to (i + 1) (break_ends (i + 1) (drop (i + 1) x)) ≡ 0 = count_to_none (i + 1) (i + 1) (drop (i + 1) x) (omega arith) in
+      let one : count_to (i + 1) ((i + 1) ∷ break_ends (i + 1) (drop (i + 1) x)) ≡ 1 = rw (le-leb (i + 1) (i + 1) (omega arith), none) refl in
+      let rest : drop (count_to i (break_ends 0 x)) (break_ends 0 x) ≡ (i + 1) ∷ break_ends (i + 1) (drop (i + 1) x) = drop-count_to 0 i i x (omega arith) ∙ here in
+      let first : get_or (drop (count_to i (break_ends 0 x)) (break_ends 0 x)) 0 0 ≡ get_or (break_ends 0 x) (count_to i (break_ends 0 x) + 0) 0 =
+      get_or-drop (count_to i (break_ends 0 x)) (break_ends 0 x) 0 0 in (
+        omega (arith, further, ap (count_to (i + 1)) here, one),
+        ap (λ n. get_or (break_ends 0 x) n 0) (sym (add-zero (count_to i (break_ends 0 x)))) ∙ sym first ∙ ap (λ s. get_or s 0 0) rest,
+      )
+
+  pub count_at_other : ends_break (get_or x i 0) (drop (i + 1) x) ≡ false → count_to (i + 1) (break_ends 0 x) ≡ count_to i (break_ends 0 x)
+  count_at_other e =
+      let none : count_to (i + 1) (break_ends (i + 1) (drop (i + 1) x)) ≡ 0 = count_to_none (i + 1) (i + 1) (drop (i + 1) x) (omega arith) in
+      omega (arith, further, ap (count_to (i + 1)) (break_ends_at_other i i x inside e), none)
 
 module _ (out whole : List ℕ) (start i : ℕ) (x : List ℕ) (inside : i < length x) where
   pub push_at_end : ends_break (get_or x i 0) (drop (i + 1) x) ≡ true → out ++ break_ends (start + i) (drop i x) ≡ whole

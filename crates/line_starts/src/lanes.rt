@@ -1,6 +1,6 @@
 //! Breaks by lanes: several units are looked at together.
 
-ghost use Rattle.std.specs.Prelude.{◌≡◌, ◌+◌, ◌*◌, ◌<◌, ◌∷◌, [], length, drop};
+ghost use Rattle.std.specs.Prelude.{◌≡◌, ◌+◌, ◌*◌, ◌<◌, ◌≤◌, ◌∷◌, [], length, drop};
 ghost use Rattle.std.specs.Simd.Lanes.{chunk, zip2, mask_l};
 ghost use Rattle.text_rules.specs.Breaks.{break_ends, ends_break};
 
@@ -34,6 +34,17 @@ pub(crate) fn breaks_in_block(units: &[u16], at: usize) -> u32
         ≡ length (break_ends 0 (drop at units.now)) }
 {
     ends_in_block(units, at).count_ones()
+}
+
+/// How many breaks end with the first `many` of `LANES` units.
+#[inline(always)]
+pub(crate) fn breaks_in_front(units: &[u16], at: usize, many: usize) -> u32
+    requires within { at + 32 < length units.now }
+    requires few { many ≤ 32 }
+    ensures { result + length (break_ends 0 (drop (at + many) units.now))
+        ≡ length (break_ends 0 (drop at units.now)) }
+{
+    (ends_in_block(units, at) % (1 << many)).count_ones()
 }
 
 /// How many breaks end with `LANES` units at each of four places, which are so many units apart.

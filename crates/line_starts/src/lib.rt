@@ -3,13 +3,13 @@
 
 mod lanes;
 
-ghost use Rattle.std.specs.Prelude.{◌≡◌, ℕ, ◌+◌, ◌*◌, ◌<◌, ◌≤◌, ◌^◌, ◌++◌, true, false, List, length, drop, get_or, OnOk, OnErr, IsOk, vec_len, vec_capacity, take};
+ghost use Rattle.std.specs.Prelude.{◌≡◌, ℕ, ◌+◌, ◌-◌, ◌*◌, ◌<◌, ◌≤◌, ◌^◌, ◌++◌, true, false, List, length, drop, get_or, OnOk, OnErr, IsOk, vec_len, vec_capacity, take};
 ghost use Rattle.line_starts.specs.Starts.{starts_of, break_count, break_ends_at};
 ghost use Rattle.text_lengths.specs.Length.{length_plus};
-ghost use Rattle.text_rules.specs.Breaks.{break_ends, ends_break, joins_pair};
+ghost use Rattle.text_rules.specs.Breaks.{break_ends, count_to, ends_break, joins_pair};
 ghost use Rattle.text_rules.specs.Lines.{text_length};
 
-use crate::lanes::{LANES, breaks_in_block, breaks_in_blocks, ends_in_block};
+use crate::lanes::{LANES, breaks_in_block, breaks_in_blocks, breaks_in_front, ends_in_block};
 use std::alloc::AllocError;
 use text_lengths::Length;
 use unit_text::{CARRIAGE_RETURN, LINE_FEED};
@@ -138,8 +138,9 @@ fn apart(units: &[u16]) -> usize
     }
 }
 
-// How many breaks end with the units between two places.
-fn breaks_between(units: &[u16], from: usize, to: usize) -> u64
+/// How many breaks end with the units between two places: those of the text from the first place on are these, and those from the
+/// second on.
+pub fn breaks_between(units: &[u16], from: usize, to: usize) -> u64
     requires { (from ≤ to) × (to ≤ length units.now) }
     ensures { result + length (break_ends 0 (drop to units.now))
         ≡ length (break_ends 0 (drop from units.now)) }
@@ -150,7 +151,20 @@ fn breaks_between(units: &[u16], from: usize, to: usize) -> u64
         breaks += u64::from(breaks_in_block(units, at));
         at += LANES;
     }
-    breaks + breaks_one_by_one(units, at, to)
+    breaks + breaks_in_rest(units, at, to)
+}
+
+// How many breaks end with the units between two places that are at most `LANES` apart.
+fn breaks_in_rest(units: &[u16], from: usize, to: usize) -> u64
+    requires between { (from ≤ to) × (to ≤ length units.now) }
+    requires near { to ≤ from + 32 }
+    ensures { result + length (break_ends 0 (drop to units.now))
+        ≡ length (break_ends 0 (drop from units.now)) }
+{
+    if from + LANES < units.len() {
+        return u64::from(breaks_in_front(units, from, to - from));
+    }
+    breaks_one_by_one(units, from, to)
 }
 
 fn breaks_one_by_one(units: &[u16], from: usize, to: usize) -> u64
@@ -165,6 +179,30 @@ fn breaks_one_by_one(units: &[u16], from: usize, to: usize) -> u64
         }
     }
     breaks
+}
+
+/// The place after the `k`-th break that ends with the units between two places; where there are fewer, the second place. Breaks
+/// count from 1.
+pub fn nth_break_end(units: &[u16], from: usize, to: usize, k: u64) -> usize
+    requires ordered { from ≤ to }
+    requires inside { to ≤ length units.now }
+    requires first { 0 < k }
+    ensures there { let ends = break_ends 0 units.now in count_to from ends + k ≤ count_to to ends
+        → result ≡ get_or ends (count_to from ends + k - 1) 0 }
+    ensures past { let ends = break_ends 0 units.now in count_to to ends < count_to from ends + k
+        → result ≡ to }
+    ensures within { (from ≤ result) × (result ≤ to) }
+{
+    let mut left = k;
+    for at in from..to {
+        if is_break_end(units, at) {
+            left -= 1;
+            if left == 0 {
+                return at + 1;
+            }
+        }
+    }
+    to
 }
 
 /// How long the units are. Cut in two anywhere but inside a CR LF, they are as long as the two parts together.

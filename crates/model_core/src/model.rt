@@ -25,7 +25,7 @@ ghost use Rattle.model_core.specs.Errors.{error_of, refusal_of, shelf_error_of};
 use crate::brackets::{parse_again, renew};
 use crate::change::{
     Change, Way, alternative_after, apply, lead, make_room, next_step, pass_step, reserve_for,
-    text_breaks,
+    seek_first, text_breaks,
 };
 use crate::last_parse::{LastParse, unparsed};
 use crate::places::{is_position, place_of, told};
@@ -133,7 +133,7 @@ impl Model {
     }
 
     /// Puts a new document with this text and these brackets in place of the old one. A text above the limit is refused
-    /// with `Limit`.
+    /// with `Limit`, and with `Memory` one for which memory is short, as for each of 2^32 units or more.
     pub fn open_doc(&mut self, text: &[u16], table: BracketTable) -> Result<(), ModelError>
         ensures document { Changes result self.old.document self.new.document
             (flat_open text.now table) }
@@ -194,6 +194,7 @@ impl Model {
         ensures parse { KeepsParse self.old self.new }
         ensures ready { PreparesEdit ops.items result self.new }
     {
+        seek_first(&mut self.text, &ops);
         let batch = Batch::checked(ops, &self.text).map_err(error_of)?;
         let next = raised(self.version, 1).ok_or(ModelError::Limit)?;
         let inverse = batch

@@ -1,5 +1,5 @@
 -- Look-ups one after another, and what one costs in numbers.
-use Rattle.std.proofs.Common.{◌≡◌, ℕ, ◌+◌, ◌-◌, ◌*◌, ◌<◌, ◌≤◌, ◌^◌, sym, ◌∙◌, ap, subst, arith, lit≤, lit<}
+use Rattle.std.proofs.Common.{◌≡◌, ℕ, ◌+◌, ◌-◌, ◌*◌, ◌≤◌, ◌^◌, sym, ap, subst, arith, lit≤, lit<}
 use Rattle.std.proofs.Math.Nat.{pow-le-pow_right, one-le-pow, mul-le-mul}
 use Rattle.std.proofs.lemmas.Nat.{pow-add}
 use Rattle.piece_tree.specs.Costs.{WithinLookUps}

@@ -1,5 +1,5 @@
 -- Cutting a list of pieces, and what the parts have.
-use Rattle.std.proofs.Common.{◌≡◌, ℕ, ◌+◌, ◌-◌, ◌<◌, ◌≤◌, Option, Some, None, List, [], ◌∷◌, ◌++◌, drop, refl, ap, sym, subst, ◌∙◌, inl, inr, zero-add, arith}
+use Rattle.std.proofs.Common.{◌≡◌, ℕ, ◌+◌, ◌-◌, ◌<◌, ◌≤◌, List, [], ◌∷◌, ◌++◌, drop, refl, ap, sym, subst, ◌∙◌, inl, inr, zero-add, arith}
 use Rattle.std.specs.List.{All}
 use Rattle.std.proofs.lemmas.Bool.{lt-leb, le-leb, cases_lt, cases_eq, ne_eqb}
 use Rattle.std.proofs.lemmas.List.{length-take}
@@ -7,7 +7,6 @@ use Rattle.std.proofs.lemmas.List.Elements.{All-head, All-tail, All-cons, All-ni
 use Rattle.std.proofs.lemmas.List.Sums.{sum_by-append}
 use Rattle.chunk_buffers.specs.declared.span.ChunkSpan.{ChunkSpan}
 use Rattle.chunk_buffers.specs.Chunks.{units_at, LiesIn, part_of, buffer_at}
-use Rattle.std.specs.Option.{ForSome}
 use Rattle.line_starts.proofs.Starts.{break_count_is}
 use Rattle.text_rules.proofs.Breaks.{break_ends_few}
 use Rattle.piece_tree.specs.declared.piece.Piece.{Piece}
@@ -105,7 +104,7 @@ module _ (b : List (List ℕ)) where
       ]
 
   pub inside_part : (span : ChunkSpan) (from to : ℕ) → from ≤ to → to ≤ span.units → LiesIn b span → LiesIn b (part_of span from to)
-  inside_part span from to ordered within lies = record { buffer = lies.buffer; end = omega arith; fits = omega arith }
+  inside_part span from to ordered within lies = record { buffer = lies.buffer; few = lies.few; end = omega arith; fits = omega (arith, lies.fits) }
 
   pieces-both : (n : ℕ) (ps : List Piece) → All (IsPieceOf b) ps → All (IsPieceOf b) (front b n ps) × All (IsPieceOf b) (back b n ps)
   pieces-both n [] all = (all, all)

@@ -38,19 +38,21 @@ gives_way_place items at found offset deleted span gives is stands told given =
     let (starts, whole, apart) = gives_way_parts found offset deleted span (in_order us) (sym (told us (piece_found found) vs e) ∙ given) in
     (us, (vs, e, sym starts ∙ count, omega (arith, has.end, starts), whole, apart))
 
-front_of_pushed : (xs ys : List Piece) (x y : Piece) → xs ++ x ∷ [] ≡ ys ++ y ∷ [] → xs ≡ ys
-front_of_pushed [] [] x y e = refl
-front_of_pushed [] (b ∷ ys) x y e = absurd (omega (arith, ap length e, length-append ys (y ∷ [])))
-front_of_pushed (a ∷ xs) [] x y e = absurd (omega (arith, ap length e, length-append xs (x ∷ [])))
-front_of_pushed (a ∷ xs) (b ∷ ys) x y e =
-    let first : a ≡ b = cc in let rest : xs ++ x ∷ [] ≡ ys ++ y ∷ [] = cc in λ i. first i ∷ front_of_pushed xs ys x y rest i
+same_pushed : (xs ys : List Piece) (x y : Piece) → xs ++ x ∷ [] ≡ ys ++ y ∷ [] → (xs ≡ ys) × (x ≡ y)
+same_pushed [] [] x y e = let last : x ≡ y = cc in (refl, last)
+same_pushed [] (b ∷ ys) x y e = absurd (omega (arith, ap length e, length-append ys (y ∷ [])))
+same_pushed (a ∷ xs) [] x y e = absurd (omega (arith, ap length e, length-append xs (x ∷ [])))
+same_pushed (a ∷ xs) (b ∷ ys) x y e =
+    let first : a ≡ b = cc in let rest : xs ++ x ∷ [] ≡ ys ++ y ∷ [] = cc in
+    let (same, last) = same_pushed xs ys x y rest in (λ i. first i ∷ same i, last)
 
 -- the item that ends the front, and what stands on both sides of it
 pub ends_front : (items : List (ℕ × Piece)) (id : ℕ) (first : List Piece) (x : Piece) (second : List Piece) → Parted items (Some id) (first ++ x ∷ []) second
-    → (us : List (ℕ × Piece)) × ((y : Piece) × ((vs : List (ℕ × Piece)) × SplitsAt items id us y vs × (in_order us ≡ first) × (in_order vs ≡ second)))
+    → (us : List (ℕ × Piece)) × ((y : Piece) × ((vs : List (ℕ × Piece)) × SplitsAt items id us y vs × (in_order us ≡ first) × (in_order vs ≡ second) × (y ≡ x)))
 ends_front items id first x second (fs, (vs, (e, (us, (y, last))), fe, se)) =
     let pushed = sym (in_order-append us ((id, y) ∷ [])) ∙ ap in_order (sym last) ∙ fe in
-    (us, (y, (vs, e ∙ ap (λ l. l ++ vs) last ∙ append_assoc us ((id, y) ∷ []) vs, front_of_pushed (in_order us) first y x pushed, se)))
+    let (same, own) = same_pushed (in_order us) first y x pushed in
+    (us, (y, (vs, e ∙ ap (λ l. l ++ vs) last ∙ append_assoc us ((id, y) ∷ []) vs, same, se, own)))
 
 -- the pieces have room for a span in the place of a piece and of the units that go behind it
 pub room_over : (items us : List (ℕ × Piece)) (id : ℕ) (x : Piece) (vs : List (ℕ × Piece)) (offset deleted units : ℕ) → SplitsAt items id us x vs
@@ -64,7 +66,7 @@ module _ (b : List (List ℕ)) where
   pub left_behind : (items new : List (ℕ × Piece)) (id behind : ℕ)
       → ((first second : List Piece) → Parted items (Some id) first second → Parted new (Some id) first (back b behind second))
       → (us : List (ℕ × Piece)) (x : Piece) (vs : List (ℕ × Piece)) → SplitsAt items id us x vs
-      → (ws : List (ℕ × Piece)) × ((y : Piece) × ((zs : List (ℕ × Piece)) × SplitsAt new id ws y zs × (in_order ws ≡ in_order us) × (in_order zs ≡ back b behind (in_order vs))))
+      → (ws : List (ℕ × Piece)) × ((y : Piece) × ((zs : List (ℕ × Piece)) × SplitsAt new id ws y zs × (in_order ws ≡ in_order us) × (in_order zs ≡ back b behind (in_order vs)) × (y ≡ x)))
   left_behind items new id behind says us x vs e = ends_front new id (in_order us) x (back b behind (in_order vs)) (says _ _ (parted_set items us id x vs e))
 
   -- a piece that gives way whole leaves the pieces before it, and those behind it without the units that go there

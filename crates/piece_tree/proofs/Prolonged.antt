@@ -1,5 +1,5 @@
 -- Pieces that a span is put behind.
-use Rattle.std.proofs.Common.{◌≡◌, ℕ, ◌+◌, ◌-◌, ◌≤◌, ◌==◌, Bool, true, false, Option, Some, None, List, [], ◌∷◌, ◌++◌, length, take, drop, refl, ap, sym, subst, ◌∙◌, append_assoc, arith}
+use Rattle.std.proofs.Common.{◌≡◌, ℕ, ◌+◌, ◌-◌, ◌^◌, ◌<◌, ◌≤◌, ◌==◌, Bool, true, false, Option, Some, None, List, [], ◌∷◌, ◌++◌, length, take, drop, refl, ap, sym, subst, ◌∙◌, append_assoc, arith}
 use Rattle.std.specs.List.{All}
 use Rattle.std.specs.Option.{ForSome}
 use Rattle.std.proofs.Math.Seq.{take-add}
@@ -38,7 +38,11 @@ module _ (first second : ChunkSpan) (goes : goes_on first second ≡ true) where
   pub inside-prolonged : (b : List (List ℕ)) → LiesIn b second → LiesIn b (prolonged first second)
   inside-prolonged b lies =
       let size = ap (λ (k : ℕ). length (buffer_at b k)) same_buffer in
-      record { buffer = omega (arith, same_buffer, lies.buffer); end = omega (arith, size, meets, lies.end); fits = omega (arith, meets, lies.fits) }
+      record { buffer = omega (arith, same_buffer, lies.buffer); few = omega (arith, same_buffer, lies.few); end = omega (arith, size, meets, lies.end); fits = omega (arith, meets, lies.fits) }
+
+  -- what goes on from a span ends in the same buffer
+  pub few-prolonged : (b : List (List ℕ)) → LiesIn b second → first.units + second.units < 2 ^ 32
+  few-prolonged b lies = omega (arith, meets, lies.fits)
 
 module _ (b : List (List ℕ)) where
   pub followed_on : (p : Piece) (span : ChunkSpan) → goes_on p.span span ≡ true → followed b (p ∷ []) span ≡ piece_of b (prolonged p.span span) ∷ []

@@ -87,5 +87,13 @@ small_after items us id x vs q e small =
     small_of (us ++ (id, x) ∷ (0, q) ∷ vs)
     (omega (arith, units-split us id x ((0, q) ∷ vs), units-split us id x vs, units-cons q (in_order vs), ap units_in e, small))
 
+-- and where one gives way to two
+pub small_both : (items us ws : List (ℕ × Piece)) (id : ℕ) (x y : Piece) (vs zs : List (ℕ × Piece)) (p q : Piece) → SplitsAt items id us x vs → SplitsAt items id ws y zs
+    → x ≡ y → units_in us + (p.span.units + q.span.units) + units_in vs < 2 ^ 62 → is_small (woven.sum_of adding (ws ++ (id, p) ∷ (0, q) ∷ zs))
+small_both items us ws id x y vs zs p q e f same fits =
+    let size = ap (λ (o : Piece). o.span.units) same in
+    small_of (ws ++ (id, p) ∷ (0, q) ∷ zs)
+    (omega (arith, units-split ws id p ((0, q) ∷ zs), units-cons q (in_order zs), units-split ws id y zs, units-split us id x vs, ap units_in e, ap units_in f, size, fits))
+
 pub small_first : (items : List (ℕ × Piece)) (q : Piece) → units_in items + q.span.units < 2 ^ 62 → is_small (woven.sum_of adding ((0, q) ∷ items))
 small_first items q small = small_of ((0, q) ∷ items) (omega (arith, units-cons q (in_order items), small))

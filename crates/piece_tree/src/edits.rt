@@ -5,6 +5,7 @@ ghost use Rattle.std.specs.Option.{ForSome};
 ghost use Rattle.chunk_buffers.specs.Chunks.{LiesIn, part_of};
 ghost use Rattle.rb_arena.specs.Value.{first_or, IsItem, PlaceAfter, SplitsAfter, SplitsAt};
 ghost use Rattle.piece_tree.specs.Pieces.{piece_of, piece_list, unit_count, IsPieceOf, goes_on, goes_on_from, gives_way, prolonged, followed, spliced, front, back, StandsAt};
+ghost use Rattle.piece_tree.specs.Pieces.{loses_end};
 ghost use Rattle.piece_tree.specs.Inside.{entries_of, in_order, HasRoomAt, HasUnits, Parted};
 
 use crate::piece::{Found, Piece, PieceId};
@@ -33,18 +34,64 @@ pub(crate) fn replace_units(
         ≡ spliced chunks.now.buffers offset (offset + deleted) span (in_order tree.old.items) }
     ensures room { tree.old.spare ≤ tree.new.spare + 2 }
 {
-    let Some(span) = span else {
-        take_out(tree, at, offset, deleted, chunks);
-        return;
-    };
+    match span {
+        Some(span) => put_in_place(tree, at, offset, deleted, span, chunks),
+        None => {
+            take_out(tree, at, offset, deleted, chunks);
+        }
+    }
+}
+
+/// The same for a span.
+fn put_in_place(
+    tree: &mut RbTree<PieceWeave>,
+    at: &Option<Found>,
+    offset: u64,
+    deleted: u64,
+    span: ChunkSpan,
+    chunks: &Chunks,
+)
+    requires place { StandsAt (entries_of tree.old.items) at.now offset }
+    requires range { offset + deleted ≤ unit_count (in_order tree.old.items) }
+    requires small { unit_count (in_order tree.old.items) < 2 ^ 62 }
+    requires room { 1 < tree.old.spare }
+    requires inside { LiesIn chunks.now.buffers span }
+    requires pieces { All (IsPieceOf chunks.now.buffers) (in_order tree.old.items) }
+    requires fits { unit_count (in_order tree.old.items) + span.units < 2 ^ 62 + deleted }
+    ensures spliced { in_order tree.new.items
+        ≡ spliced chunks.now.buffers offset (offset + deleted) (Some span) (in_order tree.old.items) }
+    ensures room { tree.old.spare ≤ tree.new.spare + 2 }
+{
     if let Some(found) = at
         && gives_way(tree, found, offset, deleted, span)
     {
-        overwrite(tree, found.id, deleted - found.span.units, span, chunks);
+        overwrite(
+            tree,
+            found.id,
+            deleted - found.span.units as u64,
+            span,
+            chunks,
+        );
+        return;
+    }
+    if let Some(found) = at
+        && loses_end(found, offset, deleted)
+    {
+        let own = offset - found.before.units;
+        let behind = own + deleted - found.span.units as u64;
+        replace_end(tree, found.id, own, behind, span, chunks);
         return;
     }
     let after = take_out(tree, at, offset, deleted, chunks);
     insert_span(tree, &after, span, chunks);
+}
+
+/// Whether units that go begin inside a looked-up piece, and end with it or behind it.
+fn loses_end(found: &Found, offset: u64, deleted: u64) -> bool
+    requires { offset + deleted < 2 ^ 62 }
+    ensures { result ≡ loses_end found.now offset deleted }
+{
+    found.before.units < offset && found.span.units as u64 <= offset - found.before.units + deleted
 }
 
 /// Whether a looked-up piece gives way whole to a span that comes at the offset, in the place of so many units.
@@ -60,7 +107,7 @@ fn gives_way(
         → SplitsAt tree.now.items found.now.id us x vs
         → result ≡ gives_way found.now offset deleted span (in_order us) }
 {
-    if found.before.units != offset || deleted < found.span.units {
+    if found.before.units != offset || deleted < found.span.units as u64 {
         return false;
     }
     !goes_on_before(tree, found.id, span)
@@ -101,6 +148,38 @@ fn overwrite(
     // By what this piece gives up, the span fits.
     let _own = tree.get(id);
     tree.set(id, piece_of(chunks, span));
+}
+
+/// Puts a span in the place of a piece's units from one on, and of that many right behind it. What is left keeps the name.
+fn replace_end(
+    tree: &mut RbTree<PieceWeave>,
+    id: PieceId,
+    own: u64,
+    behind: u64,
+    span: ChunkSpan,
+    chunks: &Chunks,
+)
+    requires left { HasUnits tree.old.items id own }
+    requires small { unit_count (in_order tree.old.items) < 2 ^ 62 }
+    requires room { 0 < tree.old.spare }
+    requires inside { LiesIn chunks.now.buffers span }
+    requires pieces { All (IsPieceOf chunks.now.buffers) (in_order tree.old.items) }
+    requires fits { HasRoomAt tree.old.items id behind (own + span.units) }
+    ensures items { (us : List (ℕ × Piece)) (x : Piece) (vs : List (ℕ × Piece))
+        → SplitsAt tree.old.items id us x vs
+        → in_order tree.new.items
+        ≡ in_order us ++ followed chunks.now.buffers
+        (piece_of chunks.now.buffers (part_of x.span 0 own) ∷ []) span
+        ++ back chunks.now.buffers behind (in_order vs) }
+    ensures room { tree.old.spare ≤ tree.new.spare + 1 }
+{
+    remove_units(tree, &Some(id), behind, chunks);
+    let left = chunks.part(tree.get(id).span, 0, own);
+    if goes_on(left, span) {
+        tree.set(id, piece_of(chunks, prolonged(left, span)));
+    } else {
+        tree.set_and_insert_after(id, piece_of(chunks, left), piece_of(chunks, span));
+    }
 }
 
 /// Takes units out from the offset on, where the piece of the unit at the offset was looked up. Answers the name of the last piece
@@ -157,12 +236,12 @@ fn take_out_inside(
     ensures room { tree.old.spare ≤ tree.new.spare + 1 }
 {
     let span = tree.get(id).span;
-    if own + deleted < span.units {
+    if own + deleted < span.units as u64 {
         divide(tree, id, own, own + deleted, chunks);
         return;
     }
     shorten(tree, id, chunks.part(span, 0, own), chunks);
-    remove_units(tree, &Some(id), own + deleted - span.units, chunks);
+    remove_units(tree, &Some(id), own + deleted - span.units as u64, chunks);
 }
 
 /// Takes that many units out that stand right after a piece, or at the start. Empty pieces before the units that stay go too.
@@ -180,12 +259,12 @@ fn remove_units(tree: &mut RbTree<PieceWeave>, after: &Option<PieceId>, units: u
         if rest == 0 && 0 < span.units {
             return;
         }
-        if rest < span.units {
-            shorten(tree, id, chunks.part(span, rest, span.units), chunks);
+        if rest < span.units as u64 {
+            shorten(tree, id, chunks.part(span, rest, span.units as u64), chunks);
             return;
         }
         tree.remove(id);
-        rest -= span.units;
+        rest -= span.units as u64;
     }
 }
 
@@ -245,7 +324,7 @@ fn goes_on(first: ChunkSpan, second: ChunkSpan) -> bool
 
 /// The first span with the units of one that goes on from it.
 fn prolonged(first: ChunkSpan, second: ChunkSpan) -> ChunkSpan
-    requires { first.units + second.units < 2 ^ 64 }
+    requires { first.units + second.units < 2 ^ 32 }
     ensures { result ≡ prolonged first second }
 {
     ChunkSpan {
@@ -270,9 +349,9 @@ fn divide(tree: &mut RbTree<PieceWeave>, id: PieceId, left: u64, right: u64, chu
     ensures room { tree.old.spare ≤ tree.new.spare + 1 }
 {
     let span = tree.get(id).span;
-    shorten(tree, id, chunks.part(span, 0, left), chunks);
-    let rest = chunks.part(span, right, span.units);
-    tree.insert_after(id, piece_of(chunks, rest));
+    let own = chunks.part(span, 0, left);
+    let rest = chunks.part(span, right, span.units as u64);
+    tree.set_and_insert_after(id, piece_of(chunks, own), piece_of(chunks, rest));
 }
 
 /// Puts a span that is no longer in the place of a piece's.
@@ -308,6 +387,6 @@ fn piece_of(chunks: &Chunks, span: ChunkSpan) -> Piece
 {
     Piece {
         span,
-        breaks: chunks.breaks(span),
+        breaks: chunks.breaks(span) as u32,
     }
 }

@@ -11,7 +11,7 @@ pub type PieceId = NodeId;
 pub struct Piece {
     pub span: ChunkSpan,
     /// How many breaks its units have.
-    pub breaks: u64,
+    pub breaks: u32,
 }
 
 /// What some pieces have together.
@@ -27,7 +27,7 @@ pub struct Found {
     pub id: PieceId,
     pub span: ChunkSpan,
     /// How many breaks its units have.
-    pub breaks: u64,
+    pub breaks: u32,
     /// What the pieces before it have.
     pub before: PieceSum,
 }

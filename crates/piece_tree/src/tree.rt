@@ -158,8 +158,8 @@ impl PieceTree {
     {
         let next = self.tree.next(near.id)?;
         let before = PieceSum {
-            units: near.before.units + near.span.units,
-            breaks: near.before.breaks + near.breaks,
+            units: near.before.units + near.span.units as u64,
+            breaks: near.before.breaks + near.breaks as u64,
         };
         Some(found((next, self.tree.get(next), before)))
     }
@@ -173,8 +173,8 @@ impl PieceTree {
         let prev = self.tree.prev(near.id)?;
         let piece = self.tree.get(prev);
         let before = PieceSum {
-            units: near.before.units - piece.span.units,
-            breaks: near.before.breaks - piece.breaks,
+            units: near.before.units - piece.span.units as u64,
+            breaks: near.before.breaks - piece.breaks as u64,
         };
         Some(found((prev, piece, before)))
     }

@@ -67,8 +67,8 @@ impl Weave for PieceWeave {
 
     fn one(item: Piece) -> PieceSum {
         PieceSum {
-            units: item.span.units,
-            breaks: item.breaks,
+            units: item.span.units as u64,
+            breaks: item.breaks as u64,
         }
     }
 
@@ -99,8 +99,8 @@ impl Weave for PieceWeave {
 
     fn turn_at(key: Sought, before: PieceSum, item: Piece) -> Turn {
         match key {
-            Sought::Offset(offset) => toward(offset, before.units, item.span.units),
-            Sought::Break(number) => toward(number, before.breaks, item.breaks),
+            Sought::Offset(offset) => toward(offset, before.units, item.span.units as u64),
+            Sought::Break(number) => toward(number, before.breaks, item.breaks as u64),
         }
     }
 

@@ -52,7 +52,7 @@ module _ {D : Type 0} where
   fits_first k l (fork true i d x y) f b n h = fits_first (on Left true i d y k) (on Left true i d y l) x (λ a m (q, r, g). (q, r, f true m g)) b n h
   fits_first k l (fork false i d x y) f b n h = fits_first (on Left false i d y k) (on Left false i d y l) x (λ a m (q, g). (q, f false (suc m) g)) b n h
 
-  as_deep : (k l : Hole D) (t : Tree D) → depth k ≡ depth l → depth (first_hole k t) ≡ depth (first_hole l t)
+  pub as_deep : (k l : Hole D) (t : Tree D) → depth k ≡ depth l → depth (first_hole k t) ≡ depth (first_hole l t)
   as_deep k l tip e = e
   as_deep k l (fork c i d x y) e = as_deep (on Left c i d y k) (on Left c i d y l) x (ap (λ n. 1 + n) e)
 
@@ -82,11 +82,11 @@ module _ {A : Type 0} where
   ]
 
 module _ {X S B : Type 0} (w : Weaving X S B) where
-  shift_first : (k : Hole (Data X S B)) (t : Tree (Data X S B)) → shift_at w (first_hole k t) ≡ shift_at w k
+  pub shift_first : (k : Hole (Data X S B)) (t : Tree (Data X S B)) → shift_at w (first_hole k t) ≡ shift_at w k
   shift_first k tip = refl
   shift_first k (fork c i d x y) = shift_first (on Left c i d y k) x
 
-  slack_first : (is_near : B → Type 0) (k l : Hole (Data X S B)) (t : Tree (Data X S B)) → shift_at w k ≡ shift_at w l → (Slack w is_near k → Slack w is_near l)
+  pub slack_first : (is_near : B → Type 0) (k l : Hole (Data X S B)) (t : Tree (Data X S B)) → shift_at w k ≡ shift_at w l → (Slack w is_near k → Slack w is_near l)
       → Slack w is_near (first_hole k t) → Slack w is_near (first_hole l t)
   slack_first is_near k l tip e f h = f h
   slack_first is_near k l (fork c i d x y) e f h =
@@ -261,6 +261,7 @@ module _ {X S B : Type 0} (w : Weaving X S B) (L : Lawful w) (is_near : B → Ty
 
   pub next_of : (at : Spotted w L is_near is_item is_sum is_value sums parts thins beside m root id us x vs) → (root_of at.spot.right ≡ None → ⊥)
       → let s = at.spot in (heir : ℕ) × ((above (first_hole (on Right s.red id s.datum s.left s.hole) s.right) ≡ Some heir) × IsNext heir)
+  unfolding OneChild
   next_of at some =
       let s = at.spot in let k0 = on Right s.red id s.datum s.left s.hole in let (c, (j, (d, (y, (k, same))))) = first_node k0 s.right some in
       let list = at.after ∙ sym (first-rights w k0 s.right) ∙ ap (rights w) same in let no : Tree (Data X S B) = tip in

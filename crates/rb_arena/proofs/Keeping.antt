@@ -12,10 +12,10 @@ use Rattle.rb_rules.specs.Woven.{entries, Woven, AllItems, lefts, rights, shift_
 use Rattle.rb_rules.proofs.Held.{items_right}
 use Rattle.rb_rules.proofs.Wider.{woven_wider}
 use Rattle.rb_arena.specs.declared.links.Links.{Links}
+use Rattle.rb_arena.specs.Ends.{StandsLow, IsBeside}
 use Rattle.rb_arena.specs.Leaving.{StoresBeside, WovenSpot, shown}
 use Rattle.rb_arena.specs.Rising.{MendedBeside}
-use Rattle.rb_arena.specs.Nodes.{StandsWithin, AtSpotWithin}
-use Rattle.rb_arena.specs.Value.{items_in, loose_in, Chain, KeepsWithin, IsItem, first_or, last_or, name_beside, neighbour_of}
+use Rattle.rb_arena.specs.Value.{items_in, loose_in, Chain, KeepsWithin, IsItem, first_or, last_or, name_beside}
 use Rattle.rb_arena.proofs.Growing.{depth_height}
 use Rattle.rb_arena.proofs.Leaving.{valued_without}
 use Rattle.rb_arena.proofs.Listing.{low, items_are, loose_are, keeps_mended}
@@ -85,8 +85,9 @@ module _ {W X S B K : Type 0} {w : Ghosts W X S B K} {reach : B} {links : Links 
       let mine = items_right w.weaving L (w.within reach) w.is_item w.is_sum w.is_value sums parts us ((id, x) ∷ vs) (subst (AllItems w.weaving w.is_item) n.listed kept.values.0) in
       subst w.is_item n.value mine.0
 
-  pub stands_there : StandsWithin links 126 id
-  stands_there = (own_spot, made_there, low_there)
+  pub stands_there : StandsLow links id
+  unfolding StandsLow
+  stands_there = (own_spot, (made_there, low_there))
 
   pub stored_there : StoresBeside w links reach kept.beside (us ++ (id, x) ∷ vs)
   stored_there = subst (StoresBeside w links reach kept.beside) n.listed (all_stored w reach links front kept)
@@ -103,13 +104,14 @@ module _ {W X S B K : Type 0} {w : Ghosts W X S B K} {reach : B} {links : Links 
       (valued_without w.weaving L (w.within reach) w.is_item w.is_sum w.is_value sums parts thins us (id, x) vs stored_there.1) (omega (arith, all, long, old, new, many)) (omega (arith, few, less))
 
   -- what is right beside the node is what is right beside its item
-  pub beside_there : (side : Side) (o : Option ℕ) → AtSpotWithin links 126 id (λ s. o ≡ neighbour_of side id s) → o ≡ name_beside side us vs
+  pub beside_there : (side : Side) (o : Option ℕ) → IsBeside links id side o → o ≡ name_beside side us vs
+  unfolding IsBeside
   beside_there Right o is =
-      let s = n.spot in is own_spot made_there low_there ∙ next_is w.weaving kept.beside s.hole s.red id s.datum s.left s.right ∙ ap (first_or None) (sym n.after)
+      let s = n.spot in is own_spot (made_there, low_there) ∙ next_is w.weaving kept.beside s.hole s.red id s.datum s.left s.right ∙ ap (first_or None) (sym n.after)
   beside_there Left o is =
-      let s = n.spot in is own_spot made_there low_there ∙ prev_is w.weaving kept.beside s.hole s.red id s.datum s.left s.right ∙ ap (last_or None) (sym n.before)
+      let s = n.spot in is own_spot (made_there, low_there) ∙ prev_is w.weaving kept.beside s.hole s.red id s.datum s.left s.right ∙ ap (last_or None) (sym n.before)
 
 -- the node of any item stands in the tree
 pub stands_item : {W X S B K : Type 0} (w : Ghosts W X S B K) (reach : B) (links : Links (Data X S B)) (front : Option ℕ) (kept : KeepsWithin w reach links front)
-    (id : ℕ) {items : List (ℕ × X)} → items_in w.weaving links.nodes.live links.root ≡ items → IsItem items id → StandsWithin links 126 id
+    (id : ℕ) {items : List (ℕ × X)} → items_in w.weaving links.nodes.live links.root ≡ items → IsItem items id → StandsLow links id
 stands_item w reach links front kept id is (us, (x, (vs, e))) = stands_there (node_of w reach links front kept us id x vs is e)

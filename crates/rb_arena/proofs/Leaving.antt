@@ -12,15 +12,14 @@ use Rattle.rb_rules.specs.declared.slot.Side.TheVariants.{Left, Right}
 use Rattle.rb_rules.specs.declared.slot.Slot.{Slot}
 use Rattle.rb_rules.specs.Tree.{Tree, tip, fork, Hole, top, on, other, forked, plug, root_of, above, depth, height}
 use Rattle.rb_rules.specs.Colours.{Rb, Fits, Balanced}
-use Rattle.rb_rules.specs.Memory.{sided, Made, Spot, here, below, child, turned, AtSpot, place_of, adopted, hung, root_hung}
+use Rattle.rb_rules.specs.Memory.{Made, Spot, here, below, child, turned, AtSpot, place_of, hung, root_hung}
 use Rattle.rb_rules.specs.Shape.{each}
 use Rattle.rb_rules.specs.Weaving.{Weaving, Lawful, Sums}
 use Rattle.rb_rules.specs.Woven.{entries, sum_of, Woven, AllItems, Valued, lefts, rights, shift_at}
 use Rattle.rb_rules.specs.Sound.{Lists, IsSlack, RenewedFrom, CanTurnAt, TurnedAt}
-use Rattle.rb_rules.proofs.Chains.{strung}
 use Rattle.rb_rules.proofs.Climbs.{slack_of}
 use Rattle.rb_rules.proofs.Colouring as C
-use Rattle.rb_rules.proofs.Detaching.{spliced, forgotten, gone}
+use Rattle.rb_rules.proofs.Detaching.{spliced, gone}
 use Rattle.rb_rules.proofs.Holes.{forked-other}
 use Rattle.rb_rules.proofs.Live.{here_forked, slot_here}
 use Rattle.rb_rules.proofs.Shapes.{same_items, each-forked}
@@ -28,8 +27,12 @@ use Rattle.rb_rules.proofs.Spots.{upper_is}
 use Rattle.rb_rules.proofs.Unshaping as U
 use Rattle.rb_rules.proofs.Weaves.{sum-append, woven_at, near_of, entries-plug}
 use Rattle.rb_arena.specs.Closing.{Closing}
-use Rattle.rb_arena.specs.Leaving.{leaf_height, Emptied, Unlinked, NoChild, OneChild, Stores}
+use Rattle.rb_arena.specs.Leaving.{leaf_height, Emptied, Unlinked, NoChild, OneChild, StillLists, Stores, StoresItem}
+use Rattle.rb_arena.specs.Relative.{CanTurnNode, Turns}
 use Rattle.rb_arena.specs.Rising.{Mended}
+use Rattle.rb_arena.specs.declared.links.Links.{Links}
+use Rattle.rb_rules.specs.declared.weave.Weave.{Ghosts}
+use Rattle.rb_rules.proofs.Wider.{can_turn_wider}
 use Rattle.rb_arena.proofs.Gaps.{few_steps, at_top}
 use Rattle.rb_arena.proofs.Growing.{depth_height, length-entries, no_root, not_high}
 use Rattle.rb_arena.proofs.Locating.{lying, below_lying, locate_in}
@@ -100,6 +103,7 @@ none_of (Some i) e = absurd (false≢true (sym e))
 
 -- a node with one child at most that has a left one has no right one
 pub only_left : {D : Type 0} (m : map.FinMap nat_cmp (Slot D)) (id : ℕ) (sl : Slot D) → map.get m id ≡ Some sl → OneChild m id → is_some sl.left ≡ true → sl.right ≡ None
+unfolding OneChild
 only_left m id sl found (n, f, inl e) some = absurd (false≢true (sym (ap is_some (ap (λ o. (unwrap_or o sl).left) (sym found ∙ f) ∙ e)) ∙ some))
 only_left m id sl found (n, f, inr e) some = ap (λ o. (unwrap_or o sl).right) (sym found ∙ f) ∙ e
 
@@ -147,23 +151,6 @@ module _ {X S B : Type 0} (w : Weaving X S B) (L : Lawful w) (is_near : B → Ty
             fits = fit;
             few = omega (arith, le, few, deep);
           })
-
-  -- The node that has left goes from the memory, or comes to the front of what lies beside.
-  module _ (beside : Tree (Data X S B)) (m m2 : map.FinMap nat_cmp (Slot (Data X S B))) (root : Option ℕ) (at : Option (ℕ × Side)) (red : Bool) (id : ℕ) (es : List (ℕ × X))
-      (h : Unlinked w is_near is_item is_value beside m root at red id es) where
-    abbrev EmptiedWith : Tree (Data X S B) → Type 0
-    EmptiedWith other_one = (k : Hole (Data X S B)) × (lefts w k ++ rights w k ≡ es) × Emptied w is_near is_item is_value other_one m2 root at red k
-
-    pub emptied_out : m2 ≡ map.remove m id → EmptiedWith beside
-    emptied_out new =
-        let (k, list, (e, made, near, slack, v, le, fit), apart) = h in
-        (k, list, (e, subst (λ l. Made beside l root (plug k tip)) (sym new) (forgotten m id root (plug k tip) apart made), near, slack, v, le, fit))
-
-    pub emptied_loose : (front : Option ℕ) (d : Data X S B) → front ≡ root_of beside → m2 ≡ map.insert (adopted m front (Some id)) id (sided Left None None front false d) → EmptiedWith (fork false id d tip beside)
-    emptied_loose front d first new =
-        let (k, list, (e, made, near, slack, v, le, fit), apart) = h in
-        let is = new ∙ ap (λ o. map.insert (adopted m o (Some id)) id (sided Left None None o false d)) first in
-        (k, list, (e, subst (λ l. Made (fork false id d tip beside) l root (plug k tip)) (sym is) (strung m root (plug k tip) id d apart made), near, slack, v, le, fit))
 
   -- a leaf goes from a red-black tree
   module _ (beside : Tree (Data X S B)) (m : map.FinMap nat_cmp (Slot (Data X S B))) (root : Option ℕ) (k : Hole (Data X S B)) (c : Bool) (id : ℕ) (d : Data X S B)
@@ -220,6 +207,7 @@ module _ {X S B : Type 0} (w : Weaving X S B) (L : Lawful w) (is_near : B → Ty
         }
 
     pub childless_spot : (s : Spot (Data X S B)) → Made beside m root (plug s.hole (here s id)) → NoChild m id → (s.left ≡ tip) × (s.right ≡ tip)
+    unfolding NoChild
     childless_spot s made (n, found, none, none2) =
         let up = upper_is m root (lying beside s) id made Left n found in (no_root s.left (sym (ap (λ o. o.left) up) ∙ none), no_root s.right (sym (ap (λ o. o.right) up) ∙ none2))
 
@@ -274,6 +262,7 @@ module _ {X S B : Type 0} (w : Weaving X S B) (L : Lawful w) (is_near : B → Ty
             )
 
         pub down_leaf : NoChild m2 id
+        unfolding NoChild
         down_leaf =
             let (low, (high, made2, list2, bal2)) = lower_leaf in let leaf = fork true id low tip tip in
             let up = subst (λ t. Made beside m2 root2 (plug s.hole t)) (sym (forked-other side false j high leaf tip)) made2 in
@@ -304,3 +293,52 @@ module _ {X S B : Type 0} (w : Weaving X S B) (L : Lawful w) (is_near : B → Ty
 
           pub mended_there : Mended w is_near beside m2 root2 (us ++ (id, x) ∷ vs)
           mended_there = down_mended (spotted stores) side there.0 there.1 (sym (child_is (other side)) ∙ none) m2 root2 (done (lying beside node) (spotted stores).made)
+
+-- a node with one child at most, by what is read of it
+module _ {W X S B K : Type 0} (w : Ghosts W X S B K) (old : Links (Data X S B)) (id : ℕ) (slot : Slot (Data X S B)) (read : map.get old.nodes.live id ≡ Some slot) where
+  turns_down : (side : Side) → StoresItem w old id → is_some (child side slot) ≡ true → CanTurnNode w old id side
+  unfolding StoresItem CanTurnNode
+  turns_down side (l, (reach, (beside, (us, (x, (vs, st)))))) some =
+      can_turn_wider w.weaving (w.within reach) w.is_near (l.within_near reach) w.is_item w.is_value old.nodes.live old.root id side
+      (can_turn_there w.weaving l.laws (w.within reach) w.is_item w.is_sum w.is_value l.sums l.parts l.thins beside old.nodes.live old.root id us x vs st slot read side some)
+
+  pub turns_left : StoresItem w old id → is_some slot.left ≡ true → CanTurnNode w old id Left
+  turns_left = turns_down Left
+
+  pub turns_right : StoresItem w old id → is_some slot.right ≡ true → CanTurnNode w old id Right
+  turns_right = turns_down Right
+
+  module _ (new : Links (Data X S B)) (side : Side) (turned_ : Turns w old new id side) (some : is_some (child side slot) ≡ true) (none : child (other side) slot ≡ None) where
+    leaf_turned : StoresItem w old id → NoChild new.nodes.live id
+    unfolding StoresItem Turns
+    leaf_turned (l, (reach, (beside, (us, (x, (vs, st)))))) =
+        leaf_there w.weaving l.laws (w.within reach) w.is_item w.is_sum w.is_value l.sums l.parts l.thins beside old.nodes.live old.root id us x vs st slot read side some none
+        new.nodes.live new.root (λ sp h. turned_ sp h reach)
+
+    lists_turned : StoresItem w old id → StillLists w old new id
+    unfolding StoresItem Turns StillLists
+    lists_turned (l, some_item) = λ reach beside us x vs st.
+        mended_there w.weaving l.laws (w.within reach) w.is_item w.is_sum w.is_value l.sums l.parts l.thins beside old.nodes.live old.root id us x vs st slot read side some none
+        new.nodes.live new.root (λ sp h. turned_ sp h reach)
+
+  pub leaf_left : (new : Links (Data X S B)) → StoresItem w old id → OneChild old.nodes.live id → is_some slot.left ≡ true → Turns w old new id Left → NoChild new.nodes.live id
+  leaf_left new stored one some turned_ = leaf_turned new Left turned_ some (only_left old.nodes.live id slot read one some) stored
+
+  pub leaf_right : (new : Links (Data X S B)) → StoresItem w old id → is_some slot.left ≡ false → is_some slot.right ≡ true → Turns w old new id Right → NoChild new.nodes.live id
+  leaf_right new stored none some turned_ = leaf_turned new Right turned_ some (none_of slot.left none) stored
+
+  pub lists_left : (new : Links (Data X S B)) → StoresItem w old id → OneChild old.nodes.live id → is_some slot.left ≡ true → Turns w old new id Left → StillLists w old new id
+  lists_left new stored one some turned_ = lists_turned new Left turned_ some (only_left old.nodes.live id slot read one some) stored
+
+  pub lists_right : (new : Links (Data X S B)) → StoresItem w old id → is_some slot.left ≡ false → is_some slot.right ≡ true → Turns w old new id Right → StillLists w old new id
+  lists_right new stored none some turned_ = lists_turned new Right turned_ some (none_of slot.left none) stored
+
+pub leaf_still : {D : Type 0} (m : map.FinMap nat_cmp (Slot D)) (id : ℕ) (slot : Slot D) → map.get m id ≡ Some slot → is_some slot.left ≡ false → is_some slot.right ≡ false → NoChild m id
+unfolding NoChild
+leaf_still m id slot read none none2 = (slot, read, none_of slot.left none, none_of slot.right none2)
+
+pub lists_still : {W X S B K : Type 0} (w : Ghosts W X S B K) (old new : Links (Data X S B)) (id : ℕ) → new.nodes.live ≡ old.nodes.live → new.root ≡ old.root → StillLists w old new id
+unfolding StillLists
+lists_still w old new id same top_ = λ reach beside us x vs st. rw (same, top_) st.0
+
+pub ruleset to_leaf = (turns_left, turns_right, leaf_left, leaf_right, leaf_still, lists_left, lists_right, lists_still)

@@ -1,5 +1,7 @@
 pub mod Cases
 pub mod Climbing
+pub mod Following
+pub mod Emptying
 pub mod Gaps
 pub mod Growing
 pub mod Heirs
@@ -18,5 +20,7 @@ pub mod Shifting
 pub mod Slots
 pub mod Splitting
 pub mod Steps
+pub mod TakingOut
 pub mod Turns
+pub mod Walks
 pub mod OwnNames

@@ -18,10 +18,13 @@ use Rattle.rb_rules.proofs.Shapes.{same_items, same_colours}
 use Rattle.rb_rules.proofs.Shifts.{above-moved, depth-moved, bare-moved, shift_at-moved, lefts-moved, rights-moved, slack-moved}
 use Rattle.rb_rules.proofs.Weaves.{woven_at, near_of, entries-plug}
 use Rattle.rb_rules.proofs.Wider.{woven_wider}
-use Rattle.rb_arena.specs.Leaving.{Stores}
+use Rattle.rb_rules.specs.declared.weave.Weave.{Ghosts}
+use Rattle.rb_arena.specs.declared.links.Links.{Links}
+use Rattle.rb_arena.specs.Leaving.{Stores, StoresWithin}
 use Rattle.rb_arena.specs.Placing.{above_place}
+use Rattle.rb_arena.specs.Relative.{LawsOf, RenewsFrom}
 use Rattle.rb_arena.specs.Rising.{Mended}
-use Rattle.rb_arena.specs.Shifting.{CanLevel, CanShift, CanShiftFrom, Reaches}
+use Rattle.rb_arena.specs.Shifting.{CanLevel, CanLevelAt, CanShift, CanShiftAll, CanShiftFrom, CanShiftUp, FindsReach, Levels, Reaches, ShiftsAll, ShiftsUp}
 use Rattle.rb_arena.proofs.Growing.{not_high, length-entries}
 use Rattle.rb_arena.proofs.Paths.{above-place}
 
@@ -92,3 +95,54 @@ module _ {X S B : Type 0} (w : Weaving X S B) (L : Lawful w) (is_near : B → Ty
     reaches_levelled starts None is m2 root2 ((t, made, (wv, e), b), v, few) after =
         (levelled_within (within reach) (near_of w L (within reach) w.still t wv) m2 root2 ((t, made, (wv, e), b), v, few) after, sym is)
     reaches_levelled starts (Some found) is m2 root2 h after = (w.still, levelled_within (within w.still) starts m2 root2 h after, sym is)
+
+module _ {W X S B K : Type 0} (w : Ghosts W X S B K) (reach by : B) where
+  pub found_at_once : (tree : Links (Data X S B)) (found : Option B) (wide : B) → found ≡ w.widened reach by → found ≡ Some wide → FindsReach w tree tree reach by (Some wide)
+  unfolding FindsReach
+  found_at_once tree found wide is some = λ beside es stored. (reach, stored.0, sym is ∙ some)
+
+  pub stored_levels : (tree : Links (Data X S B)) (acc : B) → StoresWithin w tree reach → acc ≡ w.weaving.still → CanLevelAt w tree tree.root acc 128
+  unfolding StoresWithin CanLevelAt
+  stored_levels tree acc (l, (beside, (es, h))) still =
+      (beside, (h.0.0, (top, can_level w.weaving l.laws w.is_near w.is_item w.is_sum w.is_value l.sums l.parts w.within w.widened l.within_near l.widens reach by beside tree.nodes.live tree.root es acc still h)))
+
+  pub found_levelled : (old new : Links (Data X S B)) (acc start : B) (found : Option B) → StoresWithin w old reach → acc ≡ w.weaving.still → Levels w old new old.root acc 128
+      → start ≡ w.weaving.still → found ≡ w.widened start by → FindsReach w old new reach by found
+  unfolding StoresWithin Levels FindsReach
+  found_levelled old new acc start found (l, some) still levels same is = λ beside es h.
+      let ready = can_level w.weaving l.laws w.is_near w.is_item w.is_sum w.is_value l.sums l.parts w.within w.widened l.within_near l.widens reach by beside old.nodes.live old.root es acc still h in
+      let made = subst (λ b. Made beside new.nodes.live new.root (levelled w.weaving b h.0.0)) still (levels beside h.0.0 top ready) in
+      reaches_levelled w.weaving l.laws w.is_near w.is_item w.is_sum w.is_value l.sums l.parts w.within w.widened l.within_near l.widens reach by beside old.nodes.live old.root es l.starts_within
+      found (is ∙ ap (λ b. w.widened b by) same) new.nodes.live new.root h made
+
+pub ruleset reaches = (found_at_once, stored_levels, found_levelled)
+
+module _ {W X S B K : Type 0} (w : Ghosts W X S B K) (old : Links (Data X S B)) (at : Option (ℕ × Side)) (by : B) where
+  module _ (l : LawsOf w) (from reach : B) (beside : Tree (Data X S B)) (k : Hole (Data X S B)) (wide : w.widened from by ≡ Some reach)
+      (can : CanShiftFrom w.weaving beside old.nodes.live old.root (w.within from) w.is_item w.is_value at by k) where
+    may_shift : CanShift w.weaving w.is_near w.is_item old.nodes.live old.root beside at by 128 tip k
+    may_shift = can_shift w.weaving l.laws w.is_near w.is_item w.is_sum w.is_value l.sums l.parts w.within w.widened l.within_near l.widens from reach by wide beside k old.nodes.live old.root at can
+
+    slack_shifted : (mid : Links (Data X S B)) (parent : Option ℕ) → ShiftsUp w old mid at by → parent ≡ above_place at
+        → IsSlack w.weaving (w.within reach) w.is_item w.is_value beside mid.nodes.live mid.root parent 128 (plug (moved w.weaving by k) tip)
+    unfolding ShiftsUp
+    slack_shifted mid parent shifts is =
+        slack_after w.weaving l.laws w.is_near w.is_item w.is_sum w.is_value l.sums l.parts w.within w.widened l.within_near l.widens from reach by wide beside k old.nodes.live old.root at can
+        mid.nodes.live mid.root parent is (shifts beside tip k may_shift)
+
+    -- the items after an empty hole may move
+    pub can_shift_all : CanShiftAll w old at by
+    unfolding CanShiftAll
+    can_shift_all = (l, λ mid parent shifts is. (reach, (beside, (_, slack_shifted mid parent shifts is))), (from, (reach, (beside, (k, wide, can)))))
+
+  pub can_shift_up : CanShiftAll w old at by → CanShiftUp w old at by
+  unfolding CanShiftAll CanShiftUp
+  can_shift_up (l, slack, (from, (reach, (beside, (k, wide, can))))) = (beside, (tip, (k, may_shift l from reach beside k wide can)))
+
+  pub shifted_all : (mid new : Links (Data X S B)) (parent : Option ℕ) → CanShiftAll w old at by → ShiftsUp w old mid at by → RenewsFrom w mid new parent 128 → parent ≡ above_place at → ShiftsAll w old new at by
+  unfolding CanShiftAll ShiftsAll
+  shifted_all mid new parent (l, slack, some) shifts renews is = λ from reach beside k wide can.
+      mended_after w.weaving l.laws w.is_near w.is_item w.is_sum w.is_value l.sums l.parts w.within w.widened l.within_near l.widens from reach by wide beside k old.nodes.live old.root at can
+      new.nodes.live new.root (renews reach beside _ (slack_shifted l from reach beside k wide can mid parent shifts is))
+
+pub ruleset shifting = (can_shift_up, shifted_all)

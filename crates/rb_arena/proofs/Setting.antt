@@ -6,7 +6,7 @@ use Rattle.rb_rules.specs.declared.slot.Data.{Data}
 use Rattle.rb_rules.specs.declared.slot.Side.TheVariants.{Left}
 use Rattle.rb_rules.specs.declared.slot.Slot.{Slot}
 use Rattle.rb_rules.specs.declared.weave.Weave.{Ghosts}
-use Rattle.rb_rules.specs.Tree.{Tree, fork, on, plug, depth}
+use Rattle.rb_rules.specs.Tree.{Tree, fork, Hole, on, plug, depth}
 use Rattle.rb_rules.specs.Colours.{Rb, Balanced}
 use Rattle.rb_rules.specs.Memory.{Made, Spot, here}
 use Rattle.rb_rules.specs.Weaving.{Weaving, Lawful, Sums, HeldItem, HeldBy}
@@ -26,6 +26,10 @@ use Rattle.rb_arena.proofs.Listing.{loose_are, keeps_mended}
 rb_data : {D : Type 0} (b c : Bool) (n i : ℕ) (d e : D) (x y : Tree D) → Rb c n (fork b i d x y) → Rb c n (fork b i e x y)
 rb_data true c n i d e x y r = r
 rb_data false c n i d e x y r = r
+
+-- other data at a node
+pub balanced_data : {D : Type 0} (k : Hole D) (c : Bool) (i : ℕ) (d e : D) (x y : Tree D) → Balanced (plug k (fork c i d x y)) → Balanced (plug k (fork c i e x y))
+balanced_data k c i d e x y bal = let (n, (b, q, f)) = C.unplugged k (fork c i d x y) bal in C.plugged b n k (fork c i e x y) (rb_data c b n i d e x y q) f
 
 module _ {X S B : Type 0} (w : Weaving X S B) (L : Lawful w) (is_near : B → Type 0) (is_item : X → Type 0) (is_sum is_value : S → Type 0)
     (sums : Sums w is_item is_sum) (parts : (a b : S) → is_value (w.join a b) → is_value a × is_value b) where
@@ -93,8 +97,7 @@ module _ {X S B : Type 0} (w : Weaving X S B) (L : Lawful w) (is_near : B → Ty
           → RenewedFrom w is_near s.beside m root (plug s.hole (fork s.red id (with_item s.datum own) s.left s.right)) → Mended w is_near s.beside m root (us ++ (id, x) ∷ vs)
       mended_set m root bal (u, made, wv2, alike) =
           let whole = plug s.hole (fork s.red id (with_item s.datum own) s.left s.right) in
-          let (n, (c, q, f)) = C.unplugged s.hole (here s id) bal in
-          let (n2, (c2, q2)) = C.plugged c n s.hole (fork s.red id (with_item s.datum own) s.left s.right) (rb_data s.red c n id s.datum (with_item s.datum own) s.left s.right q) f in
+          let (n2, (c2, q2)) = balanced_data s.hole s.red id s.datum (with_item s.datum own) s.left s.right bal in
           (u, made, (wv2, same_items w w.still u whole alike ∙ list_is), (n2, (c2, same_colours c2 n2 whole u (sym alike) q2)))
 
 module _ {W X S B K : Type 0} {w : Ghosts W X S B K} {reach : B} {links : Links (Data X S B)} {front : Option ℕ} {kept : KeepsWithin w reach links front}

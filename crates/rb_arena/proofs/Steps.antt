@@ -1,5 +1,5 @@
 -- One step of the mending: what each case does to the tree.
-use Rattle.std.proofs.Common.{◌≡◌, ℕ, suc, ◌-◌, ◌≤◌, Bool, true, false, List, Option, Some, None, refl, sym, ap, ◌∙◌, subst, arith, ◌⊎◌, inl, inr}
+use Rattle.std.proofs.Common.{◌≡◌, ℕ, suc, ◌-◌, Bool, true, false, List, Option, refl, sym, ap, ◌∙◌, subst, arith, ◌⊎◌, inl, inr}
 use Rattle.std.proofs.lemmas.Bool.{true≢false}
 use Rattle.std.specs.Ordering.{nat_cmp}
 use Rattle.std.specs.FinMap as map
@@ -21,7 +21,7 @@ use Rattle.rb_rules.proofs.Colouring as C
 use Rattle.rb_arena.specs.declared.mend.Case.{Case}
 use Rattle.rb_arena.specs.declared.mend.Case.TheVariants.{Settled, RedRoot, RedUncle, Outer, Inner}
 use Rattle.rb_arena.specs.Mending.{bent, case_of}
-use Rattle.rb_arena.specs.Rising.{Mended, Rising, Risen}
+use Rattle.rb_arena.specs.Rising.{Mended, Rising}
 
 module _ {D : Type 0} where
   -- the red node's parent is red and the topmost node
@@ -171,6 +171,10 @@ module _ {X S B : Type 0} {w : Weaving X S B} {is_near : B → Type 0} {beside :
 
   -- a red uncle: the parent and the uncle turn black, and the grandparent red
   module _ {p u g : ℕ} (v : UnderUncle r.hole p u g) where
+    -- the grandparent stands above
+    pub uncle_above : n ≡ 0 → ⊥
+    uncle_above top_ = let deep = ap depth v.is in let few = r.few in omega (arith, deep, few, top_)
+
     -- the grandparent's subtree, by which of the three are red
     abbrev pub Family : Bool → Bool → Bool → Tree (Data X S B)
     Family parent uncle grand = forked v.upper grand g v.grand (forked v.side parent p v.datum r.subtree v.far) (fork uncle u v.uncle v.left v.right)
@@ -273,13 +277,3 @@ module _ {X S B : Type 0} {w : Weaving X S B} {is_near : B → Type 0} {beside :
             },
             record { datum = high; far = z.near; grand = q.grand; uncle = q.uncle; up = q.up; is = refl; even = q.even },
           )
-
--- at the top a red node does no harm
-module _ {X S B : Type 0} (w : Weaving X S B) (is_near : B → Type 0) (beside : Tree (Data X S B)) (m : map.FinMap nat_cmp (Slot (Data X S B))) (root : Option ℕ) (es : List (ℕ × X)) where
-  at_root : (k : Hole (Data X S B)) (t : Tree (Data X S B)) (h : ℕ) → Made beside m root (plug k t) → Lists w is_near (plug k t) es → Rb true h t → depth k ≤ 0 → Mended w is_near beside m root es
-  at_root top t h made lists red few = (t, made, lists, (h, (true, red)))
-  at_root (on s c p d x k) t h made lists red few = absurd (omega arith)
-
-  pub at_last : (at : Option ℕ) → Risen w is_near beside m root es at 0 → Mended w is_near beside m root es
-  at_last None r = r
-  at_last (Some i) r = at_root r.hole r.subtree r.black r.made r.lists r.red r.few

@@ -49,7 +49,7 @@ module _ {W X S B K : Type 0} (w : Ghosts W X S B K) where
       × Short w.weaving (w.within reach) beside tree.nodes.live tree.root es (Some at) n × Valued w.weaving w.is_item w.is_value es)))
 
   -- some tree of values is short at that place, if there is one, and closed in no more than n steps
-  abbrev pub IsClosing : Links (Data X S B) → Option (ℕ × Side) → ℕ → Type 0
+  unfoldable pub IsClosing : Links (Data X S B) → Option (ℕ × Side) → ℕ → Type 0
   IsClosing tree at n =
       (reach : B) × ((beside : Tree (Data X S B)) × ((es : List (ℕ × X))
       × Closing w.weaving (w.within reach) beside tree.nodes.live tree.root es at n × Valued w.weaving w.is_item w.is_value es))
@@ -63,7 +63,7 @@ module _ {W X S B K : Type 0} (w : Ghosts W X S B K) where
         → Closing w.weaving (w.within reach) beside new.nodes.live new.root es next (n - 1)
 
     -- whatever the tree was that n steps close, it is red-black and lists the same
-    abbrev pub ClosesFrom : Option (ℕ × Side) → ℕ → Type 0
+    unfoldable pub ClosesFrom : Option (ℕ × Side) → ℕ → Type 0
     ClosesFrom at n =
         (reach : B) (beside : Tree (Data X S B)) (es : List (ℕ × X))
         → Closing w.weaving (w.within reach) beside old.nodes.live old.root es at n → Valued w.weaving w.is_item w.is_value es

@@ -13,6 +13,8 @@ use Rattle.rb_rules.specs.Weaving.{Weaving}
 use Rattle.rb_rules.specs.Woven.{Woven, Valued, lefts, rights, shift_at}
 use Rattle.rb_rules.specs.Sound.{Slack}
 use Rattle.rb_arena.specs.declared.links.Links.{Links}
+use Rattle.rb_arena.specs.Placing.{above_place}
+use Rattle.rb_arena.specs.Relative.{LawsOf, IsSlackFrom}
 use Rattle.rb_arena.specs.Rising.{Mended, MendedBeside}
 
 -- the black nodes on a path through a leaf of that colour
@@ -30,10 +32,10 @@ loosened w id x chain = fork false id (loose_data w x) tip chain
 
 module _ {D : Type 0} (m : map.FinMap nat_cmp (Slot D)) (id : ℕ) where
   -- the node of that name has one child at most, or none
-  abbrev pub OneChild : Type 0
+  unfoldable pub OneChild : Type 0
   OneChild = (n : Slot D) × (map.get m id ≡ Some n) × ((n.left ≡ None) ⊎ (n.right ≡ None))
 
-  abbrev pub NoChild : Type 0
+  unfoldable pub NoChild : Type 0
   NoChild = (n : Slot D) × (map.get m id ≡ Some n) × (n.left ≡ None) × (n.right ≡ None)
 
 module _ {X S B : Type 0} (w : Weaving X S B) (is_near : B → Type 0) (is_item : X → Type 0) (is_value : S → Type 0)
@@ -71,20 +73,20 @@ module _ {W X S B K : Type 0} (w : Ghosts W X S B K) where
     StoresBeside reach beside es = Stores w.weaving (w.within reach) w.is_item w.is_value beside tree.nodes.live tree.root es
 
     -- it stores some items within that reach
-    abbrev pub StoresWithin : B → Type 0
-    StoresWithin reach = (beside : Tree (Data X S B)) × ((es : List (ℕ × X)) × StoresBeside reach beside es)
+    unfoldable pub StoresWithin : B → Type 0
+    StoresWithin reach = LawsOf w × ((beside : Tree (Data X S B)) × ((es : List (ℕ × X)) × StoresBeside reach beside es))
 
     -- it stores an item of that name
-    abbrev pub StoresItem : ℕ → Type 0
+    unfoldable pub StoresItem : ℕ → Type 0
     StoresItem id =
-        (reach : B) × ((beside : Tree (Data X S B)) × ((us : List (ℕ × X)) × ((x : X) × ((vs : List (ℕ × X))
-        × StoresBeside reach beside (us ++ (id, x) ∷ vs)))))
+        LawsOf w × ((reach : B) × ((beside : Tree (Data X S B)) × ((us : List (ℕ × X)) × ((x : X) × ((vs : List (ℕ × X))
+        × StoresBeside reach beside (us ++ (id, x) ∷ vs))))))
 
     -- the same, with a chain beside it that begins with that node, if any
-    abbrev pub StoresItemBeside : ℕ → Option ℕ → Type 0
+    unfoldable pub StoresItemBeside : ℕ → Option ℕ → Type 0
     StoresItemBeside id front =
-        (reach : B) × ((beside : Tree (Data X S B)) × ((us : List (ℕ × X)) × ((x : X) × ((vs : List (ℕ × X))
-        × StoresBeside reach beside (us ++ (id, x) ∷ vs) × (front ≡ root_of beside)))))
+        LawsOf w × ((reach : B) × ((beside : Tree (Data X S B)) × ((us : List (ℕ × X)) × ((x : X) × ((vs : List (ℕ × X))
+        × StoresBeside reach beside (us ++ (id, x) ∷ vs) × (front ≡ root_of beside))))))
 
     -- it stores an item of that name, and right after it one of the other
     abbrev pub StoresBoth : ℕ → ℕ → Type 0
@@ -92,18 +94,19 @@ module _ {W X S B K : Type 0} (w : Ghosts W X S B K) where
         (reach : B) × ((beside : Tree (Data X S B)) × ((us : List (ℕ × X)) × ((x : X) × ((y : X) × ((vs : List (ℕ × X))
         × StoresBeside reach beside (us ++ (id, x) ∷ (heir, y) ∷ vs))))))
 
-    -- some tree is emptied there
-    abbrev pub IsEmptied : Option (ℕ × Side) → Bool → Type 0
+    -- some tree is emptied there, and right but for the nodes above
+    unfoldable pub IsEmptied : Option (ℕ × Side) → Bool → Type 0
     IsEmptied at red =
-        (reach : B) × ((beside : Tree (Data X S B)) × ((k : Hole (Data X S B))
-        × Emptied w.weaving (w.within reach) w.is_item w.is_value beside tree.nodes.live tree.root at red k))
+        LawsOf w × ((from : Option ℕ) → from ≡ above_place at → IsSlackFrom w tree from 128)
+        × ((reach : B) × ((beside : Tree (Data X S B)) × ((k : Hole (Data X S B))
+        × Emptied w.weaving (w.within reach) w.is_item w.is_value beside tree.nodes.live tree.root at red k)))
 
     -- the node stands in a tree with the right sums
     abbrev pub StandsWoven : ℕ → Type 0
     StandsWoven id = (s : Spot (Data X S B)) × WovenSpot w.weaving w.is_near tree.nodes.live tree.root id s
 
     -- and its item, with the shifts of its path, is a value
-    abbrev pub StandsValued : ℕ → Type 0
+    unfoldable pub StandsValued : ℕ → Type 0
     StandsValued id =
         (s : Spot (Data X S B)) × WovenSpot w.weaving w.is_near tree.nodes.live tree.root id s
         × w.is_item (shown w.weaving s s.datum.item)
@@ -114,33 +117,33 @@ module _ {W X S B K : Type 0} (w : Ghosts W X S B K) where
 
   module _ (old new : Links (Data X S B)) where
     -- whatever the tree was that was emptied there, it is red-black, and lists the same
-    abbrev pub Settles : Option (ℕ × Side) → Bool → Type 0
+    unfoldable pub Settles : Option (ℕ × Side) → Bool → Type 0
     Settles at red =
         (reach : B) (beside : Tree (Data X S B)) (k : Hole (Data X S B))
         → Emptied w.weaving (w.within reach) w.is_item w.is_value beside old.nodes.live old.root at red k
         → MendedBeside w reach beside new (lefts w.weaving k ++ rights w.weaving k)
 
     -- whatever the tree stored with an item of that name, it lists the same
-    abbrev pub StillLists : ℕ → Type 0
+    unfoldable pub StillLists : ℕ → Type 0
     StillLists id =
         (reach : B) (beside : Tree (Data X S B)) (us : List (ℕ × X)) (x : X) (vs : List (ℕ × X))
         → StoresBeside old reach beside (us ++ (id, x) ∷ vs) → MendedBeside w reach beside new (us ++ (id, x) ∷ vs)
 
     -- it lists the same without that item
-    abbrev pub Leaves : ℕ → Type 0
+    unfoldable pub Leaves : ℕ → Type 0
     Leaves id =
         (reach : B) (beside : Tree (Data X S B)) (us : List (ℕ × X)) (x : X) (vs : List (ℕ × X))
         → StoresBeside old reach beside (us ++ (id, x) ∷ vs) → MendedBeside w reach beside new (us ++ vs)
 
     -- the same, and the item is the first of the chain, which began with that node
-    abbrev pub Loosens : ℕ → Option ℕ → Type 0
+    unfoldable pub Loosens : ℕ → Option ℕ → Type 0
     Loosens id front =
         (reach : B) (beside : Tree (Data X S B)) (us : List (ℕ × X)) (x : X) (vs : List (ℕ × X))
         → StoresBeside old reach beside (us ++ (id, x) ∷ vs) → front ≡ root_of beside
         → MendedBeside w reach (loosened w.weaving id x beside) new (us ++ vs)
 
     -- it has left the tree, which may want mending at that place
-    abbrev pub Unlinks : ℕ → Option (ℕ × Side) → Bool → Type 0
+    unfoldable pub Unlinks : ℕ → Option (ℕ × Side) → Bool → Type 0
     Unlinks id at red =
         (reach : B) (beside : Tree (Data X S B)) (us : List (ℕ × X)) (x : X) (vs : List (ℕ × X))
         → StoresBeside old reach beside (us ++ (id, x) ∷ vs)

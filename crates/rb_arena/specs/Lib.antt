@@ -1,4 +1,5 @@
 pub mod Closing
+pub mod Ends
 pub mod Leaving
 pub mod Mending
 pub mod Nodes

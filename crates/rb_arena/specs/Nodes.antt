@@ -1,12 +1,12 @@
 -- What becomes of the nodes of a tree, whatever data they have.
-use Rattle.std.specs.Prelude.{◌≡◌, ℕ, ◌+◌, ◌≤◌, false, Option, Some, None, IfSome, IsSome}
+use Rattle.std.specs.Prelude.{◌≡◌, ℕ, ◌+◌, false, Option, Some, None, IfSome, IsSome}
 use Rattle.std.specs.Ordering.{nat_cmp}
 use Rattle.std.specs.FinMap as map
 use Rattle.slot_arena.specs.Arena.{Nodes, node, IsLive}
 use Rattle.rb_rules.specs.declared.slot.Side.{Side}
 use Rattle.rb_rules.specs.declared.slot.Side.TheVariants.{Left}
 use Rattle.rb_rules.specs.declared.slot.Slot.{Slot}
-use Rattle.rb_rules.specs.Tree.{Tree, fork, plug, root_of, above, depth, height, count}
+use Rattle.rb_rules.specs.Tree.{Tree, fork, plug, root_of, above, count}
 use Rattle.rb_rules.specs.Memory.{sided, adopted, Made, Spot, here, below, AtSpot}
 use Rattle.rb_arena.specs.declared.links.Links.{Links}
 
@@ -31,22 +31,6 @@ module _ {D : Type 0} where
     -- the node stands in the tree, with a child on that side
     abbrev pub HasChildAt : ℕ → Side → Type 0
     HasChildAt id side = (s : Spot D) × StandsAs id s × IsSome (root_of (below side s))
-
-    -- the node stands in the tree, below no more than n others
-    abbrev pub StandsBelow : ℕ → ℕ → Type 0
-    StandsBelow n id = (s : Spot D) × StandsAs id s × (depth s.hole ≤ n)
-
-    -- wherever it does, this holds
-    abbrev pub AtSpotBelow : ℕ → ℕ → (Spot D → Type 0) → Type 0
-    AtSpotBelow n id P = AtSpot tree.nodes.live tree.root id (λ s. depth s.hole ≤ n → P s)
-
-    -- the node stands in the tree, on no path longer than n nodes
-    abbrev pub StandsWithin : ℕ → ℕ → Type 0
-    StandsWithin n id = (s : Spot D) × StandsAs id s × (depth s.hole + height (here s id) ≤ n)
-
-    -- wherever it does, this holds
-    abbrev pub AtSpotWithin : ℕ → ℕ → (Spot D → Type 0) → Type 0
-    AtSpotWithin n id P = AtSpot tree.nodes.live tree.root id (λ s. depth s.hole + height (here s id) ≤ n → P s)
 
   module _ (old new : Links D) (id : ℕ) where
     -- wherever the node stood, that subtree stands in the place of its own, and all else is as it was

@@ -1,5 +1,5 @@
 -- A place for an item in a tree in memory.
-use Rattle.std.specs.Prelude.{◌≡◌, ℕ, ◌+◌, ◌≤◌, true, ◌∷◌, ◌++◌, Option, Some, None}
+use Rattle.std.specs.Prelude.{◌≡◌, ℕ, ◌+◌, ◌≤◌, true, [], ◌∷◌, ◌++◌, Option, Some, None}
 use Rattle.std.specs.Ordering.{nat_cmp}
 use Rattle.std.specs.FinMap as map
 use Rattle.rb_rules.specs.declared.slot.Data.{Data}
@@ -10,6 +10,7 @@ use Rattle.rb_rules.specs.declared.weave.Weave.{Ghosts}
 use Rattle.rb_rules.specs.Tree.{Tree, tip, Hole, plug, above, depth, root_of, height, count}
 use Rattle.rb_rules.specs.Colours.{Balanced}
 use Rattle.rb_rules.specs.Memory.{sided, Made, place_of}
+use Rattle.rb_rules.specs.Sound.{Slack}
 use Rattle.rb_rules.specs.Weaving.{Weaving, summed}
 use Rattle.rb_rules.specs.Woven.{Woven, Valued, lefts, rights, shift_at}
 use Rattle.rb_arena.specs.declared.links.Links.{Links}
@@ -40,15 +41,28 @@ module _ {X S B : Type 0} (w : Weaving X S B) (is_near : B → Type 0) (beside :
   CanTake is_item is_value x k =
       WovenAt tip k × Balanced (plug k tip) × Valued w is_item is_value (lefts w k ++ (0, x) ∷ rights w k)
 
+  -- the same where the sums of the nodes above the place may be wrong, but not those of the subtrees beside the path
+  pub record CanHang (is_item : X → Type 0) (is_value : S → Type 0) (x : X) (k : Hole (Data X S B)) : Type 0 where
+    pub hole : HoleAt beside m root place tip k
+    pub near : is_near (shift_at w k)
+    pub slack : Slack w is_near k
+    pub few : depth k ≤ 128
+    pub balanced : Balanced (plug k tip)
+    pub values : Valued w is_item is_value (lefts w k ++ (0, x) ∷ rights w k)
+
 -- what a leaf in a hole keeps of an item
 abbrev pub leaf_of : {X S B : Type 0} → Weaving X S B → Hole (Data X S B) → X → Data X S B
 leaf_of w k x = summed w (w.shift (w.minus w.still (shift_at w k)) x) w.still w.none w.none
+
+-- a leaf with that item for a hole
+abbrev pub leaf_for : {X S B : Type 0} → Weaving X S B → Hole (Data X S B) → X → Slot (Data X S B)
+leaf_for w k x = sided Left (above k) None None true (leaf_of w k x)
 
 -- the name is that of a leaf for the hole, which stands neither in the tree nor in the one beside
 abbrev pub IsLeaf : {X S B : Type 0} → Weaving X S B → Tree (Data X S B) → map.FinMap nat_cmp (Slot (Data X S B)) → ℕ → X
     → Hole (Data X S B) → Type 0
 IsLeaf w beside m id x k =
-    (map.get m id ≡ Some (sided Left (above k) None None true (leaf_of w k x))) × (count id (plug k tip) + count id beside ≡ 0)
+    (map.get m id ≡ Some (leaf_for w k x)) × (count id (plug k tip) + count id beside ≡ 0)
 
 -- the tree hangs at the place, with no path longer than 128 nodes
 abbrev pub StartsAt : {D : Type 0} → Tree D → map.FinMap nat_cmp (Slot D) → Option ℕ → Option (ℕ × Side) → Option ℕ
@@ -81,6 +95,10 @@ module _ {D : Type 0} (tree : Links D) where
   WhereHangsRight id P = (beside t : Tree D) (k : Hole D) → HangsAfter beside tree.nodes.live tree.root id t k → P t k
 
 module _ {W X S B K : Type 0} (w : Ghosts W X S B K) where
+  -- the item is a value, and so is its sum where it is the only one
+  abbrev pub IsValueAlone : X → Type 0
+  IsValueAlone item = Valued w.weaving w.is_item w.is_value ((0, item) ∷ [])
+
   module _ (tree : Links (Data X S B)) (at : Option (ℕ × Side)) where
     -- the place is that of a hole of a tree with the right sums
     abbrev pub WovenIn : Tree (Data X S B) → Tree (Data X S B) → Hole (Data X S B) → Type 0
@@ -94,19 +112,9 @@ module _ {W X S B K : Type 0} (w : Ghosts W X S B K) where
     abbrev pub AtWovenPlace : (Hole (Data X S B) → Type 0) → Type 0
     AtWovenPlace P = (beside t : Tree (Data X S B)) (k : Hole (Data X S B)) → WovenIn beside t k → P k
 
-    -- the item may come to that hole, which is at the place
-    abbrev pub TakesAt : Tree (Data X S B) → X → Hole (Data X S B) → Type 0
-    TakesAt beside item k = CanTake w.weaving w.is_near beside tree.nodes.live tree.root at w.is_item w.is_value item k
-
-    -- it may come to the place
-    abbrev pub TakesNear : X → Type 0
-    TakesNear item = (beside : Tree (Data X S B)) × ((k : Hole (Data X S B)) × TakesAt beside item k)
-
     -- the slot is that of a leaf with the item, in whatever hole is at the place
     abbrev pub IsLeafFor : X → Slot (Data X S B) → Type 0
-    IsLeafFor item slot =
-        (beside : Tree (Data X S B)) (k : Hole (Data X S B)) → TakesAt beside item k
-        → slot ≡ sided Left (above k) None None true (leaf_of w.weaving k item)
+    IsLeafFor item slot = AtWovenPlace (λ k. slot ≡ leaf_for w.weaving k item)
 
     -- the item may come to that hole with all shifts within a reach
     abbrev pub TakesIn : B → Tree (Data X S B) → X → Hole (Data X S B) → Type 0
@@ -122,11 +130,21 @@ module _ {W X S B K : Type 0} (w : Ghosts W X S B K) where
         (reach : B) × ((beside : Tree (Data X S B)) × ((k : Hole (Data X S B)) × TakesIn reach beside item k
         × (count id (plug k tip) + count id beside ≡ 0)))
 
+    -- the item may come to that hole, whatever the sums above it
+    abbrev pub HangsIn : B → Tree (Data X S B) → X → Hole (Data X S B) → Type 0
+    HangsIn reach beside item k = CanHang w.weaving (w.within reach) beside tree.nodes.live tree.root at w.is_item w.is_value item k
+
+    -- the slot is that of a leaf for the place
+    abbrev pub TakesSlot : Slot (Data X S B) → Type 0
+    TakesSlot slot =
+        (reach : B) × ((beside : Tree (Data X S B)) × ((k : Hole (Data X S B)) × ((x : X)
+        × HangsIn reach beside x k × (slot ≡ leaf_for w.weaving k x))))
+
     -- the node is a leaf for the place
     abbrev pub TakesLeaf : ℕ → Type 0
     TakesLeaf id =
         (reach : B) × ((beside : Tree (Data X S B)) × ((k : Hole (Data X S B)) × ((x : X)
-        × TakesIn reach beside x k × IsLeaf w.weaving beside tree.nodes.live id x k)))
+        × HangsIn reach beside x k × IsLeaf w.weaving beside tree.nodes.live id x k)))
 
   module _ (old new : Links (Data X S B)) (at : Option (ℕ × Side)) (id : ℕ) where
     -- whatever tree the place is in, it lists the item there under that name, and is red-black
@@ -145,6 +163,13 @@ module _ {W X S B K : Type 0} (w : Ghosts W X S B K) where
     -- and of one that was a leaf for the place
     abbrev pub ListsLeafAt : Type 0
     ListsLeafAt =
-        (reach : B) (beside : Tree (Data X S B)) (k : Hole (Data X S B)) (x : X) → TakesIn old at reach beside x k
+        (reach : B) (beside : Tree (Data X S B)) (k : Hole (Data X S B)) (x : X) → HangsIn old at reach beside x k
         → IsLeaf w.weaving beside old.nodes.live id x k
+        → MendedBeside w reach beside new (lefts w.weaving k ++ (id, x) ∷ rights w.weaving k)
+
+    -- and of a new one, for which that leaf was made
+    abbrev pub ListsSlotAt : Slot (Data X S B) → Type 0
+    ListsSlotAt slot =
+        (reach : B) (beside : Tree (Data X S B)) (k : Hole (Data X S B)) (x : X) → HangsIn old at reach beside x k
+        → slot ≡ leaf_for w.weaving k x
         → MendedBeside w reach beside new (lefts w.weaving k ++ (id, x) ∷ rights w.weaving k)

@@ -5,13 +5,23 @@ use Rattle.rb_rules.specs.declared.slot.Side.{Side}
 use Rattle.rb_rules.specs.declared.weave.Weave.{Ghosts}
 use Rattle.rb_rules.specs.Tree.{Tree}
 use Rattle.rb_rules.specs.Memory.{AtSpot}
-use Rattle.rb_rules.specs.Weaving.{Weaving, HeldItem, HeldSum, HeldBy, CanSumUp, CanTurn}
+use Rattle.rb_rules.specs.Weaving.{Weaving, Lawful, Sums, Widens, HeldItem, HeldSum, HeldBy, CanSumUp, CanTurn}
 use Rattle.rb_rules.specs.Sound.{CanTurnAt, TurnedAt, CanRenew, IsSlack, RenewedFrom}
 use Rattle.rb_arena.specs.declared.links.Links.{Links}
 
 -- the sum of the items before a node, from that before its subtree
 abbrev pub before_node : {X S B : Type 0} → Weaving X S B → B → S → Data X S B → S
 before_node w by before datum = w.join before (w.shift_sum by datum.before)
+
+-- the laws of a weave. A function that requires them hands them to lemmas.
+pub record LawsOf {W X S B K : Type 0} (w : Ghosts W X S B K) : Type 0 where
+  pub laws : Lawful w.weaving
+  pub sums : Sums w.weaving w.is_item w.is_sum
+  pub within_near : (reach by : B) → w.within reach by → w.is_near by
+  pub starts_within : w.within w.weaving.still w.weaving.still
+  pub widens : Widens w.weaving w.within w.widened
+  pub parts : (a b : S) → w.is_value (w.weaving.join a b) → w.is_value a × w.is_value b
+  pub thins : (a b c : S) → w.is_value (w.weaving.join a (w.weaving.join b c)) → w.is_value (w.weaving.join a c)
 
 module _ {W X S B K : Type 0} (w : Ghosts W X S B K) where
   -- some shift that a path may have makes a value of it
@@ -34,11 +44,11 @@ module _ {W X S B K : Type 0} (w : Ghosts W X S B K) where
   CanTurnOver side upper lower mid far = CanTurn w.weaving w.is_near w.is_item w.is_sum w.is_value side upper lower mid far
 
   -- the node has a child on that side, in a tree of values
-  abbrev pub CanTurnNode : Links (Data X S B) → ℕ → Side → Type 0
+  unfoldable pub CanTurnNode : Links (Data X S B) → ℕ → Side → Type 0
   CanTurnNode tree id side = CanTurnAt w.weaving w.is_near w.is_item w.is_value tree.nodes.live tree.root id side
 
   -- wherever the node stood, the tree is turned at it, and lists the same
-  abbrev pub Turns : Links (Data X S B) → Links (Data X S B) → ℕ → Side → Type 0
+  unfoldable pub Turns : Links (Data X S B) → Links (Data X S B) → ℕ → Side → Type 0
   Turns old new id side =
       AtSpot old.nodes.live old.root id (λ s. (reach : B) → TurnedAt w.weaving (w.within reach) new.nodes.live new.root id side s)
 

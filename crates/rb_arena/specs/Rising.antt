@@ -43,18 +43,27 @@ module _ {W X S B K : Type 0} (w : Ghosts W X S B K) where
   MendedBeside reach beside tree es = Mended w.weaving (w.within reach) beside tree.nodes.live tree.root es
 
   module _ (old new : Links (Data X S B)) (id : ℕ) where
-    -- whatever the tree was in which the node rose, it lists the same, and the next one rises below fewer, or none does
+    -- whatever the tree was in which the node rose, it lists the same, and the next one rises below fewer, or none does,
+    -- as after the topmost
     abbrev pub RisesTo : Option ℕ → Type 0
     RisesTo next =
         (reach : B) (beside : Tree (Data X S B)) (es : List (ℕ × X)) (n : ℕ)
         → Rising w.weaving (w.within reach) beside old.nodes.live old.root es id n → Valued w.weaving w.is_item w.is_value es
-        → Risen w.weaving (w.within reach) beside new.nodes.live new.root es next (n - 1)
+        → Risen w.weaving (w.within reach) beside new.nodes.live new.root es next (n - 1) × (n ≡ 0 → next ≡ None)
 
     -- whatever the tree was in which the node rose, below no more than n others, it is red-black and lists the same
     abbrev pub MendsFrom : ℕ → Type 0
     MendsFrom n =
         (reach : B) (beside : Tree (Data X S B)) (es : List (ℕ × X))
         → Rising w.weaving (w.within reach) beside old.nodes.live old.root es id n → Valued w.weaving w.is_item w.is_value es
+        → MendedBeside reach beside new es
+
+  module _ (old new : Links (Data X S B)) (at : Option ℕ) where
+    -- the same where the node may be none, in a tree that is red-black then
+    abbrev pub MendsUp : ℕ → Type 0
+    MendsUp n =
+        (reach : B) (beside : Tree (Data X S B)) (es : List (ℕ × X))
+        → Risen w.weaving (w.within reach) beside old.nodes.live old.root es at n → Valued w.weaving w.is_item w.is_value es
         → MendedBeside reach beside new es
 
   -- the node of that name rises in some tree of values
@@ -68,3 +77,9 @@ module _ {W X S B K : Type 0} (w : Ghosts W X S B K) where
   IsRisingFrom tree id n =
       (reach : B) × ((beside : Tree (Data X S B)) × ((es : List (ℕ × X))
       × Rising w.weaving (w.within reach) beside tree.nodes.live tree.root es id n × Valued w.weaving w.is_item w.is_value es))
+
+  -- the same where the node may be none, in a tree that is red-black then
+  abbrev pub IsRisen : Links (Data X S B) → Option ℕ → ℕ → Type 0
+  IsRisen tree at n =
+      (reach : B) × ((beside : Tree (Data X S B)) × ((es : List (ℕ × X))
+      × Risen w.weaving (w.within reach) beside tree.nodes.live tree.root es at n × Valued w.weaving w.is_item w.is_value es))

@@ -13,7 +13,8 @@ use Rattle.rb_rules.specs.Weaving.{Weaving, HeldItem, HeldBy}
 use Rattle.rb_rules.specs.Woven.{entries, Woven, AllItems, Valued, shift_at, lefts, rights}
 use Rattle.rb_rules.specs.Sound.{Slack}
 use Rattle.rb_rules.specs.Shifts.{shifted, moved, levelled}
-use Rattle.rb_arena.specs.Placing.{HoleAt, WovenAt}
+use Rattle.rb_arena.specs.Placing.{HoleAt, WovenAt, above_place}
+use Rattle.rb_arena.specs.Relative.{LawsOf, IsSlackFrom}
 use Rattle.rb_arena.specs.declared.links.Links.{Links}
 use Rattle.rb_arena.specs.Leaving.{StoresBeside}
 use Rattle.rb_arena.specs.Rising.{Mended, MendedBeside}
@@ -56,48 +57,50 @@ module _ {X S B : Type 0} (w : Weaving X S B) (beside : Tree (Data X S B)) (m : 
 module _ {W X S B K : Type 0} (w : Ghosts W X S B K) where
   module _ (tree : Links (Data X S B)) where
     -- a subtree of values hangs at that name, no higher than n nodes, below a path whose shifts come to acc
-    abbrev pub CanLevelAt : Option ℕ → B → ℕ → Type 0
+    unfoldable pub CanLevelAt : Option ℕ → B → ℕ → Type 0
     CanLevelAt at acc n =
         (beside : Tree (Data X S B)) × ((t : Tree (Data X S B)) × ((k : Hole (Data X S B))
         × CanLevel w.weaving w.is_near w.is_item w.is_value beside tree.nodes.live tree.root at acc n k t))
 
     -- the items after the place may move, no more than 128 nodes below the top
-    abbrev pub CanShiftUp : Option (ℕ × Side) → B → Type 0
+    unfoldable pub CanShiftUp : Option (ℕ × Side) → B → Type 0
     CanShiftUp at by =
         (beside : Tree (Data X S B)) × ((t : Tree (Data X S B)) × ((k : Hole (Data X S B))
         × CanShift w.weaving w.is_near w.is_item tree.nodes.live tree.root beside at by 128 t k))
 
-    -- the items after the place may move, within a wider reach
-    abbrev pub CanShiftAll : Option (ℕ × Side) → B → Type 0
-    CanShiftAll at by =
-        (from : B) × ((reach : B) × ((beside : Tree (Data X S B)) × ((k : Hole (Data X S B))
-        × (w.widened from by ≡ Some reach)
-        × CanShiftFrom w.weaving beside tree.nodes.live tree.root (w.within from) w.is_item w.is_value at by k)))
-
   module _ (old new : Links (Data X S B)) where
     -- whatever the subtree was, it is levelled, and all else is as it was
-    abbrev pub Levels : Option ℕ → B → ℕ → Type 0
+    unfoldable pub Levels : Option ℕ → B → ℕ → Type 0
     Levels at acc n =
         (beside t : Tree (Data X S B)) (k : Hole (Data X S B))
         → CanLevel w.weaving w.is_near w.is_item w.is_value beside old.nodes.live old.root at acc n k t
         → Made beside new.nodes.live new.root (plug k (levelled w.weaving acc t))
 
     -- whatever hole is at the place, the items after it have moved, and the sums above it are as they were
-    abbrev pub ShiftsUp : Option (ℕ × Side) → B → Type 0
+    unfoldable pub ShiftsUp : Option (ℕ × Side) → B → Type 0
     ShiftsUp at by =
         (beside t : Tree (Data X S B)) (k : Hole (Data X S B))
         → CanShift w.weaving w.is_near w.is_item old.nodes.live old.root beside at by 128 t k
         → Made beside new.nodes.live new.root (plug (moved w.weaving by k) t)
 
+  -- the items after the place may move, within a wider reach, and the sums above it may be renewed then
+  unfoldable pub CanShiftAll : Links (Data X S B) → Option (ℕ × Side) → B → Type 0
+  CanShiftAll tree at by =
+      LawsOf w × ((moved_ : Links (Data X S B)) (parent : Option ℕ) → ShiftsUp tree moved_ at by → parent ≡ above_place at → IsSlackFrom w moved_ parent 128)
+      × ((from : B) × ((reach : B) × ((beside : Tree (Data X S B)) × ((k : Hole (Data X S B))
+      × (w.widened from by ≡ Some reach)
+      × CanShiftFrom w.weaving beside tree.nodes.live tree.root (w.within from) w.is_item w.is_value at by k))))
+
+  module _ (old new : Links (Data X S B)) where
     -- whatever empty hole is at the place, the items after it have moved, within the wider reach
-    abbrev pub ShiftsAll : Option (ℕ × Side) → B → Type 0
+    unfoldable pub ShiftsAll : Option (ℕ × Side) → B → Type 0
     ShiftsAll at by =
         (from reach : B) (beside : Tree (Data X S B)) (k : Hole (Data X S B)) → w.widened from by ≡ Some reach
         → CanShiftFrom w.weaving beside old.nodes.live old.root (w.within from) w.is_item w.is_value at by k
         → MendedBeside w reach beside new (lefts w.weaving k ++ shifted w.weaving by (rights w.weaving k))
 
     -- whatever the tree stored within the old reach, it lists the same, within one that the shift widens to the one found
-    abbrev pub FindsReach : B → B → Option B → Type 0
+    unfoldable pub FindsReach : B → B → Option B → Type 0
     FindsReach reach by found =
         (beside : Tree (Data X S B)) (es : List (ℕ × X)) → StoresBeside w old reach beside es
         → Reaches w.weaving beside new.nodes.live new.root w.within w.widened es reach by found

@@ -52,6 +52,7 @@ fn step<W: Weave>(
 }
 
 /// Makes the tree red-black again after a black node has gone.
+#[tactic(auto, unfolding(crate::specs::Closing::IsClosing, crate::specs::Closing::ClosesFrom))]
 pub(crate) fn close<W: Weave>(tree: &mut Links<Data<W::Item, W::Sum, W::By>>, from: Place)
     requires { IsClosing W.Weave tree.old from 129 }
     ensures mended { ClosesFrom W.Weave tree.old tree.new from 129 }

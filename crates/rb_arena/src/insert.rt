@@ -6,8 +6,9 @@ ghost use Rattle.rb_rules.specs.Tree.{depth};
 ghost use Rattle.rb_rules.specs.Woven.{shift_at};
 ghost use Rattle.rb_rules.specs.Weaving.{HeldBy};
 ghost use Rattle.rb_arena.specs.Placing.{above_place, passed, IsWovenPlace, AtWovenPlace};
-ghost use Rattle.rb_arena.specs.Placing.{Takes, TakesNear, TakesLeaf, TakesNode};
-ghost use Rattle.rb_arena.specs.Placing.{ListsAt, ListsLeafAt, ListsNodeAt, IsLeafFor};
+ghost use Rattle.rb_arena.specs.Placing.{IsValueAlone, IsLeafFor};
+ghost use Rattle.rb_arena.specs.Placing.{Takes, TakesLeaf, TakesNode, TakesSlot};
+ghost use Rattle.rb_arena.specs.Placing.{ListsAt, ListsLeafAt, ListsNodeAt, ListsSlotAt};
 
 use crate::climb::{LONGEST, renew_up};
 use crate::links::{Links, Place, hang, place, read, visit, write};
@@ -96,12 +97,13 @@ pub(crate) fn copy_of(at: &Place) -> Place
 }
 
 /// A leaf for an empty place.
-fn leaf_at<W: Weave>(
+pub(crate) fn leaf_at<W: Weave>(
     tree: &Links<Data<W::Item, W::Sum, W::By>>,
     at: &Place,
     item: W::Item,
 ) -> Slot<Data<W::Item, W::Sum, W::By>>
-    requires { TakesNear W.Weave tree.now at.now item }
+    requires place { IsWovenPlace W.Weave tree.now at.now }
+    requires value { IsValueAlone W.Weave item }
     ensures { IsLeafFor W.Weave tree.now at.now item result }
 {
     let by = path_shift::<W>(tree, copy_of(at));
@@ -110,7 +112,7 @@ fn leaf_at<W: Weave>(
     Slot::sided(Side::Left, parent_at(at), None, None, true, datum)
 }
 
-/// Hangs a leaf at an empty place.
+/// Hangs a leaf at an empty place. The sums of the nodes above may be wrong before.
 fn hang_leaf<W: Weave>(tree: &mut Links<Data<W::Item, W::Sum, W::By>>, at: Place, id: NodeId)
     requires { TakesLeaf W.Weave tree.old at id }
     ensures mended { ListsLeafAt W.Weave tree.old tree.new at id }
@@ -121,6 +123,24 @@ fn hang_leaf<W: Weave>(tree: &mut Links<Data<W::Item, W::Sum, W::By>>, at: Place
     hang(tree, at, Some(id));
     renew_up::<W>(tree, parent);
     mend::<W>(tree, id);
+}
+
+/// Hangs a new leaf at an empty place. The sums of the nodes above may be wrong before.
+pub(crate) fn hang_new<W: Weave>(
+    tree: &mut Links<Data<W::Item, W::Sum, W::By>>,
+    at: Place,
+    leaf: Slot<Data<W::Item, W::Sum, W::By>>,
+) -> NodeId
+    requires room { 0 < tree.old.nodes.spare }
+    requires leaf { TakesSlot W.Weave tree.old at leaf }
+    ensures mended { ListsSlotAt W.Weave tree.old tree.new at result leaf }
+    ensures spare { tree.new.nodes.spare + 1 ≡ tree.old.nodes.spare }
+    ensures as_many { map.len tree.new.nodes.live ≡ map.len tree.old.nodes.live + 1 }
+    ensures few { map.len tree.new.nodes.live + tree.new.nodes.spare < 2 ^ 63 }
+{
+    let id = tree.nodes.put(Packed::of(&leaf));
+    hang_leaf::<W>(tree, at, id);
+    id
 }
 
 /// Puts an item at an empty place.
@@ -137,9 +157,7 @@ pub(crate) fn insert_at<W: Weave>(
     ensures few { map.len tree.new.nodes.live + tree.new.nodes.spare < 2 ^ 63 }
 {
     let leaf = leaf_at::<W>(tree, &at, item);
-    let id = tree.nodes.put(Packed::of(&leaf));
-    hang_leaf::<W>(tree, at, id);
-    id
+    hang_new::<W>(tree, at, leaf)
 }
 
 /// Puts an item at an empty place, at a node that stands in no tree.

@@ -24,12 +24,14 @@ struct Vacancy {
 }
 
 /// Renews the sums above an empty place, and closes the gap that a black leaf has left there.
+#[tactic(auto, using(crate::proofs::Emptying::settling))]
 fn settle<W: Weave>(tree: &mut Links<Data<W::Item, W::Sum, W::By>>, at: Place, red: bool)
     requires { IsEmptied W.Weave tree.old at red }
     ensures mended { Settles W.Weave tree.old tree.new at red }
     ensures spare { tree.new.nodes.spare ≡ tree.old.nodes.spare }
     ensures as_many { map.len tree.new.nodes.live ≡ map.len tree.old.nodes.live }
 {
+    #[tactic(auto, unfolding(crate::specs::Leaving::IsEmptied))]
     renew_up::<W>(tree, parent_at(&at));
     if red {
         return;
@@ -38,6 +40,7 @@ fn settle<W: Weave>(tree: &mut Links<Data<W::Item, W::Sum, W::By>>, at: Place, r
 }
 
 /// A leaf leaves the tree, and keeps its slot.
+#[tactic(auto, unfolding(crate::specs::Leaving::NoChild))]
 fn unlink_leaf<W: Weave>(tree: &mut Links<Data<W::Item, W::Sum, W::By>>, id: NodeId) -> Vacancy
     requires leaf { NoChild tree.old.nodes.live id }
     requires item { StoresItem W.Weave tree.old id }
@@ -53,6 +56,7 @@ fn unlink_leaf<W: Weave>(tree: &mut Links<Data<W::Item, W::Sum, W::By>>, id: Nod
 }
 
 /// Makes a leaf of a node with one child at most.
+#[tactic(auto, using(crate::proofs::Leaving::to_leaf))]
 pub(crate) fn to_leaf<W: Weave>(tree: &mut Links<Data<W::Item, W::Sum, W::By>>, id: NodeId)
     requires child { OneChild tree.old.nodes.live id }
     requires item { StoresItem W.Weave tree.old id }
@@ -61,6 +65,7 @@ pub(crate) fn to_leaf<W: Weave>(tree: &mut Links<Data<W::Item, W::Sum, W::By>>, 
     ensures spare { tree.new.nodes.spare ≡ tree.old.nodes.spare }
     ensures as_many { map.len tree.new.nodes.live ≡ map.len tree.old.nodes.live }
 {
+    #[tactic(auto, unfolding(crate::specs::Leaving::OneChild))]
     let slot = read(&tree.nodes, id);
     if slot.left.is_some() {
         turn_node::<W>(tree, id, Side::Left);
@@ -70,6 +75,7 @@ pub(crate) fn to_leaf<W: Weave>(tree: &mut Links<Data<W::Item, W::Sum, W::By>>, 
 }
 
 /// The item of a node, with the shifts of its path.
+#[tactic(auto, unfolding(crate::specs::Leaving::StandsValued))]
 pub(crate) fn item_at<W: Weave>(tree: &Links<Data<W::Item, W::Sum, W::By>>, id: NodeId) -> W::Item
     requires { StandsValued W.Weave tree.now id }
     ensures { AtWoven W.Weave tree.now id (λ s. result ≡ shown W.weaving s s.datum.item) }
@@ -95,6 +101,7 @@ pub(crate) fn item_for<W: Weave>(
 }
 
 /// A leaf takes the place of the node before it, which leaves the tree and keeps its slot.
+#[tactic(auto, unfolding(crate::specs::Leaving::NoChild))]
 fn inherit<W: Weave>(
     tree: &mut Links<Data<W::Item, W::Sum, W::By>>,
     id: NodeId,
@@ -144,6 +151,7 @@ fn unlink<W: Weave>(tree: &mut Links<Data<W::Item, W::Sum, W::By>>, id: NodeId) 
 }
 
 /// A node leaves the tree, and its slot goes back to the arena.
+#[tactic(auto, using(crate::proofs::TakingOut::taking_out))]
 pub(crate) fn leave<W: Weave>(tree: &mut Links<Data<W::Item, W::Sum, W::By>>, id: NodeId)
     requires { StoresItem W.Weave tree.old id }
     ensures mended { Leaves W.Weave tree.old tree.new id }
@@ -156,6 +164,7 @@ pub(crate) fn leave<W: Weave>(tree: &mut Links<Data<W::Item, W::Sum, W::By>>, id
 }
 
 /// A node leaves the tree, and comes before the loose ones.
+#[tactic(auto, using(crate::proofs::TakingOut::loosening))]
 pub(crate) fn loosen<W: Weave>(
     tree: &mut Links<Data<W::Item, W::Sum, W::By>>,
     id: NodeId,

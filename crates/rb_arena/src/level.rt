@@ -28,6 +28,7 @@ fn level_datum<W: Weave>(
 }
 
 /// Levels a subtree below a path whose shifts come to `by`. It has no more than so many levels.
+#[tactic(auto, unfolding(crate::specs::Shifting::CanLevelAt, crate::specs::Shifting::Levels))]
 pub(crate) fn level<W: Weave>(
     tree: &mut Links<Data<W::Item, W::Sum, W::By>>,
     at: Option<NodeId>,

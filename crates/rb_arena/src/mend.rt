@@ -4,14 +4,16 @@ ghost use Rattle.std.specs.FinMap as map;
 ghost use Rattle.rb_rules.specs.Tree.{fork};
 ghost use Rattle.rb_rules.specs.Memory.{AtSpot, Stands};
 ghost use Rattle.rb_arena.specs.Nodes.{Becomes};
-ghost use Rattle.rb_arena.specs.Rising.{IsRising, IsRisingFrom, RisesTo, MendsFrom};
+ghost use Rattle.rb_arena.specs.Rising.{IsRising, IsRisingFrom, IsRisen, RisesTo, MendsFrom, MendsUp};
 ghost use Rattle.rb_arena.specs.Mending.{case_of, bent, HasChild, red_child_in};
 
-use crate::climb::LONGEST;
 use crate::links::{Links, node_of, place, read, rewrite};
 use crate::sums::turn_node;
 use rb_rules::{Data, Packed, Side, Weave};
 use slot_arena::{Arena, NodeId};
+
+/// One step at most for each node on a path, and one at the topmost.
+const MOST_STEPS: u32 = 129;
 
 /// How a red node stands to the nodes above it.
 #[derive(Clone, Copy)]
@@ -119,6 +121,22 @@ fn step<W: Weave>(tree: &mut Links<Data<W::Item, W::Sum, W::By>>, id: NodeId) ->
     }
 }
 
+/// Mends from a red node up, if there is one.
+fn mend_up<W: Weave>(tree: &mut Links<Data<W::Item, W::Sum, W::By>>, from: Option<NodeId>)
+    requires { IsRisen W.Weave tree.old from 128 }
+    ensures mended { MendsUp W.Weave tree.old tree.new from 128 }
+    ensures spare { tree.new.nodes.spare ≡ tree.old.nodes.spare }
+    ensures as_many { map.len tree.new.nodes.live ≡ map.len tree.old.nodes.live }
+{
+    let mut at = from;
+    for _turn in 0..MOST_STEPS {
+        let Some(red) = at else {
+            return;
+        };
+        at = step::<W>(tree, red);
+    }
+}
+
 /// Makes the tree red-black again after a red leaf has come.
 pub(crate) fn mend<W: Weave>(tree: &mut Links<Data<W::Item, W::Sum, W::By>>, id: NodeId)
     requires { IsRisingFrom W.Weave tree.old id 128 }
@@ -126,11 +144,5 @@ pub(crate) fn mend<W: Weave>(tree: &mut Links<Data<W::Item, W::Sum, W::By>>, id:
     ensures spare { tree.new.nodes.spare ≡ tree.old.nodes.spare }
     ensures as_many { map.len tree.new.nodes.live ≡ map.len tree.old.nodes.live }
 {
-    let mut at = Some(id);
-    for _turn in 0..LONGEST {
-        let Some(red) = at else {
-            return;
-        };
-        at = step::<W>(tree, red);
-    }
+    mend_up::<W>(tree, Some(id));
 }

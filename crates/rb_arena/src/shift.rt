@@ -32,6 +32,7 @@ fn move_node<W: Weave>(tree: &mut Links<Data<W::Item, W::Sum, W::By>>, id: NodeI
 }
 
 /// Moves the items after a place: at each node that the path leaves to the left, its item and its right subtree.
+#[tactic(auto, unfolding(crate::specs::Shifting::CanShiftUp, crate::specs::Shifting::ShiftsUp))]
 fn shift_up<W: Weave>(tree: &mut Links<Data<W::Item, W::Sum, W::By>>, from: Place, by: W::By)
     requires { CanShiftUp W.Weave tree.old from by }
     ensures made { ShiftsUp W.Weave tree.old tree.new from by }
@@ -52,6 +53,7 @@ fn shift_up<W: Weave>(tree: &mut Links<Data<W::Item, W::Sum, W::By>>, from: Plac
 }
 
 /// Moves the items after an empty place, and renews the sums above it.
+#[tactic(auto, using(crate::proofs::Moving::shifting))]
 pub(crate) fn shift_from<W: Weave>(
     tree: &mut Links<Data<W::Item, W::Sum, W::By>>,
     at: Place,
@@ -64,10 +66,12 @@ pub(crate) fn shift_from<W: Weave>(
 {
     let parent = parent_at(&at);
     shift_up::<W>(tree, at, by);
+    #[tactic(auto, unfolding(crate::specs::Shifting::CanShiftAll))]
     renew_up::<W>(tree, parent);
 }
 
 /// A reach for a tree some of whose items move. Where the tree's own would grow too great, the tree is levelled first.
+#[tactic(auto, using(crate::proofs::Moving::reaches))]
 pub(crate) fn reach_for<W: Weave>(
     tree: &mut Links<Data<W::Item, W::Sum, W::By>>,
     reach: W::By,

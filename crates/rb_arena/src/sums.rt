@@ -85,6 +85,7 @@ fn turned_data<W: Weave>(
 }
 
 /// Turns a node, and keeps the sums right.
+#[tactic(auto, unfolding(crate::specs::Relative::CanTurnNode))]
 pub(crate) fn turn_node<W: Weave>(
     tree: &mut Links<Data<W::Item, W::Sum, W::By>>,
     id: NodeId,

@@ -2,9 +2,10 @@
 ghost use Rattle.std.specs.Prelude.{◌≡◌, None, length, ◌-◌, ◌^◌, ◌+◌, ◌<◌, ◌≤◌, [], ◌∷◌, OnOk};
 ghost use Rattle.rb_rules.specs.Memory.{place_of};
 ghost use Rattle.rb_rules.specs.Woven.{sum_of};
-ghost use Rattle.rb_arena.specs.Value.{listed, first_hole, end_hole, up_on, neighbour_of};
+ghost use Rattle.rb_arena.specs.Value.{listed, first_hole};
 ghost use Rattle.rb_arena.specs.Value.{first_or, last_or, front_of, name_at_end, name_beside};
 ghost use Rattle.rb_arena.specs.Value.{IsItem, AtItem, HasAfter, HasPut, HasInstead};
+ghost use Rattle.rb_arena.specs.Value.{HasInsteadAndAfter, SumsWithAndTo};
 ghost use Rattle.rb_arena.specs.Value.{HasLifted, LeavesOut};
 ghost use Rattle.rb_arena.specs.Value.{SumsTo, SumsPut, SumsWith};
 ghost use Rattle.rb_arena.specs.Value.{PlaceAfter, CanMoveAfter, SumsMoved, HasMoved};
@@ -12,11 +13,11 @@ ghost use Rattle.rb_arena.specs.Value.{HasFront, AtFront, SumsLanded, HasLanded}
 ghost use Rattle.rb_arena.specs.Names.{HaveOwnNames};
 ghost use Rattle.rb_arena.specs.Placing.{Hangs, WhereHangs, HangsRight, WhereHangsRight};
 ghost use Rattle.rb_arena.specs.Searching.{Found};
-ghost use Rattle.rb_arena.specs.Nodes.{StandsBelow, AtSpotBelow, StandsWithin, AtSpotWithin};
+ghost use Rattle.rb_arena.specs.Ends.{HangsAt, IsEnd, StandsLow, IsAboveOn, IsBeside};
 
 use crate::climb::{LONGEST, renew_up};
 use crate::descend::{Next, Standing, climb, go_down};
-use crate::insert::{insert_at, land_at, parent_at};
+use crate::insert::{hang_new, insert_at, land_at, leaf_at, parent_at};
 use crate::leave::{item_at, item_for, leave, loosen};
 use crate::links::{Links, Place, node_of, place, read, unstring};
 use crate::shift::{reach_for, shift_from};
@@ -54,9 +55,10 @@ impl<W: Weave> Model for RbTree<W> {
 }
 
 /// The last place on that side of a subtree that hangs at a place.
+#[tactic(auto, using(crate::proofs::Walks::to_end))]
 fn end_place<D: Copy>(tree: &Links<D>, from: Place, below: Option<NodeId>, side: Side) -> Place
-    requires { Hangs tree.now from below }
-    ensures { WhereHangs tree.now from below (λ t k. result ≡ place_of (end_hole side k t)) }
+    requires { HangsAt tree.now from below }
+    ensures { IsEnd tree.now from below side result }
 {
     let mut at = from;
     let mut next = below;
@@ -71,6 +73,7 @@ fn end_place<D: Copy>(tree: &Links<D>, from: Place, below: Option<NodeId>, side:
 }
 
 /// The first place of a subtree that hangs at a place.
+#[tactic(auto, unfolding(crate::specs::Ends::HangsAt, crate::specs::Ends::IsEnd))]
 pub(crate) fn first_place<D: Copy>(tree: &Links<D>, from: Place, below: Option<NodeId>) -> Place
     requires { Hangs tree.now from below }
     ensures { WhereHangs tree.now from below (λ t k. result ≡ place_of (first_hole k t)) }
@@ -90,10 +93,12 @@ fn place_after<D: Copy>(tree: &Links<D>, id: Option<NodeId>) -> Place
 }
 
 /// The nearest node above that one that has it on that side.
+#[tactic(auto, using(crate::proofs::Walks::up))]
 fn above_on<D: Copy>(tree: &Links<D>, id: NodeId, side: Side) -> Option<NodeId>
-    requires { StandsBelow tree.now 128 id }
-    ensures { AtSpotBelow tree.now 128 id (λ s. result ≡ up_on side s.hole) }
+    requires { StandsLow tree.now id }
+    ensures { IsAboveOn tree.now id side result }
 {
+    #[tactic(auto, unfolding(crate::specs::Ends::StandsLow))]
     let mut at = place(tree, id);
     for _turn in 0..LONGEST {
         let Some(above) = at else {
@@ -102,21 +107,24 @@ fn above_on<D: Copy>(tree: &Links<D>, id: NodeId, side: Side) -> Option<NodeId>
         if above.1 == side {
             return Some(above.0);
         }
-        at = place(tree, above.0);
+        #[tactic(auto, unfolding(crate::specs::Ends::StandsAbove))]
+        let next = place(tree, above.0);
+        at = next;
     }
     None
 }
 
 /// The node right beside that one in the order of the tree, on that side.
+#[tactic(auto, using(crate::proofs::Walks::sideways), unfolding(crate::specs::Ends::StandsLow))]
 fn neighbour<D: Copy>(tree: &Links<D>, id: NodeId, side: Side) -> Option<NodeId>
-    requires { StandsWithin tree.now 126 id }
-    ensures { AtSpotWithin tree.now 126 id (λ s. result ≡ neighbour_of side id s) }
+    requires { StandsLow tree.now id }
+    ensures { IsBeside tree.now id side result }
 {
     let below = node_of(tree, id).child(side);
-    if below.is_none() {
-        return above_on(tree, id, side.other());
+    match below {
+        None => above_on(tree, id, side.other()),
+        Some(_) => parent_at(&end_place(tree, Some((id, side)), below, side.other())),
     }
-    parent_at(&end_place(tree, Some((id, side)), below, side.other()))
 }
 
 impl<W: Weave> RbTree<W> {
@@ -282,6 +290,25 @@ impl<W: Weave> RbTree<W> {
         ensures spare { self.new.spare + 1 ≡ self.old.spare }
     {
         self.put_after(Some(id), item)
+    }
+
+    /// Puts another item in the place of that one, under its name, and a new item right after it. The sums are renewed in one walk up.
+    pub fn set_and_insert_after(&mut self, id: NodeId, own: W::Item, item: W::Item) -> NodeId
+        requires room { 0 < self.old.spare }
+        requires named { IsItem self.old.items id }
+        requires own { W.is_item own }
+        requires value { W.is_item item }
+        requires sum { SumsWithAndTo W.weaving W.is_value self.old.items id own item }
+        ensures items { HasInsteadAndAfter self.old.items self.new.items id own (result, item) }
+        ensures loose { self.new.loose ≡ self.old.loose }
+        ensures spare { self.new.spare + 1 ≡ self.old.spare }
+    {
+        let at = place_after(&self.links, Some(id));
+        // The leaf is made while all sums are right.
+        let leaf = leaf_at::<W>(&self.links, &at, item);
+        let own = item_for::<W>(&self.links, id, own);
+        replace_item::<W>(&mut self.links, id, own);
+        hang_new::<W>(&mut self.links, at, leaf)
     }
 
     /// Puts an item before all others.

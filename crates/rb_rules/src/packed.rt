@@ -7,14 +7,15 @@ use std::alloc::AllocError;
 use std::marker::Model;
 
 /// A node as it lies in memory: each of its links has four bytes. A contract sees it as the node.
+///
+/// What a search reads of it lies together: the links down, and the beginning of the data.
 #[derive(Copy)]
 pub struct Packed<D: Copy> {
-    data: D,
     parent: Link,
+    red: bool,
     left: Link,
     right: Link,
-    /// The last field, so that no padding stands between others and is copied with them.
-    red: bool,
+    data: D,
 }
 
 impl<D: Copy> Model for Packed<D> {

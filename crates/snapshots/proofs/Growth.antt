@@ -1,5 +1,5 @@
 -- A shelf shows the same when its buffers have grown.
-use Rattle.std.proofs.Common.{◌≡◌, ℕ, List, [], ◌∷◌, ◌++◌, map, refl, ap, ap₂}
+use Rattle.std.proofs.Common.{◌≡◌, ℕ, List, [], ◌∷◌, ◌++◌, map, refl, ap, ap₂, arith}
 use Rattle.std.specs.List.{All}
 use Rattle.std.proofs.lemmas.List.Elements.{All-head, All-tail, All-weaker}
 use Rattle.chunk_buffers.specs.declared.span.ChunkSpan.{ChunkSpan}
@@ -30,4 +30,4 @@ module _ (old new : List (List ℕ)) (grown : Extends old new) where
 
 -- spans that lie in buffers may be taken
 pub IsSmall-LiesIn : (buffers : List (List ℕ)) (spans : List ChunkSpan) → All (LiesIn buffers) spans → All IsSmall spans
-IsSmall-LiesIn buffers spans all = All-weaker (LiesIn buffers) IsSmall (λ span lies. record { end = lies.fits }) spans all
+IsSmall-LiesIn buffers spans all = All-weaker (LiesIn buffers) IsSmall (λ span lies. record { end = omega (arith, lies.fits) }) spans all

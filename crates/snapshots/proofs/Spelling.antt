@@ -51,7 +51,7 @@ module _ (b : List (List ℕ)) where
         | inl inside ↦
             rw (lt-ltb n span.units inside)
             (All-cons (LiesIn b) (part_of span n span.units) spans
-            (record { buffer = lies.buffer; end = omega (arith, lies.end); fits = omega (arith, lies.fits) }) rest)
+            (record { buffer = lies.buffer; few = lies.few; end = omega (arith, lies.end); fits = omega (arith, lies.fits) }) rest)
         | inr past ↦ rw (le-ltb n span.units past) (LiesIn-without (n - span.units) spans rest)
       ]
 

@@ -17,9 +17,9 @@ spelled buffers spans = flat_map (units_at buffers) spans
 abbrev pub snapshot_of : List (List ℕ) → Spelled → Snapshot
 snapshot_of buffers s = record { id = s.id; rest = spelled buffers s.spans }
 
--- the place where it ends is a number of the machine, as of each span that lies in buffers
+-- the place where it ends is a number of 32 bits, as of each span that lies in buffers
 pub record IsSmall (span : ChunkSpan) : Type 0 where
-  pub end : span.start + span.units < 2 ^ 63
+  pub end : span.start + span.units < 2 ^ 32
 
 -- the spans without their first n units
 abbrev pub without : ℕ → List ChunkSpan → List ChunkSpan

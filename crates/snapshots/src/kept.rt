@@ -69,11 +69,11 @@ impl Kept {
         let mut left = n;
         while self.read < self.spans.len() {
             let span = self.spans[self.read];
-            if left < span.units {
+            if left < span.units as u64 {
                 self.spans[self.read] = rest_of(span, left);
                 return;
             }
-            left -= span.units;
+            left -= span.units as u64;
             self.read += 1;
         }
     }
@@ -87,7 +87,7 @@ fn rest_of(span: ChunkSpan, from: u64) -> ChunkSpan
 {
     ChunkSpan {
         buffer: span.buffer,
-        start: span.start + from,
-        units: span.units - from,
+        start: span.start + from as u32,
+        units: span.units - from as u32,
     }
 }

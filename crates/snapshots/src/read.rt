@@ -54,7 +54,7 @@ fn push_units(
             return Ok(());
         }
         let units = chunks.units(*span);
-        let count = left.min(span.units);
+        let count = left.min(span.units as u64);
         out.extend_from_slice(&units[..count as usize])?;
         left -= count;
     }

@@ -138,7 +138,7 @@ module _ (tree : Pieces) (chunks : Shown) (is : IsText tree chunks) where
   part_inside : (found : Found) (offset from to : ℕ) → HasUnit tree.entries found offset → from ≤ to → to ≤ found.span.units → LiesIn chunks.buffers (part_of found.span from to)
   part_inside found offset from to at ordered within =
       let lies = found_inside chunks.buffers tree.entries found at.piece is.pieces in
-      record { buffer = lies.buffer; end = omega (arith, lies.end, ordered, within); fits = omega (arith, lies.fits, ordered, within) }
+      record { buffer = lies.buffer; few = lies.few; end = omega (arith, lies.end, ordered, within); fits = omega (arith, lies.fits, ordered, within) }
 
   front_little : (found : Found) (offset : ℕ) (joins : Bool) → HasUnit tree.entries found offset → IsLittle chunks.buffers (part_of found.span 0 (offset - found.before.units))
       → IsFrontAlong (spelled chunks.buffers (pieces_of tree.entries)) offset joins (units_at chunks.buffers (part_of found.span 0 (offset - found.before.units)))

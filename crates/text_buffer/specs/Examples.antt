@@ -1,5 +1,5 @@
 -- Worked examples: what an edit takes along.
-use Rattle.std.specs.Prelude.{◌≡◌, ℕ, false, Option, Some, None, List, [], ◌∷◌, ◌++◌, replicate, codes, refl}
+use Rattle.std.specs.Prelude.{◌≡◌, ℕ, false, Some, None, List, [], ◌∷◌, replicate, codes, refl}
 use Rattle.chunk_buffers.specs.declared.span.ChunkSpan.{ChunkSpan}
 use Rattle.text_buffer.specs.declared.spot.Spot.{Spot}
 use Rattle.text_buffer.specs.Along.{rest_before, rests_of}

@@ -1,10 +1,11 @@
 -- A text in pieces of buffers.
-use Rattle.std.specs.Prelude.{ℕ, ◌≡◌, ◌+◌, ◌<◌, Bool, false, ◌==◌, ◌&&◌, if◌then◌else◌, Option, Some, None, length, List, [], ◌∷◌, ◌++◌, map}
+use Rattle.std.specs.Prelude.{ℕ, ◌≡◌, ◌+◌, ◌<◌, Bool, false, ◌==◌, ◌&&◌, if◌then◌else◌, Option, Some, None, length, List, [], ◌∷◌, ◌++◌, map, IfSome}
 use Rattle.std.specs.List.{All, flat_map, sum_by}
 use Rattle.chunk_buffers.specs.declared.span.ChunkSpan.{ChunkSpan}
 use Rattle.chunk_buffers.specs.Chunks.{Shown, buffer_at, units_at, LiesIn}
 use Rattle.piece_tree.specs.declared.piece.Piece.{Piece}
-use Rattle.piece_tree.specs.Pieces.{Pieces, pieces_of, IsPieceOf}
+use Rattle.piece_tree.specs.declared.piece.Found.{Found}
+use Rattle.piece_tree.specs.Pieces.{Pieces, pieces_of, IsPieceOf, IsFound}
 use Rattle.text_rules.specs.Lines.{line_feed, carriage_return}
 use Rattle.text_rules.specs.Breaks.{joins_pair}
 
@@ -46,6 +47,11 @@ pub record IsText (tree : Pieces) (chunks : Shown) : Type 0 where
   -- no piece is empty
   pub full : All (λ (p : Piece). 0 < p.span.units) (pieces_of tree.entries)
   pub unsplit : IsUnsplit chunks.buffers (pieces_of tree.entries)
+
+-- the pieces and the buffers are a text, and a piece that is remembered, if any, is one of those, as a look-up tells it
+pub record IsTextWith (tree : Pieces) (chunks : Shown) (remembered : Option Found) : Type 0 where
+  pub text : IsText tree chunks
+  pub found : IfSome remembered (IsFound tree.entries)
 
 abbrev pub text_of : Pieces → Shown → Text
 text_of tree chunks = record {

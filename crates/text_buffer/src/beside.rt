@@ -75,14 +75,17 @@ fn rest_behind(pieces: &PieceTree, chunks: &Chunks, spot: &Spot) -> Option<Chunk
         return None;
     }
     let own = spot.offset - found.before.units;
-    if_little(chunks, chunks.part(found.span, own, found.span.units))
+    if_little(
+        chunks,
+        chunks.part(found.span, own, found.span.units as u64),
+    )
 }
 
 fn if_little(chunks: &Chunks, span: ChunkSpan) -> Option<ChunkSpan>
     requires { LiesIn chunks.now.buffers span }
     ensures { result ≡ if_little chunks.now.buffers span }
 {
-    if 0 < span.units && span.units <= MOST_ALONG as u64 && chunks.breaks(span) <= 1 {
+    if 0 < span.units && span.units as usize <= MOST_ALONG && chunks.breaks(span) <= 1 {
         Some(span)
     } else {
         None

@@ -67,7 +67,7 @@ fn has_unit(found: &Found, offset: u64) -> bool
     ensures { result ≡ (nat_le found.now.before.units offset
         && nat_lt offset (found.now.before.units + found.now.span.units)) }
 {
-    found.before.units <= offset && offset - found.before.units < found.span.units
+    found.before.units <= offset && offset - found.before.units < found.span.units as u64
 }
 
 /// Whether the offset, whose unit the piece has, stands inside a pair of surrogates. The unit before it is read without a search.

@@ -70,7 +70,7 @@ fn find_start<L: Ledger>(
         return Some(Place { id, rest });
     }
     let (found, own) = break_at(pieces, chunks, n - 1, steps);
-    let rest = chunks.part(found.span, own, found.span.units);
+    let rest = chunks.part(found.span, own, found.span.units as u64);
     Some(Place { id: found.id, rest })
 }
 
@@ -106,6 +106,6 @@ pub(crate) fn push_line(
     let end = chunks.nth_break(place.rest, 1);
     let units = chunks.units(place.rest);
     out.extend_from_slice(without_break(&units[..end as usize]))?;
-    let rest = chunks.part(place.rest, end, place.rest.units);
+    let rest = chunks.part(place.rest, end, place.rest.units as u64);
     Ok(Some(Place { id: place.id, rest }))
 }

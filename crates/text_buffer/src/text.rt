@@ -22,7 +22,7 @@ use crate::place::{push_line, start_of_line};
 use crate::spot::{dirty_between, joins_back, joins_front, spot_at};
 use crate::walk::push_span;
 use chunk_buffers::{ChunkSpan, Chunks};
-use piece_tree::PieceTree;
+use piece_tree::{Found, PieceTree};
 use std::alloc::{AllocError, Global};
 use std::marker::{Brand, Model};
 use std::sync::ledger::{Blank, Ledger};
@@ -43,16 +43,18 @@ const BREAKS_AN_EDIT: u64 = 2;
 pub struct TextBuffer {
     pieces: PieceTree,
     chunks: Chunks,
+    /// The piece that `seek` looked up last; None where the pieces were changed since.
+    last_found: Option<Found>,
 }
 
 impl Model for TextBuffer {
-    ghost use Rattle.text_buffer.specs.Text.{Text, text_of, IsText};
+    ghost use Rattle.text_buffer.specs.Text.{Text, text_of, IsTextWith};
 
     ghost Value = { Text };
 
     ghost view = { λ t. text_of t.pieces t.chunks };
 
-    ghost invariant = { λ t. IsText t.pieces t.chunks };
+    ghost invariant = { λ t. IsTextWith t.pieces t.chunks t.last_found };
 }
 
 impl TextBuffer {
@@ -64,10 +66,11 @@ impl TextBuffer {
         TextBuffer {
             pieces: PieceTree::new(alloc),
             chunks: Chunks::new(alloc),
+            last_found: None,
         }
     }
 
-    /// A buffer of this text.
+    /// A buffer of this text. It fails where memory is short, and for a text of 2^32 units or more.
     pub fn of_units(alloc: Global, units: &[u16]) -> Result<TextBuffer, AllocError>
         ensures units { IfOk result (λ text. text.units ≡ units.now) }
         ensures spans { IfOk result (λ text. length text.spans ≤ 1) }
@@ -79,11 +82,15 @@ impl TextBuffer {
             let span = chunks.append_whole(units)?;
             pieces.splice(None, 0, 0, Some(span), &chunks);
         }
-        Ok(TextBuffer { pieces, chunks })
+        Ok(TextBuffer {
+            pieces,
+            chunks,
+            last_found: None,
+        })
     }
 
-    /// Makes room for that many edits whose texts have that many units and breaks together. An error leaves the text as
-    /// it was.
+    /// Makes room for that many edits whose texts have that many units and breaks together. It fails where memory is short, and where
+    /// these are 2^32 units or more. An error leaves the text as it was.
     pub fn reserve(&mut self, edits: u64, units: u64, breaks: u64) -> Result<(), AllocError>
         ensures edits { OnOk result (edits ≤ self.new.spare_edits) }
         ensures room { OnOk result (units + units_beside_text * edits ≤ self.new.spare_units) }
@@ -134,6 +141,16 @@ impl TextBuffer {
         self.pieces.spans(out)
     }
 
+    /// Looks up the piece that has the unit at the offset, where there is one, and remembers it until the text is changed: what is
+    /// asked next at places of that piece is answered without a search. It takes no memory.
+    pub fn seek(&mut self, offset: u64)
+        ensures { self.new ≡ self.old }
+    {
+        if offset < self.pieces.len() {
+            self.last_found = Some(piece_near(&self.pieces, &self.last_found, offset));
+        }
+    }
+
     /// Puts the text in the place of the span, and answers which lines it touched, as `dirty_lines` does. What it leaves of a
     /// piece that it cuts, where that is little, comes with the text. It takes no memory.
     pub fn replace(&mut self, span: Span, text: &[u16]) -> Dirty
@@ -168,7 +185,7 @@ impl TextBuffer {
         ensures after { drop (result.first - 1 + result.new) (lines_of self.new.units)
             ≡ drop (result.first - 1 + result.old) (lines_of self.old.units) }
     {
-        let start = spot_at(&self.pieces, &self.chunks, &None, span.start);
+        let start = spot_at(&self.pieces, &self.chunks, &self.last_found, span.start);
         let end = spot_at(&self.pieces, &self.chunks, &start.found, span.end);
         let dirty = dirty_between(&self.pieces, &self.chunks, &start, &end, text);
         let rests = rests_of(&self.pieces, &self.chunks, &start, &end, text);
@@ -183,6 +200,7 @@ impl TextBuffer {
         let to = span.end + after.len() as u64;
         let added = append_some(&mut self.chunks, before, text, after);
         self.pieces.splice(at, from, to - from, added, &self.chunks);
+        self.last_found = None;
         dirty
     }
 
@@ -308,7 +326,7 @@ impl TextBuffer {
             drop (result.first - 1 + result.new) lines
             ≡ drop (result.first - 1 + result.old) (lines_of self.now.units) }
     {
-        let start = spot_at(&self.pieces, &self.chunks, &None, span.start);
+        let start = spot_at(&self.pieces, &self.chunks, &self.last_found, span.start);
         let end = spot_at(&self.pieces, &self.chunks, &start.found, span.end);
         dirty_between(&self.pieces, &self.chunks, &start, &end, text)
     }
@@ -397,7 +415,7 @@ impl TextBuffer {
         if start >= self.len() {
             return end == self.len();
         }
-        let first = piece_at(&self.pieces, start);
+        let first = piece_near(&self.pieces, &self.last_found, start);
         if cuts_pair_beside(&self.pieces, &self.chunks, &first, start) {
             return false;
         }
@@ -420,7 +438,7 @@ impl TextBuffer {
         ensures err { OnErr result (out.new.items ≡ out.old.items) }
     {
         out.reserve((span.end - span.start) as usize)?;
-        push_span(&self.pieces, &self.chunks, span, out);
+        push_span(&self.pieces, &self.chunks, &self.last_found, span, out);
         Ok(())
     }
 

@@ -10,6 +10,8 @@ mod lines;
 #[cfg(test)]
 mod nodes;
 #[cfg(test)]
+mod parts;
+#[cfg(test)]
 mod reads;
 #[cfg(test)]
 mod texts;

@@ -13,4 +13,4 @@ pub overflow_add-result : goal.overflow_add-result
 overflow_add-result c =
     let x = c.args.units.now in
     let from = c.args.from in
-    omega (arith, c.loop-at.invariant.counted, c.breaks_one_by_one.ensures, break_ends_few 0 (drop from x), length-drop from x)
+    omega (arith, c.loop-at.invariant.counted, c.breaks_in_rest.ensures, break_ends_few 0 (drop from x), length-drop from x)

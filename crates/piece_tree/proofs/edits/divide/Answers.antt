@@ -1,12 +1,12 @@
-use Rattle.std.proofs.Common.{ap, sym, subst, arith}
-use Rattle.chunk_buffers.specs.Chunks.{LiesIn}
+use Rattle.std.proofs.Common.{◌++◌, ◌∷◌, ap, sym, subst, ◌∙◌, arith}
+use Rattle.chunk_buffers.specs.Chunks.{LiesIn, part_of}
 use Rattle.piece_tree.specs.Pieces.{IsPieceOf, piece_of}
 use Rattle.piece_tree.proofs.Cuts.{span_few}
-use Rattle.piece_tree.proofs.Sums.{at_place, small_after, units-split, units_in}
+use Rattle.piece_tree.proofs.Sums.{at_place, small_both, units-split, units_in}
 use Rattle.piece_tree.proofs.edits.divide.Goals as goal
 
-pub part-requires-clause-inside : goal.part-requires-clause-inside
-part-requires-clause-inside c =
+pub part-own-requires-clause-inside : goal.part-own-requires-clause-inside
+part-own-requires-clause-inside c =
     let b = c.args.chunks.now.buffers in let (us, (x, (vs, e, within))) = c.requires.within in
     subst (λ p. LiesIn b p.span) (sym (c.get.ensures us x vs e)) (at_place (IsPieceOf b) c.args.tree.now.items us c.args.id x vs e c.requires.pieces).inside
 
@@ -15,14 +15,24 @@ part-rest-requires-clause-inside c =
     let b = c.args.chunks.now.buffers in let (us, (x, (vs, e, within))) = c.requires.within in
     subst (λ p. LiesIn b p.span) (sym (c.get.ensures us x vs e)) (at_place (IsPieceOf b) c.args.tree.now.items us c.args.id x vs e c.requires.pieces).inside
 
-pub insert_after-requires-clause-value : goal.insert_after-requires-clause-value
-insert_after-requires-clause-value c = span_few c.args.chunks.now.buffers c.piece_of.result c.part-rest.result c.part-rest.ensures.inside c.piece_of.ensures
+pub set_and_insert_after-requires-clause-own : goal.set_and_insert_after-requires-clause-own
+set_and_insert_after-requires-clause-own c = span_few c.args.chunks.now.buffers c.piece_of.result c.part-own.result c.part-own.ensures.inside c.piece_of.ensures
 
-pub insert_after-requires-clause-sum : goal.insert_after-requires-clause-sum
-insert_after-requires-clause-sum c = λ vs y ws f.
-    let b = c.args.chunks.now.buffers in let (us, (x, (rest, e, within))) = c.requires.within in
-    let same = ap (λ p. p.span.units) (c.get.ensures us x rest e) in
-    let left = ap (λ s. s.units) c.part.ensures.part in let right = ap (λ s. s.units) c.part-rest.ensures.part in let own = ap (λ p. p.span.units) c.piece_of.ensures in
-    let now = ap units_in (c.shorten.ensures.items us x rest e) in
-    let before = units-split us c.args.id x rest in let after = units-split us c.args.id (piece_of b c.part.result) rest in
-    small_after c.shorten.new.tree.items vs c.args.id y ws c.piece_of.result f (omega (arith, c.requires.small, ap units_in e, before, now, after, left, right, own, same, within, c.requires.ordered))
+pub set_and_insert_after-requires-clause-value : goal.set_and_insert_after-requires-clause-value
+set_and_insert_after-requires-clause-value c = span_few c.args.chunks.now.buffers c.piece_of-2.result c.part-rest.result c.part-rest.ensures.inside c.piece_of-2.ensures
+
+pub set_and_insert_after-requires-clause-sum : goal.set_and_insert_after-requires-clause-sum
+set_and_insert_after-requires-clause-sum c = λ ws y zs f.
+    let (us, (x, (vs, e, within))) = c.requires.within in let read = c.get.ensures us x vs e in
+    let size = ap (λ p. p.span.units) read in let same = sym read ∙ c.get.ensures ws y zs f in
+    let left = ap (λ s. s.units) c.part-own.ensures.part in let right = ap (λ s. s.units) c.part-rest.ensures.part in
+    let own = ap (λ p. p.span.units) c.piece_of.ensures in let rest = ap (λ p. p.span.units) c.piece_of-2.ensures in
+    small_both c.args.tree.now.items us ws c.args.id x y vs zs c.piece_of.result c.piece_of-2.result e f same
+    (omega (arith, c.requires.small, ap units_in e, units-split us c.args.id x vs, left, right, own, rest, size, within, c.requires.ordered))
+
+pub returns-clause-items : goal.returns-clause-items
+returns-clause-items c = λ us x vs e.
+    let b = c.args.chunks.now.buffers in let read = c.get.ensures us x vs e in
+    let left = c.piece_of.ensures ∙ ap (piece_of b) (c.part-own.ensures.part ∙ ap (λ p. part_of p.span 0 c.args.left) read) in
+    let right = c.piece_of-2.ensures ∙ ap (piece_of b) (c.part-rest.ensures.part ∙ ap (λ p. part_of p.span c.args.right p.span.units) read) in
+    (c.set_and_insert_after.result, c.set_and_insert_after.ensures.items us x vs e ∙ (λ i. us ++ (c.args.id, left i) ∷ (c.set_and_insert_after.result, right i) ∷ vs))

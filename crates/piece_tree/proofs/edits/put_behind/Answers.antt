@@ -2,9 +2,12 @@ use Rattle.std.proofs.Common.{◌≡◌, true, false, ap, sym, ◌∙◌, arith}
 use Rattle.piece_tree.specs.Pieces.{piece_of, goes_on, prolonged}
 use Rattle.piece_tree.specs.Inside.{in_order}
 use Rattle.piece_tree.proofs.Cuts.{span_few}
-use Rattle.piece_tree.proofs.Prolonged.{inside-prolonged, behind_on, behind_apart}
+use Rattle.piece_tree.proofs.Prolonged.{inside-prolonged, few-prolonged, behind_on, behind_apart}
 use Rattle.piece_tree.proofs.Sums.{small_set, small_after}
 use Rattle.piece_tree.proofs.edits.put_behind.Goals as goal
+
+pub prolonged-requires : goal.prolonged-requires
+prolonged-requires c = few-prolonged c.get.result.span c.args.span (sym c.goes_on.ensures ∙ c.if-goes_on.true) c.args.chunks.now.buffers c.requires.inside
 
 pub set-requires-clause-value : goal.set-requires-clause-value
 set-requires-clause-value c =

@@ -1,5 +1,5 @@
-use Rattle.std.proofs.Common.{◌≡◌, ◌+◌, ◌-◌, None, Some, refl, ap, sym, subst, ◌∙◌, arith}
-use Rattle.piece_tree.specs.Pieces.{StandsAt, HasUnit, unit_count, pieces_of, front, back}
+use Rattle.std.proofs.Common.{◌≡◌, ◌+◌, ◌-◌, refl, sym, subst, ◌∙◌, arith}
+use Rattle.piece_tree.specs.Pieces.{StandsAt, HasUnit, unit_count, front, back}
 use Rattle.piece_tree.specs.Inside.{entries_of, in_order, Parted}
 use Rattle.piece_tree.proofs.Cuts.{back-back}
 use Rattle.piece_tree.proofs.Places.{found_item, piece_found, parted_end, parted_before, parted_at, parted_place}

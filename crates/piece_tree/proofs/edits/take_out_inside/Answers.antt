@@ -1,7 +1,7 @@
 use Rattle.std.proofs.Common.{◌≡◌, ◌+◌, ◌-◌, ◌∷◌, ◌++◌, [], refl, ap, sym, subst, ◌∙◌, arith}
 use Rattle.chunk_buffers.specs.Chunks.{LiesIn, part_of}
 use Rattle.piece_tree.specs.Pieces.{IsPieceOf, piece_of, back}
-use Rattle.piece_tree.specs.Inside.{in_order, Parted}
+use Rattle.piece_tree.specs.Inside.{in_order}
 use Rattle.piece_tree.proofs.Cuts.{back_past}
 use Rattle.piece_tree.proofs.Places.{parted_inside, parted_set, all_set}
 use Rattle.piece_tree.proofs.Sums.{at_place}

@@ -11,7 +11,7 @@ use Rattle.rb_rules.specs.Sound.{IsSlack, RenewedFrom}
 use Rattle.rb_rules.proofs.Attaching.{planted}
 use Rattle.rb_rules.proofs.Live.{Live, live_place, len_hung}
 use Rattle.rb_rules.proofs.Memories.{opened}
-use Rattle.rb_arena.specs.Placing.{above_place, leaf_of, IsLeaf, TakesIn}
+use Rattle.rb_arena.specs.Placing.{above_place, leaf_of, IsLeaf, HangsIn}
 use Rattle.rb_arena.specs.Rising.{Rising}
 use Rattle.rb_arena.specs.declared.links.Links.{Links}
 use Rattle.rb_arena.proofs.Paths.{above-place}
@@ -22,36 +22,36 @@ use Rattle.rb_arena.proofs.insert.hang_leaf.Goals as goal
 
 pub hang-requires : goal.hang-requires
 hang-requires g c =
-    let m = c.args.tree.now.nodes.live in let root = c.args.tree.now.root in let (reach, (beside, (k, (x, (h, bal, v), leaf)))) = c.requires in let made = h.0.1 in
-    subst (λ o. IfSome o (λ at. Live m at.0)) (sym h.0.0) (live_place m root k _ (opened m root k tip made.from made.nodes).0)
+    let m = c.args.tree.now.nodes.live in let root = c.args.tree.now.root in let (reach, (beside, (k, (x, can, leaf)))) = c.requires in let made = can.hole.1 in
+    subst (λ o. IfSome o (λ at. Live m at.0)) (sym can.hole.0) (live_place m root k _ (opened m root k tip made.from made.nodes).0)
 
 module _ (g : Over) (c : After-hang g) (reach : g.row.W-By.Denot) (beside : Tree (Data g.row.W-Item.Denot g.row.W-Sum.Denot g.row.W-By.Denot)) (k : Hole (Data g.row.W-Item.Denot g.row.W-Sum.Denot g.row.W-By.Denot)) (x : g.row.W-Item.Denot)
-    (can : TakesIn g.W.Weave c.args.tree.now c.args.at reach beside x k) (leaf : IsLeaf g.W.Weave.weaving beside c.args.tree.now.nodes.live c.args.id x k) where
+    (can : HangsIn g.W.Weave c.args.tree.now c.args.at reach beside x k) (leaf : IsLeaf g.W.Weave.weaving beside c.args.tree.now.nodes.live c.args.id x k) where
   -- the tree with the leaf, whose sums above it are not right yet
   abbrev with_leaf : Tree (Data g.row.W-Item.Denot g.row.W-Sum.Denot g.row.W-By.Denot)
   with_leaf = plug k (fork true c.args.id (leaf_of g.W.Weave.weaving k x) tip tip)
 
   made : Made beside c.hang.new.tree.nodes.live c.hang.new.tree.root with_leaf
   made =
-      let (h, bal, v) = can in let m = c.args.tree.now.nodes.live in let root = c.args.tree.now.root in let id = c.args.id in
-      let live = c.hang.ensures.live ∙ ap (λ o. hung m o (Some id)) h.0.0 in let top = c.hang.ensures.root ∙ ap (λ o. root_hung root o (Some id)) h.0.0 in
+      let m = c.args.tree.now.nodes.live in let root = c.args.tree.now.root in let id = c.args.id in
+      let live = c.hang.ensures.live ∙ ap (λ o. hung m o (Some id)) can.hole.0 in let top = c.hang.ensures.root ∙ ap (λ o. root_hung root o (Some id)) can.hole.0 in
       subst {A = map.FinMap nat_cmp (Slot (Data g.row.W-Item.Denot g.row.W-Sum.Denot g.row.W-By.Denot)) × Option ℕ} (λ q. Made beside q.0 q.1 with_leaf)
-      (sym (λ i. (live i, top i))) (planted m root k id (leaf_of g.W.Weave.weaving k x) leaf.0 leaf.1 h.0.1)
+      (sym (λ i. (live i, top i))) (planted m root k id (leaf_of g.W.Weave.weaving k x) leaf.0 leaf.1 can.hole.1)
 
   slack : IsSlack g.W.Weave.weaving (g.W.Weave.within reach) g.W.Weave.is_item g.W.Weave.is_value beside c.hang.new.tree.nodes.live c.hang.new.tree.root c.parent_at-parent.result 128 with_leaf
   slack =
-      let t = g.W.Weave in let laws = g.met.W.Weave in let (h, bal, v) = can in
-      slack_leaf t.weaving laws.laws (t.within reach) t.is_item t.is_sum t.is_value laws.sums laws.parts k x h.1 bal v c.args.id beside c.hang.new.tree.nodes.live c.hang.new.tree.root
-      c.parent_at-parent.result (c.parent_at-parent.ensures ∙ ap above_place h.0.0 ∙ above-place k) h.2 made
+      let t = g.W.Weave in let laws = g.met.W.Weave in
+      slack_leaf t.weaving laws.laws (t.within reach) t.is_item t.is_sum t.is_value laws.sums laws.parts can c.args.id c.hang.new.tree.nodes.live c.hang.new.tree.root
+      c.parent_at-parent.result (c.parent_at-parent.ensures ∙ ap above_place can.hole.0 ∙ above-place k) made
 
   -- where those are renewed, the leaf rises
   rises : (z : Links (Data g.row.W-Item.Denot g.row.W-Sum.Denot g.row.W-By.Denot)) → RenewedFrom g.W.Weave.weaving (g.W.Weave.within reach) beside z.nodes.live z.root with_leaf
       → Rising g.W.Weave.weaving (g.W.Weave.within reach) beside z.nodes.live z.root (lefts g.W.Weave.weaving k ++ (c.args.id, x) ∷ rights g.W.Weave.weaving k) c.args.id 128
       × Valued g.W.Weave.weaving g.W.Weave.is_item g.W.Weave.is_value (lefts g.W.Weave.weaving k ++ (c.args.id, x) ∷ rights g.W.Weave.weaving k)
   rises z renewed =
-      let t = g.W.Weave in let laws = g.met.W.Weave in let (h, bal, v) = can in (
-        rising_leaf t.weaving laws.laws (t.within reach) t.is_item t.is_sum t.is_value laws.sums laws.parts k x h.1 bal v c.args.id beside z.nodes.live z.root h.2 renewed,
-        valued_new t.weaving laws.laws (t.within reach) t.is_item t.is_sum t.is_value laws.sums laws.parts k x h.1 bal v c.args.id,
+      let t = g.W.Weave in let laws = g.met.W.Weave in (
+        rising_leaf t.weaving laws.laws (t.within reach) t.is_item t.is_sum t.is_value laws.sums laws.parts can c.args.id z.nodes.live z.root renewed,
+        valued_new t.weaving laws.laws (t.within reach) t.is_item t.is_sum t.is_value laws.sums laws.parts can c.args.id,
       )
 
 pub renew_up-requires : goal.renew_up-requires

@@ -12,7 +12,7 @@ use Rattle.rb_rules.proofs.Live.{Live, slot_here, live_hung, len_hung}
 use Rattle.rb_rules.proofs.Wider.{woven_wider}
 use Rattle.rb_rules.proofs.Spots.{at_place, upper_is}
 use Rattle.rb_arena.specs.declared.links.Links.{Links}
-use Rattle.rb_arena.specs.Leaving.{NoChild, StoresBeside, WovenSpot}
+use Rattle.rb_arena.specs.Leaving.{NoChild, StoresBeside, WovenSpot, StandsValued}
 use Rattle.rb_arena.specs.Placing.{StartsAt}
 use Rattle.rb_arena.specs.Value.{with_item}
 use Rattle.rb_arena.proofs.Heirs as heirs
@@ -88,6 +88,7 @@ module _ (g : Over) (c : After-replace g) (reach : g.row.W-By.Denot) (beside : T
       (ap (λ q. q.right) (upper_is z.nodes.live z.root spot c.args.heir placed Left n found))
 
 pub item_at-item-requires : goal.item_at-item-requires
+unfolding StandsValued
 item_at-item-requires g c =
     let (reach, (beside, (us, (x, (y, (vs, st)))))) = c.requires.items in let h = below g c.args.tree.now c.args.id c.args.heir c.requires.leaf reach beside us x y vs st in (
       heirs.heir_spot h,

@@ -11,7 +11,7 @@ use Rattle.rb_rules.specs.Memory.{Spot}
 use Rattle.rb_rules.proofs.Live.{slot_here}
 use Rattle.rb_rules.proofs.Spots.{upper_is}
 use Rattle.rb_arena.specs.declared.links.Links.{Links}
-use Rattle.rb_arena.specs.Leaving.{StoresBeside, Unlinked}
+use Rattle.rb_arena.specs.Leaving.{OneChild, NoChild, StillLists, StoresBeside, Unlinked, StoresItem, Unlinks}
 use Rattle.rb_arena.specs.Placing.{StartsAt, above_place}
 use Rattle.rb_arena.specs.Rising.{MendedBeside}
 use Rattle.rb_arena.specs.Value.{first_hole}
@@ -78,41 +78,54 @@ module _ (g : Over) (c : After-unwrap_or-heir g) (reach : g.row.W-By.Denot) (bes
   still z mended = (subst (MendedBeside g.W.Weave reach beside z) joined mended, stored.1, stored.2)
 
 pub read-requires : goal.read-requires
+unfolding StoresItem Unlinks OneChild NoChild StillLists
 read-requires g c =
-    let (reach, (beside, (us, (x, (vs, st))))) = c.requires in let m = c.args.tree.now.nodes.live in let root = c.args.tree.now.root in
+    let (laws_of, (reach, (beside, (us, (x, (vs, st)))))) = c.requires in let m = c.args.tree.now.nodes.live in let root = c.args.tree.now.root in
     (_, slot_here m root (node g c.args.tree.now c.args.id reach beside us x vs st) c.args.id (found g c.args.tree.now c.args.id reach beside us x vs st).made)
 
 pub first_place-requires : goal.first_place-requires
+unfolding StoresItem Unlinks OneChild NoChild StillLists
 first_place-requires g c =
-    let (reach, (beside, (us, (x, (vs, st))))) = c.requires in
+    let (laws_of, (reach, (beside, (us, (x, (vs, st)))))) = c.requires in
     (beside, (_, (on_right g c.args.tree.now c.args.id reach beside us x vs st, starts g c.args.tree.now c.args.id reach beside us x vs st c.read.result c.read.ensures)))
 
 pub to_leaf-requires-clause-child : goal.to_leaf-requires-clause-child
+unfolding StoresItem Unlinks OneChild NoChild StillLists
 to_leaf-requires-clause-child g c =
     (c.read.result, c.read.ensures, inr (none_of c.read.result.right (c.is_none.ensures ∙ ap not c.if-is_none.true)))
 
+pub unlink_leaf-requires-clause-item : goal.unlink_leaf-requires-clause-item
+unfolding StoresItem Unlinks OneChild NoChild StillLists
+unlink_leaf-requires-clause-item g c =
+    let (laws_of, (reach, (beside, (us, (x, (vs, st)))))) = c.requires in (laws_of, (reach, (beside, (us, (x, (vs, (c.to_leaf.ensures.mended reach beside us x vs st, st.1, st.2)))))))
+
 pub returns-then-is_none-clause-unlinked : goal.returns-then-is_none-clause-unlinked
+unfolding StoresItem Unlinks OneChild NoChild StillLists
 returns-then-is_none-clause-unlinked g c = λ reach beside us x vs st.
     c.unlink_leaf.ensures.unlinked reach beside us x vs (c.to_leaf.ensures.mended reach beside us x vs st, st.1, st.2)
 
 pub to_leaf-requires-2-clause-child : goal.to_leaf-requires-2-clause-child
+unfolding StoresItem Unlinks OneChild NoChild StillLists
 to_leaf-requires-2-clause-child g c =
-    let (reach, (beside, (us, (x, (vs, st))))) = c.requires in (next g (goal.at.to_leaf-requires-2-clause-child g c).After-unwrap_or-heir reach beside us x vs st).1.2
+    let (laws_of, (reach, (beside, (us, (x, (vs, st)))))) = c.requires in (next g (goal.at.to_leaf-requires-2-clause-child g c).After-unwrap_or-heir reach beside us x vs st).1.2
 
 pub to_leaf-requires-2-clause-item : goal.to_leaf-requires-2-clause-item
+unfolding StoresItem Unlinks OneChild NoChild StillLists
 to_leaf-requires-2-clause-item g c =
-    let (reach, (beside, (us, (x, (vs, st))))) = c.requires in let at = (goal.at.to_leaf-requires-2-clause-item g c).After-unwrap_or-heir in
+    let (laws_of, (reach, (beside, (us, (x, (vs, st)))))) = c.requires in let at = (goal.at.to_leaf-requires-2-clause-item g c).After-unwrap_or-heir in
     let here = subst (StoresBeside g.W.Weave c.args.tree.now reach beside) (sym (joined g at reach beside us x vs st)) (stored g at reach beside us x vs st) in
-    (reach, (beside, (us ++ (c.args.id, x) ∷ [], (_, (_, here)))))
+    (laws_of, (reach, (beside, (us ++ (c.args.id, x) ∷ [], (_, (_, here))))))
 
 pub inherit-requires-clause-items : goal.inherit-requires-clause-items
+unfolding StoresItem Unlinks OneChild NoChild StillLists
 inherit-requires-clause-items g c =
-    let (reach, (beside, (us, (x, (vs, st))))) = c.requires in let at = (goal.at.inherit-requires-clause-items g c).After-unwrap_or-heir in
+    let (laws_of, (reach, (beside, (us, (x, (vs, st)))))) = c.requires in let at = (goal.at.inherit-requires-clause-items g c).After-unwrap_or-heir in
     let here = subst (StoresBeside g.W.Weave c.args.tree.now reach beside) (sym (joined g at reach beside us x vs st)) (stored g at reach beside us x vs st) in
     let mended = c.to_leaf-2.ensures.mended reach beside (us ++ (c.args.id, x) ∷ []) _ _ here in
     (reach, (beside, (us, (x, (_, (_, still g at reach beside us x vs st c.to_leaf-2.new.tree mended))))))
 
 pub returns-clause-unlinked : goal.returns-clause-unlinked
+unfolding StoresItem Unlinks OneChild NoChild StillLists
 returns-clause-unlinked g c = λ reach beside us x vs st.
     let at = (goal.at.returns-clause-unlinked g c).After-unwrap_or-heir in let t = g.W.Weave in let q = c.inherit.new.tree in let r = c.inherit.result in
     let here = subst (StoresBeside t c.args.tree.now reach beside) (sym (joined g at reach beside us x vs st)) (stored g at reach beside us x vs st) in

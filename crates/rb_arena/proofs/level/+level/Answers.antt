@@ -4,7 +4,7 @@ use Rattle.rb_rules.specs.Tree.{Tree, Hole, plug}
 use Rattle.rb_rules.specs.Memory.{Made}
 use Rattle.rb_rules.specs.Shifts.{levelled}
 use Rattle.rb_arena.specs.declared.links.Links.{Links}
-use Rattle.rb_arena.specs.Shifting.{CanLevel}
+use Rattle.rb_arena.specs.Shifting.{CanLevel, CanLevelAt, Levels}
 use Rattle.rb_arena.proofs.Levelling.{Topmost, topmost, spot, held_item, held_before, held_whole, held_right, on_left, on_right, left_next, right_next}
 use Rattle.rb_arena.proofs.level.+level.Given.{Over}
 use Rattle.rb_arena.proofs.level.+level.Goals as goal
@@ -29,24 +29,29 @@ module _ (g : Over) where
         topmost q.weaving laws.laws q.is_near q.is_item q.is_sum q.is_value laws.sums laws.parts laws.starts_near beside tree.nodes.live tree.root id by n k u whole
 
 pub node_of-slot-requires : goal.node_of-slot-requires
+unfolding CanLevelAt Levels
 node_of-slot-requires g t c =
     let (beside, (u, (k, whole))) = c.requires in let z = top g c.args.tree.now c.in-Some.id c.args.by c.args.levels beside u k (rw c.in-Some.is at whole) in (spot z, z.can.0)
 
 pub level_datum-datum-requires : goal.level_datum-datum-requires
+unfolding CanLevelAt Levels
 level_datum-datum-requires g t c =
     let (beside, (u, (k, whole))) = c.requires in let z = top g c.args.tree.now c.in-Some.id c.args.by c.args.levels beside u k (rw c.in-Some.is at whole) in
     let is = c.node_of-slot.ensures.slot (spot z) z.can.0 in record { item = rw is (held_item z); before = rw is (held_before z); whole = rw is (held_whole z) }
 
 pub rewrite-requires : goal.rewrite-requires
+unfolding CanLevelAt Levels
 rewrite-requires g t c =
     let (beside, (u, (k, whole))) = c.requires in let z = top g c.args.tree.now c.in-Some.id c.args.by c.args.levels beside u k (rw c.in-Some.is at whole) in (spot z, z.can.0)
 
 pub plus-right-requires : goal.plus-right-requires
+unfolding CanLevelAt Levels
 plus-right-requires g t c =
     let (beside, (u, (k, whole))) = c.requires in let z = top g c.args.tree.now c.in-Some.id c.args.by c.args.levels beside u k (rw c.in-Some.is at whole) in
     rw (c.node_of-slot.ensures.slot (spot z) z.can.0) (held_right z)
 
 pub level-requires : goal.level-requires
+unfolding CanLevelAt Levels
 level-requires g t c κs within =
     let (beside, (u, (k, whole))) = c.requires in let z = top g c.args.tree.now c.in-Some.id c.args.by c.args.levels beside u k (rw c.in-Some.is at whole) in
     let is = c.node_of-slot.ensures.slot (spot z) z.can.0 in
@@ -56,6 +61,7 @@ level-requires g t c κs within =
     (less, (within.0, (within.1.0, (within.1.1.0, (within.1.1.1.0, (within.1.1.1.1, (beside, (_, (on_left z, left)))))))))
 
 pub level-requires-2 : goal.level-requires-2
+unfolding CanLevelAt Levels
 level-requires-2 g t c κs within =
     let (beside, (u, (k, whole))) = c.requires in let z = top g c.args.tree.now c.in-Some.id c.args.by c.args.levels beside u k (rw c.in-Some.is at whole) in
     let is = c.node_of-slot.ensures.slot (spot z) z.can.0 in
@@ -67,6 +73,7 @@ level-requires-2 g t c κs within =
     (less, (within.0, (within.1.0, (within.1.1.0, (within.1.1.1.0, (within.1.1.1.1, (beside, (_, (on_right z, right)))))))))
 
 pub returns-clause-made : goal.returns-clause-made
+unfolding CanLevelAt Levels
 returns-clause-made g t c = λ beside u k whole.
     let z = top g c.args.tree.now c.in-Some.id c.args.by c.args.levels beside u k (rw c.in-Some.is at whole) in let last = c.level-2.new.tree in
     let is = c.node_of-slot.ensures.slot (spot z) z.can.0 in

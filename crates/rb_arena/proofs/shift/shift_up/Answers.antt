@@ -7,27 +7,32 @@ use Rattle.rb_rules.specs.declared.slot.Side.{Side}
 use Rattle.rb_rules.specs.Tree.{Tree, Hole, plug}
 use Rattle.rb_arena.specs.declared.links.Links.{Links}
 use Rattle.rb_arena.specs.Shifting.{CanShift}
+use Rattle.rb_arena.specs.Shifting.{CanShiftUp, ShiftsUp}
 use Rattle.rb_arena.proofs.shift.shift_up.Given.{Over}
 use Rattle.rb_arena.proofs.Shifting.{Shifting, stands_above, can_move, ended, none_above, passed_left, passed_right}
 use Rattle.rb_arena.proofs.shift.shift_up.Goals.{in-Left, in-Right}
 use Rattle.rb_arena.proofs.shift.shift_up.Goals as goal
 
 pub loop-turn-init : goal.loop-turn-init
+unfolding CanShiftUp ShiftsUp
 loop-turn-init g c = ((λ beside u k h. (u, (k, h, refl))), refl, refl)
 
 pub returns-in_default-clause-made : goal.returns-in_default-clause-made
+unfolding CanShiftUp ShiftsUp
 returns-in_default-clause-made g c = λ beside u k h.
     let t = g.W.Weave in let laws = g.met.W.Weave in let l = c.loop-turn in let whole = plug (moved t.weaving c.args.by k) u in
     ended t.weaving laws.laws t.is_near t.is_item t.is_sum t.is_value laws.sums laws.parts l.tree.nodes.live l.tree.root beside c.args.by (128 - l._turn) whole
     (rw c.in_default.is at (l.invariant.0 beside u k h))
 
 pub place-at-requires : goal.place-at-requires
+unfolding CanShiftUp ShiftsUp
 place-at-requires g c =
     let t = g.W.Weave in let laws = g.met.W.Weave in let l = c.loop-turn in let (beside, (u, (k, h))) = c.requires in let whole = plug (moved t.weaving c.args.by k) u in
     stands_above t.weaving laws.laws t.is_near t.is_item t.is_sum t.is_value laws.sums laws.parts l.tree.nodes.live l.tree.root beside c.args.by (128 - l._turn) whole c.in-Some.above.0 c.in-Some.above.1
     (rw c.in-Some.is at (l.invariant.0 beside u k h))
 
 pub move_node-requires : goal.move_node-requires
+unfolding CanShiftUp ShiftsUp
 move_node-requires g c =
     let t = g.W.Weave in let laws = g.met.W.Weave in let l = c.loop-turn in let (beside, (u, (k, h))) = c.requires in let whole = plug (moved t.weaving c.args.by k) u in
     let here = rw c.in-Some.is at (l.invariant.0 beside u k h) in
@@ -55,6 +60,7 @@ module _ (g : Over) (c : goal.Joined-above g) where
       rw fewer at (subst (λ q. Shifting t.weaving t.is_near t.is_item l.tree.nodes.live l.tree.root beside (Some (c.in-Some.above.0, q)) c.args.by (128 - l._turn) whole) side here)
 
 pub loop-turn-preserved : goal.loop-turn-preserved
+unfolding CanShiftUp ShiftsUp
 loop-turn-preserved g c =
     let t = g.W.Weave in let laws = g.met.W.Weave in let l = c.loop-turn in let left = 128 - (l._turn + 1) in
     elim c.match-above.branch as (λ _. Kept g c c.match-above.tree) [
@@ -79,6 +85,7 @@ loop-turn-preserved g c =
     ]
 
 pub returns-clause-made : goal.returns-clause-made
+unfolding CanShiftUp ShiftsUp
 returns-clause-made g c = λ beside u k h.
     let t = g.W.Weave in let laws = g.met.W.Weave in let l = c.loop-turn in let whole = plug (moved t.weaving c.args.by k) u in
     let over : 128 - l._turn ≡ 0 = omega (arith, c.loop-turn-test.false) in

@@ -18,9 +18,11 @@ invariant_of-self c =
     let buffer = c.self.inside.units.items in
     let pair = c.would_make_pair-pair.ensures ∙ ap (λ b. joins_pair b.units text) (sym c.self.view_is) in
     let front = c.pad.ensures.items ∙ ap (λ b. cond b (buffer ++ padding ∷ []) buffer) pair in
-    rw c.deref.ensures.value at
+    let ends = rw c.deref.ensures.value at
     (ends_appended buffer text c.pad.new.units.items c.deref.result.now c.self.inside.ends.items c.push_ends.new.ends.items c.len-start.result
-    front (c.deref.ensures.value ∙ c.push_all.ensures.items) c.self.invariant (c.len-start.ensures ∙ c.pad.new.units.ok.0) c.push_ends.ensures.items)
+    front (c.deref.ensures.value ∙ c.push_all.ensures.items) c.self.invariant.0 (c.len-start.ensures ∙ c.pad.new.units.ok.0) c.push_ends.ensures.items) in
+    let room = ap (λ b. b.room) c.self.view_is in
+    (ends, omega (arith, room))
 
 pub returns-clause-break_room : goal.returns-clause-break_room
 returns-clause-break_room c =

@@ -1,44 +1,20 @@
-use Rattle.std.proofs.Common.{◌+◌, ◌-◌, ◌≡◌, ◌<◌, arith, ap, get_or, leb}
-use Rattle.std.proofs.lemmas.List.Sums.{prefix_len-le-length}
+use Rattle.std.proofs.Common.{◌≡◌, ◌+◌, ◌-◌, ◌<◌, arith, ap, get_or, inl, inr}
+use Rattle.std.proofs.lemmas.Bool.{cases_lt}
 use Rattle.text_rules.specs.Lines.{line_start}
-use Rattle.text_rules.specs.Breaks.{break_ends}
+use Rattle.text_rules.specs.Breaks.{break_ends, count_to}
 use Rattle.chunk_buffers.specs.Buffer.{cut}
 use Rattle.line_starts.specs.Starts.{break_count}
-use Rattle.chunk_buffers.proofs.Cuts.{break_count_most, nth_of_whole, nth_of_cut}
+use Rattle.chunk_buffers.proofs.Cuts.{nth_of_whole, nth_of_cut}
 use Rattle.chunk_buffers.proofs.buffer.Buffer.nth_break.Goals as goal
 
-pub overflow_add-index : goal.overflow_add-index
-overflow_add-index c =
-    let few = prefix_len-le-length (λ e. leb e c.args.to) (break_ends 0 c.args.self.now.units) in
-    omega (arith, few, break_count_most c.args.self.now.units c.args.from c.args.to c.requires.ordered)
-
-pub overflow_sub-result : goal.overflow_sub-result
-overflow_sub-result c =
-    let i = c.args.k - 1 in
-    let there : i < break_count (cut c.args.self.now.units c.args.from c.args.to) = omega arith in
-    let same = ap (λ n. get_or (break_ends 0 c.args.self.now.units) (n + i) 0) c.ends_to.ensures.count in
-    omega (arith, same, nth_of_whole c.args.self.now.units c.args.from c.args.to c.requires.ordered i there (omega arith))
-
-pub returns-then-index-ends_to : goal.returns-then-index-ends_to
-returns-then-index-ends_to c =
-    let i = c.args.k - 1 in
-    let there : i < break_count (cut c.args.self.now.units c.args.from c.args.to) = omega arith in
+pub returns : goal.returns
+returns c =
+    let x = c.args.self.now.units in let i = c.args.k - 1 in
+    let there : i < break_count (cut x c.args.from c.args.to) = omega arith in
     let number : i + 2 ≡ c.args.k + 1 = omega arith in
-    let same = ap (λ n. get_or (break_ends 0 c.args.self.now.units) (n + i) 0) c.ends_to.ensures.count in
-    omega (
-      arith,
-      same,
-      nth_of_whole c.args.self.now.units c.args.from c.args.to c.requires.ordered i there (omega arith),
-      ap (line_start (cut c.args.self.now.units c.args.from c.args.to)) number,
-    )
-
-pub returns-else-index-ends_to : goal.returns-else-index-ends_to
-returns-else-index-ends_to c =
-    let i = c.args.k - 1 in
-    let there : i < break_count (cut c.args.self.now.units c.args.from c.args.to) = omega arith in
-    let number : i + 2 ≡ c.args.k + 1 = omega arith in
-    omega (
-      arith,
-      nth_of_cut c.args.self.now.units c.args.from c.args.to c.requires.ordered i there (omega arith),
-      ap (line_start (cut c.args.self.now.units c.args.from c.args.to)) number,
-    )
+    let index : count_to c.args.from (break_ends 0 x) + c.args.k - 1 ≡ count_to c.args.from (break_ends 0 x) + i = omega arith in
+    let same = ap (line_start (cut x c.args.from c.args.to)) number in
+    elim (cases_lt (count_to c.args.to (break_ends 0 x)) (count_to c.args.from (break_ends 0 x) + c.args.k)) [
+      | inl past ↦ omega (arith, same, c.nth_end.ensures.past past, nth_of_cut x c.args.from c.args.to c.requires.ordered i there (omega arith))
+      | inr inside ↦ omega (arith, same, c.nth_end.ensures.there inside, ap (λ n. get_or (break_ends 0 x) n 0) index, nth_of_whole x c.args.from c.args.to c.requires.ordered i there (omega arith))
+    ]

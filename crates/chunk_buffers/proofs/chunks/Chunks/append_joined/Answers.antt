@@ -15,7 +15,7 @@ appended c =
     let some = last_buffer_some c.self.inside.buffers.items (omega (arith, spare)) in
     let last : c.len-number.result - 1 + 1 ≡ length c.self.inside.buffers.items = omega (arith, some) in
     IsAppended-at c.self.inside.buffers.items (c.len-number.result - 1) c.index_mut-buffer.result.now c.append-start.new.self c.append-start.result _ text
-    last c.index_mut-buffer.ensures.value c.append-start.ensures.units c.append-start.ensures.start size c.append-start.ensures.fits
+    last c.index_mut-buffer.ensures.value c.append-start.ensures.units c.append-start.ensures.start size c.self.invariant.1 c.append-start.ensures.fits
 
 pub returns-clause-shown : goal.returns-clause-shown
 returns-clause-shown c = (appended c).shown

@@ -1,5 +1,6 @@
 use Rattle.std.proofs.Common.{sym, ap, ◌∙◌}
 use Rattle.rb_rules.specs.Tree.{top}
+use Rattle.rb_arena.specs.Ends.{HangsAt, IsEnd}
 use Rattle.rb_arena.specs.Placing.{above_place}
 use Rattle.rb_arena.specs.Value.{end_hole, name_at_end}
 use Rattle.rb_arena.proofs.Keeping.{items_seen, loose_seen}
@@ -10,11 +11,13 @@ use Rattle.rb_arena.proofs.Paths.{above-place}
 use Rattle.rb_arena.proofs.tree.RbTree.end.Goals as goal
 
 pub end_place-requires : goal.end_place-requires
+unfolding HangsAt
 end_place-requires g c =
     let t = g.W.Weave in let links = c.self.inside.links in let K = c.self.invariant in
     (K.beside, (K.tree, (top, starts_top K)))
 
 pub returns-clause-end : goal.returns-clause-end
+unfolding IsEnd
 returns-clause-end g c =
     let t = g.W.Weave in let links = c.self.inside.links in let K = c.self.invariant in let side = c.args.side in
     let start = starts_top K in

@@ -1,5 +1,5 @@
 use Rattle.std.proofs.Common.{ℕ, List, ◌++◌, ◌∷◌, length, Some, refl, ap, ◌∙◌, arith}
-use Rattle.rb_arena.specs.Leaving.{loosened}
+use Rattle.rb_arena.specs.Leaving.{loosened, StoresItemBeside, Loosens}
 use Rattle.rb_arena.specs.Value.{SplitsAt}
 use Rattle.rb_arena.proofs.Keeping.{Shows, loose_seen, node_of, stored_there, without_item}
 use Rattle.rb_arena.proofs.Landing.{loosened_list}
@@ -7,13 +7,18 @@ use Rattle.rb_arena.proofs.tree.RbTree.lift.Given.{Over}
 use Rattle.rb_arena.proofs.tree.RbTree.lift.Goals as goal
 
 pub loosen-requires : goal.loosen-requires
+unfolding StoresItemBeside
 loosen-requires g c =
     let (us, (x, (vs, e))) = c.requires in let K = c.self.invariant in
     let n = node_of g.W.Weave c.self.inside.reach c.self.inside.links c.self.inside.loose K us c.args.id x vs (ap (λ l. l.items) c.self.view_is) e in
-    (c.self.inside.reach, (K.beside, (us, (x, (vs, stored_there n, K.first)))))
+    let l = g.met.W.Weave in (
+      record { laws = l.laws; sums = l.sums; within_near = l.within_near; starts_within = l.starts_within; widens = l.widens; parts = l.parts; thins = l.thins },
+      (c.self.inside.reach, (K.beside, (us, (x, (vs, stored_there n, K.first))))),
+    )
 
 kept : (g : Over) (c : goal.After-self-1 g) (us : List (ℕ × g.row.W-Item.Denot)) (x : g.row.W-Item.Denot) (vs : List (ℕ × g.row.W-Item.Denot)) → SplitsAt c.args.self.now.items c.args.id us x vs
     → Shows g.W.Weave c.self.inside.reach c.loosen.new.tree (Some c.args.id) (us ++ vs) ((c.args.id, x) ∷ c.args.self.now.loose)
+unfolding Loosens
 kept g c us x vs e =
     let w = g.W.Weave.weaving in let laws = g.met.W.Weave in let K = c.self.invariant in let reach = c.self.inside.reach in let links = c.self.inside.links in let many = c.loosen.ensures.as_many in
     let n = node_of g.W.Weave reach links c.self.inside.loose K us c.args.id x vs (ap (λ l. l.items) c.self.view_is) e in

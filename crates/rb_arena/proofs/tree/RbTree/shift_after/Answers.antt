@@ -1,15 +1,22 @@
 use Rattle.std.proofs.Common.{◌≡◌, ℕ, List, ◌++◌, length, Some, None, ap, ◌∙◌, subst, sym, arith}
 use Rattle.rb_rules.specs.Shifts.{shifted}
-use Rattle.rb_arena.specs.Leaving.{StoresBeside}
+use Rattle.rb_arena.specs.Leaving.{StoresBeside, StoresWithin}
+use Rattle.rb_arena.specs.Relative.{LawsOf}
 use Rattle.rb_arena.specs.Rising.{Mended, MendedBeside}
-use Rattle.rb_arena.specs.Shifting.{Reaches}
+use Rattle.rb_arena.specs.Shifting.{FindsReach, Reaches, ShiftsAll}
 use Rattle.rb_arena.specs.Value.{first_hole, items_in, loose_in, KeepsWithin, SplitsAfter}
 use Rattle.rb_arena.proofs.Keeping.{all_items, all_stored, items_seen, loose_seen}
 use Rattle.rb_arena.proofs.Listing.{keeps_mended}
+use Rattle.rb_arena.proofs.Moving.{can_shift_all}
 use Rattle.rb_arena.proofs.Splitting as split
 use Rattle.rb_arena.proofs.tree.RbTree.shift_after.Given.{Over}
 use Rattle.rb_arena.proofs.tree.RbTree.shift_after.Goals.{In-Some, In_default, After-shift_from}
 use Rattle.rb_arena.proofs.tree.RbTree.shift_after.Goals as goal
+
+the_laws : (g : Over) → LawsOf g.W.Weave
+the_laws g =
+    let l = g.met.W.Weave in
+    record { laws = l.laws; sums = l.sums; within_near = l.within_near; starts_within = l.starts_within; widens = l.widens; parts = l.parts; thins = l.thins }
 
 -- where the shift is too great for any tree, all stays as it was
 module _ (g : Over) (c : In_default g) where
@@ -17,6 +24,7 @@ module _ (g : Over) (c : In_default g) where
   old_items = all_items g.W.Weave c.self.inside.reach c.self.inside.links c.self.inside.loose c.self.invariant
 
   level : MendedBeside g.W.Weave c.self.inside.reach c.self.invariant.beside c.reach_for.new.tree old_items × (g.W.Weave.widened g.W.Weave.weaving.still c.args.by ≡ None)
+  unfolding FindsReach
   level =
       let t = g.W.Weave in let K = c.self.invariant in let reach = c.self.inside.reach in let z = c.reach_for.new.tree in
       subst (Reaches t.weaving K.beside z.nodes.live z.root t.within t.widened old_items reach c.args.by) c.in_default.is
@@ -38,6 +46,7 @@ module _ (g : Over) (c : In-Some g) where
   es = all_items g.W.Weave c.self.inside.reach c.self.inside.links c.self.inside.loose c.self.invariant
 
   stored : (r : g.row.W-By.Denot) × StoresBeside g.W.Weave c.reach_for.new.tree r c.self.invariant.beside es × (g.W.Weave.widened r c.args.by ≡ Some c.in-Some.reach)
+  unfolding FindsReach
   stored =
       let t = g.W.Weave in let K = c.self.invariant in let reach = c.self.inside.reach in let z = c.reach_for.new.tree in let all = K.all in let few = K.few in
       let (r, mended, wide) = subst (Reaches t.weaving K.beside z.nodes.live z.root t.within t.widened es reach c.args.by) c.in-Some.is
@@ -54,6 +63,10 @@ module _ (g : Over) (c : In-Some g) where
         let t = g.W.Weave in let laws = g.met.W.Weave in let z = c.reach_for.new.tree in
         split.ready t.weaving laws.laws (t.within stored.0) t.is_item t.is_sum t.is_value laws.sums laws.parts c.self.invariant.beside z.nodes.live z.root es stored.1 c.args.id c.args.by us vs at
         (c.requires.values us vs parts) (c.requires.sum us vs parts)
+
+pub reach_for-requires : goal.reach_for-requires
+unfolding StoresWithin
+reach_for-requires g c = let K = c.self.invariant in (the_laws g, (K.beside, (_, all_stored g.W.Weave c.self.inside.reach c.self.inside.links c.self.inside.loose K)))
 
 pub invariant_of-self : goal.invariant_of-self
 invariant_of-self g c = (stayed g c).0
@@ -76,12 +89,14 @@ pub shift_from-requires : goal.shift_from-requires
 shift_from-requires g c =
     let (us, (vs, parts)) = split.split_after c.args.self.now.items c.args.id c.requires.named in let here = (goal.at.shift_from-requires g c).In-Some in
     let (u, (k, hangs, can, left, right)) = ready g here us vs parts in let K = c.self.invariant in
-    ((stored g here).0, (c.in-Some.reach, (K.beside, (first_hole k u, (stored g here).2, can c.place_after-at.result (c.place_after-at.ensures K.beside u k hangs)))))
+    can_shift_all g.W.Weave c.reach_for.new.tree c.place_after-at.result c.args.by (the_laws g) (stored g here).0 c.in-Some.reach K.beside (first_hole k u) (stored g here).2
+    (can c.place_after-at.result (c.place_after-at.ensures K.beside u k hangs))
 
 moved : (g : Over) (c : After-shift_from g) (us vs : List (ℕ × g.row.W-Item.Denot)) → SplitsAfter c.args.self.now.items c.args.id us vs
     → KeepsWithin g.W.Weave c.in-Some.reach c.shift_from.new.tree c.self.inside.loose
     × (items_in g.W.Weave.weaving c.shift_from.new.tree.nodes.live c.shift_from.new.tree.root ≡ us ++ shifted g.W.Weave.weaving c.args.by vs)
     × (loose_in g.W.Weave.weaving c.shift_from.new.tree.nodes.live c.self.inside.loose ≡ c.args.self.now.loose)
+unfolding FindsReach ShiftsAll
 moved g c us vs parts =
     let t = g.W.Weave in let laws = g.met.W.Weave in let K = c.self.invariant in let reach = c.self.inside.reach in let links = c.self.inside.links in let front = c.self.inside.loose in
     let es = all_items t reach links front K in let z = c.reach_for.new.tree in let last = c.shift_from.new.tree in let all = K.all in let few = K.few in

@@ -18,7 +18,7 @@ pub returns-then-offset-len-2-clause-breaks : goal.returns-then-offset-len-2-cla
 returns-then-offset-len-2-clause-breaks g c =
     let x = c.args.self.now.units in
     let count =
-    c.breaks.ensures.sum ∙ breaks_shown c.self.inside.pieces c.self.inside.chunks c.args.self.now c.args.offset c.self.invariant c.self.view_is (omega arith) in
+    c.breaks.ensures.sum ∙ breaks_shown c.self.inside.pieces c.self.inside.chunks c.args.self.now c.args.offset c.self.invariant.text c.self.view_is (omega arith) in
     ap (λ (n : ℕ). Some n) count
     ∙ sym (ap {B = Option ℕ} (λ t. if t then Some (count_to c.args.offset (break_ends 0 x)) else None) (place_at_end x c.args.offset (omega arith)))
 
@@ -27,7 +27,7 @@ returns-then-offset-len-2-clause-cost g c = no_look_up 2 (length c.args.self.now
 
 pub find_offset-found-requires : goal.find_offset-found-requires
 find_offset-found-requires g c =
-    omega (arith, units_shown c.self.inside.pieces c.self.inside.chunks c.args.self.now c.self.invariant c.self.view_is)
+    omega (arith, units_shown c.self.inside.pieces c.self.inside.chunks c.args.self.now c.self.invariant.text c.self.view_is)
 
 two_look_ups : (g : Over) (c : After-cuts_pair_at g) → WithinLookUps 2 (length c.args.self.now.spans) (c.cuts_pair_at.new.steps - c.args.steps.now)
 two_look_ups g c =
@@ -40,14 +40,14 @@ returns-then-cuts_pair_at-clause-cost g c = two_look_ups g (goal.at.returns-then
 
 pub breaks_to-own-requires-clause-inside : goal.breaks_to-own-requires-clause-inside
 breaks_to-own-requires-clause-inside g c =
-    found_inside c.self.inside.chunks.buffers c.self.inside.pieces.entries c.find_offset-found.result c.find_offset-found.ensures.piece c.self.invariant.pieces
+    found_inside c.self.inside.chunks.buffers c.self.inside.pieces.entries c.find_offset-found.result c.find_offset-found.ensures.piece c.self.invariant.text.pieces
 
 -- the breaks before the piece and those in it are all up to the offset
 counted : (g : Over) (c : After-breaks_to-own g)
     → c.find_offset-found.result.before.breaks + c.breaks_to-own.result ≡ count_to c.args.offset (break_ends 0 c.args.self.now.units)
 counted g c =
     found_count c.self.inside.chunks.buffers c.self.inside.pieces.entries c.find_offset-found.result c.find_offset-found.ensures.piece
-    c.self.invariant.pieces c.self.invariant.full c.self.invariant.unsplit c.args.offset c.breaks_to-own.result
+    c.self.invariant.text.pieces c.self.invariant.text.full c.self.invariant.text.unsplit c.args.offset c.breaks_to-own.result
     c.find_offset-found.ensures.start c.find_offset-found.ensures.end c.breaks_to-own.ensures
     ∙ ap (λ v. count_to c.args.offset (break_ends 0 v.units)) c.self.view_is
 

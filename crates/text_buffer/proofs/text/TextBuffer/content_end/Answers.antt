@@ -16,15 +16,15 @@ returns-then-line-line_count-clause-content g c = λ d.
 
 pub break_at-found-requires-clause-there : goal.break_at-found-requires-clause-there
 break_at-found-requires-clause-there g c =
-    omega (arith, lines_shown c.self.inside.pieces c.self.inside.chunks c.args.self.now c.self.invariant c.self.view_is)
+    omega (arith, lines_shown c.self.inside.pieces c.self.inside.chunks c.args.self.now c.self.invariant.text c.self.view_is)
 
 pub units-requires : goal.units-requires
 units-requires g c =
-    found_inside c.self.inside.chunks.buffers c.self.inside.pieces.entries c.break_at-found.result.0 c.break_at-found.ensures.piece c.self.invariant.pieces
+    found_inside c.self.inside.chunks.buffers c.self.inside.pieces.entries c.break_at-found.result.0 c.break_at-found.ensures.piece c.self.invariant.text.pieces
 
 pub slice_bounds-ends_with_pair-end : goal.slice_bounds-ends_with_pair-end
 slice_bounds-ends_with_pair-end g c =
-    let size = found_size c.self.inside.chunks.buffers c.self.inside.pieces.entries c.break_at-found.result.0 c.break_at-found.ensures.piece c.self.invariant.pieces in
+    let size = found_size c.self.inside.chunks.buffers c.self.inside.pieces.entries c.break_at-found.result.0 c.break_at-found.ensures.piece c.self.invariant.text.pieces in
     sym (length-take-le c.break_at-found.result.1 c.units.result.now (omega (arith, size, ap length c.units.ensures, c.break_at-found.ensures.within)))
 
 -- where the next line starts
@@ -73,7 +73,7 @@ pair_seen g c =
     let end : ℕ = c.break_at-found.result.0.before.units + own in
     sym (ap (λ v. ends_with_pair (take (end - start) (drop start v.units))) c.self.view_is)
     ∙ found_line_pair c.self.inside.chunks.buffers c.self.inside.pieces.entries c.break_at-found.result.0 c.break_at-found.ensures.piece
-    c.self.invariant.pieces c.self.invariant.full c.self.invariant.unsplit start end own (omega arith) c.break_at-found.ensures.some c.break_at-found.ensures.within (omega arith)
+    c.self.invariant.text.pieces c.self.invariant.text.full c.self.invariant.text.unsplit start end own (omega arith) c.break_at-found.ensures.some c.break_at-found.ensures.within (omega arith)
     ∙ ap (λ s. ends_with_pair (take own s)) (sym c.units.ensures)
     ∙ sym c.ends_with_pair.ensures
 

@@ -6,11 +6,11 @@ use Rattle.text_buffer.proofs.text.TextBuffer.dirty_lines.Goals as goal
 
 pub spot_at-start-requires-clause-within : goal.spot_at-start-requires-clause-within
 spot_at-start-requires-clause-within c =
-    omega (arith, units_shown c.self.inside.pieces c.self.inside.chunks c.args.self.now c.self.invariant c.self.view_is, c.requires.ordered, c.requires.within)
+    omega (arith, units_shown c.self.inside.pieces c.self.inside.chunks c.args.self.now c.self.invariant.text c.self.view_is, c.requires.ordered, c.requires.within)
 
 pub spot_at-end-requires-clause-within : goal.spot_at-end-requires-clause-within
 spot_at-end-requires-clause-within c =
-    omega (arith, units_shown c.self.inside.pieces c.self.inside.chunks c.args.self.now c.self.invariant c.self.view_is, c.requires.within)
+    omega (arith, units_shown c.self.inside.pieces c.self.inside.chunks c.args.self.now c.self.invariant.text c.self.view_is, c.requires.within)
 
 pub returns-clause-dirty : goal.returns-clause-dirty
 returns-clause-dirty c =

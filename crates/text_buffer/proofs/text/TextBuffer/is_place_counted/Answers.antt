@@ -8,7 +8,7 @@ returns-then-offset-len-clause-cost g c = no_look_up 2 (length c.args.self.now.s
 
 pub find_offset-found-requires : goal.find_offset-found-requires
 find_offset-found-requires g c =
-    omega (arith, units_shown c.self.inside.pieces c.self.inside.chunks c.args.self.now c.self.invariant c.self.view_is)
+    omega (arith, units_shown c.self.inside.pieces c.self.inside.chunks c.args.self.now c.self.invariant.text c.self.view_is)
 
 pub returns-clause-cost : goal.returns-clause-cost
 returns-clause-cost g c =

@@ -7,5 +7,5 @@ use Rattle.text_buffer.proofs.text.TextBuffer.line_count.Goals as goal
 pub returns : goal.returns
 returns c =
     ap (λ n. n + 1) c.breaks.ensures.sum
-    ∙ line_count_of_pieces c.self.inside.chunks.buffers (pieces_of c.self.inside.pieces.entries) c.self.invariant.pieces c.self.invariant.unsplit
+    ∙ line_count_of_pieces c.self.inside.chunks.buffers (pieces_of c.self.inside.pieces.entries) c.self.invariant.text.pieces c.self.invariant.text.unsplit
     ∙ ap (λ v. length (lines_of v.units)) c.self.view_is

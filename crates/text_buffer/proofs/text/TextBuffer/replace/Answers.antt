@@ -21,7 +21,7 @@ use Rattle.text_buffer.proofs.Edited.{IsReplaced, IsReplaced-of, front_border, u
 use Rattle.text_buffer.proofs.Growing.{split_spans, adds_none, grows_later, at_border, takes_place}
 use Rattle.text_buffer.proofs.Found.{units_shown, own, pieces_are}
 use Rattle.text_buffer.proofs.text.TextBuffer.replace.Goals as goal
-use Rattle.text_buffer.proofs.text.TextBuffer.replace.Goals.{After-joins_back-back_joins, After-as_slice-after}
+use Rattle.text_buffer.proofs.text.TextBuffer.replace.Goals.{After-joins_back-back_joins, After-as_slice-after, After-splice}
 
 -- what was asked at the two ends
 front_is : (c : After-joins_back-back_joins) → c.joins_front-front_joins.result ≡ joins_pair (take c.args.span.start c.args.self.now.units) (c.args.text.now ++ drop c.args.span.end c.args.self.now.units)
@@ -57,7 +57,7 @@ ahead c joins rest =
     let x_is = ap (λ v. v.units) c.self.view_is in let at = c.spot_at-start.ensures.offset in
     let more : List ℕ = c.args.text.now ++ drop c.args.span.end c.args.self.now.units in
     let here = joins ∙ (λ i. joins_pair (take (sym at i) (sym x_is i)) more) in
-    let is = front_along tree chunks c.self.invariant spot there (spot_within tree chunks spot.found spot.offset c.self.invariant there.found)
+    let is = front_along tree chunks c.self.invariant.text spot there (spot_within tree chunks spot.found spot.offset c.self.invariant.text there.found)
     c.rests_of-rests.result.front c.joins_front-front_joins.result more here rest in
     subst {A = List ℕ × ℕ × List ℕ} (λ p. IsFrontAlong p.0 p.1 c.joins_front-front_joins.result p.2)
     (λ i. (x_is i, at i, sym (c.as_slice-before.ensures.value ∙ c.units_along-front.ensures) i)) is
@@ -70,18 +70,18 @@ behind c joins rest =
     let x_is = ap (λ v. v.units) c.self.view_is in let at = c.spot_at-end.ensures.offset in
     let more : List ℕ = take c.args.span.start c.args.self.now.units ++ c.args.text.now in
     let here = joins ∙ (λ i. joins_pair more (drop (sym at i) (sym x_is i))) in
-    let is = back_along tree chunks c.self.invariant spot there (spot_within tree chunks spot.found spot.offset c.self.invariant there.found)
+    let is = back_along tree chunks c.self.invariant.text spot there (spot_within tree chunks spot.found spot.offset c.self.invariant.text there.found)
     c.rests_of-rests.result.back c.joins_back-back_joins.result more here rest in
     subst {A = List ℕ × ℕ × List ℕ} (λ p. IsBackAlong p.0 p.1 c.joins_back-back_joins.result p.2)
     (λ i. (x_is i, at i, sym (c.as_slice-after.ensures.value ∙ c.units_along-back.ensures) i)) is
 
 pub spot_at-start-requires-clause-within : goal.spot_at-start-requires-clause-within
 spot_at-start-requires-clause-within c =
-    omega (arith, units_shown c.self.inside.pieces c.self.inside.chunks c.args.self.now c.self.invariant c.self.view_is, c.requires.ordered, c.requires.within)
+    omega (arith, units_shown c.self.inside.pieces c.self.inside.chunks c.args.self.now c.self.invariant.text c.self.view_is, c.requires.ordered, c.requires.within)
 
 pub spot_at-end-requires-clause-within : goal.spot_at-end-requires-clause-within
 spot_at-end-requires-clause-within c =
-    omega (arith, units_shown c.self.inside.pieces c.self.inside.chunks c.args.self.now c.self.invariant c.self.view_is, c.requires.within)
+    omega (arith, units_shown c.self.inside.pieces c.self.inside.chunks c.args.self.now c.self.invariant.text c.self.view_is, c.requires.within)
 
 -- what a front or a back takes along fits
 pub units_along-front-requires-clause-inside : goal.units_along-front-requires-clause-inside
@@ -89,28 +89,28 @@ units_along-front-requires-clause-inside c =
     let at = (goal.at.units_along-front-requires-clause-inside c).After-joins_back-back_joins in
     let tree = c.self.inside.pieces in let chunks = c.self.inside.chunks in let spot = c.spot_at-start.result in let there = c.spot_at-start.ensures.spot in
     if_some (LiesIn chunks.buffers) c.rests_of-rests.result.front
-    (λ part e. (front_fits tree chunks c.self.invariant spot there (spot_within tree chunks spot.found spot.offset c.self.invariant there.found) part (front_rest at part e)).0)
+    (λ part e. (front_fits tree chunks c.self.invariant.text spot there (spot_within tree chunks spot.found spot.offset c.self.invariant.text there.found) part (front_rest at part e)).0)
 
 pub units_along-front-requires-clause-few : goal.units_along-front-requires-clause-few
 units_along-front-requires-clause-few c =
     let at = (goal.at.units_along-front-requires-clause-few c).After-joins_back-back_joins in
     let tree = c.self.inside.pieces in let chunks = c.self.inside.chunks in let spot = c.spot_at-start.result in let there = c.spot_at-start.ensures.spot in
     if_some (λ span. span.units ≤ most_along) c.rests_of-rests.result.front
-    (λ part e. (front_fits tree chunks c.self.invariant spot there (spot_within tree chunks spot.found spot.offset c.self.invariant there.found) part (front_rest at part e)).1)
+    (λ part e. (front_fits tree chunks c.self.invariant.text spot there (spot_within tree chunks spot.found spot.offset c.self.invariant.text there.found) part (front_rest at part e)).1)
 
 pub units_along-back-requires-clause-inside : goal.units_along-back-requires-clause-inside
 units_along-back-requires-clause-inside c =
     let at = (goal.at.units_along-back-requires-clause-inside c).After-joins_back-back_joins in
     let tree = c.self.inside.pieces in let chunks = c.self.inside.chunks in let spot = c.spot_at-end.result in let there = c.spot_at-end.ensures.spot in
     if_some (LiesIn chunks.buffers) c.rests_of-rests.result.back
-    (λ part e. (back_fits tree chunks c.self.invariant spot there (spot_within tree chunks spot.found spot.offset c.self.invariant there.found) part (back_rest at part e).1).0)
+    (λ part e. (back_fits tree chunks c.self.invariant.text spot there (spot_within tree chunks spot.found spot.offset c.self.invariant.text there.found) part (back_rest at part e).1).0)
 
 pub units_along-back-requires-clause-few : goal.units_along-back-requires-clause-few
 units_along-back-requires-clause-few c =
     let at = (goal.at.units_along-back-requires-clause-few c).After-joins_back-back_joins in
     let tree = c.self.inside.pieces in let chunks = c.self.inside.chunks in let spot = c.spot_at-end.result in let there = c.spot_at-end.ensures.spot in
     if_some (λ span. span.units ≤ most_along) c.rests_of-rests.result.back
-    (λ part e. (back_fits tree chunks c.self.invariant spot there (spot_within tree chunks spot.found spot.offset c.self.invariant there.found) part (back_rest at part e).1).1)
+    (λ part e. (back_fits tree chunks c.self.invariant.text spot there (spot_within tree chunks spot.found spot.offset c.self.invariant.text there.found) part (back_rest at part e).1).1)
 
 pub found_before-at-requires-clause-there : goal.found_before-at-requires-clause-there
 found_before-at-requires-clause-there c =
@@ -120,7 +120,7 @@ found_before-at-requires-clause-there c =
 
 pub found_before-at-requires-clause-within : goal.found_before-at-requires-clause-within
 found_before-at-requires-clause-within c =
-    omega (arith, units_shown c.self.inside.pieces c.self.inside.chunks c.args.self.now c.self.invariant c.self.view_is, c.requires.ordered, c.requires.within, c.spot_at-start.ensures.offset)
+    omega (arith, units_shown c.self.inside.pieces c.self.inside.chunks c.args.self.now c.self.invariant.text c.self.view_is, c.requires.ordered, c.requires.within, c.spot_at-start.ensures.offset)
 
 pub overflow_sub-from : goal.overflow_sub-from
 overflow_sub-from c =
@@ -158,11 +158,11 @@ pub splice-requires-clause-range : goal.splice-requires-clause-range
 splice-requires-clause-range c =
     let to = goal.at.splice-requires-clause-range c in let at = to.After-joins_back-back_joins in
     let there = (behind to.After-as_slice-after (back_is at) (λ part e. (back_rest at part e).1)).there in
-    omega (arith, units_shown c.self.inside.pieces c.self.inside.chunks c.args.self.now c.self.invariant c.self.view_is, there, c.requires.ordered)
+    omega (arith, units_shown c.self.inside.pieces c.self.inside.chunks c.args.self.now c.self.invariant.text c.self.view_is, there, c.requires.ordered)
 
 pub splice-requires-clause-pieces : goal.splice-requires-clause-pieces
 splice-requires-clause-pieces c =
-    pieces-extended c.self.inside.chunks.buffers c.append_some-added.new.chunks.buffers c.append_some-added.ensures.grown (pieces_of c.self.inside.pieces.entries) c.self.invariant.pieces
+    pieces-extended c.self.inside.chunks.buffers c.append_some-added.new.chunks.buffers c.append_some-added.ensures.grown (pieces_of c.self.inside.pieces.entries) c.self.invariant.text.pieces
 
 pub splice-requires-clause-small : goal.splice-requires-clause-small
 splice-requires-clause-small c =
@@ -170,7 +170,7 @@ splice-requires-clause-small c =
     let one = (ahead to.After-as_slice-after (front_is at) (front_rest at)).there in
     let two = (behind to.After-as_slice-after (back_is at) (λ part e. (back_rest at part e).1)).there in
     let before = c.as_slice-before.result.now in let after = c.as_slice-after.result.now in let text = c.args.text.now in
-    let count = units_shown c.self.inside.pieces c.self.inside.chunks c.args.self.now c.self.invariant c.self.view_is in
+    let count = units_shown c.self.inside.pieces c.self.inside.chunks c.args.self.now c.self.invariant.text c.self.view_is in
     let added = units-added c.append_some-added.new.chunks.buffers c.append_some-added.result (before ++ text ++ after) c.append_some-added.ensures.added in
     omega (
       arith,
@@ -185,7 +185,7 @@ splice-requires-clause-small c =
       length-edited c.args.self.now.units text c.args.span.start c.args.span.end (omega (arith, c.requires.ordered, c.requires.within)),
     )
 
-replaced : (c : goal.After-splice) → IsFrontAlong c.args.self.now.units c.args.span.start c.joins_front-front_joins.result c.as_slice-before.result.now
+replaced : (c : After-splice) → IsFrontAlong c.args.self.now.units c.args.span.start c.joins_front-front_joins.result c.as_slice-before.result.now
     → IsBackAlong c.args.self.now.units c.args.span.end c.joins_back-back_joins.result c.as_slice-after.result.now
     → c.joins_front-front_joins.result ≡ joins_pair (take c.args.span.start c.args.self.now.units) (c.args.text.now ++ drop c.args.span.end c.args.self.now.units)
     → c.joins_back-back_joins.result ≡ joins_pair (take c.args.span.start c.args.self.now.units ++ c.args.text.now) (drop c.args.span.end c.args.self.now.units)
@@ -197,24 +197,24 @@ replaced c one two front back =
     c.joins_front-front_joins.result c.joins_back-back_joins.result front back one two
     c.self.inside.chunks.buffers c.append_some-added.new.chunks.buffers (pieces_of c.self.inside.pieces.entries) (pieces_of c.splice.new.self.entries) c.append_some-added.result
     (c.args.span.start - length before) (c.args.span.start - length before + (c.args.span.end + length after - (c.args.span.start - length before)))
-    c.append_some-added.ensures.grown c.self.invariant.pieces c.self.invariant.full c.self.invariant.unsplit (ap (λ v. v.units) c.self.view_is)
+    c.append_some-added.ensures.grown c.self.invariant.text.pieces c.self.invariant.text.full c.self.invariant.text.unsplit (ap (λ v. v.units) c.self.view_is)
     c.requires.ordered refl (omega (arith, c.requires.ordered)) c.append_some-added.ensures.added c.splice.ensures.spliced
 
 pub invariant_of-self : goal.invariant_of-self
 invariant_of-self c =
     let to = goal.at.invariant_of-self c in let at = to.After-joins_back-back_joins in
-    let r = replaced c (ahead to.After-as_slice-after (front_is at) (front_rest at)) (behind to.After-as_slice-after (back_is at) (λ part e. (back_rest at part e).1)) (front_is at) (back_is at) in
-    record { pieces = r.pieces; full = r.full; unsplit = r.unsplit }
+    let r = replaced to.After-splice (ahead to.After-as_slice-after (front_is at) (front_rest at)) (behind to.After-as_slice-after (back_is at) (λ part e. (back_rest at part e).1)) (front_is at) (back_is at) in
+    record { text = record { pieces = r.pieces; full = r.full; unsplit = r.unsplit }; found = tt }
 
 pub returns-clause-units : goal.returns-clause-units
 returns-clause-units c =
     let to = goal.at.returns-clause-units c in let at = to.After-joins_back-back_joins in
-    (replaced c (ahead to.After-as_slice-after (front_is at) (front_rest at)) (behind to.After-as_slice-after (back_is at) (λ part e. (back_rest at part e).1)) (front_is at) (back_is at)).text_is
+    (replaced to.After-splice (ahead to.After-as_slice-after (front_is at) (front_rest at)) (behind to.After-as_slice-after (back_is at) (λ part e. (back_rest at part e).1)) (front_is at) (back_is at)).text_is
 
 pub returns-clause-pieces : goal.returns-clause-pieces
 returns-clause-pieces c =
     let to = goal.at.returns-clause-pieces c in let at = to.After-joins_back-back_joins in
-    let few = (replaced c (ahead to.After-as_slice-after (front_is at) (front_rest at)) (behind to.After-as_slice-after (back_is at) (λ part e. (back_rest at part e).1)) (front_is at) (back_is at)).few in
+    let few = (replaced to.After-splice (ahead to.After-as_slice-after (front_is at) (front_rest at)) (behind to.After-as_slice-after (back_is at) (λ part e. (back_rest at part e).1)) (front_is at) (back_is at)).few in
     omega (
       arith,
       few,
@@ -224,25 +224,25 @@ returns-clause-pieces c =
     )
 
 -- where the span leaves little of the one piece that it lies in, the new span takes the place of that piece
-taken_in : (c : goal.After-splice) (us : List Piece) (p : Piece) (vs : List Piece) → pieces_of c.self.inside.pieces.entries ≡ us ++ p ∷ vs → c.spot_at-start.result.offset < c.spot_at-end.result.offset
+taken_in : (c : After-splice) (us : List Piece) (p : Piece) (vs : List Piece) → pieces_of c.self.inside.pieces.entries ≡ us ++ p ∷ vs → c.spot_at-start.result.offset < c.spot_at-end.result.offset
     → is_little c.self.inside.chunks.buffers (part_of p.span 0 (c.spot_at-start.result.offset - unit_count us)) ≡ true
     → is_little c.self.inside.chunks.buffers (part_of p.span (c.spot_at-end.result.offset - unit_count us) p.span.units) ≡ true
     → length (pieces_of c.splice.new.self.entries) ≤ length (pieces_of c.self.inside.pieces.entries)
 taken_in c us p vs is some ahead behind =
     let tree = c.self.inside.pieces in let chunks = c.self.inside.chunks in let start = c.spot_at-start.result in let end = c.spot_at-end.result in
     let one = c.spot_at-start.ensures.spot in let two = c.spot_at-end.ensures.spot in
-    let both = c.rests_of-rests.ensures ∙ both_cut tree chunks c.self.invariant start end one two us p vs is some ahead behind (length c.args.text.now) in
+    let both = c.rests_of-rests.ensures ∙ both_cut tree chunks c.self.invariant.text start end one two us p vs is some ahead behind (length c.args.text.now) in
     let low = little_units chunks.buffers (part_of p.span 0 (start.offset - unit_count us)) ahead in
     let high = little_units chunks.buffers (part_of p.span (end.offset - unit_count us) p.span.units) behind in
     let first : length c.as_slice-before.result.now ≡ start.offset - unit_count us =
     ap length (c.as_slice-before.ensures.value ∙ c.units_along-front.ensures ∙ ap (λ r. units_along chunks.buffers r.front c.joins_front-front_joins.result carriage_return) both)
-    ∙ first_length tree chunks c.self.invariant start end one two us p vs is some ahead behind in
+    ∙ first_length tree chunks c.self.invariant.text start end one two us p vs is some ahead behind in
     let last : length c.as_slice-after.result.now ≡ p.span.units - (end.offset - unit_count us) =
     ap length (c.as_slice-after.ensures.value ∙ c.units_along-back.ensures ∙ ap (λ r. units_along chunks.buffers r.back c.joins_back-back_joins.result line_feed) both)
-    ∙ last_length tree chunks c.self.invariant start end one two us p vs is some ahead behind in
+    ∙ last_length tree chunks c.self.invariant.text start end one two us p vs is some ahead behind in
     let from = c.args.span.start - length c.as_slice-before.result.now in
     let few = takes_place c.append_some-added.new.chunks.buffers us p vs (pieces_of tree.entries) from (from + (c.args.span.end + length c.as_slice-after.result.now - from)) c.append_some-added.result
-    is c.self.invariant.full (omega (arith, first, low, c.spot_at-start.ensures.offset)) (omega (arith, first, last, low, high, some, c.spot_at-start.ensures.offset, c.spot_at-end.ensures.offset)) in
+    is c.self.invariant.text.full (omega (arith, first, low, c.spot_at-start.ensures.offset)) (omega (arith, first, last, low, high, some, c.spot_at-start.ensures.offset, c.spot_at-end.ensures.offset)) in
     omega (arith, few, ap length c.splice.ensures.spliced)
 
 pub returns-clause-taken : goal.returns-clause-taken
@@ -253,7 +253,7 @@ returns-clause-taken c = λ little.
     let one = c.spot_at-start.ensures.offset in let two = c.spot_at-end.ensures.offset in
     let first : is_little b (part_of p.span 0 (c.spot_at-start.result.offset - unit_count us)) ≡ true = rw (same, one, count) place.front in
     let last : is_little b (part_of p.span (c.spot_at-end.result.offset - unit_count us) p.span.units) ≡ true = rw (same, two, count) place.back in
-    let few = taken_in c us p vs is (omega (arith, one, two, place.some)) first last in
+    let few = taken_in (goal.at.returns-clause-taken c).After-splice us p vs is (omega (arith, one, two, place.some)) first last in
     omega (arith, few, length-map (pieces_of c.splice.new.self.entries) (λ p. p.span), length-map ps (λ p. p.span), ap (λ v. length v.spans) c.self.view_is)
 
 -- where the text goes on from a span, the place stands inside no piece, and nothing is taken along before it
@@ -264,10 +264,10 @@ none_ahead c rest place apart =
     let (us, (p, (vs, is, count, same))) = split_spans (pieces_of tree.entries) place.earlier place.span place.later place.among in
     ap length (c.as_slice-before.ensures.value ∙ c.units_along-front.ensures
     ∙ none_along chunks.buffers c.rests_of-rests.result.front c.joins_front-front_joins.result carriage_return (λ part e.
-    let (found, has, cut) = front_cuts tree chunks c.self.invariant spot there (spot_within tree chunks spot.found spot.offset c.self.invariant there.found) part (rest part e) in
+    let (found, has, cut) = front_cuts tree chunks c.self.invariant.text spot there (spot_within tree chunks spot.found spot.offset c.self.invariant.text there.found) part (rest part e) in
     let before = ap (λ s. s.units) has.piece.before in let units = ap (λ (s : ChunkSpan). s.units) same in
-    at_border us (pieces_of has.piece.earlier) vs (pieces_of has.piece.later) p (own chunks.buffers tree.entries found has.piece c.self.invariant.pieces)
-    (sym is ∙ pieces_are chunks.buffers tree.entries found has.piece c.self.invariant.pieces)
+    at_border us (pieces_of has.piece.earlier) vs (pieces_of has.piece.later) p (own chunks.buffers tree.entries found has.piece c.self.invariant.text.pieces)
+    (sym is ∙ pieces_are chunks.buffers tree.entries found has.piece c.self.invariant.text.pieces)
     (omega (arith, before, units, count, place.ends, cut, c.spot_at-start.ensures.offset)) (omega (arith, before, units, count, place.ends, has.end, c.spot_at-start.ensures.offset))) apart)
 
 pub returns-clause-typed : goal.returns-clause-typed
@@ -293,7 +293,7 @@ returns-clause-typed c = λ grows none.
     subst (λ (s : ChunkSpan). s.start + s.units ≡ length (buffer_at old s.buffer)) (sym same) place.end in
     let border = front_border c.args.self.now.units text before after start c.args.span.end c.joins_front-front_joins.result c.joins_back-back_joins.result
     (front_is at) (back_is at) ahead_is behind_is in
-    let few = adds_none old new ps us p vs from is ends last end c.self.invariant.full c.self.invariant.pieces (before ++ text ++ after)
+    let few = adds_none old new ps us p vs from is ends last end c.self.invariant.text.full c.self.invariant.text.pieces (before ++ text ++ after)
     (subst (λ y. joins_pair (take from y) (before ++ text ++ after) ≡ false) (sym x_is) border) c.append_some-added.result
     (from + (c.args.span.end + length after - from)) (omega arith) c.append_some-added.ensures.last in
     omega (
@@ -326,7 +326,7 @@ returns-clause-grows c = λ same some none.
     let after = c.as_slice-after.result.now in
     let from = c.args.span.start - length before in
     let till = from + (c.args.span.end + length after - from) in
-    let count = units_shown c.self.inside.pieces c.self.inside.chunks c.args.self.now c.self.invariant c.self.view_is in
+    let count = units_shown c.self.inside.pieces c.self.inside.chunks c.args.self.now c.self.invariant.text c.self.view_is in
     let there = (ahead to.After-as_slice-after (front_is at) (front_rest at)).there in
     let none_taken = none_behind to.After-as_slice-after (back_rest at) same (back_is at ∙ none) in
     let added_size : length (before ++ text ++ after) ≡ length before + length text = omega (arith, length-append (before ++ text) after, length-append before text, none_taken) in

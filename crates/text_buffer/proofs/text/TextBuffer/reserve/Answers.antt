@@ -11,9 +11,12 @@ invariant_of-self-2 c =
     let ps = pieces_of c.self.inside.pieces.entries in
     rw c.reserve-2.ensures.same
     (record {
-      pieces = pieces-extended old new c.reserve.ensures.same ps c.self.invariant.pieces;
-      full = c.self.invariant.full;
-      unsplit = unsplit-extended old new c.reserve.ensures.same ps c.self.invariant.pieces c.self.invariant.unsplit;
+      text = record {
+        pieces = pieces-extended old new c.reserve.ensures.same ps c.self.invariant.text.pieces;
+        full = c.self.invariant.text.full;
+        unsplit = unsplit-extended old new c.reserve.ensures.same ps c.self.invariant.text.pieces c.self.invariant.text.unsplit;
+      };
+      found = c.self.invariant.found;
     })
 
 pub returns-clause-same : goal.returns-clause-same
@@ -22,4 +25,4 @@ returns-clause-same c =
     let new = c.reserve.new.self.buffers in
     let ps = pieces_of c.self.inside.pieces.entries in
     ap (λ e. spelled new (pieces_of e)) c.reserve-2.ensures.same
-    ∙ spelled-extended old new c.reserve.ensures.same ps c.self.invariant.pieces ∙ ap (λ v. v.units) c.self.view_is
+    ∙ spelled-extended old new c.reserve.ensures.same ps c.self.invariant.text.pieces ∙ ap (λ v. v.units) c.self.view_is

@@ -7,6 +7,6 @@ pub push_span-requires-clause-within : goal.push_span-requires-clause-within
 push_span-requires-clause-within c =
     omega (
       arith,
-      length-spelled c.self.inside.chunks.buffers (pieces_of c.self.inside.pieces.entries) c.self.invariant.pieces,
+      length-spelled c.self.inside.chunks.buffers (pieces_of c.self.inside.pieces.entries) c.self.invariant.text.pieces,
       ap (λ v. length v.units) c.self.view_is,
     )
