@@ -128,6 +128,10 @@ impl Weave for Marks {
         0
     }
 
+    fn only_shift() -> Option<i64> {
+        None
+    }
+
     fn plus(first: i64, second: i64) -> i64 {
         first + second
     }

@@ -168,15 +168,15 @@ pub(crate) fn text_breaks(ops: &[Op]) -> u64
     breaks
 }
 
-/// Looks up where the first of the ops starts, unless its span is turned round, which is refused without a search. The text
-/// remembers the piece, so that to check the op, to copy what it takes away and to carry it out need no other search there.
+/// Looks up where the first of the ops starts and ends, unless its span is turned round, which is refused without a search. The text
+/// remembers the pieces, so that to check the op, to copy what it takes away and to carry it out need no other search there.
 pub(crate) fn seek_first(text: &mut TextBuffer, ops: &[Op])
     ensures { text.new ≡ text.old }
 {
     if let Some(op) = ops.first()
         && op.span.start <= op.span.end
     {
-        text.seek(op.span.start);
+        text.seek(op.span);
     }
 }
 

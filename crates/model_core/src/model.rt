@@ -595,18 +595,18 @@ impl Model {
         self.text.value(span, out).map_err(|_| ModelError::Memory)
     }
 
-    /// The position of the offset, or None where it is no place of the text. Each node that is visited is a step.
+    /// The position of the offset, or None where it is no place of the text. Each node that a search visits is a step.
     pub fn position_at<L: Ledger>(&self, offset: u64, steps: &mut Steps<L>) -> Option<Position>
         ensures position { result ≡ flat_position self.now.document offset }
-        ensures cost { WithinLookUps 3 self.now.pieces (steps.new - steps.old) }
+        ensures cost { WithinLookUps 2 self.now.pieces (steps.new - steps.old) }
     {
         self.text.position_at(offset, steps)
     }
 
-    /// The offset of the position, or None where it is none of the text. Each node that is visited is a step.
+    /// The offset of the position, or None where it is none of the text. Each node that a search visits is a step.
     pub fn offset_at<L: Ledger>(&self, p: Position, steps: &mut Steps<L>) -> Option<u64>
         ensures offset { result ≡ flat_offset self.now.document p }
-        ensures cost { WithinLookUps 4 self.now.pieces (steps.new - steps.old) }
+        ensures cost { WithinLookUps 3 self.now.pieces (steps.new - steps.old) }
     {
         self.text.offset_at(p, steps)
     }

@@ -207,6 +207,9 @@ fn take_out(
     let own = offset - found.before.units;
     if own == 0 {
         let after = tree.prev(found.id);
+        if deleted == 0 {
+            return after;
+        }
         remove_units(tree, &after, deleted, chunks);
         return after;
     }

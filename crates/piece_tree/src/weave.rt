@@ -81,6 +81,10 @@ impl Weave for PieceWeave {
 
     fn still() {}
 
+    fn only_shift() -> Option<()> {
+        Some(())
+    }
+
     fn plus(first: (), second: ()) {}
 
     fn minus(whole: (), part: ()) {}

@@ -71,6 +71,7 @@ module _ {W X S B K : Type 0} {w : Ghosts W X S B K} {reach : B} {links : Links 
         (items_more w.weaving w.is_item us (id, y) (0, z) vs next own_items, sum)
 
     pub next_alone : IsValueAlone w z
+    unfolding IsValueAlone
     next_alone =
         valued_left w.weaving L (w.within reach) w.is_item w.is_sum w.is_value sums parts ((0, z) ∷ []) vs
         (valued_tail w.weaving L (w.within reach) w.is_item w.is_sum w.is_value sums parts (id, y) ((0, z) ∷ vs)

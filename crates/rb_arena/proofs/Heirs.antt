@@ -8,9 +8,13 @@ use Rattle.rb_rules.specs.declared.slot.Data.{Data}
 use Rattle.rb_rules.specs.declared.slot.Side.{Side}
 use Rattle.rb_rules.specs.declared.slot.Side.TheVariants.{Left, Right}
 use Rattle.rb_rules.specs.declared.slot.Slot.{Slot}
+use Rattle.rb_rules.specs.declared.weave.Weave.{Ghosts}
+use Rattle.std.specs.Option.{unwrap_or}
+use Rattle.std.specs.Prelude.{is_some}
+use Rattle.std.proofs.lemmas.Bool.{false≢true}
 use Rattle.rb_rules.specs.Tree.{Tree, tip, fork, Hole, top, on, plug, root_of, above, depth, height, count}
 use Rattle.rb_rules.specs.Colours.{Fits, Balanced}
-use Rattle.rb_rules.specs.Memory.{Made, Spot, here, place_of, hung, root_hung}
+use Rattle.rb_rules.specs.Memory.{Made, Spot, here, AtSpot, place_of, hung, root_hung}
 use Rattle.rb_rules.specs.Weaving.{Weaving, Lawful, Sums}
 use Rattle.rb_rules.specs.Woven.{entries, Woven, Valued, lefts, rights, shift_at}
 use Rattle.rb_rules.specs.Sound.{Slack}
@@ -19,13 +23,21 @@ use Rattle.rb_rules.proofs.Colouring as C
 use Rattle.rb_rules.proofs.Detaching.{spliced, gone}
 use Rattle.rb_rules.proofs.Holes.{count-forked, count-plug, count_self}
 use Rattle.rb_rules.proofs.Live.{slot_here}
+use Rattle.rb_rules.proofs.Spots.{upper_is, at_place}
+use Rattle.rb_rules.proofs.Held.{items_right}
+use Rattle.rb_rules.proofs.Wider.{woven_wider}
+use Rattle.rb_arena.specs.Nodes.{Inherits, Lives, LivesAt}
 use Rattle.rb_rules.proofs.Weaves.{woven_at, near_of}
-use Rattle.rb_arena.specs.Leaving.{leaf_height, Emptied, Unlinked, NoChild, OneChild, Stores}
-use Rattle.rb_arena.specs.Placing.{StartsAt}
+use Rattle.rb_arena.specs.declared.links.Links.{Links}
+use Rattle.rb_arena.specs.Ends.{HangsAt, IsEnd}
+use Rattle.rb_arena.specs.Leaving.{leaf_height, Emptied, Unlinked, Unlinks, UnlinksBefore, NoChild, OneChild, Stores, StoresBeside, StoresBoth, StoresItem, StillLists, IsShown, IsKept, StandsValued, StandsWoven, WovenSpot}
+use Rattle.rb_arena.specs.Placing.{StartsAt, above_place, IsThere}
+use Rattle.rb_arena.specs.Relative.{LawsOf}
 use Rattle.rb_arena.specs.Value.{first_hole, with_item}
 use Rattle.rb_arena.proofs.Growing.{depth_height, first-plug, first-lefts, first-rights}
-use Rattle.rb_arena.proofs.Leaving.{Spotted, spotted, childless_spot, valued_without, fit_leaf}
-use Rattle.rb_arena.proofs.Locating.{cut, after_list}
+use Rattle.rb_arena.proofs.Leaving.{Spotted, spotted, childless_spot, valued_without, fit_leaf, none_of, stored_there, leaf_lives}
+use Rattle.rb_arena.proofs.Locating.{cut, after_list, lying}
+use Rattle.rb_arena.proofs.Paths.{above-place}
 
 module _ {D : Type 0} where
   -- the tree with another in its first place
@@ -268,3 +280,196 @@ module _ {X S B : Type 0} (w : Weaving X S B) (L : Lawful w) (is_near : B → Ty
       let made = subst (Made beside m root) (sym (first-plug k0 s.right) ∙ ap (λ q. plug q no) same) at.made in
       let found = slot_here m root (record { beside = beside; hole = k; red = c; datum = d; left = tip; right = y }) j made in
       (j, (ap above same, (w.shift (shift_at w k) d.item, (entries w (w.plus (shift_at w k) d.delta) y ++ rights w k, list, (_, found, inl refl)))))
+
+module _ {W X S B K : Type 0} (w : Ghosts W X S B K) (old mid : Links (Data X S B)) where
+  module _ (id : ℕ) where
+    -- a node that has become a leaf
+    pub still_stored : StoresItem w old id → StillLists w old mid id → StoresItem w mid id
+    unfolding StoresItem StillLists
+    still_stored (l, (reach, (beside, (us, (x, (vs, st)))))) still = (l, (reach, (beside, (us, (x, (vs, (still reach beside us x vs st, st.1, st.2)))))))
+
+    pub still_there : StoresItem w old id → StillLists w old mid id → IsThere mid id
+    still_there stored still = stored_there w mid id (still_stored stored still)
+
+    pub still_unlinks : (new : Links (Data X S B)) (at : Option (ℕ × Side)) (red : Bool) → StillLists w old mid id → Unlinks w mid new id at red → Unlinks w old new id at red
+    unfolding StillLists Unlinks
+    still_unlinks new at red still unlinks = λ reach beside us x vs st. unlinks reach beside us x vs (still reach beside us x vs st, st.1, st.2)
+
+-- a node with no right child
+pub none_right : {D : Type 0} (m : map.FinMap nat_cmp (Slot D)) (id : ℕ) (slot : Slot D) → map.get m id ≡ Some slot → is_some slot.right ≡ false → OneChild m id
+unfolding OneChild
+none_right m id slot read none = (slot, read, inr (none_of slot.right none))
+
+module _ {W X S B K : Type 0} (w : Ghosts W X S B K) (old : Links (Data X S B)) (id : ℕ) (slot : Slot (Data X S B)) (read : map.get old.nodes.live id ≡ Some slot) where
+  module _ (l : LawsOf w) (reach : B) (beside : Tree (Data X S B)) (us : List (ℕ × X)) (x : X) (vs : List (ℕ × X)) (st : StoresBeside w old reach beside (us ++ (id, x) ∷ vs)) where
+    found : Spotted w.weaving l.laws (w.within reach) w.is_item w.is_sum w.is_value l.sums l.parts l.thins beside old.nodes.live old.root id us x vs
+    found = spotted w.weaving l.laws (w.within reach) w.is_item w.is_sum w.is_value l.sums l.parts l.thins beside old.nodes.live old.root id us x vs st
+
+    abbrev at_node : Spot (Data X S B)
+    at_node = lying beside found.spot
+
+    abbrev on_right : Hole (Data X S B)
+    on_right = on Right at_node.red id at_node.datum at_node.left at_node.hole
+
+    -- the subtree on its right, by what is read of it
+    right_is : slot.right ≡ root_of at_node.right
+    right_is = ap (λ n. n.right) (upper_is old.nodes.live old.root at_node id found.made Left slot read)
+
+    starts_right : StartsAt beside old.nodes.live old.root (Some (id, Right)) slot.right at_node.right on_right
+    starts_right = let deep = found.low in ((refl, found.made), right_is, omega (arith, deep))
+
+  pub hangs_right : StoresItem w old id → HangsAt old (Some (id, Right)) slot.right
+  unfolding StoresItem HangsAt
+  hangs_right (l, (reach, (beside, (us, (x, (vs, st)))))) = (beside, (_, (on_right l reach beside us x vs st, starts_right l reach beside us x vs st)))
+
+  -- the heir is the next node
+  module _ (first : Option (ℕ × Side)) (heir : ℕ) (ends : IsEnd old (Some (id, Right)) slot.right Left first) (is : heir ≡ unwrap_or (above_place first) id) (some : is_some slot.right ≡ true) where
+    module _ (l : LawsOf w) (reach : B) (beside : Tree (Data X S B)) (us : List (ℕ × X)) (x : X) (vs : List (ℕ × X)) (st : StoresBeside w old reach beside (us ++ (id, x) ∷ vs)) where
+      next : IsNext w.weaving l.laws (w.within reach) w.is_item w.is_sum w.is_value l.sums l.parts l.thins beside old.nodes.live old.root id us x vs heir
+      unfolding IsEnd
+      next =
+          let n = found l reach beside us x vs st in let s = at_node l reach beside us x vs st in let k = on_right l reach beside us x vs st in let start = starts_right l reach beside us x vs st in
+          let (j, (named, after)) = next_of w.weaving l.laws (w.within reach) w.is_item w.is_sum w.is_value l.sums l.parts l.thins beside old.nodes.live old.root id us x vs n
+          (λ none. false≢true (sym (ap is_some (right_is l reach beside us x vs st ∙ none)) ∙ some)) in
+          let up : above_place first ≡ Some j = ap above_place (ends beside s.right k start) ∙ above-place (first_hole k s.right) ∙ named in
+          subst (IsNext w.weaving l.laws (w.within reach) w.is_item w.is_sum w.is_value l.sums l.parts l.thins beside old.nodes.live old.root id us x vs) (sym (is ∙ ap (λ o. unwrap_or o id) up)) after
+
+      joined : (us ++ (id, x) ∷ []) ++ (heir, next.0) ∷ next.1.0 ≡ us ++ (id, x) ∷ (heir, next.0) ∷ next.1.0
+      joined = append_assoc us ((id, x) ∷ []) ((heir, next.0) ∷ next.1.0)
+
+      -- the tree stores the heir right after the node
+      both : StoresBeside w old reach beside ((us ++ (id, x) ∷ []) ++ (heir, next.0) ∷ next.1.0)
+      both = subst (StoresBeside w old reach beside) (sym joined) (subst (λ vs2. StoresBeside w old reach beside (us ++ (id, x) ∷ vs2)) next.1.1 st)
+
+      -- as does another tree that lists the same
+      both_still : (mid : Links (Data X S B)) → StillLists w old mid heir → StoresBeside w mid reach beside (us ++ (id, x) ∷ (heir, next.0) ∷ next.1.0)
+      unfolding StillLists
+      both_still mid still = subst (StoresBeside w mid reach beside) joined (still reach beside (us ++ (id, x) ∷ []) next.0 next.1.0 both, both.1, both.2)
+
+    pub heir_child : StoresItem w old id → OneChild old.nodes.live heir
+    unfolding StoresItem
+    heir_child (l, (reach, (beside, (us, (x, (vs, st)))))) = (next l reach beside us x vs st).1.2
+
+    pub heir_stored : StoresItem w old id → StoresItem w old heir
+    unfolding StoresItem
+    heir_stored (l, (reach, (beside, (us, (x, (vs, st)))))) = (l, (reach, (beside, (us ++ (id, x) ∷ [], (_, (_, both l reach beside us x vs st))))))
+
+    module _ (mid : Links (Data X S B)) (still : StillLists w old mid heir) where
+      pub both_stored : StoresItem w old id → StoresBoth w mid id heir
+      unfolding StoresItem StoresBoth IsThere
+      both_stored stored =
+          let (l, (reach, (beside, (us, (x, (vs, st)))))) = stored in
+          (l, still_there w old mid heir (heir_stored stored) still, (reach, (beside, (us, (x, (_, (_, both_still l reach beside us x vs st mid still)))))))
+
+      pub heir_unlinks : (new : Links (Data X S B)) (at : Option (ℕ × Side)) (red : Bool) → StoresItem w old id → UnlinksBefore w mid new heir id at red → Unlinks w old new id at red
+      unfolding StoresItem UnlinksBefore Unlinks
+      heir_unlinks new at red (l, some_item) unlinks = λ reach beside us x vs st.
+          subst (λ vs2. Unlinked w.weaving (w.within reach) w.is_item w.is_value beside new.nodes.live new.root at red id (us ++ vs2)) (sym (next l reach beside us x vs st).1.1)
+          (unlinks reach beside us x _ _ (both_still l reach beside us x vs st mid still))
+
+pub ruleset unlinking = (still_stored, still_there, still_unlinks, hangs_right, heir_child, heir_stored, both_stored, heir_unlinks)
+
+-- a leaf takes the place of the node before it
+module _ {W X S B K : Type 0} (w : Ghosts W X S B K) (old : Links (Data X S B)) (id heir : ℕ) where
+  pub heir_place : (at : Option (ℕ × Side)) → StoresBoth w old id heir → AtSpot old.nodes.live old.root heir (λ s. at ≡ place_of s.hole) → LivesAt old.nodes at
+  unfolding StoresBoth LivesAt
+  heir_place at (l, (s, made), some) placed = rw (placed s made) (at_place old.nodes.live old.root s heir made)
+
+  module _ (leaf : NoChild old.nodes.live heir) where
+    module _ (l : LawsOf w) (reach : B) (beside : Tree (Data X S B)) (us : List (ℕ × X)) (x y : X) (vs : List (ℕ × X)) (st : StoresBeside w old reach beside (us ++ (id, x) ∷ (heir, y) ∷ vs)) where
+      -- the leaf, in the first place right below the node
+      low : Heired w.weaving l.laws (w.within reach) w.is_item w.is_sum w.is_value l.sums l.parts l.thins beside old.nodes.live old.root id heir us x y vs
+      low = heired w.weaving l.laws (w.within reach) w.is_item w.is_sum w.is_value l.sums l.parts l.thins beside old.nodes.live old.root id heir us x y vs leaf st
+
+      heir_woven : WovenSpot w.weaving w.is_near old.nodes.live old.root heir (heir_spot low)
+      heir_woven = let deep = low.low in (low.made, woven_wider w.weaving (w.within reach) w.is_near (l.within_near reach) w.weaving.still _ low.woven, omega (arith, deep))
+
+      id_woven_there : WovenSpot w.weaving w.is_near old.nodes.live old.root id (id_spot low)
+      id_woven_there = let deep = id_low low in (id_made low, woven_wider w.weaving (w.within reach) w.is_near (l.within_near reach) w.weaving.still _ (id_woven low), omega (arith, deep))
+
+      value_there : w.is_item y
+      value_there = (items_right w.weaving l.laws (w.within reach) w.is_item w.is_sum w.is_value l.sums l.parts us ((id, x) ∷ (heir, y) ∷ vs) st.1.0).1.0
+
+    pub upper_there : (mid : Links (Data X S B)) (at : Option (ℕ × Side)) → StoresBoth w old id heir → AtSpot old.nodes.live old.root heir (λ s. at ≡ place_of s.hole) → mid.nodes.live ≡ hung old.nodes.live at None
+        → mid.root ≡ root_hung old.root at None → IsThere mid id
+    unfolding StoresBoth IsThere
+    upper_there mid at (l, stands, (reach, (beside, (us, (x, (y, (vs, st))))))) placed e1 er =
+        let h = low l reach beside us x y vs st in let there = placed (heir_spot h) h.made in
+        (bare_spot h mid.nodes.live mid.root at there e1 er, bare_made h mid.nodes.live mid.root at there e1 er)
+
+    pub heir_valued : StoresBoth w old id heir → StandsValued w old heir
+    unfolding StoresBoth StandsValued
+    heir_valued (l, stands, (reach, (beside, (us, (x, (y, (vs, st))))))) =
+        let h = low l reach beside us x y vs st in (l, (heir_spot h, heir_woven l reach beside us x y vs st, subst w.is_item h.value (value_there l reach beside us x y vs st)))
+
+    pub upper_woven : StoresBoth w old id heir → StandsWoven w old id
+    unfolding StoresBoth StandsWoven
+    upper_woven (l, stands, (reach, (beside, (us, (x, (y, (vs, st))))))) = (l, (id_spot (low l reach beside us x y vs st), id_woven_there l reach beside us x y vs st))
+
+    module _ (item : X) (is : IsShown w old heir item) where
+      pub heir_value : StoresBoth w old id heir → w.is_item item
+      unfolding StoresBoth IsShown
+      heir_value (l, stands, (reach, (beside, (us, (x, (y, (vs, st))))))) =
+          let h = low l reach beside us x y vs st in
+          subst w.is_item (sym (is (heir_spot h) (heir_woven l reach beside us x y vs st) ∙ sym h.value)) (value_there l reach beside us x y vs st)
+
+      -- it leaves its place, and stands in that of the node
+      module _ (own : X) (kept : IsKept w old id item own) (mid new : Links (Data X S B)) (at : Option (ℕ × Side)) (placed : AtSpot old.nodes.live old.root heir (λ s. at ≡ place_of s.hole))
+          (e1 : mid.nodes.live ≡ hung old.nodes.live at None) (er : mid.root ≡ root_hung old.root at None) (upper : Slot (Data X S B)) (found : map.get mid.nodes.live id ≡ Some upper) (datum : Data X S B)
+          (d1 : datum.item ≡ own) (d2 : datum.delta ≡ upper.«data».delta) (d3 : datum.before ≡ upper.«data».before) (d4 : datum.whole ≡ upper.«data».whole) (inherits : Inherits mid new id heir datum) where
+        module _ (l : LawsOf w) (reach : B) (beside : Tree (Data X S B)) (us : List (ℕ × X)) (x y : X) (vs : List (ℕ × X)) (st : StoresBeside w old reach beside (us ++ (id, x) ∷ (heir, y) ∷ vs)) where
+          abbrev h : Heired w.weaving l.laws (w.within reach) w.is_item w.is_sum w.is_value l.sums l.parts l.thins beside old.nodes.live old.root id heir us x y vs
+          h = low l reach beside us x y vs st
+
+          there : at ≡ place_of (heir_spot h).hole
+          there = placed (heir_spot h) h.made
+
+          own_is : w.weaving.shift (shift_at w.weaving h.hole) own ≡ y
+          unfolding IsKept IsShown
+          own_is = kept (id_spot h) (id_woven_there l reach beside us x y vs st) ∙ is (heir_spot h) (heir_woven l reach beside us x y vs st) ∙ sym h.value
+
+          made_new : Made beside new.nodes.live new.root (plug h.hole (fork h.red heir (with_item h.datum own) h.left h.right))
+          unfolding Inherits
+          made_new =
+              let m1 = mid.nodes.live in let root1 = mid.root in let bare = bare_made h m1 root1 at there e1 er in let spot = bare_spot h m1 root1 at there e1 er in
+              let same : upper.«data» ≡ h.datum = ap (λ n. n.«data») (upper_is m1 root1 spot id bare Left upper found) in
+              let datum_is : datum ≡ with_item h.datum own = (λ i. record { item = d1 i; delta = d2 i; before = d3 i; whole = d4 i }) ∙ ap (λ d. with_item d own) same in
+              subst (λ d. Made beside new.nodes.live new.root (plug h.hole (fork h.red heir d h.left h.right))) datum_is (inherits spot bare (bare_fresh h m1 root1 at there e1 er))
+
+          abbrev spot_new : Spot (Data X S B)
+          spot_new = new_spot h mid.nodes.live mid.root at there e1 er own own_is new.nodes.live new.root made_new
+
+          starts_new : (slot : Slot (Data X S B)) → map.get new.nodes.live heir ≡ Some slot
+              → StartsAt beside new.nodes.live new.root (Some (heir, Right)) slot.right h.right (on Right h.red heir (with_item h.datum own) h.left h.hole)
+          starts_new slot read =
+              starts h mid.nodes.live mid.root at there e1 er own own_is new.nodes.live new.root made_new slot.right
+              (ap (λ q. q.right) (upper_is new.nodes.live new.root spot_new heir made_new Left slot read))
+
+        pub heir_lives : StoresBoth w old id heir → Lives new.nodes heir
+        unfolding StoresBoth Lives
+        heir_lives (l, stands, (reach, (beside, (us, (x, (y, (vs, st))))))) =
+            (_, slot_here new.nodes.live new.root (spot_new l reach beside us x y vs st) heir (made_new l reach beside us x y vs st))
+
+        -- the same tree, by its nodes and its topmost one
+        module _ (slot : Slot (Data X S B)) (read : map.get new.nodes.live heir ≡ Some slot) (again : Links (Data X S B)) (m_same : again.nodes.live ≡ new.nodes.live) (root_same : again.root ≡ new.root) where
+          pub heir_hangs : StoresBoth w old id heir → HangsAt again (Some (heir, Right)) slot.right
+          unfolding StoresBoth HangsAt
+          heir_hangs (l, stands, (reach, (beside, (us, (x, (y, (vs, st))))))) =
+              let q = low l reach beside us x y vs st in
+              (beside, (q.right, (on Right q.red heir (with_item q.datum own) q.left q.hole, rw (m_same, root_same) (starts_new l reach beside us x y vs st slot read))))
+
+          pub heir_inherits : (leaf_slot : Slot (Data X S B)) (red : Bool) (gap : Option (ℕ × Side)) → StoresBoth w old id heir → map.get old.nodes.live heir ≡ Some leaf_slot → red ≡ leaf_slot.red
+              → IsEnd again (Some (heir, Right)) slot.right Left gap → UnlinksBefore w old again heir id gap red
+          unfolding StoresBoth IsEnd UnlinksBefore
+          heir_inherits leaf_slot red gap (l, stands, some) found_leaf is_red ends = λ reach beside us x y vs st.
+              let q = low l reach beside us x y vs st in
+              let red_is = is_red ∙ ap (λ n. n.red) (upper_is old.nodes.live old.root (heir_spot q) heir q.made Left leaf_slot found_leaf) in
+              let starts2 : StartsAt beside again.nodes.live again.root (Some (heir, Right)) slot.right q.right (on Right q.red heir (with_item q.datum own) q.left q.hole)
+              = rw (m_same, root_same) (starts_new l reach beside us x y vs st slot read) in
+              let at_gap = ends beside q.right (on Right q.red heir (with_item q.datum own) q.left q.hole) starts2 in
+              rw (m_same, root_same) (gap_unlinked q mid.nodes.live mid.root at (there l reach beside us x y vs st) e1 er own (own_is l reach beside us x y vs st) new.nodes.live new.root (made_new l reach beside us x y vs st)
+              st gap at_gap red red_is)
+
+pub ruleset cutting = (heir_place, upper_there, leaf_lives)
+
+pub ruleset inheriting = (heir_valued, upper_woven, heir_value, heir_lives, heir_hangs, heir_inherits)

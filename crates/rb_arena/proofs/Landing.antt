@@ -96,9 +96,6 @@ module _ {X S B : Type 0} (w : Weaving X S B) (L : Lawful w) where
   pub others_are : (a b : ℕ × X) (as_ bs : List (ℕ × X)) → a ∷ as_ ≡ b ∷ bs → as_ ≡ bs
   others_are a b as_ bs e = ap others e
 
-  pub not_empty : (b : ℕ × X) (bs : List (ℕ × X)) → [] ≡ b ∷ bs → ⊥
-  not_empty b bs e = none-some b (ap front_of e)
-
   module _ (is_item : X → Type 0) where
     pub put_items : (items : List (ℕ × X)) (id : Option ℕ) (at : PlaceAfter items id) (e : ℕ × X) → is_item e.1 → AllItems w is_item items → AllItems w is_item (put_at items id at e)
     put_items items None at e h all = (h, all)

@@ -21,13 +21,15 @@ use Rattle.rb_rules.proofs.Climbs.{slack_of}
 use Rattle.rb_rules.proofs.Colouring as C
 use Rattle.rb_rules.proofs.Detaching.{spliced, gone}
 use Rattle.rb_rules.proofs.Holes.{forked-other}
-use Rattle.rb_rules.proofs.Live.{here_forked, slot_here}
+use Rattle.rb_rules.proofs.Live.{here_forked, slot_here, live_hung}
 use Rattle.rb_rules.proofs.Shapes.{same_items, each-forked}
-use Rattle.rb_rules.proofs.Spots.{upper_is}
+use Rattle.rb_rules.proofs.Spots.{upper_is, at_place}
 use Rattle.rb_rules.proofs.Unshaping as U
 use Rattle.rb_rules.proofs.Weaves.{sum-append, woven_at, near_of, entries-plug}
 use Rattle.rb_arena.specs.Closing.{Closing}
-use Rattle.rb_arena.specs.Leaving.{leaf_height, Emptied, Unlinked, NoChild, OneChild, StillLists, Stores, StoresItem}
+use Rattle.rb_arena.specs.Leaving.{leaf_height, Emptied, Unlinked, Unlinks, NoChild, OneChild, StillLists, Stores, StoresItem}
+use Rattle.rb_arena.specs.Nodes.{Lives, LivesAt}
+use Rattle.rb_arena.specs.Placing.{IsThere}
 use Rattle.rb_arena.specs.Relative.{CanTurnNode, Turns}
 use Rattle.rb_arena.specs.Rising.{Mended}
 use Rattle.rb_arena.specs.declared.links.Links.{Links}
@@ -298,9 +300,11 @@ module _ {X S B : Type 0} (w : Weaving X S B) (L : Lawful w) (is_near : B → Ty
 module _ {W X S B K : Type 0} (w : Ghosts W X S B K) (old : Links (Data X S B)) (id : ℕ) (slot : Slot (Data X S B)) (read : map.get old.nodes.live id ≡ Some slot) where
   turns_down : (side : Side) → StoresItem w old id → is_some (child side slot) ≡ true → CanTurnNode w old id side
   unfolding StoresItem CanTurnNode
-  turns_down side (l, (reach, (beside, (us, (x, (vs, st)))))) some =
-      can_turn_wider w.weaving (w.within reach) w.is_near (l.within_near reach) w.is_item w.is_value old.nodes.live old.root id side
-      (can_turn_there w.weaving l.laws (w.within reach) w.is_item w.is_sum w.is_value l.sums l.parts l.thins beside old.nodes.live old.root id us x vs st slot read side some)
+  turns_down side (l, (reach, (beside, (us, (x, (vs, st)))))) some = (
+    l,
+    can_turn_wider w.weaving (w.within reach) w.is_near (l.within_near reach) w.is_item w.is_value old.nodes.live old.root id side
+        (can_turn_there w.weaving l.laws (w.within reach) w.is_item w.is_sum w.is_value l.sums l.parts l.thins beside old.nodes.live old.root id us x vs st slot read side some),
+  )
 
   pub turns_left : StoresItem w old id → is_some slot.left ≡ true → CanTurnNode w old id Left
   turns_left = turns_down Left
@@ -342,3 +346,32 @@ unfolding StillLists
 lists_still w old new id same top_ = λ reach beside us x vs st. rw (same, top_) st.0
 
 pub ruleset to_leaf = (turns_left, turns_right, leaf_left, leaf_right, leaf_still, lists_left, lists_right, lists_still)
+
+-- the node of an item that a tree stores
+pub stored_there : {W X S B K : Type 0} (w : Ghosts W X S B K) (tree : Links (Data X S B)) (id : ℕ) → StoresItem w tree id → IsThere tree id
+unfolding StoresItem IsThere
+stored_there w tree id (l, (reach, (beside, (us, (x, (vs, st)))))) =
+    let m = tree.nodes.live in let root = tree.root in
+    let found = spotted w.weaving l.laws (w.within reach) w.is_item w.is_sum w.is_value l.sums l.parts l.thins beside m root id us x vs st in
+    (lying beside found.spot, found.made)
+
+-- the node above its place is live
+pub lives_above : {W X S B K : Type 0} (w : Ghosts W X S B K) (tree : Links (Data X S B)) (id : ℕ) (at : Option (ℕ × Side)) → StoresItem w tree id → AtSpot tree.nodes.live tree.root id (λ s. at ≡ place_of s.hole) → LivesAt tree.nodes at
+unfolding IsThere LivesAt
+lives_above w tree id at stored placed = let (s, made) = stored_there w tree id stored in rw (placed s made) (at_place tree.nodes.live tree.root s id made)
+
+-- a leaf hangs there no more
+pub leaf_unlinks : {W X S B K : Type 0} (w : Ghosts W X S B K) (old new : Links (Data X S B)) (id : ℕ) (at : Option (ℕ × Side)) (slot : Slot (Data X S B)) (red : Bool) → StoresItem w old id → NoChild old.nodes.live id
+    → map.get old.nodes.live id ≡ Some slot → red ≡ slot.red → AtSpot old.nodes.live old.root id (λ s. at ≡ place_of s.hole) → new.nodes.live ≡ hung old.nodes.live at None → new.root ≡ root_hung old.root at None
+    → Unlinks w old new id at red
+unfolding StoresItem Unlinks
+leaf_unlinks w old new id at slot red (l, some) none found is placed live_ top_ = λ reach beside us x vs st.
+    rw is (leaf_gone w.weaving l.laws (w.within reach) w.is_item w.is_sum w.is_value l.sums l.parts l.thins beside old.nodes.live old.root id us x vs none st slot found
+    at at placed refl new.nodes.live new.root live_ top_)
+
+-- and its node is still live
+pub leaf_lives : {X S B : Type 0} (old new : Links (Data X S B)) (id : ℕ) (at : Option (ℕ × Side)) → NoChild old.nodes.live id → new.nodes.live ≡ hung old.nodes.live at None → Lives new.nodes id
+unfolding NoChild Lives
+leaf_lives old new id at (n, found, none, none2) live_ = rw live_ (live_hung old.nodes.live at None id (n, found))
+
+pub ruleset leaf_out = (leaf_unlinks, leaf_lives)

@@ -14,13 +14,15 @@ pub mod Listing
 pub mod Locating
 pub mod Moving
 pub mod Paths
+pub mod Renewing
 pub mod Searches
+pub mod Seeing
 pub mod Setting
 pub mod Shifting
 pub mod Slots
 pub mod Splitting
 pub mod Steps
 pub mod TakingOut
-pub mod Turns
+pub mod Turning
 pub mod Walks
 pub mod OwnNames

@@ -118,6 +118,7 @@ module _ {X S B : Type 0} (w : Weaving X S B) where
       ∙ last_of_right (above k) i (w.shift (shift_at w k) d.item) (entries w (shift_at w k) x) (entries w (w.plus (shift_at w k) d.delta) y)
 
   pub above_end : (side : Side) (t : Tree (Data X S B)) → above (end_hole side top t) ≡ name_at_end side (entries w w.still t)
+  unfolding name_at_end
   above_end Left t = above_first top t
   above_end Right t = above_last top t
 

@@ -22,7 +22,7 @@ use Rattle.rb_rules.specs.declared.weave.Weave.{Ghosts}
 use Rattle.rb_arena.specs.declared.links.Links.{Links}
 use Rattle.rb_arena.specs.Leaving.{Stores, StoresWithin}
 use Rattle.rb_arena.specs.Placing.{above_place}
-use Rattle.rb_arena.specs.Relative.{LawsOf, RenewsFrom}
+use Rattle.rb_arena.specs.Relative.{IsSlackFrom, LawsOf, RenewsFrom}
 use Rattle.rb_arena.specs.Rising.{Mended}
 use Rattle.rb_arena.specs.Shifting.{CanLevel, CanLevelAt, CanShift, CanShiftAll, CanShiftFrom, CanShiftUp, FindsReach, Levels, Reaches, ShiftsAll, ShiftsUp}
 use Rattle.rb_arena.proofs.Growing.{not_high, length-entries}
@@ -133,16 +133,21 @@ module _ {W X S B K : Type 0} (w : Ghosts W X S B K) (old : Links (Data X S B)) 
     -- the items after an empty hole may move
     pub can_shift_all : CanShiftAll w old at by
     unfolding CanShiftAll
-    can_shift_all = (l, λ mid parent shifts is. (reach, (beside, (_, slack_shifted mid parent shifts is))), (from, (reach, (beside, (k, wide, can)))))
+    can_shift_all = (l, (from, (reach, (beside, (k, wide, can)))))
 
   pub can_shift_up : CanShiftAll w old at by → CanShiftUp w old at by
   unfolding CanShiftAll CanShiftUp
-  can_shift_up (l, slack, (from, (reach, (beside, (k, wide, can))))) = (beside, (tip, (k, may_shift l from reach beside k wide can)))
+  can_shift_up (l, (from, (reach, (beside, (k, wide, can))))) = (l, (beside, (tip, (k, may_shift l from reach beside k wide can))))
+
+  -- the sums above the place may be renewed then
+  pub shifted_slack : (mid : Links (Data X S B)) (parent : Option ℕ) → CanShiftAll w old at by → ShiftsUp w old mid at by → parent ≡ above_place at → IsSlackFrom w mid parent 128
+  unfolding CanShiftAll IsSlackFrom
+  shifted_slack mid parent (l, (from, (reach, (beside, (k, wide, can))))) shifts is = (reach, (beside, (_, slack_shifted l from reach beside k wide can mid parent shifts is)))
 
   pub shifted_all : (mid new : Links (Data X S B)) (parent : Option ℕ) → CanShiftAll w old at by → ShiftsUp w old mid at by → RenewsFrom w mid new parent 128 → parent ≡ above_place at → ShiftsAll w old new at by
-  unfolding CanShiftAll ShiftsAll
-  shifted_all mid new parent (l, slack, some) shifts renews is = λ from reach beside k wide can.
+  unfolding CanShiftAll RenewsFrom ShiftsAll
+  shifted_all mid new parent (l, some) shifts renews is = λ from reach beside k wide can.
       mended_after w.weaving l.laws w.is_near w.is_item w.is_sum w.is_value l.sums l.parts w.within w.widened l.within_near l.widens from reach by wide beside k old.nodes.live old.root at can
       new.nodes.live new.root (renews reach beside _ (slack_shifted l from reach beside k wide can mid parent shifts is))
 
-pub ruleset shifting = (can_shift_up, shifted_all)
+pub ruleset shifting = (can_shift_up, shifted_slack, shifted_all)

@@ -9,13 +9,13 @@ use Rattle.rb_rules.specs.declared.weave.Weave.{Ghosts}
 use Rattle.rb_rules.specs.Tree.{Tree, fork, Hole, on, plug, depth}
 use Rattle.rb_rules.specs.Colours.{Rb, Balanced}
 use Rattle.rb_rules.specs.Memory.{Made, Spot, here}
-use Rattle.rb_rules.specs.Weaving.{Weaving, Lawful, Sums, HeldItem, HeldBy}
+use Rattle.rb_rules.specs.Weaving.{Weaving, Lawful, Sums}
 use Rattle.rb_rules.specs.Woven.{entries, sum_of, Woven, AllItems, Valued, lefts, rights, shift_at}
 use Rattle.rb_rules.specs.Sound.{IsSlack, RenewedFrom}
 use Rattle.rb_rules.proofs.Climbs.{slack_of}
 use Rattle.rb_rules.proofs.Colouring as C
 use Rattle.rb_rules.proofs.Shapes.{same_items, same_colours}
-use Rattle.rb_rules.proofs.Weaves.{woven_at, near_of, entries-plug}
+use Rattle.rb_rules.proofs.Weaves.{woven_at, entries-plug}
 use Rattle.rb_arena.specs.declared.links.Links.{Links}
 use Rattle.rb_arena.specs.Leaving.{shown}
 use Rattle.rb_arena.specs.Rising.{Mended}
@@ -40,33 +40,6 @@ module _ {X S B : Type 0} (w : Weaving X S B) (L : Lawful w) (is_near : B → Ty
   module _ (s : Spot (Data X S B)) (id : ℕ) (wv : Woven w is_near w.still (plug s.hole (here s id))) (x : X) where
     woven_here : Woven w is_near (shift_at w s.hole) (here s id)
     woven_here = woven_at w L is_near s.hole (here s id) wv
-
-    near : is_near (shift_at w s.hole)
-    near = near_of w L is_near (shift_at w s.hole) (here s id) woven_here
-
-    back : w.shift (shift_at w s.hole) (w.shift (w.minus w.still (shift_at w s.hole)) x) ≡ x
-    back = sym (L.shift_plus _ _ x) ∙ ap (λ b. w.shift b x) (L.plus_minus w.still (shift_at w s.hole)) ∙ L.shift_still x
-
-    held_back : HeldBy w is_near (w.minus w.still (shift_at w s.hole))
-    held_back = (shift_at w s.hole, near, subst is_near (sym (L.plus_minus w.still (shift_at w s.hole))) (near_of w L is_near w.still (plug s.hole (here s id)) wv))
-
-    held_x : is_item x → HeldItem w is_near is_item (w.shift (w.minus w.still (shift_at w s.hole)) x)
-    held_x h = (shift_at w s.hole, near, subst is_item (sym back) h)
-
-    -- the item for the spot, by the shift back along its path
-    module _ (still by : B) (is_still : still ≡ w.still) (is_by : by ≡ shift_at w s.hole) where
-      pub can_go_back : HeldBy w is_near (w.minus still by)
-      can_go_back = subst (HeldBy w is_near) (sym (λ i. w.minus (is_still i) (is_by i))) held_back
-
-      module _ (back_by : B) (is_back : back_by ≡ w.minus still by) where
-        back_is : back_by ≡ w.minus w.still (shift_at w s.hole)
-        back_is = is_back ∙ (λ i. w.minus (is_still i) (is_by i))
-
-        pub can_store : is_item x → HeldItem w is_near is_item (w.shift back_by x)
-        can_store h = subst (λ b. HeldItem w is_near is_item (w.shift b x)) (sym back_is) (held_x h)
-
-        pub stored : (own : X) → own ≡ w.shift back_by x → w.shift (shift_at w s.hole) own ≡ x
-        stored own is = ap (w.shift (shift_at w s.hole)) (is ∙ ap (λ b. w.shift b x) back_is) ∙ back
 
     module _ (own : X) (is : w.shift (shift_at w s.hole) own ≡ x) (us vs : List (ℕ × X)) (l : us ≡ lefts w s.hole ++ entries w (shift_at w s.hole) s.left) (r : vs ≡ entries w (w.plus (shift_at w s.hole) s.datum.delta) s.right ++ rights w s.hole) where
       list_is : entries w w.still (plug s.hole (fork s.red id (with_item s.datum own) s.left s.right)) ≡ us ++ (id, x) ∷ vs

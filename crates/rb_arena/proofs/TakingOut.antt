@@ -17,12 +17,13 @@ use Rattle.rb_rules.proofs.Detaching.{forgotten}
 use Rattle.rb_rules.proofs.Live.{len_insert, len_adopted, live_adopted, live_root}
 use Rattle.rb_rules.proofs.Wider.{woven_wider}
 use Rattle.rb_arena.specs.declared.links.Links.{Links}
-use Rattle.rb_arena.specs.Leaving.{Emptied, Unlinked, WovenSpot, AtWoven, shown, loosened, StoresBeside, StoresItem, StoresItemBeside, StandsValued, IsEmptied, Settles, Leaves, Loosens, Unlinks}
-use Rattle.rb_arena.specs.Nodes.{strung}
+use Rattle.rb_arena.specs.Leaving.{Emptied, Unlinked, WovenSpot, IsShown, shown, loosened, StoresBeside, StoresItem, StoresItemBeside, StandsValued, IsEmptied, Settles, Leaves, Loosens, Unlinks}
+use Rattle.rb_arena.specs.Nodes.{strung, Lives}
+use Rattle.rb_arena.specs.Placing.{IsThere}
 use Rattle.rb_arena.specs.Rising.{MendedBeside}
 use Rattle.rb_arena.proofs.Emptying.{emptied_at}
 use Rattle.rb_arena.proofs.Growing.{depth_height, length-entries, not_high}
-use Rattle.rb_arena.proofs.Leaving.{some_left}
+use Rattle.rb_arena.proofs.Leaving.{some_left, stored_there}
 use Rattle.rb_arena.proofs.Locating.{lying, locate_in}
 
 -- a node that is taken out leaves one less
@@ -31,9 +32,11 @@ len_taken m m2 id x new is =
     let some = some_left m id x is in let fewer : map.len m2 ≡ map.len m - 1 = ap map.len new ∙ map.len-remove nat_cmp_total m id ∙ rw is refl in omega (arith, some, fewer)
 
 -- a live node that comes before a chain leaves as many
-pub len_strung : {D : Type 0} (m m2 : map.FinMap nat_cmp (Slot D)) (id : ℕ) (front : Option ℕ) (datum : D) (slot : Slot D) → m2 ≡ strung m id front datum → map.get m id ≡ Some slot → map.len m2 ≡ map.len m
-len_strung m m2 id front datum slot new is =
-    ap map.len new ∙ len_insert (adopted m front (Some id)) id _ (live_adopted m front (Some id) id (slot, is)) ∙ len_adopted m front (Some id)
+pub len_strung : {X S B : Type 0} (mid : Links (Data X S B)) (m2 : map.FinMap nat_cmp (Slot (Data X S B))) (id : ℕ) (front : Option ℕ) (datum : Data X S B) → m2 ≡ strung mid.nodes.live id front datum → Lives mid.nodes id → map.len m2 ≡ map.len mid.nodes.live
+unfolding Lives
+len_strung mid m2 id front datum new lives =
+    let m = mid.nodes.live in
+    ap map.len new ∙ len_insert (adopted m front (Some id)) id _ (live_adopted m front (Some id) id lives) ∙ len_adopted m front (Some id)
 
 module _ {W X S B K : Type 0} (w : Ghosts W X S B K) where
   item_value : (us : List (ℕ × X)) (e : ℕ × X) (vs : List (ℕ × X)) → AllItems w.weaving w.is_item (us ++ e ∷ vs) → w.is_item e.1
@@ -90,9 +93,9 @@ module _ {W X S B K : Type 0} (w : Ghosts W X S B K) where
             let (k, list, empty) = loose reach beside (us ++ vs) first (unlinked reach beside us x vs st) in emptied_at w bare at red l reach (fork false id datum tip beside) k empty
 
         pub left_loose : (new : Links (Data X S B)) (item : X) → StoresItemBeside w old id front → Unlinks w old mid id at red → Settles w bare new at red
-            → AtWoven w old id (λ s. item ≡ shown w.weaving s s.datum.item) → datum.item ≡ item → datum.delta ≡ w.weaving.still → datum.before ≡ w.weaving.none → datum.whole ≡ w.weaving.none
+            → IsShown w old id item → datum.item ≡ item → datum.delta ≡ w.weaving.still → datum.before ≡ w.weaving.none → datum.whole ≡ w.weaving.none
             → Loosens w old new id front
-        unfolding StoresItemBeside Unlinks Settles Loosens
+        unfolding StoresItemBeside Unlinks Settles Loosens IsShown
         left_loose new item (l, some) unlinked settled is e1 e2 e3 e4 = λ reach beside us x vs st first.
             let (k, list, empty) = loose reach beside (us ++ vs) first (unlinked reach beside us x vs st) in
             let (s, there, value) = spot_stored l.within_near old reach beside us id x vs st in
@@ -104,12 +107,15 @@ module _ {W X S B K : Type 0} (w : Ghosts W X S B K) where
   pub loose_valued : (tree : Links (Data X S B)) (id : ℕ) (front : Option ℕ) → StoresItemBeside w tree id front → StandsValued w tree id
   unfolding StoresItemBeside StandsValued
   loose_valued tree id front (l, (reach, (beside, (us, (x, (vs, st, first)))))) =
-      let (s, there, value) = spot_stored l.within_near tree reach beside us id x vs st in (s, there, subst w.is_item value (item_value us (id, x) vs st.1.0))
+      let (s, there, value) = spot_stored l.within_near tree reach beside us id x vs st in (l, (s, there, subst w.is_item value (item_value us (id, x) vs st.1.0)))
 
   pub loose_stored : (tree : Links (Data X S B)) (id : ℕ) (front : Option ℕ) → StoresItemBeside w tree id front → StoresItem w tree id
   unfolding StoresItemBeside StoresItem
   loose_stored tree id front (l, (reach, (beside, (us, (x, (vs, st, first)))))) = (l, (reach, (beside, (us, (x, (vs, st))))))
 
-pub ruleset taking_out = (len_taken, emptied_taken, left_taken)
+  pub loose_there : (tree : Links (Data X S B)) (id : ℕ) (front : Option ℕ) → StoresItemBeside w tree id front → IsThere tree id
+  loose_there tree id front stored = stored_there w tree id (loose_stored tree id front stored)
 
-pub ruleset loosening = (len_strung, loose_valued, loose_stored, front_lives, emptied_loose, left_loose)
+pub ruleset taking_out = (len_taken, stored_there, emptied_taken, left_taken)
+
+pub ruleset loosening = (len_strung, loose_there, loose_valued, loose_stored, front_lives, emptied_loose, left_loose)

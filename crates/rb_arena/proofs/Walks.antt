@@ -18,8 +18,8 @@ use Rattle.rb_rules.proofs.Spots.{upper_is}
 use Rattle.rb_rules.specs.declared.slot.Side.TheVariants.{Left, Right}
 use Rattle.rb_rules.proofs.Memories.{opened}
 use Rattle.rb_arena.specs.declared.links.Links.{Links}
-use Rattle.rb_arena.specs.Ends.{HangsAt, IsEnd, NearsEnd, StandsAbove, LowAt, StandsLow, IsAboveOn, IsBeside, NearsAbove}
-use Rattle.rb_arena.specs.Placing.{above_place, StartsAt}
+use Rattle.rb_arena.specs.Ends.{HangsAt, IsEnd, HangsPast, IsFirstPast, NearsEnd, StandsAbove, LowAt, StandsLow, IsAboveOn, IsBeside, NearsAbove}
+use Rattle.rb_arena.specs.Placing.{above_place, right_of, StartsAt, HangsAfter}
 use Rattle.rb_arena.specs.Value.{end_hole, up_on}
 use Rattle.rb_arena.proofs.Growing.{forked_here, height-forked, height-below, end_fork, up_past, sides_differ, same_side, hole_depth, no_height, no_root, neighbour_none, neighbour_some}
 use Rattle.rb_arena.proofs.Paths.{above-place}
@@ -177,6 +177,36 @@ module _ {D : Type 0} (tree : Links D) where
         let starts = starts_beside s slot under low read is in
         let some_below = λ (none : root_of (below side s) ≡ None). none-some i (sym none ∙ sym starts.1 ∙ some) in
         is_above ∙ ap above_place (end s.beside (below side s) (hole_beside s) starts) ∙ above-place (end_hole (other side) (hole_beside s) (below side s)) ∙ sym (neighbour_some side id s some_below)
+
+  -- the place right after a node, or before all nodes
+  module _ (id : Option ℕ) where
+    pub past_top : id ≡ None → HangsPast tree id → HangsAt tree None tree.root
+    unfolding HangsPast HangsAt
+    past_top none (stands, (beside, (t, (k, ((e, made), le))))) =
+        let is = hole_top k (sym e ∙ ap right_of none) in let same = subst (λ q. Made beside tree.nodes.live tree.root (plug q t)) is made in
+        (beside, (t, (top, ((refl, same), same.from, le))))
+
+    pub first_top : (at : Option (ℕ × Side)) → id ≡ None → IsEnd tree None tree.root Left at → IsFirstPast tree id at
+    unfolding IsEnd IsFirstPast
+    first_top at none end = λ beside t k ((e, made), le).
+        let is = hole_top k (sym e ∙ ap right_of none) in let same = subst (λ q. Made beside tree.nodes.live tree.root (plug q t)) is made in
+        end beside t k ((sym (ap right_of none) ∙ e, made), same.from, le)
+
+    module _ (i : ℕ) (slot : Slot D) (some : id ≡ Some i) (read : node tree.nodes i ≡ Some slot) where
+      starts_past : (beside t : Tree D) (k : Hole D) → HangsAfter beside tree.nodes.live tree.root id t k → StartsAt beside tree.nodes.live tree.root (Some (i, Right)) slot.right t k
+      starts_past beside t k ((e, made), le) =
+          let there = sym e ∙ ap right_of some in let u = upper_at tree.nodes.live tree.root k t made there in
+          ((sym there, made), ap (λ n. n.right) (upper_is tree.nodes.live tree.root u.spot i u.made Left slot read) ∙ ap root_of u.below_is, le)
+
+      pub past_node : HangsPast tree id → HangsAt tree (Some (i, Right)) slot.right
+      unfolding HangsPast HangsAt
+      past_node (stands, (beside, (t, (k, hangs)))) = (beside, (t, (k, starts_past beside t k hangs)))
+
+      pub first_past : (at : Option (ℕ × Side)) → IsEnd tree (Some (i, Right)) slot.right Left at → IsFirstPast tree id at
+      unfolding IsEnd IsFirstPast
+      first_past at end = λ beside t k hangs. end beside t k (starts_past beside t k hangs)
+
+  pub ruleset past = (past_top, first_top, past_node, first_past)
 
   pub ruleset to_end = (nears_end_first, nears_end_next, end_none, end_over, first_lives, next_lives)
 

@@ -4,8 +4,8 @@ use Rattle.rb_rules.specs.declared.slot.Side.{Side}
 use Rattle.rb_rules.specs.Tree.{Tree, Hole, plug, root_of, depth, height}
 use Rattle.rb_rules.specs.Memory.{Made, Spot, here, Stands, place_of}
 use Rattle.rb_arena.specs.declared.links.Links.{Links}
-use Rattle.rb_arena.specs.Placing.{HoleAt, StartsAt, Hangs, WhereHangs}
-use Rattle.rb_arena.specs.Value.{end_hole, up_on, neighbour_of}
+use Rattle.rb_arena.specs.Placing.{HoleAt, StartsAt, Hangs, WhereHangs, HangsRight, WhereHangsRight}
+use Rattle.rb_arena.specs.Value.{first_hole, end_hole, up_on, neighbour_of}
 
 module _ {D : Type 0} (tree : Links D) where
   -- a subtree of that name hangs at that place
@@ -15,6 +15,14 @@ module _ {D : Type 0} (tree : Links D) where
   -- the place is the last one on that side of the subtree that hangs there
   unfoldable pub IsEnd : Option (ℕ × Side) → Option ℕ → Side → Option (ℕ × Side) → Type 0
   IsEnd from below side at = WhereHangs tree from below (λ t k. at ≡ place_of (end_hole side k t))
+
+  -- a subtree hangs on the right of the node of that name, which stands in the tree, or at the top where none is named
+  unfoldable pub HangsPast : Option ℕ → Type 0
+  HangsPast id = IfSome id (λ i. Stands tree.nodes.live tree.root i) × HangsRight tree id
+
+  -- the place is the first one of it
+  unfoldable pub IsFirstPast : Option ℕ → Option (ℕ × Side) → Type 0
+  IsFirstPast id at = WhereHangsRight tree id (λ t k. at ≡ place_of (first_hole k t))
 
   -- a walk to that end has come to a place, where a subtree hangs that is no higher than n nodes
   unfoldable pub NearsEnd : Option (ℕ × Side) → Option ℕ → Side → Option (ℕ × Side) → Option ℕ → ℕ → Type 0

@@ -8,13 +8,12 @@ use Rattle.rb_rules.specs.declared.slot.Slot.{Slot}
 use Rattle.rb_rules.specs.declared.weave.Weave.{Ghosts}
 use Rattle.rb_rules.specs.Tree.{Tree, Hole, tip, fork, plug, depth, count, root_of}
 use Rattle.rb_rules.specs.Colours.{Fits}
-use Rattle.rb_rules.specs.Memory.{Made, place_of, Spot, here}
+use Rattle.rb_rules.specs.Memory.{Made, place_of, Spot, Stands, here}
 use Rattle.rb_rules.specs.Weaving.{Weaving}
 use Rattle.rb_rules.specs.Woven.{Woven, Valued, lefts, rights, shift_at}
 use Rattle.rb_rules.specs.Sound.{Slack}
 use Rattle.rb_arena.specs.declared.links.Links.{Links}
-use Rattle.rb_arena.specs.Placing.{above_place}
-use Rattle.rb_arena.specs.Relative.{LawsOf, IsSlackFrom}
+use Rattle.rb_arena.specs.Relative.{LawsOf}
 use Rattle.rb_arena.specs.Rising.{Mended, MendedBeside}
 
 -- the black nodes on a path through a leaf of that colour
@@ -88,32 +87,40 @@ module _ {W X S B K : Type 0} (w : Ghosts W X S B K) where
         LawsOf w × ((reach : B) × ((beside : Tree (Data X S B)) × ((us : List (ℕ × X)) × ((x : X) × ((vs : List (ℕ × X))
         × StoresBeside reach beside (us ++ (id, x) ∷ vs) × (front ≡ root_of beside))))))
 
-    -- it stores an item of that name, and right after it one of the other
-    abbrev pub StoresBoth : ℕ → ℕ → Type 0
+    -- it stores an item of that name, and right after it one of the other, whose node stands in the tree
+    unfoldable pub StoresBoth : ℕ → ℕ → Type 0
     StoresBoth id heir =
-        (reach : B) × ((beside : Tree (Data X S B)) × ((us : List (ℕ × X)) × ((x : X) × ((y : X) × ((vs : List (ℕ × X))
-        × StoresBeside reach beside (us ++ (id, x) ∷ (heir, y) ∷ vs))))))
+        LawsOf w × Stands tree.nodes.live tree.root heir
+        × ((reach : B) × ((beside : Tree (Data X S B)) × ((us : List (ℕ × X)) × ((x : X) × ((y : X) × ((vs : List (ℕ × X))
+        × StoresBeside reach beside (us ++ (id, x) ∷ (heir, y) ∷ vs)))))))
 
-    -- some tree is emptied there, and right but for the nodes above
+    -- some tree is emptied there
     unfoldable pub IsEmptied : Option (ℕ × Side) → Bool → Type 0
     IsEmptied at red =
-        LawsOf w × ((from : Option ℕ) → from ≡ above_place at → IsSlackFrom w tree from 128)
-        × ((reach : B) × ((beside : Tree (Data X S B)) × ((k : Hole (Data X S B))
+        LawsOf w × ((reach : B) × ((beside : Tree (Data X S B)) × ((k : Hole (Data X S B))
         × Emptied w.weaving (w.within reach) w.is_item w.is_value beside tree.nodes.live tree.root at red k)))
 
     -- the node stands in a tree with the right sums
-    abbrev pub StandsWoven : ℕ → Type 0
-    StandsWoven id = (s : Spot (Data X S B)) × WovenSpot w.weaving w.is_near tree.nodes.live tree.root id s
+    unfoldable pub StandsWoven : ℕ → Type 0
+    StandsWoven id = LawsOf w × ((s : Spot (Data X S B)) × WovenSpot w.weaving w.is_near tree.nodes.live tree.root id s)
 
     -- and its item, with the shifts of its path, is a value
     unfoldable pub StandsValued : ℕ → Type 0
     StandsValued id =
-        (s : Spot (Data X S B)) × WovenSpot w.weaving w.is_near tree.nodes.live tree.root id s
-        × w.is_item (shown w.weaving s s.datum.item)
+        LawsOf w × ((s : Spot (Data X S B)) × WovenSpot w.weaving w.is_near tree.nodes.live tree.root id s
+        × w.is_item (shown w.weaving s s.datum.item))
 
     -- wherever it stands so, this holds
     abbrev pub AtWoven : ℕ → (Spot (Data X S B) → Type 0) → Type 0
     AtWoven id P = (s : Spot (Data X S B)) → WovenSpot w.weaving w.is_near tree.nodes.live tree.root id s → P s
+
+    -- the node's item, with the shifts of its path
+    unfoldable pub IsShown : ℕ → X → Type 0
+    IsShown id item = AtWoven id (λ s. item ≡ shown w.weaving s s.datum.item)
+
+    -- what the node keeps of an item that is to stand there
+    unfoldable pub IsKept : ℕ → X → X → Type 0
+    IsKept id item own = AtWoven id (λ s. shown w.weaving s own ≡ item)
 
   module _ (old new : Links (Data X S B)) where
     -- whatever the tree was that was emptied there, it is red-black, and lists the same
@@ -150,7 +157,7 @@ module _ {W X S B K : Type 0} (w : Ghosts W X S B K) where
         → Unlinked w.weaving (w.within reach) w.is_item w.is_value beside new.nodes.live new.root at red id (us ++ vs)
 
     -- the same of an item that stood right before the one of the other name
-    abbrev pub UnlinksBefore : ℕ → ℕ → Option (ℕ × Side) → Bool → Type 0
+    unfoldable pub UnlinksBefore : ℕ → ℕ → Option (ℕ × Side) → Bool → Type 0
     UnlinksBefore heir id at red =
         (reach : B) (beside : Tree (Data X S B)) (us : List (ℕ × X)) (x y : X) (vs : List (ℕ × X))
         → StoresBeside old reach beside (us ++ (id, x) ∷ (heir, y) ∷ vs)

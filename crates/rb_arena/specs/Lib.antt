@@ -1,5 +1,6 @@
 pub mod Closing
 pub mod Ends
+pub mod Landing
 pub mod Leaving
 pub mod Mending
 pub mod Nodes

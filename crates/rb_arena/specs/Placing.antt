@@ -1,5 +1,6 @@
 -- A place for an item in a tree in memory.
-use Rattle.std.specs.Prelude.{◌≡◌, ℕ, ◌+◌, ◌≤◌, true, [], ◌∷◌, ◌++◌, Option, Some, None}
+use Rattle.std.specs.Prelude.{◌≡◌, ℕ, ◌+◌, ◌-◌, ◌≤◌, true, [], ◌∷◌, ◌++◌, Option, Some, None, IfSome}
+use Rattle.slot_arena.specs.Arena.{IsLive}
 use Rattle.std.specs.Ordering.{nat_cmp}
 use Rattle.std.specs.FinMap as map
 use Rattle.rb_rules.specs.declared.slot.Data.{Data}
@@ -9,11 +10,12 @@ use Rattle.rb_rules.specs.declared.slot.Slot.{Slot}
 use Rattle.rb_rules.specs.declared.weave.Weave.{Ghosts}
 use Rattle.rb_rules.specs.Tree.{Tree, tip, Hole, plug, above, depth, root_of, height, count}
 use Rattle.rb_rules.specs.Colours.{Balanced}
-use Rattle.rb_rules.specs.Memory.{sided, Made, place_of}
+use Rattle.rb_rules.specs.Memory.{sided, Made, Stands, place_of}
 use Rattle.rb_rules.specs.Sound.{Slack}
 use Rattle.rb_rules.specs.Weaving.{Weaving, summed}
 use Rattle.rb_rules.specs.Woven.{Woven, Valued, lefts, rights, shift_at}
 use Rattle.rb_arena.specs.declared.links.Links.{Links}
+use Rattle.rb_arena.specs.Relative.{LawsOf, RelativeBy, RelativeItem, CanSumOver}
 use Rattle.rb_arena.specs.Rising.{MendedBeside}
 
 -- the shift of the subtree on that side of a node, from that of the node
@@ -50,9 +52,17 @@ module _ {X S B : Type 0} (w : Weaving X S B) (is_near : B → Type 0) (beside :
     pub balanced : Balanced (plug k tip)
     pub values : Valued w is_item is_value (lefts w k ++ (0, x) ∷ rights w k)
 
+-- what a node keeps of an item, below a path with that shift
+abbrev pub kept_below : {X S B : Type 0} → Weaving X S B → B → X → X
+kept_below w by x = w.shift (w.minus w.still by) x
+
+-- what a leaf keeps of it
+abbrev pub leaf_below : {X S B : Type 0} → Weaving X S B → B → X → Data X S B
+leaf_below w by x = summed w (kept_below w by x) w.still w.none w.none
+
 -- what a leaf in a hole keeps of an item
 abbrev pub leaf_of : {X S B : Type 0} → Weaving X S B → Hole (Data X S B) → X → Data X S B
-leaf_of w k x = summed w (w.shift (w.minus w.still (shift_at w k)) x) w.still w.none w.none
+leaf_of w k x = leaf_below w (shift_at w k) x
 
 -- a leaf with that item for a hole
 abbrev pub leaf_for : {X S B : Type 0} → Weaving X S B → Hole (Data X S B) → X → Slot (Data X S B)
@@ -83,6 +93,10 @@ module _ {D : Type 0} (tree : Links D) where
   abbrev pub Hangs : Option (ℕ × Side) → Option ℕ → Type 0
   Hangs from below = (beside : Tree D) × ((t : Tree D) × ((k : Hole D) × StartsAt beside tree.nodes.live tree.root from below t k))
 
+  -- the node stands in the tree
+  unfoldable pub IsThere : ℕ → Type 0
+  IsThere id = Stands tree.nodes.live tree.root id
+
   -- whatever subtree hangs there, this holds of it and of the hole that it is in
   abbrev pub WhereHangs : Option (ℕ × Side) → Option ℕ → (Tree D → Hole D → Type 0) → Type 0
   WhereHangs from below P = (beside t : Tree D) (k : Hole D) → StartsAt beside tree.nodes.live tree.root from below t k → P t k
@@ -96,8 +110,22 @@ module _ {D : Type 0} (tree : Links D) where
 
 module _ {W X S B K : Type 0} (w : Ghosts W X S B K) where
   -- the item is a value, and so is its sum where it is the only one
-  abbrev pub IsValueAlone : X → Type 0
+  unfoldable pub IsValueAlone : X → Type 0
   IsValueAlone item = Valued w.weaving w.is_item w.is_value ((0, item) ∷ [])
+
+  -- the shift of the subtree on that side of a node is one between two that a path may have
+  unfoldable pub CanPass : Side → B → B → Type 0
+  CanPass side delta by = RelativeBy w (passed w.weaving side delta by)
+
+  -- the numbers on the way to what a node keeps of the item, below a path with that shift
+  unfoldable pub CanKeep : B → X → Type 0
+  CanKeep by item =
+      RelativeBy w (w.weaving.minus w.weaving.still by) × RelativeItem w (kept_below w.weaving by item)
+
+  -- and on the way to what a leaf keeps
+  unfoldable pub CanKeepAlone : B → X → Type 0
+  CanKeepAlone by item =
+      CanKeep by item × CanSumOver w (kept_below w.weaving by item) w.weaving.still w.weaving.none w.weaving.none
 
   module _ (tree : Links (Data X S B)) (at : Option (ℕ × Side)) where
     -- the place is that of a hole of a tree with the right sums
@@ -105,15 +133,35 @@ module _ {W X S B K : Type 0} (w : Ghosts W X S B K) where
     WovenIn beside t k = WovenAt w.weaving w.is_near beside tree.nodes.live tree.root at t k
 
     -- there is such a tree
-    abbrev pub IsWovenPlace : Type 0
-    IsWovenPlace = (beside : Tree (Data X S B)) × ((t : Tree (Data X S B)) × ((k : Hole (Data X S B)) × WovenIn beside t k))
+    unfoldable pub IsWovenPlace : Type 0
+    IsWovenPlace =
+        LawsOf w × ((beside : Tree (Data X S B)) × ((t : Tree (Data X S B)) × ((k : Hole (Data X S B)) × WovenIn beside t k)))
 
     -- whatever hole that is, this holds
     abbrev pub AtWovenPlace : (Hole (Data X S B) → Type 0) → Type 0
     AtWovenPlace P = (beside t : Tree (Data X S B)) (k : Hole (Data X S B)) → WovenIn beside t k → P k
 
+    -- that is what the shifts on the path to it come to
+    unfoldable pub IsShiftTo : B → Type 0
+    IsShiftTo by = AtWovenPlace (λ k. by ≡ shift_at w.weaving k)
+
+    -- so many steps are no more than the nodes above it
+    unfoldable pub StepsTo : ℕ → Type 0
+    StepsTo steps = AtWovenPlace (λ k. steps ≤ depth k)
+
+    -- a walk up from it has passed so many nodes, whose shifts come to by, and stands at a place now: the node of that place, if there
+    -- is one, stands in the tree, and what is left of the path makes up the rest of the shift
+    unfoldable pub PathSoFar : Option (ℕ × Side) → B → ℕ → Type 0
+    PathSoFar now by turn =
+        IfSome now (λ a. Stands tree.nodes.live tree.root a.0 × IsLive tree.nodes a.0)
+        × ((beside t : Tree (Data X S B)) (k : Hole (Data X S B)) → WovenIn beside t k
+        → ((k2 : Hole (Data X S B)) × ((t2 : Tree (Data X S B)) × (now ≡ place_of k2)
+        × Made beside tree.nodes.live tree.root (plug k2 t2) × Woven w.weaving w.is_near w.weaving.still (plug k2 t2)
+        × (shift_at w.weaving k ≡ w.weaving.plus (shift_at w.weaving k2) by) × (depth k2 ≤ depth k - turn)))
+        × w.is_near (shift_at w.weaving k) × (turn ≤ depth k))
+
     -- the slot is that of a leaf with the item, in whatever hole is at the place
-    abbrev pub IsLeafFor : X → Slot (Data X S B) → Type 0
+    unfoldable pub IsLeafFor : X → Slot (Data X S B) → Type 0
     IsLeafFor item slot = AtWovenPlace (λ k. slot ≡ leaf_for w.weaving k item)
 
     -- the item may come to that hole with all shifts within a reach
@@ -121,54 +169,55 @@ module _ {W X S B K : Type 0} (w : Ghosts W X S B K) where
     TakesIn reach beside item k = CanTake w.weaving (w.within reach) beside tree.nodes.live tree.root at w.is_item w.is_value item k
 
     -- there are such a hole and such a reach
-    abbrev pub Takes : X → Type 0
-    Takes item = (reach : B) × ((beside : Tree (Data X S B)) × ((k : Hole (Data X S B)) × TakesIn reach beside item k))
+    unfoldable pub Takes : X → Type 0
+    Takes item =
+        LawsOf w × ((reach : B) × ((beside : Tree (Data X S B)) × ((k : Hole (Data X S B)) × TakesIn reach beside item k)))
 
     -- and the node stands in no tree
-    abbrev pub TakesNode : ℕ → X → Type 0
+    unfoldable pub TakesNode : ℕ → X → Type 0
     TakesNode id item =
-        (reach : B) × ((beside : Tree (Data X S B)) × ((k : Hole (Data X S B)) × TakesIn reach beside item k
-        × (count id (plug k tip) + count id beside ≡ 0)))
+        LawsOf w × ((reach : B) × ((beside : Tree (Data X S B)) × ((k : Hole (Data X S B)) × TakesIn reach beside item k
+        × (count id (plug k tip) + count id beside ≡ 0))))
 
     -- the item may come to that hole, whatever the sums above it
     abbrev pub HangsIn : B → Tree (Data X S B) → X → Hole (Data X S B) → Type 0
     HangsIn reach beside item k = CanHang w.weaving (w.within reach) beside tree.nodes.live tree.root at w.is_item w.is_value item k
 
     -- the slot is that of a leaf for the place
-    abbrev pub TakesSlot : Slot (Data X S B) → Type 0
+    unfoldable pub TakesSlot : Slot (Data X S B) → Type 0
     TakesSlot slot =
-        (reach : B) × ((beside : Tree (Data X S B)) × ((k : Hole (Data X S B)) × ((x : X)
-        × HangsIn reach beside x k × (slot ≡ leaf_for w.weaving k x))))
+        LawsOf w × ((reach : B) × ((beside : Tree (Data X S B)) × ((k : Hole (Data X S B)) × ((x : X)
+        × HangsIn reach beside x k × (slot ≡ leaf_for w.weaving k x)))))
 
     -- the node is a leaf for the place
-    abbrev pub TakesLeaf : ℕ → Type 0
+    unfoldable pub TakesLeaf : ℕ → Type 0
     TakesLeaf id =
-        (reach : B) × ((beside : Tree (Data X S B)) × ((k : Hole (Data X S B)) × ((x : X)
-        × HangsIn reach beside x k × IsLeaf w.weaving beside tree.nodes.live id x k)))
+        LawsOf w × ((reach : B) × ((beside : Tree (Data X S B)) × ((k : Hole (Data X S B)) × ((x : X)
+        × HangsIn reach beside x k × IsLeaf w.weaving beside tree.nodes.live id x k))))
 
   module _ (old new : Links (Data X S B)) (at : Option (ℕ × Side)) (id : ℕ) where
     -- whatever tree the place is in, it lists the item there under that name, and is red-black
-    abbrev pub ListsAt : X → Type 0
+    unfoldable pub ListsAt : X → Type 0
     ListsAt item =
         (reach : B) (beside : Tree (Data X S B)) (k : Hole (Data X S B)) → TakesIn old at reach beside item k
         → MendedBeside w reach beside new (lefts w.weaving k ++ (id, item) ∷ rights w.weaving k)
 
     -- the same of a node that stood in no tree
-    abbrev pub ListsNodeAt : X → Type 0
+    unfoldable pub ListsNodeAt : X → Type 0
     ListsNodeAt item =
         (reach : B) (beside : Tree (Data X S B)) (k : Hole (Data X S B)) → TakesIn old at reach beside item k
         → count id (plug k tip) + count id beside ≡ 0
         → MendedBeside w reach beside new (lefts w.weaving k ++ (id, item) ∷ rights w.weaving k)
 
     -- and of one that was a leaf for the place
-    abbrev pub ListsLeafAt : Type 0
+    unfoldable pub ListsLeafAt : Type 0
     ListsLeafAt =
         (reach : B) (beside : Tree (Data X S B)) (k : Hole (Data X S B)) (x : X) → HangsIn old at reach beside x k
         → IsLeaf w.weaving beside old.nodes.live id x k
         → MendedBeside w reach beside new (lefts w.weaving k ++ (id, x) ∷ rights w.weaving k)
 
     -- and of a new one, for which that leaf was made
-    abbrev pub ListsSlotAt : Slot (Data X S B) → Type 0
+    unfoldable pub ListsSlotAt : Slot (Data X S B) → Type 0
     ListsSlotAt slot =
         (reach : B) (beside : Tree (Data X S B)) (k : Hole (Data X S B)) (x : X) → HangsIn old at reach beside x k
         → slot ≡ leaf_for w.weaving k x

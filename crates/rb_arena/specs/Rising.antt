@@ -52,7 +52,7 @@ module _ {W X S B K : Type 0} (w : Ghosts W X S B K) where
         → Risen w.weaving (w.within reach) beside new.nodes.live new.root es next (n - 1) × (n ≡ 0 → next ≡ None)
 
     -- whatever the tree was in which the node rose, below no more than n others, it is red-black and lists the same
-    abbrev pub MendsFrom : ℕ → Type 0
+    unfoldable pub MendsFrom : ℕ → Type 0
     MendsFrom n =
         (reach : B) (beside : Tree (Data X S B)) (es : List (ℕ × X))
         → Rising w.weaving (w.within reach) beside old.nodes.live old.root es id n → Valued w.weaving w.is_item w.is_value es
@@ -73,7 +73,7 @@ module _ {W X S B K : Type 0} (w : Ghosts W X S B K) where
       × Rising w.weaving (w.within reach) beside tree.nodes.live tree.root es id n × Valued w.weaving w.is_item w.is_value es)))
 
   -- it does so below no more than n others
-  abbrev pub IsRisingFrom : Links (Data X S B) → ℕ → ℕ → Type 0
+  unfoldable pub IsRisingFrom : Links (Data X S B) → ℕ → ℕ → Type 0
   IsRisingFrom tree id n =
       (reach : B) × ((beside : Tree (Data X S B)) × ((es : List (ℕ × X))
       × Rising w.weaving (w.within reach) beside tree.nodes.live tree.root es id n × Valued w.weaving w.is_item w.is_value es))

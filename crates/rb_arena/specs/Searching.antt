@@ -105,19 +105,35 @@ module _ {W X S B K : Type 0} (w : Ghosts W X S B K) (tree : Links (Data X S B))
 
   module _ (n : ℕ) (key : K) (from : Standing X S B) where
     -- a search among some values stands there, in a tree with the right sums
-    abbrev pub CanGoDown : Type 0
+    unfoldable pub CanGoDown : Type 0
     CanGoDown =
         (beside : Tree (Data X S B)) × ((t : Tree (Data X S B)) × ((items : List (ℕ × X)) × Made beside tree.nodes.live tree.root t
         × KeepsSums t × Valued w.weaving w.is_item w.is_value items × (height t ≤ n) × StandsIn w.weaving w.turn key t items from))
 
     -- in whatever tree it stands, the answer is right for the items
-    abbrev pub FindsBelow : Option (ℕ × X × S) → Type 0
+    unfoldable pub FindsBelow : Option (ℕ × X × S) → Type 0
     FindsBelow found =
         WhereWoven n (λ t. (items : List (ℕ × X)) → StandsIn w.weaving w.turn key t items from → Found w.weaving w.turn key items found)
 
     -- and so many steps are no more than nodes on the longest path
-    abbrev pub StepsBelow : ℕ → Type 0
+    unfoldable pub StepsBelow : ℕ → Type 0
     StepsBelow steps = WhereWoven n (λ t. (items : List (ℕ × X)) → StandsIn w.weaving w.turn key t items from → steps ≤ height t)
+
+  module _ (n : ℕ) (key : K) (next : Next X S B) where
+    -- a search among some values goes on so, in a tree with the right sums
+    unfoldable pub CanGoOn : Type 0
+    CanGoOn =
+        (beside : Tree (Data X S B)) × ((t : Tree (Data X S B)) × ((items : List (ℕ × X)) × Made beside tree.nodes.live tree.root t
+        × KeepsSums t × Valued w.weaving w.is_item w.is_value items × (height t ≤ n) × StandsNext w.weaving w.turn key t items next))
+
+    -- in whatever tree it does so, the answer is right for the items
+    unfoldable pub FindsOn : Option (ℕ × X × S) → Type 0
+    FindsOn found =
+        WhereWoven n (λ t. (items : List (ℕ × X)) → StandsNext w.weaving w.turn key t items next → Found w.weaving w.turn key items found)
+
+    -- and so many steps are no more than nodes on the longest path
+    unfoldable pub StepsOn : ℕ → Type 0
+    StepsOn steps = WhereWoven n (λ t. (items : List (ℕ × X)) → StandsNext w.weaving w.turn key t items next → steps ≤ height t)
 
   module _ (n id : ℕ) where
     -- the tree in which the node stands there
@@ -125,7 +141,7 @@ module _ {W X S B K : Type 0} (w : Ghosts W X S B K) (tree : Links (Data X S B))
     whole_of s = plug s.hole (here s id)
 
     -- the node stands in a tree with the right sums, and the items after it are values
-    abbrev pub CanSearchAfter : Type 0
+    unfoldable pub CanSearchAfter : Type 0
     CanSearchAfter =
         (s : Spot (Data X S B)) × Made s.beside tree.nodes.live tree.root (whole_of s) × KeepsSums (whole_of s) × (height (whole_of s) ≤ n)
         × Valued w.weaving w.is_item w.is_value (items_after w.weaving s)
@@ -137,9 +153,9 @@ module _ {W X S B K : Type 0} (w : Ghosts W X S B K) (tree : Links (Data X S B))
         → P (whole_of s) (items_after w.weaving s)
 
     -- the search among them goes on so
-    abbrev pub GoesOn : K → Next X S B → Type 0
+    unfoldable pub GoesOn : K → Next X S B → Type 0
     GoesOn key how = WhereAfter (λ t items. StandsNext w.weaving w.turn key t items how)
 
     -- so many steps are no more than so many times the nodes on the longest path
-    abbrev pub StepsAfter : ℕ → ℕ → Type 0
+    unfoldable pub StepsAfter : ℕ → ℕ → Type 0
     StepsAfter times steps = WhereAfter (λ t items. steps ≤ times * height t)

@@ -1,5 +1,5 @@
 -- Shifts in a tree in memory: those of a subtree that is to be levelled, and the one that the items after a place are to take.
-use Rattle.std.specs.Prelude.{◌≡◌, ℕ, ◌≤◌, List, ◌++◌, Option, Some, None}
+use Rattle.std.specs.Prelude.{◌≡◌, ℕ, ◌≤◌, List, ◌++◌, Option, Some, None, IfSome}
 use Rattle.std.specs.Ordering.{nat_cmp}
 use Rattle.std.specs.FinMap as map
 use Rattle.rb_rules.specs.declared.slot.Data.{Data}
@@ -8,13 +8,13 @@ use Rattle.rb_rules.specs.declared.slot.Slot.{Slot}
 use Rattle.rb_rules.specs.declared.weave.Weave.{Ghosts}
 use Rattle.rb_rules.specs.Colours.{Balanced}
 use Rattle.rb_rules.specs.Tree.{Tree, Hole, tip, plug, root_of, height, depth}
-use Rattle.rb_rules.specs.Memory.{Made, Spot, here}
+use Rattle.rb_rules.specs.Memory.{Made, Spot, Stands, here}
 use Rattle.rb_rules.specs.Weaving.{Weaving, HeldItem, HeldBy}
 use Rattle.rb_rules.specs.Woven.{entries, Woven, AllItems, Valued, shift_at, lefts, rights}
 use Rattle.rb_rules.specs.Sound.{Slack}
 use Rattle.rb_rules.specs.Shifts.{shifted, moved, levelled}
-use Rattle.rb_arena.specs.Placing.{HoleAt, WovenAt, above_place}
-use Rattle.rb_arena.specs.Relative.{LawsOf, IsSlackFrom}
+use Rattle.rb_arena.specs.Placing.{HoleAt, WovenAt}
+use Rattle.rb_arena.specs.Relative.{LawsOf}
 use Rattle.rb_arena.specs.declared.links.Links.{Links}
 use Rattle.rb_arena.specs.Leaving.{StoresBeside}
 use Rattle.rb_arena.specs.Rising.{Mended, MendedBeside}
@@ -30,7 +30,7 @@ module _ {X S B : Type 0} (w : Weaving X S B) (is_near : B → Type 0) (is_item 
 
   module _ (m : map.FinMap nat_cmp (Slot (Data X S B))) (root : Option ℕ) where
     -- the node's item and its right subtree may move
-    abbrev pub CanMove : B → ℕ → Type 0
+    unfoldable pub CanMove : B → ℕ → Type 0
     CanMove by i =
         (s : Spot (Data X S B)) × Made s.beside m root (plug s.hole (here s i))
         × HeldItem w is_near is_item (w.shift by s.datum.item) × HeldBy w is_near (w.plus by s.datum.delta)
@@ -65,8 +65,8 @@ module _ {W X S B K : Type 0} (w : Ghosts W X S B K) where
     -- the items after the place may move, no more than 128 nodes below the top
     unfoldable pub CanShiftUp : Option (ℕ × Side) → B → Type 0
     CanShiftUp at by =
-        (beside : Tree (Data X S B)) × ((t : Tree (Data X S B)) × ((k : Hole (Data X S B))
-        × CanShift w.weaving w.is_near w.is_item tree.nodes.live tree.root beside at by 128 t k))
+        LawsOf w × ((beside : Tree (Data X S B)) × ((t : Tree (Data X S B)) × ((k : Hole (Data X S B))
+        × CanShift w.weaving w.is_near w.is_item tree.nodes.live tree.root beside at by 128 t k)))
 
   module _ (old new : Links (Data X S B)) where
     -- whatever the subtree was, it is levelled, and all else is as it was
@@ -83,11 +83,21 @@ module _ {W X S B K : Type 0} (w : Ghosts W X S B K) where
         → CanShift w.weaving w.is_near w.is_item old.nodes.live old.root beside at by 128 t k
         → Made beside new.nodes.live new.root (plug (moved w.weaving by k) t)
 
-  -- the items after the place may move, within a wider reach, and the sums above it may be renewed then
+  -- a walk up from there that moves them has come to a place with no more than n nodes above: what is left to move makes the same of
+  -- the tree, and the node of the place, if there is one, stands in it
+  unfoldable pub MovesSoFar : Links (Data X S B) → Links (Data X S B) → Option (ℕ × Side) → B → Option (ℕ × Side) → ℕ → Type 0
+  MovesSoFar old new from by at n =
+      IfSome at (λ a. Stands new.nodes.live new.root a.0)
+      × ((beside t : Tree (Data X S B)) (k : Hole (Data X S B))
+      → CanShift w.weaving w.is_near w.is_item old.nodes.live old.root beside from by 128 t k
+      → (t2 : Tree (Data X S B)) × ((k2 : Hole (Data X S B))
+      × CanShift w.weaving w.is_near w.is_item new.nodes.live new.root beside at by n t2 k2
+      × (plug (moved w.weaving by k2) t2 ≡ plug (moved w.weaving by k) t)))
+
+  -- the items after the place may move, within a wider reach
   unfoldable pub CanShiftAll : Links (Data X S B) → Option (ℕ × Side) → B → Type 0
   CanShiftAll tree at by =
-      LawsOf w × ((moved_ : Links (Data X S B)) (parent : Option ℕ) → ShiftsUp tree moved_ at by → parent ≡ above_place at → IsSlackFrom w moved_ parent 128)
-      × ((from : B) × ((reach : B) × ((beside : Tree (Data X S B)) × ((k : Hole (Data X S B))
+      LawsOf w × ((from : B) × ((reach : B) × ((beside : Tree (Data X S B)) × ((k : Hole (Data X S B))
       × (w.widened from by ≡ Some reach)
       × CanShiftFrom w.weaving beside tree.nodes.live tree.root (w.within from) w.is_item w.is_value at by k))))
 

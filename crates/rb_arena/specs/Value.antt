@@ -1,5 +1,5 @@
 -- What a contract sees of a tree: its items in order, each under its name.
-use Rattle.std.specs.Prelude.{◌≡◌, ℕ, zero, suc, ◌+◌, ◌<◌, ◌^◌, List, [], length, ◌∷◌, ◌++◌, Option, Some, None, refl}
+use Rattle.std.specs.Prelude.{◌≡◌, ℕ, zero, suc, ◌+◌, ◌<◌, ◌^◌, List, [], length, ◌∷◌, ◌++◌, Option, Some, None, IsSome, refl}
 use Rattle.std.specs.Coded.{Coded, code_by, coded×, coded_list, coded_ℕ}
 use Rattle.std.specs.Ordering.{nat_cmp}
 use Rattle.std.specs.FinMap as map
@@ -15,6 +15,8 @@ use Rattle.rb_rules.specs.Weaving.{Weaving}
 use Rattle.rb_rules.specs.Woven.{entries, sum_of, Woven, Valued, AllItems}
 use Rattle.rb_rules.specs.Shifts.{shifted}
 use Rattle.rb_arena.specs.declared.links.Links.{Links}
+use Rattle.rb_arena.specs.Names.{HaveOwnNames}
+use Rattle.rb_arena.specs.Relative.{LawsOf}
 
 -- the items in order, each with its name, those that were lifted out of the list, and for how many more there is room
 pub record Listed (X : Type 0) : Type 0 where
@@ -101,6 +103,10 @@ module _ {X : Type 0} where
       (front : ℕ × X) (rest us vs : List (ℕ × X)) → old.loose ≡ front ∷ rest → SplitsAfter old.items id us vs
       → new ≡ us ++ (front.0, item) ∷ vs
 
+  -- no name stands twice, in either list or in both. A proof sees behind it where it opens it.
+  unfoldable pub NamesDiffer : Listed X → Type 0
+  NamesDiffer all = HaveOwnNames all.items all.loose
+
   -- the first, if any
   abbrev pub front_of : List (ℕ × X) → Option (ℕ × X)
   front_of [] = None
@@ -127,8 +133,8 @@ module _ {X S B : Type 0} (w : Weaving X S B) where
   abbrev pub loose_in : map.FinMap nat_cmp (Slot (Data X S B)) → Option ℕ → List (ℕ × X)
   loose_in m front = entries w w.still (grown m (map.len m) front)
 
-  -- what a contract sees
-  abbrev pub seen : Links (Data X S B) → Option ℕ → Listed X
+  -- what a contract sees. A proof sees behind it where it opens it.
+  unfoldable pub seen : Links (Data X S B) → Option ℕ → Listed X
   seen links front = listed (items_in links.nodes.live links.root) (loose_in links.nodes.live front) links.nodes.spare
 
   -- no node has a subtree on the left, and none moves those on the right
@@ -154,6 +160,14 @@ module _ {X S B : Type 0} (w : Weaving X S B) (is_near : B → Type 0) (is_item 
 -- the same with all shifts within that reach
 abbrev pub KeepsWithin : {W X S B K : Type 0} → Ghosts W X S B K → B → Links (Data X S B) → Option ℕ → Type 0
 KeepsWithin w reach links front = Keeps w.weaving (w.within reach) w.is_item w.is_value links.nodes.live links.root front
+
+-- a shift that takes a value to a value is not too great for any tree
+abbrev pub ShiftsFit : {W X S B K : Type 0} → Ghosts W X S B K → Type 0
+ShiftsFit {X} {B} w = (by : B) (x : X) → w.is_item x → w.is_item (w.weaving.shift by x) → IsSome (w.widened w.weaving.still by)
+
+-- a tree is kept so, and the laws of the weave hold. A proof sees behind it where it opens it.
+unfoldable pub Kept : {W X S B K : Type 0} → Ghosts W X S B K → B → Links (Data X S B) → Option ℕ → Type 0
+Kept w reach links front = LawsOf w × ShiftsFit w × KeepsWithin w reach links front
 
 -- the name of the first item, or o where there is none
 abbrev pub first_or : {X : Type 0} → Option ℕ → List (ℕ × X) → Option ℕ
@@ -192,8 +206,8 @@ abbrev pub last_or : {X : Type 0} → Option ℕ → List (ℕ × X) → Option 
 last_or o [] = o
 last_or o (e ∷ es) = last_or (Some e.0) es
 
--- the name of the item at that end of the list
-abbrev pub name_at_end : {X : Type 0} → Side → List (ℕ × X) → Option ℕ
+-- the name of the item at that end of the list. A proof sees behind it where it opens it.
+unfoldable pub name_at_end : {X : Type 0} → Side → List (ℕ × X) → Option ℕ
 name_at_end Left items = first_or None items
 name_at_end Right items = last_or None items
 

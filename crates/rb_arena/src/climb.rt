@@ -1,9 +1,7 @@
 //! Walks from a node to the top.
 ghost use Rattle.std.specs.Prelude.{◌≡◌, ◌<◌, ◌≤◌, ◌+◌, Some, None};
 ghost use Rattle.std.specs.FinMap as map;
-ghost use Rattle.rb_rules.specs.Sound.{renewed};
-ghost use Rattle.rb_arena.specs.Nodes.{Rewritten};
-ghost use Rattle.rb_arena.specs.Relative.{CanRenewNode, IsSlackFrom, RenewsFrom};
+ghost use Rattle.rb_arena.specs.Relative.{CanRenewNode, IsSlackFrom, Renews, RenewsFrom};
 
 use crate::links::{Links, node_of, rewrite};
 use crate::sums::{summed, whole};
@@ -14,9 +12,10 @@ use slot_arena::NodeId;
 pub(crate) const LONGEST: u32 = 128;
 
 /// Renews the sums of one node from those of its subtrees.
+#[tactic(auto, using(crate::proofs::Renewing::renewing), unfolding(crate::specs::Nodes::Rewrites, crate::specs::Relative::CanRenewNode))]
 fn renew<W: Weave>(tree: &mut Links<Data<W::Item, W::Sum, W::By>>, id: NodeId)
     requires { CanRenewNode W.Weave tree.old id }
-    ensures made { Rewritten tree.old tree.new id (renewed W.weaving) }
+    ensures made { Renews W.Weave tree.old tree.new id }
     ensures spare { tree.new.nodes.spare ≡ tree.old.nodes.spare }
     ensures as_many { map.len tree.new.nodes.live ≡ map.len tree.old.nodes.live }
 {

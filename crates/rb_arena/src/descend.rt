@@ -107,6 +107,7 @@ pub(crate) fn go_down<W: Weave, L: Ledger>(
 }
 
 /// The sum of the items before a subtree and in it.
+#[tactic(auto, unfolding(crate::specs::Nodes::LivesIf))]
 fn through<W: Weave>(
     tree: &Links<Data<W::Item, W::Sum, W::By>>,
     standing: &Standing<W::Item, W::Sum, W::By>,
@@ -133,6 +134,7 @@ pub(crate) fn climb<W: Weave, L: Ledger>(
     ensures next { GoesOn W.Weave tree.now 126 id key result }
     ensures cost { StepsAfter W.Weave tree.now 126 id 2 (steps.new - steps.old) }
 {
+    #[tactic(auto, unfolding(crate::specs::Searching::CanSearchAfter))]
     let mut at = place(tree, id);
     let mut by = shift_to::<W, L>(tree, copy_of(&at), steps);
     let slot = visit(&tree.nodes, id, steps);

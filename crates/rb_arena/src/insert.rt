@@ -1,12 +1,11 @@
 //! A new item at a place of the tree.
 ghost use Rattle.std.specs.Prelude.{◌≡◌, ◌+◌, ◌-◌, ◌<◌, ◌≤◌, ◌^◌};
 ghost use Rattle.std.specs.FinMap as map;
-ghost use Rattle.slot_arena.specs.Arena.{IsLive};
-ghost use Rattle.rb_rules.specs.Tree.{depth};
-ghost use Rattle.rb_rules.specs.Woven.{shift_at};
-ghost use Rattle.rb_rules.specs.Weaving.{HeldBy};
-ghost use Rattle.rb_arena.specs.Placing.{above_place, passed, IsWovenPlace, AtWovenPlace};
-ghost use Rattle.rb_arena.specs.Placing.{IsValueAlone, IsLeafFor};
+ghost use Rattle.rb_arena.specs.Nodes.{Lives};
+ghost use Rattle.rb_arena.specs.Placing as placing;
+ghost use Rattle.rb_arena.specs.Placing.{above_place, passed, IsWovenPlace, IsShiftTo};
+ghost use Rattle.rb_arena.specs.Placing.{CanPass, StepsTo};
+ghost use Rattle.rb_arena.specs.Placing.{IsValueAlone, IsLeafFor, CanKeep, CanKeepAlone};
 ghost use Rattle.rb_arena.specs.Placing.{Takes, TakesLeaf, TakesNode, TakesSlot};
 ghost use Rattle.rb_arena.specs.Placing.{ListsAt, ListsLeafAt, ListsNodeAt, ListsSlotAt};
 
@@ -31,8 +30,9 @@ pub(crate) fn parent_at(at: &Place) -> Option<NodeId>
 }
 
 /// One node's part in the shift of a path that goes to that side of it.
+#[tactic(auto, unfolding(crate::specs::Placing::CanPass))]
 fn pass<W: Weave>(side: Side, delta: W::By, by: W::By) -> W::By
-    requires { HeldBy W.weaving W.is_near (passed W.weaving side delta by) }
+    requires { CanPass W.Weave side delta by }
     ensures { result ≡ passed W.weaving side delta by }
 {
     match side {
@@ -42,14 +42,15 @@ fn pass<W: Weave>(side: Side, delta: W::By, by: W::By) -> W::By
 }
 
 /// What the shifts on the path to a place come to. Each node on the path counts as a step.
+#[tactic(auto, using(crate::proofs::Paths::path_shifts))]
 pub(crate) fn shift_to<W: Weave, L: Ledger>(
     tree: &Links<Data<W::Item, W::Sum, W::By>>,
     from: Place,
     steps: &mut Steps<L>,
 ) -> W::By
     requires { IsWovenPlace W.Weave tree.now from }
-    ensures shift { AtWovenPlace W.Weave tree.now from (λ k. result ≡ shift_at W.weaving k) }
-    ensures cost { AtWovenPlace W.Weave tree.now from (λ k. steps.new - steps.old ≤ depth k) }
+    ensures shift { IsShiftTo W.Weave tree.now from result }
+    ensures cost { StepsTo W.Weave tree.now from (steps.new - steps.old) }
 {
     let mut at = from;
     let mut by = W::still();
@@ -57,9 +58,12 @@ pub(crate) fn shift_to<W: Weave, L: Ledger>(
         let Some(above) = at else {
             return by;
         };
+        #[tactic(auto, unfolding(crate::specs::Placing::PathSoFar))]
         let delta = visit(&tree.nodes, above.0, steps).data.delta;
         by = pass::<W>(above.1, delta, by);
-        at = place(tree, above.0);
+        #[tactic(auto, unfolding(crate::specs::Placing::PathSoFar))]
+        let next = place(tree, above.0);
+        at = next;
     }
     by
 }
@@ -73,17 +77,21 @@ fn blank_shift<W: Weave, L: Ledger>(
     requires name { blank.name ≡ L.name }
     requires parts { blank.parts ≡ L.parts }
     requires some { 0 < L.parts }
-    ensures { AtWovenPlace W.Weave tree.now from (λ k. result ≡ shift_at W.weaving k) }
+    ensures { IsShiftTo W.Weave tree.now from result }
 {
     let mut steps = Steps::<L>::new(blank);
     shift_to::<W, L>(tree, from, &mut steps)
 }
 
 /// The same, and counts no step.
+#[tactic(auto, using(crate::proofs::Paths::only_shift))]
 pub(crate) fn path_shift<W: Weave>(tree: &Links<Data<W::Item, W::Sum, W::By>>, from: Place) -> W::By
     requires { IsWovenPlace W.Weave tree.now from }
-    ensures { AtWovenPlace W.Weave tree.now from (λ k. result ≡ shift_at W.weaving k) }
+    ensures { IsShiftTo W.Weave tree.now from result }
 {
+    if let Some(only) = W::only_shift() {
+        return only;
+    }
     blank_shift::<W, Brand>(tree, from, Blank::new(1))
 }
 
@@ -96,7 +104,26 @@ pub(crate) fn copy_of(at: &Place) -> Place
     }
 }
 
+/// What a node keeps of an item, below a path with that shift.
+#[tactic(auto, unfolding(crate::specs::Placing::CanKeep))]
+pub(crate) fn kept_below<W: Weave>(by: W::By, item: W::Item) -> W::Item
+    requires { CanKeep W.Weave by item }
+    ensures { result ≡ placing.kept_below W.weaving by item }
+{
+    W::shift(W::minus(W::still(), by), item)
+}
+
+/// What a leaf keeps of an item, below a path with that shift.
+#[tactic(auto, unfolding(crate::specs::Placing::CanKeepAlone, crate::specs::Relative::IsSummed))]
+fn leaf_below<W: Weave>(by: W::By, item: W::Item) -> Data<W::Item, W::Sum, W::By>
+    requires { CanKeepAlone W.Weave by item }
+    ensures { result ≡ placing.leaf_below W.weaving by item }
+{
+    summed::<W>(kept_below::<W>(by, item), W::still(), W::none(), W::none())
+}
+
 /// A leaf for an empty place.
+#[tactic(auto, using(crate::proofs::Inserting::making_leaf))]
 pub(crate) fn leaf_at<W: Weave>(
     tree: &Links<Data<W::Item, W::Sum, W::By>>,
     at: &Place,
@@ -107,12 +134,12 @@ pub(crate) fn leaf_at<W: Weave>(
     ensures { IsLeafFor W.Weave tree.now at.now item result }
 {
     let by = path_shift::<W>(tree, copy_of(at));
-    let own = W::shift(W::minus(W::still(), by), item);
-    let datum = summed::<W>(own, W::still(), W::none(), W::none());
+    let datum = leaf_below::<W>(by, item);
     Slot::sided(Side::Left, parent_at(at), None, None, true, datum)
 }
 
 /// Hangs a leaf at an empty place. The sums of the nodes above may be wrong before.
+#[tactic(auto, using(crate::proofs::Inserting::hung_leaf))]
 fn hang_leaf<W: Weave>(tree: &mut Links<Data<W::Item, W::Sum, W::By>>, at: Place, id: NodeId)
     requires { TakesLeaf W.Weave tree.old at id }
     ensures mended { ListsLeafAt W.Weave tree.old tree.new at id }
@@ -126,6 +153,7 @@ fn hang_leaf<W: Weave>(tree: &mut Links<Data<W::Item, W::Sum, W::By>>, at: Place
 }
 
 /// Hangs a new leaf at an empty place. The sums of the nodes above may be wrong before.
+#[tactic(auto, using(crate::proofs::Inserting::hung_new))]
 pub(crate) fn hang_new<W: Weave>(
     tree: &mut Links<Data<W::Item, W::Sum, W::By>>,
     at: Place,
@@ -144,6 +172,7 @@ pub(crate) fn hang_new<W: Weave>(
 }
 
 /// Puts an item at an empty place.
+#[tactic(auto, using(crate::proofs::Inserting::inserted))]
 pub(crate) fn insert_at<W: Weave>(
     tree: &mut Links<Data<W::Item, W::Sum, W::By>>,
     at: Place,
@@ -161,13 +190,14 @@ pub(crate) fn insert_at<W: Weave>(
 }
 
 /// Puts an item at an empty place, at a node that stands in no tree.
+#[tactic(auto, using(crate::proofs::Inserting::landed), unfolding(crate::specs::Nodes::Lives))]
 pub(crate) fn land_at<W: Weave>(
     tree: &mut Links<Data<W::Item, W::Sum, W::By>>,
     at: Place,
     id: NodeId,
     item: W::Item,
 )
-    requires live { IsLive tree.old.nodes id }
+    requires live { Lives tree.old.nodes id }
     requires hole { TakesNode W.Weave tree.old at id item }
     ensures mended { ListsNodeAt W.Weave tree.old tree.new at id item }
     ensures spare { tree.new.nodes.spare ≡ tree.old.nodes.spare }

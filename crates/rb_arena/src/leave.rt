@@ -1,19 +1,21 @@
 //! A node leaves the tree.
-ghost use Rattle.std.specs.Prelude.{◌≡◌, ◌+◌};
+ghost use Rattle.std.specs.Prelude.{◌≡◌, ◌+◌, None};
+ghost use Rattle.rb_rules.specs.Memory.{hung, root_hung, place_of, AtSpot};
 ghost use Rattle.std.specs.FinMap as map;
-ghost use Rattle.slot_arena.specs.Arena.{IsLive};
+ghost use Rattle.rb_arena.specs.Nodes.{Lives};
+ghost use Rattle.rb_arena.specs.Placing.{IsThere};
 ghost use Rattle.rb_arena.specs.Leaving.{NoChild, OneChild, IsEmptied};
 ghost use Rattle.rb_arena.specs.Leaving.{StoresItem, StoresItemBeside, StoresBoth};
-ghost use Rattle.rb_arena.specs.Leaving.{StandsWoven, StandsValued, AtWoven, shown};
+ghost use Rattle.rb_arena.specs.Leaving.{StandsWoven, StandsValued, IsShown, IsKept};
 ghost use Rattle.rb_arena.specs.Leaving.{Settles, StillLists, Leaves, Loosens};
 ghost use Rattle.rb_arena.specs.Leaving.{Unlinks, UnlinksBefore};
 
 use crate::climb::renew_up;
 use crate::close::close;
-use crate::insert::{copy_of, parent_at, path_shift};
+use crate::insert::{copy_of, kept_below, parent_at, path_shift};
 use crate::links::{Links, Place, hang, node_of, place, read, replace, string};
 use crate::sums::turn_node;
-use crate::tree::first_place;
+use crate::tree::end_place;
 use rb_rules::{Data, Side, Weave};
 use slot_arena::NodeId;
 
@@ -31,7 +33,6 @@ fn settle<W: Weave>(tree: &mut Links<Data<W::Item, W::Sum, W::By>>, at: Place, r
     ensures spare { tree.new.nodes.spare ≡ tree.old.nodes.spare }
     ensures as_many { map.len tree.new.nodes.live ≡ map.len tree.old.nodes.live }
 {
-    #[tactic(auto, unfolding(crate::specs::Leaving::IsEmptied))]
     renew_up::<W>(tree, parent_at(&at));
     if red {
         return;
@@ -40,19 +41,24 @@ fn settle<W: Weave>(tree: &mut Links<Data<W::Item, W::Sum, W::By>>, at: Place, r
 }
 
 /// A leaf leaves the tree, and keeps its slot.
-#[tactic(auto, unfolding(crate::specs::Leaving::NoChild))]
+#[tactic(auto, using(crate::proofs::Leaving::leaf_out))]
 fn unlink_leaf<W: Weave>(tree: &mut Links<Data<W::Item, W::Sum, W::By>>, id: NodeId) -> Vacancy
+    requires stands { IsThere tree.old id }
     requires leaf { NoChild tree.old.nodes.live id }
     requires item { StoresItem W.Weave tree.old id }
     ensures unlinked { Unlinks W.Weave tree.old tree.new id result.at result.red }
-    ensures live { IsLive tree.new.nodes id }
+    ensures live { Lives tree.new.nodes id }
     ensures spare { tree.new.nodes.spare ≡ tree.old.nodes.spare }
     ensures as_many { map.len tree.new.nodes.live ≡ map.len tree.old.nodes.live }
 {
-    let red = read(&tree.nodes, id).red;
+    #[tactic(auto, unfolding(crate::specs::Placing::IsThere))]
+    let red = node_of(tree, id).red;
+    #[tactic(auto, unfolding(crate::specs::Placing::IsThere))]
     let at = place(tree, id);
-    hang(tree, copy_of(&at), None);
-    Vacancy { at, red }
+    let gap = copy_of(&at);
+    #[tactic(auto, using(crate::proofs::Leaving::lives_above))]
+    hang(tree, at, None);
+    Vacancy { at: gap, red }
 }
 
 /// Makes a leaf of a node with one child at most.
@@ -65,7 +71,7 @@ pub(crate) fn to_leaf<W: Weave>(tree: &mut Links<Data<W::Item, W::Sum, W::By>>, 
     ensures spare { tree.new.nodes.spare ≡ tree.old.nodes.spare }
     ensures as_many { map.len tree.new.nodes.live ≡ map.len tree.old.nodes.live }
 {
-    #[tactic(auto, unfolding(crate::specs::Leaving::OneChild))]
+    #[tactic(auto, unfolding(crate::specs::Leaving::OneChild, crate::specs::Nodes::Lives))]
     let slot = read(&tree.nodes, id);
     if slot.left.is_some() {
         turn_node::<W>(tree, id, Side::Left);
@@ -75,17 +81,21 @@ pub(crate) fn to_leaf<W: Weave>(tree: &mut Links<Data<W::Item, W::Sum, W::By>>, 
 }
 
 /// The item of a node, with the shifts of its path.
-#[tactic(auto, unfolding(crate::specs::Leaving::StandsValued))]
+#[tactic(auto, using(crate::proofs::Inserting::valued_place), unfolding(crate::specs::Placing::IsShiftTo, crate::specs::Leaving::IsShown))]
 pub(crate) fn item_at<W: Weave>(tree: &Links<Data<W::Item, W::Sum, W::By>>, id: NodeId) -> W::Item
     requires { StandsValued W.Weave tree.now id }
-    ensures { AtWoven W.Weave tree.now id (λ s. result ≡ shown W.weaving s s.datum.item) }
+    ensures { IsShown W.Weave tree.now id result }
 {
+    #[tactic(auto, unfolding(crate::specs::Leaving::StandsValued))]
     let at = place(tree, id);
     let by = path_shift::<W>(tree, at);
-    W::shift(by, node_of(tree, id).data.item)
+    #[tactic(auto, unfolding(crate::specs::Leaving::StandsValued, crate::specs::Placing::IsShiftTo))]
+    let item = W::shift(by, node_of(tree, id).data.item);
+    item
 }
 
 /// What a node keeps of an item that is to stand there.
+#[tactic(auto, using(crate::proofs::Inserting::keeping))]
 pub(crate) fn item_for<W: Weave>(
     tree: &Links<Data<W::Item, W::Sum, W::By>>,
     id: NodeId,
@@ -93,15 +103,36 @@ pub(crate) fn item_for<W: Weave>(
 ) -> W::Item
     requires spot { StandsWoven W.Weave tree.now id }
     requires value { W.is_item item }
-    ensures { AtWoven W.Weave tree.now id (λ s. shown W.weaving s result ≡ item) }
+    ensures { IsKept W.Weave tree.now id item result }
 {
+    #[tactic(auto, unfolding(crate::specs::Leaving::StandsWoven))]
     let at = place(tree, id);
     let by = path_shift::<W>(tree, at);
-    W::shift(W::minus(W::still(), by), item)
+    kept_below::<W>(by, item)
+}
+
+/// Takes a leaf off that stands right after a node, below it, and tells from which place.
+#[tactic(auto, using(crate::proofs::Heirs::cutting))]
+fn cut<W: Weave>(tree: &mut Links<Data<W::Item, W::Sum, W::By>>, id: NodeId, heir: NodeId) -> Place
+    requires leaf { NoChild tree.old.nodes.live heir }
+    requires items { StoresBoth W.Weave tree.old id heir }
+    ensures place { AtSpot tree.old.nodes.live tree.old.root heir (λ s. result ≡ place_of s.hole) }
+    ensures live { tree.new.nodes.live ≡ hung tree.old.nodes.live result None }
+    ensures root { tree.new.root ≡ root_hung tree.old.root result None }
+    ensures there { IsThere tree.new id }
+    ensures heir { Lives tree.new.nodes heir }
+    ensures spare { tree.new.nodes.spare ≡ tree.old.nodes.spare }
+    ensures as_many { map.len tree.new.nodes.live ≡ map.len tree.old.nodes.live }
+{
+    #[tactic(auto, unfolding(crate::specs::Leaving::StoresBoth))]
+    let at = place(tree, heir);
+    let below = copy_of(&at);
+    hang(tree, at, None);
+    below
 }
 
 /// A leaf takes the place of the node before it, which leaves the tree and keeps its slot.
-#[tactic(auto, unfolding(crate::specs::Leaving::NoChild))]
+#[tactic(auto, using(crate::proofs::Heirs::inheriting))]
 fn inherit<W: Weave>(
     tree: &mut Links<Data<W::Item, W::Sum, W::By>>,
     id: NodeId,
@@ -110,42 +141,49 @@ fn inherit<W: Weave>(
     requires leaf { NoChild tree.old.nodes.live heir }
     requires items { StoresBoth W.Weave tree.old id heir }
     ensures unlinked { UnlinksBefore W.Weave tree.old tree.new heir id result.at result.red }
-    ensures live { IsLive tree.new.nodes id }
+    ensures live { Lives tree.new.nodes id }
     ensures spare { tree.new.nodes.spare ≡ tree.old.nodes.spare }
     ensures as_many { map.len tree.new.nodes.live ≡ map.len tree.old.nodes.live }
 {
-    let red = read(&tree.nodes, heir).red;
+    #[tactic(auto, unfolding(crate::specs::Leaving::StoresBoth))]
+    let red = node_of(tree, heir).red;
     let item = item_at::<W>(tree, heir);
     let own = item_for::<W>(tree, id, item);
-    let below = place(tree, heir);
-    hang(tree, below, None);
-    let old = read(&tree.nodes, id).data;
+    cut::<W>(tree, id, heir);
+    #[tactic(auto, unfolding(crate::specs::Placing::IsThere))]
+    let old = node_of(tree, id).data;
     let datum = Data {
         item: own,
         delta: old.delta,
         before: old.before,
         whole: old.whole,
     };
+    #[tactic(auto, unfolding(crate::specs::Placing::IsThere))]
     replace(tree, id, heir, datum);
     let right = read(&tree.nodes, heir).right;
-    let at = first_place(tree, Some((heir, Side::Right)), right);
+    let at = end_place(tree, Some((heir, Side::Right)), right, Side::Left);
     Vacancy { at, red }
 }
 
 /// A node leaves the tree, whatever stands below it, and keeps its slot.
+#[tactic(auto, using(crate::proofs::Heirs::unlinking))]
 fn unlink<W: Weave>(tree: &mut Links<Data<W::Item, W::Sum, W::By>>, id: NodeId) -> Vacancy
-    requires { StoresItem W.Weave tree.old id }
+    requires stands { IsThere tree.old id }
+    requires item { StoresItem W.Weave tree.old id }
     ensures unlinked { Unlinks W.Weave tree.old tree.new id result.at result.red }
-    ensures live { IsLive tree.new.nodes id }
+    ensures live { Lives tree.new.nodes id }
     ensures spare { tree.new.nodes.spare ≡ tree.old.nodes.spare }
     ensures as_many { map.len tree.new.nodes.live ≡ map.len tree.old.nodes.live }
 {
-    let right = read(&tree.nodes, id).right;
+    #[tactic(auto, unfolding(crate::specs::Placing::IsThere))]
+    let right = node_of(tree, id).right;
     if right.is_none() {
+        #[tactic(auto, using(crate::proofs::Heirs::none_right))]
         to_leaf::<W>(tree, id);
         return unlink_leaf::<W>(tree, id);
     }
-    let heir = parent_at(&first_place(tree, Some((id, Side::Right)), right)).unwrap_or(id);
+    let first = end_place(tree, Some((id, Side::Right)), right, Side::Left);
+    let heir = parent_at(&first).unwrap_or(id);
     to_leaf::<W>(tree, heir);
     inherit::<W>(tree, id, heir)
 }
@@ -159,6 +197,7 @@ pub(crate) fn leave<W: Weave>(tree: &mut Links<Data<W::Item, W::Sum, W::By>>, id
     ensures as_many { map.len tree.new.nodes.live + 1 ≡ map.len tree.old.nodes.live }
 {
     let Vacancy { at, red } = unlink::<W>(tree, id);
+    #[tactic(auto, unfolding(crate::specs::Nodes::Lives))]
     tree.nodes.take(id);
     settle::<W>(tree, at, red);
 }
@@ -182,6 +221,7 @@ pub(crate) fn loosen<W: Weave>(
         whole: W::none(),
     };
     let Vacancy { at, red } = unlink::<W>(tree, id);
+    #[tactic(auto, using(crate::proofs::TakingOut::front_lives), unfolding(crate::specs::Nodes::Lives))]
     string(&mut tree.nodes, id, front, datum);
     settle::<W>(tree, at, red);
 }

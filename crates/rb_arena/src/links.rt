@@ -2,11 +2,11 @@
 ghost use Rattle.std.specs.Prelude.{◌≡◌, ◌+◌, ◌<◌, Some, None, IfSome};
 ghost use Rattle.std.specs.FinMap as map;
 ghost use Rattle.slot_arena.specs.Arena.{node, IsLive};
-ghost use Rattle.rb_rules.specs.Tree.{fork};
 ghost use Rattle.rb_rules.specs.declared.slot.Slot.{Slot};
 ghost use Rattle.rb_rules.specs.Memory.{place_of, adopted, hung, root_hung};
-ghost use Rattle.rb_rules.specs.Memory.{here, Stands, AtSpot, turned};
-ghost use Rattle.rb_arena.specs.Nodes.{Becomes, HasChildAt, HeadsChain, Inherits, slot_of, strung};
+ghost use Rattle.rb_rules.specs.Memory.{Stands, AtSpot};
+ghost use Rattle.rb_arena.specs.Nodes.{HasChildAt, HeadsChain, Inherits, KeepLive, LosesFirst};
+ghost use Rattle.rb_arena.specs.Nodes.{Lives, LivesAt, LivesIf, Rewrites, TurnsAt, slot_of, strung};
 
 use rb_rules::{Packed, Side, Slot};
 use slot_arena::{Arena, NodeId};
@@ -49,13 +49,15 @@ fn seen<D: Copy, L: Ledger>(nodes: &Arena<Packed<D>>, id: NodeId, blank: Blank) 
 }
 
 /// Reads a node, and counts no step.
+#[tactic(auto, unfolding(crate::specs::Nodes::Lives))]
 pub(crate) fn read<D: Copy>(nodes: &Arena<Packed<D>>, id: NodeId) -> Slot<D>
-    requires { IsLive nodes.now id }
+    requires { Lives nodes.now id }
     ensures { node nodes.now id ≡ Some result }
 {
     seen::<D, Brand>(nodes, id, Blank::new(1))
 }
 
+#[tactic(auto, using(crate::proofs::Slots::writing))]
 fn overwritten<D: Copy, L: Ledger>(
     nodes: &mut Arena<Packed<D>>,
     id: NodeId,
@@ -67,35 +69,42 @@ fn overwritten<D: Copy, L: Ledger>(
     requires parts { blank.parts ≡ L.parts }
     requires some { 0 < L.parts }
     ensures live { nodes.new.live ≡ map.insert nodes.old.live id slot }
+    ensures kept { KeepLive nodes.old nodes.new }
     ensures spare { nodes.new.spare ≡ nodes.old.spare }
+    ensures as_many { map.len nodes.new.live ≡ map.len nodes.old.live }
 {
     let mut steps = Steps::<L>::new(blank);
     *nodes.visit_mut(id, &mut steps) = Packed::of(&slot);
 }
 
 /// Writes a node, and counts no step.
+#[tactic(auto, unfolding(crate::specs::Nodes::Lives))]
 pub(crate) fn write<D: Copy>(nodes: &mut Arena<Packed<D>>, id: NodeId, slot: Slot<D>)
-    requires { IsLive nodes.old id }
+    requires { Lives nodes.old id }
     ensures live { nodes.new.live ≡ map.insert nodes.old.live id slot }
+    ensures kept { KeepLive nodes.old nodes.new }
     ensures spare { nodes.new.spare ≡ nodes.old.spare }
+    ensures as_many { map.len nodes.new.live ≡ map.len nodes.old.live }
 {
     overwritten::<D, Brand>(nodes, id, slot, Blank::new(1))
 }
 
 /// Reads a node of the tree.
+#[tactic(auto, using(crate::proofs::Slots::reading))]
 pub(crate) fn node_of<D: Copy>(tree: &Links<D>, id: NodeId) -> Slot<D>
     requires { Stands tree.now.nodes.live tree.now.root id }
     ensures value { node tree.now.nodes id ≡ Some result }
+    ensures live { Lives tree.now.nodes id }
     ensures slot { AtSpot tree.now.nodes.live tree.now.root id (λ s. result ≡ slot_of s) }
-    ensures above { IfSome result.parent (λ i. IsLive tree.now.nodes i) }
-    ensures left { IfSome result.left (λ i. IsLive tree.now.nodes i) }
-    ensures right { IfSome result.right (λ i. IsLive tree.now.nodes i) }
+    ensures above { LivesIf tree.now.nodes result.parent }
+    ensures left { LivesIf tree.now.nodes result.left }
+    ensures right { LivesIf tree.now.nodes result.right }
 {
     read(&tree.nodes, id)
 }
 
 /// The place of a node of the tree.
-#[tactic(auto, using(crate::proofs::Slots::places))]
+#[tactic(auto, using(crate::proofs::Slots::places), unfolding(crate::specs::Nodes::Lives, crate::specs::Nodes::LivesIf))]
 pub(crate) fn place<D: Copy>(tree: &Links<D>, id: NodeId) -> Place
     requires { Stands tree.now.nodes.live tree.now.root id }
     ensures { AtSpot tree.now.nodes.live tree.now.root id (λ s. result ≡ place_of s.hole) }
@@ -106,10 +115,13 @@ pub(crate) fn place<D: Copy>(tree: &Links<D>, id: NodeId) -> Place
 }
 
 /// Gives a node, if there is one, another parent.
+#[tactic(auto, using(crate::proofs::Slots::staying), unfolding(crate::specs::Nodes::Lives, crate::specs::Nodes::LivesIf))]
 fn adopt<D: Copy>(nodes: &mut Arena<Packed<D>>, id: Option<NodeId>, parent: Option<NodeId>)
-    requires { IfSome id (λ i. IsLive nodes.old i) }
+    requires { LivesIf nodes.old id }
     ensures live { nodes.new.live ≡ adopted nodes.old.live id parent }
+    ensures kept { KeepLive nodes.old nodes.new }
     ensures spare { nodes.new.spare ≡ nodes.old.spare }
+    ensures as_many { map.len nodes.new.live ≡ map.len nodes.old.live }
 {
     if let Some(id) = id {
         let mut slot = read(nodes, id);
@@ -119,11 +131,14 @@ fn adopt<D: Copy>(nodes: &mut Arena<Packed<D>>, id: Option<NodeId>, parent: Opti
 }
 
 /// Hangs another node, or none, at a place.
+#[tactic(auto, using(crate::proofs::Slots::staying), unfolding(crate::specs::Nodes::Lives, crate::specs::Nodes::LivesAt))]
 pub(crate) fn hang<D: Copy>(tree: &mut Links<D>, place: Place, child: Option<NodeId>)
-    requires { IfSome place (λ at. IsLive tree.old.nodes at.0) }
+    requires { LivesAt tree.old.nodes place }
     ensures live { tree.new.nodes.live ≡ hung tree.old.nodes.live place child }
     ensures root { tree.new.root ≡ root_hung tree.old.root place child }
+    ensures kept { KeepLive tree.old.nodes tree.new.nodes }
     ensures spare { tree.new.nodes.spare ≡ tree.old.nodes.spare }
+    ensures as_many { map.len tree.new.nodes.live ≡ map.len tree.old.nodes.live }
 {
     match place {
         None => tree.root = child,
@@ -135,10 +150,10 @@ pub(crate) fn hang<D: Copy>(tree: &mut Links<D>, place: Place, child: Option<Nod
 }
 
 /// Writes a node's colour and data.
-#[tactic(auto, using(crate::proofs::Slots::len_written))]
+#[tactic(auto, using(crate::proofs::Slots::rewriting))]
 pub(crate) fn rewrite<D: Copy>(tree: &mut Links<D>, id: NodeId, red: bool, datum: D)
     requires { Stands tree.old.nodes.live tree.old.root id }
-    ensures made { Becomes tree.old tree.new id (λ s. fork red id datum s.left s.right) }
+    ensures made { Rewrites tree.old tree.new id red datum }
     ensures spare { tree.new.nodes.spare ≡ tree.old.nodes.spare }
     ensures as_many { map.len tree.new.nodes.live ≡ map.len tree.old.nodes.live }
 {
@@ -149,9 +164,10 @@ pub(crate) fn rewrite<D: Copy>(tree: &mut Links<D>, id: NodeId, red: bool, datum
 }
 
 /// Turns a node: its child on that side comes to stand above it. Each keeps the colour of its place.
+#[tactic(auto, using(crate::proofs::Slots::turning), unfolding(crate::specs::Nodes::HasChildAt))]
 pub(crate) fn turn<D: Copy>(tree: &mut Links<D>, id: NodeId, side: Side, low: D, high: D)
     requires { HasChildAt tree.old id side }
-    ensures made { Becomes tree.old tree.new id (λ s. turned side low high (here s id)) }
+    ensures made { TurnsAt tree.old tree.new id side low high }
     ensures spare { tree.new.nodes.spare ≡ tree.old.nodes.spare }
     ensures as_many { map.len tree.new.nodes.live ≡ map.len tree.old.nodes.live }
 {
@@ -172,11 +188,12 @@ pub(crate) fn turn<D: Copy>(tree: &mut Links<D>, id: NodeId, side: Side, low: D,
 }
 
 /// Puts another node in a node's place, with its links and its colour.
+#[tactic(auto, using(crate::proofs::Slots::replacing))]
 pub(crate) fn replace<D: Copy>(tree: &mut Links<D>, id: NodeId, heir: NodeId, datum: D)
     requires stands { Stands tree.old.nodes.live tree.old.root id }
-    requires heir { IsLive tree.old.nodes heir }
+    requires heir { Lives tree.old.nodes heir }
     ensures made { Inherits tree.old tree.new id heir datum }
-    ensures left { IsLive tree.new.nodes id }
+    ensures left { Lives tree.new.nodes id }
     ensures spare { tree.new.nodes.spare ≡ tree.old.nodes.spare }
     ensures as_many { map.len tree.new.nodes.live ≡ map.len tree.old.nodes.live }
 {
@@ -190,6 +207,7 @@ pub(crate) fn replace<D: Copy>(tree: &mut Links<D>, id: NodeId, heir: NodeId, da
 }
 
 /// Puts a node that stands in no tree before a chain. Each node of a chain links to the next by its right link.
+#[tactic(auto, using(crate::proofs::Slots::living))]
 pub(crate) fn string<D: Copy>(
     nodes: &mut Arena<Packed<D>>,
     id: NodeId,
@@ -202,15 +220,16 @@ pub(crate) fn string<D: Copy>(
     ensures spare { nodes.new.spare ≡ nodes.old.spare }
 {
     let slot = Slot::sided(Side::Left, None, None, front, false, datum);
+    #[tactic(auto, unfolding(crate::specs::Nodes::LivesIf))]
     adopt(nodes, slot.right, Some(id));
     write(nodes, id, slot);
 }
 
 /// Takes the first node from a chain, and tells which is the first now.
+#[tactic(auto, unfolding(crate::specs::Nodes::HeadsChain, crate::specs::Nodes::LosesFirst, crate::specs::Nodes::Lives, crate::specs::Nodes::LivesIf))]
 pub(crate) fn unstring<D: Copy>(nodes: &mut Arena<Packed<D>>, id: NodeId) -> Option<NodeId>
     requires { HeadsChain nodes.old id }
-    ensures next { (slot : Slot D) → node nodes.old id ≡ Some slot → result ≡ slot.right }
-    ensures live { nodes.new.live ≡ adopted nodes.old.live result None }
+    ensures chain { LosesFirst nodes.old nodes.new id result }
     ensures spare { nodes.new.spare ≡ nodes.old.spare }
 {
     let slot = read(nodes, id);

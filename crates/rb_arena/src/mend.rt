@@ -31,6 +31,7 @@ pub enum Case {
 }
 
 /// Writes a node's colour.
+#[tactic(auto, unfolding(crate::specs::Nodes::Rewrites))]
 pub(crate) fn paint<D: Copy>(tree: &mut Links<D>, id: NodeId, red: bool)
     requires { Stands tree.old.nodes.live tree.old.root id }
     ensures made { Becomes tree.old tree.new id (λ s. fork red id s.datum s.left s.right) }
@@ -42,6 +43,7 @@ pub(crate) fn paint<D: Copy>(tree: &mut Links<D>, id: NodeId, red: bool)
 }
 
 /// The child on that side, if it is red.
+#[tactic(auto, unfolding(crate::specs::Nodes::Lives))]
 pub(crate) fn red_child<D: Copy>(nodes: &Arena<Packed<D>>, id: NodeId, side: Side) -> Option<NodeId>
     requires { HasChild nodes.now.live id side }
     ensures { result ≡ red_child_in nodes.now.live id side }
@@ -138,6 +140,7 @@ fn mend_up<W: Weave>(tree: &mut Links<Data<W::Item, W::Sum, W::By>>, from: Optio
 }
 
 /// Makes the tree red-black again after a red leaf has come.
+#[tactic(auto, unfolding(crate::specs::Rising::IsRisingFrom, crate::specs::Rising::MendsFrom))]
 pub(crate) fn mend<W: Weave>(tree: &mut Links<Data<W::Item, W::Sum, W::By>>, id: NodeId)
     requires { IsRisingFrom W.Weave tree.old id 128 }
     ensures mended { MendsFrom W.Weave tree.old tree.new id 128 }

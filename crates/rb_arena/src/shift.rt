@@ -15,6 +15,7 @@ use rb_rules::{Data, Side, Weave};
 use slot_arena::NodeId;
 
 /// Moves a node's item and its right subtree, and leaves its sums as they are.
+#[tactic(auto, unfolding(crate::specs::Shifting::CanMove, crate::specs::Nodes::Rewrites))]
 fn move_node<W: Weave>(tree: &mut Links<Data<W::Item, W::Sum, W::By>>, id: NodeId, by: W::By)
     requires { CanMove W.weaving W.is_near W.is_item tree.old.nodes.live tree.old.root by id }
     ensures made { Rewritten tree.old tree.new id (λ s. moved_datum W.weaving by s.datum) }
@@ -32,7 +33,7 @@ fn move_node<W: Weave>(tree: &mut Links<Data<W::Item, W::Sum, W::By>>, id: NodeI
 }
 
 /// Moves the items after a place: at each node that the path leaves to the left, its item and its right subtree.
-#[tactic(auto, unfolding(crate::specs::Shifting::CanShiftUp, crate::specs::Shifting::ShiftsUp))]
+#[tactic(auto, using(crate::proofs::Shifting::shifting_up))]
 fn shift_up<W: Weave>(tree: &mut Links<Data<W::Item, W::Sum, W::By>>, from: Place, by: W::By)
     requires { CanShiftUp W.Weave tree.old from by }
     ensures made { ShiftsUp W.Weave tree.old tree.new from by }
@@ -44,11 +45,13 @@ fn shift_up<W: Weave>(tree: &mut Links<Data<W::Item, W::Sum, W::By>>, from: Plac
         let Some(above) = at else {
             return;
         };
-        at = place(tree, above.0);
+        #[tactic(auto, unfolding(crate::specs::Shifting::MovesSoFar))]
+        let next = place(tree, above.0);
         match above.1 {
             Side::Left => move_node::<W>(tree, above.0, by),
             Side::Right => {}
         }
+        at = next;
     }
 }
 
@@ -66,7 +69,6 @@ pub(crate) fn shift_from<W: Weave>(
 {
     let parent = parent_at(&at);
     shift_up::<W>(tree, at, by);
-    #[tactic(auto, unfolding(crate::specs::Shifting::CanShiftAll))]
     renew_up::<W>(tree, parent);
 }
 

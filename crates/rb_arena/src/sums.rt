@@ -1,12 +1,11 @@
 //! A node's data: its sums, and what a turn makes of them.
-ghost use Rattle.std.specs.Prelude.{◌≡◌, IfSome};
+ghost use Rattle.std.specs.Prelude.{◌≡◌};
 ghost use Rattle.std.specs.FinMap as map;
-ghost use Rattle.slot_arena.specs.Arena.{IsLive};
-ghost use Rattle.rb_rules.specs.Memory.{Stands};
-ghost use Rattle.rb_arena.specs.Nodes.{Rewritten};
+ghost use Rattle.rb_arena.specs.Ends.{StandsLow};
+ghost use Rattle.rb_arena.specs.Nodes.{LivesIf, Rewritten};
 ghost use Rattle.rb_arena.specs.Relative.{CanSumOver, CanTurnOver, CanTurnNode, Turns};
+ghost use Rattle.rb_arena.specs.Relative.{IsLowered, IsRaised, IsSummed};
 ghost use Rattle.rb_arena.specs.Value.{with_item};
-ghost use Rattle.rb_rules.specs.Weaving as weaving;
 ghost use Rattle.rb_rules.specs.Woven.{whole_in};
 
 use crate::links::{Links, node_of, read, rewrite, turn};
@@ -14,11 +13,12 @@ use rb_rules::{Data, Packed, Side, Weave};
 use slot_arena::{Arena, NodeId};
 
 /// The sum that the topmost node of a subtree keeps.
+#[tactic(auto, unfolding(crate::specs::Nodes::Lives, crate::specs::Nodes::LivesIf))]
 pub(crate) fn whole<W: Weave>(
     nodes: &Arena<Packed<Data<W::Item, W::Sum, W::By>>>,
     id: Option<NodeId>,
 ) -> W::Sum
-    requires { IfSome id (λ i. IsLive nodes.now i) }
+    requires { LivesIf nodes.now id }
     ensures { result ≡ whole_in W.weaving nodes.now.live id }
 {
     match id {
@@ -28,6 +28,7 @@ pub(crate) fn whole<W: Weave>(
 }
 
 /// The data of a node over subtrees with the sums `left` and `right`.
+#[tactic(auto, unfolding(crate::specs::Relative::CanSumOver, crate::specs::Relative::IsSummed))]
 pub(crate) fn summed<W: Weave>(
     item: W::Item,
     delta: W::By,
@@ -35,7 +36,7 @@ pub(crate) fn summed<W: Weave>(
     right: W::Sum,
 ) -> Data<W::Item, W::Sum, W::By>
     requires { CanSumOver W.Weave item delta left right }
-    ensures { result ≡ weaving.summed W.weaving item delta left right }
+    ensures { IsSummed W.Weave item delta left right result }
 {
     let right = W::shift_sum(delta, right);
     let tail = W::join(W::one(item), right);
@@ -48,6 +49,7 @@ pub(crate) fn summed<W: Weave>(
 }
 
 /// A node's data, and its child's, after a turn to that side's other.
+#[tactic(auto, using(crate::proofs::Turning::lowering), unfolding(crate::specs::Relative::CanTurnOver, crate::specs::Relative::IsLowered, crate::specs::Relative::IsSummed, crate::specs::Relative::IsRaised))]
 fn turned_data<W: Weave>(
     side: Side,
     upper: &Data<W::Item, W::Sum, W::By>,
@@ -56,8 +58,8 @@ fn turned_data<W: Weave>(
     far: W::Sum,
 ) -> (Data<W::Item, W::Sum, W::By>, Data<W::Item, W::Sum, W::By>)
     requires { CanTurnOver W.Weave side upper.now lower.now mid far }
-    ensures low { result.0 ≡ weaving.lowered W.weaving side upper.now lower.now mid far }
-    ensures high { result.1 ≡ weaving.raised W.weaving side upper.now lower.now mid far }
+    ensures low { IsLowered W.Weave side upper.now lower.now mid far result.0 }
+    ensures high { IsRaised W.Weave side upper.now lower.now mid far result.1 }
 {
     match side {
         Side::Left => {
@@ -85,7 +87,7 @@ fn turned_data<W: Weave>(
 }
 
 /// Turns a node, and keeps the sums right.
-#[tactic(auto, unfolding(crate::specs::Relative::CanTurnNode))]
+#[tactic(auto, using(crate::proofs::Turning::turning_node), unfolding(crate::specs::Nodes::TurnsAt, crate::specs::Relative::CanTurnNode))]
 pub(crate) fn turn_node<W: Weave>(
     tree: &mut Links<Data<W::Item, W::Sum, W::By>>,
     id: NodeId,
@@ -108,12 +110,13 @@ pub(crate) fn turn_node<W: Weave>(
 }
 
 /// Writes a node's item, and nothing else.
+#[tactic(auto, unfolding(crate::specs::Ends::StandsLow, crate::specs::Nodes::Rewrites))]
 pub(crate) fn replace_item<W: Weave>(
     tree: &mut Links<Data<W::Item, W::Sum, W::By>>,
     id: NodeId,
     item: W::Item,
 )
-    requires { Stands tree.old.nodes.live tree.old.root id }
+    requires { StandsLow tree.old id }
     ensures made { Rewritten tree.old tree.new id (λ s. with_item s.datum item) }
     ensures spare { tree.new.nodes.spare ≡ tree.old.nodes.spare }
     ensures as_many { map.len tree.new.nodes.live ≡ map.len tree.old.nodes.live }

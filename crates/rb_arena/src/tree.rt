@@ -1,8 +1,8 @@
 //! The tree as its users see it.
 ghost use Rattle.std.specs.Prelude.{◌≡◌, None, length, ◌-◌, ◌^◌, ◌+◌, ◌<◌, ◌≤◌, [], ◌∷◌, OnOk};
-ghost use Rattle.rb_rules.specs.Memory.{place_of};
+ghost use Rattle.rb_rules.specs.declared.slot.Side.TheVariants.{Left};
 ghost use Rattle.rb_rules.specs.Woven.{sum_of};
-ghost use Rattle.rb_arena.specs.Value.{listed, first_hole};
+ghost use Rattle.rb_arena.specs.Value.{listed};
 ghost use Rattle.rb_arena.specs.Value.{first_or, last_or, front_of, name_at_end, name_beside};
 ghost use Rattle.rb_arena.specs.Value.{IsItem, AtItem, HasAfter, HasPut, HasInstead};
 ghost use Rattle.rb_arena.specs.Value.{HasInsteadAndAfter, SumsWithAndTo};
@@ -10,10 +10,11 @@ ghost use Rattle.rb_arena.specs.Value.{HasLifted, LeavesOut};
 ghost use Rattle.rb_arena.specs.Value.{SumsTo, SumsPut, SumsWith};
 ghost use Rattle.rb_arena.specs.Value.{PlaceAfter, CanMoveAfter, SumsMoved, HasMoved};
 ghost use Rattle.rb_arena.specs.Value.{HasFront, AtFront, SumsLanded, HasLanded};
+ghost use Rattle.rb_arena.specs.Landing.{CanLand, Lands};
 ghost use Rattle.rb_arena.specs.Names.{HaveOwnNames};
-ghost use Rattle.rb_arena.specs.Placing.{Hangs, WhereHangs, HangsRight, WhereHangsRight};
-ghost use Rattle.rb_arena.specs.Searching.{Found};
-ghost use Rattle.rb_arena.specs.Ends.{HangsAt, IsEnd, StandsLow, IsAboveOn, IsBeside};
+ghost use Rattle.rb_arena.specs.Value.{NamesDiffer};
+ghost use Rattle.rb_arena.specs.Searching.{Found, CanGoOn, FindsOn, StepsOn};
+ghost use Rattle.rb_arena.specs.Ends.{HangsAt, IsEnd, HangsPast, IsFirstPast, StandsLow, IsAboveOn, IsBeside};
 
 use crate::climb::{LONGEST, renew_up};
 use crate::descend::{Next, Standing, climb, go_down};
@@ -43,7 +44,7 @@ pub struct RbTree<W: Weave> {
 }
 
 impl<W: Weave> Model for RbTree<W> {
-    ghost use Rattle.rb_arena.specs.Value.{Listed, listed_code, seen, KeepsWithin};
+    ghost use Rattle.rb_arena.specs.Value.{Listed, listed_code, seen, Kept};
 
     ghost Value = { Listed W.Item };
 
@@ -51,12 +52,17 @@ impl<W: Weave> Model for RbTree<W> {
 
     ghost view = { λ t. seen W.weaving t.links t.loose };
 
-    ghost invariant = { λ t. KeepsWithin W.Weave t.reach t.links t.loose };
+    ghost invariant = { λ t. Kept W.Weave t.reach t.links t.loose };
 }
 
 /// The last place on that side of a subtree that hangs at a place.
 #[tactic(auto, using(crate::proofs::Walks::to_end))]
-fn end_place<D: Copy>(tree: &Links<D>, from: Place, below: Option<NodeId>, side: Side) -> Place
+pub(crate) fn end_place<D: Copy>(
+    tree: &Links<D>,
+    from: Place,
+    below: Option<NodeId>,
+    side: Side,
+) -> Place
     requires { HangsAt tree.now from below }
     ensures { IsEnd tree.now from below side result }
 {
@@ -67,28 +73,33 @@ fn end_place<D: Copy>(tree: &Links<D>, from: Place, below: Option<NodeId>, side:
             return at;
         };
         at = Some((id, side));
+        #[tactic(auto, unfolding(crate::specs::Nodes::Lives))]
         next = read(&tree.nodes, id).child(side);
     }
     at
 }
 
 /// The first place of a subtree that hangs at a place.
-#[tactic(auto, unfolding(crate::specs::Ends::HangsAt, crate::specs::Ends::IsEnd))]
-pub(crate) fn first_place<D: Copy>(tree: &Links<D>, from: Place, below: Option<NodeId>) -> Place
-    requires { Hangs tree.now from below }
-    ensures { WhereHangs tree.now from below (λ t k. result ≡ place_of (first_hole k t)) }
+fn first_place<D: Copy>(tree: &Links<D>, from: Place, below: Option<NodeId>) -> Place
+    requires { HangsAt tree.now from below }
+    ensures { IsEnd tree.now from below Left result }
 {
     end_place(tree, from, below, Side::Left)
 }
 
 /// The place right after a node, or before all nodes.
+#[tactic(auto, using(crate::proofs::Walks::past))]
 fn place_after<D: Copy>(tree: &Links<D>, id: Option<NodeId>) -> Place
-    requires { HangsRight tree.now id }
-    ensures { WhereHangsRight tree.now id (λ t k. result ≡ place_of (first_hole k t)) }
+    requires { HangsPast tree.now id }
+    ensures { IsFirstPast tree.now id result }
 {
     match id {
         None => first_place(tree, None, tree.root),
-        Some(id) => first_place(tree, Some((id, Side::Right)), node_of(tree, id).right),
+        Some(id) => {
+            #[tactic(auto, unfolding(crate::specs::Ends::HangsPast))]
+            let above = node_of(tree, id);
+            first_place(tree, Some((id, Side::Right)), above.right)
+        }
     }
 }
 
@@ -127,6 +138,41 @@ fn neighbour<D: Copy>(tree: &Links<D>, id: NodeId, side: Side) -> Option<NodeId>
     }
 }
 
+/// The item at which a search ends that goes on so. Each node that is visited counts as a step.
+#[tactic(auto, using(crate::proofs::Seeing::going_on))]
+fn go_on<W: Weave, L: Ledger>(
+    tree: &Links<Data<W::Item, W::Sum, W::By>>,
+    next: Next<W::Item, W::Sum, W::By>,
+    key: W::Key,
+    steps: &mut Steps<L>,
+) -> Option<(NodeId, W::Item, W::Sum)>
+    requires { CanGoOn W.Weave tree.now 126 key next }
+    ensures found { FindsOn W.Weave tree.now 126 key next result }
+    ensures cost { StepsOn W.Weave tree.now 126 key next (steps.new - steps.old) }
+{
+    match next {
+        Next::Stop(found) => Some(found),
+        Next::Down(standing) => go_down::<W, L>(tree, standing, key, steps),
+    }
+}
+
+/// Puts an item at an empty place, at the first node of a chain, and tells which is the first now.
+#[tactic(auto, using(crate::proofs::Seeing::landing))]
+fn land<W: Weave>(
+    tree: &mut Links<Data<W::Item, W::Sum, W::By>>,
+    at: Place,
+    landing: NodeId,
+    item: W::Item,
+) -> Option<NodeId>
+    requires { CanLand W.Weave tree.old at landing item }
+    ensures lands { Lands W.Weave tree.old tree.new at landing item result }
+    ensures spare { tree.new.nodes.spare ≡ tree.old.nodes.spare }
+{
+    let next = unstring(&mut tree.nodes, landing);
+    land_at::<W>(tree, at, landing, item);
+    next
+}
+
 impl<W: Weave> RbTree<W> {
     /// A tree with no item.
     pub fn new(alloc: Global) -> RbTree<W>
@@ -144,6 +190,7 @@ impl<W: Weave> RbTree<W> {
     }
 
     /// Makes room for `count` more items. It fails where memory is short.
+    #[tactic(auto, using(crate::proofs::Seeing::staying))]
     pub fn reserve(&mut self, count: u64) -> Result<(), AllocError>
         ensures items { self.new.items ≡ self.old.items }
         ensures loose { self.new.loose ≡ self.old.loose }
@@ -154,14 +201,16 @@ impl<W: Weave> RbTree<W> {
     }
 
     /// The name of the item at that end. No name stands twice.
+    #[tactic(auto, using(crate::proofs::Seeing::ends))]
     fn end(&self, side: Side) -> Option<NodeId>
         ensures end { result ≡ name_at_end side self.now.items }
-        ensures names { HaveOwnNames self.now.items self.now.loose }
+        ensures names { NamesDiffer self.now }
     {
         parent_at(&end_place(&self.links, None, self.links.root, side))
     }
 
     /// The name of the item right beside that one, on that side.
+    #[tactic(auto, using(crate::proofs::Seeing::beside))]
     fn beside(&self, id: NodeId, side: Side) -> Option<NodeId>
         requires { IsItem self.now.items id }
         ensures { AtItem self.now.items id (λ us x vs. result ≡ name_beside side us vs) }
@@ -170,6 +219,7 @@ impl<W: Weave> RbTree<W> {
     }
 
     /// The first item's name. No name stands twice, among the items and the loose ones.
+    #[tactic(auto, unfolding(crate::specs::Value::NamesDiffer, crate::specs::Value::name_at_end))]
     pub fn first(&self) -> Option<NodeId>
         ensures first { result ≡ first_or None self.now.items }
         ensures names { HaveOwnNames self.now.items self.now.loose }
@@ -178,6 +228,7 @@ impl<W: Weave> RbTree<W> {
     }
 
     /// The last item's name.
+    #[tactic(auto, unfolding(crate::specs::Value::name_at_end))]
     pub fn last(&self) -> Option<NodeId>
         ensures { result ≡ last_or None self.now.items }
     {
@@ -185,6 +236,7 @@ impl<W: Weave> RbTree<W> {
     }
 
     /// The sum of all items.
+    #[tactic(auto, using(crate::proofs::Seeing::summing))]
     pub fn sum(&self) -> W::Sum
         ensures { result ≡ sum_of W.weaving self.now.items }
     {
@@ -209,6 +261,7 @@ impl<W: Weave> RbTree<W> {
 
     /// Searches for a key: an item at which the search ends, with its name and the sum of the items before it. The search ends
     /// where `turn` says stop, or between two items that point at each other. Each node that is visited counts as a step.
+    #[tactic(auto, using(crate::proofs::Seeing::descending))]
     pub fn descend<L: Ledger>(
         &self,
         key: W::Key,
@@ -227,6 +280,7 @@ impl<W: Weave> RbTree<W> {
     }
 
     /// Searches for a key among the items after that one, with sums that begin after it. Each node that is visited counts as a step.
+    #[tactic(auto, using(crate::proofs::Seeing::descending_after))]
     pub fn descend_after<L: Ledger>(
         &self,
         id: NodeId,
@@ -237,13 +291,12 @@ impl<W: Weave> RbTree<W> {
         ensures found { AtItem self.now.items id (λ us x vs. Found W.weaving W.turn key vs result) }
         ensures cost { 2 ^ (steps.new - steps.old) ≤ (length self.now.items + 1) ^ 6 }
     {
-        match climb::<W, L>(&self.links, id, key, steps) {
-            Next::Stop(found) => Some(found),
-            Next::Down(standing) => go_down::<W, L>(&self.links, standing, key, steps),
-        }
+        let next = climb::<W, L>(&self.links, id, key, steps);
+        go_on::<W, L>(&self.links, next, key, steps)
     }
 
     /// The item of that name.
+    #[tactic(auto, using(crate::proofs::Seeing::getting))]
     pub fn get(&self, id: NodeId) -> W::Item
         requires { IsItem self.now.items id }
         ensures { AtItem self.now.items id (λ us x vs. result ≡ x) }
@@ -252,6 +305,7 @@ impl<W: Weave> RbTree<W> {
     }
 
     /// Puts another item in the place of that one, under its name.
+    #[tactic(auto, using(crate::proofs::Seeing::setting))]
     pub fn set(&mut self, id: NodeId, item: W::Item)
         requires named { IsItem self.old.items id }
         requires value { W.is_item item }
@@ -266,6 +320,7 @@ impl<W: Weave> RbTree<W> {
     }
 
     /// Puts an item right after that one, or before all others.
+    #[tactic(auto, using(crate::proofs::Seeing::putting))]
     fn put_after(&mut self, id: Option<NodeId>, item: W::Item) -> NodeId
         requires room { 0 < self.old.spare }
         requires named { PlaceAfter self.old.items id }
@@ -293,6 +348,7 @@ impl<W: Weave> RbTree<W> {
     }
 
     /// Puts another item in the place of that one, under its name, and a new item right after it. The sums are renewed in one walk up.
+    #[tactic(auto, using(crate::proofs::Seeing::setting_and_inserting))]
     pub fn set_and_insert_after(&mut self, id: NodeId, own: W::Item, item: W::Item) -> NodeId
         requires room { 0 < self.old.spare }
         requires named { IsItem self.old.items id }
@@ -305,8 +361,8 @@ impl<W: Weave> RbTree<W> {
     {
         let at = place_after(&self.links, Some(id));
         // The leaf is made while all sums are right.
-        let leaf = leaf_at::<W>(&self.links, &at, item);
         let own = item_for::<W>(&self.links, id, own);
+        let leaf = leaf_at::<W>(&self.links, &at, item);
         replace_item::<W>(&mut self.links, id, own);
         hang_new::<W>(&mut self.links, at, leaf)
     }
@@ -324,6 +380,7 @@ impl<W: Weave> RbTree<W> {
     }
 
     /// Takes the item of that name out. Its name is free again.
+    #[tactic(auto, using(crate::proofs::Seeing::removing))]
     pub fn remove(&mut self, id: NodeId)
         requires { IsItem self.old.items id }
         ensures items { LeavesOut self.old.items self.new.items id }
@@ -334,6 +391,7 @@ impl<W: Weave> RbTree<W> {
     }
 
     /// Moves each item after that one, or every item where none is named.
+    #[tactic(auto, using(crate::proofs::Seeing::moving))]
     pub fn shift_after(&mut self, id: Option<NodeId>, by: W::By)
         requires named { PlaceAfter self.old.items id }
         requires values { CanMoveAfter W.Weave self.old.items id by }
@@ -351,6 +409,7 @@ impl<W: Weave> RbTree<W> {
     }
 
     /// Takes the item of that name out of the list, to the front of the loose ones, under its name.
+    #[tactic(auto, using(crate::proofs::Seeing::lifting))]
     pub fn lift(&mut self, id: NodeId)
         requires { IsItem self.old.items id }
         ensures items { LeavesOut self.old.items self.new.items id }
@@ -362,14 +421,18 @@ impl<W: Weave> RbTree<W> {
     }
 
     /// The front loose item, with its name.
+    #[tactic(auto, using(crate::proofs::Seeing::fronts))]
     pub fn loose(&self) -> Option<(NodeId, W::Item)>
         ensures { result ≡ front_of self.now.loose }
     {
         let id = self.loose?;
-        Some((id, read(&self.links.nodes, id).data.item))
+        #[tactic(auto, using(crate::proofs::Seeing::front_lives))]
+        let front = read(&self.links.nodes, id);
+        Some((id, front.data.item))
     }
 
     /// Puts an item right after that one, or before all others, under the name of the front loose one, which is not loose any more.
+    #[tactic(auto, using(crate::proofs::Seeing::landing_after))]
     pub fn land_after(&mut self, id: Option<NodeId>, item: W::Item)
         requires loose { HasFront self.old.loose }
         requires named { PlaceAfter self.old.items id }
@@ -383,7 +446,6 @@ impl<W: Weave> RbTree<W> {
             return;
         };
         let at = place_after(&self.links, id);
-        self.loose = unstring(&mut self.links.nodes, landing);
-        land_at::<W>(&mut self.links, at, landing, item);
+        self.loose = land::<W>(&mut self.links, at, landing, item);
     }
 }

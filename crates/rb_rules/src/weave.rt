@@ -1,5 +1,5 @@
 //! What the nodes of a tree keep.
-ghost use Rattle.std.specs.Prelude.{◌≡◌, Option, Some, IsSome};
+ghost use Rattle.std.specs.Prelude.{◌≡◌, Option, Some, IfSome, IsSome};
 ghost use Rattle.rb_rules.specs.Weaving.{Weaving, Lawful, HeldItem, HeldSum, HeldBy, Sums, Widens};
 
 /// Where a search goes from a node.
@@ -64,6 +64,10 @@ pub trait Weave {
 
     fn still() -> Self::By
         ensures { result ≡ weaving.still };
+
+    /// The only shift that there is, where items never move: a path's shift then takes no walk. None where they may move.
+    fn only_shift() -> Option<Self::By>
+        ensures { IfSome result (λ only. (by : Self.By) → by ≡ only) };
 
     fn plus(first: Self::By, second: Self::By) -> Self::By
         requires { HeldBy weaving is_near (weaving.plus first second) }

@@ -1,7 +1,10 @@
 -- What a looked-up piece says of the text.
-use Rattle.std.proofs.Common.{◌≡◌, ℕ, zero, suc, ◌+◌, ◌-◌, ◌<◌, ◌≤◌, true, false, cond, List, [], ◌∷◌, ◌++◌, length, take, drop, get_or, map, add-zero, zero-add, refl, ap, sym, subst, ◌∙◌, arith}
+use Rattle.std.proofs.Common.{◌≡◌, ℕ, zero, suc, ◌+◌, ◌-◌, ◌<◌, ◌≤◌, ◌^◌, leb, not, true, false, cond, List, [], ◌∷◌, ◌++◌, length, take, drop, get_or, map, add-zero, zero-add, refl, ap, sym, subst, ◌∙◌, arith}
 use Rattle.std.specs.List.{All}
+use Rattle.std.specs.Prelude.{Option, Some, None, MatchOption, IfSome}
 use Rattle.std.proofs.lemmas.List.{map-append, length-map, length-take-le, take_at, drop_at, take-append-le, drop-append-le, length-append, get_or_append_left, get_or-append_right, get_or-map}
+use Rattle.std.proofs.lemmas.Bool.{and_parts, leb-true}
+use Rattle.std.proofs.lemmas.List.Sums.{prefix_len-le-length}
 use Rattle.std.proofs.lemmas.List.Elements.{All-head, All-tail, All-take, All-drop, All-same}
 use Rattle.chunk_buffers.specs.Chunks.{Shown, units_at, LiesIn}
 use Rattle.line_starts.specs.Starts.{starts_of}
@@ -9,11 +12,12 @@ use Rattle.line_starts.proofs.Starts.{break_count_is, starts_of_is}
 use Rattle.piece_tree.specs.declared.piece.Piece.{Piece}
 use Rattle.piece_tree.specs.declared.piece.Found.{Found}
 use Rattle.piece_tree.specs.Costs.{WithinLookUps}
-use Rattle.piece_tree.specs.Pieces.{Pieces, Entry, pieces_of, unit_count, break_count_of, IsPieceOf, IsFound}
+use Rattle.piece_tree.specs.Pieces.{Pieces, Entry, pieces_of, unit_count, break_count_of, IsPieceOf, IsFound, AreNeighbours}
 use Rattle.piece_tree.proofs.Sums.{breaks-cons}
+use Rattle.unit_text.specs.Units.{cuts_pair, is_place}
 use Rattle.text_rules.specs.Lines.{lines_of, line_start}
 use Rattle.text_rules.specs.Breaks.{ends_break, break_ends, joins_pair, count_to}
-use Rattle.text_rules.proofs.Breaks.{break_ends-append, break_ends_moved, line_count_is, line_start_is, count_to_all, count_to_none, count_to-append, count_to-later, count_to-moved}
+use Rattle.text_rules.proofs.Breaks.{break_ends_few, break_ends-append, break_ends_moved, line_count_is, line_start_is, count_to_all, count_to_none, count_to-append, count_to-later, count_to-moved}
 use Rattle.text_buffer.specs.Text.{Text, text_of, spelled, IsUnsplit, IsText, ends_with_pair}
 use Rattle.text_buffer.proofs.Spelling.{spelled-append, length-spelled, length-units_at, take-past, drop-past}
 use Rattle.text_buffer.proofs.Borders.{unsplit-parts, begins_with-take}
@@ -267,3 +271,44 @@ module _ (b : List (List ℕ)) (entries : List Entry) (found : Found) (is : IsFo
         ∙ get_or_append_left mine later 0 i (omega (arith, mine_size))
         ∙ get_or-map (λ e. s + e) (break_ends 0 own_text) i 0 0 inside
         ∙ ap (λ (k : ℕ). s + k) (sym (line_start_is own_text i (n - found.before.breaks + 1) inside (omega arith)))
+
+-- what is counted up to the end of a piece fits
+pub found_small : (tree : Pieces) (chunks : Shown) → IsText tree chunks → (found : Found) → IsFound tree.entries found → found.before.units + found.span.units < 2 ^ 62
+found_small tree chunks text found is =
+    omega (arith, found_reach chunks.buffers tree.entries found is text.pieces, length-spelled chunks.buffers (pieces_of tree.entries) text.pieces, text.small)
+
+-- the piece beside a looked-up one is looked up too, if there is one
+pub before_found : (P : Type 0) (entries : List Entry) (found : Found) (prev : Option Found) → MatchOption prev P (λ p. AreNeighbours entries p found)
+    → IfSome prev (IsFound entries)
+before_found P entries found None beside = tt
+before_found P entries found (Some prev) beside = beside.left
+
+pub after_found : (P : Type 0) (entries : List Entry) (found : Found) (next : Option Found) → MatchOption next P (AreNeighbours entries found)
+    → IfSome next (IsFound entries)
+after_found P entries found None beside = tt
+after_found P entries found (Some next) beside = beside.right
+
+-- so does a number of breaks
+pub count_small : (tree : Pieces) (chunks : Shown) → IsText tree chunks → (offset : ℕ)
+    → count_to offset (break_ends 0 (spelled chunks.buffers (pieces_of tree.entries))) < 2 ^ 62
+count_small tree chunks text offset =
+    let x : List ℕ = spelled chunks.buffers (pieces_of tree.entries) in
+    omega (
+      arith,
+      prefix_len-le-length (λ e. leb e offset) (break_ends 0 x),
+      break_ends_few 0 x,
+      length-spelled chunks.buffers (pieces_of tree.entries) text.pieces,
+      text.small,
+    )
+
+-- and no place has more breaks before it than there are lines
+pub count_in_lines : (x : List ℕ) (offset : ℕ) → count_to offset (break_ends 0 x) < length (lines_of x)
+count_in_lines x offset = omega (arith, line_count_is x, prefix_len-le-length (λ e. leb e offset) (break_ends 0 x))
+
+-- a place is in the text, or at its end
+pub place_small : (tree : Pieces) (chunks : Shown) → IsText tree chunks → (offset : ℕ)
+    → is_place (spelled chunks.buffers (pieces_of tree.entries)) offset ≡ true → offset < 2 ^ 62
+place_small tree chunks text offset place =
+    let x : List ℕ = spelled chunks.buffers (pieces_of tree.entries) in
+    let within : offset ≤ length x = leb-true offset (length x) (and_parts (leb offset (length x)) (not (cuts_pair x offset)) place).0 in
+    omega (arith, length-spelled chunks.buffers (pieces_of tree.entries) text.pieces, text.small)

@@ -1,8 +1,9 @@
 -- Positions that are there, and positions that are not.
-use Rattle.std.proofs.Common.{◌≡◌, ℕ, ◌+◌, ◌-◌, ◌<◌, ◌≤◌, ◌&&◌, leb, ltb, not, Bool, true, false, if◌then◌else◌, Option, Some, None, List, length, get_or, refl, ap, sym, ◌∙◌, arith}
+use Rattle.std.proofs.Common.{◌≡◌, ℕ, ◌+◌, ◌-◌, ◌<◌, ◌≤◌, ◌&&◌, ◌==◌, leb, ltb, not, Bool, true, false, if◌then◌else◌, Option, Some, None, List, length, get_or, refl, ap, sym, ◌∙◌, arith}
 use Rattle.std.specs.Option.{unwrap_or}
 use Rattle.std.specs.Char.Utf16.{is_high_surrogate, is_low_surrogate}
 use Rattle.std.proofs.lemmas.Bool.{le-leb, lt-leb}
+use Rattle.std.proofs.lemmas.Bool.Decides.{nat_tests}
 use Rattle.std.proofs.lemmas.List.{get_or_past}
 use Rattle.std.proofs.lemmas.Option.{none-some}
 use Rattle.text_lengths.specs.declared.Position.{Position}
@@ -27,6 +28,22 @@ place_at_end x offset at_end =
 -- a place where no pair is cut
 pub place_inside : (x : List ℕ) (offset : ℕ) → offset ≤ length x → cuts_pair x offset ≡ false → is_place x offset ≡ true
 place_inside x offset within whole = ap (λ b. b && not (cuts_pair x offset)) (le-leb offset (length x) within) ∙ ap not whole
+
+-- nothing past the end is a place
+pub past_end : (x : List ℕ) (offset : ℕ) → length x < offset → is_place x offset ≡ false
+past_end x offset past = ap (λ b. b && not (cuts_pair x offset)) (lt-leb offset (length x) past)
+
+-- nor is a place where a pair is cut
+pub place_cut : (x : List ℕ) (offset : ℕ) → offset ≤ length x → cuts_pair x offset ≡ true → is_place x offset ≡ false
+place_cut x offset within cut = ap (λ b. b && not (cuts_pair x offset)) (le-leb offset (length x) within) ∙ ap not cut
+
+-- where no pair is cut before the end, or at it, is a place
+pub place_if_whole : (x : List ℕ) (offset : ℕ) → offset ≤ length x → not (cuts_pair x offset) ≡ is_place x offset
+place_if_whole x offset within = sym (ap (λ b. b && not (cuts_pair x offset)) (le-leb offset (length x) within))
+
+-- from the end on only the end is one
+pub place_from_end : (x : List ℕ) (n offset : ℕ) → n ≡ length x → n ≤ offset → (offset == n) ≡ is_place x offset
+place_from_end x n offset e past = grind (arith, nat_tests, place_at_end, past_end)
 
 -- what is answered only at a place
 pub some_at_place : (place : Bool) (n m : ℕ) → Some m ≡ (if place then Some n else None) → (place ≡ true) × (m ≡ n)

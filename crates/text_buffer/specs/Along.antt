@@ -5,15 +5,16 @@ use Rattle.chunk_buffers.specs.declared.span.ChunkSpan.{ChunkSpan}
 use Rattle.chunk_buffers.specs.Chunks.{units_at, part_of}
 use Rattle.line_starts.specs.Starts.{break_count}
 use Rattle.piece_tree.specs.declared.piece.Found.{Found}
+use Rattle.text_buffer.specs.declared.beside.TheConstants.{MOST_BREAKS_ALONG}
 use Rattle.text_buffer.specs.declared.spot.Spot.{Spot}
 use Rattle.text_buffer.specs.declared.beside.Rests.{Rests}
 use Rattle.text_lengths.specs.declared.Span.{Span}
 use Rattle.text_buffer.specs.Text.{Text, most_along, unit_if}
 
--- the span has units, but few, and one break at most
+-- the span has units, but few, and few breaks
 abbrev pub is_little : List (List ℕ) → ChunkSpan → Bool
 is_little buffers span =
-    nat_lt 0 span.units && (nat_le span.units most_along && nat_le (break_count (units_at buffers span)) 1)
+    nat_lt 0 span.units && (nat_le span.units most_along && nat_le (break_count (units_at buffers span)) MOST_BREAKS_ALONG)
 
 abbrev pub if_little : List (List ℕ) → ChunkSpan → Option ChunkSpan
 if_little buffers span = if is_little buffers span then Some span else None

@@ -1,25 +1,27 @@
 -- A text in pieces of buffers.
-use Rattle.std.specs.Prelude.{ℕ, ◌≡◌, ◌+◌, ◌<◌, Bool, false, ◌==◌, ◌&&◌, if◌then◌else◌, Option, Some, None, length, List, [], ◌∷◌, ◌++◌, map, IfSome}
+use Rattle.std.specs.Prelude.{ℕ, ◌≡◌, ◌+◌, ◌<◌, ◌^◌, Bool, false, ◌==◌, ◌&&◌, if◌then◌else◌, Option, Some, None, length, List, [], ◌∷◌, ◌++◌, map, IfSome}
 use Rattle.std.specs.List.{All, flat_map, sum_by}
 use Rattle.chunk_buffers.specs.declared.span.ChunkSpan.{ChunkSpan}
 use Rattle.chunk_buffers.specs.Chunks.{Shown, buffer_at, units_at, LiesIn}
 use Rattle.piece_tree.specs.declared.piece.Piece.{Piece}
-use Rattle.piece_tree.specs.declared.piece.Found.{Found}
-use Rattle.piece_tree.specs.Pieces.{Pieces, pieces_of, IsPieceOf, IsFound}
+use Rattle.piece_tree.specs.Pieces.{Pieces, pieces_of, unit_count, IsPieceOf, IsFound}
+use Rattle.text_buffer.specs.declared.beside.TheConstants.{MOST_ALONG}
+use Rattle.text_buffer.specs.declared.text.TheConstants.{UNITS_AN_EDIT, BREAKS_AN_EDIT}
+use Rattle.text_buffer.specs.declared.look_up.LastFound.{LastFound}
 use Rattle.text_rules.specs.Lines.{line_feed, carriage_return}
 use Rattle.text_rules.specs.Breaks.{joins_pair}
 
 -- the most units that an edit takes along on each side of its span
 abbrev pub most_along : ℕ
-most_along = 32
+most_along = MOST_ALONG
 
 -- how many units an edit may append beside those of its text: what it takes along on both sides, and one that keeps buffers apart
 abbrev pub units_beside_text : ℕ
-units_beside_text = 65
+units_beside_text = UNITS_AN_EDIT
 
 -- and how many breaks: one on each side
 abbrev pub breaks_beside_text : ℕ
-breaks_beside_text = 2
+breaks_beside_text = BREAKS_AN_EDIT
 
 -- what contracts see of a text buffer
 pub record Text : Type 0 where
@@ -47,11 +49,14 @@ pub record IsText (tree : Pieces) (chunks : Shown) : Type 0 where
   -- no piece is empty
   pub full : All (λ (p : Piece). 0 < p.span.units) (pieces_of tree.entries)
   pub unsplit : IsUnsplit chunks.buffers (pieces_of tree.entries)
+  -- what is counted in it fits
+  pub small : unit_count (pieces_of tree.entries) < 2 ^ 62
 
--- the pieces and the buffers are a text, and a piece that is remembered, if any, is one of those, as a look-up tells it
-pub record IsTextWith (tree : Pieces) (chunks : Shown) (remembered : Option Found) : Type 0 where
+-- the pieces and the buffers are a text, and the pieces that are remembered, if any, are of those, as a look-up tells them
+pub record IsTextWith (tree : Pieces) (chunks : Shown) (last : LastFound) : Type 0 where
   pub text : IsText tree chunks
-  pub found : IfSome remembered (IsFound tree.entries)
+  pub start : IfSome last.start (IsFound tree.entries)
+  pub end : IfSome last.end (IsFound tree.entries)
 
 abbrev pub text_of : Pieces → Shown → Text
 text_of tree chunks = record {

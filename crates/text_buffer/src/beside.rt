@@ -7,14 +7,17 @@ ghost use Rattle.text_buffer.specs.Text.{most_along, IsText};
 ghost use Rattle.text_buffer.specs.LookUps.{IsSpot};
 ghost use Rattle.text_buffer.specs.Along.{if_little, rest_before, rest_behind, rests_of, units_along};
 
-use crate::look_up::piece_at;
+use crate::look_up::piece_near;
 use crate::spot::Spot;
 use arrayvec::ArrayVec;
 use chunk_buffers::{ChunkSpan, Chunks};
 use piece_tree::{Found, PieceTree};
 
 /// The most units that are taken along on one side.
-const MOST_ALONG: usize = 32;
+pub(crate) const MOST_ALONG: usize = 32;
+
+/// The most breaks that these have.
+pub(crate) const MOST_BREAKS_ALONG: u64 = 1;
 
 /// What an edit leaves of the pieces that it cuts, before its span and behind it, where it is taken along.
 #[derive(Clone, Copy)]
@@ -85,7 +88,10 @@ fn if_little(chunks: &Chunks, span: ChunkSpan) -> Option<ChunkSpan>
     requires { LiesIn chunks.now.buffers span }
     ensures { result ≡ if_little chunks.now.buffers span }
 {
-    if 0 < span.units && span.units as usize <= MOST_ALONG && chunks.breaks(span) <= 1 {
+    if 0 < span.units
+        && span.units as usize <= MOST_ALONG
+        && chunks.breaks(span) <= MOST_BREAKS_ALONG
+    {
         Some(span)
     } else {
         None
@@ -98,7 +104,7 @@ pub(crate) fn units_along(
     rest: Option<ChunkSpan>,
     joins: bool,
     unit: u16,
-) -> ArrayVec<u16, 32>
+) -> ArrayVec<u16, MOST_ALONG>
     requires inside { IfSome rest (LiesIn chunks.now.buffers) }
     requires few { IfSome rest (λ span. span.units ≤ most_along) }
     ensures { result.items ≡ units_along chunks.now.buffers rest joins unit }
@@ -125,6 +131,6 @@ pub(crate) fn found_before(pieces: &PieceTree, spot: &Spot, along: u64) -> Optio
     let from = spot.offset - along;
     match spot.found {
         Some(found) if found.before.units <= from => Some(found),
-        _ => Some(piece_at(pieces, from)),
+        _ => Some(piece_near(pieces, &None, from)),
     }
 }

@@ -6,6 +6,7 @@ mod breaks;
 mod lines;
 mod look_up;
 mod place;
+mod queries;
 mod spot;
 mod text;
 mod walk;

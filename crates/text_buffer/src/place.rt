@@ -69,7 +69,7 @@ fn find_start<L: Ledger>(
         let (id, rest) = pieces.first()?;
         return Some(Place { id, rest });
     }
-    let (found, own) = break_at(pieces, chunks, n - 1, steps);
+    let (found, own) = break_at(pieces, chunks, &None, n - 1, steps);
     let rest = chunks.part(found.span, own, found.span.units as u64);
     Some(Place { id: found.id, rest })
 }

@@ -1,6 +1,6 @@
 //! Places of the text, each looked up by one search, and what an edit between two of them meets.
 
-ghost use Rattle.std.specs.Prelude.{◌≡◌, ℕ, ◌+◌, ◌-◌, ◌<◌, ◌≤◌, ◌^◌, ◌++◌, List, take, drop, IfSome};
+ghost use Rattle.std.specs.Prelude.{◌≡◌, ℕ, ◌+◌, ◌-◌, ◌<◌, ◌≤◌, ◌^◌, ◌++◌, ◌&&◌, not, List, take, drop, IfSome};
 ghost use Rattle.chunk_buffers.specs.Chunks.{LiesIn};
 ghost use Rattle.piece_tree.specs.Pieces.{pieces_of, unit_count, IsFound, HasUnit};
 ghost use Rattle.text_rules.specs.Lines.{line_feed, carriage_return, begins_with};
@@ -9,7 +9,7 @@ ghost use Rattle.text_rules.specs.Dirty.{dirty_lines};
 ghost use Rattle.text_buffer.specs.Text.{text_of, one_if, IsText};
 ghost use Rattle.text_buffer.specs.LookUps.{IsSpot, span_between, units_of};
 
-use crate::look_up::{piece_near, unit_in};
+use crate::look_up::{nearer, piece_near, unit_in};
 use chunk_buffers::{ChunkSpan, Chunks};
 use line_starts::count_breaks;
 use piece_tree::{Found, PieceId, PieceTree};
@@ -59,6 +59,28 @@ pub(crate) fn spot_at(
     }
 }
 
+/// The place of this offset, from another place at it or before it and from a piece that may have its unit.
+pub(crate) fn spot_behind(
+    pieces: &PieceTree,
+    chunks: &Chunks,
+    start: &Spot,
+    last: Option<Found>,
+    offset: u64,
+) -> Spot
+    requires text { IsText pieces.now chunks.now }
+    requires start { IsSpot pieces.now chunks.now start.now }
+    requires last { IfSome last (IsFound pieces.now.entries) }
+    requires within { offset ≤ unit_count (pieces_of pieces.now.entries) }
+    ensures spot { IsSpot pieces.now chunks.now result }
+    ensures offset { result.offset ≡ offset }
+{
+    if offset == start.offset {
+        return *start;
+    }
+    let near = nearer(start.found, last, offset);
+    spot_at(pieces, chunks, &near, offset)
+}
+
 // Whether a CR stands right before an offset, whose own unit the piece has.
 fn is_after_return(pieces: &PieceTree, chunks: &Chunks, found: &Found, offset: u64) -> bool
     requires text { IsText pieces.now chunks.now }
@@ -105,17 +127,34 @@ fn breaks_to(pieces: &PieceTree, chunks: &Chunks, spot: &Spot) -> u64
     found.before.breaks + chunks.breaks_to(found.span, spot.offset - found.before.units)
 }
 
-// How many breaks end at the place or before it, without that of a CR right before it.
-fn breaks_before(pieces: &PieceTree, chunks: &Chunks, spot: &Spot) -> u64
+// The same of a place at another one or behind it, whose breaks were counted.
+fn breaks_behind(
+    pieces: &PieceTree,
+    chunks: &Chunks,
+    start: &Spot,
+    counted: u64,
+    spot: &Spot,
+) -> u64
     requires text { IsText pieces.now chunks.now }
     requires spot { IsSpot pieces.now chunks.now spot.now }
-    ensures count { result ≡ count_to (spot.now.offset - one_if spot.now.after_return)
+    requires counted { counted ≡ count_to start.now.offset
         (break_ends 0 (text_of pieces.now chunks.now).units) }
+    requires few { counted < 2 ^ 62 }
+    ensures count { result
+        ≡ count_to spot.now.offset (break_ends 0 (text_of pieces.now chunks.now).units) }
     ensures few { result < 2 ^ 62 }
 {
-    // The break of a CR LF ends behind the LF.
-    let ends_here = spot.after_return && !spot.before_feed;
-    breaks_to(pieces, chunks, spot) - one_if(ends_here)
+    if spot.offset == start.offset {
+        return counted;
+    }
+    breaks_to(pieces, chunks, spot)
+}
+
+// Whether a CR right before the place ends a line: the break of a CR LF ends behind the LF.
+fn ends_line(spot: &Spot) -> bool
+    ensures { result ≡ (spot.now.after_return && not spot.now.before_feed) }
+{
+    spot.after_return && !spot.before_feed
 }
 
 /// Which lines an edit touches that puts these units between the two places, and how many lines stand in their place after it.
@@ -133,8 +172,10 @@ pub(crate) fn dirty_between(
     ensures { result ≡ dirty_lines (text_of pieces.now chunks.now).units
         (span_between start.now end.now) text.now }
 {
-    let first = breaks_before(pieces, chunks, start) + 1;
-    let last = breaks_to(pieces, chunks, end) + 1;
+    let counted = breaks_to(pieces, chunks, start);
+    let own = one_if(ends_line(start));
+    let first = counted - own + 1;
+    let last = breaks_behind(pieces, chunks, start, counted, end) + 1;
     let lines = count_breaks(text) + 1 + one_if(start.after_return);
     Dirty {
         first,

@@ -14,15 +14,15 @@ ghost use Rattle.text_rules.specs.Breaks.{ends_with, joins_pair, count_to, break
 ghost use Rattle.text_buffer.specs.Along.{LeavesLittle};
 ghost use Rattle.text_buffer.specs.Text.{units_beside_text, breaks_beside_text, IsAdded, GrowsAt};
 
-use crate::beside::{found_before, rests_of, units_along};
-use crate::breaks::ends_with_pair;
+use crate::beside::{MOST_ALONG, MOST_BREAKS_ALONG, found_before, rests_of, units_along};
 use crate::lines::LineReader;
-use crate::look_up::{break_at, cuts_pair_at, cuts_pair_beside, piece_at, piece_near};
+use crate::look_up::{LastFound, NOTHING_FOUND, cuts_pair_beside, found_near, nearer, piece_near};
 use crate::place::{push_line, start_of_line};
-use crate::spot::{dirty_between, joins_back, joins_front, spot_at};
+use crate::queries::{offset_in, position_in};
+use crate::spot::{dirty_between, joins_back, joins_front, spot_at, spot_behind};
 use crate::walk::push_span;
 use chunk_buffers::{ChunkSpan, Chunks};
-use piece_tree::{Found, PieceTree};
+use piece_tree::PieceTree;
 use std::alloc::{AllocError, Global};
 use std::marker::{Brand, Model};
 use std::sync::ledger::{Blank, Ledger};
@@ -31,10 +31,10 @@ use text_lengths::{Dirty, Position, Span};
 use unit_text::{CARRIAGE_RETURN, Flat, LINE_FEED};
 
 /// What an edit may append beside its text: what it takes along on both sides, and a unit that keeps buffers apart.
-const UNITS_AN_EDIT: u64 = 65;
+pub(crate) const UNITS_AN_EDIT: u64 = 2 * MOST_ALONG as u64 + 1;
 
 /// What breaks an edit may append beside those of its text: one on each side.
-const BREAKS_AN_EDIT: u64 = 2;
+pub(crate) const BREAKS_AN_EDIT: u64 = 2 * MOST_BREAKS_ALONG;
 
 /// One text. Contracts see its units, and the spans that spell them.
 ///
@@ -43,8 +43,7 @@ const BREAKS_AN_EDIT: u64 = 2;
 pub struct TextBuffer {
     pieces: PieceTree,
     chunks: Chunks,
-    /// The piece that `seek` looked up last; None where the pieces were changed since.
-    last_found: Option<Found>,
+    last_found: LastFound,
 }
 
 impl Model for TextBuffer {
@@ -66,7 +65,7 @@ impl TextBuffer {
         TextBuffer {
             pieces: PieceTree::new(alloc),
             chunks: Chunks::new(alloc),
-            last_found: None,
+            last_found: NOTHING_FOUND,
         }
     }
 
@@ -85,7 +84,7 @@ impl TextBuffer {
         Ok(TextBuffer {
             pieces,
             chunks,
-            last_found: None,
+            last_found: NOTHING_FOUND,
         })
     }
 
@@ -141,14 +140,14 @@ impl TextBuffer {
         self.pieces.spans(out)
     }
 
-    /// Looks up the piece that has the unit at the offset, where there is one, and remembers it until the text is changed: what is
-    /// asked next at places of that piece is answered without a search. It takes no memory.
-    pub fn seek(&mut self, offset: u64)
+    /// Looks up the pieces that have the units where the span starts and where it ends, where there are such, and remembers them
+    /// until the text is changed: what is asked next at these places is answered without a search. It takes no memory.
+    pub fn seek(&mut self, span: Span)
         ensures { self.new ≡ self.old }
     {
-        if offset < self.pieces.len() {
-            self.last_found = Some(piece_near(&self.pieces, &self.last_found, offset));
-        }
+        let start = found_near(&self.pieces, &self.last_found.start, span.start);
+        let end = found_near(&self.pieces, &start, span.end);
+        self.last_found = LastFound { start, end };
     }
 
     /// Puts the text in the place of the span, and answers which lines it touched, as `dirty_lines` does. What it leaves of a
@@ -185,8 +184,14 @@ impl TextBuffer {
         ensures after { drop (result.first - 1 + result.new) (lines_of self.new.units)
             ≡ drop (result.first - 1 + result.old) (lines_of self.old.units) }
     {
-        let start = spot_at(&self.pieces, &self.chunks, &self.last_found, span.start);
-        let end = spot_at(&self.pieces, &self.chunks, &start.found, span.end);
+        let start = spot_at(
+            &self.pieces,
+            &self.chunks,
+            &self.last_found.start,
+            span.start,
+        );
+        let last = self.last_found.end;
+        let end = spot_behind(&self.pieces, &self.chunks, &start, last, span.end);
         let dirty = dirty_between(&self.pieces, &self.chunks, &start, &end, text);
         let rests = rests_of(&self.pieces, &self.chunks, &start, &end, text);
         let front_joins = joins_front(&start, &end, text);
@@ -200,7 +205,7 @@ impl TextBuffer {
         let to = span.end + after.len() as u64;
         let added = append_some(&mut self.chunks, before, text, after);
         self.pieces.splice(at, from, to - from, added, &self.chunks);
-        self.last_found = None;
+        self.last_found = NOTHING_FOUND;
         dirty
     }
 
@@ -232,48 +237,22 @@ impl TextBuffer {
         }
     }
 
-    /// The position of the offset; None where the offset is no place of the text. Each node that is visited is a step.
+    /// The position of the offset; None where the offset is no place of the text. Each node that a search visits is a step.
     pub fn position_at<L: Ledger>(&self, offset: u64, steps: &mut Steps<L>) -> Option<Position>
         ensures position { result ≡ (if is_place self.now.units offset
             then Some (position_of self.now.units offset) else None) }
-        ensures cost { WithinLookUps 3 (length self.now.spans) (steps.new - steps.old) }
+        ensures cost { WithinLookUps 2 (length self.now.spans) (steps.new - steps.old) }
     {
-        let Some(breaks) = self.breaks_at(offset, steps) else {
-            return None;
-        };
-        let start = self.line_start(breaks, steps);
-        Some(Position {
-            line: breaks + 1,
-            column: offset - start + 1,
-        })
+        position_in(&self.pieces, &self.chunks, offset, steps)
     }
 
-    /// The offset of the position; None where it is no position of the text. Each node that is visited is a step.
+    /// The offset of the position; None where it is no position of the text. Each node that a search visits is a step.
     pub fn offset_at<L: Ledger>(&self, position: Position, steps: &mut Steps<L>) -> Option<u64>
         ensures offset { result ≡ (if is_position self.now.units position
             then Some (offset_of self.now.units position) else None) }
-        ensures cost { WithinLookUps 4 (length self.now.spans) (steps.new - steps.old) }
+        ensures cost { WithinLookUps 3 (length self.now.spans) (steps.new - steps.old) }
     {
-        if position.line == 0 {
-            return None;
-        }
-        if position.line > self.line_count() {
-            return None;
-        }
-        let start = self.line_start(position.line - 1, steps);
-        let end = self.content_end(position.line, start, steps);
-        if position.column == 0 {
-            return None;
-        }
-        if position.column - 1 > end - start {
-            return None;
-        }
-        let offset = start + (position.column - 1);
-        if self.is_place_counted(offset, steps) {
-            Some(offset)
-        } else {
-            None
-        }
+        offset_in(&self.pieces, &self.chunks, position, steps)
     }
 
     /// `position_at`, with steps that nobody counts.
@@ -326,85 +305,15 @@ impl TextBuffer {
             drop (result.first - 1 + result.new) lines
             ≡ drop (result.first - 1 + result.old) (lines_of self.now.units) }
     {
-        let start = spot_at(&self.pieces, &self.chunks, &self.last_found, span.start);
-        let end = spot_at(&self.pieces, &self.chunks, &start.found, span.end);
+        let start = spot_at(
+            &self.pieces,
+            &self.chunks,
+            &self.last_found.start,
+            span.start,
+        );
+        let last = self.last_found.end;
+        let end = spot_behind(&self.pieces, &self.chunks, &start, last, span.end);
         dirty_between(&self.pieces, &self.chunks, &start, &end, text)
-    }
-
-    // The offset after the content of the line that starts here.
-    fn content_end<L: Ledger>(&self, line: u64, start: u64, steps: &mut Steps<L>) -> u64
-        requires first { 0 < line }
-        requires there { line ≤ length (lines_of self.now.units) }
-        requires start { start ≡ line_start self.now.units line }
-        ensures content { (d : Line)
-            → result ≡ start + length
-            (slice_index_or (lines_of self.now.units) (line - 1) d).content }
-        ensures within { result ≤ length self.now.units }
-        ensures cost { WithinLookUps 1 (length self.now.spans) (steps.new - steps.old) }
-    {
-        if line == self.line_count() {
-            return self.len();
-        }
-        let (found, own) = break_at(&self.pieces, &self.chunks, line, steps);
-        let end = found.before.units + own;
-        if end - start < 2 {
-            return end - 1;
-        }
-        // A CR LF lies in one piece.
-        if ends_with_pair(&self.chunks.units(found.span)[..own as usize]) {
-            end - 2
-        } else {
-            end - 1
-        }
-    }
-
-    // How many breaks end at the offset or before it; None where the offset is no place of the text.
-    fn breaks_at<L: Ledger>(&self, offset: u64, steps: &mut Steps<L>) -> Option<u64>
-        ensures breaks { result ≡ (if is_place self.now.units offset
-            then Some (count_to offset (break_ends 0 self.now.units)) else None) }
-        ensures few { IfSome result (λ breaks. breaks < 2 ^ 62) }
-        ensures small { IfSome result (λ breaks. offset < 2 ^ 62) }
-        ensures cost { WithinLookUps 2 (length self.now.spans) (steps.new - steps.old) }
-    {
-        if offset > self.len() {
-            return None;
-        }
-        if offset == self.len() {
-            return Some(self.pieces.breaks());
-        }
-        let found = self.pieces.find_offset(offset, steps);
-        if cuts_pair_at(&self.pieces, &self.chunks, &found, offset, steps) {
-            return None;
-        }
-        let own = self
-            .chunks
-            .breaks_to(found.span, offset - found.before.units);
-        Some(found.before.breaks + own)
-    }
-
-    // The start of the line after so many breaks.
-    fn line_start<L: Ledger>(&self, breaks: u64, steps: &mut Steps<L>) -> u64
-        requires { breaks < length (lines_of self.now.units) }
-        ensures start { result ≡ line_start self.now.units (breaks + 1) }
-        ensures cost { WithinLookUps 1 (length self.now.spans) (steps.new - steps.old) }
-    {
-        if breaks == 0 {
-            return 0;
-        }
-        let (found, own) = break_at(&self.pieces, &self.chunks, breaks, steps);
-        found.before.units + own
-    }
-
-    // `is_place`, with its look-ups counted.
-    fn is_place_counted<L: Ledger>(&self, offset: u64, steps: &mut Steps<L>) -> bool
-        ensures place { result ≡ is_place self.now.units offset }
-        ensures cost { WithinLookUps 2 (length self.now.spans) (steps.new - steps.old) }
-    {
-        if offset >= self.len() {
-            return offset == self.len();
-        }
-        let found = self.pieces.find_offset(offset, steps);
-        !cuts_pair_at(&self.pieces, &self.chunks, &found, offset, steps)
     }
 
     // Whether the offsets are places. The second is looked for where the first was found.
@@ -415,7 +324,7 @@ impl TextBuffer {
         if start >= self.len() {
             return end == self.len();
         }
-        let first = piece_near(&self.pieces, &self.last_found, start);
+        let first = piece_near(&self.pieces, &self.last_found.start, start);
         if cuts_pair_beside(&self.pieces, &self.chunks, &first, start) {
             return false;
         }
@@ -425,7 +334,8 @@ impl TextBuffer {
         if end >= self.len() {
             return end == self.len();
         }
-        let last = piece_near(&self.pieces, &Some(first), end);
+        let near = nearer(Some(first), self.last_found.end, end);
+        let last = piece_near(&self.pieces, &near, end);
         !cuts_pair_beside(&self.pieces, &self.chunks, &last, end)
     }
 
@@ -438,7 +348,13 @@ impl TextBuffer {
         ensures err { OnErr result (out.new.items ≡ out.old.items) }
     {
         out.reserve((span.end - span.start) as usize)?;
-        push_span(&self.pieces, &self.chunks, &self.last_found, span, out);
+        push_span(
+            &self.pieces,
+            &self.chunks,
+            &self.last_found.start,
+            span,
+            out,
+        );
         Ok(())
     }
 
@@ -448,7 +364,7 @@ impl TextBuffer {
         ensures some { 0 < length result.now }
         ensures front { result.now ≡ take (length result.now) (drop at self.now.units) }
     {
-        let found = piece_at(&self.pieces, at);
+        let found = piece_near(&self.pieces, &None, at);
         let units = self.chunks.units(found.span);
         let (_, run) = units.split_at((at - found.before.units) as usize);
         run

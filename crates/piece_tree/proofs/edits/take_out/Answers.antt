@@ -1,4 +1,4 @@
-use Rattle.std.proofs.Common.{◌≡◌, ◌+◌, ◌-◌, refl, sym, subst, ◌∙◌, arith}
+use Rattle.std.proofs.Common.{◌≡◌, ℕ, ◌+◌, ◌-◌, refl, sym, subst, ◌∙◌, arith}
 use Rattle.piece_tree.specs.Pieces.{StandsAt, HasUnit, unit_count, front, back}
 use Rattle.piece_tree.specs.Inside.{entries_of, in_order, Parted}
 use Rattle.piece_tree.proofs.Cuts.{back-back}
@@ -34,6 +34,13 @@ starts c =
     let items = c.args.tree.now.items in let found = c.in-Some.found in
     let at : HasUnit (entries_of items) found c.args.offset = subst (λ a. StandsAt (entries_of items) a c.args.offset) c.in-Some.is c.requires.place in
     omega (arith, at.start, c.if-own-eq0.true)
+
+pub returns-then-deleted-eq0-clause-parted : goal.returns-then-deleted-eq0-clause-parted
+returns-then-deleted-eq0-clause-parted c =
+    let b = c.args.chunks.now.buffers in let ps = in_order c.args.tree.now.items in
+    let at = (goal.at.returns-then-deleted-eq0-clause-parted c).After-prev-after in
+    let same : c.args.offset ≡ c.args.offset + c.args.deleted = omega arith in
+    subst (λ (n : ℕ). Parted c.args.tree.now.items c.prev-after.result (front b c.args.offset ps) (back b n ps)) same (parted at (starts at))
 
 pub remove_units-requires-clause-place : goal.remove_units-requires-clause-place
 remove_units-requires-clause-place c =

@@ -3,18 +3,20 @@ use Rattle.rb_rules.specs.declared.slot.Data.{Data}
 use Rattle.rb_rules.specs.Tree.{Tree, height}
 use Rattle.rb_rules.specs.Memory.{Made}
 use Rattle.rb_rules.specs.Woven.{Woven}
-use Rattle.rb_arena.specs.Searching.{StandsIn}
+use Rattle.rb_arena.specs.Searching.{StandsIn, CanGoDown, FindsBelow, StepsBelow}
 use Rattle.rb_arena.proofs.Searches.{Walk, Visit, walk_starts, walk_ends, walk_over, walk_cost, live_there, visits, found_here, goes_left, goes_right, visit_cost, held_item, held_left, held_sum, held_next, held_by, few_turns, no_turns, no_step, one_step}
 use Rattle.rb_arena.proofs.descend.go_down.Given.{Over}
 use Rattle.rb_arena.proofs.descend.go_down.Goals.{in-Left, in-Right, After-visit-slot}
 use Rattle.rb_arena.proofs.descend.go_down.Goals as goal
 
 pub loop-turn-init : goal.loop-turn-init
+unfolding CanGoDown FindsBelow StepsBelow
 loop-turn-init g c =
     let t = g.W.Weave in let L = g.met.W.Weave.laws in
     ((λ beside whole made wv le items here. walk_starts t.weaving L t.is_near t.turn c.args.key whole items c.args.from le here), no_step c.args.steps.now, refl)
 
 pub returns-in_default : goal.returns-in_default
+unfolding CanGoDown FindsBelow StepsBelow
 returns-in_default g c = record {
   found = λ beside whole made wv le items here.
       let t = g.W.Weave in let l = c.loop-turn in
@@ -25,6 +27,7 @@ returns-in_default g c = record {
 }
 
 pub visit-slot-requires : goal.visit-slot-requires
+unfolding CanGoDown FindsBelow StepsBelow
 visit-slot-requires g c =
     let t = g.W.Weave in let l = c.loop-turn in let (beside, (whole, (items, made, wv, v, le, here))) = c.requires in
     live_there t.weaving g.met.W.Weave.laws t.is_near t.turn c.args.key whole items beside c.args.tree.now.nodes.live c.args.tree.now.root l.standing l._turn (128 - l._turn) c.in-Some.id made c.in-Some.is
@@ -41,6 +44,7 @@ visit g c beside whole made wv le items here =
     c.visit-slot.result c.visit-slot.ensures.value wv (l.invariant.0 beside whole made wv le items here)
 
 pub at_node-requires : goal.at_node-requires
+unfolding CanGoDown FindsBelow StepsBelow
 at_node-requires g c =
     let t = g.W.Weave in let laws = g.met.W.Weave in let (beside, (whole, (items, made, wv, v, le, here))) = c.requires in
     let at = visit g (goal.at.at_node-requires g c).After-visit-slot beside whole made wv le items here in record {
@@ -50,6 +54,7 @@ at_node-requires g c =
     }
 
 pub returns-in-Stop : goal.returns-in-Stop
+unfolding CanGoDown FindsBelow StepsBelow
 returns-in-Stop g c = record {
   found = λ beside whole made wv le items here.
       let at = c.at_node in
@@ -61,6 +66,7 @@ returns-in-Stop g c = record {
 }
 
 pub right_of-standing-requires : goal.right_of-standing-requires
+unfolding CanGoDown FindsBelow StepsBelow
 right_of-standing-requires g c =
     let t = g.W.Weave in let laws = g.met.W.Weave in let (beside, (whole, (items, made, wv, v, le, here))) = c.requires in
     let at = visit g (goal.at.right_of-standing-requires g c).After-visit-slot beside whole made wv le items here in record {
@@ -69,6 +75,7 @@ right_of-standing-requires g c =
     }
 
 pub loop-turn-preserved : goal.loop-turn-preserved
+unfolding CanGoDown FindsBelow StepsBelow
 loop-turn-preserved g c =
     let t = g.W.Weave in let L = g.met.W.Weave.laws in let l = c.loop-turn in let at = c.at_node in (
       (λ beside whole made wv le items here.
@@ -87,6 +94,7 @@ loop-turn-preserved g c =
     )
 
 pub returns : goal.returns
+unfolding CanGoDown FindsBelow StepsBelow
 returns g c = record {
   found = λ beside whole made wv le items here.
       let t = g.W.Weave in let L = g.met.W.Weave.laws in let l = c.loop-turn in let walk = l.invariant.0 beside whole made wv le items here in

@@ -3,6 +3,7 @@ use Rattle.rb_rules.specs.declared.slot.Data.{Data}
 use Rattle.rb_rules.specs.Tree.{Tree, Hole, plug}
 use Rattle.rb_rules.specs.Memory.{Made}
 use Rattle.rb_rules.specs.Shifts.{levelled}
+use Rattle.rb_arena.specs.Nodes.{Rewrites}
 use Rattle.rb_arena.specs.declared.links.Links.{Links}
 use Rattle.rb_arena.specs.Shifting.{CanLevel, CanLevelAt, Levels}
 use Rattle.rb_arena.proofs.Levelling.{Topmost, topmost, spot, held_item, held_before, held_whole, held_right, on_left, on_right, left_next, right_next}
@@ -51,7 +52,7 @@ plus-right-requires g t c =
     rw (c.node_of-slot.ensures.slot (spot z) z.can.0) (held_right z)
 
 pub level-requires : goal.level-requires
-unfolding CanLevelAt Levels
+unfolding CanLevelAt Levels Rewrites
 level-requires g t c κs within =
     let (beside, (u, (k, whole))) = c.requires in let z = top g c.args.tree.now c.in-Some.id c.args.by c.args.levels beside u k (rw c.in-Some.is at whole) in
     let is = c.node_of-slot.ensures.slot (spot z) z.can.0 in
@@ -61,7 +62,7 @@ level-requires g t c κs within =
     (less, (within.0, (within.1.0, (within.1.1.0, (within.1.1.1.0, (within.1.1.1.1, (beside, (_, (on_left z, left)))))))))
 
 pub level-requires-2 : goal.level-requires-2
-unfolding CanLevelAt Levels
+unfolding CanLevelAt Levels Rewrites
 level-requires-2 g t c κs within =
     let (beside, (u, (k, whole))) = c.requires in let z = top g c.args.tree.now c.in-Some.id c.args.by c.args.levels beside u k (rw c.in-Some.is at whole) in
     let is = c.node_of-slot.ensures.slot (spot z) z.can.0 in
@@ -73,7 +74,7 @@ level-requires-2 g t c κs within =
     (less, (within.0, (within.1.0, (within.1.1.0, (within.1.1.1.0, (within.1.1.1.1, (beside, (_, (on_right z, right)))))))))
 
 pub returns-clause-made : goal.returns-clause-made
-unfolding CanLevelAt Levels
+unfolding CanLevelAt Levels Rewrites
 returns-clause-made g t c = λ beside u k whole.
     let z = top g c.args.tree.now c.in-Some.id c.args.by c.args.levels beside u k (rw c.in-Some.is at whole) in let last = c.level-2.new.tree in
     let is = c.node_of-slot.ensures.slot (spot z) z.can.0 in

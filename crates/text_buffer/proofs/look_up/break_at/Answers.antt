@@ -11,51 +11,48 @@ use Rattle.text_buffer.proofs.look_up.break_at.Goals as goal
 
 pub nth_break-own-requires-clause-inside : goal.nth_break-own-requires-clause-inside
 nth_break-own-requires-clause-inside g c =
-    found_inside c.args.chunks.now.buffers c.args.pieces.now.entries c.find_line-found.result c.find_line-found.ensures.piece c.requires.text.pieces
+    found_inside c.args.chunks.now.buffers c.args.pieces.now.entries c.break_near-found.result c.break_near-found.ensures.piece c.requires.text.pieces
 
 pub nth_break-own-requires-clause-there : goal.nth_break-own-requires-clause-there
 nth_break-own-requires-clause-there g c =
     let b = c.args.chunks.now.buffers in
-    let found = c.find_line-found.result in
+    let found = c.break_near-found.result in
     omega (
       arith,
       break_count_is (units_at b found.span),
-      own_breaks b c.args.pieces.now.entries found c.find_line-found.ensures.piece c.requires.text.pieces c.requires.text.full c.requires.text.unsplit,
+      own_breaks b c.args.pieces.now.entries found c.break_near-found.ensures.piece c.requires.text.pieces c.requires.text.full c.requires.text.unsplit,
     )
 
 pub returns-clause-line : goal.returns-clause-line
 returns-clause-line g c =
-    found_line_start c.args.chunks.now.buffers c.args.pieces.now.entries c.find_line-found.result c.find_line-found.ensures.piece
-    c.requires.text.pieces c.requires.text.full c.requires.text.unsplit c.args.n c.find_line-found.ensures.start c.find_line-found.ensures.end
-    ∙ ap (λ n. c.find_line-found.result.before.units + n) (sym c.nth_break-own.ensures)
+    found_line_start c.args.chunks.now.buffers c.args.pieces.now.entries c.break_near-found.result c.break_near-found.ensures.piece
+    c.requires.text.pieces c.requires.text.full c.requires.text.unsplit c.args.n c.break_near-found.ensures.start c.break_near-found.ensures.end
+    ∙ ap (λ n. c.break_near-found.result.before.units + n) (sym c.nth_break-own.ensures)
 
 -- the break is one of those of the piece
 among_own : (g : Over) (c : After-nth_break-own g)
-    → c.args.n - c.find_line-found.result.before.breaks - 1 < length (break_ends 0 (units_at c.args.chunks.now.buffers c.find_line-found.result.span))
+    → c.args.n - c.break_near-found.result.before.breaks - 1 < length (break_ends 0 (units_at c.args.chunks.now.buffers c.break_near-found.result.span))
 among_own g c =
-    let found = c.find_line-found.result in
-    let breaks = own_breaks c.args.chunks.now.buffers c.args.pieces.now.entries found c.find_line-found.ensures.piece
+    let found = c.break_near-found.result in
+    let breaks = own_breaks c.args.chunks.now.buffers c.args.pieces.now.entries found c.break_near-found.ensures.piece
     c.requires.text.pieces c.requires.text.full c.requires.text.unsplit in
     omega (arith, breaks)
 
 pub returns-clause-some : goal.returns-clause-some
 returns-clause-some g c =
-    let own = units_at c.args.chunks.now.buffers c.find_line-found.result.span in
-    let k : ℕ = c.args.n - c.find_line-found.result.before.breaks in
+    let own = units_at c.args.chunks.now.buffers c.break_near-found.result.span in
+    let k : ℕ = c.args.n - c.break_near-found.result.before.breaks in
     let inside = among_own g (goal.at.returns-clause-some g c).After-nth_break-own in
     omega (arith, c.nth_break-own.ensures, line_start_is own (k - 1) (k + 1) inside (omega arith), break_ends_after 0 0 own (omega arith) (k - 1) 0 inside)
 
 pub returns-clause-within : goal.returns-clause-within
 returns-clause-within g c =
-    let found = c.find_line-found.result in
+    let found = c.break_near-found.result in
     let k : ℕ = c.args.n - found.before.breaks in
     let inside = among_own g (goal.at.returns-clause-within g c).After-nth_break-own in
     omega (
       arith,
       c.nth_break-own.ensures,
       line_start_within (units_at c.args.chunks.now.buffers found.span) (k - 1) (k + 1) inside (omega arith),
-      found_size c.args.chunks.now.buffers c.args.pieces.now.entries found c.find_line-found.ensures.piece c.requires.text.pieces,
+      found_size c.args.chunks.now.buffers c.args.pieces.now.entries found c.break_near-found.ensures.piece c.requires.text.pieces,
     )
-
-pub returns-clause-small : goal.returns-clause-small
-returns-clause-small g c = let within = returns-clause-within g c in omega (arith, within, c.find_line-found.ensures.small)

@@ -1,4 +1,4 @@
-use Rattle.std.proofs.Common.{◌≡◌, ◌+◌, ◌-◌, ◌<◌, ◌≤◌, ◌∷◌, ◌++◌, ◌==◌, true, false, Some, List, ℕ, take, length, map, drop, refl, subst, ◌∙◌, ap, sym, arith}
+use Rattle.std.proofs.Common.{◌≡◌, ◌+◌, ◌-◌, ◌<◌, ◌≤◌, ◌^◌, ◌∷◌, ◌++◌, ◌==◌, true, false, Some, List, ℕ, take, length, map, drop, refl, subst, ◌∙◌, ap, sym, arith}
 use Rattle.std.proofs.lemmas.Bool.{false≢true, eq-eqb}
 use Rattle.std.proofs.lemmas.List.{length-map, length-append}
 use Rattle.chunk_buffers.specs.declared.span.ChunkSpan.{ChunkSpan}
@@ -16,6 +16,7 @@ use Rattle.text_buffer.proofs.Touched.{before_dirty, after_dirty}
 use Rattle.text_buffer.proofs.AddedBreaks.{added_breaks}
 use Rattle.text_buffer.proofs.Along.{IsFrontAlong, IsBackAlong, front_along, back_along, front_fits, back_fits, rests_front, rests_back, front_cuts, if_some, none_along, both_cut, first_length, last_length, little_units}
 use Rattle.text_buffer.proofs.Spots.{spot_within}
+use Rattle.text_buffer.proofs.Spelling.{length-spelled}
 use Rattle.text_buffer.proofs.Extended.{pieces-extended}
 use Rattle.text_buffer.proofs.Edited.{IsReplaced, IsReplaced-of, front_border, units-added, length-edited}
 use Rattle.text_buffer.proofs.Growing.{split_spans, adds_none, grows_later, at_border, takes_place}
@@ -27,26 +28,26 @@ use Rattle.text_buffer.proofs.text.TextBuffer.replace.Goals.{After-joins_back-ba
 front_is : (c : After-joins_back-back_joins) → c.joins_front-front_joins.result ≡ joins_pair (take c.args.span.start c.args.self.now.units) (c.args.text.now ++ drop c.args.span.end c.args.self.now.units)
 front_is c =
     let x = (text_of c.self.inside.pieces c.self.inside.chunks).units in
-    c.joins_front-front_joins.ensures (take c.spot_at-start.result.offset x) (drop c.spot_at-end.result.offset x) c.spot_at-start.ensures.spot.after_return c.spot_at-end.ensures.spot.before_feed
-    ∙ (λ i. joins_pair (take (c.spot_at-start.ensures.offset i) (c.self.view_is i).units) (c.args.text.now ++ drop (c.spot_at-end.ensures.offset i) (c.self.view_is i).units))
+    c.joins_front-front_joins.ensures (take c.spot_at-start.result.offset x) (drop c.spot_behind-end.result.offset x) c.spot_at-start.ensures.spot.after_return c.spot_behind-end.ensures.spot.before_feed
+    ∙ (λ i. joins_pair (take (c.spot_at-start.ensures.offset i) (c.self.view_is i).units) (c.args.text.now ++ drop (c.spot_behind-end.ensures.offset i) (c.self.view_is i).units))
 
 back_is : (c : After-joins_back-back_joins) → c.joins_back-back_joins.result ≡ joins_pair (take c.args.span.start c.args.self.now.units ++ c.args.text.now) (drop c.args.span.end c.args.self.now.units)
 back_is c =
     let x = (text_of c.self.inside.pieces c.self.inside.chunks).units in
-    c.joins_back-back_joins.ensures (take c.spot_at-start.result.offset x) (drop c.spot_at-end.result.offset x) c.spot_at-start.ensures.spot.after_return c.spot_at-end.ensures.spot.before_feed
-    ∙ (λ i. joins_pair (take (c.spot_at-start.ensures.offset i) (c.self.view_is i).units ++ c.args.text.now) (drop (c.spot_at-end.ensures.offset i) (c.self.view_is i).units))
+    c.joins_back-back_joins.ensures (take c.spot_at-start.result.offset x) (drop c.spot_behind-end.result.offset x) c.spot_at-start.ensures.spot.after_return c.spot_behind-end.ensures.spot.before_feed
+    ∙ (λ i. joins_pair (take (c.spot_at-start.ensures.offset i) (c.self.view_is i).units ++ c.args.text.now) (drop (c.spot_behind-end.ensures.offset i) (c.self.view_is i).units))
 
 -- the rests are those at the two places
 front_rest : (c : After-joins_back-back_joins) (part : ChunkSpan) → c.rests_of-rests.result.front ≡ Some part
     → rest_before c.self.inside.chunks.buffers c.spot_at-start.result.found c.spot_at-start.result.offset ≡ Some part
 front_rest c part e =
-    rests_front c.self.inside.chunks.buffers c.spot_at-start.result c.spot_at-end.result (length c.args.text.now) part (sym (ap (λ r. r.front) c.rests_of-rests.ensures) ∙ e)
+    rests_front c.self.inside.chunks.buffers c.spot_at-start.result c.spot_behind-end.result (length c.args.text.now) part (sym (ap (λ r. r.front) c.rests_of-rests.ensures) ∙ e)
 
 back_rest : (c : After-joins_back-back_joins) (part : ChunkSpan) → c.rests_of-rests.result.back ≡ Some part
-    → ((c.spot_at-start.result.offset == c.spot_at-end.result.offset) ≡ false)
-    × (rest_behind c.self.inside.chunks.buffers c.spot_at-end.result.found c.spot_at-end.result.offset ≡ Some part)
+    → ((c.spot_at-start.result.offset == c.spot_behind-end.result.offset) ≡ false)
+    × (rest_behind c.self.inside.chunks.buffers c.spot_behind-end.result.found c.spot_behind-end.result.offset ≡ Some part)
 back_rest c part e =
-    rests_back c.self.inside.chunks.buffers c.spot_at-start.result c.spot_at-end.result (length c.args.text.now) part (sym (ap (λ r. r.back) c.rests_of-rests.ensures) ∙ e)
+    rests_back c.self.inside.chunks.buffers c.spot_at-start.result c.spot_behind-end.result (length c.args.text.now) part (sym (ap (λ r. r.back) c.rests_of-rests.ensures) ∙ e)
 
 -- what is taken along on both sides
 ahead : (c : After-as_slice-after) → c.joins_front-front_joins.result ≡ joins_pair (take c.args.span.start c.args.self.now.units) (c.args.text.now ++ drop c.args.span.end c.args.self.now.units)
@@ -63,11 +64,11 @@ ahead c joins rest =
     (λ i. (x_is i, at i, sym (c.as_slice-before.ensures.value ∙ c.units_along-front.ensures) i)) is
 
 behind : (c : After-as_slice-after) → c.joins_back-back_joins.result ≡ joins_pair (take c.args.span.start c.args.self.now.units ++ c.args.text.now) (drop c.args.span.end c.args.self.now.units)
-    → ((part : ChunkSpan) → c.rests_of-rests.result.back ≡ Some part → rest_behind c.self.inside.chunks.buffers c.spot_at-end.result.found c.spot_at-end.result.offset ≡ Some part)
+    → ((part : ChunkSpan) → c.rests_of-rests.result.back ≡ Some part → rest_behind c.self.inside.chunks.buffers c.spot_behind-end.result.found c.spot_behind-end.result.offset ≡ Some part)
     → IsBackAlong c.args.self.now.units c.args.span.end c.joins_back-back_joins.result c.as_slice-after.result.now
 behind c joins rest =
-    let tree = c.self.inside.pieces in let chunks = c.self.inside.chunks in let spot = c.spot_at-end.result in let there = c.spot_at-end.ensures.spot in
-    let x_is = ap (λ v. v.units) c.self.view_is in let at = c.spot_at-end.ensures.offset in
+    let tree = c.self.inside.pieces in let chunks = c.self.inside.chunks in let spot = c.spot_behind-end.result in let there = c.spot_behind-end.ensures.spot in
+    let x_is = ap (λ v. v.units) c.self.view_is in let at = c.spot_behind-end.ensures.offset in
     let more : List ℕ = take c.args.span.start c.args.self.now.units ++ c.args.text.now in
     let here = joins ∙ (λ i. joins_pair more (drop (sym at i) (sym x_is i))) in
     let is = back_along tree chunks c.self.invariant.text spot there (spot_within tree chunks spot.found spot.offset c.self.invariant.text there.found)
@@ -79,8 +80,8 @@ pub spot_at-start-requires-clause-within : goal.spot_at-start-requires-clause-wi
 spot_at-start-requires-clause-within c =
     omega (arith, units_shown c.self.inside.pieces c.self.inside.chunks c.args.self.now c.self.invariant.text c.self.view_is, c.requires.ordered, c.requires.within)
 
-pub spot_at-end-requires-clause-within : goal.spot_at-end-requires-clause-within
-spot_at-end-requires-clause-within c =
+pub spot_behind-end-requires-clause-within : goal.spot_behind-end-requires-clause-within
+spot_behind-end-requires-clause-within c =
     omega (arith, units_shown c.self.inside.pieces c.self.inside.chunks c.args.self.now c.self.invariant.text c.self.view_is, c.requires.within)
 
 -- what a front or a back takes along fits
@@ -101,14 +102,14 @@ units_along-front-requires-clause-few c =
 pub units_along-back-requires-clause-inside : goal.units_along-back-requires-clause-inside
 units_along-back-requires-clause-inside c =
     let at = (goal.at.units_along-back-requires-clause-inside c).After-joins_back-back_joins in
-    let tree = c.self.inside.pieces in let chunks = c.self.inside.chunks in let spot = c.spot_at-end.result in let there = c.spot_at-end.ensures.spot in
+    let tree = c.self.inside.pieces in let chunks = c.self.inside.chunks in let spot = c.spot_behind-end.result in let there = c.spot_behind-end.ensures.spot in
     if_some (LiesIn chunks.buffers) c.rests_of-rests.result.back
     (λ part e. (back_fits tree chunks c.self.invariant.text spot there (spot_within tree chunks spot.found spot.offset c.self.invariant.text there.found) part (back_rest at part e).1).0)
 
 pub units_along-back-requires-clause-few : goal.units_along-back-requires-clause-few
 units_along-back-requires-clause-few c =
     let at = (goal.at.units_along-back-requires-clause-few c).After-joins_back-back_joins in
-    let tree = c.self.inside.pieces in let chunks = c.self.inside.chunks in let spot = c.spot_at-end.result in let there = c.spot_at-end.ensures.spot in
+    let tree = c.self.inside.pieces in let chunks = c.self.inside.chunks in let spot = c.spot_behind-end.result in let there = c.spot_behind-end.ensures.spot in
     if_some (λ span. span.units ≤ most_along) c.rests_of-rests.result.back
     (λ part e. (back_fits tree chunks c.self.invariant.text spot there (spot_within tree chunks spot.found spot.offset c.self.invariant.text there.found) part (back_rest at part e).1).1)
 
@@ -132,7 +133,7 @@ overflow_add-to c =
     let to = goal.at.overflow_add-to c in let at = to.After-joins_back-back_joins in
     let few = (behind to.After-as_slice-after (back_is at) (λ part e. (back_rest at part e).1)).few in
     let size = ap (λ v. length v.units) c.self.view_is in
-    omega (arith, c.spot_at-end.ensures.spot.small, size, c.requires.within, few)
+    omega (arith, c.spot_behind-end.ensures.spot.small, size, c.requires.within, few)
 
 pub append_some-added-requires-clause-room : goal.append_some-added-requires-clause-room
 append_some-added-requires-clause-room c =
@@ -204,7 +205,8 @@ pub invariant_of-self : goal.invariant_of-self
 invariant_of-self c =
     let to = goal.at.invariant_of-self c in let at = to.After-joins_back-back_joins in
     let r = replaced to.After-splice (ahead to.After-as_slice-after (front_is at) (front_rest at)) (behind to.After-as_slice-after (back_is at) (λ part e. (back_rest at part e).1)) (front_is at) (back_is at) in
-    record { text = record { pieces = r.pieces; full = r.full; unsplit = r.unsplit }; found = tt }
+    let small : unit_count (pieces_of c.splice.new.self.entries) < 2 ^ 62 = omega (arith, length-spelled c.append_some-added.new.chunks.buffers (pieces_of c.splice.new.self.entries) r.pieces, ap length r.text_is, c.requires.small) in
+    record { text = record { pieces = r.pieces; full = r.full; unsplit = r.unsplit; small = small }; start = tt; end = tt }
 
 pub returns-clause-units : goal.returns-clause-units
 returns-clause-units c =
@@ -224,13 +226,13 @@ returns-clause-pieces c =
     )
 
 -- where the span leaves little of the one piece that it lies in, the new span takes the place of that piece
-taken_in : (c : After-splice) (us : List Piece) (p : Piece) (vs : List Piece) → pieces_of c.self.inside.pieces.entries ≡ us ++ p ∷ vs → c.spot_at-start.result.offset < c.spot_at-end.result.offset
+taken_in : (c : After-splice) (us : List Piece) (p : Piece) (vs : List Piece) → pieces_of c.self.inside.pieces.entries ≡ us ++ p ∷ vs → c.spot_at-start.result.offset < c.spot_behind-end.result.offset
     → is_little c.self.inside.chunks.buffers (part_of p.span 0 (c.spot_at-start.result.offset - unit_count us)) ≡ true
-    → is_little c.self.inside.chunks.buffers (part_of p.span (c.spot_at-end.result.offset - unit_count us) p.span.units) ≡ true
+    → is_little c.self.inside.chunks.buffers (part_of p.span (c.spot_behind-end.result.offset - unit_count us) p.span.units) ≡ true
     → length (pieces_of c.splice.new.self.entries) ≤ length (pieces_of c.self.inside.pieces.entries)
 taken_in c us p vs is some ahead behind =
-    let tree = c.self.inside.pieces in let chunks = c.self.inside.chunks in let start = c.spot_at-start.result in let end = c.spot_at-end.result in
-    let one = c.spot_at-start.ensures.spot in let two = c.spot_at-end.ensures.spot in
+    let tree = c.self.inside.pieces in let chunks = c.self.inside.chunks in let start = c.spot_at-start.result in let end = c.spot_behind-end.result in
+    let one = c.spot_at-start.ensures.spot in let two = c.spot_behind-end.ensures.spot in
     let both = c.rests_of-rests.ensures ∙ both_cut tree chunks c.self.invariant.text start end one two us p vs is some ahead behind (length c.args.text.now) in
     let low = little_units chunks.buffers (part_of p.span 0 (start.offset - unit_count us)) ahead in
     let high = little_units chunks.buffers (part_of p.span (end.offset - unit_count us) p.span.units) behind in
@@ -242,7 +244,7 @@ taken_in c us p vs is some ahead behind =
     ∙ last_length tree chunks c.self.invariant.text start end one two us p vs is some ahead behind in
     let from = c.args.span.start - length c.as_slice-before.result.now in
     let few = takes_place c.append_some-added.new.chunks.buffers us p vs (pieces_of tree.entries) from (from + (c.args.span.end + length c.as_slice-after.result.now - from)) c.append_some-added.result
-    is c.self.invariant.text.full (omega (arith, first, low, c.spot_at-start.ensures.offset)) (omega (arith, first, last, low, high, some, c.spot_at-start.ensures.offset, c.spot_at-end.ensures.offset)) in
+    is c.self.invariant.text.full (omega (arith, first, low, c.spot_at-start.ensures.offset)) (omega (arith, first, last, low, high, some, c.spot_at-start.ensures.offset, c.spot_behind-end.ensures.offset)) in
     omega (arith, few, ap length c.splice.ensures.spliced)
 
 pub returns-clause-taken : goal.returns-clause-taken
@@ -250,9 +252,9 @@ returns-clause-taken c = λ little.
     let b = c.self.inside.chunks.buffers in let ps = pieces_of c.self.inside.pieces.entries in
     let place = subst (λ t. LeavesLittle t c.args.span) (sym c.self.view_is) little in
     let (us, (p, (vs, is, count, same))) = split_spans ps place.earlier place.own place.later place.among in
-    let one = c.spot_at-start.ensures.offset in let two = c.spot_at-end.ensures.offset in
+    let one = c.spot_at-start.ensures.offset in let two = c.spot_behind-end.ensures.offset in
     let first : is_little b (part_of p.span 0 (c.spot_at-start.result.offset - unit_count us)) ≡ true = rw (same, one, count) place.front in
-    let last : is_little b (part_of p.span (c.spot_at-end.result.offset - unit_count us) p.span.units) ≡ true = rw (same, two, count) place.back in
+    let last : is_little b (part_of p.span (c.spot_behind-end.result.offset - unit_count us) p.span.units) ≡ true = rw (same, two, count) place.back in
     let few = taken_in (goal.at.returns-clause-taken c).After-splice us p vs is (omega (arith, one, two, place.some)) first last in
     omega (arith, few, length-map (pieces_of c.splice.new.self.entries) (λ p. p.span), length-map ps (λ p. p.span), ap (λ v. length v.spans) c.self.view_is)
 
@@ -307,11 +309,11 @@ returns-clause-typed c = λ grows none.
 
 -- where nothing is removed and no pair is made, nothing is taken along behind the place
 none_behind : (c : After-as_slice-after) → ((part : ChunkSpan) → c.rests_of-rests.result.back ≡ Some part
-    → ((c.spot_at-start.result.offset == c.spot_at-end.result.offset) ≡ false) × (rest_behind c.self.inside.chunks.buffers c.spot_at-end.result.found c.spot_at-end.result.offset ≡ Some part))
+    → ((c.spot_at-start.result.offset == c.spot_behind-end.result.offset) ≡ false) × (rest_behind c.self.inside.chunks.buffers c.spot_behind-end.result.found c.spot_behind-end.result.offset ≡ Some part))
     → c.args.span.start ≡ c.args.span.end → c.joins_back-back_joins.result ≡ false → length c.as_slice-after.result.now ≡ 0
 none_behind c rest same apart =
-    let start = c.spot_at-start.result.offset in let end = c.spot_at-end.result.offset in
-    let one : start ≡ end = c.spot_at-start.ensures.offset ∙ same ∙ sym c.spot_at-end.ensures.offset in
+    let start = c.spot_at-start.result.offset in let end = c.spot_behind-end.result.offset in
+    let one : start ≡ end = c.spot_at-start.ensures.offset ∙ same ∙ sym c.spot_behind-end.ensures.offset in
     ap length (c.as_slice-after.ensures.value ∙ c.units_along-back.ensures
     ∙ none_along c.self.inside.chunks.buffers c.rests_of-rests.result.back c.joins_back-back_joins.result line_feed (λ part e. absurd (false≢true (sym (rest part e).0 ∙ eq-eqb start end one))) apart)
 
@@ -360,7 +362,7 @@ returns-clause-spare_breaks c =
 pub returns-clause-dirty : goal.returns-clause-dirty
 returns-clause-dirty c =
     c.dirty_between-dirty.ensures
-    ∙ (λ i. dirty_lines (c.self.view_is i).units (record { start = c.spot_at-start.ensures.offset i; end = c.spot_at-end.ensures.offset i }) c.args.text.now)
+    ∙ (λ i. dirty_lines (c.self.view_is i).units (record { start = c.spot_at-start.ensures.offset i; end = c.spot_behind-end.ensures.offset i }) c.args.text.now)
 
 pub returns-clause-before : goal.returns-clause-before
 returns-clause-before c =

@@ -15,8 +15,10 @@ invariant_of-self-2 c =
         pieces = pieces-extended old new c.reserve.ensures.same ps c.self.invariant.text.pieces;
         full = c.self.invariant.text.full;
         unsplit = unsplit-extended old new c.reserve.ensures.same ps c.self.invariant.text.pieces c.self.invariant.text.unsplit;
+        small = c.self.invariant.text.small;
       };
-      found = c.self.invariant.found;
+      start = c.self.invariant.start;
+      end = c.self.invariant.end;
     })
 
 pub returns-clause-same : goal.returns-clause-same
