@@ -124,6 +124,10 @@ impl Weave for Marks {
         }
     }
 
+    fn same(first: Option<i64>, second: Option<i64>) -> bool {
+        first == second
+    }
+
     fn still() -> i64 {
         0
     }

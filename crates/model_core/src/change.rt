@@ -168,18 +168,6 @@ pub(crate) fn text_breaks(ops: &[Op]) -> u64
     breaks
 }
 
-/// Looks up where the first of the ops starts and ends, unless its span is turned round, which is refused without a search. The text
-/// remembers the pieces, so that to check the op, to copy what it takes away and to carry it out need no other search there.
-pub(crate) fn seek_first(text: &mut TextBuffer, ops: &[Op])
-    ensures { text.new ≡ text.old }
-{
-    if let Some(op) = ops.first()
-        && op.span.start <= op.span.end
-    {
-        text.seek(op.span);
-    }
-}
-
 /// Makes room for so many edits, whose texts have so many units and breaks together. An error leaves the text and the
 /// marks as they were, and room that was there stays.
 pub(crate) fn make_room(

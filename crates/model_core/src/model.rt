@@ -25,7 +25,7 @@ ghost use Rattle.model_core.specs.Errors.{error_of, refusal_of, shelf_error_of};
 use crate::brackets::{parse_again, renew};
 use crate::change::{
     Change, Way, alternative_after, apply, lead, make_room, next_step, pass_step, reserve_for,
-    seek_first, text_breaks,
+    text_breaks,
 };
 use crate::last_parse::{LastParse, unparsed};
 use crate::places::{is_position, place_of, told};
@@ -194,7 +194,7 @@ impl Model {
         ensures parse { KeepsParse self.old self.new }
         ensures ready { PreparesEdit ops.items result self.new }
     {
-        seek_first(&mut self.text, &ops);
+        self.text.seek(&ops);
         let batch = Batch::checked(ops, &self.text).map_err(error_of)?;
         let next = raised(self.version, 1).ok_or(ModelError::Limit)?;
         let inverse = batch

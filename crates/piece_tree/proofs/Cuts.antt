@@ -3,8 +3,7 @@ use Rattle.std.proofs.Common.{◌≡◌, ℕ, ◌+◌, ◌-◌, ◌<◌, ◌≤�
 use Rattle.std.specs.List.{All}
 use Rattle.std.proofs.lemmas.Bool.{lt-leb, le-leb, cases_lt, cases_eq, ne_eqb}
 use Rattle.std.proofs.lemmas.List.{length-take}
-use Rattle.std.proofs.lemmas.List.Elements.{All-head, All-tail, All-cons, All-nil, All-append, All-weaker}
-use Rattle.std.proofs.lemmas.List.Sums.{sum_by-append}
+use Rattle.std.proofs.lemmas.List.Elements.{All-head, All-tail, All-cons, All-nil, All-weaker}
 use Rattle.chunk_buffers.specs.declared.span.ChunkSpan.{ChunkSpan}
 use Rattle.chunk_buffers.specs.Chunks.{units_at, LiesIn, part_of, buffer_at}
 use Rattle.line_starts.proofs.Starts.{break_count_is}
@@ -71,38 +70,6 @@ module _ (b : List (List ℕ)) where
       let more = units-cons f fs in
       back_past n f (fs ++ ps) (omega arith) ∙ back-append fs ps (n - f.span.units) d (omega arith)
 
-  back_of_part : (m n k : ℕ) (p : Piece) (ps : List Piece) → k ≡ n + m → n < p.span.units → 0 < n
-      → back b m (piece_of b (part_of p.span n p.span.units) ∷ ps) ≡ back b k (p ∷ ps)
-  back_of_part m n k p ps e within some =
-      let q : Piece = piece_of b (part_of p.span n p.span.units) in
-      elim (cases_lt m (p.span.units - n)) [
-        | inr past ↦ (let same : m - (p.span.units - n) ≡ k - p.span.units = omega arith in
-            back_past m q ps past ∙ ap (λ (j : ℕ). back b j ps) same ∙ sym (back_past k p ps (omega arith)))
-        | inl inside ↦ elim (cases_eq m 0) [
-          | inl none ↦ (let same : n ≡ k = omega arith in
-              ap (λ (j : ℕ). back b j (q ∷ ps)) none ∙ back_none q ps (omega arith)
-              ∙ ap (λ (j : ℕ). piece_of b (part_of p.span j p.span.units) ∷ ps) same ∙ sym (back_part k p ps (omega arith) (omega arith)))
-          | inr more ↦ (let start : p.span.start + n + m ≡ p.span.start + k = omega arith in
-              let units : p.span.units - n - m ≡ p.span.units - k = omega arith in
-              back_part m q ps (omega arith) inside
-              ∙ ap (λ (s : ℕ). piece_of b (record { buffer = p.span.buffer; start = s; units = p.span.units - n - m }) ∷ ps) start
-              ∙ ap (λ (u : ℕ). piece_of b (record { buffer = p.span.buffer; start = p.span.start + k; units = u }) ∷ ps) units
-              ∙ sym (back_part k p ps (omega arith) (omega arith)))
-        ]
-      ]
-
-  pub back-back : (m n k : ℕ) (ps : List Piece) → k ≡ n + m → back b m (back b n ps) ≡ back b k ps
-  back-back m n k [] e = refl
-  back-back m n k (p ∷ ps) e =
-      elim (cases_lt n p.span.units) [
-        | inr past ↦ ap (back b m) (back_past n p ps past) ∙ back-back m (n - p.span.units) (k - p.span.units) ps (omega arith) ∙ sym (back_past k p ps (omega arith))
-        | inl within ↦ elim (cases_eq n 0) [
-          | inl none ↦ (let same : m ≡ k = omega arith in
-              ap (λ (j : ℕ). back b m (back b j (p ∷ ps))) none ∙ ap (back b m) (back_none p ps (omega arith)) ∙ ap (λ (j : ℕ). back b j (p ∷ ps)) same)
-          | inr some ↦ ap (back b m) (back_part n p ps (omega arith) within) ∙ back_of_part m n k p ps e within (omega arith)
-        ]
-      ]
-
   pub inside_part : (span : ChunkSpan) (from to : ℕ) → from ≤ to → to ≤ span.units → LiesIn b span → LiesIn b (part_of span from to)
   inside_part span from to ordered within lies = record { buffer = lies.buffer; few = lies.few; end = omega arith; fits = omega (arith, lies.fits) }
 
@@ -137,15 +104,6 @@ module _ (b : List (List ℕ)) where
   pub pieces-back : (n : ℕ) (ps : List Piece) → All (IsPieceOf b) ps → All (IsPieceOf b) (back b n ps)
   pieces-back n ps all = (pieces-both n ps all).1
 
-  -- the pieces with a cut
-  pub units-cut : (n : ℕ) (ps : List Piece) → n ≤ unit_count ps → unit_count (front b n ps ++ back b n ps) ≡ unit_count ps
-  units-cut n ps h =
-      let parts = sum_by-append (λ (q : Piece). q.span.units) (front b n ps) (back b n ps) in
-      omega (arith, parts, units-front n ps h, units-back n ps)
-
-  pub pieces-cut : (start end : ℕ) (ps : List Piece) → All (IsPieceOf b) ps → All (IsPieceOf b) (front b start ps ++ back b end ps)
-  pieces-cut start end ps all = All-append (IsPieceOf b) (front b start ps) (back b end ps) (pieces-front start ps all) (pieces-back end ps all)
-
   pub piece_few : (p : Piece) → IsPieceOf b p → few_breaks p
   piece_few p is =
       let shown = units_at b p.span in
@@ -156,9 +114,3 @@ module _ (b : List (List ℕ)) where
 
   pub pieces_few : (ps : List Piece) → All (IsPieceOf b) ps → All few_breaks ps
   pieces_few ps all = All-weaker (IsPieceOf b) few_breaks piece_few ps all
-
-  -- what a cut and a removal leave
-  pub units-removed : (start end : ℕ) (ps : List Piece) → start ≤ unit_count ps → unit_count (front b start ps ++ back b end ps) ≡ start + (unit_count ps - end)
-  units-removed start end ps h =
-      let parts = sum_by-append (λ (q : Piece). q.span.units) (front b start ps) (back b end ps) in
-      omega (arith, parts, units-front start ps h, units-back end ps)

@@ -4,6 +4,6 @@ pub mod Looking
 pub mod Places
 pub mod Costs
 pub mod Prolonged
-pub mod Shortened
 pub mod Neighbours
-pub mod Overwritten
+pub mod Runs
+pub mod Fronts

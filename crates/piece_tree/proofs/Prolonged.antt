@@ -1,5 +1,5 @@
 -- Pieces that a span is put behind.
-use Rattle.std.proofs.Common.{◌≡◌, ℕ, ◌+◌, ◌-◌, ◌^◌, ◌<◌, ◌≤◌, ◌==◌, Bool, true, false, Option, Some, None, List, [], ◌∷◌, ◌++◌, length, take, drop, refl, ap, sym, subst, ◌∙◌, append_assoc, arith}
+use Rattle.std.proofs.Common.{◌≡◌, ℕ, ◌+◌, ◌-◌, ◌≤◌, ◌==◌, Bool, true, false, Option, Some, None, List, [], ◌∷◌, ◌++◌, length, take, drop, refl, ap, sym, subst, ◌∙◌, arith}
 use Rattle.std.specs.List.{All}
 use Rattle.std.specs.Option.{ForSome}
 use Rattle.std.proofs.Math.Seq.{take-add}
@@ -9,11 +9,9 @@ use Rattle.std.proofs.lemmas.List.Elements.{All-head, All-tail, All-cons, All-ni
 use Rattle.std.proofs.lemmas.List.Sums.{sum_by-append}
 use Rattle.chunk_buffers.specs.declared.span.ChunkSpan.{ChunkSpan}
 use Rattle.chunk_buffers.specs.Chunks.{units_at, buffer_at, LiesIn}
-use Rattle.rb_arena.specs.Value.{SplitsAt}
 use Rattle.piece_tree.specs.declared.piece.Piece.{Piece}
 use Rattle.piece_tree.specs.Pieces.{unit_count, piece_of, piece_list, IsPieceOf, goes_on, goes_on_from, prolonged, followed, followed_by, front, back, spliced}
-use Rattle.piece_tree.specs.Inside.{in_order, Parted}
-use Rattle.piece_tree.proofs.Sums.{units-cons, in_order-append}
+use Rattle.piece_tree.proofs.Sums.{units-cons}
 use Rattle.piece_tree.proofs.Cuts.{units-front, units-back, pieces-front, pieces-back}
 
 module _ (first second : ChunkSpan) (goes : goes_on first second ≡ true) where
@@ -40,9 +38,11 @@ module _ (first second : ChunkSpan) (goes : goes_on first second ≡ true) where
       let size = ap (λ (k : ℕ). length (buffer_at b k)) same_buffer in
       record { buffer = omega (arith, same_buffer, lies.buffer); few = omega (arith, same_buffer, lies.few); end = omega (arith, size, meets, lies.end); fits = omega (arith, meets, lies.fits) }
 
-  -- what goes on from a span ends in the same buffer
-  pub few-prolonged : (b : List (List ℕ)) → LiesIn b second → first.units + second.units < 2 ^ 32
-  few-prolonged b lies = omega (arith, meets, lies.fits)
+-- only the last piece matters
+pub goes_on_from-last : (ps : List Piece) (p : Piece) (span : ChunkSpan) → goes_on_from (ps ++ p ∷ []) span ≡ goes_on p.span span
+goes_on_from-last [] p span = refl
+goes_on_from-last (q ∷ []) p span = refl
+goes_on_from-last (q ∷ r ∷ ps) p span = goes_on_from-last (r ∷ ps) p span
 
 module _ (b : List (List ℕ)) where
   pub followed_on : (p : Piece) (span : ChunkSpan) → goes_on p.span span ≡ true → followed b (p ∷ []) span ≡ piece_of b (prolonged p.span span) ∷ []
@@ -74,30 +74,6 @@ module _ (b : List (List ℕ)) where
   followed_ends [] span = ([], (piece_of b span, refl, refl, refl))
   followed_ends (p ∷ []) span = ends_one p span (goes_on p.span span) refl
   followed_ends (p ∷ q ∷ ps) span = let (us, (g, is, same, ends)) = followed_ends (q ∷ ps) span in (p ∷ us, (g, ap (λ l. p ∷ l) is, same, ends))
-
-  -- the pieces in a tree where a span was put behind one of them
-  pub behind_on : (us vs : List (ℕ × Piece)) (id : ℕ) (x q : Piece) (span : ChunkSpan) → goes_on x.span span ≡ true → q ≡ piece_of b (prolonged x.span span)
-      → in_order (us ++ (id, q) ∷ vs) ≡ in_order us ++ followed b (x ∷ []) span ++ in_order vs
-  behind_on us vs id x q span goes is =
-      in_order-append us ((id, q) ∷ vs) ∙ ap (λ p. in_order us ++ (p ∷ in_order vs)) is
-      ∙ sym (append_assoc (in_order us) (piece_of b (prolonged x.span span) ∷ []) (in_order vs))
-      ∙ ap (λ qs. in_order us ++ qs ++ in_order vs) (sym (followed_on x span goes))
-
-  pub behind_apart : (us vs : List (ℕ × Piece)) (id other : ℕ) (x q : Piece) (span : ChunkSpan) → goes_on x.span span ≡ false → q ≡ piece_of b span
-      → in_order (us ++ (id, x) ∷ (other, q) ∷ vs) ≡ in_order us ++ followed b (x ∷ []) span ++ in_order vs
-  behind_apart us vs id other x q span goes is =
-      in_order-append us ((id, x) ∷ (other, q) ∷ vs) ∙ ap (λ p. in_order us ++ (x ∷ p ∷ in_order vs)) is
-      ∙ sym (append_assoc (in_order us) (x ∷ piece_of b span ∷ []) (in_order vs))
-      ∙ ap (λ qs. in_order us ++ qs ++ in_order vs) (sym (followed_apart x span goes))
-
-  -- what is put behind the item that ends the front is put behind the front
-  pub parted_behind : (items : List (ℕ × Piece)) (id : ℕ) (new : List Piece) (span : ChunkSpan)
-      → ((us : List (ℕ × Piece)) (x : Piece) (vs : List (ℕ × Piece)) → SplitsAt items id us x vs → new ≡ in_order us ++ followed b (x ∷ []) span ++ in_order vs)
-      → (first second : List Piece) → Parted items (Some id) first second → new ≡ followed b first span ++ second
-  parted_behind items id new span says first second (us, (vs, (e, (ws, (x, last))), fe, se)) =
-      let whole = sym (followed-last (in_order ws) x span) ∙ ap (λ qs. followed b qs span) (sym (in_order-append ws ((id, x) ∷ [])) ∙ ap in_order (sym last) ∙ fe) in
-      says ws x vs (e ∙ ap (λ l. l ++ vs) last ∙ append_assoc ws ((id, x) ∷ []) vs)
-      ∙ ap (λ qs. qs ++ in_order vs) whole ∙ ap (λ qs. followed b first span ++ qs) se
 
   pieces_one : (p : Piece) (span : ChunkSpan) (goes : Bool) → goes_on p.span span ≡ goes → LiesIn b span → IsPieceOf b p → All (IsPieceOf b) (followed b (p ∷ []) span)
   pieces_one p span true goes lies is =

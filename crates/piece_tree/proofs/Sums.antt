@@ -11,6 +11,8 @@ use Rattle.piece_tree.specs.declared.piece.PieceSum.{PieceSum}
 use Rattle.piece_tree.specs.Pieces.{unit_count, break_count_of, sum_of}
 use Rattle.piece_tree.specs.Searches.{adding, few_breaks, is_small}
 use Rattle.piece_tree.specs.Inside.{entry_of, entries_of, in_order}
+use Rattle.rb_arena.specs.Pairs.{AtPair}
+use Rattle.piece_tree.specs.Runs.{HasBoth}
 
 pub units-cons : (p : Piece) (ps : List Piece) → unit_count (p ∷ ps) ≡ p.span.units + unit_count ps
 units-cons p ps = sum_by-cons (λ (q : Piece). q.span.units) p ps
@@ -69,7 +71,7 @@ units-append us vs = ap unit_count (in_order-append us vs) ∙ sum_by-append (λ
 small_of : (items : List (ℕ × Piece)) → units_in items < 2 ^ 62 → is_small (woven.sum_of adding items)
 small_of items h = omega (arith, h, ap (λ (s : PieceSum). s.units) (sum_is items))
 
--- the sums stay small where a piece gives way to one that has at most so many units more, and where one more still fits
+-- the sums stay small where a piece gives way to one that has at most so many units more
 pub small_set : (items us : List (ℕ × Piece)) (id : ℕ) (x : Piece) (vs : List (ℕ × Piece)) (q : Piece) (more : ℕ) → SplitsAt items id us x vs
     → q.span.units ≤ x.span.units + more → units_in items + more < 2 ^ 62 → is_small (woven.sum_of adding (us ++ (id, q) ∷ vs))
 small_set items us id x vs q more e size small = small_of (us ++ (id, q) ∷ vs) (omega (arith, units-split us id q vs, units-split us id x vs, ap units_in e, size, small))
@@ -81,12 +83,6 @@ small_among items us ws id x y vs zs q e f same fits =
     let size = ap (λ (p : Piece). p.span.units) same in
     small_of (ws ++ (id, q) ∷ zs) (omega (arith, units-split ws id q zs, units-split ws id y zs, units-split us id x vs, ap units_in e, ap units_in f, size, fits))
 
-pub small_after : (items us : List (ℕ × Piece)) (id : ℕ) (x : Piece) (vs : List (ℕ × Piece)) (q : Piece) → SplitsAt items id us x vs
-    → units_in items + q.span.units < 2 ^ 62 → is_small (woven.sum_of adding (us ++ (id, x) ∷ (0, q) ∷ vs))
-small_after items us id x vs q e small =
-    small_of (us ++ (id, x) ∷ (0, q) ∷ vs)
-    (omega (arith, units-split us id x ((0, q) ∷ vs), units-split us id x vs, units-cons q (in_order vs), ap units_in e, small))
-
 -- and where one gives way to two
 pub small_both : (items us ws : List (ℕ × Piece)) (id : ℕ) (x y : Piece) (vs zs : List (ℕ × Piece)) (p q : Piece) → SplitsAt items id us x vs → SplitsAt items id ws y zs
     → x ≡ y → units_in us + (p.span.units + q.span.units) + units_in vs < 2 ^ 62 → is_small (woven.sum_of adding (ws ++ (id, p) ∷ (0, q) ∷ zs))
@@ -95,5 +91,10 @@ small_both items us ws id x y vs zs p q e f same fits =
     small_of (ws ++ (id, p) ∷ (0, q) ∷ zs)
     (omega (arith, units-split ws id p ((0, q) ∷ zs), units-cons q (in_order zs), units-split ws id y zs, units-split us id x vs, ap units_in e, ap units_in f, size, fits))
 
-pub small_first : (items : List (ℕ × Piece)) (q : Piece) → units_in items + q.span.units < 2 ^ 62 → is_small (woven.sum_of adding ((0, q) ∷ items))
-small_first items q small = small_of ((0, q) ∷ items) (omega (arith, units-cons q (in_order items), small))
+-- and where one stands in the place of two
+pub small_merged : (items : List (ℕ × Piece)) (id : ℕ) (both : Piece) → units_in items < 2 ^ 62 → AtPair items id (λ us x next vs. HasBoth x next.1 both)
+    → AtPair items id (λ us x next vs. is_small (woven.sum_of adding (us ++ (id, both) ∷ vs)))
+small_merged items id both small has us x next vs e =
+    let h = has us x next vs e in let units = h.units in
+    small_of (us ++ (id, both) ∷ vs)
+    (omega (arith, units, small, ap units_in e, units-split us id x (next ∷ vs), units-cons next.1 (in_order vs), units-split us id both vs))

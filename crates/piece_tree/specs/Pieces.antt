@@ -1,5 +1,5 @@
 -- The pieces of a text, as a list that is cut and inserted into.
-use Rattle.std.specs.Prelude.{ℕ, ◌≡◌, ◌+◌, ◌-◌, ◌<◌, ◌≤◌, ◌==◌, ◌&&◌, not, Bool, false, Option, Some, None, nat_le, nat_lt, if◌then◌else◌, List, [], ◌∷◌, ◌++◌, map, sum_by}
+use Rattle.std.specs.Prelude.{ℕ, ◌≡◌, ◌+◌, ◌-◌, ◌<◌, ◌≤◌, ◌==◌, ◌&&◌, Bool, false, Option, Some, None, nat_le, if◌then◌else◌, List, [], ◌∷◌, ◌++◌, map, sum_by}
 use Rattle.chunk_buffers.specs.declared.span.ChunkSpan.{ChunkSpan}
 use Rattle.chunk_buffers.specs.Chunks.{units_at, LiesIn, part_of}
 use Rattle.line_starts.specs.Starts.{break_count}
@@ -47,17 +47,6 @@ abbrev pub goes_on_from : List Piece → ChunkSpan → Bool
 goes_on_from [] span = false
 goes_on_from (p ∷ []) span = goes_on p.span span
 goes_on_from (p ∷ q ∷ ps) span = goes_on_from (q ∷ ps) span
-
--- whether a looked-up piece gives way whole to a span that comes at the offset: it starts there, all its units go, and the span does
--- not go on from the pieces before it
-abbrev pub gives_way : Found → ℕ → ℕ → ChunkSpan → List Piece → Bool
-gives_way found offset deleted span earlier =
-    found.before.units == offset && nat_le found.span.units deleted && not (goes_on_from earlier span)
-
--- whether units that go begin inside a looked-up piece, and end with it or behind it
-abbrev pub loses_end : Found → ℕ → ℕ → Bool
-loses_end found offset deleted =
-    nat_lt found.before.units offset && nat_le found.span.units (offset - found.before.units + deleted)
 
 -- the first span with the units of one that goes on from it
 abbrev pub prolonged : ChunkSpan → ChunkSpan → ChunkSpan

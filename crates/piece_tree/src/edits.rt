@@ -1,17 +1,39 @@
 //! The changes of a splice: units that go, and a span that comes.
-ghost use Rattle.std.specs.Prelude.{◌≡◌, ℕ, ◌+◌, ◌<◌, ◌≤◌, ◌^◌, ◌++◌, ◌∷◌, List, [], Some};
+//!
+//! A splice walks to the top of the tree once. The pieces that it touches are merged into one first, which has their sum, so that
+//! nothing changes above; then what comes is put in the place of that one.
+ghost use Rattle.std.specs.Prelude.{◌≡◌, ℕ, ◌+◌, ◌-◌, ◌<◌, ◌≤◌, ◌^◌, ◌++◌, ◌∷◌, List, [], Some, length, MatchOption};
 ghost use Rattle.std.specs.List.{All};
-ghost use Rattle.std.specs.Option.{ForSome};
-ghost use Rattle.chunk_buffers.specs.Chunks.{LiesIn, part_of};
-ghost use Rattle.rb_arena.specs.Value.{first_or, IsItem, PlaceAfter, SplitsAfter, SplitsAt};
-ghost use Rattle.piece_tree.specs.Pieces.{piece_of, piece_list, unit_count, IsPieceOf, goes_on, goes_on_from, gives_way, prolonged, followed, spliced, front, back, StandsAt};
-ghost use Rattle.piece_tree.specs.Pieces.{loses_end};
-ghost use Rattle.piece_tree.specs.Inside.{entries_of, in_order, HasRoomAt, HasUnits, Parted};
+ghost use Rattle.std.specs.Option.{ForSome, ForNone};
+ghost use Rattle.chunk_buffers.specs.Chunks.{LiesIn};
+ghost use Rattle.rb_arena.specs.Value.{IsItem, AtItem, HasInstead};
+ghost use Rattle.piece_tree.specs.Pieces.{piece_of, piece_list, unit_count, IsPieceOf, goes_on, prolonged, followed_by, spliced, StandsAt};
+ghost use Rattle.piece_tree.specs.Searches.{few_breaks};
+ghost use Rattle.piece_tree.specs.Inside.{entries_of, in_order, HasRoomAt, HasUnits, HasPiecesBehind};
+ghost use Rattle.piece_tree.specs.Runs.{HasBoth, IsJoint, IsCut, HasTaken, TakesNone, Gathers, IsRun, LosesBehind, LeavesRest, KeepsFront, KeepsBefore};
 
 use crate::piece::{Found, Piece, PieceId};
 use crate::weave::PieceWeave;
 use chunk_buffers::{ChunkSpan, Chunks};
 use rb_arena::RbTree;
+
+/// Where a splice begins: in or right behind a piece.
+#[derive(Clone, Copy)]
+struct Cut {
+    id: PieceId,
+    /// What of the piece stays before what comes, if anything.
+    left: Option<ChunkSpan>,
+    /// Where what goes ends, counted from the piece's start.
+    end: u64,
+}
+
+/// Pieces that were merged into one.
+#[derive(Clone, Copy)]
+struct Run {
+    id: PieceId,
+    /// The span of the last of them.
+    last: ChunkSpan,
+}
 
 /// Puts a span, if there is one, in the place of units from the offset on, where the piece of the unit at the offset was looked up.
 pub(crate) fn replace_units(
@@ -32,232 +54,194 @@ pub(crate) fn replace_units(
         + unit_count (piece_list chunks.now.buffers span) < 2 ^ 62 + deleted }
     ensures spliced { in_order tree.new.items
         ≡ spliced chunks.now.buffers offset (offset + deleted) span (in_order tree.old.items) }
+    ensures front { KeepsBefore offset tree.old.items tree.new.items }
     ensures room { tree.old.spare ≤ tree.new.spare + 2 }
 {
-    match span {
-        Some(span) => put_in_place(tree, at, offset, deleted, span, chunks),
-        None => {
-            take_out(tree, at, offset, deleted, chunks);
+    let Some(cut) = first_cut(tree, at, offset, deleted, span, chunks) else {
+        if let Some(span) = span {
+            tree.insert_first(piece_of(chunks, span));
         }
-    }
-}
-
-/// The same for a span.
-fn put_in_place(
-    tree: &mut RbTree<PieceWeave>,
-    at: &Option<Found>,
-    offset: u64,
-    deleted: u64,
-    span: ChunkSpan,
-    chunks: &Chunks,
-)
-    requires place { StandsAt (entries_of tree.old.items) at.now offset }
-    requires range { offset + deleted ≤ unit_count (in_order tree.old.items) }
-    requires small { unit_count (in_order tree.old.items) < 2 ^ 62 }
-    requires room { 1 < tree.old.spare }
-    requires inside { LiesIn chunks.now.buffers span }
-    requires pieces { All (IsPieceOf chunks.now.buffers) (in_order tree.old.items) }
-    requires fits { unit_count (in_order tree.old.items) + span.units < 2 ^ 62 + deleted }
-    ensures spliced { in_order tree.new.items
-        ≡ spliced chunks.now.buffers offset (offset + deleted) (Some span) (in_order tree.old.items) }
-    ensures room { tree.old.spare ≤ tree.new.spare + 2 }
-{
-    if let Some(found) = at
-        && gives_way(tree, found, offset, deleted, span)
-    {
-        overwrite(
-            tree,
-            found.id,
-            deleted - found.span.units as u64,
-            span,
-            chunks,
-        );
         return;
-    }
-    if let Some(found) = at
-        && loses_end(found, offset, deleted)
-    {
-        let own = offset - found.before.units;
-        let behind = own + deleted - found.span.units as u64;
-        replace_end(tree, found.id, own, behind, span, chunks);
-        return;
-    }
-    let after = take_out(tree, at, offset, deleted, chunks);
-    insert_span(tree, &after, span, chunks);
+    };
+    let run = gather(tree, cut.id, cut.end);
+    let right = rest_behind(tree, &run, cut.end, chunks);
+    put(tree, run.id, cut.left, span, right, chunks);
 }
 
-/// Whether units that go begin inside a looked-up piece, and end with it or behind it.
-fn loses_end(found: &Found, offset: u64, deleted: u64) -> bool
-    requires { offset + deleted < 2 ^ 62 }
-    ensures { result ≡ loses_end found.now offset deleted }
-{
-    found.before.units < offset && found.span.units as u64 <= offset - found.before.units + deleted
-}
-
-/// Whether a looked-up piece gives way whole to a span that comes at the offset, in the place of so many units.
-fn gives_way(
+/// Where a splice begins; None where there is no piece.
+fn first_cut(
     tree: &RbTree<PieceWeave>,
-    found: &Found,
-    offset: u64,
-    deleted: u64,
-    span: ChunkSpan,
-) -> bool
-    requires { IsItem tree.now.items found.now.id }
-    ensures { (us : List (ℕ × Piece)) (x : Piece) (vs : List (ℕ × Piece))
-        → SplitsAt tree.now.items found.now.id us x vs
-        → result ≡ gives_way found.now offset deleted span (in_order us) }
-{
-    if found.before.units != offset || deleted < found.span.units as u64 {
-        return false;
-    }
-    !goes_on_before(tree, found.id, span)
-}
-
-/// Whether a span goes on from the piece right before that one.
-fn goes_on_before(tree: &RbTree<PieceWeave>, id: PieceId, span: ChunkSpan) -> bool
-    requires { IsItem tree.now.items id }
-    ensures { (us : List (ℕ × Piece)) (x : Piece) (vs : List (ℕ × Piece))
-        → SplitsAt tree.now.items id us x vs → result ≡ goes_on_from (in_order us) span }
-{
-    match tree.prev(id) {
-        Some(before) => goes_on(tree.get(before).span, span),
-        None => false,
-    }
-}
-
-/// Puts a span in the place of a piece and of that many units right behind it. The piece's node keeps its place and its name.
-fn overwrite(
-    tree: &mut RbTree<PieceWeave>,
-    id: PieceId,
-    behind: u64,
-    span: ChunkSpan,
-    chunks: &Chunks,
-)
-    requires small { unit_count (in_order tree.old.items) < 2 ^ 62 }
-    requires inside { LiesIn chunks.now.buffers span }
-    requires pieces { All (IsPieceOf chunks.now.buffers) (in_order tree.old.items) }
-    requires fits { HasRoomAt tree.old.items id behind span.units }
-    ensures items { (us : List (ℕ × Piece)) (x : Piece) (vs : List (ℕ × Piece))
-        → SplitsAt tree.old.items id us x vs
-        → in_order tree.new.items
-        ≡ in_order us ++ piece_of chunks.now.buffers span
-        ∷ back chunks.now.buffers behind (in_order vs) }
-    ensures room { tree.old.spare ≤ tree.new.spare }
-{
-    remove_units(tree, &Some(id), behind, chunks);
-    // By what this piece gives up, the span fits.
-    let _own = tree.get(id);
-    tree.set(id, piece_of(chunks, span));
-}
-
-/// Puts a span in the place of a piece's units from one on, and of that many right behind it. What is left keeps the name.
-fn replace_end(
-    tree: &mut RbTree<PieceWeave>,
-    id: PieceId,
-    own: u64,
-    behind: u64,
-    span: ChunkSpan,
-    chunks: &Chunks,
-)
-    requires left { HasUnits tree.old.items id own }
-    requires small { unit_count (in_order tree.old.items) < 2 ^ 62 }
-    requires room { 0 < tree.old.spare }
-    requires inside { LiesIn chunks.now.buffers span }
-    requires pieces { All (IsPieceOf chunks.now.buffers) (in_order tree.old.items) }
-    requires fits { HasRoomAt tree.old.items id behind (own + span.units) }
-    ensures items { (us : List (ℕ × Piece)) (x : Piece) (vs : List (ℕ × Piece))
-        → SplitsAt tree.old.items id us x vs
-        → in_order tree.new.items
-        ≡ in_order us ++ followed chunks.now.buffers
-        (piece_of chunks.now.buffers (part_of x.span 0 own) ∷ []) span
-        ++ back chunks.now.buffers behind (in_order vs) }
-    ensures room { tree.old.spare ≤ tree.new.spare + 1 }
-{
-    remove_units(tree, &Some(id), behind, chunks);
-    let left = chunks.part(tree.get(id).span, 0, own);
-    if goes_on(left, span) {
-        tree.set(id, piece_of(chunks, prolonged(left, span)));
-    } else {
-        tree.set_and_insert_after(id, piece_of(chunks, left), piece_of(chunks, span));
-    }
-}
-
-/// Takes units out from the offset on, where the piece of the unit at the offset was looked up. Answers the name of the last piece
-/// before them.
-fn take_out(
-    tree: &mut RbTree<PieceWeave>,
     at: &Option<Found>,
     offset: u64,
     deleted: u64,
+    span: Option<ChunkSpan>,
     chunks: &Chunks,
-) -> Option<PieceId>
-    requires place { StandsAt (entries_of tree.old.items) at.now offset }
-    requires range { offset + deleted ≤ unit_count (in_order tree.old.items) }
-    requires small { unit_count (in_order tree.old.items) < 2 ^ 62 }
-    requires room { 0 < tree.old.spare }
-    requires pieces { All (IsPieceOf chunks.now.buffers) (in_order tree.old.items) }
-    ensures parted { Parted tree.new.items result
-        (front chunks.now.buffers offset (in_order tree.old.items))
-        (back chunks.now.buffers (offset + deleted) (in_order tree.old.items)) }
-    ensures room { tree.old.spare ≤ tree.new.spare + 1 }
+) -> Option<Cut>
+    requires place { StandsAt (entries_of tree.now.items) at.now offset }
+    requires range { offset + deleted ≤ unit_count (in_order tree.now.items) }
+    requires small { unit_count (in_order tree.now.items) < 2 ^ 62 }
+    requires pieces { All (IsPieceOf chunks.now.buffers) (in_order tree.now.items) }
+    ensures { MatchOption result (tree.now.items ≡ [])
+        (IsCut chunks.now.buffers offset (offset + deleted) span tree.now.items) }
 {
     let Some(found) = at else {
-        return tree.last();
+        return Some(cut_behind(tree, tree.last()?, deleted));
     };
     let own = offset - found.before.units;
-    if own == 0 {
-        let after = tree.prev(found.id);
-        if deleted == 0 {
-            return after;
-        }
-        remove_units(tree, &after, deleted, chunks);
-        return after;
+    if 0 < own {
+        return Some(Cut {
+            id: found.id,
+            left: Some(chunks.part(found.span, 0, own)),
+            end: own + deleted,
+        });
     }
-    take_out_inside(tree, found.id, own, deleted, chunks);
-    Some(found.id)
+    if let Some(before) = joint(tree, found.id, span) {
+        return Some(cut_behind(tree, before, deleted));
+    }
+    Some(Cut {
+        id: found.id,
+        left: None,
+        end: deleted,
+    })
 }
 
-/// Takes units out that begin inside a piece. What is left of it before them keeps the name.
-fn take_out_inside(
-    tree: &mut RbTree<PieceWeave>,
-    id: PieceId,
-    own: u64,
-    deleted: u64,
-    chunks: &Chunks,
-)
-    requires some { 0 < own }
-    requires inside { HasUnits tree.old.items id (own + 1) }
-    requires small { unit_count (in_order tree.old.items) < 2 ^ 62 }
-    requires few { own + deleted < 2 ^ 62 }
-    requires room { 0 < tree.old.spare }
-    requires pieces { All (IsPieceOf chunks.now.buffers) (in_order tree.old.items) }
-    ensures parted { (us : List (ℕ × Piece)) (x : Piece) (vs : List (ℕ × Piece))
-        → SplitsAt tree.old.items id us x vs
-        → Parted tree.new.items (Some id)
-        (in_order us ++ piece_of chunks.now.buffers (part_of x.span 0 own) ∷ [])
-        (back chunks.now.buffers (own + deleted) (x ∷ in_order vs)) }
-    ensures room { tree.old.spare ≤ tree.new.spare + 1 }
+/// A cut right behind a piece, where that many units go.
+fn cut_behind(tree: &RbTree<PieceWeave>, id: PieceId, deleted: u64) -> Cut
+    requires named { IsItem tree.now.items id }
+    requires few { deleted < 2 ^ 62 }
+    ensures { AtItem tree.now.items id (λ us x vs.
+        result ≡ record { id = id; left = Some x.span; end = x.span.units + deleted }) }
 {
     let span = tree.get(id).span;
-    if own + deleted < span.units as u64 {
-        divide(tree, id, own, own + deleted, chunks);
-        return;
+    Cut {
+        id,
+        left: Some(span),
+        end: span.units as u64 + deleted,
     }
-    shorten(tree, id, chunks.part(span, 0, own), chunks);
-    remove_units(tree, &Some(id), own + deleted - span.units as u64, chunks);
 }
 
-/// Takes that many units out that stand right after a piece, or at the start. Empty pieces before the units that stay go too.
-fn remove_units(tree: &mut RbTree<PieceWeave>, after: &Option<PieceId>, units: u64, chunks: &Chunks)
-    requires place { PlaceAfter tree.old.items after.now }
+/// The piece right before that one, where there is a span that goes on from it.
+fn joint(tree: &RbTree<PieceWeave>, id: PieceId, span: Option<ChunkSpan>) -> Option<PieceId>
+    requires { IsItem tree.now.items id }
+    ensures { AtItem tree.now.items id (λ us x vs. IsJoint us span result) }
+{
+    let span = span?;
+    let before = tree.prev(id)?;
+    if goes_on(tree.get(before).span, span) {
+        Some(before)
+    } else {
+        None
+    }
+}
+
+/// Whether the second span starts where the first one ends, in the same buffer.
+fn goes_on(first: ChunkSpan, second: ChunkSpan) -> bool
+    ensures { result ≡ goes_on first second }
+{
+    first.buffer == second.buffer
+        && first.start <= second.start
+        && second.start - first.start == first.units
+}
+
+/// Merges a piece with those behind it, as long as fewer than that many units are in one piece.
+fn gather(tree: &mut RbTree<PieceWeave>, id: PieceId, end: u64) -> Run
+    requires named { IsItem tree.old.items id }
     requires small { unit_count (in_order tree.old.items) < 2 ^ 62 }
-    requires pieces { All (IsPieceOf chunks.now.buffers) (in_order tree.old.items) }
-    ensures parted { (first second : List Piece) → Parted tree.old.items after.now first second
-        → Parted tree.new.items after.now first (back chunks.now.buffers units second) }
+    requires few { All few_breaks (in_order tree.old.items) }
+    ensures run { AtItem tree.old.items id (λ us x vs.
+        Gathers end us x vs tree.new.items result) }
+    ensures all { AtItem tree.new.items result.id (λ us x vs.
+        x.span.units < end → TakesNone x vs) }
+    ensures small { unit_count (in_order tree.new.items) < 2 ^ 62 }
+    ensures room { tree.old.spare ≤ tree.new.spare }
+{
+    let mut run = Run {
+        id,
+        last: tree.get(id).span,
+    };
+    while (tree.get(run.id).span.units as u64) < end {
+        let Some(more) = take_next(tree, run.id) else {
+            return run;
+        };
+        run = more;
+    }
+    run
+}
+
+/// Merges a piece with the one right behind it. None where there is none, and where the two are too long for one.
+fn take_next(tree: &mut RbTree<PieceWeave>, id: PieceId) -> Option<Run>
+    requires named { IsItem tree.old.items id }
+    requires small { unit_count (in_order tree.old.items) < 2 ^ 62 }
+    requires few { All few_breaks (in_order tree.old.items) }
+    ensures taken { MatchOption result (tree.new.items ≡ tree.old.items)
+        (λ run. AtItem tree.old.items id (λ us x vs. HasTaken us x vs tree.new.items run)) }
+    ensures none { ForNone result (AtItem tree.old.items id (λ us x vs. TakesNone x vs)) }
+    ensures small { unit_count (in_order tree.new.items) < 2 ^ 62 }
+    ensures few { All few_breaks (in_order tree.new.items) }
+    ensures room { tree.old.spare ≤ tree.new.spare }
+{
+    let next = tree.next(id)?;
+    let piece = tree.get(next);
+    let both = both_of(tree.get(id), piece)?;
+    Some(Run {
+        id: tree.merge_next(id, both),
+        last: piece.span,
+    })
+}
+
+/// A piece that has what two have together; None where they are too long. Its span stands for theirs.
+fn both_of(first: Piece, second: Piece) -> Option<Piece>
+    requires first { few_breaks first }
+    requires second { few_breaks second }
+    ensures { MatchOption result (2 ^ 32 ≤ first.span.units + second.span.units)
+        (HasBoth first second) }
+{
+    let units = first.span.units.checked_add(second.span.units)?;
+    Some(Piece {
+        span: ChunkSpan {
+            buffer: first.span.buffer,
+            start: first.span.start,
+            units,
+        },
+        breaks: first.breaks + second.breaks,
+    })
+}
+
+/// What of a run stays behind its first units. Where the run has no more than these, units right behind it go.
+fn rest_behind(
+    tree: &mut RbTree<PieceWeave>,
+    run: &Run,
+    end: u64,
+    chunks: &Chunks,
+) -> Option<ChunkSpan>
+    requires run { IsRun chunks.now.buffers end tree.old.items run.now }
+    requires small { unit_count (in_order tree.old.items) < 2 ^ 62 }
+    ensures left { AtItem tree.old.items run.now.id (λ us x vs.
+        LeavesRest chunks.now.buffers end us x vs tree.new.items run.now result) }
+    ensures inside { ForSome result (LiesIn chunks.now.buffers) }
+    ensures small { unit_count (in_order tree.new.items) < 2 ^ 62 }
+    ensures room { tree.old.spare ≤ tree.new.spare }
+{
+    let units = tree.get(run.id).span.units as u64;
+    if end < units {
+        let last = run.last.units as u64;
+        return Some(chunks.part(run.last, end + last - units, last));
+    }
+    remove_units(tree, run.id, end - units, chunks);
+    None
+}
+
+/// Takes that many units out that stand right after a piece. Empty pieces before the units that stay go too.
+fn remove_units(tree: &mut RbTree<PieceWeave>, after: PieceId, units: u64, chunks: &Chunks)
+    requires pieces { HasPiecesBehind chunks.now.buffers tree.old.items after }
+    requires small { unit_count (in_order tree.old.items) < 2 ^ 62 }
+    ensures left { AtItem tree.old.items after (λ us x vs.
+        LosesBehind chunks.now.buffers units after us x vs tree.new.items) }
+    ensures small { unit_count (in_order tree.new.items) < 2 ^ 62 }
     ensures room { tree.old.spare ≤ tree.new.spare }
 {
     let mut rest = units;
-    while let Some(id) = name_after(tree, after) {
+    while let Some(id) = tree.next(after) {
         let span = tree.get(id).span;
         if rest == 0 && 0 < span.units {
             return;
@@ -271,58 +255,48 @@ fn remove_units(tree: &mut RbTree<PieceWeave>, after: &Option<PieceId>, units: u
     }
 }
 
-/// Puts a span right behind a piece, or at the start.
-fn insert_span(
+/// Puts what stays on both sides and the span between them in the place of a piece. Where the span goes on from what stays before it,
+/// the two are one piece.
+fn put(
     tree: &mut RbTree<PieceWeave>,
-    after: &Option<PieceId>,
-    span: ChunkSpan,
+    id: PieceId,
+    left: Option<ChunkSpan>,
+    span: Option<ChunkSpan>,
+    right: Option<ChunkSpan>,
     chunks: &Chunks,
 )
-    requires place { PlaceAfter tree.old.items after.now }
-    requires room { 0 < tree.old.spare }
-    requires inside { LiesIn chunks.now.buffers span }
-    requires pieces { All (IsPieceOf chunks.now.buffers) (in_order tree.old.items) }
-    requires small { unit_count (in_order tree.old.items) + span.units < 2 ^ 62 }
-    ensures items { (first second : List Piece) → Parted tree.old.items after.now first second
-        → in_order tree.new.items ≡ followed chunks.now.buffers first span ++ second }
-    ensures room { tree.old.spare ≤ tree.new.spare + 1 }
+    requires left { ForSome left (λ s. HasUnits tree.old.items id s.units) }
+    requires fits { HasRoomAt tree.old.items id (unit_count (piece_list chunks.now.buffers left)
+        + unit_count (piece_list chunks.now.buffers span)
+        + unit_count (piece_list chunks.now.buffers right)) }
+    requires small { unit_count (in_order tree.old.items) < 2 ^ 62 }
+    requires room { 1 < tree.old.spare }
+    requires inside_left { ForSome left (LiesIn chunks.now.buffers) }
+    requires inside { ForSome span (LiesIn chunks.now.buffers) }
+    requires inside_right { ForSome right (LiesIn chunks.now.buffers) }
+    ensures items { AtItem tree.old.items id (λ us x vs. in_order tree.new.items
+        ≡ in_order us ++ followed_by chunks.now.buffers (piece_list chunks.now.buffers left) span
+        ++ piece_list chunks.now.buffers right ++ in_order vs) }
+    ensures front { AtItem tree.old.items id (λ us x vs. KeepsFront us tree.new.items) }
+    ensures room { tree.old.spare ≤ tree.new.spare + 2 }
 {
-    match after {
-        Some(id) => put_behind(tree, *id, span, chunks),
-        None => {
-            tree.insert_first(piece_of(chunks, span));
-        }
-    }
-}
-
-/// Puts a span right behind a piece. Where it goes on from the piece's span, the piece takes it, and there is no new one.
-fn put_behind(tree: &mut RbTree<PieceWeave>, id: PieceId, span: ChunkSpan, chunks: &Chunks)
-    requires named { IsItem tree.old.items id }
-    requires room { 0 < tree.old.spare }
-    requires inside { LiesIn chunks.now.buffers span }
-    requires pieces { All (IsPieceOf chunks.now.buffers) (in_order tree.old.items) }
-    requires small { unit_count (in_order tree.old.items) + span.units < 2 ^ 62 }
-    ensures items { (us : List (ℕ × Piece)) (x : Piece) (vs : List (ℕ × Piece))
-        → SplitsAt tree.old.items id us x vs
-        → in_order tree.new.items
-        ≡ in_order us ++ followed chunks.now.buffers (x ∷ []) span ++ in_order vs }
-    ensures room { tree.old.spare ≤ tree.new.spare + 1 }
-{
-    let own = tree.get(id).span;
+    let Some(own) = left else {
+        put_two(tree, id, span, right, chunks);
+        return;
+    };
+    let Some(span) = span else {
+        put_two(tree, id, left, right, chunks);
+        return;
+    };
     if goes_on(own, span) {
-        tree.set(id, piece_of(chunks, prolonged(own, span)));
-    } else {
-        tree.insert_after(id, piece_of(chunks, span));
+        put_two(tree, id, Some(prolonged(own, span)), right, chunks);
+        return;
     }
-}
-
-/// Whether the second span starts where the first one ends, in the same buffer.
-fn goes_on(first: ChunkSpan, second: ChunkSpan) -> bool
-    ensures { result ≡ goes_on first second }
-{
-    first.buffer == second.buffer
-        && first.start <= second.start
-        && second.start - first.start == first.units
+    let Some(right) = right else {
+        put_two(tree, id, left, Some(span), chunks);
+        return;
+    };
+    put_three(tree, id, own, span, right, chunks);
 }
 
 /// The first span with the units of one that goes on from it.
@@ -337,53 +311,115 @@ fn prolonged(first: ChunkSpan, second: ChunkSpan) -> ChunkSpan
     }
 }
 
-/// Cuts a piece in two, and leaves out what stands between two places in it. The left part keeps the name.
-fn divide(tree: &mut RbTree<PieceWeave>, id: PieceId, left: u64, right: u64, chunks: &Chunks)
-    requires ordered { left ≤ right }
-    requires within { HasUnits tree.old.items id right }
+/// Puts three spans in the place of a piece, which has the units of the first and more. The sum changes with the last two alone.
+fn put_three(
+    tree: &mut RbTree<PieceWeave>,
+    id: PieceId,
+    first: ChunkSpan,
+    second: ChunkSpan,
+    third: ChunkSpan,
+    chunks: &Chunks,
+)
+    requires first { HasUnits tree.old.items id first.units }
+    requires fits { HasRoomAt tree.old.items id (first.units + second.units + third.units) }
     requires small { unit_count (in_order tree.old.items) < 2 ^ 62 }
+    requires room { 1 < tree.old.spare }
+    requires inside_first { LiesIn chunks.now.buffers first }
+    requires inside_second { LiesIn chunks.now.buffers second }
+    requires inside_third { LiesIn chunks.now.buffers third }
+    ensures items { AtItem tree.old.items id (λ us x vs. in_order tree.new.items
+        ≡ in_order us ++ piece_of chunks.now.buffers first
+        ∷ piece_of chunks.now.buffers second ∷ piece_of chunks.now.buffers third ∷ in_order vs) }
+    ensures front { AtItem tree.old.items id (λ us x vs. KeepsFront us tree.new.items) }
+    ensures room { tree.old.spare ≤ tree.new.spare + 2 }
+{
+    let own = piece_of(chunks, first);
+    let rest = rest_of(tree.get(id), own);
+    let other = tree.set_and_insert_after(id, own, rest);
+    put_two(tree, other, Some(second), Some(third), chunks);
+}
+
+/// A piece that has what a whole has beside a part of it. Its span stands for that.
+fn rest_of(whole: Piece, part: Piece) -> Piece
+    requires { part.span.units ≤ whole.span.units }
+    ensures units { result.span.units ≡ whole.span.units - part.span.units }
+    ensures few { few_breaks result }
+    ensures breaks { whole.breaks - part.breaks ≤ whole.span.units - part.span.units
+        → result.breaks ≡ whole.breaks - part.breaks }
+{
+    let units = whole.span.units - part.span.units;
+    Piece {
+        span: ChunkSpan {
+            buffer: whole.span.buffer,
+            start: whole.span.start,
+            units,
+        },
+        breaks: whole.breaks.saturating_sub(part.breaks).min(units),
+    }
+}
+
+/// Puts up to two spans in the place of a piece.
+fn put_two(
+    tree: &mut RbTree<PieceWeave>,
+    id: PieceId,
+    first: Option<ChunkSpan>,
+    second: Option<ChunkSpan>,
+    chunks: &Chunks,
+)
+    requires fits { HasRoomAt tree.old.items id (unit_count (piece_list chunks.now.buffers first)
+        + unit_count (piece_list chunks.now.buffers second)) }
     requires room { 0 < tree.old.spare }
-    requires pieces { All (IsPieceOf chunks.now.buffers) (in_order tree.old.items) }
-    ensures items { (us : List (ℕ × Piece)) (x : Piece) (vs : List (ℕ × Piece))
-        → SplitsAt tree.old.items id us x vs
-        → (other : ℕ) × (tree.new.items
-        ≡ us ++ (id, piece_of chunks.now.buffers (part_of x.span 0 left))
-        ∷ (other, piece_of chunks.now.buffers (part_of x.span right x.span.units)) ∷ vs) }
+    requires inside_first { ForSome first (LiesIn chunks.now.buffers) }
+    requires inside_second { ForSome second (LiesIn chunks.now.buffers) }
+    ensures items { AtItem tree.old.items id (λ us x vs. in_order tree.new.items
+        ≡ in_order us ++ piece_list chunks.now.buffers first
+        ++ piece_list chunks.now.buffers second ++ in_order vs) }
+    ensures front { AtItem tree.old.items id (λ us x vs. KeepsFront us tree.new.items) }
     ensures room { tree.old.spare ≤ tree.new.spare + 1 }
 {
-    let span = tree.get(id).span;
-    let own = chunks.part(span, 0, left);
-    let rest = chunks.part(span, right, span.units as u64);
-    tree.set_and_insert_after(id, piece_of(chunks, own), piece_of(chunks, rest));
+    let Some(one) = first else {
+        put_one(tree, id, second, chunks);
+        return;
+    };
+    let Some(other) = second else {
+        put_one(tree, id, first, chunks);
+        return;
+    };
+    // By what this piece gives up, the spans fit.
+    let _own = tree.get(id);
+    tree.set_and_insert_after(id, piece_of(chunks, one), piece_of(chunks, other));
+}
+
+/// Puts a span in the place of a piece, or nothing.
+fn put_one(tree: &mut RbTree<PieceWeave>, id: PieceId, span: Option<ChunkSpan>, chunks: &Chunks)
+    requires fits { HasRoomAt tree.old.items id (unit_count (piece_list chunks.now.buffers span)) }
+    requires inside { ForSome span (LiesIn chunks.now.buffers) }
+    ensures items { AtItem tree.old.items id (λ us x vs. in_order tree.new.items
+        ≡ in_order us ++ piece_list chunks.now.buffers span ++ in_order vs) }
+    ensures front { AtItem tree.old.items id (λ us x vs. KeepsFront us tree.new.items) }
+    ensures room { tree.old.spare ≤ tree.new.spare }
+{
+    // By what this piece gives up, the span fits.
+    let _own = tree.get(id);
+    match span {
+        Some(span) => tree.set(id, piece_of(chunks, span)),
+        None => tree.remove(id),
+    }
 }
 
 /// Puts a span that is no longer in the place of a piece's.
 fn shorten(tree: &mut RbTree<PieceWeave>, id: PieceId, span: ChunkSpan, chunks: &Chunks)
     requires named { IsItem tree.old.items id }
-    requires shorter { (us : List (ℕ × Piece)) (x : Piece) (vs : List (ℕ × Piece))
-        → SplitsAt tree.old.items id us x vs → span.units ≤ x.span.units }
+    requires shorter { AtItem tree.old.items id (λ us x vs. span.units ≤ x.span.units) }
     requires small { unit_count (in_order tree.old.items) < 2 ^ 62 }
     requires inside { LiesIn chunks.now.buffers span }
-    ensures items { (us : List (ℕ × Piece)) (x : Piece) (vs : List (ℕ × Piece))
-        → SplitsAt tree.old.items id us x vs
-        → tree.new.items ≡ us ++ (id, piece_of chunks.now.buffers span) ∷ vs }
+    ensures items { HasInstead tree.old.items tree.new.items id (piece_of chunks.now.buffers span) }
     ensures spare { tree.new.spare ≡ tree.old.spare }
 {
     tree.set(id, piece_of(chunks, span));
 }
 
-/// The name of the piece right after another, or of the first.
-fn name_after(tree: &RbTree<PieceWeave>, after: &Option<PieceId>) -> Option<PieceId>
-    requires { PlaceAfter tree.now.items after.now }
-    ensures { (us vs : List (ℕ × Piece)) → SplitsAfter tree.now.items after.now us vs
-        → result ≡ first_or None vs }
-{
-    match after {
-        Some(id) => tree.next(*id),
-        None => tree.first(),
-    }
-}
-
+/// The piece of a span.
 fn piece_of(chunks: &Chunks, span: ChunkSpan) -> Piece
     requires { LiesIn chunks.now.buffers span }
     ensures { result ≡ piece_of chunks.now.buffers span }

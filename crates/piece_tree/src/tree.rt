@@ -199,6 +199,8 @@ impl PieceTree {
         ensures spliced { pieces_of self.new.entries
             ≡ spliced chunks.now.buffers offset (offset + deleted) span
             (pieces_of self.old.entries) }
+        ensures front { (found : Found) → IsFound self.old.entries found
+            → found.before.units + found.span.units < offset → IsFound self.new.entries found }
         ensures spare { self.new.spare + 1 ≡ self.old.spare }
     {
         replace_units(&mut self.tree, &at, offset, deleted, span, chunks);

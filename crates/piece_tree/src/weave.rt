@@ -79,6 +79,10 @@ impl Weave for PieceWeave {
         }
     }
 
+    fn same(first: PieceSum, second: PieceSum) -> bool {
+        first.units == second.units && first.breaks == second.breaks
+    }
+
     fn still() {}
 
     fn only_shift() -> Option<()> {

@@ -7,27 +7,30 @@ use Rattle.rb_rules.specs.declared.slot.Side.{Side}
 use Rattle.rb_rules.specs.declared.slot.Side.TheVariants.{Left, Right}
 use Rattle.rb_rules.specs.declared.slot.Slot.{Slot}
 use Rattle.rb_rules.specs.declared.weave.Weave.{Ghosts}
-use Rattle.rb_rules.specs.Tree.{Tree, tip, fork, Hole, on, plug, above, depth, height}
+use Rattle.rb_rules.specs.Tree.{Tree, tip, fork, Hole, on, plug, above, count, depth, height}
 use Rattle.rb_rules.specs.Colours.{Balanced}
-use Rattle.rb_rules.specs.Memory.{sided, Made, Spot, place_of}
+use Rattle.rb_rules.specs.Memory.{sided, Made, Spot, here, place_of}
 use Rattle.rb_rules.specs.Weaving.{Lawful, Sums, summed}
 use Rattle.rb_rules.specs.Woven.{sum_of, Woven, AllItems, Valued, lefts, rights, shift_at}
 use Rattle.rb_rules.proofs.Climbs.{slack_of}
+use Rattle.rb_rules.proofs.Holes.{count-plug, count_self}
 use Rattle.rb_rules.proofs.Weaves.{woven_at, near_of}
 use Rattle.rb_rules.proofs.Held.{valued_left, valued_right, valued_tail}
 use Rattle.rb_arena.specs.declared.links.Links.{Links}
 use Rattle.rb_arena.specs.Leaving.{shown}
 use Rattle.rb_arena.specs.Placing.{HangsAfter, WovenIn, CanHang, IsValueAlone, above_place, leaf_for}
 use Rattle.rb_arena.specs.Rising.{MendedBeside}
+use Rattle.rb_arena.specs.Stopping.{RightAbove}
 use Rattle.rb_arena.specs.Value.{first_hole, with_item, loose_in, KeepsWithin}
 use Rattle.rb_arena.proofs.Growing.{depth_height, first-plug, first-lefts, first-rights}
 use Rattle.rb_arena.proofs.Heirs.{as_deep, shift_first, slack_first}
 use Rattle.rb_arena.proofs.Inserting.{valued_renamed}
-use Rattle.rb_arena.proofs.Keeping.{Shows, Node, made_there, low_there}
+use Rattle.rb_arena.proofs.Keeping.{Shows, Node, made_there, woven_there, low_there}
 use Rattle.rb_arena.proofs.Listing.{low, woven_near, loose_are, keeps_mended}
 use Rattle.rb_arena.proofs.Locating.{after_list, items_more}
 use Rattle.rb_arena.proofs.Paths.{above-place}
 use Rattle.rb_arena.proofs.Setting.{balanced_data, items_with}
+use Rattle.rb_arena.proofs.Stopping.{right_at, right_first}
 
 -- the first place below a hole is that of the same name and side, whatever the data above
 same_place : {D : Type 0} (k l : Hole D) (t : Tree D) → place_of k ≡ place_of l → place_of (first_hole k t) ≡ place_of (first_hole l t)
@@ -120,6 +123,13 @@ module _ {W X S B K : Type 0} {w : Ghosts W X S B K} {reach : B} {links : Links 
                 (balanced_data n.spot.hole n.spot.red id n.spot.datum (with_item n.spot.datum own) n.spot.left n.spot.right (subst Balanced (sym n.whole) kept.balanced));
             values = values_after;
           }
+
+      -- above the node all is right for the sum that it keeps
+      pub right_after : RightAbove w.weaving (w.within reach) id own_after
+      right_after =
+          let once = (made_there n).once id in let out = count-plug id n.spot.hole (here n.spot id) in let one = count_self id (count id n.spot.left + count id n.spot.right) in
+          right_first w.weaving (w.within reach) id own_right n.spot.right (omega (arith, once, out, one))
+          (right_at w.weaving (w.within reach) Right n.spot.red id (with_item n.spot.datum own) n.spot.left n.spot.hole (here n.spot id, woven_there n, sym (woven_at w.weaving L (w.within reach) n.spot.hole (here n.spot id) (woven_there n)).1))
 
       pub both_there : (new : ℕ) (last : Links (Data X S B)) → MendedBeside w reach kept.beside last (lefts w.weaving own_after ++ (new, z) ∷ rights w.weaving own_after)
           → map.len last.nodes.live ≡ map.len links.nodes.live + 1 → map.len last.nodes.live < 2 ^ 63

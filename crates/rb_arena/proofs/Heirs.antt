@@ -84,7 +84,7 @@ module _ {A : Type 0} where
   no_end : (q : List A) (a : A) (ys : List A) → [] ≡ q ++ a ∷ ys → ⊥
   no_end q a ys e = let n = ap length e in let l = length-append q (a ∷ ys) in omega (arith, n, l)
 
-  last_same : (as_ us : List A) (e f : A) → as_ ++ e ∷ [] ≡ us ++ f ∷ [] → (as_ ≡ us) × (e ≡ f)
+  pub last_same : (as_ us : List A) (e f : A) → as_ ++ e ∷ [] ≡ us ++ f ∷ [] → (as_ ≡ us) × (e ≡ f)
   last_same as_ us e f h = elim (cut as_ e [] us f [] h) [
     | inl (q, a, g) ↦ absurd (no_end q e [] g)
     | inr rest ↦ elim rest [
@@ -325,7 +325,7 @@ module _ {W X S B K : Type 0} (w : Ghosts W X S B K) (old : Links (Data X S B)) 
   -- the heir is the next node
   module _ (first : Option (ℕ × Side)) (heir : ℕ) (ends : IsEnd old (Some (id, Right)) slot.right Left first) (is : heir ≡ unwrap_or (above_place first) id) (some : is_some slot.right ≡ true) where
     module _ (l : LawsOf w) (reach : B) (beside : Tree (Data X S B)) (us : List (ℕ × X)) (x : X) (vs : List (ℕ × X)) (st : StoresBeside w old reach beside (us ++ (id, x) ∷ vs)) where
-      next : IsNext w.weaving l.laws (w.within reach) w.is_item w.is_sum w.is_value l.sums l.parts l.thins beside old.nodes.live old.root id us x vs heir
+      pub next : IsNext w.weaving l.laws (w.within reach) w.is_item w.is_sum w.is_value l.sums l.parts l.thins beside old.nodes.live old.root id us x vs heir
       unfolding IsEnd
       next =
           let n = found l reach beside us x vs st in let s = at_node l reach beside us x vs st in let k = on_right l reach beside us x vs st in let start = starts_right l reach beside us x vs st in

@@ -13,7 +13,7 @@ use Rattle.rb_rules.specs.Colours.{Fits, Balanced}
 use Rattle.rb_rules.specs.Memory.{hung, root_hung, Made, here, AtSpot, place_of}
 use Rattle.rb_rules.specs.Weaving.{Weaving, Lawful, Sums, HeldItem, HeldBy, CanSumUp}
 use Rattle.rb_rules.specs.Woven.{entries, sum_of, Woven, AllItems, Valued, lefts, rights, shift_at}
-use Rattle.rb_rules.specs.Sound.{IsSlack, RenewedFrom}
+use Rattle.rb_rules.specs.Sound.{RenewedFrom}
 use Rattle.rb_rules.proofs.Attaching.{written_apart, absent_both, planted}
 use Rattle.rb_rules.proofs.Colouring as C
 use Rattle.rb_rules.proofs.Climbs.{slack_of}
@@ -27,12 +27,14 @@ use Rattle.rb_rules.proofs.Wider.{woven_wider}
 use Rattle.rb_rules.specs.declared.weave.Weave.{Ghosts}
 use Rattle.rb_arena.specs.declared.links.Links.{Links}
 use Rattle.rb_arena.specs.Nodes.{LivesAt}
-use Rattle.rb_arena.specs.Placing.{CanHang, kept_below, leaf_of, leaf_below, leaf_for, above_place, CanKeep, CanKeepAlone, IsLeaf, IsLeafFor, IsValueAlone, IsShiftTo, IsWovenPlace, WovenIn, Takes, TakesIn, TakesLeaf, TakesNode, TakesSlot, HangsIn, ListsAt, ListsLeafAt, ListsNodeAt, ListsSlotAt}
-use Rattle.rb_arena.specs.Relative.{CanSumOver, LawsOf, IsSlackFrom, RenewsFrom}
+use Rattle.rb_arena.specs.Placing.{CanHang, kept_below, leaf_of, leaf_below, leaf_for, above_place, CanKeep, CanKeepAlone, IsLeaf, IsLeafFor, IsValueAlone, IsShiftTo, IsWovenPlace, WovenIn, Takes, TakesIn, TakesLeaf, TakesNode, TakesSlot, HangsIn, HangsUnder, ListsAt, ListsLeafAt, ListsNodeAt, ListsSlotAt}
+use Rattle.rb_arena.specs.Relative.{CanSumOver, LawsOf}
+use Rattle.rb_arena.specs.Stopping.{IsSlackUnder, RenewsUnder, SlackRound}
 use Rattle.rb_arena.specs.Leaving.{IsKept, StandsValued, StandsWoven}
 use Rattle.rb_arena.specs.Rising.{Rising, IsRisingFrom, MendsFrom}
 use Rattle.rb_arena.proofs.Paths.{above-place}
 use Rattle.rb_arena.proofs.Slots.{len_written}
+use Rattle.rb_arena.proofs.Stopping.{renewed_under, slack_under}
 
 empty_fits : {D : Type 0} (k : Hole D) → Balanced (plug k tip) → Fits false 0 k
 empty_fits k bal = let (n, (c, (e, z), f)) = C.unplugged k tip bal in subst (λ b. Fits b 0 k) e (subst (λ l. Fits c l k) z f)
@@ -95,19 +97,16 @@ module _ {X S B : Type 0} (w : Weaving X S B) (L : Lawful w) (is_near : B → Ty
 
     module _ (m2 : map.FinMap nat_cmp (Slot (Data X S B))) (root2 : Option ℕ) where
       pub slack_leaf : (at : Option ℕ) → at ≡ above k → Made beside m2 root2 (plug k (fork true id (leaf_of w k x) tip tip))
-          → IsSlack w is_near is_item is_value beside m2 root2 at 128 (plug k (fork true id (leaf_of w k x) tip tip))
+          → SlackRound w is_near is_item is_value beside m2 root2 at 128 (plug k (fork true id (leaf_of w k x) tip tip)) k
       slack_leaf at e made = (
-        k,
-        (
-          leaf,
-          refl,
-          made,
-          e,
-          woven_summed w L is_near (shift_at w k) true id (w.shift (w.minus w.still (shift_at w k)) x) w.still tip tip h.near (still_near (shift_at w k) h.near),
-          h.slack,
-          subst (Valued w is_item is_value) (sym items_are) valued_new,
-          h.few,
-        ),
+        leaf,
+        refl,
+        made,
+        e,
+        woven_summed w L is_near (shift_at w k) true id (w.shift (w.minus w.still (shift_at w k)) x) w.still tip tip h.near (still_near (shift_at w k) h.near),
+        h.slack,
+        subst (Valued w is_item is_value) (sym items_are) valued_new,
+        h.few,
       )
 
       pub rising_leaf : RenewedFrom w is_near beside m2 root2 (plug k (fork true id (leaf_of w k x) tip tip)) → Rising w is_near beside m2 root2 (lefts w k ++ (id, x) ∷ rights w k) id 128
@@ -201,15 +200,15 @@ module _ {W X S B K : Type 0} (w : Ghosts W X S B K) (old : Links (Data X S B)) 
     takes_value (l, (reach, (beside, (k, can)))) = alone_there w l old at item reach beside k can
 
     module _ (slot : Slot (Data X S B)) where
-      pub takes_slot : Takes w old at item → IsLeafFor w old at item slot → TakesSlot w old at slot
+      pub takes_slot : Takes w old at item → IsLeafFor w old at item slot → TakesSlot w old at slot None
       unfolding Takes TakesSlot
       takes_slot (l, (reach, (beside, (k, can)))) leaf_is =
-          (l, (reach, (beside, (k, (item, hangs_there w l old at item reach beside k can, leaf_there w l old at item reach beside k can slot leaf_is)))))
+          (l, (reach, (beside, (k, (item, (hangs_there w l old at item reach beside k can, tt), leaf_there w l old at item reach beside k can slot leaf_is)))))
 
-      pub lists_item : (new : Links (Data X S B)) (id : ℕ) → Takes w old at item → IsLeafFor w old at item slot → ListsSlotAt w old new at id slot → ListsAt w old new at id item
+      pub lists_item : (new : Links (Data X S B)) (id : ℕ) → Takes w old at item → IsLeafFor w old at item slot → ListsSlotAt w old new at id slot None → ListsAt w old new at id item
       unfolding Takes ListsSlotAt ListsAt
       lists_item new id (l, some) leaf_is lists = λ reach beside k can.
-          lists reach beside k item (hangs_there w l old at item reach beside k can) (leaf_there w l old at item reach beside k can slot leaf_is)
+          lists reach beside k item (hangs_there w l old at item reach beside k can, tt) (leaf_there w l old at item reach beside k can slot leaf_is)
 
   -- an item at a node that stood in no tree
   module _ (id : ℕ) (item : X) where
@@ -222,18 +221,18 @@ module _ {W X S B K : Type 0} (w : Ghosts W X S B K) (old : Links (Data X S B)) 
     lands_value (l, (reach, (beside, (k, can, apart)))) = alone_there w l old at item reach beside k can
 
     module _ (slot : Slot (Data X S B)) (mid : Links (Data X S B)) where
-      pub lands_leaf : TakesNode w old at id item → IsLeafFor w old at item slot → mid.nodes.live ≡ map.insert old.nodes.live id slot → mid.root ≡ old.root → TakesLeaf w mid at id
+      pub lands_leaf : TakesNode w old at id item → IsLeafFor w old at item slot → mid.nodes.live ≡ map.insert old.nodes.live id slot → mid.root ≡ old.root → TakesLeaf w mid at id None
       unfolding TakesNode TakesLeaf
       lands_leaf (l, (reach, (beside, (k, can, apart)))) leaf_is written top_ =
           let (hangs, leaf) = written_leaf (hangs_there w l old at item reach beside k can) id apart (leaf_there w l old at item reach beside k can slot leaf_is) written in
-          (l, (reach, (beside, (k, (item, rw top_ hangs, leaf)))))
+          (l, (reach, (beside, (k, (item, (rw top_ hangs, tt), leaf)))))
 
-      pub lists_node : (new : Links (Data X S B)) → TakesNode w old at id item → IsLeafFor w old at item slot → mid.nodes.live ≡ map.insert old.nodes.live id slot → mid.root ≡ old.root → ListsLeafAt w mid new at id
+      pub lists_node : (new : Links (Data X S B)) → TakesNode w old at id item → IsLeafFor w old at item slot → mid.nodes.live ≡ map.insert old.nodes.live id slot → mid.root ≡ old.root → ListsLeafAt w mid new at id None
           → ListsNodeAt w old new at id item
       unfolding TakesNode ListsLeafAt ListsNodeAt
       lists_node new (l, some) leaf_is written top_ lists = λ reach beside k can apart.
           let (hangs, leaf) = written_leaf (hangs_there w l old at item reach beside k can) id apart (leaf_there w l old at item reach beside k can slot leaf_is) written in
-          lists reach beside k item (rw top_ hangs) leaf
+          lists reach beside k item (rw top_ hangs, tt) leaf
 
   -- a leaf at a new node
   module _ (id : ℕ) (slot : Slot (Data X S B)) (fresh : map.get old.nodes.live id ≡ None) (mid : Links (Data X S B)) (written : mid.nodes.live ≡ map.insert old.nodes.live id slot) (top_ : mid.root ≡ old.root) where
@@ -242,54 +241,53 @@ module _ {W X S B K : Type 0} (w : Ghosts W X S B K) (old : Links (Data X S B)) 
     hung_there reach beside k x can is =
         let (hangs, leaf) = written_leaf can id (absent_both old.nodes.live id fresh old.root (plug k tip) can.hole.1) is written in (rw top_ hangs, leaf)
 
-    pub takes_put : TakesSlot w old at slot → TakesLeaf w mid at id
+    pub takes_put : (last : Option ℕ) → TakesSlot w old at slot last → TakesLeaf w mid at id last
     unfolding TakesSlot TakesLeaf
-    takes_put (l, (reach, (beside, (k, (x, can, is))))) = let (hangs, leaf) = hung_there reach beside k x can is in (l, (reach, (beside, (k, (x, hangs, leaf)))))
+    takes_put last (l, (reach, (beside, (k, (x, (can, right), is))))) = let (hangs, leaf) = hung_there reach beside k x can is in (l, (reach, (beside, (k, (x, (hangs, right), leaf)))))
 
-    pub lists_put : (new : Links (Data X S B)) → ListsLeafAt w mid new at id → ListsSlotAt w old new at id slot
+    pub lists_put : (last : Option ℕ) (new : Links (Data X S B)) → ListsLeafAt w mid new at id last → ListsSlotAt w old new at id slot last
     unfolding ListsLeafAt ListsSlotAt
-    lists_put new lists = λ reach beside k x can is. let (hangs, leaf) = hung_there reach beside k x can is in lists reach beside k x hangs leaf
+    lists_put last new lists = λ reach beside k x (can, right) is. let (hangs, leaf) = hung_there reach beside k x can is in lists reach beside k x (hangs, right) leaf
 
 -- a leaf for a place hangs there
-module _ {W X S B K : Type 0} (w : Ghosts W X S B K) (old : Links (Data X S B)) (at : Option (ℕ × Side)) (id : ℕ) where
-  pub lives_over : TakesLeaf w old at id → LivesAt old.nodes at
+module _ {W X S B K : Type 0} (w : Ghosts W X S B K) (old : Links (Data X S B)) (at : Option (ℕ × Side)) (id : ℕ) (last : Option ℕ) where
+  pub lives_over : TakesLeaf w old at id last → LivesAt old.nodes at
   unfolding TakesLeaf LivesAt
-  lives_over (l, (reach, (beside, (k, (x, can, leaf))))) =
+  lives_over (l, (reach, (beside, (k, (x, (can, right), leaf))))) =
       let made = can.hole.1 in rw can.hole.0 (live_place old.nodes.live old.root k _ (opened old.nodes.live old.root k tip made.from made.nodes).0)
 
   module _ (mid : Links (Data X S B)) (parent : Option ℕ) (live_ : mid.nodes.live ≡ hung old.nodes.live at (Some id)) (top_ : mid.root ≡ root_hung old.root at (Some id)) (up : parent ≡ above_place at) where
-    module _ (l : LawsOf w) (reach : B) (beside : Tree (Data X S B)) (k : Hole (Data X S B)) (x : X) (can : HangsIn w old at reach beside x k) (leaf : IsLeaf w.weaving beside old.nodes.live id x k) where
+    module _ (l : LawsOf w) (reach : B) (beside : Tree (Data X S B)) (k : Hole (Data X S B)) (x : X) (can : HangsUnder w old at reach beside x k last) (leaf : IsLeaf w.weaving beside old.nodes.live id x k) where
       -- the tree with the leaf, whose sums above it are not right yet
       abbrev with_leaf : Tree (Data X S B)
       with_leaf = plug k (fork true id (leaf_of w.weaving k x) tip tip)
 
-      slack_with : IsSlack w.weaving (w.within reach) w.is_item w.is_value beside mid.nodes.live mid.root parent 128 with_leaf
+      slack_with : SlackRound w.weaving (w.within reach) w.is_item w.is_value beside mid.nodes.live mid.root parent 128 with_leaf k
       slack_with =
-          let made : Made beside mid.nodes.live mid.root with_leaf = rw (live_, top_, can.hole.0) (planted old.nodes.live old.root k id (leaf_of w.weaving k x) leaf.0 leaf.1 can.hole.1) in
-          slack_leaf w.weaving l.laws (w.within reach) w.is_item w.is_sum w.is_value l.sums l.parts can id mid.nodes.live mid.root parent (up ∙ ap above_place can.hole.0 ∙ above-place k) made
+          let made : Made beside mid.nodes.live mid.root with_leaf = rw (live_, top_, can.0.hole.0) (planted old.nodes.live old.root k id (leaf_of w.weaving k x) leaf.0 leaf.1 can.0.hole.1) in
+          slack_leaf w.weaving l.laws (w.within reach) w.is_item w.is_sum w.is_value l.sums l.parts can.0 id mid.nodes.live mid.root parent (up ∙ ap above_place can.0.hole.0 ∙ above-place k) made
 
       -- where those are renewed, the leaf rises
-      rises : (new : Links (Data X S B)) → RenewsFrom w mid new parent 128
+      rises : (new : Links (Data X S B)) → RenewsUnder w mid new parent last
           → Rising w.weaving (w.within reach) beside new.nodes.live new.root (lefts w.weaving k ++ (id, x) ∷ rights w.weaving k) id 128
           × Valued w.weaving w.is_item w.is_value (lefts w.weaving k ++ (id, x) ∷ rights w.weaving k)
-      unfolding RenewsFrom
       rises new renews = (
-        rising_leaf w.weaving l.laws (w.within reach) w.is_item w.is_sum w.is_value l.sums l.parts can id new.nodes.live new.root (renews reach beside _ slack_with),
-        valued_new w.weaving l.laws (w.within reach) w.is_item w.is_sum w.is_value l.sums l.parts can id,
+        rising_leaf w.weaving l.laws (w.within reach) w.is_item w.is_sum w.is_value l.sums l.parts can.0 id new.nodes.live new.root (renewed_under w mid parent last reach beside with_leaf k slack_with can.1 new renews),
+        valued_new w.weaving l.laws (w.within reach) w.is_item w.is_sum w.is_value l.sums l.parts can.0 id,
       )
 
-    pub slack_over : TakesLeaf w old at id → IsSlackFrom w mid parent 128
-    unfolding TakesLeaf IsSlackFrom
-    slack_over (l, (reach, (beside, (k, (x, can, leaf))))) = (reach, (beside, (_, slack_with l reach beside k x can leaf)))
+    pub slack_over : TakesLeaf w old at id last → IsSlackUnder w mid parent last
+    unfolding TakesLeaf
+    slack_over (l, (reach, (beside, (k, (x, can, leaf))))) = slack_under w mid parent last l reach beside _ k (slack_with l reach beside k x can leaf) can.1
 
-    module _ (new : Links (Data X S B)) (renews : RenewsFrom w mid new parent 128) where
-      pub leaf_rises : TakesLeaf w old at id → IsRisingFrom w new id 128
+    module _ (new : Links (Data X S B)) (renews : RenewsUnder w mid new parent last) where
+      pub leaf_rises : TakesLeaf w old at id last → IsRisingFrom w new id 128
       unfolding TakesLeaf IsRisingFrom
       leaf_rises (l, (reach, (beside, (k, (x, can, leaf))))) = let (rising, values) = rises l reach beside k x can leaf new renews in (reach, (beside, (_, rising, values)))
 
-      pub leaf_listed : (last : Links (Data X S B)) → TakesLeaf w old at id → MendsFrom w new last id 128 → ListsLeafAt w old last at id
+      pub leaf_listed : (after : Links (Data X S B)) → TakesLeaf w old at id last → MendsFrom w new after id 128 → ListsLeafAt w old after at id last
       unfolding TakesLeaf MendsFrom ListsLeafAt
-      leaf_listed last (l, some) mends = λ reach beside k x can leaf. let (rising, values) = rises l reach beside k x can leaf new renews in mends reach beside _ rising values
+      leaf_listed after (l, some) mends = λ reach beside k x can leaf. let (rising, values) = rises l reach beside k x can leaf new renews in mends reach beside _ rising values
 
 pub ruleset hung_leaf = (lives_over, slack_over, leaf_rises, leaf_listed)
 

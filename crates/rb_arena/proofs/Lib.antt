@@ -21,8 +21,12 @@ pub mod Setting
 pub mod Shifting
 pub mod Slots
 pub mod Splitting
+pub mod Stopping
 pub mod Steps
 pub mod TakingOut
 pub mod Turning
 pub mod Walks
 pub mod OwnNames
+pub mod Nearest
+pub mod Merging
+pub mod Uniting

@@ -11,7 +11,7 @@ use Rattle.rb_rules.specs.Colours.{Rb, Balanced}
 use Rattle.rb_rules.specs.Memory.{Made, Spot, here}
 use Rattle.rb_rules.specs.Weaving.{Weaving, Lawful, Sums}
 use Rattle.rb_rules.specs.Woven.{entries, sum_of, Woven, AllItems, Valued, lefts, rights, shift_at}
-use Rattle.rb_rules.specs.Sound.{IsSlack, RenewedFrom}
+use Rattle.rb_rules.specs.Sound.{RenewedFrom}
 use Rattle.rb_rules.proofs.Climbs.{slack_of}
 use Rattle.rb_rules.proofs.Colouring as C
 use Rattle.rb_rules.proofs.Shapes.{same_items, same_colours}
@@ -19,9 +19,11 @@ use Rattle.rb_rules.proofs.Weaves.{woven_at, entries-plug}
 use Rattle.rb_arena.specs.declared.links.Links.{Links}
 use Rattle.rb_arena.specs.Leaving.{shown}
 use Rattle.rb_arena.specs.Rising.{Mended}
+use Rattle.rb_arena.specs.Stopping.{SlackTo}
 use Rattle.rb_arena.specs.Value.{with_item, items_in, loose_in, Keeps, KeepsWithin}
 use Rattle.rb_arena.proofs.Keeping.{Node, own_spot, woven_there, few_above}
 use Rattle.rb_arena.proofs.Listing.{loose_are, keeps_mended}
+use Rattle.rb_arena.proofs.Stopping.{right_at}
 
 rb_data : {D : Type 0} (b c : Bool) (n i : ℕ) (d e : D) (x y : Tree D) → Rb c n (fork b i d x y) → Rb c n (fork b i e x y)
 rb_data true c n i d e x y r = r
@@ -51,20 +53,19 @@ module _ {X S B : Type 0} (w : Weaving X S B) (L : Lawful w) (is_near : B → Ty
 
       pub slack_set : (m : map.FinMap nat_cmp (Slot (Data X S B))) (root : Option ℕ) → depth s.hole ≤ 127 → Valued w is_item is_value (us ++ (id, x) ∷ vs)
           → Made s.beside m root (plug s.hole (fork s.red id (with_item s.datum own) s.left s.right))
-          → IsSlack w is_near is_item is_value s.beside m root (Some id) 128 (plug s.hole (fork s.red id (with_item s.datum own) s.left s.right))
-      slack_set m root le v made = (
-        on Left s.red id (with_item s.datum own) s.right s.hole,
-        (
-          s.left,
-          refl,
-          made,
-          refl,
-          woven_here.2,
-          (woven_here.3, slack_of w L is_near is_item is_sum is_value sums parts s.hole (here s id) wv),
-          subst (Valued w is_item is_value) (sym list_is) v,
-          omega (arith, le),
-        ),
-      )
+          → SlackTo w is_near is_item is_value s.beside m root (Some id) id 128 (plug s.hole (fork s.red id (with_item s.datum own) s.left s.right))
+      slack_set m root le v made = record {
+        hole = on Left s.red id (with_item s.datum own) s.right s.hole;
+        subtree = s.left;
+        is = refl;
+        made = made;
+        up = refl;
+        woven = woven_here.2;
+        slack = (woven_here.3, slack_of w L is_near is_item is_sum is_value sums parts s.hole (here s id) wv);
+        values = subst (Valued w is_item is_value) (sym list_is) v;
+        few = omega (arith, le);
+        right = right_at w is_near Left s.red id (with_item s.datum own) s.right s.hole (here s id, wv, sym woven_here.1);
+      }
 
       pub mended_set : (m : map.FinMap nat_cmp (Slot (Data X S B))) (root : Option ℕ) → Balanced (plug s.hole (here s id))
           → RenewedFrom w is_near s.beside m root (plug s.hole (fork s.red id (with_item s.datum own) s.left s.right)) → Mended w is_near s.beside m root (us ++ (id, x) ∷ vs)
@@ -84,7 +85,7 @@ module _ {W X S B K : Type 0} {w : Ghosts W X S B K} {reach : B} {links : Links 
   values_there = (items_with w.weaving L (w.within reach) w.is_item w.is_sum w.is_value sums parts us id x y vs value (subst (AllItems w.weaving w.is_item) n.listed kept.values.0), sum)
 
   pub slack_there : (m2 : map.FinMap nat_cmp (Slot (Data X S B))) (root2 : Option ℕ) → Made kept.beside m2 root2 with_own
-      → IsSlack w.weaving (w.within reach) w.is_item w.is_value kept.beside m2 root2 (Some id) 128 with_own
+      → SlackTo w.weaving (w.within reach) w.is_item w.is_value kept.beside m2 root2 (Some id) id 128 with_own
   slack_there m2 root2 made =
       let few = few_above n in
       slack_set w.weaving L (w.within reach) w.is_item w.is_sum w.is_value sums parts (own_spot n) id (woven_there n) y own is us vs n.before n.after m2 root2 (omega (arith, few)) values_there made

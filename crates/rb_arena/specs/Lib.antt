@@ -4,10 +4,13 @@ pub mod Landing
 pub mod Leaving
 pub mod Mending
 pub mod Nodes
+pub mod Pairs
 pub mod Placing
 pub mod Relative
 pub mod Rising
 pub mod Searching
 pub mod Shifting
+pub mod Stopping
 pub mod Value
 pub mod Names
+pub mod Merging

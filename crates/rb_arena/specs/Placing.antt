@@ -17,6 +17,7 @@ use Rattle.rb_rules.specs.Woven.{Woven, Valued, lefts, rights, shift_at}
 use Rattle.rb_arena.specs.declared.links.Links.{Links}
 use Rattle.rb_arena.specs.Relative.{LawsOf, RelativeBy, RelativeItem, CanSumOver}
 use Rattle.rb_arena.specs.Rising.{MendedBeside}
+use Rattle.rb_arena.specs.Stopping.{RightIf}
 
 -- the shift of the subtree on that side of a node, from that of the node
 abbrev pub passed : {X S B : Type 0} → Weaving X S B → Side → B → B → B
@@ -183,17 +184,21 @@ module _ {W X S B K : Type 0} (w : Ghosts W X S B K) where
     abbrev pub HangsIn : B → Tree (Data X S B) → X → Hole (Data X S B) → Type 0
     HangsIn reach beside item k = CanHang w.weaving (w.within reach) beside tree.nodes.live tree.root at w.is_item w.is_value item k
 
+    -- the same, and above the node named last, if there is one, all is right for the sum that it keeps
+    abbrev pub HangsUnder : B → Tree (Data X S B) → X → Hole (Data X S B) → Option ℕ → Type 0
+    HangsUnder reach beside item k last = HangsIn reach beside item k × RightIf w.weaving (w.within reach) last k
+
     -- the slot is that of a leaf for the place
-    unfoldable pub TakesSlot : Slot (Data X S B) → Type 0
-    TakesSlot slot =
+    unfoldable pub TakesSlot : Slot (Data X S B) → Option ℕ → Type 0
+    TakesSlot slot last =
         LawsOf w × ((reach : B) × ((beside : Tree (Data X S B)) × ((k : Hole (Data X S B)) × ((x : X)
-        × HangsIn reach beside x k × (slot ≡ leaf_for w.weaving k x)))))
+        × HangsUnder reach beside x k last × (slot ≡ leaf_for w.weaving k x)))))
 
     -- the node is a leaf for the place
-    unfoldable pub TakesLeaf : ℕ → Type 0
-    TakesLeaf id =
+    unfoldable pub TakesLeaf : ℕ → Option ℕ → Type 0
+    TakesLeaf id last =
         LawsOf w × ((reach : B) × ((beside : Tree (Data X S B)) × ((k : Hole (Data X S B)) × ((x : X)
-        × HangsIn reach beside x k × IsLeaf w.weaving beside tree.nodes.live id x k))))
+        × HangsUnder reach beside x k last × IsLeaf w.weaving beside tree.nodes.live id x k))))
 
   module _ (old new : Links (Data X S B)) (at : Option (ℕ × Side)) (id : ℕ) where
     -- whatever tree the place is in, it lists the item there under that name, and is red-black
@@ -210,15 +215,15 @@ module _ {W X S B K : Type 0} (w : Ghosts W X S B K) where
         → MendedBeside w reach beside new (lefts w.weaving k ++ (id, item) ∷ rights w.weaving k)
 
     -- and of one that was a leaf for the place
-    unfoldable pub ListsLeafAt : Type 0
-    ListsLeafAt =
-        (reach : B) (beside : Tree (Data X S B)) (k : Hole (Data X S B)) (x : X) → HangsIn old at reach beside x k
+    unfoldable pub ListsLeafAt : Option ℕ → Type 0
+    ListsLeafAt last =
+        (reach : B) (beside : Tree (Data X S B)) (k : Hole (Data X S B)) (x : X) → HangsUnder old at reach beside x k last
         → IsLeaf w.weaving beside old.nodes.live id x k
         → MendedBeside w reach beside new (lefts w.weaving k ++ (id, x) ∷ rights w.weaving k)
 
     -- and of a new one, for which that leaf was made
-    unfoldable pub ListsSlotAt : Slot (Data X S B) → Type 0
-    ListsSlotAt slot =
-        (reach : B) (beside : Tree (Data X S B)) (k : Hole (Data X S B)) (x : X) → HangsIn old at reach beside x k
+    unfoldable pub ListsSlotAt : Slot (Data X S B) → Option ℕ → Type 0
+    ListsSlotAt slot last =
+        (reach : B) (beside : Tree (Data X S B)) (k : Hole (Data X S B)) (x : X) → HangsUnder old at reach beside x k last
         → slot ≡ leaf_for w.weaving k x
         → MendedBeside w reach beside new (lefts w.weaving k ++ (id, x) ∷ rights w.weaving k)

@@ -9,7 +9,7 @@ ghost use Rattle.rb_arena.specs.Placing.{IsValueAlone, IsLeafFor, CanKeep, CanKe
 ghost use Rattle.rb_arena.specs.Placing.{Takes, TakesLeaf, TakesNode, TakesSlot};
 ghost use Rattle.rb_arena.specs.Placing.{ListsAt, ListsLeafAt, ListsNodeAt, ListsSlotAt};
 
-use crate::climb::{LONGEST, renew_up};
+use crate::climb::{LONGEST, renew_under};
 use crate::links::{Links, Place, hang, place, read, visit, write};
 use crate::mend::mend;
 use crate::sums::summed;
@@ -138,36 +138,43 @@ pub(crate) fn leaf_at<W: Weave>(
     Slot::sided(Side::Left, parent_at(at), None, None, true, datum)
 }
 
-/// Hangs a leaf at an empty place. The sums of the nodes above may be wrong before.
+/// Hangs a leaf at an empty place. The sums of the nodes above may be wrong before, but for those above one that is named, which are
+/// right for the sum that it keeps: where that stays, the walk ends there.
 #[tactic(auto, using(crate::proofs::Inserting::hung_leaf))]
-fn hang_leaf<W: Weave>(tree: &mut Links<Data<W::Item, W::Sum, W::By>>, at: Place, id: NodeId)
-    requires { TakesLeaf W.Weave tree.old at id }
-    ensures mended { ListsLeafAt W.Weave tree.old tree.new at id }
+fn hang_leaf<W: Weave>(
+    tree: &mut Links<Data<W::Item, W::Sum, W::By>>,
+    at: Place,
+    id: NodeId,
+    last: Option<NodeId>,
+)
+    requires { TakesLeaf W.Weave tree.old at id last }
+    ensures mended { ListsLeafAt W.Weave tree.old tree.new at id last }
     ensures spare { tree.new.nodes.spare ≡ tree.old.nodes.spare }
     ensures as_many { map.len tree.new.nodes.live ≡ map.len tree.old.nodes.live }
 {
     let parent = parent_at(&at);
     hang(tree, at, Some(id));
-    renew_up::<W>(tree, parent);
+    renew_under::<W>(tree, parent, last);
     mend::<W>(tree, id);
 }
 
-/// Hangs a new leaf at an empty place. The sums of the nodes above may be wrong before.
+/// The same for a new leaf.
 #[tactic(auto, using(crate::proofs::Inserting::hung_new))]
 pub(crate) fn hang_new<W: Weave>(
     tree: &mut Links<Data<W::Item, W::Sum, W::By>>,
     at: Place,
     leaf: Slot<Data<W::Item, W::Sum, W::By>>,
+    last: Option<NodeId>,
 ) -> NodeId
     requires room { 0 < tree.old.nodes.spare }
-    requires leaf { TakesSlot W.Weave tree.old at leaf }
-    ensures mended { ListsSlotAt W.Weave tree.old tree.new at result leaf }
+    requires leaf { TakesSlot W.Weave tree.old at leaf last }
+    ensures mended { ListsSlotAt W.Weave tree.old tree.new at result leaf last }
     ensures spare { tree.new.nodes.spare + 1 ≡ tree.old.nodes.spare }
     ensures as_many { map.len tree.new.nodes.live ≡ map.len tree.old.nodes.live + 1 }
     ensures few { map.len tree.new.nodes.live + tree.new.nodes.spare < 2 ^ 63 }
 {
     let id = tree.nodes.put(Packed::of(&leaf));
-    hang_leaf::<W>(tree, at, id);
+    hang_leaf::<W>(tree, at, id, last);
     id
 }
 
@@ -186,7 +193,7 @@ pub(crate) fn insert_at<W: Weave>(
     ensures few { map.len tree.new.nodes.live + tree.new.nodes.spare < 2 ^ 63 }
 {
     let leaf = leaf_at::<W>(tree, &at, item);
-    hang_new::<W>(tree, at, leaf)
+    hang_new::<W>(tree, at, leaf, None)
 }
 
 /// Puts an item at an empty place, at a node that stands in no tree.
@@ -205,5 +212,5 @@ pub(crate) fn land_at<W: Weave>(
 {
     let leaf = leaf_at::<W>(tree, &at, item);
     write(&mut tree.nodes, id, leaf);
-    hang_leaf::<W>(tree, at, id);
+    hang_leaf::<W>(tree, at, id, None);
 }

@@ -20,9 +20,9 @@ use rb_rules::{Data, Side, Weave};
 use slot_arena::NodeId;
 
 /// What a node leaves where it goes from a tree: an empty place, and whether a red node is missing there.
-struct Vacancy {
-    at: Place,
-    red: bool,
+pub(crate) struct Vacancy {
+    pub(crate) at: Place,
+    pub(crate) red: bool,
 }
 
 /// Renews the sums above an empty place, and closes the gap that a black leaf has left there.

@@ -9,6 +9,7 @@ mod leave;
 mod level;
 mod links;
 mod mend;
+mod merge;
 mod shift;
 mod sums;
 mod tree;

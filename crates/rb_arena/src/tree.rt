@@ -12,15 +12,17 @@ ghost use Rattle.rb_arena.specs.Value.{PlaceAfter, CanMoveAfter, SumsMoved, HasM
 ghost use Rattle.rb_arena.specs.Value.{HasFront, AtFront, SumsLanded, HasLanded};
 ghost use Rattle.rb_arena.specs.Landing.{CanLand, Lands};
 ghost use Rattle.rb_arena.specs.Names.{HaveOwnNames};
+ghost use Rattle.rb_arena.specs.Pairs.{HasNext, SumsMerged, HasMerged};
 ghost use Rattle.rb_arena.specs.Value.{NamesDiffer};
 ghost use Rattle.rb_arena.specs.Searching.{Found, CanGoOn, FindsOn, StepsOn};
 ghost use Rattle.rb_arena.specs.Ends.{HangsAt, IsEnd, HangsPast, IsFirstPast, StandsLow, IsAboveOn, IsBeside};
 
-use crate::climb::{LONGEST, renew_up};
+use crate::climb::{LONGEST, renew_over};
 use crate::descend::{Next, Standing, climb, go_down};
 use crate::insert::{hang_new, insert_at, land_at, leaf_at, parent_at};
 use crate::leave::{item_at, item_for, leave, loosen};
 use crate::links::{Links, Place, node_of, place, read, unstring};
+use crate::merge::merge;
 use crate::shift::{reach_for, shift_from};
 use crate::sums::{replace_item, whole};
 use rb_rules::{Data, Side, Weave};
@@ -105,7 +107,7 @@ fn place_after<D: Copy>(tree: &Links<D>, id: Option<NodeId>) -> Place
 
 /// The nearest node above that one that has it on that side.
 #[tactic(auto, using(crate::proofs::Walks::up))]
-fn above_on<D: Copy>(tree: &Links<D>, id: NodeId, side: Side) -> Option<NodeId>
+pub(crate) fn above_on<D: Copy>(tree: &Links<D>, id: NodeId, side: Side) -> Option<NodeId>
     requires { StandsLow tree.now id }
     ensures { IsAboveOn tree.now id side result }
 {
@@ -304,7 +306,7 @@ impl<W: Weave> RbTree<W> {
         item_at::<W>(&self.links, id)
     }
 
-    /// Puts another item in the place of that one, under its name.
+    /// Puts another item in the place of that one, under its name. Where its sum is the same, no other node is renewed.
     #[tactic(auto, using(crate::proofs::Seeing::setting))]
     pub fn set(&mut self, id: NodeId, item: W::Item)
         requires named { IsItem self.old.items id }
@@ -316,7 +318,7 @@ impl<W: Weave> RbTree<W> {
     {
         let own = item_for::<W>(&self.links, id, item);
         replace_item::<W>(&mut self.links, id, own);
-        renew_up::<W>(&mut self.links, Some(id));
+        renew_over::<W>(&mut self.links, Some(id), id);
     }
 
     /// Puts an item right after that one, or before all others.
@@ -347,7 +349,8 @@ impl<W: Weave> RbTree<W> {
         self.put_after(Some(id), item)
     }
 
-    /// Puts another item in the place of that one, under its name, and a new item right after it. The sums are renewed in one walk up.
+    /// Puts another item in the place of that one, under its name, and a new item right after it. The sums are renewed in one walk up,
+    /// which ends at the node of that name where the two have the sum that it had.
     #[tactic(auto, using(crate::proofs::Seeing::setting_and_inserting))]
     pub fn set_and_insert_after(&mut self, id: NodeId, own: W::Item, item: W::Item) -> NodeId
         requires room { 0 < self.old.spare }
@@ -364,7 +367,7 @@ impl<W: Weave> RbTree<W> {
         let own = item_for::<W>(&self.links, id, own);
         let leaf = leaf_at::<W>(&self.links, &at, item);
         replace_item::<W>(&mut self.links, id, own);
-        hang_new::<W>(&mut self.links, at, leaf)
+        hang_new::<W>(&mut self.links, at, leaf, Some(id))
     }
 
     /// Puts an item before all others.
@@ -388,6 +391,20 @@ impl<W: Weave> RbTree<W> {
         ensures spare { self.new.spare ≡ self.old.spare + 1 }
     {
         leave::<W>(&mut self.links, id);
+    }
+
+    /// Puts one item in the place of that one and of the one right behind it, and tells under which of their names it stands. Where the
+    /// sum of the two stays, the walk up ends at the higher of their nodes.
+    #[tactic(auto, using(crate::proofs::Seeing::spare_seen))]
+    pub fn merge_next(&mut self, id: NodeId, item: W::Item) -> NodeId
+        requires pair { HasNext self.old.items id }
+        requires value { W.is_item item }
+        requires sum { SumsMerged W.weaving W.is_value self.old.items id item }
+        ensures items { HasMerged self.old.items self.new.items id (result, item) }
+        ensures loose { self.new.loose ≡ self.old.loose }
+        ensures spare { self.new.spare ≡ self.old.spare + 1 }
+    {
+        merge::<W>(&mut self.links, id, item)
     }
 
     /// Moves each item after that one, or every item where none is named.

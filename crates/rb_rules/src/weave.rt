@@ -1,5 +1,5 @@
 //! What the nodes of a tree keep.
-ghost use Rattle.std.specs.Prelude.{◌≡◌, Option, Some, IfSome, IsSome};
+ghost use Rattle.std.specs.Prelude.{◌≡◌, Option, Some, IfSome, IsSome, IsTrue};
 ghost use Rattle.rb_rules.specs.Weaving.{Weaving, Lawful, HeldItem, HeldSum, HeldBy, Sums, Widens};
 
 /// Where a search goes from a node.
@@ -61,6 +61,10 @@ pub trait Weave {
     fn join(first: Self::Sum, second: Self::Sum) -> Self::Sum
         requires { HeldSum weaving is_near is_sum is_value (weaving.join first second) }
         ensures { result ≡ weaving.join first second };
+
+    /// Whether two sums are the same. Where it tells so, a walk up ends.
+    fn same(first: Self::Sum, second: Self::Sum) -> bool
+        ensures { IsTrue result → first ≡ second };
 
     fn still() -> Self::By
         ensures { result ≡ weaving.still };

@@ -1,5 +1,5 @@
--- How many breaks an edit appends: those of its text, and two more at most.
-use Rattle.std.proofs.Common.{ℕ, ◌+◌, ◌≤◌, ◌==◌, ◌&&◌, ◌||◌, Bool, cond, true, false, List, [], ◌∷◌, ◌++◌, length, arith}
+-- How many breaks an edit appends: those of its text, and those that it takes along on both sides.
+use Rattle.std.proofs.Common.{ℕ, ◌+◌, ◌*◌, ◌≤◌, ◌==◌, ◌&&◌, ◌||◌, Bool, cond, true, false, List, [], ◌∷◌, ◌++◌, length, arith}
 use Rattle.text_rules.specs.Lines.{line_feed, carriage_return, begins_with}
 use Rattle.text_rules.specs.Breaks.{ends_break, break_ends}
 use Rattle.text_rules.proofs.Breaks.{break_ends_few}
@@ -36,5 +36,5 @@ one_break_most true unit = omega (arith, break_count_is (unit ∷ []), break_end
 one_break_most false unit = omega arith
 
 -- what an edit appends
-pub added_breaks : (before text after : List ℕ) → break_count before ≤ 1 → break_count after ≤ 1 → break_count (before ++ text ++ after) ≤ break_count text + 2
-added_breaks before text after one two = omega (arith, break_count-append (before ++ text) after, break_count-append before text, one, two)
+pub added_breaks : (n : ℕ) (before text after : List ℕ) → break_count before ≤ n → break_count after ≤ n → break_count (before ++ text ++ after) ≤ break_count text + 2 * n
+added_breaks n before text after one two = omega (arith, break_count-append (before ++ text) after, break_count-append before text, one, two)

@@ -14,6 +14,7 @@ use Rattle.text_rules.specs.Breaks.{ends_with, joins_pair}
 use Rattle.text_rules.proofs.Breaks.{and_false, ends_with_push}
 use Rattle.text_buffer.specs.declared.spot.Spot.{Spot}
 use Rattle.text_buffer.specs.declared.beside.Rests.{Rests}
+use Rattle.text_buffer.specs.declared.beside.TheConstants.{MOST_BREAKS_ALONG}
 use Rattle.text_buffer.specs.Text.{spelled, IsText, unit_if, most_along}
 use Rattle.text_buffer.specs.LookUps.{IsSpot}
 use Rattle.text_buffer.specs.Along.{is_little, if_little, rest_before, rest_behind, rests_of, units_along}
@@ -28,7 +29,7 @@ use Rattle.text_buffer.proofs.Found.{earlier_text, own_text, later_text, own_is,
 -- the units end the text before an offset, and make no pair with what stands before them, whatever comes behind them
 pub record IsFrontAlong (x : List ℕ) (offset : ℕ) (joins : Bool) (units : List ℕ) : Type 0 where
   pub few : length units ≤ most_along
-  pub breaks : break_count units ≤ 1
+  pub breaks : break_count units ≤ MOST_BREAKS_ALONG
   pub there : length units ≤ offset
   pub before : take (offset - length units) x ++ units ≡ take offset x
   pub apart : (rest : List ℕ) → joins ≡ joins_pair (take offset x) rest → joins_pair (take (offset - length units) x) (units ++ rest) ≡ false
@@ -36,7 +37,7 @@ pub record IsFrontAlong (x : List ℕ) (offset : ℕ) (joins : Bool) (units : Li
 -- the units begin the text behind an offset, and make no pair with what stands behind them, whatever comes before them
 pub record IsBackAlong (x : List ℕ) (offset : ℕ) (joins : Bool) (units : List ℕ) : Type 0 where
   pub few : length units ≤ most_along
-  pub breaks : break_count units ≤ 1
+  pub breaks : break_count units ≤ MOST_BREAKS_ALONG
   pub there : offset + length units ≤ length x
   pub behind : units ++ drop (offset + length units) x ≡ drop offset x
   pub apart : (front : List ℕ) → joins ≡ joins_pair front (drop offset x) → joins_pair (front ++ units) (drop (offset + length units) x) ≡ false
@@ -45,16 +46,16 @@ pub record IsBackAlong (x : List ℕ) (offset : ℕ) (joins : Bool) (units : Lis
 pub record IsLittle (b : List (List ℕ)) (span : ChunkSpan) : Type 0 where
   pub some : 0 < span.units
   pub few : span.units ≤ most_along
-  pub breaks : break_count (units_at b span) ≤ 1
+  pub breaks : break_count (units_at b span) ≤ MOST_BREAKS_ALONG
 
 module _ (b : List (List ℕ)) where
   little_of : (span : ChunkSpan) (test : Bool) (part : ChunkSpan) → is_little b span ≡ test → (if test then Some span else None) ≡ Some part
       → (part ≡ span) × IsLittle b span
   little_of span true part is e =
-      let (some, rest) = and_parts (nat_lt 0 span.units) (nat_le span.units most_along && nat_le (break_count (units_at b span)) 1) is in
-      let (few, breaks) = and_parts (nat_le span.units most_along) (nat_le (break_count (units_at b span)) 1) rest in
+      let (some, rest) = and_parts (nat_lt 0 span.units) (nat_le span.units most_along && nat_le (break_count (units_at b span)) MOST_BREAKS_ALONG) is in
+      let (few, breaks) = and_parts (nat_le span.units most_along) (nat_le (break_count (units_at b span)) MOST_BREAKS_ALONG) rest in
       let same : part ≡ span = cc in
-      (same, record { some = ltb-true 0 span.units some; few = leb-true span.units most_along few; breaks = leb-true (break_count (units_at b span)) 1 breaks })
+      (same, record { some = ltb-true 0 span.units some; few = leb-true span.units most_along few; breaks = leb-true (break_count (units_at b span)) MOST_BREAKS_ALONG breaks })
   little_of span false part is e = absurd cc
 
   -- what is taken along before a place, and behind it
@@ -100,7 +101,7 @@ along_front x more offset true within e =
     let some = ends_with_some carriage_return front returns in
     let last : length front - 1 ≡ offset - 1 = omega (arith, size) in record {
       few = omega arith;
-      breaks = one_break_most true carriage_return;
+      breaks = omega (arith, one_break_most true carriage_return);
       there = omega (arith, size, some);
       before = sym (ends_with_split carriage_return front returns
           ∙ ap (λ s. s ++ carriage_return ∷ []) (ap (λ (n : ℕ). take n front) last ∙ take-take (offset - 1) offset x (omega arith)));
@@ -121,7 +122,7 @@ along_back x more offset true within e =
     let feeds = (and_parts (ends_with carriage_return more) (begins_with line_feed back) (sym e)).1 in
     let some = begins_with_some line_feed back feeds in record {
       few = omega arith;
-      breaks = one_break_most true line_feed;
+      breaks = omega (arith, one_break_most true line_feed);
       there = omega (arith, some, length-drop offset x);
       behind = sym (begins_with_split line_feed back feeds ∙ ap (λ s. line_feed ∷ s) (drop-drop 1 offset x));
       apart = λ front is. ap (λ t. t && begins_with line_feed (drop (offset + 1) x)) (ends_with_push carriage_return line_feed front);
@@ -299,7 +300,7 @@ pub little_behind : (b : List (List ℕ)) (found : Found) (offset before : ℕ) 
 little_behind b found offset before own at same inside little = rw (at, same, ne_eqb offset before inside, little) refl
 
 pub little_units : (b : List (List ℕ)) (span : ChunkSpan) → is_little b span ≡ true → 0 < span.units
-little_units b span little = ltb-true 0 span.units (and_parts (nat_lt 0 span.units) (nat_le span.units most_along && nat_le (break_count (units_at b span)) 1) little).0
+little_units b span little = ltb-true 0 span.units (and_parts (nat_lt 0 span.units) (nat_le span.units most_along && nat_le (break_count (units_at b span)) MOST_BREAKS_ALONG) little).0
 
 -- two places in one piece, of which little is left on both sides of them
 module _ (tree : Pieces) (chunks : Shown) (is : IsText tree chunks) (start end : Spot) (one : IsSpot tree chunks start) (two : IsSpot tree chunks end)

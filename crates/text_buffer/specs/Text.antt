@@ -4,10 +4,10 @@ use Rattle.std.specs.List.{All, flat_map, sum_by}
 use Rattle.chunk_buffers.specs.declared.span.ChunkSpan.{ChunkSpan}
 use Rattle.chunk_buffers.specs.Chunks.{Shown, buffer_at, units_at, LiesIn}
 use Rattle.piece_tree.specs.declared.piece.Piece.{Piece}
-use Rattle.piece_tree.specs.Pieces.{Pieces, pieces_of, unit_count, IsPieceOf, IsFound}
+use Rattle.piece_tree.specs.Pieces.{Entry, Pieces, pieces_of, unit_count, IsPieceOf, IsFound}
 use Rattle.text_buffer.specs.declared.beside.TheConstants.{MOST_ALONG}
 use Rattle.text_buffer.specs.declared.text.TheConstants.{UNITS_AN_EDIT, BREAKS_AN_EDIT}
-use Rattle.text_buffer.specs.declared.look_up.LastFound.{LastFound}
+use Rattle.piece_tree.specs.declared.piece.Found.{Found}
 use Rattle.text_rules.specs.Lines.{line_feed, carriage_return}
 use Rattle.text_rules.specs.Breaks.{joins_pair}
 
@@ -19,7 +19,7 @@ most_along = MOST_ALONG
 abbrev pub units_beside_text : ℕ
 units_beside_text = UNITS_AN_EDIT
 
--- and how many breaks: one on each side
+-- and how many breaks: those of what it takes along
 abbrev pub breaks_beside_text : ℕ
 breaks_beside_text = BREAKS_AN_EDIT
 
@@ -52,11 +52,14 @@ pub record IsText (tree : Pieces) (chunks : Shown) : Type 0 where
   -- what is counted in it fits
   pub small : unit_count (pieces_of tree.entries) < 2 ^ 62
 
--- the pieces and the buffers are a text, and the pieces that are remembered, if any, are of those, as a look-up tells them
-pub record IsTextWith (tree : Pieces) (chunks : Shown) (last : LastFound) : Type 0 where
+-- the piece, if there is one, is of those entries, as a look-up tells it
+abbrev pub IsFoundIf : List Entry → Option Found → Type 0
+IsFoundIf entries found = IfSome found (IsFound entries)
+
+-- the pieces and the buffers are a text, and the pieces that are remembered are of those, as a look-up tells them
+pub record IsTextWith (tree : Pieces) (chunks : Shown) (remembered : List (Option Found)) : Type 0 where
   pub text : IsText tree chunks
-  pub start : IfSome last.start (IsFound tree.entries)
-  pub end : IfSome last.end (IsFound tree.entries)
+  pub found : All (IsFoundIf tree.entries) remembered
 
 abbrev pub text_of : Pieces → Shown → Text
 text_of tree chunks = record {

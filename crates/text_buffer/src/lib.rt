@@ -7,6 +7,7 @@ mod lines;
 mod look_up;
 mod place;
 mod queries;
+mod remembered;
 mod spot;
 mod text;
 mod walk;

@@ -25,19 +25,6 @@ pub(crate) enum Sought {
     Break(u64),
 }
 
-/// The pieces that were looked up last where a span starts and where it ends.
-#[derive(Clone, Copy)]
-pub(crate) struct LastFound {
-    pub start: Option<Found>,
-    pub end: Option<Found>,
-}
-
-/// Where nothing was looked up yet, or the pieces were changed since.
-pub(crate) const NOTHING_FOUND: LastFound = LastFound {
-    start: None,
-    end: None,
-};
-
 /// How many pieces beside a looked-up one are tried before a search begins.
 pub(crate) const FEW_PIECES: u32 = 4;
 
@@ -61,6 +48,19 @@ pub(crate) fn found_near(pieces: &PieceTree, near: &Option<Found>, offset: u64) 
     } else {
         None
     }
+}
+
+/// The piece that has the unit at this offset, near another; None where no piece has such a unit, or that one has it itself.
+pub(crate) fn found_apart(pieces: &PieceTree, first: &Option<Found>, offset: u64) -> Option<Found>
+    requires { IfSome first.now (IsFound pieces.now.entries) }
+    ensures { IfSome result (IsFound pieces.now.entries) }
+{
+    if let Some(found) = first
+        && has(found, Sought::Offset(offset))
+    {
+        return None;
+    }
+    found_near(pieces, first, offset)
 }
 
 fn piece_near_for<L: Ledger>(
@@ -146,8 +146,8 @@ fn piece_toward(pieces: &PieceTree, found: &Found, sought: Sought) -> Option<Fou
     }
 }
 
-// Whether the piece has what is sought.
-fn has(found: &Found, sought: Sought) -> bool
+/// Whether the piece has what is sought.
+pub(crate) fn has(found: &Found, sought: Sought) -> bool
     ensures { IsTrue result → Has found.now sought }
 {
     match sought {

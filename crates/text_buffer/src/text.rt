@@ -16,9 +16,10 @@ ghost use Rattle.text_buffer.specs.Text.{units_beside_text, breaks_beside_text, 
 
 use crate::beside::{MOST_ALONG, MOST_BREAKS_ALONG, found_before, rests_of, units_along};
 use crate::lines::LineReader;
-use crate::look_up::{LastFound, NOTHING_FOUND, cuts_pair_beside, found_near, nearer, piece_near};
+use crate::look_up::{cuts_pair_beside, nearer, piece_near};
 use crate::place::{push_line, start_of_line};
 use crate::queries::{offset_in, position_in};
+use crate::remembered::{Remembered, forget_from, remember_few, remembered_at};
 use crate::spot::{dirty_between, joins_back, joins_front, spot_at, spot_behind};
 use crate::walk::push_span;
 use chunk_buffers::{ChunkSpan, Chunks};
@@ -28,12 +29,13 @@ use std::marker::{Brand, Model};
 use std::sync::ledger::{Blank, Ledger};
 use steps::Steps;
 use text_lengths::{Dirty, Position, Span};
+use text_rules::Op;
 use unit_text::{CARRIAGE_RETURN, Flat, LINE_FEED};
 
 /// What an edit may append beside its text: what it takes along on both sides, and a unit that keeps buffers apart.
 pub(crate) const UNITS_AN_EDIT: u64 = 2 * MOST_ALONG as u64 + 1;
 
-/// What breaks an edit may append beside those of its text: one on each side.
+/// What breaks an edit may append beside those of its text: those of what it takes along.
 pub(crate) const BREAKS_AN_EDIT: u64 = 2 * MOST_BREAKS_ALONG;
 
 /// One text. Contracts see its units, and the spans that spell them.
@@ -43,7 +45,7 @@ pub(crate) const BREAKS_AN_EDIT: u64 = 2 * MOST_BREAKS_ALONG;
 pub struct TextBuffer {
     pieces: PieceTree,
     chunks: Chunks,
-    last_found: LastFound,
+    remembered: Remembered,
 }
 
 impl Model for TextBuffer {
@@ -53,7 +55,7 @@ impl Model for TextBuffer {
 
     ghost view = { λ t. text_of t.pieces t.chunks };
 
-    ghost invariant = { λ t. IsTextWith t.pieces t.chunks t.last_found };
+    ghost invariant = { λ t. IsTextWith t.pieces t.chunks t.remembered.items };
 }
 
 impl TextBuffer {
@@ -65,7 +67,7 @@ impl TextBuffer {
         TextBuffer {
             pieces: PieceTree::new(alloc),
             chunks: Chunks::new(alloc),
-            last_found: NOTHING_FOUND,
+            remembered: Remembered::new(),
         }
     }
 
@@ -84,7 +86,7 @@ impl TextBuffer {
         Ok(TextBuffer {
             pieces,
             chunks,
-            last_found: NOTHING_FOUND,
+            remembered: Remembered::new(),
         })
     }
 
@@ -140,14 +142,14 @@ impl TextBuffer {
         self.pieces.spans(out)
     }
 
-    /// Looks up the pieces that have the units where the span starts and where it ends, where there are such, and remembers them
-    /// until the text is changed: what is asked next at these places is answered without a search. It takes no memory.
-    pub fn seek(&mut self, span: Span)
+    /// Looks up the pieces that have the units where the spans of the ops start and where they end, where there are such, and remembers
+    /// each until the text is changed at it or before it: what is asked next at these places is answered without a search, and so the
+    /// ops are carried out from the last to the first. It takes no memory, and does nothing for more than 16 ops.
+    pub fn seek(&mut self, ops: &[Op])
         ensures { self.new ≡ self.old }
     {
-        let start = found_near(&self.pieces, &self.last_found.start, span.start);
-        let end = found_near(&self.pieces, &start, span.end);
-        self.last_found = LastFound { start, end };
+        self.remembered.clear();
+        remember_few(&self.pieces, ops, &mut self.remembered);
     }
 
     /// Puts the text in the place of the span, and answers which lines it touched, as `dirty_lines` does. What it leaves of a
@@ -184,13 +186,9 @@ impl TextBuffer {
         ensures after { drop (result.first - 1 + result.new) (lines_of self.new.units)
             ≡ drop (result.first - 1 + result.old) (lines_of self.old.units) }
     {
-        let start = spot_at(
-            &self.pieces,
-            &self.chunks,
-            &self.last_found.start,
-            span.start,
-        );
-        let last = self.last_found.end;
+        let near = remembered_at(&self.remembered, span.start);
+        let start = spot_at(&self.pieces, &self.chunks, &near, span.start);
+        let last = remembered_at(&self.remembered, span.end);
         let end = spot_behind(&self.pieces, &self.chunks, &start, last, span.end);
         let dirty = dirty_between(&self.pieces, &self.chunks, &start, &end, text);
         let rests = rests_of(&self.pieces, &self.chunks, &start, &end, text);
@@ -205,7 +203,7 @@ impl TextBuffer {
         let to = span.end + after.len() as u64;
         let added = append_some(&mut self.chunks, before, text, after);
         self.pieces.splice(at, from, to - from, added, &self.chunks);
-        self.last_found = NOTHING_FOUND;
+        forget_from(&mut self.remembered, from);
         dirty
     }
 
@@ -305,13 +303,9 @@ impl TextBuffer {
             drop (result.first - 1 + result.new) lines
             ≡ drop (result.first - 1 + result.old) (lines_of self.now.units) }
     {
-        let start = spot_at(
-            &self.pieces,
-            &self.chunks,
-            &self.last_found.start,
-            span.start,
-        );
-        let last = self.last_found.end;
+        let near = remembered_at(&self.remembered, span.start);
+        let start = spot_at(&self.pieces, &self.chunks, &near, span.start);
+        let last = remembered_at(&self.remembered, span.end);
         let end = spot_behind(&self.pieces, &self.chunks, &start, last, span.end);
         dirty_between(&self.pieces, &self.chunks, &start, &end, text)
     }
@@ -324,7 +318,8 @@ impl TextBuffer {
         if start >= self.len() {
             return end == self.len();
         }
-        let first = piece_near(&self.pieces, &self.last_found.start, start);
+        let near = remembered_at(&self.remembered, start);
+        let first = piece_near(&self.pieces, &near, start);
         if cuts_pair_beside(&self.pieces, &self.chunks, &first, start) {
             return false;
         }
@@ -334,7 +329,8 @@ impl TextBuffer {
         if end >= self.len() {
             return end == self.len();
         }
-        let near = nearer(Some(first), self.last_found.end, end);
+        let other = remembered_at(&self.remembered, end);
+        let near = nearer(Some(first), other, end);
         let last = piece_near(&self.pieces, &near, end);
         !cuts_pair_beside(&self.pieces, &self.chunks, &last, end)
     }
@@ -348,13 +344,8 @@ impl TextBuffer {
         ensures err { OnErr result (out.new.items ≡ out.old.items) }
     {
         out.reserve((span.end - span.start) as usize)?;
-        push_span(
-            &self.pieces,
-            &self.chunks,
-            &self.last_found.start,
-            span,
-            out,
-        );
+        let near = remembered_at(&self.remembered, span.start);
+        push_span(&self.pieces, &self.chunks, &near, span, out);
         Ok(())
     }
 

@@ -12,18 +12,18 @@ use Rattle.model_core.proofs.model.Model.prepare.Goals.{After-make_room}
 
 -- the text is as it was before the look-up, too
 kept : (c : After-make_room) → IsUntouched c.self.inside.text c.make_room.new.text c.self.inside.last c.make_room.new.last
-kept c = subst (λ t. IsUntouched t c.make_room.new.text c.self.inside.last c.make_room.new.last) c.seek_first.ensures c.make_room.ensures.kept
+kept c = subst (λ t. IsUntouched t c.make_room.new.text c.self.inside.last c.make_room.new.last) c.seek.ensures c.make_room.ensures.kept
 
 pub text_units-requires : goal.text_units-requires
 text_units-requires c =
-    let x = c.seek_first.new.text.units in
+    let x = c.seek.new.self.units in
     let rule : checked_batch x c.args.ops.items ≡ Ok c.in_ok-batch.batch = grind (arith, common_steps) in
     let ok = accepted x c.args.ops.items c.in_ok-batch.batch rule in
     omega (arith, text_units_applied 0 x c.in_ok-batch.batch ok.standing, ok.fits)
 
 pub text_breaks-requires : goal.text_breaks-requires
 text_breaks-requires c =
-    let x = c.seek_first.new.text.units in
+    let x = c.seek.new.self.units in
     let rule : checked_batch x c.args.ops.items ≡ Ok c.in_ok-batch.batch = grind (arith, common_steps) in
     let ok = accepted x c.args.ops.items c.in_ok-batch.batch rule in
     omega (arith, text_units_applied 0 x c.in_ok-batch.batch ok.standing, ok.fits, ap text_units c.ops-2.ensures.ops)
@@ -59,7 +59,7 @@ returns-clause-document c =
 pub returns-clause-ready : goal.returns-clause-ready
 returns-clause-ready c =
     let m = c.self.inside in
-    let x = c.seek_first.new.text.units in
+    let x = c.seek.new.self.units in
     let sorted = c.in_ok-batch.batch in
     let text = c.make_room.ensures.kept.units in
     let rule : checked_batch x c.args.ops.items ≡ Ok sorted = grind (arith, common_steps) in

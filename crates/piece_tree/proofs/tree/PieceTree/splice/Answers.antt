@@ -1,10 +1,11 @@
 use Rattle.std.proofs.Common.{◌≡◌, ◌+◌, ap, sym, subst, ◌∙◌, arith}
 use Rattle.std.specs.List.{All}
-use Rattle.piece_tree.specs.Pieces.{pieces_of, unit_count, IsPieceOf, spliced}
+use Rattle.piece_tree.specs.Pieces.{Pieces, pieces_of, unit_count, IsPieceOf, IsFound, spliced}
 use Rattle.piece_tree.specs.Searches.{few_breaks}
 use Rattle.piece_tree.specs.Inside.{in_order}
 use Rattle.piece_tree.proofs.Cuts.{pieces_few}
 use Rattle.piece_tree.proofs.Prolonged.{units-spliced, pieces-spliced}
+use Rattle.piece_tree.proofs.Fronts.{found_still}
 use Rattle.piece_tree.proofs.tree.PieceTree.splice.Goals as goal
 
 pub invariant_of-self : goal.invariant_of-self
@@ -22,3 +23,9 @@ returns-clause-spliced c =
     let b = c.args.chunks.now.buffers in
     c.replace_units.ensures.spliced
     ∙ ap (λ v. spliced b c.args.offset (c.args.offset + c.args.deleted) c.args.span (pieces_of v.entries)) c.self.view_is
+
+pub returns-clause-front : goal.returns-clause-front
+returns-clause-front c = λ found is less.
+    let items = c.self.inside.tree.items in
+    let was = subst (λ (v : Pieces). IsFound v.entries found) (sym c.self.view_is) is in
+    found_still c.args.offset items c.replace_units.new.tree.items found c.replace_units.ensures.front was less

@@ -10,6 +10,7 @@ use Rattle.piece_tree.proofs.Cuts.{units-front}
 use Rattle.text_rules.specs.Breaks.{joins_pair}
 use Rattle.text_rules.specs.Lines.{carriage_return, line_feed, lines_of}
 use Rattle.text_rules.specs.Dirty.{dirty_lines}
+use Rattle.text_buffer.specs.declared.beside.TheConstants.{MOST_BREAKS_ALONG}
 use Rattle.text_buffer.specs.Text.{text_of, most_along, GrowsAt}
 use Rattle.text_buffer.specs.Along.{is_little, rest_before, rest_behind, units_along, LeavesLittle}
 use Rattle.text_buffer.proofs.Touched.{before_dirty, after_dirty}
@@ -148,7 +149,7 @@ append_some-added-requires-clause-breaks c =
     let to = goal.at.append_some-added-requires-clause-breaks c in let at = to.After-joins_back-back_joins in
     let one = (ahead to.After-as_slice-after (front_is at) (front_rest at)).breaks in
     let two = (behind to.After-as_slice-after (back_is at) (λ part e. (back_rest at part e).1)).breaks in
-    omega (arith, added_breaks c.as_slice-before.result.now c.args.text.now c.as_slice-after.result.now one two, ap (λ v. v.spare_breaks) c.self.view_is, c.requires.breaks)
+    omega (arith, added_breaks MOST_BREAKS_ALONG c.as_slice-before.result.now c.args.text.now c.as_slice-after.result.now one two, ap (λ v. v.spare_breaks) c.self.view_is, c.requires.breaks)
 
 pub splice-requires-clause-place : goal.splice-requires-clause-place
 splice-requires-clause-place c =
@@ -206,7 +207,7 @@ invariant_of-self c =
     let to = goal.at.invariant_of-self c in let at = to.After-joins_back-back_joins in
     let r = replaced to.After-splice (ahead to.After-as_slice-after (front_is at) (front_rest at)) (behind to.After-as_slice-after (back_is at) (λ part e. (back_rest at part e).1)) (front_is at) (back_is at) in
     let small : unit_count (pieces_of c.splice.new.self.entries) < 2 ^ 62 = omega (arith, length-spelled c.append_some-added.new.chunks.buffers (pieces_of c.splice.new.self.entries) r.pieces, ap length r.text_is, c.requires.small) in
-    record { text = record { pieces = r.pieces; full = r.full; unsplit = r.unsplit; small = small }; start = tt; end = tt }
+    record { text = record { pieces = r.pieces; full = r.full; unsplit = r.unsplit; small = small }; found = c.forget_from.ensures c.self.inside.pieces.entries c.splice.new.self.entries c.self.invariant.found c.splice.ensures.front }
 
 pub returns-clause-units : goal.returns-clause-units
 returns-clause-units c =
@@ -357,7 +358,7 @@ returns-clause-spare_breaks c =
     let to = goal.at.returns-clause-spare_breaks c in let at = to.After-joins_back-back_joins in
     let one = (ahead to.After-as_slice-after (front_is at) (front_rest at)).breaks in
     let two = (behind to.After-as_slice-after (back_is at) (λ part e. (back_rest at part e).1)).breaks in
-    omega (arith, added_breaks c.as_slice-before.result.now c.args.text.now c.as_slice-after.result.now one two, ap (λ v. v.spare_breaks) c.self.view_is, c.append_some-added.ensures.spare_breaks)
+    omega (arith, added_breaks MOST_BREAKS_ALONG c.as_slice-before.result.now c.args.text.now c.as_slice-after.result.now one two, ap (λ v. v.spare_breaks) c.self.view_is, c.append_some-added.ensures.spare_breaks)
 
 pub returns-clause-dirty : goal.returns-clause-dirty
 returns-clause-dirty c =

@@ -17,8 +17,7 @@ invariant_of-self-2 c =
         unsplit = unsplit-extended old new c.reserve.ensures.same ps c.self.invariant.text.pieces c.self.invariant.text.unsplit;
         small = c.self.invariant.text.small;
       };
-      start = c.self.invariant.start;
-      end = c.self.invariant.end;
+      found = c.self.invariant.found;
     })
 
 pub returns-clause-same : goal.returns-clause-same

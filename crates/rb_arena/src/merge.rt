@@ -1,0 +1,122 @@
+//! Two items that stand side by side become one, at the higher of their nodes.
+ghost use Rattle.std.specs.Prelude.{◌≡◌, ◌+◌};
+ghost use Rattle.std.specs.FinMap as map;
+ghost use Rattle.rb_arena.specs.Ends.{StandsLow};
+ghost use Rattle.rb_arena.specs.Leaving.{NoChild, OneChild};
+ghost use Rattle.rb_arena.specs.Merging.{LeafHangsNoMore, LeafGoes, IsEmptiedBelow, SettlesBelow};
+ghost use Rattle.rb_arena.specs.Merging.{CanMergeInto, MergesInto, CanMerge, Merges};
+ghost use Rattle.rb_arena.specs.Nodes.{Lives};
+ghost use Rattle.rb_arena.specs.Placing.{IsThere};
+
+use crate::climb::renew_over;
+use crate::close::close;
+use crate::insert::{copy_of, parent_at};
+use crate::leave::{Vacancy, item_for, to_leaf};
+use crate::links::{Links, Place, hang, node_of, place};
+use crate::sums::replace_item;
+use crate::tree::{above_on, end_place};
+use rb_rules::{Data, Side, Weave};
+use slot_arena::NodeId;
+
+/// A leaf hangs in the tree no more, and keeps its slot. The tree's sums may be wrong.
+#[tactic(auto, using(crate::proofs::Merging::cutting_leaf))]
+fn cut_leaf<D: Copy>(tree: &mut Links<D>, id: NodeId) -> Vacancy
+    requires stands { IsThere tree.old id }
+    requires leaf { NoChild tree.old.nodes.live id }
+    ensures gone { LeafHangsNoMore tree.old tree.new id result.at result.red }
+    ensures live { Lives tree.new.nodes id }
+    ensures spare { tree.new.nodes.spare ≡ tree.old.nodes.spare }
+    ensures as_many { map.len tree.new.nodes.live ≡ map.len tree.old.nodes.live }
+{
+    #[tactic(auto, unfolding(crate::specs::Placing::IsThere))]
+    let red = node_of(tree, id).red;
+    #[tactic(auto, unfolding(crate::specs::Placing::IsThere))]
+    let at = place(tree, id);
+    let gap = copy_of(&at);
+    hang(tree, at, None);
+    Vacancy { at: gap, red }
+}
+
+/// A leaf goes from the tree, and its slot goes back to the arena. The tree's sums may be wrong.
+#[tactic(auto, using(crate::proofs::Merging::taking_leaf))]
+fn take_leaf<D: Copy>(tree: &mut Links<D>, id: NodeId) -> Vacancy
+    requires stands { IsThere tree.old id }
+    requires leaf { NoChild tree.old.nodes.live id }
+    ensures gone { LeafGoes tree.old tree.new id result.at result.red }
+    ensures spare { tree.new.nodes.spare ≡ tree.old.nodes.spare + 1 }
+    ensures as_many { map.len tree.new.nodes.live + 1 ≡ map.len tree.old.nodes.live }
+{
+    let vacancy = cut_leaf(tree, id);
+    #[tactic(auto, unfolding(crate::specs::Nodes::Lives))]
+    tree.nodes.take(id);
+    vacancy
+}
+
+/// Renews the sums above an empty place up to a node above which all is right, and further where that one's sum has changed, and closes
+/// the gap that a black leaf has left there.
+#[tactic(auto, using(crate::proofs::Merging::settling_below))]
+fn settle_below<W: Weave>(
+    tree: &mut Links<Data<W::Item, W::Sum, W::By>>,
+    at: Place,
+    red: bool,
+    stays: NodeId,
+)
+    requires { IsEmptiedBelow W.Weave tree.old at red stays }
+    ensures mended { SettlesBelow W.Weave tree.old tree.new at red stays }
+    ensures spare { tree.new.nodes.spare ≡ tree.old.nodes.spare }
+    ensures as_many { map.len tree.new.nodes.live ≡ map.len tree.old.nodes.live }
+{
+    renew_over::<W>(tree, parent_at(&at), stays);
+    if red {
+        return;
+    }
+    close::<W>(tree, at);
+}
+
+/// A node with one child at most goes from the tree, and the one beside it, which stands above it, gets the item of both.
+#[tactic(auto, using(crate::proofs::Merging::merging_into))]
+fn merge_into<W: Weave>(
+    tree: &mut Links<Data<W::Item, W::Sum, W::By>>,
+    goes: NodeId,
+    stays: NodeId,
+    item: W::Item,
+)
+    requires child { OneChild tree.old.nodes.live goes }
+    requires pair { CanMergeInto W.Weave tree.old goes stays item }
+    ensures merged { MergesInto W.Weave tree.old tree.new goes stays item }
+    ensures spare { tree.new.nodes.spare ≡ tree.old.nodes.spare + 1 }
+    ensures as_many { map.len tree.new.nodes.live + 1 ≡ map.len tree.old.nodes.live }
+{
+    to_leaf::<W>(tree, goes);
+    let own = item_for::<W>(tree, stays, item);
+    replace_item::<W>(tree, stays, own);
+    let Vacancy { at, red } = take_leaf(tree, goes);
+    settle_below::<W>(tree, at, red, stays);
+}
+
+/// Puts one item in the place of two that stand side by side, and tells at which of their nodes it stands: the higher one. The slot of
+/// the other goes back to the arena.
+#[tactic(auto, using(crate::proofs::Merging::merging))]
+pub(crate) fn merge<W: Weave>(
+    tree: &mut Links<Data<W::Item, W::Sum, W::By>>,
+    id: NodeId,
+    item: W::Item,
+) -> NodeId
+    requires stands { StandsLow tree.old id }
+    requires pair { CanMerge W.Weave tree.old id item }
+    ensures merged { Merges W.Weave tree.old tree.new id item result }
+    ensures spare { tree.new.nodes.spare ≡ tree.old.nodes.spare + 1 }
+    ensures as_many { map.len tree.new.nodes.live + 1 ≡ map.len tree.old.nodes.live }
+{
+    #[tactic(auto, unfolding(crate::specs::Ends::StandsLow))]
+    let right = node_of(tree, id).right;
+    if right.is_none() {
+        let next = above_on(tree, id, Side::Left).unwrap_or(id);
+        merge_into::<W>(tree, id, next, item);
+        return next;
+    }
+    let first = end_place(tree, Some((id, Side::Right)), right, Side::Left);
+    let next = parent_at(&first).unwrap_or(id);
+    merge_into::<W>(tree, next, id, item);
+    id
+}
