@@ -1,9 +1,10 @@
 -- Where the ops of an accepted batch stand, and the length of what they leave.
-use Rattle.std.proofs.Common.{◌≡◌, ℕ, ◌+◌, ◌-◌, ◌≤◌, ltb, Bool, cond, true, false, List, [], ◌∷◌, ◌++◌, length, take, drop, Result, Ok, Err, refl, subst, length-append, length-drop, arith}
+use Rattle.std.proofs.Common.{◌≡◌, ℕ, ◌+◌, ◌-◌, ◌≤◌, ltb, Bool, cond, true, false, List, [], ◌∷◌, ◌++◌, length, take, drop, Result, Ok, Err, refl, subst, length-append, length-drop, sym, arith}
 use Rattle.std.specs.List.{All}
 use Rattle.std.proofs.lemmas.Bool.{ltb-false, or_parts}
 use Rattle.std.proofs.lemmas.List.{length-take-le}
 use Rattle.std.proofs.lemmas.List.Elements.{All-nil, All-cons, All-head, All-tail}
+use Rattle.std.proofs.lemmas.List.Sorted.{list_any-IsPermutation}
 use Rattle.std.proofs.lemmas.List.Sums.{sum_by-cons}
 use Rattle.text_rules.specs.declared.Op.{Op}
 use Rattle.text_rules.specs.Edits.{is_bad_span}
@@ -11,7 +12,7 @@ use Rattle.text_rules.proofs.EditLemmas.{span_from_test}
 use Rattle.batch_rules.specs.Refusals.{BatchRefusal}
 use Rattle.batch_rules.specs.Refusals as refused
 use Rattle.batch_rules.specs.Batches.{most_units, sorted_ops, has_bad_span, overlap, applied_from, applied, checked_batch, StandFrom, FollowFrom, text_units, inverse_from}
-use Rattle.batch_rules.proofs.Order.{All-sorted_ops}
+use Rattle.batch_rules.proofs.Order.{sorted_ops_move, All-sorted_ops}
 
 abbrev pub IsGood : List ℕ → Op → Type 0
 IsGood x op = is_bad_span x op.span ≡ false
@@ -21,6 +22,11 @@ all_good x [] e = All-nil (IsGood x)
 all_good x (op ∷ ops) e =
     let parts = or_parts _ _ e in
     All-cons (IsGood x) op ops parts.0 (all_good x ops parts.1)
+
+-- the order hides no bad span
+pub has_bad_span-sorted_ops : (x : List ℕ) (ops : List Op) → has_bad_span x (sorted_ops ops) ≡ has_bad_span x ops
+has_bad_span-sorted_ops x ops =
+    sym (list_any-IsPermutation (λ op. is_bad_span x op.span) ops (sorted_ops ops) (sorted_ops_move ops))
 
 -- ops in order that do not overlap, by spans of the text
 pub stand_from_tests : (at : ℕ) (x : List ℕ) (op : Op) (ops : List Op) → at ≤ op.span.start → All (IsGood x) (op ∷ ops) → overlap (op ∷ ops) ≡ false → StandFrom at x (op ∷ ops)

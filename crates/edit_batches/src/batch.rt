@@ -1,12 +1,11 @@
 //! A batch that was checked.
 
-ghost use Rattle.std.specs.Prelude.{◌≡◌, ℕ, ◌+◌, ◌<◌, ◌≤◌, ◌^◌, length, IfOk};
-ghost use Rattle.batch_rules.specs.Batches.{most_units, applied_from, applied, checked_batch, inverse_from, text_units, StandFrom, FollowFrom};
+ghost use Rattle.std.specs.Prelude.{◌≡◌, ℕ, ◌+◌, ◌<◌, ◌≤◌, ◌^◌, length, IfOk, List};
+ghost use Rattle.batch_rules.specs.Batches.{most_units, applied_from, applied, checked_batch, sorted_ops, inverse_from, text_units, StandFrom, FollowFrom};
 ghost use Rattle.edit_batches.specs.Outcomes.{Checks};
 
 use crate::checks::{has_bad_span, is_too_long, overlap};
 use crate::inverse::inverse_of;
-use crate::order::sorted_ops;
 use batch_rules::BatchError;
 use std::alloc::{AllocError, Global};
 use std::marker::Model;
@@ -32,11 +31,11 @@ impl Model for Batch {
 }
 
 impl Batch {
-    /// A batch of these edits of the text, in their order. `Range` where a span is none of the text; else `Overlap` where two of them
-    /// overlap; else `Limit` where the new text would be too long. They are sorted where they lie; what memory the sort takes is taken
-    /// after `Range`.
+    /// A batch of these edits of the text, which are in their order, as `sorted_ops` gives them. `Range` where a span is none of the
+    /// text; else `Overlap` where two of them overlap; else `Limit` where the new text would be too long.
     pub fn checked<F: Flat>(ops: Vec<Op>, text: &F) -> Result<Batch, BatchError>
-        ensures rule { Checks result (checked_batch (F.units text.now) ops.items) }
+        ensures rule { (given : List Op) → ops.items ≡ sorted_ops given
+            → Checks result (checked_batch (F.units text.now) given) }
         ensures standing { IfOk result (λ b. StandFrom 0 (F.units text.now) b) }
         ensures fits { IfOk result
             (λ b. length (applied_from 0 (F.units text.now) b) ≤ most_units) }
@@ -45,7 +44,6 @@ impl Batch {
         if has_bad_span(&ops, text) {
             return Err(BatchError::Range);
         }
-        let ops = sorted_ops(ops).map_err(|_| BatchError::Memory)?;
         if overlap(&ops) {
             return Err(BatchError::Overlap);
         }

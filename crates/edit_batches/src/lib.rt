@@ -1,4 +1,4 @@
-//! Batches of edits: checked against a text, put in their order, and the batch that takes them back.
+//! Batches of edits: put in their order, checked against a text, and the batch that takes them back.
 #![tactic(auto)]
 
 mod batch;
@@ -8,4 +8,5 @@ mod order;
 
 pub use batch::Batch;
 pub use batch_rules::{BatchError, MOST_TEXT_UNITS};
+pub use order::sorted_ops;
 pub use text_rules::Op;

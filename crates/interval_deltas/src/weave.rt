@@ -128,6 +128,11 @@ impl Weave for Marks {
         first == second
     }
 
+    /// A whole's greatest end does not tell the greatest of its other parts.
+    fn exchanged(whole: Option<i64>, old: Option<i64>, new: Option<i64>) -> Option<Option<i64>> {
+        None
+    }
+
     fn still() -> i64 {
         0
     }

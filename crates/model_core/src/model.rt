@@ -34,7 +34,7 @@ use bracket_nodes::Entry;
 use bracket_scan::BracketTable;
 use decorations::{Deco, DecoError, DecoSet, NewDeco};
 use document_rules::ModelError;
-use edit_batches::{Batch, BatchError, MOST_TEXT_UNITS};
+use edit_batches::{Batch, BatchError, MOST_TEXT_UNITS, sorted_ops};
 use edit_stack::EditStack;
 use node_reuse::Parsed;
 use snapshots::{Shelf, ShelfError};
@@ -194,6 +194,7 @@ impl Model {
         ensures parse { KeepsParse self.old self.new }
         ensures ready { PreparesEdit ops.items result self.new }
     {
+        let ops = sorted_ops(ops).map_err(|_| ModelError::Memory)?;
         self.text.seek(&ops);
         let batch = Batch::checked(ops, &self.text).map_err(error_of)?;
         let next = raised(self.version, 1).ok_or(ModelError::Limit)?;
@@ -641,7 +642,6 @@ fn error_of(error: BatchError) -> ModelError
         BatchError::Range => ModelError::Range,
         BatchError::Overlap => ModelError::Overlap,
         BatchError::Limit => ModelError::Limit,
-        BatchError::Memory => ModelError::Memory,
     }
 }
 

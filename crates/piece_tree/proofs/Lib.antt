@@ -7,3 +7,4 @@ pub mod Prolonged
 pub mod Neighbours
 pub mod Runs
 pub mod Fronts
+pub mod Heads

@@ -7,7 +7,7 @@ use Rattle.chunk_buffers.specs.Chunks.{part_of}
 use Rattle.rb_arena.specs.Value.{IsItem, SplitsAt, EndsWith, first_or, last_or}
 use Rattle.piece_tree.specs.declared.piece.Piece.{Piece}
 use Rattle.piece_tree.specs.declared.piece.Found.{Found}
-use Rattle.piece_tree.specs.Pieces.{Entry, IsAmong, IsFound, last_of, pieces_of, unit_count, piece_of, back}
+use Rattle.piece_tree.specs.Pieces.{Entry, IsAmong, IsFound, last_of, pieces_of, sum_of, piece_of, back}
 use Rattle.piece_tree.specs.Inside.{entry_of, entries_of, in_order}
 use Rattle.piece_tree.proofs.Sums.{entries-append, units_in, units-split, units-append}
 use Rattle.piece_tree.proofs.Cuts.{back_past, back_none, back_part}
@@ -91,10 +91,10 @@ abbrev pub piece_found : Found → Piece
 piece_found found = record { span = found.span; breaks = found.breaks }
 
 pub found_item : (items : List (ℕ × Piece)) (found : Found) → IsFound (entries_of items) found
-    → (us : List (ℕ × Piece)) × ((vs : List (ℕ × Piece)) × SplitsAt items found.id us (piece_found found) vs × (found.before.units ≡ units_in us))
+    → (us : List (ℕ × Piece)) × ((vs : List (ℕ × Piece)) × SplitsAt items found.id us (piece_found found) vs × (found.before ≡ sum_of (in_order us)))
 found_item items found is =
     let (us, (vs, at, before, after)) = split_entries items is.earlier is.later found.id (piece_found found) is.place in
-    (us, (vs, at, ap (λ s. s.units) is.before ∙ ap (λ es. unit_count (pieces_of es)) (sym before)))
+    (us, (vs, at, is.before ∙ ap (λ es. sum_of (pieces_of es)) (sym before)))
 
 -- the item after another
 pub item_after : (items us : List (ℕ × Piece)) (id : ℕ) (x : Piece) (vs : List (ℕ × Piece)) (other : ℕ) (r : Option ℕ) → SplitsAt items id us x vs → r ≡ Some other → r ≡ first_or None vs

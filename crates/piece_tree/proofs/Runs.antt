@@ -10,9 +10,10 @@ use Rattle.chunk_buffers.specs.declared.span.ChunkSpan.{ChunkSpan}
 use Rattle.chunk_buffers.specs.Chunks.{LiesIn, part_of}
 use Rattle.rb_arena.specs.Value.{IsItem, AtItem, LeavesOut, SplitsAt, first_or}
 use Rattle.piece_tree.specs.declared.piece.Piece.{Piece}
+use Rattle.piece_tree.specs.declared.piece.PieceSum.{PieceSum}
 use Rattle.piece_tree.specs.declared.edits.Cut.{Cut}
 use Rattle.piece_tree.specs.declared.edits.Run.{Run}
-use Rattle.piece_tree.specs.Pieces.{unit_count, break_count_of, piece_of, piece_list, IsPieceOf, goes_on, goes_on_from, followed_by, front, back, spliced}
+use Rattle.piece_tree.specs.Pieces.{unit_count, break_count_of, sum_of, piece_of, piece_list, IsPieceOf, goes_on, goes_on_from, followed_by, front, back, spliced}
 use Rattle.piece_tree.specs.Searches.{few_breaks}
 use Rattle.piece_tree.specs.Inside.{in_order}
 use Rattle.rb_arena.specs.Pairs.{AtPair, HasMerged}
@@ -72,10 +73,10 @@ module _ (b : List (List ℕ)) where
       (λ i. followed_by b (first i) span ++ second i) ∙ ap (λ qs. qs ++ back b (own + deleted) (x ∷ in_order vs)) says
 
   -- a cut right behind a piece
-  pub cut_whole : (items us : List (ℕ × Piece)) (id : ℕ) (x : Piece) (vs : List (ℕ × Piece)) (offset deleted : ℕ) (span : Option ChunkSpan) (cut : Cut) → SplitsAt items id us x vs
-      → offset ≡ units_in us + x.span.units → front b 0 (in_order vs) ≡ [] → IsPieceOf b x → cut ≡ record { id = id; left = Some x.span; end = x.span.units + deleted }
-      → IsCut b offset (offset + deleted) span items cut
-  cut_whole items us id x vs offset deleted span cut e count none is told =
+  pub cut_whole : (items us : List (ℕ × Piece)) (id : ℕ) (x : Piece) (vs : List (ℕ × Piece)) (offset deleted : ℕ) (span : Option ChunkSpan) (before : PieceSum) (cut : Cut)
+      → SplitsAt items id us x vs → before ≡ sum_of (in_order us) → offset ≡ units_in us + x.span.units → front b 0 (in_order vs) ≡ [] → IsPieceOf b x
+      → cut ≡ record { id = id; left = Some x.span; end = x.span.units + deleted; before = before } → IsCut b offset (offset + deleted) span items cut
+  cut_whole items us id x vs offset deleted span before cut e sum count none is told =
       let n = x.span.units in
       let zero : n - n ≡ 0 = omega arith in
       let same : x ∷ [] ≡ piece_of b x.span ∷ [] = ap (λ p. p ∷ []) (own_piece b x is) in
@@ -90,14 +91,16 @@ module _ (b : List (List ℕ)) where
         inside = λ left eq. subst (LiesIn b) (some_is x.span left eq) is.inside;
         within = λ left eq. omega (arith, ap (λ (s : ChunkSpan). s.units) (some_is x.span left eq));
         reach = omega (arith, count);
+        before = sum;
+        begins = omega (arith, count, units-cons (piece_of b x.span) []);
         spliced = spliced_at items us id x vs offset n deleted span (Some x.span) e count says;
       })
 
   -- a cut inside a piece
-  pub cut_inside : (items us : List (ℕ × Piece)) (id : ℕ) (x : Piece) (vs : List (ℕ × Piece)) (offset own deleted : ℕ) (span : Option ChunkSpan) (left : ChunkSpan) → SplitsAt items id us x vs
-      → offset ≡ units_in us + own → 0 < own → own < x.span.units → left ≡ part_of x.span 0 own → LiesIn b left
-      → IsCut b offset (offset + deleted) span items (record { id = id; left = Some left; end = own + deleted })
-  cut_inside items us id x vs offset own deleted span left e count some within part lies =
+  pub cut_inside : (items us : List (ℕ × Piece)) (id : ℕ) (x : Piece) (vs : List (ℕ × Piece)) (offset own deleted : ℕ) (span : Option ChunkSpan) (left : ChunkSpan) (before : PieceSum)
+      → SplitsAt items id us x vs → before ≡ sum_of (in_order us) → offset ≡ units_in us + own → 0 < own → own < x.span.units → left ≡ part_of x.span 0 own → LiesIn b left
+      → IsCut b offset (offset + deleted) span items (record { id = id; left = Some left; end = own + deleted; before = before })
+  cut_inside items us id x vs offset own deleted span left before e sum count some within part lies =
       let own_front : front b own (x ∷ in_order vs) ≡ piece_of b left ∷ [] = front_part b own x (in_order vs) some within ∙ ap (λ s. piece_of b s ∷ []) (sym part) in record {
         earlier = us;
         piece = x;
@@ -106,6 +109,8 @@ module _ (b : List (List ℕ)) where
         inside = λ other eq. subst (LiesIn b) (some_is left other eq) lies;
         within = λ other eq. omega (arith, within, ap (λ (s : ChunkSpan). s.units) part, ap (λ (s : ChunkSpan). s.units) (some_is left other eq));
         reach = omega (arith, count, within);
+        before = sum;
+        begins = omega (arith, count, ap (λ (s : ChunkSpan). s.units) part, units-cons (piece_of b left) []);
         spliced = spliced_at items us id x vs offset own deleted span (Some left) e count
             (ap (λ ps. followed_by b (in_order us ++ ps) span) own_front ∙ followed_by-last (in_order us) (piece_of b left) span);
       }
@@ -115,10 +120,10 @@ module _ (b : List (List ℕ)) where
   apart ps (Some span) says = followed_new b ps span (says span refl)
 
   -- a cut right before a piece, where the span goes on from none
-  pub cut_before : (items us : List (ℕ × Piece)) (id : ℕ) (x : Piece) (vs : List (ℕ × Piece)) (offset deleted : ℕ) (span : Option ChunkSpan) → SplitsAt items id us x vs
-      → offset ≡ units_in us → 0 < x.span.units → ForSome span (λ s. goes_on_from (in_order us) s ≡ false)
-      → IsCut b offset (offset + deleted) span items (record { id = id; left = None; end = deleted })
-  cut_before items us id x vs offset deleted span e count some says =
+  pub cut_before : (items us : List (ℕ × Piece)) (id : ℕ) (x : Piece) (vs : List (ℕ × Piece)) (offset deleted : ℕ) (span : Option ChunkSpan) (before : PieceSum)
+      → SplitsAt items id us x vs → before ≡ sum_of (in_order us) → offset ≡ units_in us → 0 < x.span.units → ForSome span (λ s. goes_on_from (in_order us) s ≡ false)
+      → IsCut b offset (offset + deleted) span items (record { id = id; left = None; end = deleted; before = before })
+  cut_before items us id x vs offset deleted span before e sum count some says =
       let none : in_order us ++ front b 0 (x ∷ in_order vs) ≡ in_order us = ap (λ ps. in_order us ++ ps) (front_none b x (in_order vs) some) ∙ append-nil (in_order us) in
       let zero : 0 + deleted ≡ deleted = omega arith in record {
         earlier = us;
@@ -128,6 +133,8 @@ module _ (b : List (List ℕ)) where
         inside = λ left eq. absurd cc;
         within = λ left eq. absurd cc;
         reach = omega (arith, count);
+        before = sum;
+        begins = omega (arith, count);
         spliced = spliced_at items us id x vs offset 0 deleted span None e (omega (arith, count)) (ap (λ ps. followed_by b ps span) none ∙ apart (in_order us) span says)
             ∙ ap (λ (n : ℕ). in_order us ++ followed_by b [] span ++ back b n (x ∷ in_order vs)) zero;
       }

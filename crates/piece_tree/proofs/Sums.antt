@@ -1,5 +1,5 @@
 -- Sums over pieces, with their names and without.
-use Rattle.std.proofs.Common.{◌≡◌, ℕ, ◌+◌, ◌<◌, ◌≤◌, ◌^◌, List, [], ◌∷◌, ◌++◌, length, refl, ap, sym, ◌∙◌, subst, arith}
+use Rattle.std.proofs.Common.{◌≡◌, ℕ, ◌+◌, ◌-◌, ◌<◌, ◌≤◌, ◌^◌, List, [], ◌∷◌, ◌++◌, length, refl, ap, sym, ◌∙◌, subst, arith}
 use Rattle.std.specs.List.{All, sum_by}
 use Rattle.std.proofs.lemmas.List.{map-append, length-map}
 use Rattle.std.proofs.lemmas.List.Elements.{All-head, All-tail, All-cons, All-nil}
@@ -33,12 +33,33 @@ sum_is (e ∷ es) =
     ap (λ (s : PieceSum). record { units = e.1.span.units + s.units; breaks = e.1.breaks + s.breaks }) (sum_is es)
     ∙ sym (λ i. record { units = units-cons e.1 (in_order es) i; breaks = breaks-cons e.1 (in_order es) i })
 
+-- the sum of some pieces and one more, and what it is without this one
+module _ (ps : List Piece) (p : Piece) (sum : PieceSum) (is : sum ≡ sum_of (ps ++ p ∷ [])) where
+  units_with : sum.units ≡ unit_count ps + p.span.units
+  units_with = omega (arith, ap (λ (s : PieceSum). s.units) is, sum_by-append (λ (q : Piece). q.span.units) ps (p ∷ []), units-cons p [])
+
+  breaks_with : sum.breaks ≡ break_count_of ps + p.breaks
+  breaks_with = omega (arith, ap (λ (s : PieceSum). s.breaks) is, sum_by-append (λ (q : Piece). q.breaks) ps (p ∷ []), breaks-cons p [])
+
+  pub sum_counts : (p.span.units ≤ sum.units) × (p.breaks ≤ sum.breaks)
+  sum_counts = (omega (arith, units_with), omega (arith, breaks_with))
+
+  pub sum_without : record { units = sum.units - p.span.units; breaks = sum.breaks - p.breaks } ≡ sum_of ps
+  sum_without =
+      let units : sum.units - p.span.units ≡ unit_count ps = omega (arith, units_with) in
+      let breaks : sum.breaks - p.breaks ≡ break_count_of ps = omega (arith, breaks_with) in
+      λ i. record { units = units i; breaks = breaks i }
+
 pub entries-append : (us vs : List (ℕ × Piece)) → entries_of (us ++ vs) ≡ entries_of us ++ entries_of vs
 entries-append us vs = map-append entry_of us vs
 
 pub in_order-append : (us vs : List (ℕ × Piece)) → in_order (us ++ vs) ≡ in_order us ++ in_order vs
 in_order-append [] vs = refl
 in_order-append (u ∷ us) vs = ap (λ ps. u.1 ∷ ps) (in_order-append us vs)
+
+-- the sum of the items up to one
+pub sum_up_to : (items us : List (ℕ × Piece)) (id : ℕ) (x : Piece) → items ≡ us ++ (id, x) ∷ [] → sum_of (in_order items) ≡ sum_of (in_order us ++ x ∷ [])
+sum_up_to items us id x e = ap sum_of (ap in_order e ∙ in_order-append us ((id, x) ∷ []))
 
 pub length-entries : (es : List (ℕ × Piece)) → length (entries_of es) ≡ length es
 length-entries es = length-map es entry_of

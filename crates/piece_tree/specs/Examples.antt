@@ -1,7 +1,14 @@
--- Worked examples: what stands beside a piece.
-use Rattle.std.proofs.Common.{◌≡◌, ℕ, List, [], ◌∷◌, ◌++◌, length, length-append, refl, ap, ◌∙◌, arith}
+-- Worked examples: what stands beside a piece, where a splice cuts, the run that it makes, and what it tells of the pieces that it put.
+use Rattle.std.proofs.Common.{◌≡◌, ℕ, zero, suc, Some, None, List, [], ◌∷◌, ◌++◌, codes, All, length, length-append, refl, ap, subst, ◌∙◌, arith}
+use Rattle.chunk_buffers.specs.declared.span.ChunkSpan.{ChunkSpan}
+use Rattle.chunk_buffers.specs.Chunks.{LiesIn}
 use Rattle.piece_tree.specs.declared.piece.Found.{Found}
-use Rattle.piece_tree.specs.Pieces.{Entry, AreNeighbours}
+use Rattle.piece_tree.specs.declared.piece.Piece.{Piece}
+use Rattle.piece_tree.specs.declared.edits.Cut.{Cut}
+use Rattle.piece_tree.specs.declared.edits.Run.{Run}
+use Rattle.piece_tree.specs.Pieces.{Entry, AreNeighbours, IsPieceOf, unit_count}
+use Rattle.piece_tree.specs.Inside.{in_order}
+use Rattle.piece_tree.specs.Runs.{HeadsRest, IsCut, Gathers, IsRun, LeavesRest}
 
 abbrev entry : ℕ → ℕ → ℕ → Entry
 entry id start units = record { id = id; piece = record { span = record { buffer = 0; start = start; units = units }; breaks = 0 } }
@@ -31,3 +38,107 @@ no_piece_is_passed_over (p ∷ q ∷ r ∷ earlier) later e =
 
 a_piece_past_an_empty_one_is_none : AreNeighbours three (found 1 0 2) (found 3 2 3) → ⊥
 a_piece_past_an_empty_one_is_none is = no_piece_is_passed_over is.left.earlier is.right.later (is.right.place ∙ ap (λ l. l ++ entry 3 2 3 ∷ is.right.later) is.beside)
+
+abbrev piece : ℕ → ℕ → Piece
+piece start units = (entry 0 start units).piece
+
+-- two pieces were put before the last one
+the_first_of_two_is_told : HeadsRest [] (piece 0 2 ∷ piece 7 3 ∷ []) (Some (4, piece 0 2)) ((4, piece 0 2) ∷ (5, piece 7 3) ∷ (3, piece 2 3) ∷ [])
+the_first_of_two_is_told = (4, ((5, piece 7 3) ∷ (3, piece 2 3) ∷ [], refl, refl))
+
+the_second_is_not : (new : List (ℕ × Piece)) → HeadsRest [] (piece 0 2 ∷ piece 7 3 ∷ []) (Some (5, piece 7 3)) new → ⊥
+the_second_is_not new (id, (ws, told, place)) = let same : ◌≡◌ {A = ℕ × Piece} (5, piece 7 3) (id, piece 0 2) = cc in absurd (omega (arith, ap (λ (e : ℕ × Piece). e.1.span.units) same))
+
+what_was_put_is_told : (new : List (ℕ × Piece)) → HeadsRest [] (piece 0 2 ∷ []) None new → ⊥
+what_was_put_is_told new (id, (ws, told, place)) = absurd cc
+
+abbrev letters : List (List ℕ)
+letters = codes "abcdefghij" ∷ []
+
+abbrev span : ℕ → ℕ → ChunkSpan
+span start units = (piece start units).span
+
+-- the text is "abhijfg"
+abbrev items : List (ℕ × Piece)
+items = (1, piece 0 2) ∷ (2, piece 7 3) ∷ (3, piece 5 2) ∷ []
+
+-- what goes ends behind two units of the second piece, of which so many stay
+abbrev cut : ℕ → Cut
+cut units = record { id = 2; left = Some (span 7 units); end = 2; before = record { units = 2; breaks = 0 } }
+
+-- "cd" takes the place of "i"
+a_cut_counts_from_its_piece : IsCut letters 3 4 (Some (span 2 2)) items (cut 1)
+a_cut_counts_from_its_piece = record {
+  earlier = (1, piece 0 2) ∷ [];
+  piece = piece 7 3;
+  later = (3, piece 5 2) ∷ [];
+  place = refl;
+  inside = λ left e. let same : span 7 1 ≡ left = cc in
+      subst (LiesIn letters) same (record { buffer = omega arith; few = omega arith; end = omega arith; fits = omega arith });
+  within = λ left e. let same : span 7 1 ≡ left = cc in omega (arith, ap (λ (s : ChunkSpan). s.units) same);
+  reach = omega arith;
+  before = refl;
+  begins = refl;
+  spliced = refl;
+}
+
+no_cut_leaves_more : IsCut letters 3 4 (Some (span 2 2)) items (cut 2) → ⊥
+no_cut_leaves_more is = absurd (omega (arith, is.begins, ap (λ s. s.units) is.before))
+
+-- the first two pieces are one under the first one's name
+abbrev run : Run
+run = record { id = 1; last = span 7 3 }
+
+two_pieces_are_a_run : Gathers 3 [] (piece 0 2) ((2, piece 7 3) ∷ (3, piece 5 2) ∷ []) ((1, piece 0 5) ∷ (3, piece 5 2) ∷ []) run
+two_pieces_are_a_run = record {
+  merged = (2, piece 7 3) ∷ [];
+  later = (3, piece 5 2) ∷ [];
+  whole = piece 0 5;
+  earlier = piece 0 2 ∷ [];
+  final = piece 7 3;
+  parts = refl;
+  place = refl;
+  units = refl;
+  breaks = refl;
+  pieces = refl;
+  last = refl;
+  reach = omega arith;
+}
+
+-- the first piece has two units, and with the second one five
+no_pieces_have_four_units : (merged later : List (ℕ × Piece)) → (2, piece 7 3) ∷ [] ≡ merged ++ later
+    → 4 ≡ unit_count (piece 0 2 ∷ in_order merged) → ⊥
+no_pieces_have_four_units [] later e units = absurd (omega (arith, units))
+no_pieces_have_four_units (p ∷ []) later e units =
+    let same : ◌≡◌ {A = ℕ × Piece} (2, piece 7 3) p = cc in absurd (omega (arith, units, ap (λ (e : ℕ × Piece). e.1.span.units) same))
+no_pieces_have_four_units (p ∷ q ∷ merged) later e units = absurd (omega (arith, ap length e))
+
+a_run_loses_no_unit : (later : List (ℕ × Piece)) → Gathers 3 [] (piece 0 2) ((2, piece 7 3) ∷ []) ((1, piece 0 4) ∷ later) run → ⊥
+a_run_loses_no_unit later is =
+    let same : ◌≡◌ {A = ℕ × Piece} (1, piece 0 4) (1, is.whole) = let place = is.place in cc in
+    no_pieces_have_four_units is.merged is.later is.parts (ap (λ (e : ℕ × Piece). e.1.span.units) same ∙ is.units)
+
+pieces_behind : All (IsPieceOf letters) (piece 5 2 ∷ [])
+pieces_behind zero d k_small = record { inside = record { buffer = omega arith; few = omega arith; end = omega arith; fits = omega arith }; breaks = refl }
+pieces_behind (suc k) d k_small = absurd (omega (arith, k_small))
+
+a_run_stands_among_pieces : IsRun letters 3 ((1, piece 0 5) ∷ (3, piece 5 2) ∷ []) run
+a_run_stands_among_pieces = record {
+  earlier = [];
+  whole = piece 0 5;
+  later = (3, piece 5 2) ∷ [];
+  place = refl;
+  inside = record { buffer = omega arith; few = omega arith; end = omega arith; fits = omega arith };
+  within = omega arith;
+  reach = omega arith;
+  pieces = pieces_behind;
+}
+
+-- three of the run's units go, and so the first one of its last span
+a_rest_of_the_last_span_stays : LeavesRest letters 3 [] (piece 0 5) ((3, piece 5 2) ∷ []) ((1, piece 0 5) ∷ (3, piece 5 2) ∷ []) run (Some (span 8 2))
+a_rest_of_the_last_span_stays = record { later = (3, piece 5 2) ∷ []; place = refl; left = refl }
+
+the_last_span_does_not_stay : (new : List (ℕ × Piece)) → LeavesRest letters 3 [] (piece 0 5) ((3, piece 5 2) ∷ []) new run (Some (span 7 3)) → ⊥
+the_last_span_does_not_stay new is =
+    let left : piece 7 3 ∷ in_order is.later ≡ piece 8 2 ∷ piece 5 2 ∷ [] = is.left in
+    let same : piece 7 3 ≡ piece 8 2 = cc in absurd (omega (arith, ap (λ (p : Piece). p.span.units) same))

@@ -3,6 +3,8 @@ use Rattle.std.specs.Prelude.{ℕ, ◌+◌, ◌*◌, ◌<◌, ◌≤◌, ◌^◌
 use Rattle.std.specs.List.{All}
 use Rattle.rb_arena.specs.Value.{SplitsAt}
 use Rattle.piece_tree.specs.declared.piece.Piece.{Piece}
+use Rattle.piece_tree.specs.declared.piece.PieceSum.{PieceSum}
+use Rattle.piece_tree.specs.declared.piece.Found.{Found}
 use Rattle.piece_tree.specs.Pieces.{Entry, IsPieceOf, pieces_of, unit_count}
 use Rattle.piece_tree.specs.Searches.{few_breaks}
 
@@ -11,6 +13,10 @@ entry_of item = record { id = item.0; piece = item.1 }
 
 abbrev pub entries_of : List (ℕ × Piece) → List Entry
 entries_of items = map entry_of items
+
+-- an item as a look-up tells it, where the items before it have that sum
+abbrev pub found_at : PieceSum → ℕ × Piece → Found
+found_at before item = record { id = item.0; span = item.1.span; breaks = item.1.breaks; before = before }
 
 -- the pieces without their names
 abbrev pub in_order : List (ℕ × Piece) → List Piece
@@ -25,6 +31,12 @@ pub record IsTree (pieces : List Piece) (free spare : ℕ) : Type 0 where
 -- the piece of that name has at least n units
 abbrev pub HasUnits : List (ℕ × Piece) → ℕ → ℕ → Type 0
 HasUnits items id n = (us : List (ℕ × Piece)) × ((x : Piece) × ((vs : List (ℕ × Piece)) × SplitsAt items id us x vs × (n ≤ x.span.units)))
+
+-- the sum counts the piece of that name
+abbrev pub IsCounted : List (ℕ × Piece) → ℕ → PieceSum → Type 0
+IsCounted items id sum =
+    (us : List (ℕ × Piece))
+    × ((x : Piece) × ((vs : List (ℕ × Piece)) × SplitsAt items id us x vs × (x.span.units ≤ sum.units) × (x.breaks ≤ sum.breaks)))
 
 -- the pieces have fewer than 2 ^ 62 units once so many stand in the place of the piece of that name
 abbrev pub HasRoomAt : List (ℕ × Piece) → ℕ → ℕ → Type 0

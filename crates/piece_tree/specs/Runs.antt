@@ -8,7 +8,7 @@ use Rattle.rb_arena.specs.Value.{SplitsAt, EndsWith}
 use Rattle.piece_tree.specs.declared.piece.Piece.{Piece}
 use Rattle.piece_tree.specs.declared.edits.Cut.{Cut}
 use Rattle.piece_tree.specs.declared.edits.Run.{Run}
-use Rattle.piece_tree.specs.Pieces.{unit_count, break_count_of, piece_of, piece_list, IsPieceOf, goes_on_from, followed_by, back, spliced}
+use Rattle.piece_tree.specs.Pieces.{unit_count, break_count_of, sum_of, piece_of, piece_list, IsPieceOf, goes_on_from, followed_by, back, spliced}
 use Rattle.piece_tree.specs.Inside.{in_order}
 
 -- the piece has what the two have together
@@ -23,7 +23,8 @@ IsJoint items (Some span) None = goes_on_from (in_order items) span ≡ false
 IsJoint items (Some span) (Some id) = EndsWith items (Some id) × (goes_on_from (in_order items) span ≡ true)
 
 -- A splice leaves what stands before the cut's piece, which does not end before the start. The span comes behind what the cut leaves of
--- this piece, and then what is left from it on without the units up to the cut's end.
+-- this piece, and then what is left from it on without the units up to the cut's end. The cut tells what stands before the piece, and
+-- what it leaves of this piece ends at the start.
 pub record IsCut (b : List (List ℕ)) (start end : ℕ) (span : Option ChunkSpan) (items : List (ℕ × Piece)) (cut : Cut) : Type 0 where
   pub earlier : List (ℕ × Piece)
   pub piece : Piece
@@ -32,6 +33,8 @@ pub record IsCut (b : List (List ℕ)) (start end : ℕ) (span : Option ChunkSpa
   pub inside : ForSome cut.left (LiesIn b)
   pub within : ForSome cut.left (λ left. left.units ≤ piece.span.units)
   pub reach : start ≤ unit_count (in_order earlier) + piece.span.units
+  pub before : cut.before ≡ sum_of (in_order earlier)
+  pub begins : start ≡ unit_count (in_order earlier) + unit_count (piece_list b cut.left)
   pub spliced : spliced b start end span (in_order items)
       ≡ in_order earlier ++ followed_by b (piece_list b cut.left) span ++ back b cut.end (piece ∷ in_order later)
 
@@ -92,6 +95,11 @@ pub record LeavesRest (b : List (List ℕ)) (end : ℕ) (us : List (ℕ × Piece
 -- these items stand at the front, each under its name
 abbrev pub KeepsFront : List (ℕ × Piece) → List (ℕ × Piece) → Type 0
 KeepsFront us new = (ws : List (ℕ × Piece)) × (new ≡ us ++ ws)
+
+-- The first of these pieces is told with its name, and stands right behind the items before. Where there are none, nothing is told.
+abbrev pub HeadsRest : List (ℕ × Piece) → List Piece → Option (ℕ × Piece) → List (ℕ × Piece) → Type 0
+HeadsRest us [] first new = first ≡ None
+HeadsRest us (p ∷ ps) first new = (id : ℕ) × ((ws : List (ℕ × Piece)) × (first ≡ Some (id, p)) × (new ≡ us ++ (id, p) ∷ ws))
 
 -- an item that ends before the offset stands where it stood, with the same items before it
 abbrev pub KeepsBefore : ℕ → List (ℕ × Piece) → List (ℕ × Piece) → Type 0

@@ -2,18 +2,18 @@
 //!
 //! A splice walks to the top of the tree once. The pieces that it touches are merged into one first, which has their sum, so that
 //! nothing changes above; then what comes is put in the place of that one.
-ghost use Rattle.std.specs.Prelude.{◌≡◌, ℕ, ◌+◌, ◌-◌, ◌<◌, ◌≤◌, ◌^◌, ◌++◌, ◌∷◌, List, [], Some, length, MatchOption};
+ghost use Rattle.std.specs.Prelude.{◌≡◌, ℕ, ◌+◌, ◌-◌, ◌<◌, ◌≤◌, ◌^◌, ◌++◌, ◌∷◌, List, [], Some, None, length, MatchOption, IfSome};
 ghost use Rattle.std.specs.List.{All};
-ghost use Rattle.std.specs.Option.{ForSome, ForNone};
+ghost use Rattle.std.specs.Option.{ForSome, ForNone, option_map};
 ghost use Rattle.chunk_buffers.specs.Chunks.{LiesIn};
 ghost use Rattle.rb_arena.specs.Value.{IsItem, AtItem, HasInstead};
-ghost use Rattle.piece_tree.specs.Pieces.{piece_of, piece_list, unit_count, IsPieceOf, goes_on, prolonged, followed_by, spliced, StandsAt};
+ghost use Rattle.piece_tree.specs.Pieces.{piece_of, piece_list, unit_count, IsPieceOf, goes_on, prolonged, followed_by, spliced, IsFound, StandsAt};
 ghost use Rattle.piece_tree.specs.Searches.{few_breaks};
-ghost use Rattle.piece_tree.specs.Inside.{entries_of, in_order, HasRoomAt, HasUnits, HasPiecesBehind};
-ghost use Rattle.piece_tree.specs.Runs.{HasBoth, IsJoint, IsCut, HasTaken, TakesNone, Gathers, IsRun, LosesBehind, LeavesRest, KeepsFront, KeepsBefore};
+ghost use Rattle.piece_tree.specs.Inside.{entries_of, in_order, found_at, HasRoomAt, HasUnits, IsCounted, HasPiecesBehind};
+ghost use Rattle.piece_tree.specs.Runs.{HasBoth, IsJoint, IsCut, HasTaken, TakesNone, Gathers, IsRun, LosesBehind, LeavesRest, KeepsFront, KeepsBefore, HeadsRest};
 
-use crate::piece::{Found, Piece, PieceId};
-use crate::weave::PieceWeave;
+use crate::piece::{Found, Piece, PieceId, PieceSum};
+use crate::weave::{PieceWeave, found};
 use chunk_buffers::{ChunkSpan, Chunks};
 use rb_arena::RbTree;
 
@@ -25,6 +25,8 @@ struct Cut {
     left: Option<ChunkSpan>,
     /// Where what goes ends, counted from the piece's start.
     end: u64,
+    /// What the pieces before this one have.
+    before: PieceSum,
 }
 
 /// Pieces that were merged into one.
@@ -36,6 +38,7 @@ struct Run {
 }
 
 /// Puts a span, if there is one, in the place of units from the offset on, where the piece of the unit at the offset was looked up.
+/// Tells the first of the pieces that it put, if any.
 pub(crate) fn replace_units(
     tree: &mut RbTree<PieceWeave>,
     at: &Option<Found>,
@@ -43,7 +46,7 @@ pub(crate) fn replace_units(
     deleted: u64,
     span: Option<ChunkSpan>,
     chunks: &Chunks,
-)
+) -> Option<Found>
     requires place { StandsAt (entries_of tree.old.items) at.now offset }
     requires range { offset + deleted ≤ unit_count (in_order tree.old.items) }
     requires small { unit_count (in_order tree.old.items) < 2 ^ 62 }
@@ -55,17 +58,45 @@ pub(crate) fn replace_units(
     ensures spliced { in_order tree.new.items
         ≡ spliced chunks.now.buffers offset (offset + deleted) span (in_order tree.old.items) }
     ensures front { KeepsBefore offset tree.old.items tree.new.items }
+    ensures told { IfSome result (IsFound (entries_of tree.new.items)) }
+    ensures near { IfSome result (λ found. (found.before.units ≤ offset)
+        × (offset ≤ found.before.units + found.span.units)) }
+    ensures none { ForNone result (span ≡ None) }
     ensures room { tree.old.spare ≤ tree.new.spare + 2 }
 {
     let Some(cut) = first_cut(tree, at, offset, deleted, span, chunks) else {
-        if let Some(span) = span {
-            tree.insert_first(piece_of(chunks, span));
-        }
-        return;
+        return Some(put_only(tree, span?, chunks));
     };
     let run = gather(tree, cut.id, cut.end);
     let right = rest_behind(tree, &run, cut.end, chunks);
-    put(tree, run.id, cut.left, span, right, chunks);
+    let first = put(tree, run.id, cut.left, span, right, chunks);
+    found_first(first, cut.before)
+}
+
+/// The first piece that was put, if any, as a look-up tells it.
+fn found_first(first: Option<(PieceId, Piece)>, before: PieceSum) -> Option<Found>
+    ensures { result ≡ option_map (found_at before) first }
+{
+    let (id, piece) = first?;
+    Some(found((id, piece, before)))
+}
+
+/// Puts a span into a tree with no piece, and tells its piece.
+fn put_only(tree: &mut RbTree<PieceWeave>, span: ChunkSpan, chunks: &Chunks) -> Found
+    requires empty { tree.old.items ≡ [] }
+    requires room { 0 < tree.old.spare }
+    requires inside { LiesIn chunks.now.buffers span }
+    ensures items { tree.new.items ≡ (result.id, piece_of chunks.now.buffers span) ∷ [] }
+    ensures told { IsFound (entries_of tree.new.items) result }
+    ensures first { result.before.units ≡ 0 }
+    ensures room { tree.old.spare ≤ tree.new.spare + 1 }
+{
+    let piece = piece_of(chunks, span);
+    let none = PieceSum {
+        units: 0,
+        breaks: 0,
+    };
+    found((tree.insert_first(piece), piece, none))
 }
 
 /// Where a splice begins; None where there is no piece.
@@ -85,7 +116,7 @@ fn first_cut(
         (IsCut chunks.now.buffers offset (offset + deleted) span tree.now.items) }
 {
     let Some(found) = at else {
-        return Some(cut_behind(tree, tree.last()?, deleted));
+        return Some(cut_behind(tree, tree.last()?, tree.sum(), deleted));
     };
     let own = offset - found.before.units;
     if 0 < own {
@@ -93,30 +124,41 @@ fn first_cut(
             id: found.id,
             left: Some(chunks.part(found.span, 0, own)),
             end: own + deleted,
+            before: found.before,
         });
     }
     if let Some(before) = joint(tree, found.id, span) {
-        return Some(cut_behind(tree, before, deleted));
+        return Some(cut_behind(tree, before, found.before, deleted));
     }
     Some(Cut {
         id: found.id,
         left: None,
         end: deleted,
+        before: found.before,
     })
 }
 
-/// A cut right behind a piece, where that many units go.
-fn cut_behind(tree: &RbTree<PieceWeave>, id: PieceId, deleted: u64) -> Cut
-    requires named { IsItem tree.now.items id }
+/// A cut right behind a piece, where that many units go. The sum is that of the pieces up to this one.
+fn cut_behind(tree: &RbTree<PieceWeave>, id: PieceId, sum: PieceSum, deleted: u64) -> Cut
+    requires counted { IsCounted tree.now.items id sum }
     requires few { deleted < 2 ^ 62 }
     ensures { AtItem tree.now.items id (λ us x vs.
-        result ≡ record { id = id; left = Some x.span; end = x.span.units + deleted }) }
+        result ≡ record {
+          id = id;
+          left = Some x.span;
+          end = x.span.units + deleted;
+          before = record { units = sum.units - x.span.units; breaks = sum.breaks - x.breaks };
+        }) }
 {
-    let span = tree.get(id).span;
+    let piece = tree.get(id);
     Cut {
         id,
-        left: Some(span),
-        end: span.units as u64 + deleted,
+        left: Some(piece.span),
+        end: piece.span.units as u64 + deleted,
+        before: PieceSum {
+            units: sum.units - piece.span.units as u64,
+            breaks: sum.breaks - piece.breaks as u64,
+        },
     }
 }
 
@@ -255,8 +297,8 @@ fn remove_units(tree: &mut RbTree<PieceWeave>, after: PieceId, units: u64, chunk
     }
 }
 
-/// Puts what stays on both sides and the span between them in the place of a piece. Where the span goes on from what stays before it,
-/// the two are one piece.
+/// Puts what stays on both sides and the span between them in the place of a piece, and tells the first piece that it put, if any.
+/// Where the span goes on from what stays before it, the two are one piece.
 fn put(
     tree: &mut RbTree<PieceWeave>,
     id: PieceId,
@@ -264,7 +306,7 @@ fn put(
     span: Option<ChunkSpan>,
     right: Option<ChunkSpan>,
     chunks: &Chunks,
-)
+) -> Option<(PieceId, Piece)>
     requires left { ForSome left (λ s. HasUnits tree.old.items id s.units) }
     requires fits { HasRoomAt tree.old.items id (unit_count (piece_list chunks.now.buffers left)
         + unit_count (piece_list chunks.now.buffers span)
@@ -278,25 +320,24 @@ fn put(
         ≡ in_order us ++ followed_by chunks.now.buffers (piece_list chunks.now.buffers left) span
         ++ piece_list chunks.now.buffers right ++ in_order vs) }
     ensures front { AtItem tree.old.items id (λ us x vs. KeepsFront us tree.new.items) }
+    ensures first { AtItem tree.old.items id (λ us x vs. HeadsRest us
+        (followed_by chunks.now.buffers (piece_list chunks.now.buffers left) span
+        ++ piece_list chunks.now.buffers right) result tree.new.items) }
     ensures room { tree.old.spare ≤ tree.new.spare + 2 }
 {
     let Some(own) = left else {
-        put_two(tree, id, span, right, chunks);
-        return;
+        return put_two(tree, id, span, right, chunks);
     };
     let Some(span) = span else {
-        put_two(tree, id, left, right, chunks);
-        return;
+        return put_two(tree, id, left, right, chunks);
     };
     if goes_on(own, span) {
-        put_two(tree, id, Some(prolonged(own, span)), right, chunks);
-        return;
+        return put_two(tree, id, Some(prolonged(own, span)), right, chunks);
     }
     let Some(right) = right else {
-        put_two(tree, id, left, Some(span), chunks);
-        return;
+        return put_two(tree, id, left, Some(span), chunks);
     };
-    put_three(tree, id, own, span, right, chunks);
+    Some(put_three(tree, id, own, span, right, chunks))
 }
 
 /// The first span with the units of one that goes on from it.
@@ -311,7 +352,8 @@ fn prolonged(first: ChunkSpan, second: ChunkSpan) -> ChunkSpan
     }
 }
 
-/// Puts three spans in the place of a piece, which has the units of the first and more. The sum changes with the last two alone.
+/// Puts three spans in the place of a piece, which has the units of the first and more, and tells the first piece. The sum changes with
+/// the last two alone.
 fn put_three(
     tree: &mut RbTree<PieceWeave>,
     id: PieceId,
@@ -319,7 +361,7 @@ fn put_three(
     second: ChunkSpan,
     third: ChunkSpan,
     chunks: &Chunks,
-)
+) -> (PieceId, Piece)
     requires first { HasUnits tree.old.items id first.units }
     requires fits { HasRoomAt tree.old.items id (first.units + second.units + third.units) }
     requires small { unit_count (in_order tree.old.items) < 2 ^ 62 }
@@ -331,12 +373,15 @@ fn put_three(
         ≡ in_order us ++ piece_of chunks.now.buffers first
         ∷ piece_of chunks.now.buffers second ∷ piece_of chunks.now.buffers third ∷ in_order vs) }
     ensures front { AtItem tree.old.items id (λ us x vs. KeepsFront us tree.new.items) }
+    ensures first { AtItem tree.old.items id (λ us x vs. HeadsRest us
+        (piece_of chunks.now.buffers first ∷ []) (Some result) tree.new.items) }
     ensures room { tree.old.spare ≤ tree.new.spare + 2 }
 {
     let own = piece_of(chunks, first);
     let rest = rest_of(tree.get(id), own);
     let other = tree.set_and_insert_after(id, own, rest);
     put_two(tree, other, Some(second), Some(third), chunks);
+    (id, own)
 }
 
 /// A piece that has what a whole has beside a part of it. Its span stands for that.
@@ -358,14 +403,14 @@ fn rest_of(whole: Piece, part: Piece) -> Piece
     }
 }
 
-/// Puts up to two spans in the place of a piece.
+/// Puts up to two spans in the place of a piece, and tells the first piece that it put, if any.
 fn put_two(
     tree: &mut RbTree<PieceWeave>,
     id: PieceId,
     first: Option<ChunkSpan>,
     second: Option<ChunkSpan>,
     chunks: &Chunks,
-)
+) -> Option<(PieceId, Piece)>
     requires fits { HasRoomAt tree.old.items id (unit_count (piece_list chunks.now.buffers first)
         + unit_count (piece_list chunks.now.buffers second)) }
     requires room { 0 < tree.old.spare }
@@ -375,36 +420,49 @@ fn put_two(
         ≡ in_order us ++ piece_list chunks.now.buffers first
         ++ piece_list chunks.now.buffers second ++ in_order vs) }
     ensures front { AtItem tree.old.items id (λ us x vs. KeepsFront us tree.new.items) }
+    ensures first { AtItem tree.old.items id (λ us x vs. HeadsRest us
+        (piece_list chunks.now.buffers first ++ piece_list chunks.now.buffers second)
+        result tree.new.items) }
     ensures room { tree.old.spare ≤ tree.new.spare + 1 }
 {
     let Some(one) = first else {
-        put_one(tree, id, second, chunks);
-        return;
+        return put_one(tree, id, second, chunks);
     };
     let Some(other) = second else {
-        put_one(tree, id, first, chunks);
-        return;
+        return put_one(tree, id, first, chunks);
     };
     // By what this piece gives up, the spans fit.
     let _own = tree.get(id);
-    tree.set_and_insert_after(id, piece_of(chunks, one), piece_of(chunks, other));
+    let piece = piece_of(chunks, one);
+    tree.set_and_insert_after(id, piece, piece_of(chunks, other));
+    Some((id, piece))
 }
 
-/// Puts a span in the place of a piece, or nothing.
-fn put_one(tree: &mut RbTree<PieceWeave>, id: PieceId, span: Option<ChunkSpan>, chunks: &Chunks)
+/// Puts a span in the place of a piece, or nothing, and tells the piece that it put.
+fn put_one(
+    tree: &mut RbTree<PieceWeave>,
+    id: PieceId,
+    span: Option<ChunkSpan>,
+    chunks: &Chunks,
+) -> Option<(PieceId, Piece)>
     requires fits { HasRoomAt tree.old.items id (unit_count (piece_list chunks.now.buffers span)) }
     requires inside { ForSome span (LiesIn chunks.now.buffers) }
     ensures items { AtItem tree.old.items id (λ us x vs. in_order tree.new.items
         ≡ in_order us ++ piece_list chunks.now.buffers span ++ in_order vs) }
     ensures front { AtItem tree.old.items id (λ us x vs. KeepsFront us tree.new.items) }
+    ensures first { AtItem tree.old.items id (λ us x vs. HeadsRest us
+        (piece_list chunks.now.buffers span) result tree.new.items) }
     ensures room { tree.old.spare ≤ tree.new.spare }
 {
     // By what this piece gives up, the span fits.
     let _own = tree.get(id);
-    match span {
-        Some(span) => tree.set(id, piece_of(chunks, span)),
-        None => tree.remove(id),
-    }
+    let Some(span) = span else {
+        tree.remove(id);
+        return None;
+    };
+    let piece = piece_of(chunks, span);
+    tree.set(id, piece);
+    Some((id, piece))
 }
 
 /// Puts a span that is no longer in the place of a piece's.

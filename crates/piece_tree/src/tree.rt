@@ -1,15 +1,15 @@
 //! The tree of pieces, with look-ups by units and by breaks.
 
-ghost use Rattle.std.specs.Prelude.{◌≡◌, ℕ, ◌+◌, ◌-◌, ◌*◌, ◌<◌, ◌≤◌, ◌^◌, ◌++◌, ◌∷◌, List, [], length, map, Option, MatchOption, OnOk, OnErr};
+ghost use Rattle.std.specs.Prelude.{◌≡◌, ℕ, ◌+◌, ◌-◌, ◌*◌, ◌<◌, ◌≤◌, ◌^◌, ◌++◌, ◌∷◌, List, [], length, map, Option, None, MatchOption, IfSome, OnOk, OnErr};
 ghost use Rattle.std.specs.List.{All};
-ghost use Rattle.std.specs.Option.{ForSome};
+ghost use Rattle.std.specs.Option.{ForSome, ForNone};
 ghost use Rattle.chunk_buffers.specs.Chunks.{LiesIn};
 ghost use Rattle.piece_tree.specs.Pieces.{pieces_of, unit_count, break_count_of, piece_list, IsPieceOf, spliced, IsFound, AreNeighbours, IsAmong, StandsAt, Entry, first_of, last_of};
 ghost use Rattle.piece_tree.specs.Costs.{WithinLookUps};
 
 use crate::edits::replace_units;
 use crate::piece::{Found, Piece, PieceId, PieceSum};
-use crate::weave::{PieceWeave, Sought};
+use crate::weave::{PieceWeave, Sought, found};
 use chunk_buffers::{ChunkSpan, Chunks};
 use rb_arena::RbTree;
 use std::alloc::{AllocError, Global};
@@ -180,7 +180,8 @@ impl PieceTree {
     }
 
     /// Puts the span in the place of `deleted` units from the offset on, where the piece that has the unit at the offset was looked
-    /// up; None at the end. It makes no search, and takes no memory.
+    /// up; None at the end. It makes no search, and takes no memory. It tells the first of the pieces that it put in the place
+    /// of those that it touched, if any, as a look-up would tell it. Where a span came, there is one.
     pub fn splice(
         &mut self,
         at: Option<Found>,
@@ -188,7 +189,7 @@ impl PieceTree {
         deleted: u64,
         span: Option<ChunkSpan>,
         chunks: &Chunks,
-    )
+    ) -> Option<Found>
         requires place { StandsAt self.old.entries at offset }
         requires range { offset + deleted ≤ unit_count (pieces_of self.old.entries) }
         requires room { 0 < self.old.spare }
@@ -201,10 +202,15 @@ impl PieceTree {
             (pieces_of self.old.entries) }
         ensures front { (found : Found) → IsFound self.old.entries found
             → found.before.units + found.span.units < offset → IsFound self.new.entries found }
+        ensures told { IfSome result (IsFound self.new.entries) }
+        ensures near { IfSome result (λ found. (found.before.units ≤ offset)
+            × (offset ≤ found.before.units + found.span.units)) }
+        ensures none { ForNone result (span ≡ None) }
         ensures spare { self.new.spare + 1 ≡ self.old.spare }
     {
-        replace_units(&mut self.tree, &at, offset, deleted, span, chunks);
+        let first = replace_units(&mut self.tree, &at, offset, deleted, span, chunks);
         self.spare -= 1;
+        first
     }
 
     /// Appends the spans of the pieces in their order. An error leaves `out` as it was.
@@ -223,18 +229,5 @@ impl PieceTree {
             next = self.tree.next(id);
         }
         Ok(())
-    }
-}
-
-/// A piece that a search ended at, with its name and what the pieces before it have.
-fn found(at: (PieceId, Piece, PieceSum)) -> Found
-    ensures { result ≡ record { id = at.0; span = at.1.span; breaks = at.1.breaks; before = at.2 } }
-{
-    let (id, piece, before) = at;
-    Found {
-        id,
-        span: piece.span,
-        breaks: piece.breaks,
-        before,
     }
 }

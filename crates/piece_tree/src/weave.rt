@@ -2,7 +2,7 @@
 ghost use Rattle.std.specs.Prelude.{◌≡◌, ⊤, Some, refl};
 ghost use Rattle.piece_tree.specs.Searches.{toward};
 
-use crate::piece::{Piece, PieceSum};
+use crate::piece::{Found, Piece, PieceId, PieceSum};
 use rb_rules::{Turn, Weave};
 
 /// What a search looks for: the one with that many before it.
@@ -83,6 +83,14 @@ impl Weave for PieceWeave {
         first.units == second.units && first.breaks == second.breaks
     }
 
+    #[tactic(auto, unfolding(rb_rules::specs::Weaving::CanExchange))]
+    fn exchanged(whole: PieceSum, old: PieceSum, new: PieceSum) -> Option<PieceSum> {
+        Some(PieceSum {
+            units: whole.units - old.units + new.units,
+            breaks: whole.breaks - old.breaks + new.breaks,
+        })
+    }
+
     fn still() {}
 
     fn only_shift() -> Option<()> {
@@ -129,4 +137,17 @@ impl Weave for PieceWeave {
     ghost parts = { parts };
 
     ghost thins = { thins };
+}
+
+/// A piece as a look-up tells it, with its name and what the pieces before it have.
+pub(crate) fn found(at: (PieceId, Piece, PieceSum)) -> Found
+    ensures { result ≡ record { id = at.0; span = at.1.span; breaks = at.1.breaks; before = at.2 } }
+{
+    let (id, piece, before) = at;
+    Found {
+        id,
+        span: piece.span,
+        breaks: piece.breaks,
+        before,
+    }
 }

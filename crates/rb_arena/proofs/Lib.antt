@@ -1,5 +1,6 @@
 pub mod Cases
 pub mod Climbing
+pub mod Exchanging
 pub mod Following
 pub mod Emptying
 pub mod Gaps

@@ -1,5 +1,5 @@
 -- A node whose sums are renewed: what its data may be, and what they are.
-use Rattle.std.proofs.Common.{◌≡◌, ℕ, Some, sym, ap, ◌∙◌}
+use Rattle.std.proofs.Common.{◌≡◌, ℕ, Some, ap, ◌∙◌}
 use Rattle.std.specs.FinMap as map
 use Rattle.rb_rules.specs.declared.slot.Data.{Data}
 use Rattle.rb_rules.specs.declared.slot.Side.TheVariants.{Left, Right}
@@ -14,7 +14,7 @@ use Rattle.rb_rules.proofs.Climbs.{can_renew}
 use Rattle.rb_rules.proofs.Spots.{upper_is}
 use Rattle.rb_arena.specs.declared.links.Links.{Links}
 use Rattle.rb_arena.specs.Relative.{CanRenewNode, CanSumOver, IsSummed, Renews}
-use Rattle.rb_arena.specs.Stopping.{KeepsSum}
+use Rattle.rb_arena.specs.Stopping.{GivesSum}
 use Rattle.rb_arena.proofs.Slots.{whole_below}
 
 module _ {W X S B K : Type 0} (w : Ghosts W X S B K) (old : Links (Data X S B)) (id : ℕ) (slot : Slot (Data X S B)) (found : map.get old.nodes.live id ≡ Some slot)
@@ -50,14 +50,14 @@ module _ {W X S B K : Type 0} (w : Ghosts W X S B K) where
   unfolding IsSummed
   renewed_node old new id slot left right datum can found left_is right_is is done = renewed_so w old id slot found left right left_is right_is new datum is done
 
--- the sum that it kept before
+-- its new sum
 module _ {W X S B K : Type 0} (w : Ghosts W X S B K) where
-  pub keeps_sum : (old : Links (Data X S B)) (id : ℕ) (slot : Slot (Data X S B)) (left right : S) (datum : Data X S B) → map.get old.nodes.live id ≡ Some slot → left ≡ whole_in w.weaving old.nodes.live slot.left
-      → right ≡ whole_in w.weaving old.nodes.live slot.right → IsSummed w slot.«data».item slot.«data».delta left right datum → datum.whole ≡ slot.«data».whole → KeepsSum w old id
-  unfolding IsSummed KeepsSum
-  keeps_sum old id slot left right datum found left_is right_is is stays = λ s h.
+  pub gives_sum : (old : Links (Data X S B)) (id : ℕ) (slot : Slot (Data X S B)) (left right : S) (datum : Data X S B) → map.get old.nodes.live id ≡ Some slot → left ≡ whole_in w.weaving old.nodes.live slot.left
+      → right ≡ whole_in w.weaving old.nodes.live slot.right → IsSummed w slot.«data».item slot.«data».delta left right datum → GivesSum w old id datum.whole
+  unfolding IsSummed GivesSum
+  gives_sum old id slot left right datum found left_is right_is is = λ s h.
       let same : datum ≡ renewed w.weaving s = is ∙ (λ i. summed w.weaving (data_is w old id slot found left right left_is right_is s h i).item (data_is w old id slot found left right left_is right_is s h i).delta
       (lefts_is w old id slot found left right left_is right_is s h i) (rights_is w old id slot found left right left_is right_is s h i)) in
-      sym (ap (λ d. d.whole) same) ∙ stays ∙ ap (λ d. d.whole) (data_is w old id slot found left right left_is right_is s h)
+      ap (λ d. d.whole) same
 
-pub ruleset renewing = (can_sum_here, renewed_node, keeps_sum)
+pub ruleset renewing = (can_sum_here, renewed_node, gives_sum)

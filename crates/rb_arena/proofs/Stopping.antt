@@ -1,5 +1,5 @@
 -- A walk up that ends at a node whose sum stays as it was.
-use Rattle.std.proofs.Common.{◌≡◌, ℕ, suc, ◌≤◌, ◌==◌, ◌+◌, ◌++◌, ◌∷◌, Bool, true, false, cond, eqb, List, Option, Some, None, refl, sym, ap, ◌∙◌, subst, arith, inl, inr}
+use Rattle.std.proofs.Common.{◌≡◌, ℕ, suc, ◌≤◌, ◌==◌, ◌+◌, ◌∷◌, Bool, true, false, cond, eqb, List, Option, Some, None, refl, sym, ap, ◌∙◌, subst, arith, inl, inr}
 use Rattle.std.specs.Option.{unwrap_or}
 use Rattle.std.proofs.lemmas.Option.{none-some}
 use Rattle.std.proofs.lemmas.Bool.{eq-eqb}
@@ -22,7 +22,9 @@ use Rattle.rb_rules.specs.declared.weave.Weave.{Ghosts}
 use Rattle.rb_arena.specs.declared.links.Links.{Links}
 use Rattle.rb_arena.specs.Value.{first_hole}
 use Rattle.rb_arena.specs.Relative.{IsSlackFrom, LawsOf, RenewsFrom}
-use Rattle.rb_arena.specs.Stopping.{hole_of, kept_sum, RightRound, RightAbove, RightIf, SlackRound, SlackTo, IsSlackTo, IsSlackUnder, RenewsTo, RenewsOver, RenewsUnder}
+use Rattle.rb_arena.specs.declared.climb.Change.{Change}
+use Rattle.rb_arena.specs.Exchanging.{Changed}
+use Rattle.rb_arena.specs.Stopping.{hole_of, kept_sum, RightRound, RightAbove, RightIf, SlackRound, SlackTo, IsSlackTo, IsSlackUnder, RenewsOver, RenewsUnder}
 
 module _ {X S B : Type 0} (w : Weaving X S B) (L : Lawful w) (is_near : B → Type 0) (is_item : X → Type 0) (is_sum is_value : S → Type 0)
     (sums : Sums w is_item is_sum) (parts : (a b : S) → is_value (w.join a b) → is_value a × is_value b) where
@@ -32,6 +34,11 @@ module _ {X S B : Type 0} (w : Weaving X S B) (L : Lawful w) (is_near : B → Ty
 
   abbrev IsParent : map.FinMap nat_cmp (Slot (Data X S B)) → Option ℕ → ℕ → Option ℕ → Type 0
   IsParent m root id p = (s : Spot (Data X S B)) → Made s.beside m root (plug s.hole (here s id)) → p ≡ above s.hole
+
+  -- what is told of the node's place and of its sums
+  abbrev Tells : map.FinMap nat_cmp (Slot (Data X S B)) → Option ℕ → ℕ → Change S → Type 0
+  Tells m root id change =
+      (s : Spot (Data X S B)) → Made s.beside m root (plug s.hole (here s id)) → (change.above ≡ above s.hole) × (change.kept ≡ s.datum.whole) × (change.sum ≡ (renewed w s).whole)
 
   -- another tree with the same sum in the hole
   pub swapped : (k : Hole (Data X S B)) (t u : Tree (Data X S B)) → Woven w is_near w.still (plug k t) → sum_of w (entries w (shift_at w k) t) ≡ sum_of w (entries w (shift_at w k) u)
@@ -103,6 +110,24 @@ module _ {X S B : Type 0} (w : Weaving X S B) (L : Lawful w) (is_near : B → Ty
             let sums_agree : sum_of w (entries w (shift_at w k) t) ≡ sum_of w (entries w (shift_at w k) now) = sum ∙ ap (w.shift_sum (shift_at w k)) (sym stays) ∙ whole_now in
             (top, (plug k now, refl, made_now, refl, swapped k t now wv sums_agree woven_now, tt, values_now v, omega arith))
 
+        -- at that node, where its sum changes
+        changes : (id n : ℕ) (change : Change S) → (i == id) ≡ true → change.above ≡ above k → change.id ≡ i → change.kept ≡ d.whole → change.sum ≡ (renewed w spot).whole
+            → Valued w is_item is_value (entries w w.still (plug k (fork c i d x y))) → depth k ≤ n
+            → RightRound w is_near (cond (i == id) k (hole_of id k)) (cond (i == id) d.whole (kept_sum w id k)) → Changed w is_near is_item is_value beside m2 root2 change n (plug k now)
+        changes id n change own up named kept sum v few right = record {
+          hole = k;
+          subtree = now;
+          is = refl;
+          made = made_now;
+          up = up;
+          named = ap Some (sym named);
+          sums = sym sum;
+          woven = woven_now;
+          values = values_now v;
+          few = few;
+          right = subst (RightRound w is_near k) (sym kept) (subst (λ b. RightRound w is_near (cond b k (hole_of id k)) (cond b d.whole (kept_sum w id k))) own right);
+        }
+
       -- the node that is renewed next, and what comes of it
       module _ (t : Tree (Data X S B)) (id name n : ℕ) (parent : Option ℕ) {beside : Tree (Data X S B)} (done : IsRenewed m root m2 root2 name) where
         -- the walk goes on to the one above
@@ -144,6 +169,26 @@ module _ {X S B : Type 0} (w : Weaving X S B) (L : Lawful w) (is_near : B → Ty
               alike beside k c i d x t name same made wx wt done,
             )
 
+        -- or its sum changes
+        changes_here : (hole : Hole (Data X S B)) (change : Change S) → (name == id) ≡ true → Made beside m root (plug hole t) → Some name ≡ above hole → Woven w is_near (shift_at w hole) t → Slack w is_near hole
+            → Valued w is_item is_value (entries w w.still (plug hole t)) → depth hole ≤ n → RightAbove w is_near id hole → change.id ≡ name → Tells m root name change
+            → (next : Tree (Data X S B)) × Changed w is_near is_item is_value beside m2 root2 change n next × (shape next ≡ shape (plug hole t))
+        changes_here top change own made up wt sl v few right named tells = absurd (none-some name (sym up))
+        changes_here (on Left c i d x k) change own made up wt (wx, sl) v few right named tells =
+            let same : name ≡ i = ap (λ o. unwrap_or o 0) up in
+            let (parent, kept, sum) = tells (spot beside k c i d t x name same made wt wx done) (made_here beside k c i d t x name same made wt wx done) in (
+              _,
+              changes beside k c i d t x name same made wt wx done id n change (ap (λ z. z == id) (sym same) ∙ own) parent (named ∙ same) kept sum v (omega (arith, few)) right,
+              alike beside k c i d t x name same made wt wx done,
+            )
+        changes_here (on Right c i d x k) change own made up wt (wx, sl) v few right named tells =
+            let same : name ≡ i = ap (λ o. unwrap_or o 0) up in
+            let (parent, kept, sum) = tells (spot beside k c i d x t name same made wx wt done) (made_here beside k c i d x t name same made wx wt done) in (
+              _,
+              changes beside k c i d x t name same made wx wt done id n change (ap (λ z. z == id) (sym same) ∙ own) parent (named ∙ same) kept sum v (omega (arith, few)) right,
+              alike beside k c i d x t name same made wx wt done,
+            )
+
       pub passes : (at : Option ℕ) (id name n : ℕ) (parent : Option ℕ) (whole : Tree (Data X S B)) {beside : Tree (Data X S B)} → SlackTo w is_near is_item is_value beside m root at id (suc n) whole → at ≡ Some name → (name == id) ≡ false
           → IsRenewed m root m2 root2 name → IsParent m root name parent
           → (next : Tree (Data X S B)) × SlackTo w is_near is_item is_value beside m2 root2 parent id n next × (shape next ≡ shape whole)
@@ -157,23 +202,16 @@ module _ {X S B : Type 0} (w : Weaving X S B) (L : Lawful w) (is_near : B → Ty
       ends_at at id name n whole r e own done stays =
           let (next, sl, alike) = ends_here r.subtree id name n None done r.hole own r.made (sym e ∙ r.up) r.woven r.slack r.values r.right stays in (next, sl, alike ∙ ap shape (sym r.is))
 
+      pub changes_at : (at : Option ℕ) (id name n : ℕ) (whole : Tree (Data X S B)) (change : Change S) {beside : Tree (Data X S B)} → SlackTo w is_near is_item is_value beside m root at id n whole → at ≡ Some name
+          → (name == id) ≡ true → IsRenewed m root m2 root2 name → change.id ≡ name → Tells m root name change → n ≤ 128
+          → (next : Tree (Data X S B)) × Changed w is_near is_item is_value beside m2 root2 change 128 next × (shape next ≡ shape whole)
+      changes_at at id name n whole change r e own done named tells le =
+          let (next, sl, alike) = changes_here r.subtree id name 128 None done r.hole change own r.made (sym e ∙ r.up) r.woven r.slack r.values (omega (arith, le, r.few)) r.right named tells in (next, sl, alike ∙ ap shape (sym r.is))
+
   -- a bound on the nodes above may be greater
   pub fewer_slack : {beside : Tree (Data X S B)} {m : map.FinMap nat_cmp (Slot (Data X S B))} {root at : Option ℕ} (n l : ℕ) (whole : Tree (Data X S B)) → n ≤ l
       → IsSlack w is_near is_item is_value beside m root at n whole → IsSlack w is_near is_item is_value beside m root at l whole
   fewer_slack n l whole le (k, (t, same, made, up, wt, sl, v, few)) = (k, (t, same, made, up, wt, sl, v, omega (arith, le, few)))
-
--- both walks
-module _ {W X S B K : Type 0} (w : Ghosts W X S B K) (old mid : Links (Data X S B)) (from : Option ℕ) (id : ℕ) (next : Option ℕ) where
-  pub slack_above : IsSlackTo w old from id → RenewsTo w old mid from id next → IsSlackFrom w mid next 128
-  unfolding IsSlackTo RenewsTo IsSlackFrom
-  slack_above (l, (reach, (beside, (t, h)))) to = let (u, slack, alike) = to reach beside t h in (reach, (beside, (u, slack)))
-
-  pub renewed_over : (new : Links (Data X S B)) → RenewsTo w old mid from id next → RenewsFrom w mid new next 128 → RenewsOver w old new from id
-  unfolding RenewsTo RenewsFrom RenewsOver
-  renewed_over new to up = λ reach beside t h.
-      let (u, slack, alike) = to reach beside t h in let (v, made, wv, alike2) = up reach beside u slack in (v, made, wv, alike2 ∙ alike)
-
-pub ruleset renewing_over = (slack_above, renewed_over)
 
 module _ {W X S B K : Type 0} (w : Ghosts W X S B K) (old : Links (Data X S B)) (from last : Option ℕ) where
   pub up_from : IsSlackUnder w old from last → last ≡ None → IsSlackFrom w old from 128

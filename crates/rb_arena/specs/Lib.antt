@@ -1,5 +1,7 @@
 pub mod Closing
 pub mod Ends
+mod Examples
+pub mod Exchanging
 pub mod Landing
 pub mod Leaving
 pub mod Mending

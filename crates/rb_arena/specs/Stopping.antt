@@ -7,8 +7,7 @@ use Rattle.rb_rules.specs.declared.slot.Slot.{Slot}
 use Rattle.rb_rules.specs.declared.weave.Weave.{Ghosts}
 use Rattle.rb_rules.specs.Tree.{Tree, Hole, top, on, plug, above, depth}
 use Rattle.rb_rules.specs.Memory.{AtSpot, Made}
-use Rattle.rb_rules.specs.Shape.{shape}
-use Rattle.rb_rules.specs.Sound.{IsSlack, RenewedFrom, Slack, renewed}
+use Rattle.rb_rules.specs.Sound.{RenewedFrom, Slack, renewed}
 use Rattle.rb_rules.specs.Weaving.{Weaving}
 use Rattle.rb_rules.specs.Woven.{entries, sum_of, Woven, Valued, shift_at}
 use Rattle.rb_arena.specs.declared.links.Links.{Links}
@@ -62,9 +61,9 @@ module _ {X S B : Type 0} (w : Weaving X S B) where
   RightIf is_near (Some id) k = RightAbove is_near id k
 
 module _ {W X S B K : Type 0} (w : Ghosts W X S B K) where
-  -- whatever the node's subtrees are, it keeps the sum already that they give
-  unfoldable pub KeepsSum : Links (Data X S B) → ℕ → Type 0
-  KeepsSum tree id = AtSpot tree.nodes.live tree.root id (λ s. (renewed w.weaving s).whole ≡ s.datum.whole)
+  -- whatever the node's subtrees are, that is the sum that they give
+  unfoldable pub GivesSum : Links (Data X S B) → ℕ → S → Type 0
+  GivesSum tree id sum = AtSpot tree.nodes.live tree.root id (λ s. sum ≡ (renewed w.weaving s).whole)
 
   -- whatever shifts it has, this holds of a tree in memory that is slack so
   abbrev pub SlackIn : Links (Data X S B) → Option ℕ → ℕ → B → Tree (Data X S B) → Tree (Data X S B) → Type 0
@@ -74,12 +73,6 @@ module _ {W X S B K : Type 0} (w : Ghosts W X S B K) where
   -- some tree is slack so
   unfoldable pub IsSlackTo : Links (Data X S B) → Option ℕ → ℕ → Type 0
   IsSlackTo tree from id = LawsOf w × ((reach : B) × ((beside : Tree (Data X S B)) × ((t : Tree (Data X S B)) × SlackIn tree from id reach beside t)))
-
-  -- whatever tree it was, it is right now but for the node named next and those above it, and alike but for the sums
-  unfoldable pub RenewsTo : Links (Data X S B) → Links (Data X S B) → Option ℕ → ℕ → Option ℕ → Type 0
-  RenewsTo old new from id next =
-      (reach : B) (beside t : Tree (Data X S B)) → SlackIn old from id reach beside t
-      → (u : Tree (Data X S B)) × IsSlack w.weaving (w.within reach) w.is_item w.is_value beside new.nodes.live new.root next 128 u × (shape u ≡ shape t)
 
   -- whatever tree it was, it is right now, and alike but for the sums
   unfoldable pub RenewsOver : Links (Data X S B) → Links (Data X S B) → Option ℕ → ℕ → Type 0

@@ -1,4 +1,5 @@
 pub mod Colours
+mod Examples
 pub mod Memory
 pub mod Packing
 pub mod Shape

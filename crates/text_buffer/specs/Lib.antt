@@ -1,4 +1,5 @@
 pub mod Text
+pub mod Remembering
 pub mod Places
 pub mod LookUps
 pub mod Along

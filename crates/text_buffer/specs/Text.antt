@@ -1,10 +1,10 @@
 -- A text in pieces of buffers.
-use Rattle.std.specs.Prelude.{ℕ, ◌≡◌, ◌+◌, ◌<◌, ◌^◌, Bool, false, ◌==◌, ◌&&◌, if◌then◌else◌, Option, Some, None, length, List, [], ◌∷◌, ◌++◌, map, IfSome}
+use Rattle.std.specs.Prelude.{ℕ, ◌≡◌, ◌+◌, ◌<◌, ◌^◌, Bool, false, ◌==◌, ◌&&◌, if◌then◌else◌, Option, Some, None, length, List, [], ◌∷◌, ◌++◌, map}
 use Rattle.std.specs.List.{All, flat_map, sum_by}
 use Rattle.chunk_buffers.specs.declared.span.ChunkSpan.{ChunkSpan}
 use Rattle.chunk_buffers.specs.Chunks.{Shown, buffer_at, units_at, LiesIn}
 use Rattle.piece_tree.specs.declared.piece.Piece.{Piece}
-use Rattle.piece_tree.specs.Pieces.{Entry, Pieces, pieces_of, unit_count, IsPieceOf, IsFound}
+use Rattle.piece_tree.specs.Pieces.{Pieces, pieces_of, unit_count, IsPieceOf, IsFound}
 use Rattle.text_buffer.specs.declared.beside.TheConstants.{MOST_ALONG}
 use Rattle.text_buffer.specs.declared.text.TheConstants.{UNITS_AN_EDIT, BREAKS_AN_EDIT}
 use Rattle.piece_tree.specs.declared.piece.Found.{Found}
@@ -52,14 +52,10 @@ pub record IsText (tree : Pieces) (chunks : Shown) : Type 0 where
   -- what is counted in it fits
   pub small : unit_count (pieces_of tree.entries) < 2 ^ 62
 
--- the piece, if there is one, is of those entries, as a look-up tells it
-abbrev pub IsFoundIf : List Entry → Option Found → Type 0
-IsFoundIf entries found = IfSome found (IsFound entries)
-
 -- the pieces and the buffers are a text, and the pieces that are remembered are of those, as a look-up tells them
-pub record IsTextWith (tree : Pieces) (chunks : Shown) (remembered : List (Option Found)) : Type 0 where
+pub record IsTextWith (tree : Pieces) (chunks : Shown) (remembered : List Found) : Type 0 where
   pub text : IsText tree chunks
-  pub found : All (IsFoundIf tree.entries) remembered
+  pub found : All (IsFound tree.entries) remembered
 
 abbrev pub text_of : Pieces → Shown → Text
 text_of tree chunks = record {

@@ -118,7 +118,7 @@ pub(crate) fn units_along(
     units
 }
 
-/// The piece that has the unit so many units before the place, which are taken along.
+/// The piece that has the unit so many units before the place, which are taken along. Where it is the one before the place's, no search is made.
 pub(crate) fn found_before(pieces: &PieceTree, spot: &Spot, along: u64) -> Option<Found>
     requires found { StandsAt pieces.now.entries spot.now.found spot.now.offset }
     requires within { spot.now.offset ≤ unit_count (pieces_of pieces.now.entries) }
@@ -131,6 +131,6 @@ pub(crate) fn found_before(pieces: &PieceTree, spot: &Spot, along: u64) -> Optio
     let from = spot.offset - along;
     match spot.found {
         Some(found) if found.before.units <= from => Some(found),
-        _ => Some(piece_near(pieces, &None, from)),
+        _ => Some(piece_near(pieces, &spot.found, from)),
     }
 }

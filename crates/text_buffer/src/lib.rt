@@ -8,6 +8,7 @@ mod look_up;
 mod place;
 mod queries;
 mod remembered;
+mod seeking;
 mod spot;
 mod text;
 mod walk;

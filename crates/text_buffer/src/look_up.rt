@@ -1,6 +1,8 @@
 //! Look-ups of pieces, and what they say of the text.
 
 ghost use Rattle.std.specs.Prelude.{◌≡◌, ◌+◌, ◌-◌, ◌<◌, ◌≤◌, ◌&&◌, nat_le, nat_lt, List, length, slice_index, IfSome, IsTrue};
+ghost use Rattle.std.specs.List.{All};
+ghost use Rattle.std.specs.Char.Utf16.{is_low_surrogate};
 ghost use Rattle.chunk_buffers.specs.Chunks.{units_at, LiesIn};
 ghost use Rattle.piece_tree.specs.Pieces.{Entry, pieces_of, unit_count, break_count_of, IsFound, HasUnit};
 ghost use Rattle.piece_tree.specs.Costs.{WithinLookUps};
@@ -9,6 +11,7 @@ ghost use Rattle.text_rules.specs.Lines.{line_start};
 ghost use Rattle.text_buffer.specs.Text.{text_of, IsText};
 ghost use Rattle.text_buffer.specs.LookUps.{Has};
 
+use crate::remembered::Remembered;
 use chunk_buffers::Chunks;
 use piece_tree::{Found, PieceTree};
 use std::marker::Brand;
@@ -38,29 +41,22 @@ pub(crate) fn piece_near(pieces: &PieceTree, near: &Option<Found>, offset: u64) 
     piece_near_for::<Brand>(pieces, near, offset, Blank::new(1))
 }
 
-/// The same; None where no piece has such a unit.
-pub(crate) fn found_near(pieces: &PieceTree, near: &Option<Found>, offset: u64) -> Option<Found>
-    requires { IfSome near.now (IsFound pieces.now.entries) }
-    ensures { IfSome result (IsFound pieces.now.entries) }
+/// The piece that has the unit at this offset: a remembered one, or else as `piece_near` finds it.
+pub(crate) fn piece_at(
+    pieces: &PieceTree,
+    remembered: &Remembered,
+    near: &Option<Found>,
+    offset: u64,
+) -> Found
+    requires offset { offset < unit_count (pieces_of pieces.now.entries) }
+    requires remembered { All (IsFound pieces.now.entries) remembered.now }
+    requires near { IfSome near.now (IsFound pieces.now.entries) }
+    ensures { HasUnit pieces.now.entries result offset }
 {
-    if offset < pieces.len() {
-        Some(piece_near(pieces, near, offset))
-    } else {
-        None
+    match remembered.at(offset) {
+        Some(found) => *found,
+        None => piece_near(pieces, near, offset),
     }
-}
-
-/// The piece that has the unit at this offset, near another; None where no piece has such a unit, or that one has it itself.
-pub(crate) fn found_apart(pieces: &PieceTree, first: &Option<Found>, offset: u64) -> Option<Found>
-    requires { IfSome first.now (IsFound pieces.now.entries) }
-    ensures { IfSome result (IsFound pieces.now.entries) }
-{
-    if let Some(found) = first
-        && has(found, Sought::Offset(offset))
-    {
-        return None;
-    }
-    found_near(pieces, first, offset)
 }
 
 fn piece_near_for<L: Ledger>(
@@ -102,19 +98,6 @@ pub(crate) fn unit_near<L: Ledger>(
     pieces.find_offset(offset, steps)
 }
 
-/// The second of two looked-up pieces where it has the unit at the offset, else the first.
-pub(crate) fn nearer(first: Option<Found>, second: Option<Found>, offset: u64) -> Option<Found>
-    ensures { (entries : List Entry) → IfSome first (IsFound entries)
-        → IfSome second (IsFound entries) → IfSome result (IsFound entries) }
-{
-    if let Some(found) = second
-        && has(&found, Sought::Offset(offset))
-    {
-        return Some(found);
-    }
-    first
-}
-
 // The piece that has what is sought, where it is this one or among so many beside it.
 fn piece_beside(pieces: &PieceTree, near: &Found, beside: u32, sought: Sought) -> Option<Found>
     requires { IsFound pieces.now.entries near.now }
@@ -134,8 +117,8 @@ fn piece_beside(pieces: &PieceTree, near: &Found, beside: u32, sought: Sought) -
     }
 }
 
-// The piece beside this one, on the side of what is sought.
-fn piece_toward(pieces: &PieceTree, found: &Found, sought: Sought) -> Option<Found>
+/// The piece beside this one, on the side of what is sought.
+pub(crate) fn piece_toward(pieces: &PieceTree, found: &Found, sought: Sought) -> Option<Found>
     requires { IsFound pieces.now.entries found.now }
     ensures { IfSome result (IsFound pieces.now.entries) }
 {
@@ -170,7 +153,8 @@ fn is_before(found: &Found, sought: Sought) -> bool {
     }
 }
 
-/// Whether the offset, whose unit the piece has, stands inside a pair of surrogates. The unit before it is read without a search.
+/// Whether the offset, whose unit the piece has, stands inside a pair of surrogates. The unit before it is read only where a pair may
+/// end, and then without a search.
 pub(crate) fn cuts_pair_beside(
     pieces: &PieceTree,
     chunks: &Chunks,
@@ -181,11 +165,18 @@ pub(crate) fn cuts_pair_beside(
     requires unit { HasUnit pieces.now.entries found.now offset }
     ensures { result ≡ cuts_pair (text_of pieces.now chunks.now).units offset }
 {
-    if offset == 0 {
+    let unit = unit_in(chunks, found, offset);
+    if offset == 0 || !is_low_surrogate(unit) {
         return false;
     }
     let before = unit_beside(pieces, chunks, found, offset);
-    cuts_pair(&[before, unit_in(chunks, found, offset)], 1)
+    cuts_pair(&[before, unit], 1)
+}
+
+fn is_low_surrogate(unit: u16) -> bool
+    ensures { result ≡ is_low_surrogate unit }
+{
+    0xDC00 <= unit && unit < 0xE000
 }
 
 // The unit before an offset whose own unit the piece has, from that piece or the one before it.

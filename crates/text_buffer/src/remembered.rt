@@ -1,105 +1,130 @@
 //! Pieces that were looked up and are remembered.
 
-ghost use Rattle.std.specs.Prelude.{◌≡◌, ℕ, ◌+◌, ◌<◌, List, IfSome, IsTrue};
+ghost use Rattle.std.specs.Prelude.{◌≡◌, ◌-◌, ◌<◌, ◌≤◌, nat_lt, List, [], length, slice_index_or, IfSome, IsTrue};
 ghost use Rattle.std.specs.List.{All};
-ghost use Rattle.piece_tree.specs.Pieces.{Entry, IsFound};
-ghost use Rattle.text_buffer.specs.Text.{IsFoundIf};
+ghost use Rattle.piece_tree.specs.Pieces.{Entry, IsFound, HasUnit};
+ghost use Rattle.text_buffer.specs.Remembering.{end_of};
 
-use crate::look_up::{Sought, found_apart, found_near, has};
-use arrayvec::ArrayVec;
-use piece_tree::{Found, PieceTree};
-use text_lengths::Span;
-use text_rules::Op;
+use crate::look_up::{Sought, has};
+use piece_tree::Found;
+use std::alloc::{AllocError, Global};
+use std::marker::Model;
 
-/// The most spans whose ends are remembered.
-const MOST_SPANS: usize = 16;
+/// Room for more pieces than that is given back when they are forgotten.
+const MOST_KEPT: usize = 1024;
 
-/// The pieces that were looked up where spans start and end; None where there is no such piece, or it is remembered already.
-pub(crate) type Remembered = ArrayVec<Option<Found>, 32>;
-
-/// Looks up the pieces that have the units where the spans of the ops start and end, and remembers them; for many ops it does nothing.
-pub(crate) fn remember_few(pieces: &PieceTree, ops: &[Op], remembered: &mut Remembered)
-    requires { All (IsFoundIf pieces.now.entries) remembered.old.items }
-    ensures { All (IsFoundIf pieces.now.entries) remembered.new.items }
-{
-    if ops.len() > MOST_SPANS {
-        return;
-    }
-    for op in ops {
-        remember(pieces, op.span, remembered);
-    }
+/// Looked-up pieces of one text, in its order: each starts where the one before it ends, or behind that.
+#[derive(Drop)]
+pub(crate) struct Remembered {
+    pieces: Vec<Found>,
 }
 
-fn remember(pieces: &PieceTree, span: Span, remembered: &mut Remembered)
-    requires { All (IsFoundIf pieces.now.entries) remembered.old.items }
-    ensures { All (IsFoundIf pieces.now.entries) remembered.new.items }
-{
-    if span.start > span.end {
-        return;
-    }
-    let start = found_near(pieces, &None, span.start);
-    let end = found_apart(pieces, &start, span.end);
-    let _start = remembered.try_push(start);
-    let _end = remembered.try_push(end);
+impl Model for Remembered {
+    ghost use Rattle.std.specs.Prelude.{List};
+    ghost use Rattle.std.specs.List.Sorted.{IsNonDecreasingBy};
+    ghost use Rattle.piece_tree.specs.declared.piece.Found.{Found};
+    ghost use Rattle.text_buffer.specs.Remembering.{end_of};
+
+    ghost Value = { List Found };
+
+    ghost view = { λ r. r.pieces.items };
+
+    ghost invariant = { λ r. IsNonDecreasingBy end_of r.pieces.items };
 }
 
-/// The remembered piece that has the unit at this offset, if there is one.
-pub(crate) fn remembered_at(remembered: &Remembered, offset: u64) -> Option<Found>
-    ensures { (entries : List Entry) → All (IsFoundIf entries) remembered.now.items
-        → IfSome result (IsFound entries) }
-{
-    for found in remembered.as_slice() {
-        if has_unit(found, offset) {
-            return *found;
+impl Remembered {
+    pub(crate) fn new(alloc: Global) -> Remembered
+        ensures { result ≡ [] }
+    {
+        Remembered {
+            pieces: Vec::new(alloc),
         }
     }
-    None
-}
 
-fn has_unit(found: &Option<Found>, offset: u64) -> bool {
-    match found {
-        Some(found) => has(found, Sought::Offset(offset)),
-        None => false,
+    /// Forgets all, and makes room for that many pieces. It fails where memory is short.
+    pub(crate) fn restart(&mut self, count: usize) -> Result<(), AllocError>
+        ensures { self.new ≡ [] }
+    {
+        self.pieces.clear();
+        if self.pieces.capacity() > MOST_KEPT {
+            self.pieces.shrink_to_fit();
+        }
+        self.pieces.reserve(count)
     }
-}
 
-/// Forgets the pieces that do not end before the offset, from which on the text changes.
-pub(crate) fn forget_from(remembered: &mut Remembered, offset: u64)
-    ensures { (old new : List Entry) → All (IsFoundIf old) remembered.old.items
-        → ((found : Found) → IsFound old found → found.before.units + found.span.units < offset
-        → IsFound new found)
-        → All (IsFoundIf new) remembered.new.items }
-{
-    // One span has no other before it.
-    if remembered.len() <= 2 {
-        remembered.clear();
-        return;
+    /// The last of them.
+    pub(crate) fn last(&self) -> Option<Found>
+        ensures { (entries : List Entry) → All (IsFound entries) self.now
+            → IfSome result (IsFound entries) }
+    {
+        self.pieces.last().copied()
     }
-    *remembered = ending_before(remembered, offset);
-}
 
-fn ending_before(remembered: &Remembered, offset: u64) -> Remembered
-    ensures { (old new : List Entry) → All (IsFoundIf old) remembered.now.items
-        → ((found : Found) → IsFound old found → found.before.units + found.span.units < offset
-        → IsFound new found)
-        → All (IsFoundIf new) result.items }
-{
-    let mut kept = ArrayVec::new();
-    for found in remembered.as_slice() {
-        if ends_before(found, offset) {
-            let _kept = kept.try_push(*found);
+    /// That of them that has the unit at this offset, if there is one.
+    pub(crate) fn at(&self, offset: u64) -> Option<&Found>
+        ensures { (entries : List Entry) → All (IsFound entries) self.now
+            → IfSome result (λ found. HasUnit entries found.now offset) }
+    {
+        let starting = self
+            .pieces
+            .partition_point(|piece| piece.before.units <= offset);
+        let found = self.pieces.get(starting.checked_sub(1)?)?;
+        if has(found, Sought::Offset(offset)) {
+            Some(found)
+        } else {
+            None
         }
     }
-    kept
+
+    /// Remembers a piece too that stands behind the others, where there is room for it.
+    pub(crate) fn push(&mut self, found: Found)
+        ensures { (entries : List Entry) → All (IsFound entries) self.old → IsFound entries found
+            → All (IsFound entries) self.new }
+    {
+        let has_room = self.pieces.len() < self.pieces.capacity();
+        if has_room && end_by(&self.pieces, found.before.units) {
+            self.pieces.push_reserved(found);
+        }
+    }
+
+    /// Forgets those that do not end before the offset, from which on the text has changed, and remembers a piece that it has there now.
+    pub(crate) fn change_from(&mut self, offset: u64, told: Option<Found>)
+        ensures { (old new : List Entry) → All (IsFound old) self.old
+            → ((found : Found) → IsFound old found → end_of found < offset → IsFound new found)
+            → IfSome told (IsFound new) → All (IsFound new) self.new }
+    {
+        self.forget_from(offset);
+        if let Some(found) = told {
+            self.push(found);
+        }
+    }
+
+    /// Forgets those that do not end before the offset.
+    fn forget_from(&mut self, offset: u64)
+        ensures { (old new : List Entry) → All (IsFound old) self.old
+            → ((found : Found) → IsFound old found → end_of found < offset → IsFound new found)
+            → All (IsFound new) self.new }
+    {
+        let ending = self
+            .pieces
+            .partition_point(|piece| ends_before(piece, offset));
+        self.pieces.truncate(ending);
+    }
 }
 
-fn ends_before(found: &Option<Found>, offset: u64) -> bool
-    ensures { IsTrue result → IfSome found.now (λ piece. piece.before.units + piece.span.units < offset) }
+// Whether the last of the pieces ends at the offset or before it.
+fn end_by(pieces: &[Found], offset: u64) -> bool
+    ensures { IsTrue result → (d : Found) → 0 < length pieces.now
+        → end_of (slice_index_or pieces.now (length pieces.now - 1) d) ≤ offset }
 {
-    match found {
-        Some(piece) if piece.before.units < offset => {
-            (piece.span.units as u64) < offset - piece.before.units
-        }
-        _ => false,
-    }
+    let Some(last) = pieces.last() else {
+        return true;
+    };
+    last.before.units <= offset && last.span.units as u64 <= offset - last.before.units
+}
+
+fn ends_before(piece: &Found, offset: u64) -> bool
+    ensures { result ≡ nat_lt (end_of piece.now) offset }
+{
+    piece.before.units < offset && (piece.span.units as u64) < offset - piece.before.units
 }

@@ -1,6 +1,7 @@
 //! Places of the text, each looked up by one search, and what an edit between two of them meets.
 
 ghost use Rattle.std.specs.Prelude.{◌≡◌, ℕ, ◌+◌, ◌-◌, ◌<◌, ◌≤◌, ◌^◌, ◌++◌, ◌&&◌, not, List, take, drop, IfSome};
+ghost use Rattle.std.specs.List.{All};
 ghost use Rattle.chunk_buffers.specs.Chunks.{LiesIn};
 ghost use Rattle.piece_tree.specs.Pieces.{pieces_of, unit_count, IsFound, HasUnit};
 ghost use Rattle.text_rules.specs.Lines.{line_feed, carriage_return, begins_with};
@@ -9,7 +10,8 @@ ghost use Rattle.text_rules.specs.Dirty.{dirty_lines};
 ghost use Rattle.text_buffer.specs.Text.{text_of, one_if, IsText};
 ghost use Rattle.text_buffer.specs.LookUps.{IsSpot, span_between, units_of};
 
-use crate::look_up::{nearer, piece_near, unit_in};
+use crate::look_up::{piece_at, unit_in};
+use crate::remembered::Remembered;
 use chunk_buffers::{ChunkSpan, Chunks};
 use line_starts::count_breaks;
 use piece_tree::{Found, PieceId, PieceTree};
@@ -28,15 +30,17 @@ pub(crate) struct Spot {
     pub before_feed: bool,
 }
 
-/// The place of this offset, near a piece that may have its unit. It makes one search, or none where that piece or the next one
-/// has it, or at the end.
+/// The place of this offset, by the pieces that are remembered and a piece nearby. It makes one search, or none where one of these has
+/// its unit, or the piece beside that, or at the end.
 pub(crate) fn spot_at(
     pieces: &PieceTree,
     chunks: &Chunks,
+    remembered: &Remembered,
     near: &Option<Found>,
     offset: u64,
 ) -> Spot
     requires text { IsText pieces.now chunks.now }
+    requires remembered { All (IsFound pieces.now.entries) remembered.now }
     requires near { IfSome near.now (IsFound pieces.now.entries) }
     requires within { offset ≤ unit_count (pieces_of pieces.now.entries) }
     ensures spot { IsSpot pieces.now chunks.now result }
@@ -50,26 +54,26 @@ pub(crate) fn spot_at(
             before_feed: false,
         };
     }
-    let found = piece_near(pieces, near, offset);
+    let found = piece_at(pieces, remembered, near, offset);
     Spot {
         offset,
         found: Some(found),
-        after_return: is_after_return(pieces, chunks, &found, offset),
+        after_return: is_after_return(pieces, chunks, remembered, &found, offset),
         before_feed: unit_in(chunks, &found, offset) == LINE_FEED,
     }
 }
 
-/// The place of this offset, from another place at it or before it and from a piece that may have its unit.
+/// The place of this offset, from another place at it or before it.
 pub(crate) fn spot_behind(
     pieces: &PieceTree,
     chunks: &Chunks,
+    remembered: &Remembered,
     start: &Spot,
-    last: Option<Found>,
     offset: u64,
 ) -> Spot
     requires text { IsText pieces.now chunks.now }
+    requires remembered { All (IsFound pieces.now.entries) remembered.now }
     requires start { IsSpot pieces.now chunks.now start.now }
-    requires last { IfSome last (IsFound pieces.now.entries) }
     requires within { offset ≤ unit_count (pieces_of pieces.now.entries) }
     ensures spot { IsSpot pieces.now chunks.now result }
     ensures offset { result.offset ≡ offset }
@@ -77,20 +81,32 @@ pub(crate) fn spot_behind(
     if offset == start.offset {
         return *start;
     }
-    let near = nearer(start.found, last, offset);
-    spot_at(pieces, chunks, &near, offset)
+    spot_at(pieces, chunks, remembered, &start.found, offset)
 }
 
 // Whether a CR stands right before an offset, whose own unit the piece has.
-fn is_after_return(pieces: &PieceTree, chunks: &Chunks, found: &Found, offset: u64) -> bool
+fn is_after_return(
+    pieces: &PieceTree,
+    chunks: &Chunks,
+    remembered: &Remembered,
+    found: &Found,
+    offset: u64,
+) -> bool
     requires text { IsText pieces.now chunks.now }
+    requires remembered { All (IsFound pieces.now.entries) remembered.now }
     requires unit { HasUnit pieces.now.entries found.now offset }
     ensures { result ≡ ends_with carriage_return (take offset (text_of pieces.now chunks.now).units) }
 {
     if found.before.units < offset {
         return unit_in(chunks, found, offset - 1) == CARRIAGE_RETURN;
     }
-    ends_with_return(units_of(chunks, pieces.prev(found.id)))
+    if offset == 0 {
+        return false;
+    }
+    match remembered.at(offset - 1) {
+        Some(before) => unit_in(chunks, before, offset - 1) == CARRIAGE_RETURN,
+        None => ends_with_return(units_of(chunks, pieces.prev(found.id))),
+    }
 }
 
 // The units of a piece, if there is one.

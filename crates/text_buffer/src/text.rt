@@ -16,10 +16,11 @@ ghost use Rattle.text_buffer.specs.Text.{units_beside_text, breaks_beside_text, 
 
 use crate::beside::{MOST_ALONG, MOST_BREAKS_ALONG, found_before, rests_of, units_along};
 use crate::lines::LineReader;
-use crate::look_up::{cuts_pair_beside, nearer, piece_near};
+use crate::look_up::{cuts_pair_beside, piece_at, piece_near};
 use crate::place::{push_line, start_of_line};
 use crate::queries::{offset_in, position_in};
-use crate::remembered::{Remembered, forget_from, remember_few, remembered_at};
+use crate::remembered::Remembered;
+use crate::seeking::look_up_all;
 use crate::spot::{dirty_between, joins_back, joins_front, spot_at, spot_behind};
 use crate::walk::push_span;
 use chunk_buffers::{ChunkSpan, Chunks};
@@ -55,7 +56,7 @@ impl Model for TextBuffer {
 
     ghost view = { λ t. text_of t.pieces t.chunks };
 
-    ghost invariant = { λ t. IsTextWith t.pieces t.chunks t.remembered.items };
+    ghost invariant = { λ t. IsTextWith t.pieces t.chunks t.remembered };
 }
 
 impl TextBuffer {
@@ -67,7 +68,7 @@ impl TextBuffer {
         TextBuffer {
             pieces: PieceTree::new(alloc),
             chunks: Chunks::new(alloc),
-            remembered: Remembered::new(),
+            remembered: Remembered::new(alloc),
         }
     }
 
@@ -86,7 +87,7 @@ impl TextBuffer {
         Ok(TextBuffer {
             pieces,
             chunks,
-            remembered: Remembered::new(),
+            remembered: Remembered::new(alloc),
         })
     }
 
@@ -142,14 +143,13 @@ impl TextBuffer {
         self.pieces.spans(out)
     }
 
-    /// Looks up the pieces that have the units where the spans of the ops start and where they end, where there are such, and remembers
-    /// each until the text is changed at it or before it: what is asked next at these places is answered without a search, and so the
-    /// ops are carried out from the last to the first. It takes no memory, and does nothing for more than 16 ops.
+    /// Looks up the pieces that have the units where the spans of the ops start and end, which come in the order of the text, and
+    /// remembers each until the text is changed at it or before it: what is asked next at these places is answered without a search,
+    /// and so the ops are carried out from the last to the first. Where memory is short it does nothing.
     pub fn seek(&mut self, ops: &[Op])
         ensures { self.new ≡ self.old }
     {
-        self.remembered.clear();
-        remember_few(&self.pieces, ops, &mut self.remembered);
+        look_up_all(&self.pieces, ops, &mut self.remembered);
     }
 
     /// Puts the text in the place of the span, and answers which lines it touched, as `dirty_lines` does. What it leaves of a
@@ -186,10 +186,9 @@ impl TextBuffer {
         ensures after { drop (result.first - 1 + result.new) (lines_of self.new.units)
             ≡ drop (result.first - 1 + result.old) (lines_of self.old.units) }
     {
-        let near = remembered_at(&self.remembered, span.start);
-        let start = spot_at(&self.pieces, &self.chunks, &near, span.start);
-        let last = remembered_at(&self.remembered, span.end);
-        let end = spot_behind(&self.pieces, &self.chunks, &start, last, span.end);
+        let known = &self.remembered;
+        let start = spot_at(&self.pieces, &self.chunks, known, &None, span.start);
+        let end = spot_behind(&self.pieces, &self.chunks, known, &start, span.end);
         let dirty = dirty_between(&self.pieces, &self.chunks, &start, &end, text);
         let rests = rests_of(&self.pieces, &self.chunks, &start, &end, text);
         let front_joins = joins_front(&start, &end, text);
@@ -202,8 +201,8 @@ impl TextBuffer {
         let from = span.start - before.len() as u64;
         let to = span.end + after.len() as u64;
         let added = append_some(&mut self.chunks, before, text, after);
-        self.pieces.splice(at, from, to - from, added, &self.chunks);
-        forget_from(&mut self.remembered, from);
+        let told = self.pieces.splice(at, from, to - from, added, &self.chunks);
+        self.remembered.change_from(from, told);
         dirty
     }
 
@@ -303,10 +302,9 @@ impl TextBuffer {
             drop (result.first - 1 + result.new) lines
             ≡ drop (result.first - 1 + result.old) (lines_of self.now.units) }
     {
-        let near = remembered_at(&self.remembered, span.start);
-        let start = spot_at(&self.pieces, &self.chunks, &near, span.start);
-        let last = remembered_at(&self.remembered, span.end);
-        let end = spot_behind(&self.pieces, &self.chunks, &start, last, span.end);
+        let known = &self.remembered;
+        let start = spot_at(&self.pieces, &self.chunks, known, &None, span.start);
+        let end = spot_behind(&self.pieces, &self.chunks, known, &start, span.end);
         dirty_between(&self.pieces, &self.chunks, &start, &end, text)
     }
 
@@ -318,8 +316,7 @@ impl TextBuffer {
         if start >= self.len() {
             return end == self.len();
         }
-        let near = remembered_at(&self.remembered, start);
-        let first = piece_near(&self.pieces, &near, start);
+        let first = piece_at(&self.pieces, &self.remembered, &None, start);
         if cuts_pair_beside(&self.pieces, &self.chunks, &first, start) {
             return false;
         }
@@ -329,9 +326,7 @@ impl TextBuffer {
         if end >= self.len() {
             return end == self.len();
         }
-        let other = remembered_at(&self.remembered, end);
-        let near = nearer(Some(first), other, end);
-        let last = piece_near(&self.pieces, &near, end);
+        let last = piece_at(&self.pieces, &self.remembered, &Some(first), end);
         !cuts_pair_beside(&self.pieces, &self.chunks, &last, end)
     }
 
@@ -344,8 +339,7 @@ impl TextBuffer {
         ensures err { OnErr result (out.new.items ≡ out.old.items) }
     {
         out.reserve((span.end - span.start) as usize)?;
-        let near = remembered_at(&self.remembered, span.start);
-        push_span(&self.pieces, &self.chunks, &near, span, out);
+        push_span(&self.pieces, &self.chunks, &self.remembered, span, out);
         Ok(())
     }
 

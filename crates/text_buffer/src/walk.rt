@@ -1,25 +1,27 @@
 //! A walk over pieces that begins with one search at most.
 
 ghost use Rattle.std.specs.Prelude.{◌≡◌, ◌+◌, ◌-◌, ◌<◌, ◌≤◌, ◌++◌, length, take, drop, min, vec_len, vec_capacity, IfSome};
+ghost use Rattle.std.specs.List.{All};
 ghost use Rattle.piece_tree.specs.Pieces.{pieces_of, unit_count, IsFound};
 ghost use Rattle.text_buffer.specs.Text.{text_of, IsText};
 
-use crate::look_up::piece_near;
+use crate::look_up::piece_at;
+use crate::remembered::Remembered;
 use chunk_buffers::Chunks;
-use piece_tree::{Found, PieceTree};
+use piece_tree::PieceTree;
 use text_lengths::Span;
 
-/// Appends the units of the span, for which there is room. From the piece where the span starts, which is looked for near a
-/// piece that may have its unit, it goes on from each piece to the next one.
+/// Appends the units of the span, for which there is room. From the piece where the span starts, which may be remembered, it goes on
+/// from each piece to the next one.
 pub(crate) fn push_span(
     pieces: &PieceTree,
     chunks: &Chunks,
-    near: &Option<Found>,
+    remembered: &Remembered,
     span: Span,
     out: &mut Vec<u16>,
 )
     requires text { IsText pieces.now chunks.now }
-    requires near { IfSome near.now (IsFound pieces.now.entries) }
+    requires remembered { All (IsFound pieces.now.entries) remembered.now }
     requires ordered { span.start ≤ span.end }
     requires within { span.end ≤ unit_count (pieces_of pieces.now.entries) }
     requires room { vec_len out.old + (span.end - span.start) ≤ vec_capacity out.old }
@@ -29,7 +31,7 @@ pub(crate) fn push_span(
     if span.start == span.end {
         return;
     }
-    let found = piece_near(pieces, near, span.start);
+    let found = piece_at(pieces, remembered, &None, span.start);
     let (_, rest) = chunks
         .units(found.span)
         .split_at((span.start - found.before.units) as usize);

@@ -1,4 +1,4 @@
-use Rattle.std.proofs.Common.{ℕ, ◌++◌, ◌∷◌, [], refl, ap, sym, ◌∙◌, append_assoc, arith}
+use Rattle.std.proofs.Common.{ℕ, Some, ◌++◌, ◌∷◌, [], refl, ap, sym, ◌∙◌, append_assoc, arith}
 use Rattle.piece_tree.specs.declared.piece.Piece.{Piece}
 use Rattle.piece_tree.specs.Pieces.{piece_of}
 use Rattle.piece_tree.specs.Inside.{in_order}
@@ -51,3 +51,11 @@ returns-clause-front c = λ us x vs e.
     let own : ℕ × Piece = (c.args.id, c.piece_of-own.result) in
     let place = c.set_and_insert_after-other.ensures.items us x vs e ∙ sym (append_assoc us (own ∷ []) ((c.set_and_insert_after-other.result, c.rest_of-rest.result) ∷ vs)) in
     front_more (us ++ own ∷ []) us c.put_two.new.tree.items (own ∷ [], refl) (c.put_two.ensures.front (us ++ own ∷ []) c.rest_of-rest.result vs place)
+
+pub returns-clause-first : goal.returns-clause-first
+returns-clause-first c = λ us x vs e.
+    let id = c.args.id in
+    let own : ℕ × Piece = (id, c.piece_of-own.result) in
+    let place = c.set_and_insert_after-other.ensures.items us x vs e ∙ sym (append_assoc us (own ∷ []) ((c.set_and_insert_after-other.result, c.rest_of-rest.result) ∷ vs)) in
+    let (ws, kept) = c.put_two.ensures.front (us ++ own ∷ []) c.rest_of-rest.result vs place in
+    (id, (ws, ap (λ (p : Piece). Some (id, p)) c.piece_of-own.ensures, kept ∙ append_assoc us (own ∷ []) ws ∙ ap (λ (p : Piece). us ++ (id, p) ∷ ws) c.piece_of-own.ensures))

@@ -1,13 +1,12 @@
-use Rattle.std.proofs.Common.{◌+◌, ◌∙◌, arith}
-use Rattle.piece_tree.specs.Inside.{in_order}
-use Rattle.piece_tree.proofs.Cuts.{span_few, pieces_few}
+use Rattle.std.proofs.Common.{◌+◌, ◌≤◌, ◌++◌, sym, subst, ◌∙◌, arith}
+use Rattle.std.specs.Option.{IfSome}
+use Rattle.piece_tree.specs.Pieces.{IsFound, piece_list, followed_by}
+use Rattle.piece_tree.specs.Inside.{entries_of, in_order}
+use Rattle.piece_tree.proofs.Cuts.{pieces_few}
 use Rattle.piece_tree.proofs.Runs.{run_there, first_fits, spliced_put, room_put}
 use Rattle.piece_tree.proofs.Fronts.{keeps_before}
+use Rattle.piece_tree.proofs.Heads.{heads_found, heads_near, heads_none}
 use Rattle.piece_tree.proofs.edits.replace_units.Goals as goal
-
-pub insert_first-requires-clause-value : goal.insert_first-requires-clause-value
-insert_first-requires-clause-value c =
-    span_few c.args.chunks.now.buffers c.piece_of.result c.in-Some-span.span (c.requires.inside c.in-Some-span.span c.in-Some-span.is) c.piece_of.ensures
 
 pub gather-run-requires-clause-few : goal.gather-run-requires-clause-few
 gather-run-requires-clause-few c = pieces_few c.args.chunks.now.buffers (in_order c.args.tree.now.items) c.requires.pieces
@@ -17,16 +16,16 @@ rest_behind-right-requires-clause-run c =
     let is = c.in-Some.ensures in let h = c.gather-run.ensures.run is.earlier is.piece is.later is.place in
     run_there c.args.chunks.now.buffers c.args.offset (c.args.offset + c.args.deleted) c.args.span c.args.tree.now.items c.gather-run.new.tree.items c.in-Some.cut c.gather-run.result is h c.requires.pieces
 
-pub put-requires-clause-left : goal.put-requires-clause-left
-put-requires-clause-left c = λ left eq.
+pub put-first-requires-clause-left : goal.put-first-requires-clause-left
+put-first-requires-clause-left c = λ left eq.
     let is = c.in-Some.ensures in let h = c.gather-run.ensures.run is.earlier is.piece is.later is.place in
     let r = c.rest_behind-right.ensures.left is.earlier h.whole h.later h.place in
     let more =
     first_fits c.args.chunks.now.buffers c.args.offset (c.args.offset + c.args.deleted) c.args.span c.args.tree.now.items c.gather-run.new.tree.items c.in-Some.cut c.gather-run.result is h c.requires.pieces in
     (is.earlier, (h.whole, (r.later, r.place, omega (arith, more, is.within left eq))))
 
-pub put-requires-clause-fits : goal.put-requires-clause-fits
-put-requires-clause-fits c =
+pub put-first-requires-clause-fits : goal.put-first-requires-clause-fits
+put-first-requires-clause-fits c =
     let is = c.in-Some.ensures in let h = c.gather-run.ensures.run is.earlier is.piece is.later is.place in
     let r = c.rest_behind-right.ensures.left is.earlier h.whole h.later h.place in
     let room =
@@ -38,7 +37,7 @@ pub returns-clause-spliced : goal.returns-clause-spliced
 returns-clause-spliced c =
     let is = c.in-Some.ensures in let h = c.gather-run.ensures.run is.earlier is.piece is.later is.place in
     let r = c.rest_behind-right.ensures.left is.earlier h.whole h.later h.place in
-    c.put.ensures.items is.earlier h.whole r.later r.place
+    c.put-first.ensures.items is.earlier h.whole r.later r.place
     ∙ spliced_put c.args.chunks.now.buffers c.args.offset (c.args.offset + c.args.deleted) c.args.span c.args.tree.now.items c.gather-run.new.tree.items c.in-Some.cut c.gather-run.result is h c.requires.pieces
     c.rest_behind-right.new.tree.items c.rest_behind-right.result r
 
@@ -46,4 +45,32 @@ pub returns-clause-front : goal.returns-clause-front
 returns-clause-front c =
     let is = c.in-Some.ensures in let h = c.gather-run.ensures.run is.earlier is.piece is.later is.place in
     let r = c.rest_behind-right.ensures.left is.earlier h.whole h.later h.place in
-    keeps_before c.args.offset c.args.tree.now.items c.put.new.tree.items is.earlier c.in-Some.cut.id is.piece is.later is.place is.reach (c.put.ensures.front is.earlier h.whole r.later r.place)
+    keeps_before c.args.offset c.args.tree.now.items c.put-first.new.tree.items is.earlier c.in-Some.cut.id is.piece is.later is.place is.reach (c.put-first.ensures.front is.earlier h.whole r.later r.place)
+
+pub returns-clause-told : goal.returns-clause-told
+returns-clause-told c =
+    let b = c.args.chunks.now.buffers in
+    let is = c.in-Some.ensures in let h = c.gather-run.ensures.run is.earlier is.piece is.later is.place in
+    let r = c.rest_behind-right.ensures.left is.earlier h.whole h.later h.place in
+    let new = c.put-first.new.tree.items in let before = c.in-Some.cut.before in
+    subst (λ o. IfSome o (IsFound (entries_of new))) (sym c.found_first.ensures)
+    (heads_found is.earlier (followed_by b (piece_list b c.in-Some.cut.left) c.args.span ++ piece_list b c.rest_behind-right.result) c.put-first.result new before is.before
+    (c.put-first.ensures.first is.earlier h.whole r.later r.place))
+
+pub returns-clause-near : goal.returns-clause-near
+returns-clause-near c =
+    let b = c.args.chunks.now.buffers in
+    let is = c.in-Some.ensures in let h = c.gather-run.ensures.run is.earlier is.piece is.later is.place in
+    let r = c.rest_behind-right.ensures.left is.earlier h.whole h.later h.place in
+    let new = c.put-first.new.tree.items in let before = c.in-Some.cut.before in
+    subst (λ o. IfSome o (λ found. (found.before.units ≤ c.args.offset) × (c.args.offset ≤ found.before.units + found.span.units))) (sym c.found_first.ensures)
+    (heads_near b is.earlier (piece_list b c.rest_behind-right.result) new c.in-Some.cut.left c.args.span c.put-first.result before c.args.offset is.before is.begins
+    (c.put-first.ensures.first is.earlier h.whole r.later r.place))
+
+pub returns-clause-none : goal.returns-clause-none
+returns-clause-none c = λ none.
+    let b = c.args.chunks.now.buffers in
+    let is = c.in-Some.ensures in let h = c.gather-run.ensures.run is.earlier is.piece is.later is.place in
+    let r = c.rest_behind-right.ensures.left is.earlier h.whole h.later h.place in
+    heads_none b is.earlier (piece_list b c.rest_behind-right.result) c.put-first.new.tree.items c.in-Some.cut.left c.args.span c.put-first.result c.in-Some.cut.before
+    (sym c.found_first.ensures ∙ none) (c.put-first.ensures.first is.earlier h.whole r.later r.place)

@@ -1,13 +1,11 @@
-use Rattle.std.proofs.Common.{◌≡◌, ℕ, suc, ◌-◌, ◌+◌, ◌≤◌, ◌∙◌, Bool, true, false, cond, IsTrue, Option, Some, None, sym, ap, refl, subst, arith}
-use Rattle.rb_rules.specs.declared.slot.Data.{Data}
-use Rattle.rb_rules.specs.Tree.{Tree}
-use Rattle.rb_rules.specs.Shape.{shape}
-use Rattle.rb_rules.specs.Sound.{IsSlack}
-use Rattle.rb_rules.proofs.Climbs.{renew_ready, climbed, none_left}
+use Rattle.std.proofs.Common.{◌≡◌, suc, ◌-◌, ◌+◌, ◌∙◌, sym, ap, arith}
+use Rattle.rb_rules.proofs.Climbs.{renew_ready, none_left}
 use Rattle.rb_rules.proofs.Wider.{can_renew_wider}
+use Rattle.rb_arena.specs.Exchanging.{RenewsTo}
 use Rattle.rb_arena.specs.Relative.{CanRenewNode, LawsOf, Renews}
-use Rattle.rb_arena.specs.Stopping.{IsSlackTo, KeepsSum, RenewsTo}
-use Rattle.rb_arena.proofs.Stopping.{as_slack, ends_at, fewer_slack, passes}
+use Rattle.rb_arena.specs.Stopping.{IsSlackTo}
+use Rattle.rb_arena.proofs.Exchanging.{last_renewed}
+use Rattle.rb_arena.proofs.Stopping.{as_slack, fewer_slack, passes}
 use Rattle.rb_arena.proofs.climb.renew_to.Given.{Over}
 use Rattle.rb_arena.proofs.climb.renew_to.Goals as goal
 
@@ -22,18 +20,18 @@ returns-in_default-clause-made g c = λ reach beside whole h.
     let slack = as_slack t.weaving laws.laws (t.within reach) t.is_item t.is_sum t.is_value laws.sums laws.parts l.tree.nodes.live l.tree.root l.at c.args.last (128 - l._turn) now sl in
     (now, fewer_slack t.weaving laws.laws (t.within reach) t.is_item t.is_sum t.is_value laws.sums laws.parts (128 - l._turn) 128 now (omega arith) (rw c.in_default.is at slack), alike)
 
-pub node_of-parent-requires : goal.node_of-parent-requires
+pub node_of-slot-requires : goal.node_of-slot-requires
 unfolding IsSlackTo RenewsTo
-node_of-parent-requires g c =
+node_of-slot-requires g c =
     let t = g.W.Weave in let laws = g.met.W.Weave in let l = c.loop-turn in
     let (reach, (beside, (whole, h))) = c.requires.1 in let (now, sl, alike) = l.invariant.0 reach beside whole h in
     let slack = as_slack t.weaving laws.laws (t.within reach) t.is_item t.is_sum t.is_value laws.sums laws.parts l.tree.nodes.live l.tree.root l.at c.args.last (128 - l._turn) now sl in
     let (s, made, wl, wr, v) = renew_ready t.weaving laws.laws (t.within reach) t.is_item t.is_sum t.is_value laws.sums laws.parts l.tree.nodes.live l.tree.root c.in-Some.id (128 - l._turn) now (rw c.in-Some.is at slack) in
     (s, made)
 
-pub renew-same-requires : goal.renew-same-requires
+pub renew-sum-requires : goal.renew-sum-requires
 unfolding IsSlackTo RenewsTo CanRenewNode
-renew-same-requires g c =
+renew-sum-requires g c =
     let t = g.W.Weave in let laws = g.met.W.Weave in let l = c.loop-turn in
     let (reach, (beside, (whole, h))) = c.requires.1 in let (now, sl, alike) = l.invariant.0 reach beside whole h in
     let slack = as_slack t.weaving laws.laws (t.within reach) t.is_item t.is_sum t.is_value laws.sums laws.parts l.tree.nodes.live l.tree.root l.at c.args.last (128 - l._turn) now sl in (
@@ -43,32 +41,25 @@ renew-same-requires g c =
     )
 
 pub returns-then-is-clause-made : goal.returns-then-is-clause-made
-unfolding IsSlackTo RenewsTo Renews KeepsSum
+unfolding IsSlackTo RenewsTo
 returns-then-is-clause-made g c = λ reach beside whole h.
-    let t = g.W.Weave in let laws = g.met.W.Weave in let l = c.loop-turn in let z = c.renew-same.new.tree in let (now, sl, alike) = l.invariant.0 reach beside whole h in
-    let fewer : 128 - l._turn ≡ suc (128 - (l._turn + 1)) = omega (arith, c.loop-turn-test.true) in
-    let slack = as_slack t.weaving laws.laws (t.within reach) t.is_item t.is_sum t.is_value laws.sums laws.parts l.tree.nodes.live l.tree.root l.at c.args.last (128 - l._turn) now sl in
-    let (next, sl2, alike2) = elim c.renew-same.result as (λ b. (IsTrue b → KeepsSum t l.tree c.in-Some.id)
-    → (u : Tree (Data g.row.W-Item.Denot g.row.W-Sum.Denot g.row.W-By.Denot)) × IsSlack t.weaving (t.within reach) t.is_item t.is_value beside z.nodes.live z.root (cond b None c.node_of-parent.result.parent) 128 u × (shape u ≡ shape now)) [
-      | true ↦ λ keeps. ends_at t.weaving laws.laws (t.within reach) t.is_item t.is_sum t.is_value laws.sums laws.parts l.tree.nodes.live l.tree.root z.nodes.live z.root l.at c.args.last c.in-Some.id (128 - l._turn) now sl c.in-Some.is
-          (sym c.is.ensures ∙ c.if-is.true) c.renew-same.ensures.made (keeps refl)
-      | false ↦ λ keeps. let (u, slack2, same) = climbed t.weaving laws.laws (t.within reach) t.is_item t.is_sum t.is_value laws.sums laws.parts l.tree.nodes.live l.tree.root z.nodes.live z.root c.node_of-parent.result.parent c.in-Some.id (128 - (l._turn + 1)) now
-          (rw (c.in-Some.is, fewer) at slack) c.renew-same.ensures.made (λ s made. ap (λ n. n.parent) (c.node_of-parent.ensures.slot s made)) in (u, fewer_slack t.weaving laws.laws (t.within reach) t.is_item t.is_sum t.is_value laws.sums laws.parts (128 - (l._turn + 1)) 128 u (omega arith) slack2, same)
-    ] c.renew-same.ensures.same in
-    (next, rw (sym c.wrong_above.ensures) at sl2, alike2 ∙ alike)
+    let l = c.loop-turn in let (now, sl, alike) = l.invariant.0 reach beside whole h in
+    let (next, right, alike2) = last_renewed g.W.Weave (the_laws g) l.tree c.renew-sum.new.tree reach beside now l.at c.args.last c.in-Some.id (128 - l._turn) sl (omega arith) c.in-Some.is (sym c.is.ensures ∙ c.if-is.true) c.renew-sum.ensures.made
+    c.node_of-slot.result c.node_of-slot.ensures.slot c.renew-sum.result c.renew-sum.ensures.sum c.change_of.result c.change_of.ensures.same c.change_of.ensures.changed in
+    (next, right, alike2 ∙ alike)
 
 pub loop-turn-preserved : goal.loop-turn-preserved
 unfolding IsSlackTo RenewsTo Renews
 loop-turn-preserved g c =
-    let t = g.W.Weave in let laws = g.met.W.Weave in let l = c.loop-turn in let z = c.renew-same.new.tree in (
+    let t = g.W.Weave in let laws = g.met.W.Weave in let l = c.loop-turn in let z = c.renew-sum.new.tree in (
       (λ reach beside whole h.
           let (now, sl, alike) = l.invariant.0 reach beside whole h in
           let fewer : 128 - l._turn ≡ suc (128 - (l._turn + 1)) = omega (arith, c.loop-turn-test.true) in
           let (next, sl2, alike2) = passes t.weaving laws.laws (t.within reach) t.is_item t.is_sum t.is_value laws.sums laws.parts l.tree.nodes.live l.tree.root z.nodes.live z.root l.at c.args.last c.in-Some.id (128 - (l._turn + 1))
-          c.node_of-parent.result.parent now (rw fewer at sl) c.in-Some.is (sym c.is.ensures ∙ c.if-is.false) c.renew-same.ensures.made (λ s made. ap (λ n. n.parent) (c.node_of-parent.ensures.slot s made)) in
+          c.node_of-slot.result.parent now (rw fewer at sl) c.in-Some.is (sym c.is.ensures ∙ c.if-is.false) c.renew-sum.ensures.made (λ s made. ap (λ n. n.parent) (c.node_of-slot.ensures.slot s made)) in
           (next, sl2, alike2 ∙ alike)),
-      c.renew-same.ensures.spare ∙ l.invariant.1,
-      c.renew-same.ensures.as_many ∙ l.invariant.2,
+      c.renew-sum.ensures.spare ∙ l.invariant.1,
+      c.renew-sum.ensures.as_many ∙ l.invariant.2,
     )
 
 pub returns-clause-made : goal.returns-clause-made

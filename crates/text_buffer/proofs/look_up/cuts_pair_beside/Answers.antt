@@ -1,19 +1,39 @@
-use Rattle.std.proofs.Common.{◌-◌, ◌&&◌, get_or, ap, sym, ◌∙◌, arith}
+use Rattle.std.proofs.Common.{◌≡◌, ◌-◌, ◌&&◌, Bool, true, false, get_or, ap, refl, sym, ◌∙◌, arith}
+use Rattle.std.specs.Prelude.{nat_lt}
 use Rattle.std.specs.Char.Utf16.{is_high_surrogate, is_low_surrogate}
 use Rattle.std.proofs.lemmas.Bool.{lt-ltb}
 use Rattle.piece_tree.specs.Pieces.{pieces_of}
+use Rattle.unit_text.specs.Units.{cuts_pair}
 use Rattle.text_buffer.specs.Text.{spelled}
 use Rattle.text_buffer.proofs.Found.{found_inside, found_unit}
 use Rattle.text_buffer.proofs.look_up.cuts_pair_beside.Goals as goal
+use Rattle.text_buffer.proofs.look_up.cuts_pair_beside.Goals.{then-offset-eq0-via-then-offset-eq0, then-offset-eq0-via-else-offset-eq0+then-not-is_low_surrogate}
 
-pub unit_in-requires-clause-inside : goal.unit_in-requires-clause-inside
-unit_in-requires-clause-inside c = found_inside c.args.chunks.now.buffers c.args.pieces.now.entries c.args.found.now c.requires.unit.piece c.requires.text.pieces
+no_pair : (a b : Bool) → (a && b && false) ≡ false
+no_pair false b = refl
+no_pair true false = refl
+no_pair true true = refl
+
+pub unit_in-unit-requires-clause-inside : goal.unit_in-unit-requires-clause-inside
+unit_in-unit-requires-clause-inside c = found_inside c.args.chunks.now.buffers c.args.pieces.now.entries c.args.found.now c.requires.unit.piece c.requires.text.pieces
+
+pub returns-then-offset-eq0 : goal.returns-then-offset-eq0
+returns-then-offset-eq0 c =
+    let x = spelled c.args.chunks.now.buffers (pieces_of c.args.pieces.now.entries) in
+    let unit = c.unit_in-unit.ensures ∙ sym (found_unit c.args.chunks.now.buffers c.args.pieces.now.entries c.args.found.now c.requires.unit.piece c.requires.text.pieces c.args.offset c.requires.unit.start c.requires.unit.end) in
+    elim c.then-offset-eq0.branch [
+      | then-offset-eq0-via-then-offset-eq0 w ↦ sym (ap (cuts_pair x) w.if-offset-eq0.true)
+      | then-offset-eq0-via-else-offset-eq0+then-not-is_low_surrogate w ↦
+          let none = ap is_low_surrogate (sym unit) ∙ sym w.is_low_surrogate.ensures ∙ w.if-not-is_low_surrogate.true in
+          sym (ap (λ t. nat_lt 0 c.args.offset && is_high_surrogate (get_or x (c.args.offset - 1) 0) && t) none
+          ∙ no_pair (nat_lt 0 c.args.offset) (is_high_surrogate (get_or x (c.args.offset - 1) 0)))
+    ]
 
 pub returns : goal.returns
 returns c =
     let x = spelled c.args.chunks.now.buffers (pieces_of c.args.pieces.now.entries) in
-    let unit = c.unit_in.ensures ∙ sym (found_unit c.args.chunks.now.buffers c.args.pieces.now.entries c.args.found.now c.requires.unit.piece c.requires.text.pieces c.args.offset c.requires.unit.start c.requires.unit.end) in
+    let unit = c.unit_in-unit.ensures ∙ sym (found_unit c.args.chunks.now.buffers c.args.pieces.now.entries c.args.found.now c.requires.unit.piece c.requires.text.pieces c.args.offset c.requires.unit.start c.requires.unit.end) in
     c.cuts_pair.ensures
-    ∙ ap (λ u. is_high_surrogate u && is_low_surrogate c.unit_in.result) c.unit_beside-before.ensures
+    ∙ ap (λ u. is_high_surrogate u && is_low_surrogate c.unit_in-unit.result) c.unit_beside-before.ensures
     ∙ ap (λ u. is_high_surrogate (get_or x (c.args.offset - 1) 0) && is_low_surrogate u) unit
-    ∙ ap (λ t. t && is_high_surrogate (get_or x (c.args.offset - 1) 0) && is_low_surrogate (get_or x c.args.offset 0)) (sym (lt-ltb 0 c.args.offset (omega arith)))
+    ∙ ap (λ t. t && is_high_surrogate (get_or x (c.args.offset - 1) 0) && is_low_surrogate (get_or x c.args.offset 0)) (sym (lt-ltb 0 c.args.offset (omega (arith, c.if-offset-eq0.false))))

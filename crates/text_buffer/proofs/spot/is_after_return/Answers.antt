@@ -1,4 +1,4 @@
-use Rattle.std.proofs.Common.{◌≡◌, ◌-◌, ◌==◌, ◌≤◌, ◌++◌, ℕ, List, length, take, ap, sym, subst, ◌∙◌, arith}
+use Rattle.std.proofs.Common.{◌≡◌, ◌-◌, ◌==◌, ◌≤◌, ◌<◌, ◌++◌, ℕ, List, length, take, ap, sym, subst, ◌∙◌, arith}
 use Rattle.std.specs.Prelude.{IfSome}
 use Rattle.std.proofs.lemmas.List.{take_at}
 use Rattle.chunk_buffers.specs.Chunks.{LiesIn}
@@ -35,8 +35,8 @@ units_of-requires c =
     subst (λ o. IfSome o (λ named. LiesIn b named.1)) (sym (c.prev.ensures is.earlier is.later _ is.place))
     (last_inside b is.earlier (all_earlier b c.args.pieces.now.entries c.args.found.now is c.requires.text.pieces))
 
-pub returns : goal.returns
-returns c =
+pub returns-in-None : goal.returns-in-None
+returns-in-None c =
     let b = c.args.chunks.now.buffers in
     let es = c.args.pieces.now.entries in
     let found = c.args.found.now in
@@ -50,3 +50,22 @@ returns c =
     c.ends_with_return.ensures ∙ ap (ends_with carriage_return) (c.units_of.ensures ∙ ap (units_of b) (c.prev.ensures is.earlier is.later _ is.place))
     ∙ sym (ends_with-last b is.earlier (all_earlier b es found is all) (full_earlier b es found is all c.requires.text.full c.requires.text.unsplit))
     ∙ ap (ends_with carriage_return) (sym front)
+
+pub unit_in-requires-in-Some-clause-inside : goal.unit_in-requires-in-Some-clause-inside
+unit_in-requires-in-Some-clause-inside c =
+    let es = c.args.pieces.now.entries in
+    let there = c.in-Some.ensures es c.requires.remembered in
+    found_inside c.args.chunks.now.buffers es c.in-Some.before.now there.piece c.requires.text.pieces
+
+pub returns-in-Some : goal.returns-in-Some
+returns-in-Some c =
+    let b = c.args.chunks.now.buffers in
+    let es = c.args.pieces.now.entries in
+    let x : List ℕ = spelled b (pieces_of es) in
+    let before = c.in-Some.before.now in
+    let there = c.in-Some.ensures es c.requires.remembered in
+    let all = c.requires.text.pieces in
+    let unit = c.unit_in-in-Some.ensures ∙ sym (found_unit b es before there.piece all (c.args.offset - 1) there.start there.end) in
+    let some : 0 < c.args.offset = omega (arith, c.if-offset-eq0.false) in
+    let within : c.args.offset ≤ length x = omega (arith, some, there.end, found_reach b es before there.piece all) in
+    ap (λ (u : ℕ). u == carriage_return) unit ∙ sym (ends_with_at x c.args.offset some within)

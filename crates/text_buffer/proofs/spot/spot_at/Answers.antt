@@ -36,7 +36,7 @@ returns-then-offset-len-clause-spot c =
 
 pub unit_in-requires-clause-inside : goal.unit_in-requires-clause-inside
 unit_in-requires-clause-inside c =
-    found_inside c.args.chunks.now.buffers c.args.pieces.now.entries c.piece_near-found.result c.piece_near-found.ensures.piece c.requires.text.pieces
+    found_inside c.args.chunks.now.buffers c.args.pieces.now.entries c.piece_at-found.result c.piece_at-found.ensures.piece c.requires.text.pieces
 
 pub returns-clause-spot : goal.returns-clause-spot
 returns-clause-spot c =
@@ -44,11 +44,11 @@ returns-clause-spot c =
     let es = c.args.pieces.now.entries in
     let offset : ℕ = c.args.offset in
     let x : List ℕ = spelled b (pieces_of es) in
-    let found = c.piece_near-found.result in
-    let unit = c.unit_in.ensures ∙ sym (found_unit b es found c.piece_near-found.ensures.piece c.requires.text.pieces offset c.piece_near-found.ensures.start c.piece_near-found.ensures.end) in
+    let found = c.piece_at-found.result in
+    let unit = c.unit_in.ensures ∙ sym (found_unit b es found c.piece_at-found.ensures.piece c.requires.text.pieces offset c.piece_at-found.ensures.start c.piece_at-found.ensures.end) in
     let first = get_or-drop offset x 0 0 ∙ ap (λ (n : ℕ). get_or x n 0) (add-zero offset) in
     record {
-      found = c.piece_near-found.ensures;
+      found = c.piece_at-found.ensures;
       after_return = c.is_after_return.ensures;
       before_feed = ap (λ (u : ℕ). u == line_feed) (unit ∙ sym first) ∙ sym (begins_with_first (drop offset x));
       small = omega (arith, length-spelled b (pieces_of es) c.requires.text.pieces, c.len.ensures.sum, c.len.ensures.small);

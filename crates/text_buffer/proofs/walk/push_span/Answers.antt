@@ -7,22 +7,22 @@ use Rattle.text_buffer.proofs.Walks.{walk_starts, walk_among, walk_goes_on, walk
 use Rattle.text_buffer.proofs.walk.push_span.Goals as goal
 
 pub units-requires : goal.units-requires
-units-requires c = found_inside c.args.chunks.now.buffers c.args.pieces.now.entries c.piece_near-found.result c.piece_near-found.ensures.piece c.requires.text.pieces
+units-requires c = found_inside c.args.chunks.now.buffers c.args.pieces.now.entries c.piece_at-found.result c.piece_at-found.ensures.piece c.requires.text.pieces
 
 pub split_at-requires : goal.split_at-requires
 split_at-requires c =
-    let size = found_size c.args.chunks.now.buffers c.args.pieces.now.entries c.piece_near-found.result c.piece_near-found.ensures.piece c.requires.text.pieces in
+    let size = found_size c.args.chunks.now.buffers c.args.pieces.now.entries c.piece_at-found.result c.piece_at-found.ensures.piece c.requires.text.pieces in
     omega (arith, size, ap length c.units.ensures)
 
 pub loop-left-init : goal.loop-left-init
 loop-left-init c =
     let start : ℕ = c.args.span.start in
     let most : ℕ = c.args.span.end - start in
-    let found = c.piece_near-found.result in
+    let found = c.piece_at-found.result in
     let text = length-spelled c.args.chunks.now.buffers (pieces_of c.args.pieces.now.entries) c.requires.text.pieces in record {
-      walked = walk_starts c.args.chunks.now.buffers c.args.pieces.now.entries found c.piece_near-found.ensures.piece c.requires.text.pieces start most
+      walked = walk_starts c.args.chunks.now.buffers c.args.pieces.now.entries found c.piece_at-found.ensures.piece c.requires.text.pieces start most
           (most - c.push_first-left.result) c.args.out.now.items c.push_first-left.new.out.items c.split_at.result.1.now
-          c.piece_near-found.ensures.start c.piece_near-found.ensures.end (omega (arith, text, c.requires.within))
+          c.piece_at-found.ensures.start c.piece_at-found.ensures.end (omega (arith, text, c.requires.within))
           (c.split_at.ensures.back ∙ ap (drop (start - found.before.units)) c.units.ensures) c.push_first-left.ensures.items
           (ap (λ n. most - n) c.push_first-left.ensures.count);
       room = c.push_first-left.ensures.room;

@@ -12,20 +12,20 @@ pub invariant_of-self : goal.invariant_of-self
 invariant_of-self c =
     let b = c.args.chunks.now.buffers in let ps = in_order c.self.inside.tree.items in let end = c.args.offset + c.args.deleted in
     let shown = ap (λ v. unit_count (pieces_of v.entries)) c.self.view_is in let all = subst (All (IsPieceOf b)) (sym (ap (λ v. pieces_of v.entries) c.self.view_is)) c.requires.pieces in
-    let order : in_order c.replace_units.new.tree.items ≡ spliced b c.args.offset end c.args.span ps = c.replace_units.ensures.spliced in record {
+    let order : in_order c.replace_units-first.new.tree.items ≡ spliced b c.args.offset end c.args.span ps = c.replace_units-first.ensures.spliced in record {
       small = omega (arith, ap unit_count order, units-spliced b c.args.offset end c.args.span ps (omega (arith, shown, c.requires.range)), shown, c.requires.range, c.requires.small);
       few = subst (All few_breaks) (sym order) (pieces_few b _ (pieces-spliced b c.args.offset end c.args.span ps c.requires.inside all));
-      room = omega (arith, c.self.invariant.room, c.replace_units.ensures.room);
+      room = omega (arith, c.self.invariant.room, c.replace_units-first.ensures.room);
     }
 
 pub returns-clause-spliced : goal.returns-clause-spliced
 returns-clause-spliced c =
     let b = c.args.chunks.now.buffers in
-    c.replace_units.ensures.spliced
+    c.replace_units-first.ensures.spliced
     ∙ ap (λ v. spliced b c.args.offset (c.args.offset + c.args.deleted) c.args.span (pieces_of v.entries)) c.self.view_is
 
 pub returns-clause-front : goal.returns-clause-front
 returns-clause-front c = λ found is less.
     let items = c.self.inside.tree.items in
     let was = subst (λ (v : Pieces). IsFound v.entries found) (sym c.self.view_is) is in
-    found_still c.args.offset items c.replace_units.new.tree.items found c.replace_units.ensures.front was less
+    found_still c.args.offset items c.replace_units-first.new.tree.items found c.replace_units-first.ensures.front was less

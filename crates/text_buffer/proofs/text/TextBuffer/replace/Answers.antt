@@ -23,7 +23,7 @@ use Rattle.text_buffer.proofs.Edited.{IsReplaced, IsReplaced-of, front_border, u
 use Rattle.text_buffer.proofs.Growing.{split_spans, adds_none, grows_later, at_border, takes_place}
 use Rattle.text_buffer.proofs.Found.{units_shown, own, pieces_are}
 use Rattle.text_buffer.proofs.text.TextBuffer.replace.Goals as goal
-use Rattle.text_buffer.proofs.text.TextBuffer.replace.Goals.{After-joins_back-back_joins, After-as_slice-after, After-splice}
+use Rattle.text_buffer.proofs.text.TextBuffer.replace.Goals.{After-joins_back-back_joins, After-as_slice-after, After-splice-told}
 
 -- what was asked at the two ends
 front_is : (c : After-joins_back-back_joins) → c.joins_front-front_joins.result ≡ joins_pair (take c.args.span.start c.args.self.now.units) (c.args.text.now ++ drop c.args.span.end c.args.self.now.units)
@@ -151,24 +151,24 @@ append_some-added-requires-clause-breaks c =
     let two = (behind to.After-as_slice-after (back_is at) (λ part e. (back_rest at part e).1)).breaks in
     omega (arith, added_breaks MOST_BREAKS_ALONG c.as_slice-before.result.now c.args.text.now c.as_slice-after.result.now one two, ap (λ v. v.spare_breaks) c.self.view_is, c.requires.breaks)
 
-pub splice-requires-clause-place : goal.splice-requires-clause-place
-splice-requires-clause-place c =
+pub splice-told-requires-clause-place : goal.splice-told-requires-clause-place
+splice-told-requires-clause-place c =
     let from : c.spot_at-start.result.offset - length c.as_slice-before.result.now ≡ c.args.span.start - length c.as_slice-before.result.now = omega (arith, c.spot_at-start.ensures.offset) in
     subst (StandsAt c.self.inside.pieces.entries c.found_before-at.result) from c.found_before-at.ensures
 
-pub splice-requires-clause-range : goal.splice-requires-clause-range
-splice-requires-clause-range c =
-    let to = goal.at.splice-requires-clause-range c in let at = to.After-joins_back-back_joins in
+pub splice-told-requires-clause-range : goal.splice-told-requires-clause-range
+splice-told-requires-clause-range c =
+    let to = goal.at.splice-told-requires-clause-range c in let at = to.After-joins_back-back_joins in
     let there = (behind to.After-as_slice-after (back_is at) (λ part e. (back_rest at part e).1)).there in
     omega (arith, units_shown c.self.inside.pieces c.self.inside.chunks c.args.self.now c.self.invariant.text c.self.view_is, there, c.requires.ordered)
 
-pub splice-requires-clause-pieces : goal.splice-requires-clause-pieces
-splice-requires-clause-pieces c =
+pub splice-told-requires-clause-pieces : goal.splice-told-requires-clause-pieces
+splice-told-requires-clause-pieces c =
     pieces-extended c.self.inside.chunks.buffers c.append_some-added.new.chunks.buffers c.append_some-added.ensures.grown (pieces_of c.self.inside.pieces.entries) c.self.invariant.text.pieces
 
-pub splice-requires-clause-small : goal.splice-requires-clause-small
-splice-requires-clause-small c =
-    let to = goal.at.splice-requires-clause-small c in let at = to.After-joins_back-back_joins in
+pub splice-told-requires-clause-small : goal.splice-told-requires-clause-small
+splice-told-requires-clause-small c =
+    let to = goal.at.splice-told-requires-clause-small c in let at = to.After-joins_back-back_joins in
     let one = (ahead to.After-as_slice-after (front_is at) (front_rest at)).there in
     let two = (behind to.After-as_slice-after (back_is at) (λ part e. (back_rest at part e).1)).there in
     let before = c.as_slice-before.result.now in let after = c.as_slice-after.result.now in let text = c.args.text.now in
@@ -187,50 +187,50 @@ splice-requires-clause-small c =
       length-edited c.args.self.now.units text c.args.span.start c.args.span.end (omega (arith, c.requires.ordered, c.requires.within)),
     )
 
-replaced : (c : After-splice) → IsFrontAlong c.args.self.now.units c.args.span.start c.joins_front-front_joins.result c.as_slice-before.result.now
+replaced : (c : After-splice-told) → IsFrontAlong c.args.self.now.units c.args.span.start c.joins_front-front_joins.result c.as_slice-before.result.now
     → IsBackAlong c.args.self.now.units c.args.span.end c.joins_back-back_joins.result c.as_slice-after.result.now
     → c.joins_front-front_joins.result ≡ joins_pair (take c.args.span.start c.args.self.now.units) (c.args.text.now ++ drop c.args.span.end c.args.self.now.units)
     → c.joins_back-back_joins.result ≡ joins_pair (take c.args.span.start c.args.self.now.units ++ c.args.text.now) (drop c.args.span.end c.args.self.now.units)
-    → IsReplaced c.append_some-added.new.chunks.buffers (pieces_of c.self.inside.pieces.entries) (pieces_of c.splice.new.self.entries)
+    → IsReplaced c.append_some-added.new.chunks.buffers (pieces_of c.self.inside.pieces.entries) (pieces_of c.splice-told.new.self.entries)
     c.args.self.now.units c.args.text.now c.args.span.start c.args.span.end
 replaced c one two front back =
     let before = c.as_slice-before.result.now in let after = c.as_slice-after.result.now in
     IsReplaced-of c.args.self.now.units c.args.text.now before after c.args.span.start c.args.span.end
     c.joins_front-front_joins.result c.joins_back-back_joins.result front back one two
-    c.self.inside.chunks.buffers c.append_some-added.new.chunks.buffers (pieces_of c.self.inside.pieces.entries) (pieces_of c.splice.new.self.entries) c.append_some-added.result
+    c.self.inside.chunks.buffers c.append_some-added.new.chunks.buffers (pieces_of c.self.inside.pieces.entries) (pieces_of c.splice-told.new.self.entries) c.append_some-added.result
     (c.args.span.start - length before) (c.args.span.start - length before + (c.args.span.end + length after - (c.args.span.start - length before)))
     c.append_some-added.ensures.grown c.self.invariant.text.pieces c.self.invariant.text.full c.self.invariant.text.unsplit (ap (λ v. v.units) c.self.view_is)
-    c.requires.ordered refl (omega (arith, c.requires.ordered)) c.append_some-added.ensures.added c.splice.ensures.spliced
+    c.requires.ordered refl (omega (arith, c.requires.ordered)) c.append_some-added.ensures.added c.splice-told.ensures.spliced
 
 pub invariant_of-self : goal.invariant_of-self
 invariant_of-self c =
     let to = goal.at.invariant_of-self c in let at = to.After-joins_back-back_joins in
-    let r = replaced to.After-splice (ahead to.After-as_slice-after (front_is at) (front_rest at)) (behind to.After-as_slice-after (back_is at) (λ part e. (back_rest at part e).1)) (front_is at) (back_is at) in
-    let small : unit_count (pieces_of c.splice.new.self.entries) < 2 ^ 62 = omega (arith, length-spelled c.append_some-added.new.chunks.buffers (pieces_of c.splice.new.self.entries) r.pieces, ap length r.text_is, c.requires.small) in
-    record { text = record { pieces = r.pieces; full = r.full; unsplit = r.unsplit; small = small }; found = c.forget_from.ensures c.self.inside.pieces.entries c.splice.new.self.entries c.self.invariant.found c.splice.ensures.front }
+    let r = replaced to.After-splice-told (ahead to.After-as_slice-after (front_is at) (front_rest at)) (behind to.After-as_slice-after (back_is at) (λ part e. (back_rest at part e).1)) (front_is at) (back_is at) in
+    let small : unit_count (pieces_of c.splice-told.new.self.entries) < 2 ^ 62 = omega (arith, length-spelled c.append_some-added.new.chunks.buffers (pieces_of c.splice-told.new.self.entries) r.pieces, ap length r.text_is, c.requires.small) in
+    record { text = record { pieces = r.pieces; full = r.full; unsplit = r.unsplit; small = small }; found = c.change_from.ensures c.self.inside.pieces.entries c.splice-told.new.self.entries c.self.invariant.found c.splice-told.ensures.front c.splice-told.ensures.told }
 
 pub returns-clause-units : goal.returns-clause-units
 returns-clause-units c =
     let to = goal.at.returns-clause-units c in let at = to.After-joins_back-back_joins in
-    (replaced to.After-splice (ahead to.After-as_slice-after (front_is at) (front_rest at)) (behind to.After-as_slice-after (back_is at) (λ part e. (back_rest at part e).1)) (front_is at) (back_is at)).text_is
+    (replaced to.After-splice-told (ahead to.After-as_slice-after (front_is at) (front_rest at)) (behind to.After-as_slice-after (back_is at) (λ part e. (back_rest at part e).1)) (front_is at) (back_is at)).text_is
 
 pub returns-clause-pieces : goal.returns-clause-pieces
 returns-clause-pieces c =
     let to = goal.at.returns-clause-pieces c in let at = to.After-joins_back-back_joins in
-    let few = (replaced to.After-splice (ahead to.After-as_slice-after (front_is at) (front_rest at)) (behind to.After-as_slice-after (back_is at) (λ part e. (back_rest at part e).1)) (front_is at) (back_is at)).few in
+    let few = (replaced to.After-splice-told (ahead to.After-as_slice-after (front_is at) (front_rest at)) (behind to.After-as_slice-after (back_is at) (λ part e. (back_rest at part e).1)) (front_is at) (back_is at)).few in
     omega (
       arith,
       few,
-      length-map (pieces_of c.splice.new.self.entries) (λ p. p.span),
+      length-map (pieces_of c.splice-told.new.self.entries) (λ p. p.span),
       length-map (pieces_of c.self.inside.pieces.entries) (λ p. p.span),
       ap (λ v. length v.spans) c.self.view_is,
     )
 
 -- where the span leaves little of the one piece that it lies in, the new span takes the place of that piece
-taken_in : (c : After-splice) (us : List Piece) (p : Piece) (vs : List Piece) → pieces_of c.self.inside.pieces.entries ≡ us ++ p ∷ vs → c.spot_at-start.result.offset < c.spot_behind-end.result.offset
+taken_in : (c : After-splice-told) (us : List Piece) (p : Piece) (vs : List Piece) → pieces_of c.self.inside.pieces.entries ≡ us ++ p ∷ vs → c.spot_at-start.result.offset < c.spot_behind-end.result.offset
     → is_little c.self.inside.chunks.buffers (part_of p.span 0 (c.spot_at-start.result.offset - unit_count us)) ≡ true
     → is_little c.self.inside.chunks.buffers (part_of p.span (c.spot_behind-end.result.offset - unit_count us) p.span.units) ≡ true
-    → length (pieces_of c.splice.new.self.entries) ≤ length (pieces_of c.self.inside.pieces.entries)
+    → length (pieces_of c.splice-told.new.self.entries) ≤ length (pieces_of c.self.inside.pieces.entries)
 taken_in c us p vs is some ahead behind =
     let tree = c.self.inside.pieces in let chunks = c.self.inside.chunks in let start = c.spot_at-start.result in let end = c.spot_behind-end.result in
     let one = c.spot_at-start.ensures.spot in let two = c.spot_behind-end.ensures.spot in
@@ -246,7 +246,7 @@ taken_in c us p vs is some ahead behind =
     let from = c.args.span.start - length c.as_slice-before.result.now in
     let few = takes_place c.append_some-added.new.chunks.buffers us p vs (pieces_of tree.entries) from (from + (c.args.span.end + length c.as_slice-after.result.now - from)) c.append_some-added.result
     is c.self.invariant.text.full (omega (arith, first, low, c.spot_at-start.ensures.offset)) (omega (arith, first, last, low, high, some, c.spot_at-start.ensures.offset, c.spot_behind-end.ensures.offset)) in
-    omega (arith, few, ap length c.splice.ensures.spliced)
+    omega (arith, few, ap length c.splice-told.ensures.spliced)
 
 pub returns-clause-taken : goal.returns-clause-taken
 returns-clause-taken c = λ little.
@@ -256,8 +256,8 @@ returns-clause-taken c = λ little.
     let one = c.spot_at-start.ensures.offset in let two = c.spot_behind-end.ensures.offset in
     let first : is_little b (part_of p.span 0 (c.spot_at-start.result.offset - unit_count us)) ≡ true = rw (same, one, count) place.front in
     let last : is_little b (part_of p.span (c.spot_behind-end.result.offset - unit_count us) p.span.units) ≡ true = rw (same, two, count) place.back in
-    let few = taken_in (goal.at.returns-clause-taken c).After-splice us p vs is (omega (arith, one, two, place.some)) first last in
-    omega (arith, few, length-map (pieces_of c.splice.new.self.entries) (λ p. p.span), length-map ps (λ p. p.span), ap (λ v. length v.spans) c.self.view_is)
+    let few = taken_in (goal.at.returns-clause-taken c).After-splice-told us p vs is (omega (arith, one, two, place.some)) first last in
+    omega (arith, few, length-map (pieces_of c.splice-told.new.self.entries) (λ p. p.span), length-map ps (λ p. p.span), ap (λ v. length v.spans) c.self.view_is)
 
 -- where the text goes on from a span, the place stands inside no piece, and nothing is taken along before it
 none_ahead : (c : After-as_slice-after) → ((part : ChunkSpan) → c.rests_of-rests.result.front ≡ Some part → rest_before c.self.inside.chunks.buffers c.spot_at-start.result.found c.spot_at-start.result.offset ≡ Some part)
@@ -302,8 +302,8 @@ returns-clause-typed c = λ grows none.
     omega (
       arith,
       few,
-      ap length c.splice.ensures.spliced,
-      length-map (pieces_of c.splice.new.self.entries) (λ p. p.span),
+      ap length c.splice-told.ensures.spliced,
+      length-map (pieces_of c.splice-told.new.self.entries) (λ p. p.span),
       length-map ps (λ p. p.span),
       ap (λ v. length v.spans) c.self.view_is,
     )
@@ -333,8 +333,8 @@ returns-clause-grows c = λ same some none.
     let there = (ahead to.After-as_slice-after (front_is at) (front_rest at)).there in
     let none_taken = none_behind to.After-as_slice-after (back_rest at) same (back_is at ∙ none) in
     let added_size : length (before ++ text ++ after) ≡ length before + length text = omega (arith, length-append (before ++ text) after, length-append before text, none_taken) in
-    grows_later (text_of c.splice.new.self c.append_some-added.new.chunks) old new (front new from ps) (back new till ps) c.append_some-added.result (before ++ text ++ after) (c.args.span.start + length text)
-    c.append_some-added.ensures.added c.append_some-added.ensures.last (omega (arith, some, added_size)) (ap (map (λ p. p.span)) c.splice.ensures.spliced) refl
+    grows_later (text_of c.splice-told.new.self c.append_some-added.new.chunks) old new (front new from ps) (back new till ps) c.append_some-added.result (before ++ text ++ after) (c.args.span.start + length text)
+    c.append_some-added.ensures.added c.append_some-added.ensures.last (omega (arith, some, added_size)) (ap (map (λ p. p.span)) c.splice-told.ensures.spliced) refl
     (omega (arith, added_size, units-front new from ps (omega (arith, count, c.requires.ordered, c.requires.within)), there))
 
 pub returns-clause-appended : goal.returns-clause-appended
