@@ -8,7 +8,7 @@ import sys
 from pathlib import Path
 from typing import NamedTuple
 
-PROVED = Path(__file__).resolve().parent.parent / "crates" / "textmodel" / "out" / "textmodel"
+PROVED = Path(__file__).resolve().parent.parent / "bin" / "textmodel"
 SECONDS = 60.0
 MOST_BYTES = 1 << 24
 MANY = 100_000

@@ -1,132 +1,179 @@
-#!/usr/bin/env -S python3 -B
-"""Plays a recorded list of an editor's notifications, and checks the text that comes out.
+"""A document as a language server keeps it, over the client.
 
-examples/lsp.py EVENTS [PROGRAM]     the one that ./build and .ci/run leave, where none is named
-
-EVENTS, as lsp/events.json, is a JSON array of `textDocument/didOpen` and `textDocument/didChange` notifications of the Language Server
-Protocol, of one document. Their lines and columns count from 0, columns in UTF-16 units; a column behind its line's end
-means that end, and a line behind the last one the end of the text. Each notification is one step of undo.
+Places are those of the Language Server Protocol: lines and characters count from 0, characters in UTF-16 units. A character
+behind its line's end means that end, a line behind the last one the end of the text, and a place between the two units of
+a character the one in front of both. Lines end at LF, CR LF and CR, as they do in the program.
 """
-import json
-import sys
-from pathlib import Path
-from typing import Any
+from collections.abc import Iterator
+from typing import Any, NamedTuple
 
-from client import Client, Refused, program_of
+from client import PIECE, Bracket, Client, Refused, units, well_formed
+
+LINES_AT_ONCE = 1000
+LINES_AROUND = 64
+MOST_NUMBER = 2**31 - 1
+
+
+class Place(NamedTuple):
+    """A position."""
+
+    line: int
+    character: int
+
+
+class Range(NamedTuple):
+    """From `start` to `end`, which stands behind what is meant."""
+
+    start: Place
+    end: Place
+
+    def as_json(self) -> dict[str, dict[str, int]]:
+        return {"start": self.start._asdict(), "end": self.end._asdict()}
+
+
+def place_of(json: Any) -> Place:
+    """The place that JSON tells; ValueError where it tells none."""
+    numbers = (json.get("line"), json.get("character")) if isinstance(json, dict) else ()
+    if len(numbers) != 2 or not all(type(number) is int and 0 <= number <= MOST_NUMBER for number in numbers):
+        raise ValueError(f"no position: {json}")
+    return Place(*numbers)
+
+
+def range_of(json: Any) -> Range:
+    """The range that JSON tells, turned round where it ends before it starts; ValueError where it tells none."""
+    if not isinstance(json, dict):
+        raise ValueError(f"no range: {json}")
+    return Range(*sorted((place_of(json.get("start")), place_of(json.get("end")))))
+
+
+def place_before(line: int, column: int) -> Place:
+    """The place of a line and a column as the program counts them, from 1."""
+    return Place(line - 1, column - 1)
+
+
+def range_at(line: int, column: int, length: int) -> Range:
+    """The range of so many units of a line, of which the program told the line and the column."""
+    start = place_before(line, column)
+    return Range(start, Place(start.line, start.character + length))
 
 
 class Mirror:
-    """A document as a language server keeps it."""
+    """What an editor says of its document goes to the program. Calls raise `Refused` and `Ended` as those of the client do."""
 
     def __init__(self, model: Client) -> None:
         self.model = model
 
     def open(self, text: str) -> None:
-        self.model.ask("open", text=text)
+        self.model.open(well_formed(text))
 
     def change(self, changes: list[dict[str, Any]]) -> None:
-        """Each change speaks of the text that the one before it left."""
+        """Each change speaks of the text that the one before it left. Those of one call are one step of undo."""
         self.model.ask("stop")
         for change in changes:
-            self.model.ask("edit", ops=[{"at": self.span(change.get("range")), "text": change["text"]}])
+            range_ = change.get("range")
+            self._put(None if range_ is None else range_of(range_), well_formed(change["text"]))
 
-    def span(self, range_: dict[str, dict[str, int]] | None) -> list[int]:
-        """The offsets of a range; of the whole text, where there is none."""
-        if range_ is None:
-            return [0, self.model.numbers("size")[0]]
-        return [self.offset(**range_["start"]), self.offset(**range_["end"])]
-
-    def offset(self, line: int, character: int) -> int:
-        try:
-            return self.model.numbers("offset", line=line + 1, col=character + 1)[0]
-        except Refused as refused:
-            if refused.reason != "range":
-                raise
-        units, lines = self.model.numbers("size")
-        if line >= lines:
-            return units
-        end = len(units_of(self.model.text("line", n=line + 1)))
-        if character < end:  # between the two units of one character: in front of both
-            character -= 1
-        return self.model.numbers("offset", line=line + 1, col=min(character, end) + 1)[0]
-
-    def text(self) -> str:
-        return self.model.text("value", at=[0, self.model.numbers("size")[0]])
+    def _put(self, range_: Range | None, text: str) -> None:
+        """Puts the text in the place of a range, or of the whole text. Most ranges are places of the text as they stand."""
+        if range_ and len(text) <= PIECE:
+            places = [number + 1 for place in range_ for number in place]
+            try:
+                self.model.ask("edit", ops=[{"range": places, "text": text}])
+                return
+            except Refused as refused:
+                if refused.reason != "range":
+                    raise
+        start, end = map(self.offset, range_) if range_ else (0, self.units())
+        self.model.splice(start, end, text)
 
     def undo(self) -> None:
         self.model.ask("undo")
 
+    def text(self) -> str:
+        return self.model.text("value", at=[0, self.units()])
 
-def units_of(text: str) -> list[int]:
-    bytes_ = text.encode("utf-16-le")
-    return [bytes_[at] | bytes_[at + 1] << 8 for at in range(0, len(bytes_), 2)]
+    def units(self) -> int:
+        return self.model.numbers("size")[0]
 
+    def offset(self, place: Place) -> int:
+        """The offset of a place, or of the one that it means."""
+        line, column = place.line + 1, place.character + 1
+        try:
+            return self.model.numbers("offset", line=line, col=column)[0]
+        except Refused as refused:
+            if refused.reason != "range":
+                raise
+        all_units, lines = self.model.numbers("size")
+        if line > lines:
+            return all_units
+        end = units(self.model.text("line", n=line)) + 1
+        if column < end:  # between the two units of one character: in front of both
+            end = column - 1
+        return self.model.numbers("offset", line=line, col=end)[0]
 
-def text_of(units: list[int]) -> str:
-    return b"".join(unit.to_bytes(2, "little") for unit in units).decode("utf-16-le")
+    def pair(self, place: Place) -> list[Range]:
+        """The bracket that starts at a place, or else ends there, and the other one of its pair; none where it has none."""
+        offset = self.offset(place)
+        for at in (offset, offset - 1):
+            other = self._partner(at) if at >= 0 else None
+            if other:
+                own = self._match(*other[:2])
+                return sorted([range_at(*own), range_at(*other)])
+        return []
 
+    def _partner(self, offset: int) -> list[int] | None:
+        """Line, column and units of the bracket that belongs to the one at an offset."""
+        try:
+            return self._match(*self.model.numbers("position", offset=offset))
+        except Refused as refused:  # in front of the offset's place is no other, but half a character or half a break
+            if refused.reason != "range":
+                raise
+            return None
 
-class Flat:
-    """The same document as one list of units, for the check."""
+    def _match(self, line: int, column: int) -> list[int] | None:
+        words = self.model.ask("match", line=line, col=column)
+        return None if words == "none" else [int(word) for word in words.split()]
 
-    def __init__(self, text: str) -> None:
-        self.units = units_of(text)
+    def around(self, place: Place) -> list[Range]:
+        """What the pairs of brackets around a place hold, without and then with them, the nearest first; then the whole text."""
+        line, column = self.model.numbers("position", offset=self.offset(place))
+        ranges = []
+        for opening in self._openings(line, column):
+            closing = self._match(opening.line, opening.column)
+            if closing:
+                outer = Range(place_before(*opening[:2]), range_at(*closing).end)
+                ranges += [Range(range_at(*opening[:3]).end, place_before(*closing[:2])), outer]
+        end = self.model.numbers("position", offset=self.units())
+        return [*ranges, Range(Place(0, 0), place_before(*end))]
 
-    def change(self, changes: list[dict[str, Any]]) -> None:
-        for change in changes:
-            range_ = change.get("range")
-            start, end = (self.offset(**range_[side]) for side in ("start", "end")) if range_ else (0, len(self.units))
-            self.units[start:end] = units_of(change["text"])
+    def _openings(self, line: int, column: int) -> list[Bracket]:
+        """The brackets that are open at a place, the nearest first: of each level, the nearest opening one of that level."""
+        wanted = self.model.numbers("level", line=line, col=column)[0]
+        found: list[Bracket] = []
+        last, count = line, LINES_AROUND
+        while wanted and last:
+            first = max(1, last - count + 1)
+            for bracket in reversed(self.model.brackets(first, last)):
+                if bracket.status in "ou" and bracket.level == wanted - 1 and bracket[:2] < (line, column):
+                    found.append(bracket)
+                    wanted -= 1
+            last, count = first - 1, 2 * count
+        return found
 
-    def offset(self, line: int, character: int) -> int:
-        spans = self.lines()
-        if line >= len(spans):
-            return len(self.units)
-        start, end = spans[line]
-        at = min(start + character, end)
-        inside = start < at < end and 0xD800 <= self.units[at - 1] < 0xDC00 <= self.units[at] < 0xE000
-        return at - 1 if inside else at
+    def folds(self) -> list[tuple[Bracket, Bracket]]:
+        """The pairs of brackets that reach over several lines, in the order of their closing ones."""
+        opened: list[Bracket] = []
+        folds = []
+        for bracket in self.model.brackets(1, self.model.numbers("size")[1]):
+            if bracket.status == "o":
+                opened.append(bracket)
+            elif bracket.status == "c" and (opening := opened.pop()).line < bracket.line:
+                folds.append((opening, bracket))
+        return folds
 
-    def lines(self) -> list[tuple[int, int]]:
-        """Where the content of each line starts and ends."""
-        spans, start, at = [], 0, 0
-        while at < len(self.units):
-            width = 2 if self.units[at : at + 2] == [13, 10] else 1
-            if self.units[at] in (10, 13):
-                spans.append((start, at))
-                start = at + width
-            at += width
-        return [*spans, (start, len(self.units))]
-
-
-def same(moment: str, came: str, wanted: str) -> None:
-    print(f"{moment}: {len(came)} characters")
-    if came != wanted:
-        raise SystemExit(f"lsp: {moment}: {came!r}, wanted {wanted!r}")
-
-
-def play(events: list[dict[str, Any]], mirror: Mirror) -> None:
-    opened, *changed = (event["params"] for event in events)
-    text = opened["textDocument"]["text"]
-    mirror.open(text)
-    flat, texts = Flat(text), [text]
-    for params in changed:
-        mirror.change(params["contentChanges"])
-        flat.change(params["contentChanges"])
-        texts.append(text_of(flat.units))
-        same(f"version {params['textDocument']['version']}", mirror.text(), texts[-1])
-    for text in reversed(texts[:-1]):
-        mirror.undo()
-        same("undone", mirror.text(), text)
-
-
-def main() -> None:
-    if len(sys.argv) < 2:
-        raise SystemExit(__doc__)
-    events, *words = sys.argv[1:]
-    with Client(program_of(words)) as model:
-        play(json.loads(Path(events).read_text(encoding="utf-8")), Mirror(model))
-
-
-if __name__ == "__main__":
-    main()
+    def unpaired(self) -> Iterator[list[Bracket]]:
+        """The brackets that are unclosed or unexpected, some lines after the others. The text is not to change meanwhile."""
+        lines = self.model.numbers("size")[1]
+        for first in range(1, lines + 1, LINES_AT_ONCE):
+            last = min(first + LINES_AT_ONCE - 1, lines)
+            yield [bracket for bracket in self.model.brackets(first, last) if bracket.status in "ux"]

@@ -7,7 +7,7 @@ from pathlib import Path
 from typing import NamedTuple
 
 TOP = Path(__file__).resolve().parent.parent
-PROVED = TOP / "crates" / "textmodel" / "out" / "textmodel"
+PROVED = TOP / "bin" / "textmodel"
 CASE = re.compile(rb"^case=(\S+) run=(\S+)(?: status=(\d+))?", re.MULTILINE)
 SECONDS = 300
 

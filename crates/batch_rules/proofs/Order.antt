@@ -1,5 +1,5 @@
 -- The order of a batch.
-use Rattle.std.proofs.Common.{◌≡◌, ℕ, suc, ◌+◌, ◌<◌, ◌≤◌, Bool, cond, true, false, ◌&&◌, not, get_or, List, [], ◌∷◌, length, refl, ap, sym, subst, ◌∙◌, inl, inr, arith}
+use Rattle.std.proofs.Common.{◌≡◌, ℕ, zero, suc, ◌+◌, ◌<◌, ◌≤◌, Bool, cond, true, false, ◌&&◌, not, get_or, List, [], ◌∷◌, length, refl, ap, sym, subst, ◌∙◌, inl, inr, arith}
 use Rattle.std.specs.List.{All, filter}
 use Rattle.std.specs.List.Sorted.{IsPermutation, IsSortedBy, IsStableBy, ties}
 use Rattle.std.proofs.lemmas.Bool.Decides.{nat_tests}
@@ -143,7 +143,8 @@ same_order (y ∷ a) (z ∷ b) left right keep =
     let keep_same : KeepAlike (y ∷ a) (y ∷ b) = subst (λ o. KeepAlike (y ∷ a) (o ∷ b)) same keep in
     rw same (ap (λ l. y ∷ l) (same_order a b left.1 right.1 (λ x. rest_kept (same_place x y) y _ _ (keep_same x))))
 
-abbrev StandNext : List Op → Type 0
+-- each op stands before the next
+abbrev pub StandNext : List Op → Type 0
 StandNext ops = (k : ℕ) (d : Op) → k + 1 < length ops → stands_before (get_or ops k d) (get_or ops (k + 1) d) ≡ true
 
 in_order_from : (ops : List Op) → StandNext ops → InOrder ops
@@ -159,6 +160,32 @@ in_order_from (op ∷ then ∷ ops) next =
           (All-weaker (λ o. stands_before then o ≡ true) (λ o. stands_before op o ≡ true) (λ o h. in_turn op then o before h) ops rest.0),
       rest,
     )
+
+next_from : (ops : List Op) → InOrder ops → StandNext ops
+next_from [] ordered k d inside = absurd (omega arith)
+next_from (op ∷ []) ordered k d inside = absurd (omega arith)
+next_from (op ∷ next ∷ ops) ordered zero d inside = All-head (λ o. stands_before op o ≡ true) next ops ordered.0
+next_from (op ∷ next ∷ ops) ordered (suc k) d inside =
+    let same : suc (k + 1) ≡ suc k + 1 = omega arith in
+    subst (λ (n : ℕ). stands_before (get_or (next ∷ ops) k d) (get_or (op ∷ next ∷ ops) n d) ≡ true) same (next_from (next ∷ ops) ordered.1 k d (omega arith))
+
+sorted_in_order : (ops : List Op) → InOrder ops → sorted_ops ops ≡ ops
+sorted_in_order [] ordered = refl
+sorted_in_order (op ∷ []) ordered = refl
+sorted_in_order (op ∷ next ∷ ops) ordered =
+    let before : stands_before op next ≡ true = All-head (λ o. stands_before op o ≡ true) next ops ordered.0 in
+    ap (put_in_order op) (sorted_in_order (next ∷ ops) ordered.1) ∙ rw before refl
+
+-- ops are in order exactly where each stands before the next
+pub sorted_next : (ops : List Op) → StandNext ops → sorted_ops ops ≡ ops
+sorted_next ops next = sorted_in_order ops (in_order_from ops next)
+
+pub next_sorted : (ops : List Op) → sorted_ops ops ≡ ops → StandNext ops
+next_sorted ops sorted = next_from ops (subst InOrder sorted (in_order_sorted ops))
+
+-- what is in order stays so
+pub sorted_ops_again : (ops : List Op) → sorted_ops (sorted_ops ops) ≡ sorted_ops ops
+sorted_ops_again ops = sorted_in_order (sorted_ops ops) (in_order_sorted ops)
 
 not_twice : (b : Bool) → not (not b) ≡ b
 not_twice true = refl

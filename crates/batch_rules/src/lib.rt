@@ -18,4 +18,7 @@ pub enum BatchError {
     /// The new text would be too long.
     #[error("the new text would be too long")]
     Limit,
+    /// There was no memory for the call.
+    #[error("out of memory")]
+    Memory,
 }

@@ -1,11 +1,13 @@
 -- Bounds of what is kept.
-use Rattle.std.proofs.Common.{◌≡◌, ℕ, ◌+◌, ◌≤◌, ◌<◌, ◌^◌, max, Bool, ◌||◌, Option, Some, None, refl, ap, sym, ◌∙◌, arith, add-one}
+use Rattle.std.proofs.Common.{◌≡◌, ℕ, ◌+◌, ◌≤◌, ◌<◌, ◌^◌, max, Bool, ◌||◌, Option, Some, None, refl, ap, sym, ◌∙◌, inl, inr, arith, add-one}
+use Rattle.std.proofs.lemmas.Bool.{cases_lt}
+use Rattle.std.proofs.lemmas.Nat.{pow_below}
 use Rattle.std.specs.Prelude.{unwrap_or, bit_or}
-use Rattle.bracket_trees.specs.Tree.{Tree, text, pair, stray, capped, nothing, two, three, tree_length, is_missing, nesting, height, weight, IsEven}
+use Rattle.bracket_trees.specs.Tree.{Tree, text, pair, stray, capped, nothing, two, three, tree_length, is_missing, nesting, height, highest, weight, IsEven, IsTree}
 use Rattle.text_lengths.proofs.Lengths.{length_plus_assoc}
 use Rattle.bracket_trees.specs.Told.{has_kind}
 use Rattle.bracket_trees.proofs.KindSets.{has_kind-union}
-use Rattle.bracket_trees.proofs.Weights.{units_of, length_within, nesting_within, height_within}
+use Rattle.bracket_trees.proofs.Weights.{units_of, length_within, nesting_within, height_within, highest_doubles}
 use Rattle.bracket_nodes.specs.declared.kept.Kept.{Kept}
 use Rattle.bracket_nodes.specs.Kept.{later, last_level, Keeps, both_of}
 use Rattle.bracket_nodes.specs.Bounds.{IsBounded}
@@ -34,14 +36,21 @@ last_level-within (three a b c) =
     let all = later_within (last_level a) (later (last_level b) (last_level c)) in
     omega arith
 
+height_few : (t : Tree) → IsTree t → weight t < 2 ^ 64 → height t ≤ 64
+height_few t h light = elim (cases_lt 64 (height t)) [
+  | inl high ↦ absurd (omega (arith, pow_below 64 (highest t) (omega (arith, high, height_within t)), highest_doubles t h))
+  | inr few ↦ few
+]
+
 pub IsBounded-from_Keeps : (t : Tree) (kept : Kept) → Keeps t kept → IsBounded (weight t) kept
 IsBounded-from_Keeps t kept h = record {
   length =
       let within = length_within t in
       let same : units_of kept.length ≡ units_of (tree_length t) = ap units_of h.length in
       omega arith;
+  height = rw h.height (height_few t h.tree h.light);
+  low = rw h.highest (highest_doubles t h.tree);
   nesting = let within = nesting_within t h.tree in let same : kept.nesting ≡ nesting t = h.nesting in omega arith;
-  height = let within = height_within t h.tree in let same : kept.height ≡ height t = h.height in omega arith;
   last =
       let within = last_level-within t in
       let same : kept.nesting ≡ nesting t = h.nesting in
@@ -64,15 +73,16 @@ Keeps-two a b ka kb h k even fits = record {
   missing = λ j. missing-both ka.missing kb.missing (is_missing j a) (is_missing j b) j (h.missing j) (k.missing j);
   closed = rw (h.closed, k.closed) refl;
   capped = rw (h.capped, k.capped) refl;
-  nesting = rw (h.nesting, k.nesting) refl;
   height = rw h.height (add-one (height a));
+  highest = rw (h.height, h.highest, k.highest, add-one (height a)) refl;
+  nesting = rw (h.nesting, k.nesting) refl;
   last = rw (h.last, k.last) refl;
 }
 
-pub Keeps-three : (a b c : Tree) (ka kb kc : Kept) (n : ℕ) → Keeps a ka → Keeps b kb → Keeps c kc → IsEven a b → IsEven b c
+pub Keeps-three : (a b c : Tree) (ka kb kc : Kept) → Keeps a ka → Keeps b kb → Keeps c kc → IsEven a b → IsEven b c
     → weight a + (weight b + weight c) < 2 ^ 64
-    → Keeps (three a b c) (both_of ka (both_of kb kc n) (ka.height + 1))
-Keeps-three a b c ka kb kc n h k l first second fits = record {
+    → Keeps (three a b c) (both_of ka (both_of kb kc ka.height) (ka.height + 1))
+Keeps-three a b c ka kb kc h k l first second fits = record {
   tree = ((first, second), (h.tree, (k.tree, l.tree)));
   light = fits;
   length = rw (h.length, k.length, l.length) (sym (length_plus_assoc (tree_length a) (tree_length b) (tree_length c)));
@@ -80,7 +90,8 @@ Keeps-three a b c ka kb kc n h k l first second fits = record {
       (missing-both kb.missing kc.missing (is_missing j b) (is_missing j c) j (k.missing j) (l.missing j));
   closed = rw (h.closed, k.closed, l.closed) refl;
   capped = rw (h.capped, k.capped, l.capped) refl;
-  nesting = rw (h.nesting, k.nesting, l.nesting) refl;
   height = rw h.height (add-one (height a));
+  highest = rw (h.height, h.highest, k.highest, l.highest) (omega arith);
+  nesting = rw (h.nesting, k.nesting, l.nesting) refl;
   last = rw (h.last, k.last, l.last) refl;
 }

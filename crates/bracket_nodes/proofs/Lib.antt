@@ -10,3 +10,4 @@ pub mod Scans
 pub mod JoinedLists
 pub mod Descent
 pub mod ListedEntries
+pub mod Payments

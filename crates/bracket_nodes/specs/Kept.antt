@@ -1,7 +1,7 @@
 -- What a node keeps of its tree.
 use Rattle.std.specs.Prelude.{◌≡◌, ℕ, suc, ◌<◌, ◌^◌, ◌&&◌, ◌||◌, max, bit_or, Option, Some, None, unwrap_or}
 use Rattle.text_lengths.specs.Length.{length_plus}
-use Rattle.bracket_trees.specs.Tree.{Tree, text, pair, stray, capped, nothing, two, three, tree_length, is_missing, is_closed, is_capped, nesting, height, weight, IsTree}
+use Rattle.bracket_trees.specs.Tree.{Tree, text, pair, stray, capped, nothing, two, three, tree_length, is_missing, is_closed, is_capped, nesting, height, highest, weight, IsTree}
 use Rattle.bracket_trees.specs.Told.{has_kind}
 use Rattle.bracket_nodes.specs.declared.kept.Kept.{Kept}
 
@@ -31,8 +31,9 @@ pub record Keeps (t : Tree) (kept : Kept) : Type 0 where
   pub missing : (k : ℕ) → has_kind kept.missing k ≡ is_missing k t
   pub closed : kept.closed ≡ is_closed t
   pub capped : kept.capped ≡ is_capped t
-  pub nesting : kept.nesting ≡ nesting t
   pub height : kept.height ≡ height t
+  pub highest : kept.highest ≡ highest t
+  pub nesting : kept.nesting ≡ nesting t
   pub last : kept.last_level ≡ last_level t
 
 -- what is kept of a list of this height, from what is kept of its parts
@@ -42,7 +43,8 @@ both_of a b height = record {
   missing = bit_or a.missing b.missing;
   closed = a.closed && b.closed;
   capped = a.capped || b.capped;
-  nesting = max a.nesting b.nesting;
   height = height;
+  highest = max height (max a.highest b.highest);
+  nesting = max a.nesting b.nesting;
   last_level = later a.last_level b.last_level;
 }

@@ -7,6 +7,7 @@ pub mod Lists
 pub mod SharedLists
 pub mod Walks
 pub mod Source
+pub mod Paying
 pub mod ScannedLines
 pub mod Borrowed
 pub mod LevelSteps

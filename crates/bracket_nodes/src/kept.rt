@@ -11,14 +11,16 @@ pub(crate) struct Kept {
     pub missing: Kinds,
     pub closed: bool,
     pub capped: bool,
+    // Each step down a list doubles its leaves, so none that fits 64 bits is higher than 64.
+    pub height: u8,
+    pub highest: u8,
     pub nesting: u64,
-    pub height: u64,
     // The level after the last entry, counted from the level of the node.
     pub last_level: Option<u64>,
 }
 
 // What is kept of a list of this height with these two parts.
-pub(crate) fn both(a: Kept, b: Kept, height: u64) -> Kept
+pub(crate) fn both(a: Kept, b: Kept, height: u8) -> Kept
     requires { a.length.lines + a.length.columns + (b.length.lines + b.length.columns) < 2 ^ 64 }
     ensures { result ≡ both_of a b height }
 {
@@ -27,8 +29,9 @@ pub(crate) fn both(a: Kept, b: Kept, height: u64) -> Kept
         missing: a.missing.union(b.missing),
         closed: a.closed && b.closed,
         capped: a.capped || b.capped,
-        nesting: a.nesting.max(b.nesting),
         height,
+        highest: height.max(a.highest.max(b.highest)),
+        nesting: a.nesting.max(b.nesting),
         last_level: later(a.last_level, b.last_level),
     }
 }

@@ -21,8 +21,9 @@ fn leaf(length: Length, missing: Kinds, last_level: Option<u64>) -> Kept
       missing = missing;
       closed = true;
       capped = false;
-      nesting = 0;
       height = 0;
+      highest = 0;
+      nesting = 0;
       last_level = last_level;
     } }
 {
@@ -31,8 +32,9 @@ fn leaf(length: Length, missing: Kinds, last_level: Option<u64>) -> Kept
         missing,
         closed: true,
         capped: false,
-        nesting: 0,
         height: 0,
+        highest: 0,
+        nesting: 0,
         last_level,
     }
 }
@@ -124,8 +126,9 @@ fn pair(kind: u64, opening: u64, inside: Rc<Inner>, closing: Option<u64>) -> Inn
         missing: part.missing,
         closed: closing.is_some() && part.closed,
         capped: part.capped,
-        nesting: part.nesting + 1,
         height: 0,
+        highest: part.highest,
+        nesting: part.nesting + 1,
         last_level: inside_level(part.last_level, closing),
     };
     let shape = Shape::Pair(kind, opening, inside, closing);

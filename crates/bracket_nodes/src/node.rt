@@ -2,7 +2,7 @@
 ghost use Rattle.std.specs.Prelude.{◌≡◌, ◌+◌, ◌<◌, ◌≤◌, ◌^◌, ℕ, IfOk};
 ghost use Rattle.text_lengths.specs.Length.{length_plus};
 ghost use Rattle.bracket_trees.specs.Told.{has_kind};
-ghost use Rattle.bracket_trees.specs.Tree.{tree_length, is_missing, is_closed, is_capped, nesting, height, weight, IsTree};
+ghost use Rattle.bracket_trees.specs.Tree.{tree_length, is_missing, is_closed, is_capped, nesting, height, highest, weight, IsTree};
 ghost use Rattle.bracket_nodes.specs.Kept.{Keeps};
 ghost use Rattle.bracket_nodes.specs.Shapes.{tree_size};
 ghost use Rattle.bracket_nodes.specs.Bounds.{IsBounded};
@@ -81,7 +81,15 @@ impl Node {
     pub fn height(&self) -> u64
         ensures { result ≡ height self.now }
     {
-        self.inner.kept().height
+        u64::from(self.inner.kept().height)
+    }
+
+    /// The greatest height of a list in the tree, itself and those inside pairs among them.
+    pub fn highest(&self) -> u64
+        ensures highest { result ≡ highest self.now }
+        ensures low { 2 ^ result ≤ weight self.now + 1 }
+    {
+        u64::from(self.inner.kept().highest)
     }
 }
 

@@ -5,6 +5,7 @@ ghost use Rattle.bracket_trees.specs.Told.{IsTreeOf};
 ghost use Rattle.bracket_trees.specs.Tree.{IsLone, is_missing, weight};
 ghost use Rattle.bracket_trees.specs.Weights.{tree_weights, AreCovered};
 ghost use Rattle.bracket_nodes.specs.Source.{AsksOn, Listed, Takes, HasWidth, weights_ahead, weight_ahead, stop_width, closing_taken, pair_taken};
+ghost use Rattle.bracket_nodes.specs.Paying.{HasRoom, Spends, PaysUpTo, PaysTaken};
 
 use crate::joiner::Joiner;
 use crate::kinds::Kinds;
@@ -28,8 +29,11 @@ pub enum Next {
 /// ask for.
 pub trait Source {
     ghost use Rattle.bracket_nodes.specs.Source.{Ahead, Comes, AsksOn};
+    ghost use Rattle.bracket_nodes.specs.Paying.{Paying, HasRoom, Spends, PaysFor};
 
     ghost ahead: { Self → Ahead };
+
+    ghost paying: { Self → Paying };
 
     // What a source keeps true as long as no call of it fails.
     ghost stands: { Self → Type 0 };
@@ -41,7 +45,11 @@ pub trait Source {
         requires stands { stands self.old }
         ensures comes { IfOk result (Comes (ahead self.old) (ahead self.new) opened level) }
         ensures stands { OnOk result (stands self.new) }
-        ensures asks { AsksOn (ahead self.old).asking (ahead self.new).asking };
+        ensures asks { AsksOn (ahead self.old).asking (ahead self.new).asking }
+        ensures pays { HasRoom (paying self.old) level
+            → IfOk result (PaysFor (paying self.old) (paying self.new)) }
+        ensures spends { HasRoom (paying self.old) level
+            → Spends (paying self.old) (paying self.new) };
 }
 
 // Why a list stopped.
@@ -79,6 +87,8 @@ pub fn parse<S: Source>(alloc: Global, source: &mut S) -> Result<Node, AllocErro
     ensures stands { OnOk result (S.stands source.new) }
     ensures asks { AsksOn (S.ahead source.old).asking (S.ahead source.new).asking }
     ensures whole { OnOk result ((S.ahead source.new).asking.left ≡ []) }
+    ensures spends { HasRoom (S.paying source.old) 0
+        → Spends (S.paying source.old) (S.paying source.new) }
 {
     let part = parse_list(alloc, source, Kinds::none(), 0)?;
     Ok(part.list)
@@ -100,6 +110,10 @@ fn parse_list<S: Source>(
         Listed (S.ahead source.old) (S.ahead source.new) opened level part.list part.stop) }
     ensures stands { OnOk result (S.stands source.new) }
     ensures asks { AsksOn (S.ahead source.old).asking (S.ahead source.new).asking }
+    ensures pays { HasRoom (S.paying source.old) level
+        → IfOk result (λ part. PaysUpTo (S.paying source.old) (S.paying source.new) part.stop) }
+    ensures spends { HasRoom (S.paying source.old) level
+        → Spends (S.paying source.old) (S.paying source.new) }
 {
     let mut joiner = Joiner::new(alloc);
     loop {
@@ -132,6 +146,10 @@ fn take<S: Source>(
     ensures takes { IfOk result (Takes (S.ahead source.old) (S.ahead source.new) opened level) }
     ensures stands { OnOk result (S.stands source.new) }
     ensures asks { AsksOn (S.ahead source.old).asking (S.ahead source.new).asking }
+    ensures pays { HasRoom (S.paying source.old) level
+        → IfOk result (PaysTaken (S.paying source.old) (S.paying source.new)) }
+    ensures spends { HasRoom (S.paying source.old) level
+        → Spends (S.paying source.old) (S.paying source.new) }
 {
     match source.next(alloc, opened, level)? {
         Next::End => Ok(Taken::Nothing(Stop::AtEnd)),

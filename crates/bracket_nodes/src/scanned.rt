@@ -52,8 +52,11 @@ impl<'a> Model for ScannedText<'a> {
 impl<'a> Source for ScannedText<'a> {
     ghost use Rattle.std.specs.Prelude.{⊤};
     ghost use Rattle.bracket_nodes.specs.Source.{Ahead};
+    ghost use Rattle.bracket_nodes.specs.Paying.{nothing_known};
 
     ghost ahead = { λ s. s };
+
+    ghost paying = { λ _. nothing_known };
 
     ghost stands = { λ _. ⊤ };
 

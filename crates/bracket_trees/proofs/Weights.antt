@@ -1,9 +1,12 @@
--- No length, nesting or height of a tree passes its weight.
-use Rattle.std.proofs.Common.{◌≡◌, ℕ, ◌+◌, ◌≤◌, ◌<◌, false, List, [], ◌∷◌, refl, arith, inl, inr}
+-- No length or nesting of a tree passes its weight, and each step down a list doubles what the list weighs at least.
+use Rattle.std.proofs.Common.{◌≡◌, ℕ, suc, ◌+◌, ◌≤◌, ◌<◌, ◌^◌, max, false, List, [], ◌∷◌, refl, subst, arith, inl, inr}
+use Rattle.std.proofs.Math.Nat.{two-pow-succ}
+use Rattle.std.proofs.lemmas.Nat.{pow_pos}
+use Rattle.std.proofs.lemmas.Bool.{cases_lt}
 use Rattle.std.proofs.lemmas.Grind.{common_steps}
 use Rattle.text_lengths.specs.declared.Length.{Length}
 use Rattle.text_lengths.specs.Length.{length_plus}
-use Rattle.bracket_trees.specs.Tree.{Tree, text, pair, stray, capped, nothing, two, three, wide, width_of, tree_length, nesting, height, weight, is_nothing, IsGap, IsTree, all_weight}
+use Rattle.bracket_trees.specs.Tree.{Tree, text, pair, stray, capped, nothing, two, three, wide, width_of, tree_length, nesting, height, highest, weight, is_nothing, IsGap, IsTree, all_weight}
 use Rattle.bracket_trees.specs.Items.{all_length}
 
 -- lines and columns together
@@ -67,31 +70,55 @@ gap_weight : (l : Length) → IsGap l → 0 < l.lines + l.columns
 gap_weight l (inl h) = omega arith
 gap_weight l (inr h) = omega arith
 
--- a list with parts has a leaf for each step down
-pub height_below : (t : Tree) → IsTree t → is_nothing t ≡ false → height t < weight t
-height_below (text l) h e = gap_weight l h
-height_below (pair k o i c) h e = let opening : 0 < o = h.0.opening in omega arith
-height_below (stray k w) h e = h.wide
-height_below (capped k w) h e = h.wide
-height_below nothing h e = cc
-height_below (two a b) h e =
-    let first = height_below a h.1.0 h.0.first in
-    let second = height_below b h.1.1 h.0.second in
-    let even : height a ≡ height b = h.0.level in
-    omega arith
-height_below (three a b c) h e =
-    let first = height_below a h.1.0 h.0.0.first in
-    let second = height_below b h.1.1.0 h.0.0.second in
-    omega arith
-
-pub height_within : (t : Tree) → IsTree t → height t ≤ weight t
-height_within (text l) h = omega arith
-height_within (pair k o i c) h = omega arith
-height_within (stray k w) h = omega arith
-height_within (capped k w) h = omega arith
-height_within nothing h = omega arith
-height_within (two a b) h = let below = height_below (two a b) h refl in omega arith
-height_within (three a b c) h = let below = height_below (three a b c) h refl in omega arith
+-- a list has twice the parts of a list that is lower by one
+pub height_doubles : (t : Tree) → IsTree t → is_nothing t ≡ false → 2 ^ height t ≤ weight t
+height_doubles (text l) h e = gap_weight l h
+height_doubles (pair k o i c) h e = let opening : 0 < o = h.0.opening in omega arith
+height_doubles (stray k w) h e = h.wide
+height_doubles (capped k w) h e = h.wide
+height_doubles nothing h e = cc
+height_doubles (two a b) h e =
+    let first = height_doubles a h.1.0 h.0.first in
+    let second : 2 ^ height a ≤ weight b = rw h.0.level (height_doubles b h.1.1 h.0.second) in
+    omega (arith, two-pow-succ (height a))
+height_doubles (three a b c) h e =
+    let first = height_doubles a h.1.0 h.0.0.first in
+    let second : 2 ^ height a ≤ weight b = rw h.0.0.level (height_doubles b h.1.1.0 h.0.0.second) in
+    omega (arith, two-pow-succ (height a))
 
 pub weight_pos : (t : Tree) → IsTree t → is_nothing t ≡ false → 0 < weight t
-weight_pos t h e = let below = height_below t h e in omega arith
+weight_pos t h e = omega (arith, height_doubles t h e, pow_pos (height t))
+
+pub height_within : (t : Tree) → height t ≤ highest t
+height_within (text l) = omega arith
+height_within (pair k o i c) = omega arith
+height_within (stray k w) = omega arith
+height_within (capped k w) = omega arith
+height_within nothing = omega arith
+height_within (two a b) = omega arith
+height_within (three a b c) = omega arith
+
+pow_max : (m n most : ℕ) → 2 ^ m ≤ most → 2 ^ n ≤ most → 2 ^ max m n ≤ most
+pow_max m n most first second = elim (cases_lt m n) [
+  | inl less ↦ subst (λ k. 2 ^ k ≤ most) (omega arith) second
+  | inr not_less ↦ subst (λ k. 2 ^ k ≤ most) (omega arith) first
+]
+
+pub highest_doubles : (t : Tree) → IsTree t → 2 ^ highest t ≤ weight t + 1
+highest_doubles (text l) h = omega arith
+highest_doubles (pair k o i c) h = omega (arith, highest_doubles i h.1)
+highest_doubles (stray k w) h = omega arith
+highest_doubles (capped k w) h = omega arith
+highest_doubles nothing h = omega arith
+highest_doubles (two a b) h =
+    let most = weight (two a b) + 1 in
+    pow_max (suc (height a)) (max (highest a) (highest b)) most
+    (omega (arith, height_doubles (two a b) h refl))
+    (pow_max (highest a) (highest b) most (omega (arith, highest_doubles a h.1.0)) (omega (arith, highest_doubles b h.1.1)))
+highest_doubles (three a b c) h =
+    let most = weight (three a b c) + 1 in
+    pow_max (suc (height a)) (max (highest a) (max (highest b) (highest c))) most
+    (omega (arith, height_doubles (three a b c) h refl))
+    (pow_max (highest a) (max (highest b) (highest c)) most
+    (omega (arith, highest_doubles a h.1.0))
+    (pow_max (highest b) (highest c) most (omega (arith, highest_doubles b h.1.1.0)) (omega (arith, highest_doubles c h.1.1.1))))

@@ -6,7 +6,7 @@ use Rattle.bracket_rules.specs.declared.Status.TheVariants.{PairedOpening, Paire
 use Rattle.bracket_rules.specs.Examples.{entry}
 use Rattle.bracket_rules.specs.Table.{token}
 use Rattle.bracket_rules.specs.Parse.{entries_of}
-use Rattle.bracket_trees.specs.Tree.{text, pair, stray, capped, three, tree_story}
+use Rattle.bracket_trees.specs.Tree.{text, pair, stray, capped, two, three, highest, tree_story}
 use Rattle.bracket_trees.specs.Weights.{glue_weights, tree_weights, AreCovered}
 use Rattle.bracket_trees.specs.Places.{touched}
 use Rattle.bracket_trees.specs.Found.{IsTokenAt}
@@ -16,6 +16,11 @@ entries_of_pair :
     entries_of (tree_story (pair 0 1 (stray 1 1) (Some 1)))
     ≡ entry 0 0 1 0 PairedOpening 0 ∷ entry 0 1 1 1 Unexpected 1 ∷ entry 0 2 1 0 PairedClosing 0 ∷ []
 entries_of_pair = refl
+
+-- a list of two lists stands inside a pair
+the_highest_list_may_stand_inside_a_pair :
+    highest (two (pair 0 1 (two (two (stray 1 1) (stray 1 1)) (two (stray 1 1) (stray 1 1))) (Some 1)) (stray 1 1)) ≡ 2
+the_highest_list_may_stand_inside_a_pair = refl
 
 capped_is_no_entry : tree_story (capped 0 1) ≡ []
 capped_is_no_entry = refl

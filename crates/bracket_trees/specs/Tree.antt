@@ -177,6 +177,16 @@ height nothing = 0
 height (two a b) = suc (height a)
 height (three a b c) = suc (height a)
 
+-- the greatest height of a list in the tree, the tree itself and what stands inside pairs among them
+abbrev pub highest : Tree → ℕ
+highest (text l) = 0
+highest (pair kind open_width inside close_width) = highest inside
+highest (stray kind width) = 0
+highest (capped kind width) = 0
+highest nothing = 0
+highest (two a b) = max (suc (height a)) (max (highest a) (highest b))
+highest (three a b c) = max (suc (height a)) (max (highest a) (max (highest b) (highest c)))
+
 -- all lines and columns of the leaves together, which no length, height or nesting in the tree passes
 abbrev pub weight : Tree → ℕ
 weight (text l) = l.lines + l.columns

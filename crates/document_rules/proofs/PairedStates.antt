@@ -1,9 +1,12 @@
 -- No call brings a lone surrogate into a document that has none, where the texts that it is given have none.
-use Rattle.std.proofs.Common.{◌≡◌, ℕ, ◌+◌, ◌<◌, not, map, drop, filter, find, option_map, arith, Bool, true, false, nat_lt, nat_le, if◌then◌else◌, List, [], ◌∷◌, ◌++◌, length, Option, Some, Result, Ok, Err, refl, ap, sym, subst}
+use Rattle.std.proofs.Common.{◌≡◌, ℕ, ◌+◌, ◌<◌, not, map, drop, filter, find, option_map, arith, Bool, true, false, nat_lt, nat_le, if◌then◌else◌, List, [], ◌∷◌, ◌++◌, length, Option, Some, IfSome, Result, Ok, Err, refl, ap, sym, subst}
 use Rattle.std.specs.Prelude.{⊤, All}
-use Rattle.std.proofs.lemmas.Bool.{eqb-true, ne_eqb}
+use Rattle.std.proofs.lemmas.Bool.{eqb-true, ne_eqb, leb-false}
+use Rattle.std.proofs.lemmas.List.{drop_all}
 use Rattle.std.proofs.lemmas.List.Elements.{All-nil, All-cons, All-head, All-tail, All-push, All-filter}
-use Rattle.unit_text.specs.Units.{IsPaired}
+use Rattle.std.specs.Char.Utf16.{utf16_chars}
+use Rattle.unit_text.specs.Units.{cuts_pair, IsPaired}
+use Rattle.unit_text.proofs.Paired.{IsPaired-cut}
 use Rattle.text_rules.specs.declared.Op.{Op}
 use Rattle.batch_rules.specs.Refusals.{BatchRefusal}
 use Rattle.batch_rules.specs.Batches.{most_units, checked_batch, applied, applied_from}
@@ -17,12 +20,11 @@ use Rattle.decoration_rules.specs.Decorations.{Decorations, decorated}
 use Rattle.undo_rules.specs.Stack.{Step, Stack, joined, new_step, undone_lists, redone_lists, undone, redone}
 use Rattle.snapshot_rules.specs.Refusals.{ShelfRefusal}
 use Rattle.snapshot_rules.specs.Snapshots.{Snapshot, FlatShelf, IsRising, IsSound, empty_shelf, has_id, skipped, front, front_of, least_read, is_full, is_open, flat_take, flat_peek, flat_close}
-use Rattle.snapshot_rules.proofs.Fronts.{IsPaired-front}
 use Rattle.document_rules.specs.declared.ModelError.{ModelError}
 use Rattle.document_rules.specs.Refusals.{FlatRefusal, limit}
 use Rattle.document_rules.specs.Document.{greatest_version, FlatChange, FlatState, new_document, flat_open, after_batch, edited_by, flat_edit, text_before, text_after, carried_back, carried_on, returned, undone_step, flat_undo, redone_step, flat_redo, with_decorations, flat_decorate}
 use Rattle.document_rules.specs.Outcomes.{Changes, ChangesWith, Moves}
-use Rattle.document_rules.specs.Snapshots.{with_shelf, flat_snapshot, units_read, flat_peek_of, flat_skipped, flat_close_of}
+use Rattle.document_rules.specs.Snapshots.{with_shelf, flat_snapshot, units_read, flat_peek_of, flat_skipped, flat_close_of, EndsBesidePairs}
 use Rattle.document_rules.specs.Paired.{IsPairedChange, ArePairedSteps, IsPairedShelf, IsPairedState}
 
 abbrev IsPairedStep : Step FlatChange → Type 0
@@ -112,29 +114,34 @@ paired_others id n own (x ∷ xs) same above kept =
     (subst HasPairedRest (sym (skipped_by false id n x other)) (All-head HasPairedRest x xs kept))
     (paired_others id n own xs same (All-tail (λ (later : Snapshot). own < later.id) x xs above) (All-tail HasPairedRest x xs kept))
 
-paired_skipped-by : (t : Bool) (id count : ℕ) (units : List ℕ) (x : Snapshot) (xs : List Snapshot) → has_id id x ≡ t → IsRising (x ∷ xs)
-    → All HasPairedRest (x ∷ xs) → front_of count (option_map (λ snapshot. snapshot.rest) (find (has_id id) (x ∷ xs))) ≡ Ok units
-    → (front_of count (option_map (λ snapshot. snapshot.rest) (find (has_id id) xs)) ≡ Ok units → All HasPairedRest (map (skipped id (length units)) xs))
-    → All HasPairedRest (map (skipped id (length units)) (x ∷ xs))
-paired_skipped-by true id count units x xs e rising kept taken later =
-    let is : front count x.rest ≡ units = front_taken (nat_lt count least_read) count x.rest units _ (rw e at taken) in
-    let rest : IsPaired (drop (length units) x.rest) =
-    subst (λ (u : List ℕ). IsPaired (drop (length u) x.rest)) is (IsPaired-front x.rest count (All-head HasPairedRest x xs kept)).1 in
-    All-cons HasPairedRest (skipped id (length units) x) (map (skipped id (length units)) xs)
-    (subst HasPairedRest (sym (skipped_by true id (length units) x e)) rest)
-    (paired_others id (length units) x.id xs (eqb-true x.id id e) rising.0 (All-tail HasPairedRest x xs kept))
-paired_skipped-by false id count units x xs e rising kept taken later =
-    All-cons HasPairedRest (skipped id (length units) x) (map (skipped id (length units)) xs)
-    (subst HasPairedRest (sym (skipped_by false id (length units) x e)) (All-head HasPairedRest x xs kept)) (later (rw e at taken))
+-- what is left of a text behind so many units, which end inside no pair
+paired_behind : (x : List ℕ) (n : ℕ) → cuts_pair x n ≡ false → IsPaired x → IsPaired (drop n x)
+paired_behind x n whole h = by (nat_le n (length x)) refl
+  where
+    by : (within : Bool) → nat_le n (length x) ≡ within → IsPaired (drop n x)
+    by true e = (IsPaired-cut x n (rw (e, whole) refl) h).1
+    by false e = subst IsPaired (sym (drop_all n x (omega (arith, leb-false n (length x) e)))) (unfold utf16_chars in refl)
 
--- what a read took of a snapshot is skipped
-paired_skipped : (id count : ℕ) (units : List ℕ) (xs : List Snapshot) → IsRising xs → All HasPairedRest xs
-    → front_of count (option_map (λ snapshot. snapshot.rest) (find (has_id id) xs)) ≡ Ok units
-    → All HasPairedRest (map (skipped id (length units)) xs)
-paired_skipped id count units [] rising kept taken = kept
-paired_skipped id count units (x ∷ xs) rising kept taken =
-    paired_skipped-by (has_id id x) id count units x xs refl rising kept taken
-    (paired_skipped id count units xs rising.1 (All-tail HasPairedRest x xs kept))
+paired_skipped-by : (t : Bool) (id n : ℕ) (x : Snapshot) (xs : List Snapshot) → has_id id x ≡ t → IsRising (x ∷ xs)
+    → All HasPairedRest (x ∷ xs) → IfSome (option_map (λ (s : Snapshot). s.rest) (find (has_id id) (x ∷ xs))) (λ rest. cuts_pair rest n ≡ false)
+    → (IfSome (option_map (λ (s : Snapshot). s.rest) (find (has_id id) xs)) (λ rest. cuts_pair rest n ≡ false) → All HasPairedRest (map (skipped id n) xs))
+    → All HasPairedRest (map (skipped id n) (x ∷ xs))
+paired_skipped-by true id n x xs e rising kept whole later =
+    let rest : IsPaired (drop n x.rest) = paired_behind x.rest n (rw e at whole) (All-head HasPairedRest x xs kept) in
+    All-cons HasPairedRest (skipped id n x) (map (skipped id n) xs)
+    (subst HasPairedRest (sym (skipped_by true id n x e)) rest)
+    (paired_others id n x.id xs (eqb-true x.id id e) rising.0 (All-tail HasPairedRest x xs kept))
+paired_skipped-by false id n x xs e rising kept whole later =
+    All-cons HasPairedRest (skipped id n x) (map (skipped id n) xs)
+    (subst HasPairedRest (sym (skipped_by false id n x e)) (All-head HasPairedRest x xs kept)) (later (rw e at whole))
+
+paired_skipped : (id n : ℕ) (xs : List Snapshot) → IsRising xs → All HasPairedRest xs
+    → IfSome (option_map (λ (s : Snapshot). s.rest) (find (has_id id) xs)) (λ rest. cuts_pair rest n ≡ false)
+    → All HasPairedRest (map (skipped id n) xs)
+paired_skipped id n [] rising kept whole = kept
+paired_skipped id n (x ∷ xs) rising kept whole =
+    paired_skipped-by (has_id id x) id n x xs refl rising kept whole
+    (paired_skipped id n xs rising.1 (All-tail HasPairedRest x xs kept))
 
 -- ---- the rules
 
@@ -256,14 +263,9 @@ IsPairedState-close (Ok x) old new id done h =
     with_shelf_paired old new (flat_close old.shelf id) done (λ shelf e. paired_closed (is_open old.shelf id) old.shelf shelf id _ e h.shelf) h
 IsPairedState-close (Err e) old new id done h = subst IsPairedState (sym done.0) h
 
-peeked : (r : Result (List ℕ) ShelfRefusal) (units : List ℕ) → units_read r ≡ Ok units → r ≡ Ok units
-peeked (Err e) units done = absurd cc
-peeked (Ok read) units done = cc
-
--- the units that a read took are skipped
-pub IsPairedState-skip : (old new : FlatState) (id n count : ℕ) (units : List ℕ) → IsSound old.shelf → new ≡ flat_skipped old id n
-    → flat_peek_of old id count ≡ Ok units → n ≡ length units → IsPairedState old → IsPairedState new
-IsPairedState-skip old new id n count units sound is taken all h =
-    let rest : All HasPairedRest (map (skipped id (length units)) old.shelf.snapshots) =
-    paired_skipped id count units old.shelf.snapshots sound.rising h.shelf (peeked (flat_peek old.shelf id count) units taken) in
-    rw (is, all) (record { units = h.units; undo = h.undo; redo = h.redo; shelf = rest })
+-- units are skipped that end inside no pair
+pub IsPairedState-skip : (old new : FlatState) (id n : ℕ) → IsSound old.shelf → new ≡ flat_skipped old id n
+    → EndsBesidePairs old id n → IsPairedState old → IsPairedState new
+IsPairedState-skip old new id n sound is whole h =
+    let rest : All HasPairedRest (map (skipped id n) old.shelf.snapshots) = paired_skipped id n old.shelf.snapshots sound.rising h.shelf whole in
+    rw is (record { units = h.units; undo = h.undo; redo = h.redo; shelf = rest })

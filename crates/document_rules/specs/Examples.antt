@@ -8,7 +8,7 @@ use Rattle.bracket_rules.specs.declared.Entry.{Entry}
 use Rattle.bracket_rules.specs.declared.Status.{Status}
 use Rattle.bracket_rules.specs.declared.Status.TheVariants.{PairedOpening, PairedClosing, Unclosed, Unexpected}
 use Rattle.undo_rules.specs.Stack.{Stack}
-use Rattle.document_rules.specs.Snapshots.{flat_snapshot, flat_peek_of, flat_skipped, flat_close_of}
+use Rattle.document_rules.specs.Snapshots.{flat_snapshot, flat_peek_of, flat_skipped, flat_close_of, EndsBesidePairs}
 use Rattle.document_rules.specs.Stops.{flat_stops}
 use Rattle.document_rules.specs.Brackets.{flat_brackets, flat_match, flat_level}
 use Rattle.document_rules.specs.Refusals.{FlatRefusal, unknown, range, overlap, limit}
@@ -181,6 +181,16 @@ an_edit_leaves_the_snapshot = refl
 
 what_was_read_is_read_once : flat_peek_of (flat_skipped hi_edited 1 2) 1 2 ≡ Ok []
 what_was_read_is_read_once = refl
+
+-- of `a` and two surrogates that are a pair, two units end inside it
+abbrev smile : FlatState
+smile = record (new_document [] standard_table) { shelf = record { snapshots = record { id = 1; rest = 97 ∷ 0xD83D ∷ 0xDE00 ∷ [] } ∷ []; next_id = 2 } }
+
+a_unit_before_a_pair : EndsBesidePairs smile 1 1
+a_unit_before_a_pair = refl
+
+a_pair_that_is_cut : EndsBesidePairs smile 1 2 ≡ (true ≡ false)
+a_pair_that_is_cut = refl
 
 no_such_snapshot : flat_peek_of hi 2 2 ≡ Err unknown
 no_such_snapshot = refl

@@ -1,8 +1,9 @@
 -- The snapshots of the flat document: the text of now is put on the shelf, and read from its front.
-use Rattle.std.specs.Prelude.{ℕ, List, Result, Ok, Err}
+use Rattle.std.specs.Prelude.{ℕ, ◌≡◌, false, List, Result, Ok, Err, IfSome}
+use Rattle.unit_text.specs.Units.{cuts_pair}
 use Rattle.snapshot_rules.specs.Refusals.{ShelfRefusal}
 use Rattle.snapshot_rules.specs.Refusals as refused
-use Rattle.snapshot_rules.specs.Snapshots.{FlatShelf, flat_take, flat_peek, flat_skip, flat_close}
+use Rattle.snapshot_rules.specs.Snapshots.{FlatShelf, rest_of, flat_take, flat_peek, flat_skip, flat_close}
 use Rattle.document_rules.specs.Refusals.{FlatRefusal, unknown, range, limit}
 use Rattle.document_rules.specs.Document.{FlatState}
 
@@ -31,6 +32,10 @@ flat_peek_of f id count = units_read (flat_peek f.shelf id count)
 -- so many units of what is left of the snapshot of this id were read
 abbrev pub flat_skipped : FlatState → ℕ → ℕ → FlatState
 flat_skipped f id n = record f { shelf = flat_skip f.shelf id n }
+
+-- so many units of what is left of the snapshot of this id, if it is open, end inside no pair of surrogates
+abbrev pub EndsBesidePairs : FlatState → ℕ → ℕ → Type 0
+EndsBesidePairs f id n = IfSome (rest_of f.shelf id) (λ rest. cuts_pair rest n ≡ false)
 
 -- the snapshot of this id is no longer open
 abbrev pub flat_close_of : FlatState → ℕ → Result FlatState FlatRefusal

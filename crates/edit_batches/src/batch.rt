@@ -1,11 +1,12 @@
 //! A batch that was checked.
 
-ghost use Rattle.std.specs.Prelude.{◌≡◌, ℕ, ◌+◌, ◌<◌, ◌≤◌, ◌^◌, length, IfOk, List};
+ghost use Rattle.std.specs.Prelude.{◌≡◌, ℕ, ◌+◌, ◌<◌, ◌≤◌, ◌^◌, length, Err, IfOk, List};
 ghost use Rattle.batch_rules.specs.Batches.{most_units, applied_from, applied, checked_batch, sorted_ops, inverse_from, text_units, StandFrom, FollowFrom};
 ghost use Rattle.edit_batches.specs.Outcomes.{Checks};
 
 use crate::checks::{has_bad_span, is_too_long, overlap};
 use crate::inverse::inverse_of;
+use crate::order::sorted_ops;
 use batch_rules::BatchError;
 use std::alloc::{AllocError, Global};
 use std::marker::Model;
@@ -31,16 +32,18 @@ impl Model for Batch {
 }
 
 impl Batch {
-    /// A batch of these edits of the text, which are in their order, as `sorted_ops` gives them. `Range` where a span is none of the
-    /// text; else `Overlap` where two of them overlap; else `Limit` where the new text would be too long.
+    /// A batch of these edits of the text, in whatever order they come. `Range` where a span is none of the text; else `Overlap`
+    /// where two of them overlap; else `Limit` where the new text would be too long. It takes memory only where they do not
+    /// come in their order, as `sorted_ops` gives them.
     pub fn checked<F: Flat>(ops: Vec<Op>, text: &F) -> Result<Batch, BatchError>
-        ensures rule { (given : List Op) → ops.items ≡ sorted_ops given
-            → Checks result (checked_batch (F.units text.now) given) }
+        ensures rule { Checks result (checked_batch (F.units text.now) ops.items) }
         ensures standing { IfOk result (λ b. StandFrom 0 (F.units text.now) b) }
         ensures fits { IfOk result
             (λ b. length (applied_from 0 (F.units text.now) b) ≤ most_units) }
         ensures texts { IfOk result (λ b. text_units b ≤ most_units) }
+        ensures sure { sorted_ops ops.items ≡ ops.items → ¬ (result ≡ Err BatchError.Memory) }
     {
+        let ops = sorted_ops(ops).map_err(|_| BatchError::Memory)?;
         if has_bad_span(&ops, text) {
             return Err(BatchError::Range);
         }

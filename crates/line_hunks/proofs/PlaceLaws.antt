@@ -1,19 +1,19 @@
 -- The places of lines.
-use Rattle.std.proofs.Common.{◌≡◌, ℕ, zero, suc, ◌+◌, ◌-◌, ◌<◌, Bool, true, false, not, ◌||◌, eqb, inl, inr, List, [], ◌∷◌, ◌++◌, length, get_or, drop, refl, sym, ◌∙◌, ap, subst, arith}
+use Rattle.std.proofs.Common.{◌≡◌, ℕ, zero, suc, ◌+◌, ◌-◌, ◌<◌, Bool, true, false, not, ◌||◌, eqb, inl, inr, List, [], ◌∷◌, ◌++◌, length, get_or, take, drop, refl, sym, ◌∙◌, ap, subst, arith}
 use Rattle.std.specs.Prelude.{replicate}
-use Rattle.std.proofs.lemmas.Bool.{cases_eq, eq-eqb, ne_eqb}
-use Rattle.std.proofs.lemmas.List.{append_assoc, append-nil, length-append, get_or_at, drop_at}
+use Rattle.std.proofs.lemmas.Bool.{cases_eq, cases_lt, eq-eqb, ne_eqb}
+use Rattle.std.proofs.lemmas.List.{append_assoc, append-nil, length-append, replicate_more, get_or_at, get_or_append_left, take_at, drop_at, drop_all, nil_from_length}
 use Rattle.mark_rules.specs.declared.Mark.{Mark}
 use Rattle.mark_rules.specs.declared.Mark.TheVariants.{Kept, New}
-use Rattle.mark_rules.specs.Marks.{kept_marks, mark_at, kept_run, has_new}
-use Rattle.mark_rules.proofs.MarkLaws.{kept_run-kept_marks, has_new-append, has_new-kept_marks}
+use Rattle.mark_rules.specs.Marks.{kept_marks, mark_at, kept_run, has_new, SpansNew}
+use Rattle.mark_rules.proofs.MarkLaws.{length-kept_marks, kept_run-kept_marks, has_new-append, has_new-kept_marks}
 use Rattle.line_hunks.specs.declared.run.Run.{Run}
 use Rattle.line_hunks.specs.declared.stack.Stacked.{Stacked}
 use Rattle.line_hunks.specs.declared.places.Place.{Place}
-use Rattle.line_hunks.specs.Run.{is_new, later_mark, marks_from, run_marks, lines_in, IsInRange}
+use Rattle.line_hunks.specs.Run.{is_new, later_mark, marks_from, run_marks, lines_in, kept_of, kept_lines, IsInRange}
 use Rattle.line_hunks.specs.Stack.{Holds}
 use Rattle.line_hunks.specs.Runs.{marks_up, marks_down, marks_around, StandsBy, Stands}
-use Rattle.line_hunks.specs.Places.{IsPlace}
+use Rattle.line_hunks.specs.Places.{EndsNew, IsPlace}
 use Rattle.line_hunks.proofs.RunMarks.{length-marks_from, length-marks_up, length-marks_down, marks_from-split}
 
 -- Runs of a stack below others.
@@ -43,7 +43,7 @@ kept_run-new mark zero marks is some = absurd (omega arith)
 kept_run-new New (suc lines) marks is some = refl
 kept_run-new (Kept number) (suc lines) marks is some = (cc)
 
-not-kept : (kept mark : Bool) → kept ≡ not mark → kept ≡ false → mark ≡ true
+pub not-kept : (kept mark : Bool) → kept ≡ not mark → kept ≡ false → mark ≡ true
 not-kept true true opposite is = refl
 not-kept true false opposite is = (cc)
 not-kept false true opposite is = refl
@@ -67,6 +67,34 @@ apart-up mark (other ∷ above) run below behind stands next kept =
     ap kept_run (append_assoc (marks_up above) (run_marks other) behind)
     ∙ apart-up other.first above run below (run_marks other ++ behind) stands.3 (λ new. kept_run-new other.first other.lines behind new stands.1) kept
 
+-- Before a kept run the last line is new.
+
+EndsNew-new : (marks : List Mark) → EndsNew (marks ++ New ∷ [])
+EndsNew-new marks = get_or_at marks New [] New (length (marks ++ New ∷ []) - 1) (omega (arith, length-append marks (New ∷ [])))
+
+EndsNew-run : (marks : List Mark) (mark : Mark) (lines : ℕ) → is_new mark ≡ true → 0 < lines → EndsNew (marks ++ marks_from mark lines)
+EndsNew-run marks mark zero is some = absurd (omega arith)
+EndsNew-run marks (Kept number) (suc lines) is some = cc
+EndsNew-run marks New (suc lines) is some =
+    let more : suc lines ≡ lines + 1 = omega arith in
+    let last : replicate (suc lines) New ≡ replicate lines New ++ New ∷ [] = ap (λ n. replicate n New) more ∙ sym (replicate_more lines New) in
+    subst EndsNew (sym (ap (λ ms. marks ++ ms) last ∙ sym (append_assoc marks (replicate lines New) (New ∷ []))))
+    (EndsNew-new (marks ++ replicate lines New))
+
+under-up : (mark : Mark) (runs : List Run) → StandsBy mark runs → is_new mark ≡ false → EndsNew (marks_up runs)
+under-up mark [] stands kept = refl
+under-up mark (run ∷ runs) stands kept =
+    EndsNew-run (marks_up runs) run.first run.lines (not-mark (is_new run.first) (is_new mark) stands.0 kept) stands.1
+
+under-down : (marks : List Mark) (gap : Run) (above : List Run) (run : Run) (below : List Run) → StandsBy gap.first (above ++ run ∷ below) → 0 < gap.lines
+    → is_new run.first ≡ false → EndsNew (marks ++ (run_marks gap ++ marks_down above))
+under-down marks gap [] run below stands some kept =
+    subst (λ ms. EndsNew (marks ++ ms)) (sym (append-nil (run_marks gap)))
+    (EndsNew-run marks gap.first gap.lines (not-kept (is_new run.first) (is_new gap.first) stands.0 kept) some)
+under-down marks gap (other ∷ above) run below stands some kept =
+    subst EndsNew (append_assoc marks (run_marks gap) (run_marks other ++ marks_down above))
+    (under-down (marks ++ run_marks gap) other above run below stands.3 stands.1 kept)
+
 -- The three places.
 
 pub gap-place : (front : List Run) (gap : Run) (back : List Run) (n before : ℕ) → Stands front gap back → n ≡ lines_in front + before + 1 → before < gap.lines
@@ -78,6 +106,7 @@ gap-place front gap back n before stands line within = record {
   line = omega (arith, length-marks_up front);
   within = within;
   range = stands.range;
+  under = under-up gap.first front stands.before;
   apart = apart-down gap.first back stands.behind;
 }
 
@@ -96,6 +125,7 @@ front-place front gap back n found before stands holds at =
       line = omega (arith, length-marks_up holds.below, holds.height, holds.under, holds.reach);
       within = omega (arith, holds.height, holds.under, holds.reach);
       range = (StandsBy-at gap.first holds.above run holds.below stand).0;
+      under = under-up run.first holds.below (StandsBy-at gap.first holds.above run holds.below stand).1;
       apart = apart-up gap.first holds.above run holds.below (run_marks gap ++ marks_down back) stand
           (λ new. kept_run-new gap.first gap.lines (marks_down back) new stands.some);
     }
@@ -127,6 +157,7 @@ back-place front gap back from_end found before stands holds at =
       line = omega (arith, size, lines, holds.reach, holds.under);
       within = omega (arith, holds.height, holds.under, holds.reach);
       range = (StandsBy-at gap.first holds.above run holds.below stand).0;
+      under = under-down (marks_up front) gap holds.above run holds.below stand stands.some;
       apart = apart-down run.first holds.below (StandsBy-at gap.first holds.above run holds.below stand).1;
     }
 
@@ -137,6 +168,11 @@ marks_from-first mark zero some = absurd (omega arith)
 marks_from-first New (suc lines) some = ap (λ n. New ∷ replicate n New) (omega arith)
 marks_from-first (Kept number) (suc lines) some =
     ap (λ n. Kept number ∷ kept_marks n lines) (omega arith) ∙ ap (λ n. Kept number ∷ kept_marks (number + 1) n) (omega arith)
+
+kept_of-run : (mark : Mark) (before lines : ℕ) (behind : List Mark) → 0 < lines → (is_new mark ≡ false → kept_run behind ≡ 0)
+    → kept_of (later_mark mark before) lines ≡ kept_run (marks_from (later_mark mark before) lines ++ behind)
+kept_of-run New before lines behind some apart = sym (kept_run-new New lines behind refl some)
+kept_of-run (Kept number) before lines behind some apart = sym (kept_run-kept_marks (number + before) lines behind some (apart refl))
 
 module _ (marks : List Mark) (n : ℕ) (place : Place) (is : IsPlace marks n place) where
   -- the lines before line n, and those from it on
@@ -167,22 +203,9 @@ module _ (marks : List Mark) (n : ℕ) (place : Place) (is : IsPlace marks n pla
       ∙ drop_at (is.lower ++ marks_from place.run.first place.before)
       (marks_from (later_mark place.run.first place.before) (place.run.lines - place.before) ++ is.upper) (n - 1) before-here
 
-  pub kept-here : (number : ℕ) → place.run.first ≡ Kept number → place.run.lines - place.before ≡ kept_run (drop (n - 1) marks)
-  kept-here number first =
-      let kept : is_new place.run.first ≡ false = ap is_new first in
-      sym (
-      ap kept_run rest-here
-      ∙ ap (λ m. kept_run (marks_from (later_mark m place.before) (place.run.lines - place.before) ++ is.upper)) first
-      ∙ kept_run-kept_marks (number + place.before) (place.run.lines - place.before) is.upper (omega (arith, is.within)) (is.apart kept)
-      )
-
-  pub new-here : place.run.first ≡ New → 0 ≡ kept_run (drop (n - 1) marks)
-  new-here first =
-      sym (
-      ap kept_run rest-here
-      ∙ ap (λ m. kept_run (marks_from (later_mark m place.before) (place.run.lines - place.before) ++ is.upper)) first
-      ∙ kept_run-new New (place.run.lines - place.before) is.upper refl (omega (arith, is.within))
-      )
+  pub kept-here : kept_of (later_mark place.run.first place.before) (place.run.lines - place.before) ≡ kept_run (drop (n - 1) marks)
+  kept-here =
+      kept_of-run place.run.first place.before (place.run.lines - place.before) is.upper (omega (arith, is.within)) is.apart ∙ ap kept_run (sym rest-here)
 
 -- A text in which no line is new.
 
@@ -241,3 +264,121 @@ clean-behind front gap back n stands kept none same = elim (cases_eq n 0) [
   | inl zero_lines ↦ eq-eqb n 0 zero_lines ∙ ap not (sym (new-nowhere front gap back stands kept none (sym same ∙ zero_lines)))
   | inr some ↦ ne_eqb n 0 some ∙ ap not (sym (new-back front gap back stands kept (omega arith)))
 ]
+
+-- The first and the last new line.
+
+or-none : (x y : Bool) → y ≡ false → (x || y) ≡ x
+or-none true y none = refl
+or-none false y none = none
+
+has_new-some : (marks : List Mark) → has_new marks ≡ true → 0 < length marks
+has_new-some [] stale = cc
+has_new-some (mark ∷ marks) stale = omega arith
+
+has_new-take : (n k : ℕ) (marks : List Mark) → n < k → n < length marks → get_or marks n New ≡ New → has_new (take k marks) ≡ true
+has_new-take n zero marks less within new = absurd (omega arith)
+has_new-take n (suc k) [] less within new = absurd (omega arith)
+has_new-take n (suc k) (New ∷ marks) less within new = refl
+has_new-take zero (suc k) (Kept i ∷ marks) less within new = cc
+has_new-take (suc n) (suc k) (Kept i ∷ marks) less within new = has_new-take n k marks (omega arith) (omega arith) new
+
+-- so many lines are kept, and the one behind them is new
+pub record FirstNew (marks : List Mark) (kept : ℕ) : Type 0 where
+  pub within : kept < length marks
+  pub new : mark_at (kept + 1) marks ≡ New
+  pub before : has_new (take kept marks) ≡ false
+
+FirstNew-behind : (kept behind : List Mark) (n : ℕ) → length kept ≡ n → has_new kept ≡ false → kept_run behind ≡ 0 → has_new behind ≡ true
+    → FirstNew (kept ++ behind) n
+FirstNew-behind kept [] n size clean apart stale = cc
+FirstNew-behind kept (Kept i ∷ marks) n size clean apart stale = absurd (omega arith)
+FirstNew-behind kept (New ∷ marks) n size clean apart stale = record {
+  within = omega (arith, size, length-append kept (New ∷ marks));
+  new = get_or_at kept New marks New (n + 1 - 1) (omega (arith, size));
+  before = ap has_new (take_at kept (New ∷ marks) n size) ∙ clean;
+}
+
+FirstNew-run : (mark : Mark) (lines : ℕ) (behind : List Mark) → 0 < lines → (is_new mark ≡ false → kept_run behind ≡ 0)
+    → has_new (marks_from mark lines ++ behind) ≡ true → FirstNew (marks_from mark lines ++ behind) (kept_of mark lines)
+FirstNew-run New zero behind some apart stale = absurd (omega arith)
+FirstNew-run New (suc lines) behind some apart stale = record { within = omega arith; new = refl; before = refl }
+FirstNew-run (Kept number) lines behind some apart stale =
+    let kept = kept_marks number lines in
+    let clean : has_new kept ≡ false = has_new-kept_marks number lines in
+    let later : has_new behind ≡ true = ap (λ b. b || has_new behind) (sym clean) ∙ sym (has_new-append kept behind) ∙ stale in
+    FirstNew-behind kept behind lines (length-kept_marks number lines) clean (apart refl) later
+
+pub first-new : (marks : List Mark) (place : Place) → IsPlace marks 1 place → has_new marks ≡ true → FirstNew marks (kept_lines place.run)
+first-new marks place is stale =
+    let none : is.lower ≡ [] = nil_from_length is.lower (omega (arith, is.line)) in
+    let parts : marks ≡ run_marks place.run ++ is.upper = is.parts ∙ ap (λ ms. ms ++ (run_marks place.run ++ is.upper)) none in
+    subst (λ ms. FirstNew ms (kept_lines place.run)) (sym parts)
+    (FirstNew-run place.run.first place.run.lines is.upper (omega (arith, is.within)) is.apart (ap has_new (sym parts) ∙ stale))
+
+-- so many last lines are kept, and the one before them is new
+pub record LastNew (marks : List Mark) (kept : ℕ) : Type 0 where
+  pub within : kept < length marks
+  pub new : mark_at (length marks - kept) marks ≡ New
+  pub behind : has_new (drop (length marks - kept) marks) ≡ false
+
+LastNew-run : (lower : List Mark) (mark : Mark) (lines : ℕ) → 0 < lines → (is_new mark ≡ false → EndsNew lower)
+    → has_new (lower ++ marks_from mark lines) ≡ true → LastNew (lower ++ marks_from mark lines) (kept_of mark lines)
+LastNew-run lower New lines some under stale =
+    let marks = lower ++ marks_from New lines in
+    record {
+      within = omega (arith, length-append lower (marks_from New lines), length-marks_from New lines);
+      new = subst (λ n. mark_at n marks ≡ New) (omega arith) (EndsNew-run lower New lines refl some);
+      behind = ap has_new (drop_all (length marks - 0) marks (omega arith));
+    }
+LastNew-run lower (Kept number) lines some under stale =
+    let kept = kept_marks number lines in
+    let clean : has_new kept ≡ false = has_new-kept_marks number lines in
+    let earlier : has_new lower ≡ true = sym (or-none (has_new lower) (has_new kept) clean) ∙ sym (has_new-append lower kept) ∙ stale in
+    let long : 0 < length lower = has_new-some lower earlier in
+    let sum : length (lower ++ kept) ≡ length lower + lines = omega (arith, length-append lower kept, length-kept_marks number lines) in
+    let size : length (lower ++ kept) - lines ≡ length lower = omega (arith, sum) in
+    record {
+      within = omega (arith, sum, long);
+      new = ap (λ n. mark_at n (lower ++ kept)) size ∙ get_or_append_left lower kept New (length lower - 1) (omega (arith, long)) ∙ under refl;
+      behind = ap (λ n. has_new (drop n (lower ++ kept))) size ∙ ap has_new (drop_at lower kept (length lower) refl) ∙ clean;
+    }
+
+pub last-new : (marks : List Mark) (n : ℕ) (place : Place) → IsPlace marks n place → n ≡ length marks → has_new marks ≡ true
+    → LastNew marks (kept_lines place.run)
+last-new marks n place is last stale =
+    let run = run_marks place.run in
+    let none : is.upper ≡ [] =
+    nil_from_length is.upper
+    (omega (
+      arith,
+      is.line,
+      last,
+      is.within,
+      ap length is.parts,
+      length-append is.lower (run ++ is.upper),
+      length-append run is.upper,
+      length-marks_from place.run.first place.run.lines,
+    )) in
+    let parts : marks ≡ is.lower ++ run = is.parts ∙ ap (λ ms. is.lower ++ (run ++ ms)) none ∙ ap (λ ms. is.lower ++ ms) (append-nil run) in
+    subst (λ ms. LastNew ms (kept_lines place.run)) (sym parts)
+    (LastNew-run is.lower place.run.first place.run.lines (omega (arith, is.within)) is.under (ap has_new (sym parts) ∙ stale))
+
+pub SpansNew-between : (marks : List Mark) (before behind : ℕ) → FirstNew marks before → LastNew marks behind
+    → SpansNew marks (before + 1) (length marks - behind)
+SpansNew-between marks before behind first last =
+    let first_at : has_new (take (before + 1 - 1) marks) ≡ false = ap (λ n. has_new (take n marks)) (omega arith) ∙ first.before in
+    record {
+      from = omega arith;
+      ordered = elim (cases_lt (length marks - behind) (before + 1)) [
+        | inl less ↦
+            let new : has_new (take before marks) ≡ true =
+            has_new-take (length marks - behind - 1) before marks (omega (arith, less, last.within)) (omega (arith, last.within)) last.new in
+            cc
+        | inr ordered ↦ ordered
+      ];
+      to = omega arith;
+      first_new = first.new;
+      last_new = last.new;
+      kept_before = first_at;
+      kept_behind = last.behind;
+    }

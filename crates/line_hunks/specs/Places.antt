@@ -1,11 +1,16 @@
 -- Where a line stands among the marks.
 use Rattle.std.specs.Prelude.{ℕ, ◌≡◌, ◌+◌, ◌<◌, false, List, ◌++◌, length}
 use Rattle.mark_rules.specs.declared.Mark.{Mark}
-use Rattle.mark_rules.specs.Marks.{kept_run}
+use Rattle.mark_rules.specs.declared.Mark.TheVariants.{New}
+use Rattle.mark_rules.specs.Marks.{mark_at, kept_run}
 use Rattle.line_hunks.specs.declared.places.Place.{Place}
 use Rattle.line_hunks.specs.Run.{is_new, run_marks, IsInRange}
 
--- line n stands here; no line that goes on from a kept run stands behind it
+-- the last of these lines is new, if there are any
+abbrev pub EndsNew : List Mark → Type 0
+EndsNew marks = mark_at (length marks) marks ≡ New
+
+-- line n stands here; beside a kept run no line goes on
 pub record IsPlace (marks : List Mark) (n : ℕ) (place : Place) : Type 0 where
   pub lower : List Mark
   pub upper : List Mark
@@ -13,4 +18,5 @@ pub record IsPlace (marks : List Mark) (n : ℕ) (place : Place) : Type 0 where
   pub line : n ≡ length lower + place.before + 1
   pub within : place.before < place.run.lines
   pub range : IsInRange place.run
+  pub under : is_new place.run.first ≡ false → EndsNew lower
   pub apart : is_new place.run.first ≡ false → kept_run upper ≡ 0

@@ -36,6 +36,14 @@ abbrev pub lines_in : List Run → ℕ
 lines_in [] = 0
 lines_in (run ∷ runs) = run.lines + lines_in runs
 
+-- how many lines are kept, of so many from one with this mark on
+abbrev pub kept_of : Mark → ℕ → ℕ
+kept_of New lines = 0
+kept_of (Kept number) lines = lines
+
+abbrev pub kept_lines : Run → ℕ
+kept_lines run = kept_of run.first run.lines
+
 -- the number behind the last one
 abbrev pub numbers_end : Mark → ℕ → ℕ
 numbers_end New lines = lines

@@ -1,8 +1,8 @@
 //! The marks of a text's lines.
 
-ghost use Rattle.std.specs.Prelude.{◌≡◌, ◌+◌, ◌-◌, ◌^◌, ◌<◌, ◌≤◌, [], ◌∷◌, drop, length, not, OnOk};
+ghost use Rattle.std.specs.Prelude.{◌≡◌, ◌+◌, ◌-◌, ◌^◌, ◌<◌, ◌≤◌, [], ◌∷◌, drop, length, false, not, OnOk, IfSome, IfNone};
 ghost use Rattle.mark_rules.specs.declared.Mark.TheVariants.{New};
-ghost use Rattle.mark_rules.specs.Marks.{clean_marks, edited_marks, mark_at, kept_run, has_new, Rises};
+ghost use Rattle.mark_rules.specs.Marks.{clean_marks, edited_marks, mark_at, kept_run, has_new, SpansNew, Rises};
 
 use crate::runs::Runs;
 use mark_rules::Mark;
@@ -89,14 +89,25 @@ impl Hunks {
         self.runs.lines()
     }
 
+    /// The mark of line `n`, and how many lines from it on are kept one after another: 0 where it is new. One look-up.
+    pub fn at(&self, n: u64) -> (Mark, u64)
+        requires some { 1 ≤ n }
+        requires within { n ≤ length self.now.marks }
+        ensures mark { result.0 ≡ mark_at n self.now.marks }
+        ensures kept { result.1 ≡ kept_run (drop (n - 1) self.now.marks) }
+    {
+        let place = self.runs.place(n);
+        let (_before, rest) = place.run.split(place.before);
+        (rest.first, rest.kept())
+    }
+
     /// The mark of line `n`.
     pub fn mark(&self, n: u64) -> Mark
         requires some { 1 ≤ n }
         requires within { n ≤ length self.now.marks }
         ensures { result ≡ mark_at n self.now.marks }
     {
-        let place = self.runs.place(n);
-        place.run.mark(place.before)
+        self.at(n).0
     }
 
     /// How many lines from line `n` on are kept one after another; 0 where line `n` is new.
@@ -105,11 +116,15 @@ impl Hunks {
         requires within { n ≤ length self.now.marks }
         ensures { result ≡ kept_run (drop (n - 1) self.now.marks) }
     {
-        let place = self.runs.place(n);
-        match place.run.first {
-            Mark::Kept(_) => place.run.lines - place.before,
-            Mark::New => 0,
-        }
+        self.at(n).1
+    }
+
+    /// The first and the last new line, None where no line is new. Takes no memory.
+    pub fn stale(&self) -> Option<(u64, u64)>
+        ensures none { IfNone result (has_new self.now.marks ≡ false) }
+        ensures some { IfSome result (λ ends. SpansNew self.now.marks ends.0 ends.1) }
+    {
+        self.runs.stale()
     }
 
     /// Whether no line is new.

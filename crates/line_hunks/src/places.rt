@@ -1,7 +1,7 @@
 //! Where a line stands.
 
-ghost use Rattle.std.specs.Prelude.{◌≡◌, ◌+◌, ◌-◌, ◌≤◌, not};
-ghost use Rattle.mark_rules.specs.Marks.{has_new};
+ghost use Rattle.std.specs.Prelude.{◌≡◌, ◌+◌, ◌-◌, ◌≤◌, false, not, IfSome, IfNone};
+ghost use Rattle.mark_rules.specs.Marks.{has_new, SpansNew};
 ghost use Rattle.line_hunks.specs.Run.{lines_in};
 ghost use Rattle.line_hunks.specs.Runs.{all_marks, line_count, IsWhole};
 ghost use Rattle.line_hunks.specs.Places.{IsPlace};
@@ -48,6 +48,21 @@ impl Runs {
             // Beside kept lines stand new ones.
             Mark::Kept(_) => self.front.len() == 0 && self.back.len() == 0,
         }
+    }
+
+    /// The first and the last new line. Outside of them stand only kept lines of the first and the last run.
+    pub(crate) fn stale(&self) -> Option<(u64, u64)>
+        requires whole { IsWhole self.now }
+        ensures none { IfNone result (has_new (all_marks self.now) ≡ false) }
+        ensures some { IfSome result (λ ends. SpansNew (all_marks self.now) ends.0 ends.1) }
+    {
+        if self.is_clean() {
+            return None;
+        }
+        let lines = self.lines();
+        let before = self.place(1).run.kept();
+        let behind = self.place(lines).run.kept();
+        Some((before + 1, lines - behind))
     }
 
     /// Of a line before the gap.

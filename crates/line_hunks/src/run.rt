@@ -2,7 +2,7 @@
 
 ghost use Rattle.std.specs.Prelude.{◌≡◌, ◌-◌, ◌<◌, ◌≤◌};
 ghost use Rattle.mark_rules.specs.declared.Mark.TheVariants.{New};
-ghost use Rattle.line_hunks.specs.Run.{later_mark, head_of, tail_of, IsInRange};
+ghost use Rattle.line_hunks.specs.Run.{later_mark, head_of, tail_of, kept_lines, IsInRange};
 
 use mark_rules::Mark;
 
@@ -24,6 +24,16 @@ impl Run {
         match self.first {
             Mark::Kept(number) => Mark::Kept(number + before),
             Mark::New => Mark::New,
+        }
+    }
+
+    /// How many of the lines are kept: all or none.
+    pub(crate) fn kept(self) -> u64
+        ensures { result ≡ kept_lines self }
+    {
+        match self.first {
+            Mark::Kept(_) => self.lines,
+            Mark::New => 0,
         }
     }
 

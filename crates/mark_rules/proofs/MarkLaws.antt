@@ -51,7 +51,7 @@ RisesFrom-weaker least low [] below rises = tt
 RisesFrom-weaker least low (New ∷ marks) below rises = RisesFrom-weaker least low marks below rises
 RisesFrom-weaker least low (Kept i ∷ marks) below rises = (omega (arith, rises.0), rises.1, rises.2)
 
-RisesFrom-drop : (least n : ℕ) (marks : List Mark) → RisesFrom least marks → RisesFrom least (drop n marks)
+pub RisesFrom-drop : (least n : ℕ) (marks : List Mark) → RisesFrom least marks → RisesFrom least (drop n marks)
 RisesFrom-drop least zero marks rises = rises
 RisesFrom-drop least (suc n) [] rises = tt
 RisesFrom-drop least (suc n) (New ∷ marks) rises = RisesFrom-drop least n marks rises

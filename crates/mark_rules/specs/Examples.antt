@@ -1,8 +1,9 @@
 -- Worked examples of the definitions.
 use Rattle.std.specs.Prelude.{◌≡◌, true, false, List, [], ◌∷◌, drop, refl}
+use Rattle.std.proofs.Common.{arith}
 use Rattle.mark_rules.specs.declared.Mark.{Mark}
 use Rattle.mark_rules.specs.declared.Mark.TheVariants.{Kept, New}
-use Rattle.mark_rules.specs.Marks.{clean_marks, edited_marks, mark_at, kept_run, has_new}
+use Rattle.mark_rules.specs.Marks.{clean_marks, edited_marks, mark_at, kept_run, has_new, SpansNew}
 
 five_lines_are_kept : clean_marks 5 ≡ Kept 1 ∷ Kept 2 ∷ Kept 3 ∷ Kept 4 ∷ Kept 5 ∷ []
 five_lines_are_kept = refl
@@ -35,6 +36,17 @@ a_gap_in_the_numbers_ends_a_run = refl
 
 an_edit_leaves_a_new_line : has_new two_became_one ≡ true
 an_edit_leaves_a_new_line = refl
+
+line_two_alone_is_new : SpansNew two_became_one 2 2
+line_two_alone_is_new = record {
+  from = omega arith;
+  ordered = omega arith;
+  to = omega arith;
+  first_new = refl;
+  last_new = refl;
+  kept_before = refl;
+  kept_behind = refl;
+}
 
 a_parse_leaves_none : has_new (clean_marks 5) ≡ false
 a_parse_leaves_none = refl

@@ -1,5 +1,5 @@
 -- The marks of a text's lines, the first line's first. Lines are counted from 1.
-use Rattle.std.specs.Prelude.{ℕ, zero, suc, ◌+◌, ◌-◌, ◌≡◌, ◌≤◌, ◌==◌, ⊤, Bool, true, false, if◌then◌else◌, List, [], ◌∷◌, ◌++◌, take, drop, replicate, slice_index_or}
+use Rattle.std.specs.Prelude.{ℕ, zero, suc, ◌+◌, ◌-◌, ◌≡◌, ◌≤◌, ◌==◌, ⊤, Bool, true, false, if◌then◌else◌, List, [], ◌∷◌, ◌++◌, length, take, drop, replicate, slice_index_or}
 use Rattle.mark_rules.specs.declared.Mark.{Mark}
 use Rattle.mark_rules.specs.declared.Mark.TheVariants.{Kept, New}
 
@@ -36,6 +36,16 @@ abbrev pub has_new : List Mark → Bool
 has_new [] = false
 has_new (New ∷ marks) = true
 has_new (Kept i ∷ marks) = has_new marks
+
+-- both lines are new, and all new lines stand from the one to the other
+pub record SpansNew (marks : List Mark) (first last : ℕ) : Type 0 where
+  pub from : 1 ≤ first
+  pub ordered : first ≤ last
+  pub to : last ≤ length marks
+  pub first_new : mark_at first marks ≡ New
+  pub last_new : mark_at last marks ≡ New
+  pub kept_before : has_new (take (first - 1) marks) ≡ false
+  pub kept_behind : has_new (drop last marks) ≡ false
 
 -- if the line behind kept line i is kept, it is the one behind it in the old text too
 abbrev pub GoesOn : ℕ → List Mark → Type 0

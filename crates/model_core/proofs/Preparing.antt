@@ -7,7 +7,9 @@ use Rattle.unit_text.specs.Units.{IsPaired}
 use Rattle.text_rules.specs.declared.Op.{Op}
 use Rattle.batch_rules.specs.Refusals.{BatchRefusal}
 use Rattle.batch_rules.specs.Batches.{checked_batch, sorted_ops, has_bad_span, overlap, inverse_from, applied_from, text_units, StandFrom}
-use Rattle.batch_rules.proofs.Answers.{accepted_in_order}
+use Rattle.batch_rules.specs.declared.BatchError.{BatchError}
+use Rattle.batch_rules.proofs.Answers.{accepted_in_order, checked_batch-sorted_ops}
+use Rattle.edit_batches.specs.Outcomes.{Checks}
 use Rattle.batch_rules.proofs.Order.{sorted_ops_standing, length-sorted_ops, All-sorted_ops}
 use Rattle.batch_rules.proofs.Pairs.{HasPairedText}
 use Rattle.batch_rules.proofs.Standing.{accepted, IsGood}
@@ -28,6 +30,17 @@ use Rattle.model_core.proofs.Editing.{edited_paired}
 use Rattle.model_core.proofs.Stepping.{IsPairedState-by}
 
 -- ---- a batch in its order
+
+-- what is told of the ops in their order is told of the ops
+pub told_of_all : (x : List ℕ) (ops sorted : List Op) (r : Result (List Op) BatchError) → sorted ≡ sorted_ops ops
+    → Checks r (checked_batch x sorted) → Checks r (checked_batch x ops)
+told_of_all x ops sorted r is told =
+    subst (λ (b : Result (List Op) BatchRefusal). Checks r b) (ap (checked_batch x) is ∙ checked_batch-sorted_ops x ops) told
+
+pub accepted_of_all : (x : List ℕ) (ops sorted batch : List Op) (r : Result (List Op) BatchError) → sorted ≡ sorted_ops ops
+    → Checks r (checked_batch x sorted) → r ≡ Ok batch → checked_batch x ops ≡ Ok batch
+accepted_of_all x ops sorted batch r is told ok =
+    subst (λ (a : Result (List Op) BatchError). Checks a (checked_batch x ops)) ok (told_of_all x ops sorted r is told)
 
 no_bad_span : (x : List ℕ) (ops : List Op) → All (IsGood x) ops → has_bad_span x ops ≡ false
 no_bad_span x [] good = refl

@@ -10,7 +10,7 @@ use Rattle.snapshots.specs.Shown.{Shown, shown, Lies, LieIn}
 use Rattle.snapshots.proofs.Growth.{shown-extended, LieIn-extended}
 use Rattle.document_rules.specs.Document.{FlatState}
 use Rattle.document_rules.specs.Paired.{IsPairedShelf, IsPairedState}
-use Rattle.document_rules.specs.Snapshots.{with_shelf, flat_peek_of}
+use Rattle.document_rules.specs.Snapshots.{with_shelf, EndsBesidePairs}
 use Rattle.document_rules.proofs.PairedStates.{IsPairedState-snapshot, IsPairedState-skip, IsPairedState-close}
 use Rattle.model_core.specs.Shelving.{IsShelf}
 
@@ -61,11 +61,9 @@ module _ (f : FlatState) (new : FlatShelf) (h : IsPairedState f) where
       IsPairedState-snapshot f.shelf.next_id (Ok id) f (record f { shelf = new }) (ap (with_shelf f) rule, taken.1) h
   taken_paired (Err e) units is taken = same_paired taken.0
 
-  pub skipped_paired : (id n count : ℕ) (units : List ℕ) → IsSound f.shelf → new ≡ flat_skip f.shelf id n → flat_peek_of f id count ≡ Ok units
-      → n ≡ length units
-      → IsPairedState (record f { shelf = new })
-  skipped_paired id n count units sound is taken all =
-      IsPairedState-skip f (record f { shelf = new }) id n count units sound (ap (λ s. record f { shelf = s }) is) taken all h
+  pub skipped_paired : (id n : ℕ) → IsSound f.shelf → new ≡ flat_skip f.shelf id n → EndsBesidePairs f id n → IsPairedState (record f { shelf = new })
+  skipped_paired id n sound is whole =
+      IsPairedState-skip f (record f { shelf = new }) id n sound (ap (λ s. record f { shelf = s }) is) whole h
 
   pub closed_paired : (result : Result ⊤ ShelfError) (id : ℕ) → Closes result f.shelf new (flat_close f.shelf id) → IsPairedState (record f { shelf = new })
   closed_paired (Ok x) id closed = IsPairedState-close (Ok tt) f (record f { shelf = new }) id (ap (with_shelf f) closed) h

@@ -13,7 +13,6 @@ use Rattle.bracket_rules.specs.Table.{Table, is_table}
 use Rattle.bracket_rules.specs.Rows.{Row, text_rows}
 use Rattle.bracket_trees.specs.Told.{IsTreeOf}
 use Rattle.bracket_trees.specs.Tree.{Tree, tree_rows, IsTree}
-use Rattle.bracket_trees.specs.Weights.{tree_weights, AreCovered}
 use Rattle.mark_rules.specs.declared.Mark.{Mark}
 use Rattle.mark_rules.specs.declared.Mark.TheVariants.{New}
 use Rattle.mark_rules.specs.Marks.{clean_marks, has_new}
@@ -21,9 +20,8 @@ use Rattle.mark_rules.proofs.MarkLaws.{length-kept_marks, has_new-kept_marks}
 use Rattle.reuse_rules.specs.Agreement.{Agrees}
 use Rattle.reuse_rules.specs.Edits.{IsEdited}
 use Rattle.reuse_rules.proofs.EditedLines.{Agrees-edited, Agrees-clean, length-text_rows}
-use Rattle.node_reuse.specs.Texts.{text_weights, IsLight}
-use Rattle.node_reuse.specs.Reading.{StaysIfThere}
-use Rattle.node_reuse.proofs.LightLines.{IsLight-edited, IsLight-clean}
+use Rattle.node_reuse.specs.Texts.{IsTight}
+use Rattle.node_reuse.specs.Reading.{AgreesIfThere}
 use Rattle.document_rules.specs.Brackets.{line_contents}
 use Rattle.model_core.specs.declared.change.Change.{Change}
 use Rattle.model_core.specs.declared.change.Way.TheVariants.{Back, On}
@@ -53,7 +51,7 @@ the_tree table x tree false e kept = kept
 pub stays_unparsed : (table : Table) (x : List ℕ) (lines : ℕ) → lines ≡ length (lines_of x) → StaysWith None (replicate lines New) table x
 stays_unparsed table x lines count = record {
   count = length-replicate lines New ∙ count;
-  stays = AllNew-replicate lines;
+  agrees = AllNew-replicate lines;
   kept = never_tree table x (has_new (replicate lines New));
 }
 
@@ -93,20 +91,20 @@ module _ (x : List ℕ) (op : Op) (ordered : op.span.start ≤ op.span.end) (wit
   unfolding first old new
   some_new marks = has_new-edited first old new marks lines.more
 
-  stays_if_there : (tree : Option Tree) (marks : List Mark) (table : Table) → StaysIfThere tree marks (text_rows table (line_contents x)) (text_weights (line_contents x))
-      → StaysIfThere tree (marked_by x op marks) (text_rows table (line_contents (edited x op))) (text_weights (line_contents (edited x op)))
+  agrees_if_there : (tree : Option Tree) (marks : List Mark) (table : Table) → AgreesIfThere tree marks (text_rows table (line_contents x))
+      → AgreesIfThere tree (marked_by x op marks) (text_rows table (line_contents (edited x op)))
   unfolding first old new
-  stays_if_there None marks table stays = AllNew-edited first old new marks stays
-  stays_if_there (Some t) marks table stays = record {
-    tree = stays.tree;
-    agrees = Agrees-edited (tree_rows t) table first old new marks (line_contents x) (line_contents (edited x op)) contents stays.agrees;
-    light = IsLight-edited t table first old new marks (line_contents x) (line_contents (edited x op)) contents stays.agrees stays.light;
+  agrees_if_there None marks table agrees = AllNew-edited first old new marks agrees
+  agrees_if_there (Some t) marks table agrees = record {
+    tree = agrees.tree;
+    tight = agrees.tight;
+    rows = Agrees-edited (tree_rows t) table first old new marks (line_contents x) (line_contents (edited x op)) contents agrees.rows;
   }
 
   pub stays_edited : (tree : Option Tree) (marks : List Mark) (table : Table) → StaysWith tree marks table x → StaysWith tree (marked_by x op marks) table (edited x op)
   stays_edited tree marks table stays = record {
     count = as_many marks stays.count;
-    stays = stays_if_there tree marks table stays.stays;
+    agrees = agrees_if_there tree marks table stays.agrees;
     kept = no_tree table (edited x op) tree (has_new (marked_by x op marks)) (some_new marks);
   }
 
@@ -247,17 +245,17 @@ kept_as n ops old_tree tree before after marks was count trees are old marked =
 -- ---- a parse
 
 pub stays_parsed : (t : Tree) (marks : List Mark) (table : Table) (x : List ℕ) → length marks ≡ length (lines_of x) → is_table table ≡ true → IsTree t
-    → IsTreeOf (text_rows table (line_contents x)) t → AreCovered (tree_weights t) (text_weights (line_contents x)) → StaysWith (Some t) (clean_marks (length marks)) table x
-stays_parsed t marks table x count rule good tells light =
+    → IsTreeOf (text_rows table (line_contents x)) t → IsTight t → StaysWith (Some t) (clean_marks (length marks)) table x
+stays_parsed t marks table x count rule good tells tight =
     let rows : List Row = text_rows table (line_contents x) in
     let as_contents : length (line_contents x) ≡ length marks = length-map (lines_of x) (λ (line : Line). line.content) ∙ sym count in
     let as_rows : length rows ≡ length marks = length-text_rows table (line_contents x) ∙ as_contents in
     record {
       count = length-kept_marks 1 (length marks) ∙ count;
-      stays = record {
+      agrees = record {
         tree = good;
-        agrees = subst (λ old. Agrees old (clean_marks (length marks)) rows) (sym tells.spells) (subst (λ n. Agrees rows (clean_marks n) rows) as_rows (Agrees-clean rows));
-        light = subst (λ n. IsLight t (clean_marks n) (line_contents x)) as_contents (IsLight-clean t (line_contents x) good light);
+        tight = tight;
+        rows = subst (λ old. Agrees old (clean_marks (length marks)) rows) (sym tells.spells) (subst (λ n. Agrees rows (clean_marks n) rows) as_rows (Agrees-clean rows));
       };
       kept = the_tree table x (Some t) (has_new (clean_marks (length marks))) (has_new-kept_marks 1 (length marks)) (rule, tells);
     }
@@ -266,7 +264,7 @@ clean_if : (tree : Option Tree) (marks : List Mark) (table : Table) (x : List �
     → marks ≡ clean_marks (length marks)
 clean_if tree marks table x true e some stays = absurd cc
 clean_if None marks table x false e some stays = absurd cc
-clean_if (Some t) marks table x false e some stays = clean_where_kept marks e stays.stays.agrees.rises stays.stays.agrees.begins
+clean_if (Some t) marks table x false e some stays = clean_where_kept marks e stays.agrees.rows.rises stays.agrees.rows.begins
 
 -- where the tree is that of the text, each line is kept as itself
 pub clean_where_fresh : (tree : Option Tree) (marks : List Mark) (table : Table) (x : List ℕ) → is_some (fresh_tree tree marks) ≡ true → StaysWith tree marks table x

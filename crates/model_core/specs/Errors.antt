@@ -12,6 +12,7 @@ abbrev pub error_of : BatchError → ModelError
 error_of batch.Range = Range
 error_of batch.Overlap = Overlap
 error_of batch.Limit = Limit
+error_of batch.Memory = Memory
 
 abbrev pub refusal_of : DecoError → ModelError
 refusal_of decoration.Unknown = Unknown

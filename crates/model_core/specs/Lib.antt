@@ -4,6 +4,8 @@ pub mod History
 pub mod Carrying
 pub mod LineMarks
 pub mod Staying
+pub mod TextWeights
+pub mod Counting
 pub mod Ways
 pub mod Shelving
 pub mod Prepared

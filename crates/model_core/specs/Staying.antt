@@ -8,8 +8,8 @@ use Rattle.bracket_trees.specs.Tree.{Tree}
 use Rattle.bracket_trees.specs.Weights.{tree_weights, AreCovered}
 use Rattle.mark_rules.specs.declared.Mark.{Mark}
 use Rattle.node_reuse.specs.ParsedTree.{ParsedTree}
-use Rattle.node_reuse.specs.Texts.{text_weights, new_lines}
-use Rattle.node_reuse.specs.Reading.{StaysIfThere}
+use Rattle.node_reuse.specs.Texts.{text_weights, new_lines, IsTight}
+use Rattle.node_reuse.specs.Reading.{AgreesIfThere}
 use Rattle.document_rules.specs.Brackets.{line_contents}
 use Rattle.model_core.specs.State.{fresh_tree, IsKept}
 
@@ -23,16 +23,17 @@ pub record ParseState : Type 0 where
   -- for how many edits of the marks there is room
   pub spare : ℕ
 
--- The tree of the last parse, where there is one, stays with text x under the marks of its lines; and where no line is
+-- The tree of the last parse, where there is one, agrees with text x under the marks of its lines; and where no line is
 -- new, it is the tree of this text.
 pub record StaysWith (tree : Option Tree) (marks : List Mark) (table : Table) (x : List ℕ) : Type 0 where
   pub count : length marks ≡ length (lines_of x)
-  pub stays : StaysIfThere tree marks (text_rows table (line_contents x)) (text_weights (line_contents x))
+  pub agrees : AgreesIfThere tree marks (text_rows table (line_contents x))
   pub kept : IsKept (fresh_tree tree marks) table x
 
 -- a parse of text x by the table, which asked for the lines alone that are new under the marks
 pub record IsParseOf (table : Table) (x : List ℕ) (marks : List Mark) (parsed : ParsedTree) : Type 0 where
   pub rule : is_table table ≡ true
   pub tree : IsTreeOf (text_rows table (line_contents x)) parsed.tree
+  pub tight : IsTight parsed.tree
   pub light : AreCovered (tree_weights parsed.tree) (text_weights (line_contents x))
   pub asked : parsed.asked ≡ length (new_lines marks)

@@ -18,8 +18,9 @@ ghost use Rattle.model_core.specs.Ways.{flat_move, next_steps, marked_step};
 ghost use Rattle.model_core.specs.Prepared.{need_of, Acts, ArePairedTexts, CanCommit, HasActed, IsChangeOf, IsEnough, PreparesEdit, PreparesMove, next_op_count};
 ghost use Rattle.model_core.specs.State.{LeftAfter, KeptAfter, GrownAfter, HasMoved, KeepsParse, Renews};
 ghost use Rattle.document_rules.specs.Document.{greatest_version, new_document, flat_open, flat_edit, flat_stop, flat_undo, flat_redo, flat_decorate, flat_deco, flat_decos, flat_line, flat_value, flat_position, flat_offset, flat_line_count};
-ghost use Rattle.document_rules.specs.Snapshots.{flat_snapshot, flat_peek_of, flat_skipped, flat_close_of};
+ghost use Rattle.document_rules.specs.Snapshots.{flat_snapshot, flat_peek_of, flat_skipped, flat_close_of, EndsBesidePairs};
 ghost use Rattle.document_rules.specs.Stops.{flat_stops};
+ghost use Rattle.model_core.specs.Counting.{TakesFewSteps};
 ghost use Rattle.model_core.specs.Errors.{error_of, refusal_of, shelf_error_of};
 
 use crate::brackets::{parse_again, renew};
@@ -39,7 +40,8 @@ use edit_stack::EditStack;
 use node_reuse::Parsed;
 use snapshots::{Shelf, ShelfError};
 use std::alloc::Global;
-use std::sync::ledger::Ledger;
+use std::marker::Brand;
+use std::sync::ledger::{Blank, Ledger};
 use steps::Steps;
 use stops::stops;
 use text_buffer::TextBuffer;
@@ -133,7 +135,7 @@ impl Model {
     }
 
     /// Puts a new document with this text and these brackets in place of the old one. A text above the limit is refused
-    /// with `Limit`, and with `Memory` one for which memory is short, as for each of 2^32 units or more.
+    /// with `Limit`, and with `Memory` one for which memory is short.
     pub fn open_doc(&mut self, text: &[u16], table: BracketTable) -> Result<(), ModelError>
         ensures document { Changes result self.old.document self.new.document
             (flat_open text.now table) }
@@ -445,20 +447,21 @@ impl Model {
     /// open. It takes no memory.
     pub fn skip(&mut self, id: u64, n: u64)
         ensures document { self.new.document ≡ flat_skipped self.old.document id n }
-        ensures paired_state { (count : ℕ) (units : List ℕ)
-            → flat_peek_of self.old.document id count ≡ Ok units → n ≡ length units
+        ensures paired_state { EndsBesidePairs self.old.document id n
             → IsPairedState self.old.document → IsPairedState self.new.document }
         ensures parse { KeepsParse self.old self.new }
     {
         self.shelf.skip(id, n);
     }
 
-    /// The snapshot is no longer open, and its id is not used again. `Unknown` where no snapshot of this id is open.
+    /// The snapshot is no longer open, and its id is not used again. `Unknown` where no snapshot of this id is open. It
+    /// takes no memory.
     pub fn close(&mut self, id: u64) -> Result<(), ModelError>
         ensures document { Changes result self.old.document self.new.document
             (flat_close_of self.old.document id) }
         ensures paired_state { IsPairedState self.old.document → IsPairedState self.new.document }
         ensures parse { KeepsParse self.old self.new }
+        ensures sure { ¬ (result ≡ Err ModelError.Memory) }
     {
         self.shelf.close(id).map_err(shelf_error_of)
     }
@@ -494,6 +497,49 @@ impl Model {
             → OnOk result (All (λ e. IsSmall e.place) entries) }
         ensures parse { Renews result self.old self.new }
     {
+        self.brackets_in_for::<Brand>(from, to, out, Blank::new(1))
+    }
+
+    fn brackets_in_for<L: Ledger>(
+        &mut self,
+        from: u64,
+        to: u64,
+        out: &mut Vec<Entry>,
+        blank: Blank,
+    ) -> Result<(), ModelError>
+        requires name { blank.name ≡ L.name }
+        requires parts { blank.parts ≡ L.parts }
+        requires some { 0 < L.parts }
+        ensures entries { Appends result out.old.items out.new.items
+            (flat_brackets self.old.document from to) }
+        ensures small { (entries : List Entry)
+            → flat_brackets self.old.document from to ≡ Ok entries
+            → OnOk result (All (λ e. IsSmall e.place) entries) }
+        ensures parse { Renews result self.old self.new }
+    {
+        let mut steps = Steps::<L>::new(blank);
+        self.brackets_in_counted(from, to, out, &mut steps)
+    }
+
+    /// `brackets_in`, which tells what it looks at: each call that asks the tree of the last parse for a node or a bracket is
+    /// a step.
+    pub fn brackets_in_counted<L: Ledger>(
+        &mut self,
+        from: u64,
+        to: u64,
+        out: &mut Vec<Entry>,
+        steps: &mut Steps<L>,
+    ) -> Result<(), ModelError>
+        ensures entries { Appends result out.old.items out.new.items
+            (flat_brackets self.old.document from to) }
+        ensures small { (entries : List Entry)
+            → flat_brackets self.old.document from to ≡ Ok entries
+            → OnOk result (All (λ e. IsSmall e.place) entries) }
+        ensures parse { Renews result self.old self.new }
+        ensures steps { TakesFewSteps self.old.tree self.old.marks
+            self.old.document.table self.old.document.units steps.old steps.new }
+        ensures no_step { self.old.fresh ≡ true → steps.new ≡ steps.old }
+    {
         if from == 0 || to < from || self.text.line_count() < to {
             return Err(ModelError::Range);
         }
@@ -502,9 +548,13 @@ impl Model {
                 .entries(from - 1, to - 1, out)
                 .map_err(|_| ModelError::Memory),
             None => {
-                let parsed = parse_again(self.alloc, &self.last, &self.table, &self.text).map_err(
-                    |_| ModelError::Memory,
-                )?;
+                let parsed = parse_again(
+                    self.alloc,
+                    &self.last,
+                    &self.table,
+                    &self.text,
+                    steps,
+                ).map_err(|_| ModelError::Memory)?;
                 parsed
                     .tree()
                     .entries(from - 1, to - 1, out)
@@ -523,10 +573,45 @@ impl Model {
         ensures parse { Renews result self.old self.new }
         ensures sure { self.old.fresh ≡ true → ¬ (result ≡ Err ModelError.Memory) }
     {
+        self.match_at_for::<Brand>(p, Blank::new(1))
+    }
+
+    fn match_at_for<L: Ledger>(
+        &mut self,
+        p: Position,
+        blank: Blank,
+    ) -> Result<Option<(Position, u64)>, ModelError>
+        requires name { blank.name ≡ L.name }
+        requires parts { blank.parts ≡ L.parts }
+        requires some { 0 < L.parts }
+        ensures partner { Gives result (flat_match self.old.document p) }
+        ensures parse { Renews result self.old self.new }
+        ensures sure { self.old.fresh ≡ true → ¬ (result ≡ Err ModelError.Memory) }
+    {
+        let mut steps = Steps::<L>::new(blank);
+        self.match_at_counted(p, &mut steps)
+    }
+
+    /// `match_at`, which tells what it looks at: each call that asks the tree of the last parse for a node or a bracket is a
+    /// step, where that tree is not the one of the text of now.
+    pub fn match_at_counted<L: Ledger>(
+        &mut self,
+        p: Position,
+        steps: &mut Steps<L>,
+    ) -> Result<Option<(Position, u64)>, ModelError>
+        ensures partner { Gives result (flat_match self.old.document p) }
+        ensures parse { Renews result self.old self.new }
+        ensures sure { self.old.fresh ≡ true → ¬ (result ≡ Err ModelError.Memory) }
+        ensures steps { TakesFewSteps self.old.tree self.old.marks
+            self.old.document.table self.old.document.units steps.old steps.new }
+        ensures no_step { self.old.fresh ≡ true → steps.new ≡ steps.old }
+    {
         if !is_position(&self.text, p) {
             return Err(ModelError::Range);
         }
-        renew(self.alloc, &mut self.last, &self.table, &self.text).map_err(|_| ModelError::Memory)?;
+        renew(self.alloc, &mut self.last, &self.table, &self.text, steps).map_err(
+            |_| ModelError::Memory,
+        )?;
         match self.last.fresh() {
             Some(tree) => Ok(told(tree.partner_of(place_of(p)))),
             None => unreachable!(),
@@ -541,10 +626,41 @@ impl Model {
         ensures parse { Renews result self.old self.new }
         ensures sure { self.old.fresh ≡ true → ¬ (result ≡ Err ModelError.Memory) }
     {
+        self.level_at_for::<Brand>(p, Blank::new(1))
+    }
+
+    fn level_at_for<L: Ledger>(&mut self, p: Position, blank: Blank) -> Result<u64, ModelError>
+        requires name { blank.name ≡ L.name }
+        requires parts { blank.parts ≡ L.parts }
+        requires some { 0 < L.parts }
+        ensures level { Gives result (flat_level self.old.document p) }
+        ensures parse { Renews result self.old self.new }
+        ensures sure { self.old.fresh ≡ true → ¬ (result ≡ Err ModelError.Memory) }
+    {
+        let mut steps = Steps::<L>::new(blank);
+        self.level_at_counted(p, &mut steps)
+    }
+
+    /// `level_at`, which tells what it looks at: each call that asks the tree of the last parse for a node or a bracket is a
+    /// step, where that tree is not the one of the text of now.
+    pub fn level_at_counted<L: Ledger>(
+        &mut self,
+        p: Position,
+        steps: &mut Steps<L>,
+    ) -> Result<u64, ModelError>
+        ensures level { Gives result (flat_level self.old.document p) }
+        ensures parse { Renews result self.old self.new }
+        ensures sure { self.old.fresh ≡ true → ¬ (result ≡ Err ModelError.Memory) }
+        ensures steps { TakesFewSteps self.old.tree self.old.marks
+            self.old.document.table self.old.document.units steps.old steps.new }
+        ensures no_step { self.old.fresh ≡ true → steps.new ≡ steps.old }
+    {
         if !is_position(&self.text, p) {
             return Err(ModelError::Range);
         }
-        renew(self.alloc, &mut self.last, &self.table, &self.text).map_err(|_| ModelError::Memory)?;
+        renew(self.alloc, &mut self.last, &self.table, &self.text, steps).map_err(
+            |_| ModelError::Memory,
+        )?;
         match self.last.fresh() {
             Some(tree) => Ok(tree.level_at(place_of(p))),
             None => unreachable!(),
@@ -599,7 +715,7 @@ impl Model {
     /// The position of the offset, or None where it is no place of the text. Each node that a search visits is a step.
     pub fn position_at<L: Ledger>(&self, offset: u64, steps: &mut Steps<L>) -> Option<Position>
         ensures position { result ≡ flat_position self.now.document offset }
-        ensures cost { WithinLookUps 2 self.now.pieces (steps.new - steps.old) }
+        ensures cost { WithinLookUps 3 self.now.pieces (steps.new - steps.old) }
     {
         self.text.position_at(offset, steps)
     }
@@ -607,7 +723,7 @@ impl Model {
     /// The offset of the position, or None where it is none of the text. Each node that a search visits is a step.
     pub fn offset_at<L: Ledger>(&self, p: Position, steps: &mut Steps<L>) -> Option<u64>
         ensures offset { result ≡ flat_offset self.now.document p }
-        ensures cost { WithinLookUps 3 self.now.pieces (steps.new - steps.old) }
+        ensures cost { WithinLookUps 4 self.now.pieces (steps.new - steps.old) }
     {
         self.text.offset_at(p, steps)
     }
@@ -642,6 +758,7 @@ fn error_of(error: BatchError) -> ModelError
         BatchError::Range => ModelError::Range,
         BatchError::Overlap => ModelError::Overlap,
         BatchError::Limit => ModelError::Limit,
+        BatchError::Memory => ModelError::Memory,
     }
 }
 

@@ -1,6 +1,6 @@
 //! The text's lines, as a parse asks for them.
 
-ghost use Rattle.std.specs.Prelude.{◌≡◌, []};
+ghost use Rattle.std.specs.Prelude.{◌≡◌, ◌<◌, ◌^◌, [], length};
 
 use node_reuse::Lines;
 use std::alloc::AllocError;
@@ -12,6 +12,7 @@ use trails::Trail;
 pub(crate) struct TextLines<'t> {
     lines: LineReader<'t>,
     asked: Trail,
+    ghost small: { length lines < 2 ^ 62 },
 }
 
 impl<'t> TextLines<'t> {
@@ -20,6 +21,8 @@ impl<'t> TextLines<'t> {
         ensures units { result.lines ≡ text.now.units }
         ensures asked { result.asked.numbers ≡ [] }
     {
+        // No text has 2^62 units.
+        let _units = text.len();
         TextLines {
             lines: text.lines(),
             asked: Trail::new(),
@@ -29,11 +32,14 @@ impl<'t> TextLines<'t> {
 
 impl Lines for TextLines<'_> {
     ghost use Rattle.document_rules.specs.Brackets.{line_contents};
+    ghost use Rattle.model_core.specs.TextWeights.{weights_fit};
 
     ghost state = { λ lines. record {
       contents = line_contents lines.lines;
       asked = lines.asked.numbers;
     } };
+
+    ghost fits = { λ lines. weights_fit lines.lines lines.small };
 
     fn line(&mut self, n: u64, out: &mut Vec<u16>) -> Result<(), AllocError> {
         self.lines.line(n, out)?;

@@ -18,8 +18,8 @@ use Rattle.bracket_nodes.specs.Source.{GivesNode, IsOver}
 use Rattle.bracket_nodes.specs.ScannedLines.{moved_back}
 use Rattle.reuse_rules.specs.Following.{Reached}
 use Rattle.reuse_rules.proofs.Followings.{Reached-rows, Reached-line}
-use Rattle.node_reuse.specs.Texts.{text_weights}
-use Rattle.node_reuse.specs.Ahead.{ahead_at, fresh_left, break_before, rows_before, IsFresh}
+use Rattle.node_reuse.specs.Texts.{brackets_end, row_weights}
+use Rattle.node_reuse.specs.Ahead.{ahead_at, fresh_left, weight_before, rows_before, IsFresh}
 use Rattle.bracket_nodes.proofs.ScannedSteps.{fits_text}
 use Rattle.bracket_nodes.proofs.Scans.{moved_back-zero}
 use Rattle.node_reuse.proofs.FreshSteps.{rows_at, break_next}
@@ -30,9 +30,10 @@ some_row : (rows : List Row) → 0 < length rows → HasRow rows
 some_row [] h = absurd (omega arith)
 some_row (r ∷ rows) h = tt
 
-some_break : (rows : List Row) → 0 < length rows → break_before rows ≡ 1
-some_break [] h = absurd (omega arith)
-some_break (r ∷ rows) h = refl
+-- where rows follow, no more than the brackets and the break weigh
+some_break : (c n : ℕ) (ts : List Token) (rows : List Row) → 0 < length rows → weight_before c ts n rows ≡ brackets_end c ts + 1
+some_break c n ts [] h = absurd (omega arith)
+some_break c n ts (r ∷ rows) h = refl
 
 break_rows : (c n : ℕ) (rest : List Row) → 0 < length rest → rows_before c [] n rest ≡ glue (empty_row ∷ empty_row ∷ []) rest
 break_rows c n [] h = absurd (omega arith)
@@ -52,9 +53,7 @@ pub break_given : (now : List Row) (weights : List ℕ) (p : Length) (n kinds le
 break_given now weights p n kinds level room f same more =
     let rest = drop (suc p.lines) now in
     let some : 0 < length rest = omega (arith, length-drop (suc p.lines) now) in
-    let one : break_before rest ≡ 1 = some_break rest some in
-    let within : p.columns ≤ n = f.line in
-    let weight = f.weight in
+    let weight : slice_index weights p.lines ≡ p.columns + 1 = f.weight ∙ some_break p.columns n [] rest some in
     let left : 1 ≤ slice_index weights p.lines - p.columns = omega arith in
     let after : rows_from (length_of (suc p.lines) 0) now ≡ rest = Reached-rows now (length_of (suc p.lines) 0) rest (break_next now weights p n f more) in
     record {
@@ -89,11 +88,6 @@ length-text_rows table [] = refl
 length-text_rows table (x ∷ []) = refl
 length-text_rows table (x ∷ y ∷ xs) = ap suc (length-text_rows table (y ∷ xs))
 
-pub length-text_weights : (xs : List (List ℕ)) → length (text_weights xs) ≡ length xs
-length-text_weights [] = refl
-length-text_weights (x ∷ []) = refl
-length-text_weights (x ∷ y ∷ xs) = ap suc (length-text_weights (y ∷ xs))
-
 before_more : (c : ℕ) (ts : List Token) (n : ℕ) (rest : List Row) → 0 < length rest → rows_before c ts n rest ≡ row (moved_back c ts) 0 ∷ rest
 before_more c ts n [] h = absurd (omega arith)
 before_more c ts n (r ∷ rest) h = refl
@@ -113,20 +107,32 @@ text_row table (x ∷ y ∷ xs) zero h =
     ∙ sym (before_more 0 (tokens_of table x) (length x) (text_rows table (y ∷ xs)) (omega (arith, length-text_rows table (y ∷ xs))))
 text_row table (x ∷ y ∷ xs) (suc i) h = text_row table (y ∷ xs) i (omega arith)
 
+weight-more : (r : Row) (rows : List Row) → 0 < length rows → slice_index (row_weights (r ∷ rows)) 0 ≡ brackets_end 0 r.brackets + 1
+weight-more r [] h = absurd (omega arith)
+weight-more r (s ∷ rows) h = refl
+
+weight-later : (r : Row) (rows : List Row) (i : ℕ) → 0 < length rows → slice_index (row_weights (r ∷ rows)) (suc i) ≡ slice_index (row_weights rows) i
+weight-later r [] i h = absurd (omega arith)
+weight-later r (s ∷ rows) i h = refl
+
 text_weight : (table : Table) (xs : List (List ℕ)) (i : ℕ) → i < length xs
-    → slice_index (text_weights xs) i ≡ length (get_or xs i []) + break_before (drop (suc i) (text_rows table xs))
+    → slice_index (row_weights (text_rows table xs)) i
+    ≡ weight_before 0 (tokens_of table (get_or xs i [])) (length (get_or xs i [])) (drop (suc i) (text_rows table xs))
 text_weight table [] i h = absurd (omega arith)
-text_weight table (x ∷ []) zero h = omega arith
+text_weight table (x ∷ []) zero h = refl
 text_weight table (x ∷ []) (suc i) h = absurd (omega arith)
 text_weight table (x ∷ y ∷ xs) zero h =
-    let one : break_before (text_rows table (y ∷ xs)) ≡ 1 = some_break (text_rows table (y ∷ xs)) (omega (arith, length-text_rows table (y ∷ xs))) in
-    ap (λ (n : ℕ). length x + n) (sym one)
-text_weight table (x ∷ y ∷ xs) (suc i) h = text_weight table (y ∷ xs) i (omega arith)
+    let some : 0 < length (text_rows table (y ∷ xs)) = omega (arith, length-text_rows table (y ∷ xs)) in
+    weight-more (row (tokens_of table x) 0) (text_rows table (y ∷ xs)) some
+    ∙ sym (some_break 0 (length x) (tokens_of table x) (text_rows table (y ∷ xs)) some)
+text_weight table (x ∷ y ∷ xs) (suc i) h =
+    weight-later (row (tokens_of table x) 0) (text_rows table (y ∷ xs)) i (omega (arith, length-text_rows table (y ∷ xs)))
+    ∙ text_weight table (y ∷ xs) i (omega arith)
 
 -- at the start of a line its tokens are those of its content
 pub fresh_start : (table : Table) (xs : List (List ℕ)) (i : ℕ) → is_table table ≡ true → i < length xs
     → Reached (text_rows table xs) (length_of i 0) (rows_from (length_of i 0) (text_rows table xs))
-    → IsFresh (text_rows table xs) (text_weights xs) (length_of i 0) (tokens_of table (get_or xs i [])) (length (get_or xs i []))
+    → IsFresh (text_rows table xs) (row_weights (text_rows table xs)) (length_of i 0) (tokens_of table (get_or xs i [])) (length (get_or xs i []))
 fresh_start table xs i is h r =
     let now = text_rows table xs in
     let ahead : drop i now ≡ rows_from (length_of i 0) now = Reached-line now i (rows_from (length_of i 0) now) r in

@@ -1,11 +1,13 @@
 -- The steps of a reader in a new line, which was scanned.
 use Rattle.std.proofs.Common.{◌≡◌, ℕ, suc, ◌+◌, ◌-◌, ◌<◌, ◌≤◌, Bool, true, false, List, [], ◌∷◌, ◌++◌, length, drop, Result, Ok, Err, refl, ap, sym, ◌∙◌, subst, arith}
+use Rattle.std.proofs.lemmas.List.{length-drop, nil_from_length}
 use Rattle.text_lengths.specs.declared.Length.{Length}
 use Rattle.text_lengths.specs.Length.{length_of}
 use Rattle.std.specs.Prelude.{IfOk}
 use Rattle.text_lengths.proofs.Lengths.{same_length}
 use Rattle.bracket_rules.specs.declared.Token.{Token}
 use Rattle.bracket_rules.specs.declared.TheConstants.{MOST_OPEN}
+use Rattle.bracket_rules.specs.Rows.{Row}
 use Rattle.bracket_rules.specs.Table.{AreInLine}
 use Rattle.bracket_trees.specs.Tree.{Tree, text, wide}
 use Rattle.bracket_trees.specs.Weights.{glue_weights, tree_weights, AreCovered}
@@ -21,8 +23,9 @@ use Rattle.node_reuse.specs.declared.line.Line.{Line}
 use Rattle.node_reuse.specs.Ahead.{ahead_at, fresh_left, IsFresh}
 use Rattle.node_reuse.specs.Reading.{IsInLine, left_by, left_at}
 use Rattle.node_reuse.specs.Reader.{Sight, sight_rows, sight_weights, mark_of, unasked, new_lines_at, Asked, asking_at, seen_at, tokens_left, StandsAt, ReadsOn}
-use Rattle.node_reuse.proofs.FreshSteps.{gap_next, gap_given, bracket_next, bracket_given, break_next}
-use Rattle.node_reuse.proofs.FreshLines.{break_given, fresh_over, length-text_rows, length-text_weights}
+use Rattle.node_reuse.proofs.FreshSteps.{IsBeforeMore, gap_next, gap_given, bracket_next, bracket_given, break_next}
+use Rattle.node_reuse.proofs.FreshLines.{break_given, fresh_over, length-text_rows}
+use Rattle.node_reuse.proofs.LightLines.{length-row_weights}
 use Rattle.node_reuse.proofs.KeptSteps.{reached_within}
 use Rattle.node_reuse.proofs.KeptEnds.{lighter}
 use Rattle.node_reuse.proofs.LineStarts.{line_starts, start_is_light}
@@ -78,7 +81,7 @@ pub lines_within : (s : Sight) (p : Length) (line : Line) → StandsAt s p line 
 lines_within s p line h = omega (arith, reached_within (sight_rows s) p (rows_from p (sight_rows s)) h.reached, length-text_rows s.table s.contents)
 
 pub same_count : (s : Sight) → length (sight_weights s) ≡ length (sight_rows s)
-same_count s = length-text_weights s.contents ∙ sym (length-text_rows s.table s.contents)
+same_count s = length-row_weights (sight_rows s)
 
 -- ---- where the line was scanned
 
@@ -126,28 +129,41 @@ module _ (s : Sight) (p : Length) (line : Line) (h : StandsAt s p line) (e : lin
   column_left = left_new s (length_of p.lines c) (h.is_new e)
 
 pub fresh_gap : (s : Sight) (p : Length) (line : Line) (d kinds level : ℕ) → level ≤ MOST_OPEN → StandsAt s p line → line.scanned ≡ true
-    → p.columns < d → AreInLine d line.columns (tokens_left line)
+    → p.columns < d → AreInLine d line.columns (tokens_left line) → IsBeforeMore (tokens_left line) (drop (suc p.lines) (sight_rows s))
     → ReadsOn s p line (length_of p.lines d) line kinds level (Ready (text (wide (d - p.columns))))
-fresh_gap s p line d kinds level room h e g k =
+fresh_gap s p line d kinds level room h e g k more =
     let rows = sight_rows s in
     let weights = sight_weights s in
     let here : IsFresh rows weights p (tokens_left line) line.columns = fresh_line s p line h e in
-    let next : IsFresh rows weights (length_of p.lines d) (tokens_left line) line.columns = gap_next rows weights p d line.columns (tokens_left line) here g k in
+    let next : IsFresh rows weights (length_of p.lines d) (tokens_left line) line.columns = gap_next rows weights p d line.columns (tokens_left line) here g k more in
     record {
       comes = λ asked. node_seen s asked p (length_of p.lines d) line line kinds level (fresh_left weights p)
           (fresh_left weights (length_of p.lines d)) (text (wide (d - p.columns))) (left_new s p (h.is_new e)) (column_left s p line h e d line e refl next)
-          (gap_given rows weights p d line.columns kinds level (tokens_left line) room here g k);
+          (gap_given rows weights p d line.columns kinds level (tokens_left line) room here g k more);
       asks = λ asked. asks_same s asked p (length_of p.lines d) line line (column_unasked s p line h e d line e refl next) refl;
       stands = column_stands s p line h e d line e refl next;
     }
 
 pub fresh_gap_if : {E : Type 0} (next : Result Next E) (s : Sight) (p q : Length) (line : Line) (d kinds level : ℕ) → level ≤ MOST_OPEN → StandsAt s p line
-    → line.scanned ≡ true → p.columns < d → AreInLine d line.columns (tokens_left line) → IfOk next (λ n. n ≡ Ready (text (wide (d - p.columns))))
+    → line.scanned ≡ true → p.columns < d → AreInLine d line.columns (tokens_left line) → IsBeforeMore (tokens_left line) (drop (suc p.lines) (sight_rows s)) → IfOk next (λ n. n ≡ Ready (text (wide (d - p.columns))))
     → q.lines ≡ p.lines → IfOk next (λ _. q.columns ≡ d) → IfOk next (ReadsOn s p line q line kinds level)
-fresh_gap_if (Err e) s p q line d kinds level room h scanned g k given lines column = tt
-fresh_gap_if (Ok n) s p q line d kinds level room h scanned g k given lines column =
+fresh_gap_if (Err e) s p q line d kinds level room h scanned g k more given lines column = tt
+fresh_gap_if (Ok n) s p q line d kinds level room h scanned g k more given lines column =
     subst (λ (x : Length). ReadsOn s p line x line kinds level n) (sym (same_length q (length_of p.lines d) lines column))
-    (subst (ReadsOn s p line (length_of p.lines d) line kinds level) (sym given) (fresh_gap s p line d kinds level room h scanned g k))
+    (subst (ReadsOn s p line (length_of p.lines d) line kinds level) (sym given) (fresh_gap s p line d kinds level room h scanned g k more))
+
+-- a bracket is left in the line, or it is the last one
+pub before_bracket : (t : Token) (ts us : List Token) (rest : List Row) → us ≡ t ∷ ts → IsBeforeMore us rest
+before_bracket t ts us rest e = subst (λ (x : List Token). IsBeforeMore x rest) (sym e) tt
+
+before_none : (ts : List Token) → IsBeforeMore ts []
+before_none [] = tt
+before_none (t ∷ ts) = tt
+
+pub before_end : (s : Sight) (p : Length) (ts : List Token) → length s.contents ≤ suc p.lines → IsBeforeMore ts (drop (suc p.lines) (sight_rows s))
+before_end s p ts last =
+    subst (IsBeforeMore ts) (sym (nil_from_length (drop (suc p.lines) (sight_rows s))
+    (omega (arith, length-drop (suc p.lines) (sight_rows s), length-text_rows s.table s.contents)))) (before_none ts)
 
 pub fresh_bracket : (s : Sight) (p : Length) (line to : Line) (t : Token) (kinds level : ℕ) → StandsAt s p line → line.scanned ≡ true
     → tokens_left line ≡ t ∷ tokens_left to → t.at ≤ p.columns → to.scanned ≡ true → to.asked ≡ line.asked → to.columns ≡ line.columns

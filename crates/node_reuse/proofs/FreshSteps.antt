@@ -1,6 +1,6 @@
 -- The steps of a reader in a line whose content was scanned.
 use Rattle.std.proofs.Common.{◌≡◌, ℕ, suc, ◌+◌, ◌-◌, ◌<◌, ◌≤◌, List, [], ◌∷◌, ◌++◌, length, drop, refl, ap, sym, ◌∙◌, subst, arith, inl}
-use Rattle.std.specs.Prelude.{slice_index}
+use Rattle.std.specs.Prelude.{slice_index, ⊤}
 use Rattle.std.proofs.lemmas.List.{length-drop}
 use Rattle.text_lengths.specs.declared.Length.{Length}
 use Rattle.text_lengths.specs.Length.{length_of, length_plus}
@@ -18,7 +18,8 @@ use Rattle.bracket_nodes.specs.ScannedLines.{moved_back}
 use Rattle.bracket_nodes.proofs.ScannedSteps.{line_end, shifted-moved_back, same_row, fits_text}
 use Rattle.reuse_rules.specs.Following.{Reached}
 use Rattle.reuse_rules.proofs.Followings.{Reached-next, Reached-rows}
-use Rattle.node_reuse.specs.Ahead.{ahead_at, fresh_left, rows_before, IsFresh}
+use Rattle.node_reuse.specs.Texts.{brackets_end}
+use Rattle.node_reuse.specs.Ahead.{ahead_at, fresh_left, weight_before, rows_before, IsFresh}
 
 -- ---- rows
 
@@ -41,8 +42,9 @@ cut c d n front ts all (r ∷ rest) h k e = ap (λ (x : List Token). row x 0 ∷
 moved_on : (now : List Row) (weights : List ℕ) (p : Length) (d n : ℕ) (ts us : List Token) (front : List Token) → p.columns ≤ d
     → IsFresh now weights p ts n → IsBounded (row front (d - p.columns) ∷ []) → AreInLine d n us
     → moved_back p.columns ts ≡ front ++ shifted (d - p.columns) (moved_back d us)
+    → weight_before p.columns ts n (drop (suc p.lines) now) ≡ weight_before d us n (drop (suc p.lines) now)
     → IsFresh now weights (length_of p.lines d) us n
-moved_on now weights p d n ts us front h f b k e =
+moved_on now weights p d n ts us front h f b k e same =
     let rest = drop (suc p.lines) now in
     let within : d ≤ n = line_end d n us k in
     let parts : rows_before p.columns ts n rest ≡ glue (row front (d - p.columns) ∷ []) (rows_before d us n rest) =
@@ -55,7 +57,7 @@ moved_on now weights p d n ts us front h f b k e =
           (Reached-next now p (row front (d - p.columns) ∷ []) (rows_before d us n rest) tt (HasRow-before d us n rest) b
           (subst (Reached now p) parts f.reached));
       line = k;
-      weight = f.weight;
+      weight = f.weight ∙ same;
     }
 
 pub rows_at : (now : List Row) (weights : List ℕ) (p : Length) (ts : List Token) (n : ℕ) → IsFresh now weights p ts n
@@ -63,31 +65,55 @@ pub rows_at : (now : List Row) (weights : List ℕ) (p : Length) (ts : List Toke
 rows_at now weights p ts n f = Reached-rows now p (rows_before p.columns ts n (drop (suc p.lines) now)) f.reached
 
 -- what is read of the line is taken off what is left of it
-less_left : (w c d n : ℕ) → c ≤ d → d ≤ n → n ≤ w → (d - c) + (w - d) ≤ w - c
-less_left w c d n h k g = omega arith
+less_left : (w c d : ℕ) → c ≤ d → d ≤ w → (d - c) + (w - d) ≤ w - c
+less_left w c d h k = omega arith
 
-columns_within : (now : List Row) (weights : List ℕ) (p : Length) (ts : List Token) (n : ℕ) → IsFresh now weights p ts n → n ≤ slice_index weights p.lines
-columns_within now weights p ts n f = let w = f.weight in omega arith
+-- no column that the reader comes to lies behind what the line weighs
+column_within : (now : List Row) (weights : List ℕ) (p : Length) (ts : List Token) (n : ℕ) → IsFresh now weights p ts n → p.columns ≤ slice_index weights p.lines
+column_within now weights p ts n f =
+    let w = f.weight in
+    let within = before_within p.columns n ts (drop (suc p.lines) now) f.line in
+    omega arith
+  where
+    end_within : (c n : ℕ) (ts : List Token) → AreInLine c n ts → c ≤ brackets_end c ts
+    end_within c n [] h = omega arith
+    end_within c n (t ∷ ts) h = let first : c ≤ t.at = h.0 in omega (arith, end_within (t.at + t.len) n ts h.3)
+
+    before_within : (c n : ℕ) (ts : List Token) (rest : List Row) → AreInLine c n ts → c ≤ weight_before c ts n rest
+    before_within c n ts [] h = line_end c n ts h
+    before_within c n ts (r ∷ rest) h = omega (arith, end_within c n ts h)
+
+-- columns are read on their own before a bracket, or in the last line
+abbrev pub IsBeforeMore : List Token → List Row → Type 0
+IsBeforeMore [] [] = ⊤
+IsBeforeMore [] (r ∷ rest) = ⊥
+IsBeforeMore (t ∷ ts) rest = ⊤
+
+same_before : (c d n : ℕ) (ts : List Token) (rest : List Row) → IsBeforeMore ts rest → weight_before c ts n rest ≡ weight_before d ts n rest
+same_before c d n [] [] m = refl
+same_before c d n [] (r ∷ rest) m = elim m [ ]
+same_before c d n (t ∷ ts) [] m = refl
+same_before c d n (t ∷ ts) (r ∷ rest) m = refl
 
 pub gap_next : (now : List Row) (weights : List ℕ) (p : Length) (d n : ℕ) (ts : List Token) → IsFresh now weights p ts n → p.columns < d → AreInLine d n ts
-    → IsFresh now weights (length_of p.lines d) ts n
-gap_next now weights p d n ts f h k =
+    → IsBeforeMore ts (drop (suc p.lines) now) → IsFresh now weights (length_of p.lines d) ts n
+gap_next now weights p d n ts f h k more =
     let below : p.columns ≤ d = omega arith in
-    moved_on now weights p d n ts ts [] below f tt k (sym (shifted-moved_back p.columns d n ts below k))
+    moved_on now weights p d n ts ts [] below f tt k (sym (shifted-moved_back p.columns d n ts below k)) (same_before p.columns d n ts (drop (suc p.lines) now) more)
 
 pub gap_given : (now : List Row) (weights : List ℕ) (p : Length) (d n kinds level : ℕ) (ts : List Token) → level ≤ MOST_OPEN → IsFresh now weights p ts n
-    → p.columns < d → AreInLine d n ts
+    → p.columns < d → AreInLine d n ts → IsBeforeMore ts (drop (suc p.lines) now)
     → GivesNode (ahead_at now weights p (fresh_left weights p)) (ahead_at now weights (length_of p.lines d) (fresh_left weights (length_of p.lines d)))
     kinds level (text (wide (d - p.columns)))
-gap_given now weights p d n kinds level ts room f h k =
+gap_given now weights p d n kinds level ts room f h k more =
     let below : p.columns ≤ d = omega arith in
     let within : d ≤ n = line_end d n ts k in
     let rest = drop (suc p.lines) now in
-    let g : IsFresh now weights (length_of p.lines d) ts n = gap_next now weights p d n ts f h k in
+    let g : IsFresh now weights (length_of p.lines d) ts n = gap_next now weights p d n ts f h k more in
     let parts : rows_before p.columns ts n rest ≡ glue (row [] (d - p.columns) ∷ []) (rows_before d ts n rest) =
     cut p.columns d n [] ts ts rest below within (sym (shifted-moved_back p.columns d n ts below k)) in
     let after : rows_from (length_of p.lines d) now ≡ rows_before d ts n rest = rows_at now weights (length_of p.lines d) ts n g in
-    let weight = less_left (slice_index weights p.lines) p.columns d n below within (columns_within now weights p ts n f) in
+    let weight = less_left (slice_index weights p.lines) p.columns d below (column_within now weights (length_of p.lines d) ts n g) in
     record {
       tree = inl (refl, omega arith);
       some = refl;
@@ -113,7 +139,11 @@ bracket_next now weights p n t ts f h =
     let here : t.at ≡ p.columns = omega arith in
     let line : AreInLine (p.columns + t.len) n ts = rw (← here) l.3 in
     moved_on now weights p (p.columns + t.len) n (t ∷ ts) ts (token 0 t.len t.kind t.opening ∷ []) (omega arith) f
-    (omega arith, tt) line (token_parts p.columns n t ts here line)
+    (omega arith, tt) line (token_parts p.columns n t ts here line) (same_behind (drop (suc p.lines) now) here)
+  where
+    same_behind : (rest : List Row) → t.at ≡ p.columns → weight_before p.columns (t ∷ ts) n rest ≡ weight_before (p.columns + t.len) ts n rest
+    same_behind [] here = refl
+    same_behind (r ∷ rest) here = ap (λ (c : ℕ). brackets_end (c + t.len) ts + 1) here
 
 pub bracket_given : (now : List Row) (weights : List ℕ) (p : Length) (n : ℕ) (t : Token) (ts : List Token) → IsFresh now weights p (t ∷ ts) n → t.at ≤ p.columns
     → GivesBracket (ahead_at now weights p (fresh_left weights p))
@@ -132,7 +162,7 @@ bracket_given now weights p n t ts f h =
     let parts : rows_before p.columns (t ∷ ts) n rest ≡ glue (row (token 0 t.len t.kind t.opening ∷ []) (d - p.columns) ∷ []) (rows_before d ts n rest) =
     cut p.columns d n (token 0 t.len t.kind t.opening ∷ []) ts (t ∷ ts) rest below within (token_parts p.columns n t ts here line) in
     let after : rows_from (length_of p.lines d) now ≡ rows_before d ts n rest = rows_at now weights (length_of p.lines d) ts n g in
-    let weight = less_left (slice_index weights p.lines) p.columns d n below within (columns_within now weights p (t ∷ ts) n f) in
+    let weight = less_left (slice_index weights p.lines) p.columns d below (column_within now weights (length_of p.lines d) ts n g) in
     record {
       has_kind = l.2;
       wide = l.1;

@@ -28,9 +28,9 @@ use Rattle.node_reuse.proofs.KeptSteps.{TookAt, took_at, reached_end}
 
 -- ---- brackets of trees
 
-record FitsBracket (b : Bracket) : Type 0 where
-  wide : 0 < b.len
-  has_kind : b.kind < MOST_PAIRS
+pub record FitsBracket (b : Bracket) : Type 0 where
+  pub wide : 0 < b.len
+  pub has_kind : b.kind < MOST_PAIRS
 
 only : (b first : Bracket) → 0 < first.len → first.kind < MOST_PAIRS → IsAmong b (first ∷ []) → FitsBracket b
 only b first w k (inl h) = subst FitsBracket (sym h) (record { wide = w; has_kind = k })
@@ -40,7 +40,7 @@ closing_fits : (p : Length) (k : ℕ) (c : Option ℕ) (b : Bracket) → k < MOS
 closing_fits p k None b h w i = elim i [ ]
 closing_fits p k (Some w) b h g i = only b (bracket p w k false) g h i
 
-bracket_fits : (p : Length) (t : Tree) (b : Bracket) → IsTree t → HasBracket p t b → FitsBracket b
+pub bracket_fits : (p : Length) (t : Tree) (b : Bracket) → IsTree t → HasBracket p t b → FitsBracket b
 bracket_fits p (text l) b t h = elim h [ ]
 bracket_fits p (pair k o i c) b t (inl h) = subst FitsBracket (sym h) (record { wide = t.0.opening; has_kind = t.0.has_kind })
 bracket_fits p (pair k o i c) b t (inr h) =

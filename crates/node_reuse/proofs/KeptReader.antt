@@ -25,18 +25,18 @@ use Rattle.node_reuse.specs.Reader.{Sight, sight_rows, sight_weights, mark_of, I
 use Rattle.node_reuse.proofs.OldPlaces.{same_line, seen}
 use Rattle.node_reuse.proofs.KeptSteps.{OldNode, node_took, node_goes_on, node_given, node_turned, columns_zero, reached_within}
 use Rattle.node_reuse.proofs.KeptEnds.{run_some, bracket_goes_on, bracket_given, kept_over}
-use Rattle.node_reuse.proofs.FreshLines.{length-text_weights}
 use Rattle.node_reuse.proofs.Unasked.{run_unasked, kept_last}
-use Rattle.node_reuse.proofs.FreshReader.{node_seen, bracket_seen, node_seen_at_start, asks_same, unasked_unscanned, start_stands}
+use Rattle.node_reuse.proofs.FreshLines.{length-text_rows}
+use Rattle.node_reuse.proofs.FreshReader.{same_count, node_seen, bracket_seen, node_seen_at_start, asks_same, unasked_unscanned, start_stands}
 
 -- ---- the old tree
 
 -- where the line is kept there is an old tree, and the reader follows it
-record FollowsOld (s : Sight) (p : Length) : Type 0 where
-  tree : Tree
-  line : ℕ
-  whole : s.old ≡ old_text (Some tree) s.marks
-  follows : IsFollowing tree s.marks (sight_rows s) (sight_weights s) p line
+pub record FollowsOld (s : Sight) (p : Length) : Type 0 where
+  pub tree : Tree
+  pub line : ℕ
+  pub whole : s.old ≡ old_text (Some tree) s.marks
+  pub follows : IsFollowing tree s.marks (sight_rows s) (sight_weights s) p line
 
 module _ (s : Sight) (p : Length) (line : Line) (h : StandsAt s p line) (kept : IsKept s p) where
   at_tree : (o : Option Tree) → s.old.tree ≡ o
@@ -49,7 +49,7 @@ module _ (s : Sight) (p : Length) (line : Line) (h : StandsAt s p line) (kept : 
     follows = f;
   }
 
-  following : FollowsOld s p
+  pub following : FollowsOld s p
   following =
       at_tree s.old.tree refl
       (subst (λ (m : Mark). IsInLine m s.old.tree s.marks (sight_rows s) (sight_weights s) p line.scanned (tokens_left line) line.columns) kept.1 h.in_line)
@@ -63,7 +63,7 @@ left_kept s p t line whole kept =
     ∙ ap (λ (n : ℕ). weight_left t (length_of n p.columns)) (omega arith)
 
 -- the reader comes to a place of the run of kept lines, or behind it
-run_left : (s : Sight) (p q : Length) (b : Bool) (k : ℕ) → b ≡ false → q.lines ≡ p.lines + k → k ≤ kept_run (drop p.lines s.marks)
+pub run_left : (s : Sight) (p q : Length) (b : Bool) (k : ℕ) → b ≡ false → q.lines ≡ p.lines + k → k ≤ kept_run (drop p.lines s.marks)
     → unasked s.marks q b ≡ unasked s.marks p b
 run_left s p q b k scanned lines within =
     unasked_unscanned s q b scanned ∙ ap (λ (n : ℕ). new_lines_at n s.marks) lines ∙ run_unasked s.marks p.lines k within
@@ -208,7 +208,8 @@ kept_end s p line kinds level room h kept scanned none no_bracket =
     omega (
       arith,
       length-drop (suc p.lines) (sight_weights s),
-      length-text_weights s.contents,
+      same_count s,
+      length-text_rows s.table s.contents,
       reached_within (sight_rows s) p (rows_from p (sight_rows s)) h.reached,
     ) in
     let asked_all : unasked s.marks p line.scanned ≡ [] =

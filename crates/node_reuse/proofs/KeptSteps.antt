@@ -42,7 +42,7 @@ reached_within now p ahead r =
     let rows : length now ≡ length (glue r.done ahead) = ap length r.spells in
     omega (arith, lines_in_glue r.done ahead r.has_ahead)
 
-rows_count : (rows : List Row) → HasRow rows → length rows ≡ suc (rows_length rows).lines
+pub rows_count : (rows : List Row) → HasRow rows → length rows ≡ suc (rows_length rows).lines
 rows_count [] h = elim h [ ]
 rows_count (r ∷ []) h = refl
 rows_count (r ∷ x ∷ rows) h = ap suc (rows_count (x ∷ rows) tt)

@@ -12,3 +12,6 @@ pub mod FreshReader
 pub mod KeptReader
 pub mod ReaderCalls
 pub mod WholeReader
+pub mod OneRun
+pub mod ReaderPays
+pub mod StepBound

@@ -1,66 +1,47 @@
--- An old tree weighs no more than the lines of now may, after an edit and after a parse.
-use Rattle.std.proofs.Common.{◌≡◌, ℕ, zero, suc, ◌+◌, ◌-◌, ◌<◌, ◌≤◌, inl, inr, List, [], ◌∷◌, length, take, drop, refl, ap, sym, ◌∙◌, subst, arith}
+-- What a tree weighs by its rows: a tree of an old text is no heavier in a kept line than the rows of now tell, and rows
+-- tell no more than a text's lines may weigh.
+use Rattle.std.proofs.Common.{◌≡◌, ℕ, zero, suc, ◌+◌, ◌-◌, ◌<◌, ◌≤◌, true, List, [], ◌∷◌, length, drop, refl, ap, sym, ◌∙◌, subst, arith}
 use Rattle.std.specs.Prelude.{slice_index, slice_index_or}
 use Rattle.text_lengths.specs.declared.Length.{Length}
 use Rattle.text_lengths.specs.Length.{length_of, no_length}
-use Rattle.bracket_rules.specs.Rows.{next_line, text_rows}
-use Rattle.bracket_rules.specs.Table.{Table}
+use Rattle.bracket_rules.specs.declared.Token.{Token}
+use Rattle.bracket_rules.specs.Rows.{Row, next_line, text_rows}
+use Rattle.bracket_rules.specs.Table.{Table, is_table, tokens_of, AreInLine}
+use Rattle.bracket_rules.proofs.Tokens.{tokens_of-in_line}
 use Rattle.bracket_trees.specs.Tree.{Tree, tree_length, tree_rows, IsTree}
 use Rattle.bracket_trees.specs.Weights.{tree_weights, AreCovered}
 use Rattle.bracket_trees.specs.Leaves.{Leaf, leaves, weight_from, weights_from, line_weight}
-use Rattle.bracket_trees.proofs.LineWeights.{AreCovered-at}
+use Rattle.bracket_trees.proofs.LineWeights.{AreCovered-at, length-tree_weights}
 use Rattle.bracket_trees.proofs.PartedLeaves.{lines_weigh}
 use Rattle.mark_rules.specs.declared.Mark.{Mark}
-use Rattle.mark_rules.specs.Marks.{clean_marks, edited_marks}
-use Rattle.reuse_rules.specs.Agreement.{Agrees}
-use Rattle.reuse_rules.specs.Edits.{IsEdited}
-use Rattle.reuse_rules.proofs.EditedLines.{kept_before, kept_clean}
-use Rattle.node_reuse.specs.Texts.{text_weights, IsLight}
+use Rattle.mark_rules.specs.declared.Mark.TheVariants.{Kept, New}
+use Rattle.reuse_rules.specs.Agreement.{Alike, Agrees}
+use Rattle.node_reuse.specs.Texts.{brackets_end, row_weights, text_weights, IsTight, IsLightBy}
 
--- a line in front of the edited ones is the same one, and more follows in both texts
-weights_in_front : (a j n m : ℕ) (before after : List (List ℕ)) → j < a → 1 ≤ n → 1 ≤ m → a + n ≤ length before → a + m ≤ length after
-    → take a after ≡ take a before → slice_index (text_weights after) j ≡ slice_index (text_weights before) j
-weights_in_front zero j n m before after h k l f g e = absurd (omega arith)
-weights_in_front (suc a) j n m [] after h k l f g e = absurd (omega arith)
-weights_in_front (suc a) j n m (x ∷ before) [] h k l f g e = absurd (omega arith)
-weights_in_front (suc a) j n m (x ∷ []) (y ∷ after) h k l f g e = absurd (omega arith)
-weights_in_front (suc a) j n m (x ∷ z ∷ before) (y ∷ []) h k l f g e = absurd (omega arith)
-weights_in_front (suc a) (suc j) n m (x ∷ z ∷ before) (y ∷ w ∷ after) h k l f g e =
-    weights_in_front a j n m (z ∷ before) (w ∷ after) (omega arith) k l (omega arith) (omega arith) (ap (drop 1) e)
-weights_in_front (suc a) zero n m (x ∷ z ∷ before) (y ∷ w ∷ after) h k l f g e =
-    let same : y ≡ x = ap (λ (lines : List (List ℕ)). slice_index_or lines 0 []) e in
-    ap (λ (u : List ℕ). length u + 1) same
+-- ---- the weights of rows
 
--- the weights behind so many lines are those of the lines behind
-weights_behind : (i d : ℕ) (lines : List (List ℕ)) → slice_index (text_weights lines) (i + d) ≡ slice_index (text_weights (drop i lines)) d
-weights_behind zero d lines = let at : zero + d ≡ d = omega arith in ap (slice_index (text_weights lines)) at
-weights_behind (suc i) d [] = refl
-weights_behind (suc zero) d (x ∷ []) = let at : suc zero + d ≡ suc d = omega arith in ap (slice_index (length x ∷ [])) at
-weights_behind (suc (suc i)) d (x ∷ []) = let at : suc (suc i) + d ≡ suc (suc i + d) = omega arith in ap (slice_index (length x ∷ [])) at
-weights_behind (suc i) d (x ∷ y ∷ lines) =
-    let at : suc i + d ≡ suc (i + d) = omega arith in
-    ap (slice_index ((length x + 1) ∷ text_weights (y ∷ lines))) at ∙ weights_behind i d (y ∷ lines)
+pub length-row_weights : (rows : List Row) → length (row_weights rows) ≡ length rows
+length-row_weights [] = refl
+length-row_weights (r ∷ []) = refl
+length-row_weights (r ∷ s ∷ rows) = ap suc (length-row_weights (s ∷ rows))
 
--- after an edit each kept line may weigh what it might before
-pub IsLight-edited : (old : Tree) (table : Table) (first n m : ℕ) (marks : List Mark) (before after : List (List ℕ))
-    → IsEdited first n m before after → Agrees (tree_rows old) marks (text_rows table before) → IsLight old marks before
-    → IsLight old (edited_marks first n m marks) after
-IsLight-edited old table first n m marks before after edit agrees light j line e =
-    elim (kept_before (tree_rows old) table first n m marks before after edit agrees j line e) [
-      | inl front ↦
-          let same = weights_in_front (first - 1) j n m before after front.0 edit.some edit.more edit.within edit.there edit.front in
-          subst (λ (w : ℕ). line_weight old line ≤ w) (sym same) (light j line front.1)
-      | inr behind ↦
-          let d : ℕ = j - (first - 1 + m) in
-          let within : first - 1 + m ≤ j = behind.0 in
-          let to_j : j ≡ first - 1 + m + d = omega arith in
-          let same : slice_index (text_weights after) j ≡ slice_index (text_weights before) (first - 1 + n + d) =
-          ap (slice_index (text_weights after)) to_j ∙ weights_behind (first - 1 + m) d after
-          ∙ ap (λ (lines : List (List ℕ)). slice_index (text_weights lines) d) edit.rest ∙ sym (weights_behind (first - 1 + n) d before) in
-          subst (λ (w : ℕ). line_weight old line ≤ w) (sym same) (light (first - 1 + n + d) line behind.1)
-    ]
+-- the weight of a row is the first one's of the rows from there on
+row_weight-at : (rows : List Row) (i : ℕ) → slice_index (row_weights rows) i ≡ slice_index (row_weights (drop i rows)) 0
+row_weight-at rows zero = refl
+row_weight-at [] (suc i) = refl
+row_weight-at (r ∷ []) (suc zero) = refl
+row_weight-at (r ∷ []) (suc (suc i)) = refl
+row_weight-at (r ∷ s ∷ rows) (suc i) = row_weight-at (s ∷ rows) i
 
--- ---- after a parse
+alike_weight : (a b : List Row) → Alike 1 a b → slice_index (row_weights a) 0 ≡ slice_index (row_weights b) 0
+alike_weight [] b h = elim h [ ]
+alike_weight (r ∷ a) [] h = elim h [ ]
+alike_weight (r ∷ []) (s ∷ []) h = ap (λ (x : Row). x.columns) h.0
+alike_weight (r ∷ []) (s ∷ y ∷ b) h = elim h.1.0 [ ]
+alike_weight (r ∷ x ∷ a) (s ∷ []) h = elim h.1.0 [ ]
+alike_weight (r ∷ x ∷ a) (s ∷ y ∷ b) h = ap (λ (z : Row). brackets_end 0 z.brackets + 1) h.0
+
+-- ---- lines of a tree
 
 weights_from-at : (line lines j : ℕ) (ls : List Leaf) → j ≤ lines → slice_index (weights_from (length_of line 0) lines ls) j ≡ weight_from (length_of (line + j) 0) ls
 weights_from-at line zero zero ls h = let at : line ≡ line + 0 = omega arith in ap (λ (n : ℕ). weight_from (length_of n 0) ls) at
@@ -76,31 +57,55 @@ line_weighs t j h k =
     ap (λ (ws : List ℕ). slice_index ws j) (sym (lines_weigh t h)) ∙ weights_from-at 0 (tree_length t).lines j (leaves no_length t) k
     ∙ ap (λ (n : ℕ). line_weight t n) at
 
-length-covered : (ws vs : List ℕ) → AreCovered ws vs → length ws ≡ length vs
-length-covered [] [] h = refl
-length-covered [] (v ∷ vs) h = elim h [ ]
-length-covered (w ∷ ws) [] h = elim h [ ]
-length-covered (w ∷ ws) (v ∷ vs) h = ap suc (length-covered ws vs h.1)
-
-length-text_weights : (lines : List (List ℕ)) → length (text_weights lines) ≡ length lines
-length-text_weights [] = refl
-length-text_weights (x ∷ []) = refl
-length-text_weights (x ∷ y ∷ lines) = ap suc (length-text_weights (y ∷ lines))
-
 length-weights_from : (q : Length) (lines : ℕ) (ls : List Leaf) → length (weights_from q lines ls) ≡ suc lines
 length-weights_from q zero ls = refl
 length-weights_from q (suc lines) ls = ap suc (length-weights_from (next_line q) lines ls)
 
--- a tree that is covered by what the lines may weigh is light where every line is kept
-pub IsLight-clean : (t : Tree) (lines : List (List ℕ)) → IsTree t → AreCovered (tree_weights t) (text_weights lines) → IsLight t (clean_marks (length lines)) lines
-IsLight-clean t lines h covered j line e =
-    let same = length-covered (tree_weights t) (text_weights lines) covered in
-    let counted = length-text_weights lines in
+-- a line of a tree that has tight breaks weighs no more than its row tells
+tight_line : (t : Tree) (line : ℕ) → IsTree t → IsTight t → line < length (tree_rows t) → line_weight t line ≤ slice_index (row_weights (tree_rows t)) line
+tight_line t line h tight inside =
+    let counted = length-tree_weights t in
     let tall = ap length (lines_weigh t h) in
     let rows = length-weights_from no_length (tree_length t).lines (leaves no_length t) in
-    let here = kept_clean (length lines) j line e in
-    let within : j < length lines = here.0 in
-    let number : line ≡ j = here.1 in
-    let light : slice_index (tree_weights t) j ≤ slice_index (text_weights lines) j = AreCovered-at (tree_weights t) (text_weights lines) j covered in
-    subst (λ (w : ℕ). w ≤ slice_index (text_weights lines) j)
-    (line_weighs t j h (omega arith) ∙ ap (line_weight t) (sym number)) light
+    let below : slice_index (tree_weights t) line ≤ slice_index (row_weights (tree_rows t)) line = AreCovered-at (tree_weights t) (row_weights (tree_rows t)) line tight in
+    subst (λ (w : ℕ). w ≤ slice_index (row_weights (tree_rows t)) line) (line_weighs t line h (omega arith)) below
+
+-- ---- kept lines
+
+kept_inside : (marks : List Mark) (n i : ℕ) → slice_index_or marks n New ≡ Kept i → n < length marks
+kept_inside [] n i e = absurd cc
+kept_inside (m ∷ marks) zero i e = omega arith
+kept_inside (m ∷ marks) (suc n) i e = omega (arith, kept_inside marks n i e)
+
+alike_inside : (rows now : List Row) (i : ℕ) → Alike 1 (drop i rows) now → i < length rows
+alike_inside [] now zero h = elim h [ ]
+alike_inside [] now (suc i) h = elim h [ ]
+alike_inside (r ∷ rows) now zero h = omega arith
+alike_inside (r ∷ rows) now (suc i) h = omega (arith, alike_inside rows now i h)
+
+pub light_where_agreed : (old : Tree) (marks : List Mark) (now : List Row) → IsTree old → IsTight old → Agrees (tree_rows old) marks now
+    → IsLightBy old marks (row_weights now)
+light_where_agreed old marks now h tight agrees j line e =
+    let at : j + 1 - 1 ≡ j = omega arith in
+    let inside : j < length marks = kept_inside marks j (line + 1) (ap (λ (n : ℕ). slice_index_or marks n New) (sym at) ∙ e) in
+    let alike : Alike 1 (drop line (tree_rows old)) (drop j now) = agrees.kept j line inside e in
+    let same : slice_index (row_weights (tree_rows old)) line ≡ slice_index (row_weights now) j =
+    row_weight-at (tree_rows old) line ∙ alike_weight (drop line (tree_rows old)) (drop j now) alike ∙ sym (row_weight-at now j) in
+    let below = tight_line old line h tight (alike_inside (tree_rows old) (drop j now) line alike) in
+    omega arith
+
+-- ---- lines of a text
+
+brackets_end-within : (column columns : ℕ) (ts : List Token) → AreInLine column columns ts → brackets_end column ts ≤ columns
+brackets_end-within column columns [] h = h
+brackets_end-within column columns (t ∷ ts) h = brackets_end-within (t.at + t.len) columns ts h.3
+
+pub rows_are_covered : (table : Table) (xs : List (List ℕ)) → is_table table ≡ true → AreCovered (row_weights (text_rows table xs)) (text_weights xs)
+rows_are_covered table [] is = tt
+rows_are_covered table (x ∷ []) is = (omega arith, tt)
+rows_are_covered table (x ∷ y ∷ []) is =
+    let within = brackets_end-within 0 (length x) (tokens_of table x) (tokens_of-in_line table x is) in
+    (omega arith, rows_are_covered table (y ∷ []) is)
+rows_are_covered table (x ∷ y ∷ z ∷ xs) is =
+    let within = brackets_end-within 0 (length x) (tokens_of table x) (tokens_of-in_line table x is) in
+    (omega arith, rows_are_covered table (y ∷ z ∷ xs) is)

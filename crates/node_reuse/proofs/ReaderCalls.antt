@@ -14,14 +14,14 @@ use Rattle.bracket_nodes.specs.declared.parser.Next.TheVariants.{End, Ready, Bra
 use Rattle.bracket_nodes.specs.Source.{Ahead, Comes, AsksOn}
 use Rattle.bracket_nodes.proofs.Parsing.{AsksOn-then}
 use Rattle.mark_rules.specs.declared.Mark.{Mark}
-use Rattle.mark_rules.specs.declared.Mark.TheVariants.{New}
+use Rattle.mark_rules.specs.declared.Mark.TheVariants.{Kept, New}
 use Rattle.reuse_rules.specs.Following.{Reached}
 use Rattle.node_reuse.specs.declared.line.Line.{Line}
 use Rattle.node_reuse.specs.Texts.{content_at}
 use Rattle.node_reuse.specs.Ahead.{IsFresh}
 use Rattle.node_reuse.specs.Reading.{IsInLine}
 use Rattle.node_reuse.specs.OldText.{OldText}
-use Rattle.node_reuse.specs.Reader.{Sight, sight, IsLast, sight_rows, sight_weights, mark_of, new_lines_at, unasked, asked_if, Asked, asked_so, asking_at, seen_at, tokens_left, StandsAt, ReadsOn}
+use Rattle.node_reuse.specs.Reader.{Sight, sight, IsKept, IsLast, sight_rows, sight_weights, mark_of, new_lines_at, unasked, asked_if, Asked, asked_so, asking_at, seen_at, tokens_left, StandsAt, ReadsOn}
 use Rattle.node_reuse.proofs.FreshLines.{fresh_start}
 use Rattle.node_reuse.proofs.FreshReader.{asks_same, lines_within, unasked_unscanned}
 use Rattle.node_reuse.proofs.Unasked.{new_unasked, new_count}
@@ -194,6 +194,18 @@ last_line s p count same within = either (eqb_tells (p.lines + 1) count)
         → IsLast s p (eqb (p.lines + 1) count)
     either (inl last) = let number = last.1 in subst (IsLast s p) (sym last.0) (omega arith)
     either (inr more) = let number = more.1 in subst (IsLast s p) (sym more.0) (omega arith)
+
+-- ---- a line that was entered
+
+-- a reader that stands within a line which it did not scan stands in a kept one
+pub entered_kept : (s : Sight) (p : Length) (line : Line) → StandsAt s p line → line.scanned ≡ false → 0 < p.columns → IsKept s p
+entered_kept s p line h unscanned within =
+    by (mark_of s p) refl
+    (subst (λ (b : Bool). IsInLine (mark_of s p) s.old.tree s.marks (sight_rows s) (sight_weights s) p b (tokens_left line) line.columns) unscanned h.in_line)
+  where
+    by : (m : Mark) → mark_of s p ≡ m → IsInLine m s.old.tree s.marks (sight_rows s) (sight_weights s) p false (tokens_left line) line.columns → IsKept s p
+    by (Kept i) e in_it = (i, e)
+    by New e in_it = absurd (let start : p.columns ≡ 0 = in_it in omega arith)
 
 -- ---- numbers that fit
 

@@ -1,5 +1,5 @@
 -- A reader at the start of the text, and at its end.
-use Rattle.std.proofs.Common.{◌≡◌, ℕ, ◌-◌, ◌<◌, ◌≤◌, ◌^◌, Bool, true, false, List, [], ◌∷◌, length, drop, sum, refl, ap, sym, ◌∙◌, subst, arith}
+use Rattle.std.proofs.Common.{◌≡◌, ℕ, ◌-◌, ◌<◌, ◌≤◌, ◌^◌, Bool, true, false, Option, Some, None, List, [], ◌∷◌, length, drop, sum, refl, ap, sym, ◌∙◌, subst, arith}
 use Rattle.std.specs.Prelude.{slice_index}
 use Rattle.text_lengths.specs.Length.{no_length}
 use Rattle.bracket_rules.specs.Rows.{Row, HasRow, text_rows}
@@ -13,12 +13,21 @@ use Rattle.bracket_nodes.specs.Source.{weights_ahead, weight_ahead}
 use Rattle.reuse_rules.specs.Following.{Reached}
 use Rattle.reuse_rules.proofs.Followings.{Reached-start, Reached-rows}
 use Rattle.node_reuse.specs.declared.line.Line.{Line}
-use Rattle.node_reuse.specs.Texts.{new_lines, AsksFront}
-use Rattle.node_reuse.specs.Reading.{StaysIfThere, IsInLine, left_at}
+use Rattle.mark_rules.specs.declared.Mark.{Mark}
+use Rattle.node_reuse.specs.Texts.{row_weights, text_weights, new_lines, AsksFront, IsTight}
+use Rattle.node_reuse.specs.Reading.{AgreesIfThere, StaysIfThere, IsInLine, left_at}
 use Rattle.node_reuse.specs.Reader.{Sight, sight_rows, sight_weights, mark_of, unasked, Asked, seen_at, tokens_left, StandsAt}
-use Rattle.node_reuse.proofs.FreshLines.{length-text_weights}
+use Rattle.node_reuse.proofs.FreshLines.{length-text_rows}
 use Rattle.node_reuse.proofs.FreshReader.{same_count}
+use Rattle.node_reuse.proofs.LightLines.{light_where_agreed, rows_are_covered}
 use Rattle.node_reuse.proofs.LineStarts.{line_starts, start_is_light}
+
+-- ---- the old tree
+
+-- a tree that agrees is no heavier in a kept line than the rows tell
+stays_where_agreed : (old : Option Tree) (marks : List Mark) (now : List Row) → AgreesIfThere old marks now → StaysIfThere old marks now (row_weights now)
+stays_where_agreed None marks now h = h
+stays_where_agreed (Some old) marks now h = record { tree = h.tree; agrees = h.rows; light = light_where_agreed old marks now h.tree h.tight h.rows }
 
 -- ---- the start
 
@@ -36,8 +45,9 @@ pub some_ahead : (table : Table) (contents : List (List ℕ)) → 0 < length con
 some_ahead table contents some = subst HasRow (sym (all_rows table contents some)) (some_row table contents some)
 
 pub first_stands : (s : Sight) (line : Line) → 0 < length s.contents → is_table s.table ≡ true → s.old.marks ≡ s.marks → length s.marks ≡ length s.contents
-    → StaysIfThere s.old.tree s.marks (sight_rows s) (sight_weights s) → line.scanned ≡ false → line.asked ≡ 0 → StandsAt s no_length line
-first_stands s line some table marks counted stays scanned none =
+    → AgreesIfThere s.old.tree s.marks (sight_rows s) → line.scanned ≡ false → line.asked ≡ 0 → StandsAt s no_length line
+first_stands s line some table marks counted agrees scanned none =
+    let stays = stays_where_agreed s.old.tree s.marks (sight_rows s) agrees in
     let reached : Reached (sight_rows s) no_length (rows_from no_length (sight_rows s)) =
     subst (Reached (sight_rows s) no_length) (sym (all_rows s.table s.contents some)) (Reached-start (sight_rows s) (some_row s.table s.contents some)) in
     record {
@@ -65,15 +75,18 @@ covered_start (w ∷ weights) left some h = (omega arith, AreCovered-same weight
 start_covered : (s : Sight) → 0 < length s.contents → StaysIfThere s.old.tree s.marks (sight_rows s) (sight_weights s)
     → AreCovered (left_at s.old.tree s.marks (sight_weights s) no_length ∷ drop 1 (sight_weights s)) (sight_weights s)
 start_covered s some stays =
-    covered_start (sight_weights s) (left_at s.old.tree s.marks (sight_weights s) no_length) (omega (arith, length-text_weights s.contents))
+    covered_start (sight_weights s) (left_at s.old.tree s.marks (sight_weights s) no_length) (omega (arith, same_count s, length-text_rows s.table s.contents))
     (start_is_light s.old.tree s.marks (sight_rows s) (sight_weights s) no_length stays refl)
 
-pub start_fits : (s : Sight) (asked : Asked) (line : Line) → 0 < length s.contents → StaysIfThere s.old.tree s.marks (sight_rows s) (sight_weights s)
-    → sum (sight_weights s) < 2 ^ 64 → weight_ahead (seen_at s asked no_length line) < 2 ^ 64
+pub start_fits : (s : Sight) (asked : Asked) (line : Line) → is_table s.table ≡ true → 0 < length s.contents → AgreesIfThere s.old.tree s.marks (sight_rows s)
+    → sum (text_weights s.contents) < 2 ^ 64 → weight_ahead (seen_at s asked no_length line) < 2 ^ 64
 unfolding weight_ahead
-start_fits s asked line some stays fits =
+start_fits s asked line table some agrees fits =
+    let stays = stays_where_agreed s.old.tree s.marks (sight_rows s) agrees in
     let ahead : List ℕ = left_at s.old.tree s.marks (sight_weights s) no_length ∷ drop 1 (sight_weights s) in
     let less : sum ahead ≤ sum (sight_weights s) = AreCovered-sum ahead (sight_weights s) (start_covered s some stays) in
+    let rows : sum (sight_weights s) ≤ sum (text_weights s.contents) =
+    AreCovered-sum (sight_weights s) (text_weights s.contents) (rows_are_covered s.table s.contents table) in
     omega arith
 
 -- ---- the end
@@ -81,10 +94,23 @@ start_fits s asked line some stays fits =
 pub whole_tree : (s : Sight) (t : Tree) → 0 < length s.contents → IsTreeOf (rows_from no_length (sight_rows s)) t → IsTreeOf (sight_rows s) t
 whole_tree s t some h = subst (λ (rows : List Row). IsTreeOf rows t) (all_rows s.table s.contents some) h
 
-pub whole_light : (s : Sight) (asked : Asked) (line : Line) (t : Tree) → 0 < length s.contents → StaysIfThere s.old.tree s.marks (sight_rows s) (sight_weights s)
+-- each line of it weighs no more than its row tells
+whole_weights : (s : Sight) (asked : Asked) (line : Line) (t : Tree) → 0 < length s.contents → AgreesIfThere s.old.tree s.marks (sight_rows s)
     → AreCovered (tree_weights t) (weights_ahead (seen_at s asked no_length line)) → AreCovered (tree_weights t) (sight_weights s)
-whole_light s asked line t some stays h =
-    AreCovered-then (tree_weights t) (weights_ahead (seen_at s asked no_length line)) (sight_weights s) h (start_covered s some stays)
+whole_weights s asked line t some agrees h =
+    AreCovered-then (tree_weights t) (weights_ahead (seen_at s asked no_length line)) (sight_weights s) h
+    (start_covered s some (stays_where_agreed s.old.tree s.marks (sight_rows s) agrees))
+
+pub whole_tight : (s : Sight) (asked : Asked) (line : Line) (t : Tree) → 0 < length s.contents → AgreesIfThere s.old.tree s.marks (sight_rows s)
+    → IsTreeOf (rows_from no_length (sight_rows s)) t → AreCovered (tree_weights t) (weights_ahead (seen_at s asked no_length line)) → IsTight t
+whole_tight s asked line t some agrees told h =
+    let whole : IsTreeOf (sight_rows s) t = whole_tree s t some told in
+    subst (λ (rows : List Row). AreCovered (tree_weights t) (row_weights rows)) (sym whole.spells) (whole_weights s asked line t some agrees h)
+
+pub whole_light : (s : Sight) (asked : Asked) (line : Line) (t : Tree) → is_table s.table ≡ true → 0 < length s.contents → AgreesIfThere s.old.tree s.marks (sight_rows s)
+    → AreCovered (tree_weights t) (weights_ahead (seen_at s asked no_length line)) → AreCovered (tree_weights t) (text_weights s.contents)
+whole_light s asked line t table some agrees h =
+    AreCovered-then (tree_weights t) (sight_weights s) (text_weights s.contents) (whole_weights s asked line t some agrees h) (rows_are_covered s.table s.contents table)
 
 pub none_asked : (lines asked : List ℕ) → AsksFront lines asked asked
 none_asked lines asked = (lines, refl)

@@ -8,6 +8,7 @@ use Rattle.bracket_trees.specs.Places.{rows_from}
 use Rattle.bracket_nodes.specs.ScannedLines.{moved_back}
 use Rattle.bracket_nodes.specs.Source.{Ahead, asks_nothing}
 use Rattle.reuse_rules.specs.Following.{Reached}
+use Rattle.node_reuse.specs.Texts.{brackets_end}
 
 -- the rows from place p on, what is left of its line, and what each line after it may weigh, where no line is yet to be
 -- asked for
@@ -25,10 +26,11 @@ fresh_left weights p = slice_index weights p.lines - p.columns
 
 -- ---- a line whose content was scanned
 
--- one for the break, where rows follow
-abbrev pub break_before : List Row → ℕ
-break_before [] = 0
-break_before (r ∷ rows) = 1
+-- What a line of so many columns weighs, where the reader came to this column, these tokens are left, and those rows
+-- follow: its columns, or where rows follow its brackets and the break.
+abbrev pub weight_before : ℕ → List Token → ℕ → List Row → ℕ
+weight_before column tokens columns [] = columns
+weight_before column tokens columns (r ∷ rows) = brackets_end column tokens + 1
 
 -- the rows from a column of a line on, where these tokens of its columns are left, and those rows follow
 abbrev pub rows_before : ℕ → List Token → ℕ → List Row → List Row
@@ -39,4 +41,4 @@ rows_before column tokens columns (r ∷ rows) = row (moved_back column tokens) 
 pub record IsFresh (now : List Row) (weights : List ℕ) (p : Length) (tokens : List Token) (columns : ℕ) : Type 0 where
   pub reached : Reached now p (rows_before p.columns tokens columns (drop (suc p.lines) now))
   pub line : AreInLine p.columns columns tokens
-  pub weight : slice_index weights p.lines ≡ columns + break_before (drop (suc p.lines) now)
+  pub weight : slice_index weights p.lines ≡ weight_before p.columns tokens columns (drop (suc p.lines) now)

@@ -2,7 +2,11 @@
 use Rattle.std.specs.Prelude.{◌≡◌, true, false, [], ◌∷◌, refl}
 use Rattle.text_lengths.specs.Length.{length_of}
 use Rattle.mark_rules.specs.Marks.{clean_marks, edited_marks}
-use Rattle.node_reuse.specs.Texts.{text_weights, new_lines}
+use Rattle.bracket_rules.specs.Table.{standard_table}
+use Rattle.bracket_rules.specs.Rows.{text_rows}
+use Rattle.bracket_trees.specs.Tree.{Tree, text, two, tree_rows}
+use Rattle.bracket_trees.specs.Weights.{tree_weights}
+use Rattle.node_reuse.specs.Texts.{text_weights, row_weights, new_lines}
 use Rattle.node_reuse.specs.Reader.{unasked}
 
 -- lines 2 and 3 of five became three lines
@@ -22,3 +26,21 @@ a_scanned_line_is_not_asked_for_again = refl
 -- `ab`, a break and `c`
 a_break_weighs_one : text_weights ((97 ∷ 98 ∷ []) ∷ (99 ∷ []) ∷ []) ≡ 3 ∷ 1 ∷ []
 a_break_weighs_one = refl
+
+-- `a)b`, a break and `c`: the break holds the `b`
+a_break_holds_what_stands_before_it : row_weights (text_rows standard_table ((97 ∷ 41 ∷ 98 ∷ []) ∷ (99 ∷ []) ∷ [])) ≡ 3 ∷ 1 ∷ []
+a_break_holds_what_stands_before_it = refl
+
+-- `ab` and a break, as a text and the break that stands behind it
+abbrev loose : Tree
+loose = two (text (length_of 0 2)) (text (length_of 1 0))
+
+-- rows tell nothing of that text: they are those of a break alone
+rows_do_not_tell_it : tree_rows loose ≡ text_rows standard_table ([] ∷ [] ∷ [])
+rows_do_not_tell_it = refl
+
+it_is_heavier_than_they_tell : tree_weights loose ≡ 3 ∷ 0 ∷ []
+it_is_heavier_than_they_tell = refl
+
+the_lines_may_weigh_less : text_weights ([] ∷ [] ∷ []) ≡ 1 ∷ 0 ∷ []
+the_lines_may_weigh_less = refl

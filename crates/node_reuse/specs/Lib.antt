@@ -3,5 +3,6 @@ pub mod Texts
 pub mod Ahead
 pub mod Reading
 pub mod Reader
+pub mod Paying
 pub mod ParsedTree
 mod Examples

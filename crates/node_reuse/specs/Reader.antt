@@ -13,7 +13,7 @@ use Rattle.mark_rules.specs.Marks.{mark_at}
 use Rattle.reuse_rules.specs.Following.{Reached}
 use Rattle.node_reuse.specs.declared.line.Line.{Line}
 use Rattle.node_reuse.specs.OldText.{OldText}
-use Rattle.node_reuse.specs.Texts.{text_weights, new_from, new_lines}
+use Rattle.node_reuse.specs.Texts.{row_weights, new_from, new_lines}
 use Rattle.node_reuse.specs.Reading.{StaysIfThere, IsInLine, left_at}
 
 -- ---- what is read
@@ -32,7 +32,7 @@ abbrev pub sight_rows : Sight → List Row
 sight_rows s = text_rows s.table s.contents
 
 abbrev pub sight_weights : Sight → List ℕ
-sight_weights s = text_weights s.contents
+sight_weights s = row_weights (sight_rows s)
 
 abbrev pub mark_of : Sight → Length → Mark
 mark_of s p = mark_at (p.lines + 1) s.marks

@@ -12,7 +12,7 @@ use Rattle.mark_rules.specs.Marks.{mark_at}
 use Rattle.reuse_rules.specs.Agreement.{Agrees}
 use Rattle.reuse_rules.specs.Following.{Reached, Follows}
 use Rattle.bracket_trees.specs.Leaves.{weight_left}
-use Rattle.node_reuse.specs.Texts.{IsLightBy}
+use Rattle.node_reuse.specs.Texts.{IsTight, IsLightBy}
 use Rattle.node_reuse.specs.Ahead.{fresh_left, IsFresh}
 
 -- ---- the old text
@@ -20,13 +20,24 @@ use Rattle.node_reuse.specs.Ahead.{fresh_left, IsFresh}
 abbrev pub AllNew : List Mark → Type 0
 AllNew marks = (n i : ℕ) → mark_at n marks ≡ Kept i → ⊥
 
--- the tree of the old text agrees with the rows of now under the marks, and is no heavier in a kept line than that may be
+-- The tree of the old text agrees with the rows of now under the marks. It is a tree of a text: it meets the rules of
+-- nodes, and its breaks hold what stands before them.
+pub record AgreesWith (old : Tree) (marks : List Mark) (now : List Row) : Type 0 where
+  pub tree : IsTree old
+  pub tight : IsTight old
+  pub rows : Agrees (tree_rows old) marks now
+
+-- where there is no tree, no line is kept
+abbrev pub AgreesIfThere : Option Tree → List Mark → List Row → Type 0
+AgreesIfThere None marks now = AllNew marks
+AgreesIfThere (Some old) marks now = AgreesWith old marks now
+
+-- what a reader knows of it: in a kept line the tree is no heavier than that line may be
 pub record Stays (old : Tree) (marks : List Mark) (now : List Row) (weights : List ℕ) : Type 0 where
   pub tree : IsTree old
   pub agrees : Agrees (tree_rows old) marks now
   pub light : IsLightBy old marks weights
 
--- where there is no tree, no line is kept
 abbrev pub StaysIfThere : Option Tree → List Mark → List Row → List ℕ → Type 0
 StaysIfThere None marks now weights = AllNew marks
 StaysIfThere (Some old) marks now weights = Stays old marks now weights

@@ -1,7 +1,10 @@
 -- The lines of a text of now: what they may weigh, and which of them are read.
 use Rattle.std.specs.Prelude.{◌≡◌, ◌++◌, ℕ, suc, ◌+◌, ◌-◌, ◌≤◌, List, [], ◌∷◌, length, slice_index, slice_index_or}
 use Rattle.text_lengths.specs.Length.{length_of}
-use Rattle.bracket_trees.specs.Tree.{Tree}
+use Rattle.bracket_rules.specs.declared.Token.{Token}
+use Rattle.bracket_rules.specs.Rows.{Row}
+use Rattle.bracket_trees.specs.Tree.{Tree, tree_rows}
+use Rattle.bracket_trees.specs.Weights.{tree_weights, AreCovered}
 use Rattle.mark_rules.specs.declared.Mark.{Mark}
 use Rattle.mark_rules.specs.declared.Mark.TheVariants.{Kept, New}
 use Rattle.reuse_rules.specs.Reuse.{IsKeptAs}
@@ -12,6 +15,21 @@ abbrev pub text_weights : List (List ℕ) → List ℕ
 text_weights [] = []
 text_weights (x ∷ []) = length x ∷ []
 text_weights (x ∷ y ∷ lines) = (length x + 1) ∷ text_weights (y ∷ lines)
+
+-- where the last of these brackets of a line ends, or this column where there is none
+abbrev pub brackets_end : ℕ → List Token → ℕ
+brackets_end column [] = column
+brackets_end column (t ∷ ts) = brackets_end (t.at + t.len) ts
+
+-- what each line weighs where its break holds what stands behind its last bracket, as far as the rows tell
+abbrev pub row_weights : List Row → List ℕ
+row_weights [] = []
+row_weights (r ∷ []) = r.columns ∷ []
+row_weights (r ∷ s ∷ rows) = (brackets_end 0 r.brackets + 1) ∷ row_weights (s ∷ rows)
+
+-- each break in the tree holds what stands in its line behind the last bracket, so that no text stands before it there
+abbrev pub IsTight : Tree → Type 0
+IsTight t = AreCovered (tree_weights t) (row_weights (tree_rows t))
 
 -- the numbers of the lines that are new, where the first line has this number
 abbrev pub new_from : ℕ → List Mark → List ℕ
@@ -26,9 +44,6 @@ new_lines marks = new_from 1 marks
 -- where line j is kept as an old line, both counted from 0, the old one weighs no more than line j may
 abbrev pub IsLightBy : Tree → List Mark → List ℕ → Type 0
 IsLightBy old marks weights = (j line : ℕ) → IsKeptAs marks (length_of j 0) line → line_weight old line ≤ slice_index weights j
-
-abbrev pub IsLight : Tree → List Mark → List (List ℕ) → Type 0
-IsLight old marks contents = IsLightBy old marks (text_weights contents)
 
 -- ---- lines that are asked for
 

@@ -2,6 +2,8 @@
 ghost use Rattle.std.specs.Prelude.{◌≡◌, ◌-◌, ◌^◌, ◌<◌, ◌≤◌, ℕ, true, IfOk, OnErr};
 ghost use Rattle.bracket_rules.specs.Table.{AreInLine};
 ghost use Rattle.bracket_trees.specs.Tree.{text, wide};
+ghost use Rattle.bracket_nodes.specs.Paying.{PaysFor};
+ghost use Rattle.node_reuse.specs.Paying.{paying_at};
 ghost use Rattle.node_reuse.specs.Reader.{Sight, tokens_left, StandsAt, IsLast, ReadsOn};
 
 use crate::line::Line;
@@ -29,6 +31,9 @@ pub(crate) fn next_of_line(
     ensures reads { (s : Sight) (opened level : ℕ) → level ≤ MOST_OPEN
         → StandsAt s place.old line.old → IsLast s place.old last
         → IfOk result (ReadsOn s place.old line.old place.new line.new opened level) }
+    ensures pays { (s : Sight) (steps : ℕ) → StandsAt s place.old line.old
+        → IfOk result (PaysFor
+        (paying_at s steps place.old line.old) (paying_at s steps place.new line.new)) }
     ensures same_place { OnErr result (place.new ≡ place.old) }
     ensures same_line { OnErr result (line.new ≡ line.old) }
 {

@@ -1,7 +1,9 @@
 // What comes in a kept line.
-ghost use Rattle.std.specs.Prelude.{◌≡◌, ◌<◌, ◌≤◌, false, length, IfOk, OnErr};
+ghost use Rattle.std.specs.Prelude.{◌≡◌, ◌+◌, ◌<◌, ◌≤◌, false, length, IfOk, OnErr};
+ghost use Rattle.bracket_nodes.specs.Paying.{HasRoom, PaysFor};
 ghost use Rattle.node_reuse.specs.declared.line.Line.{Line};
 ghost use Rattle.node_reuse.specs.Reader.{Sight, IsKept, StandsAt, ReadsOn};
+ghost use Rattle.node_reuse.specs.Paying.{paying_at};
 
 use crate::old::Old;
 use bracket_nodes::{Kinds, Next};
@@ -25,6 +27,11 @@ pub(crate) fn next_of_old<O: Old, L: Ledger>(
     ensures reads { (s : Sight) (line : Line) → s.old ≡ O.text old.old → IsKept s place.old
         → line.scanned ≡ false → StandsAt s place.old line
         → IfOk result (ReadsOn s place.old line place.new line opened level) }
+    ensures pays { (s : Sight) (line : Line) → s.old ≡ O.text old.old → IsKept s place.old
+        → line.scanned ≡ false → StandsAt s place.old line
+        → HasRoom (paying_at s steps.old place.old line) level → IfOk result (PaysFor
+        (paying_at s steps.old place.old line) (paying_at s steps.new place.new line)) }
+    ensures steps { steps.new ≤ steps.old + 2 }
     ensures same_text { O.text old.new ≡ O.text old.old }
     ensures same_place { OnErr result (place.new ≡ place.old) }
 {

@@ -1,12 +1,12 @@
 //! A text whose lines are asked for one by one.
 
-ghost use Rattle.std.specs.Prelude.{◌≡◌, ◌≤◌, ◌++◌, ◌∷◌, [], length, OnOk, OnErr};
+ghost use Rattle.std.specs.Prelude.{◌≡◌, ◌<◌, ◌≤◌, ◌^◌, ◌++◌, ◌∷◌, [], length, sum, OnOk, OnErr};
 
 use std::alloc::AllocError;
 
 /// The lines of a text. Lines are counted from 1.
 pub trait Lines {
-    ghost use Rattle.node_reuse.specs.Texts.{LinesState, content_at};
+    ghost use Rattle.node_reuse.specs.Texts.{LinesState, content_at, text_weights};
 
     ghost state: { Self → LinesState };
 
@@ -21,4 +21,7 @@ pub trait Lines {
         ensures unread { OnErr result (out.new.items ≡ out.old.items) }
         ensures unasked { OnErr result ((state self.new).asked ≡ (state self.old).asked) }
         ensures contents { (state self.new).contents ≡ (state self.old).contents };
+
+    /// The units of the lines, and the breaks between them, fit 64 bits.
+    ghost fits: { (lines : Self) → sum (text_weights (state lines).contents) < 2 ^ 64 };
 }

@@ -1,9 +1,10 @@
 //! An old text as a reader sees it.
 
-ghost use Rattle.std.specs.Prelude.{◌≡◌, ◌+◌, ◌^◌, ◌<◌, length, IfSome, IfNone, ⊤};
+ghost use Rattle.std.specs.Prelude.{◌≡◌, ◌+◌, ◌^◌, ◌<◌, drop, length, IfSome, IfNone, ⊤};
 ghost use Rattle.std.specs.Option.{option_copied};
 ghost use Rattle.text_lengths.specs.Length.{length_plus};
 ghost use Rattle.bracket_trees.specs.Tree.{tree_length};
+ghost use Rattle.mark_rules.specs.Marks.{kept_run};
 ghost use Rattle.bracket_nodes.specs.Borrowed.{node_of};
 ghost use Rattle.node_reuse.specs.OldText.{IsOldPlace, IsNewLine, Fits64, IsLongestReusable, NoneReusable, IsOldToken, NoOldBracket};
 
@@ -57,6 +58,13 @@ pub trait Old {
         ensures same { text self.new ≡ text self.old };
 }
 
+// A place of an old text, and how many lines are kept one after another from its line on.
+#[derive(Clone, Copy)]
+pub(crate) struct OldPlace {
+    pub place: Length,
+    pub lines: u64,
+}
+
 /// The tree of an old text, where there is one, and what each line of the text of now is to it.
 #[derive(Drop)]
 pub struct OldReader<'a> {
@@ -87,18 +95,24 @@ impl<'a> OldReader<'a> {
         OldReader { tree, hunks }
     }
 
-    // The place of the old text that this one is kept from.
-    fn old_place(&self, place: Length) -> Option<Length>
+    // The place of the old text that this one is kept from. The mark of its line is looked up once.
+    fn old_place(&self, place: Length) -> Option<OldPlace>
         requires { place.lines < length self.now.marks }
         ensures fits { length self.now.marks < 2 ^ 62 }
-        ensures some { IfSome result (IsOldPlace self.now.marks place) }
+        ensures some { IfSome result (λ old. IsOldPlace self.now.marks place old.place) }
+        ensures run { IfSome result (λ old.
+            old.lines ≡ kept_run (drop place.lines self.now.marks)) }
         ensures none { IfNone result (IsNewLine self.now.marks place) }
     {
         let _lines = self.hunks.lines();
-        match self.hunks.mark(place.lines + 1) {
-            Mark::Kept(number) => Some(Length {
-                lines: number - 1,
-                columns: place.columns,
+        let (mark, lines) = self.hunks.at(place.lines + 1);
+        match mark {
+            Mark::Kept(number) => Some(OldPlace {
+                place: Length {
+                    lines: number - 1,
+                    columns: place.columns,
+                },
+                lines,
             }),
             Mark::New => None,
         }
@@ -115,11 +129,10 @@ impl<'a> OldReader<'a> {
         ensures same { self.new ≡ self.old }
     {
         let old = self.old_place(place)?;
-        let lines = self.hunks.kept_from(place.lines + 1);
         let tree = self.tree.as_mut()?;
         // No tree is longer than 64 bits tell.
         let _length = tree.length();
-        tree.longest_at(old, lines, opened, level)
+        tree.longest_at(old.place, old.lines, opened, level)
     }
 
     #[tactic(auto, using(crate::proofs::OldPlaces::bracket_laws))]
@@ -133,7 +146,7 @@ impl<'a> OldReader<'a> {
         let old = self.old_place(place)?;
         let tree = self.tree.as_mut()?;
         let _length = tree.length();
-        tree.bracket_at(old)
+        tree.bracket_at(old.place)
     }
 
     // The node, for as long as the reader is borrowed.

@@ -1,12 +1,17 @@
 //! The parse of a text whose lines changed in part.
 
-ghost use Rattle.std.specs.Prelude.{◌≡◌, ◌<◌, ◌^◌, ◌++◌, true, length, sum, IfOk, OnOk, OnErr};
+ghost use Rattle.std.specs.Prelude.{◌≡◌, ◌+◌, ◌*◌, ◌<◌, ◌≤◌, ◌++◌, true, length, Some, IfOk, OnOk, OnErr};
 ghost use Rattle.bracket_rules.specs.Rows.{text_rows};
 ghost use Rattle.bracket_rules.specs.Table.{is_table};
+ghost use Rattle.bracket_rules.specs.declared.TheConstants.{MOST_OPEN};
 ghost use Rattle.bracket_trees.specs.Told.{IsTreeOf};
+ghost use Rattle.bracket_trees.specs.Tree.{Tree, nesting, highest};
 ghost use Rattle.bracket_trees.specs.Weights.{tree_weights, AreCovered};
-ghost use Rattle.node_reuse.specs.Reading.{StaysIfThere};
-ghost use Rattle.node_reuse.specs.Texts.{text_weights, new_lines, AsksFront};
+ghost use Rattle.reuse_rules.specs.Prices.{all_paired};
+ghost use Rattle.reuse_rules.specs.Ways.{IsOneRun};
+ghost use Rattle.node_reuse.specs.Paying.{token_count, most_steps};
+ghost use Rattle.node_reuse.specs.Reading.{AgreesIfThere};
+ghost use Rattle.node_reuse.specs.Texts.{text_weights, new_lines, AsksFront, IsTight};
 
 use crate::line::first_line;
 use crate::lines::Lines;
@@ -70,12 +75,11 @@ pub fn reparse<O: Old + Drop, Q: Lines, L: Ledger>(
     requires some { 0 < length (Q.state lines.old).contents }
     requires marks { (O.text old).marks ≡ hunks.now.marks }
     requires count { length hunks.now.marks ≡ length (Q.state lines.old).contents }
-    requires stays { StaysIfThere (O.text old).tree hunks.now.marks
-        (text_rows table.now (Q.state lines.old).contents)
-        (text_weights (Q.state lines.old).contents) }
-    requires fits { sum (text_weights (Q.state lines.old).contents) < 2 ^ 64 }
+    requires agrees { AgreesIfThere (O.text old).tree hunks.now.marks
+        (text_rows table.now (Q.state lines.old).contents) }
     ensures tree { IfOk result (λ parsed.
         IsTreeOf (text_rows table.now (Q.state lines.old).contents) parsed.tree) }
+    ensures tight { IfOk result (λ parsed. IsTight parsed.tree) }
     ensures light { IfOk result (λ parsed.
         AreCovered (tree_weights parsed.tree) (text_weights (Q.state lines.old).contents)) }
     ensures table { OnOk result (is_table table.now ≡ true) }
@@ -85,6 +89,12 @@ pub fn reparse<O: Old + Drop, Q: Lines, L: Ledger>(
     ensures front { OnErr result (AsksFront (new_lines hunks.now.marks)
         (Q.state lines.old).asked (Q.state lines.new).asked) }
     ensures contents { (Q.state lines.new).contents ≡ (Q.state lines.old).contents }
+    ensures steps { (tree : Tree) → (O.text old).tree ≡ Some tree → all_paired tree ≡ true
+        → IsOneRun (new_lines hunks.now.marks)
+        → let tokens = token_count table.now (Q.state lines.old).contents
+        (new_lines hunks.now.marks) in
+        2 * nesting tree + tokens ≤ MOST_OPEN
+        → steps.new ≤ steps.old + most_steps (nesting tree) (highest tree) tokens }
 {
     let mut line = first_line(alloc, table)?;
     let place = Length {

@@ -4,7 +4,9 @@ ghost use Rattle.text_lengths.specs.declared.Length.{Length};
 ghost use Rattle.mark_rules.specs.declared.Mark.TheVariants.{Kept, New};
 ghost use Rattle.mark_rules.specs.Marks.{mark_at};
 ghost use Rattle.bracket_nodes.specs.Source.{AsksOn};
+ghost use Rattle.bracket_nodes.specs.Paying.{PaysOn};
 ghost use Rattle.node_reuse.specs.Reader.{Sight, mark_of, asked_so, asking_at, StandsAt};
+ghost use Rattle.node_reuse.specs.Paying.{paying_at};
 
 use crate::fresh::next_of_line;
 use crate::kept::next_of_old;
@@ -36,12 +38,17 @@ pub(crate) struct Reader<'o, 'h, 't, 'q, 's, 'l, O, Q, L: Ledger> {
 impl<O: Old, Q: Lines, L: Ledger> Source for Reader<'_, '_, '_, '_, '_, '_, O, Q, L> {
     ghost use Rattle.std.specs.Prelude.{[], ◌∷◌};
     ghost use Rattle.node_reuse.specs.Reader.{sight, asked_so, seen_at, StandsAt};
+    ghost use Rattle.node_reuse.specs.Paying.{paying_at};
 
     ghost ahead = { λ r. seen_at
         (sight r.table.now (Q.state r.lines.now).contents (O.text r.text.now) r.hunks.now.marks)
         (asked_so (Q.state r.lines.now).asked
         (r.text.ghost_name ∷ r.lines.ghost_name ∷ r.steps.ghost_name ∷ r.line.ghost_name ∷ []))
         r.place r.line.now };
+
+    ghost paying = { λ r. paying_at
+        (sight r.table.now (Q.state r.lines.now).contents (O.text r.text.now) r.hunks.now.marks)
+        r.steps.now r.place r.line.now };
 
     ghost stands = { λ r. StandsAt
         (sight r.table.now (Q.state r.lines.now).contents (O.text r.text.now) r.hunks.now.marks)
@@ -50,7 +57,12 @@ impl<O: Old, Q: Lines, L: Ledger> Source for Reader<'_, '_, '_, '_, '_, '_, O, Q
     fn next(&mut self, alloc: Global, opened: Kinds, level: u64) -> Result<Next, AllocError> {
         let count = self.hunks.lines();
         let number = self.place.lines + 1;
-        if is_kept(self.hunks, number, self.line.scanned) {
+        if is_kept(
+            self.hunks,
+            number,
+            self.place.columns > 0,
+            self.line.scanned,
+        ) {
             return next_of_old(self.text, &mut self.place, opened, level, self.steps);
         }
         enter(self.table, self.lines, number, self.line)?;
@@ -58,17 +70,23 @@ impl<O: Old, Q: Lines, L: Ledger> Source for Reader<'_, '_, '_, '_, '_, '_, O, Q
     }
 }
 
-// Whether line `n` is kept. One that was scanned is new.
-fn is_kept(hunks: &Hunks, n: u64, scanned: bool) -> bool
+// Whether line `n` is kept. One that was scanned is new, and any other that was entered is kept: neither's mark is looked
+// up again.
+fn is_kept(hunks: &Hunks, n: u64, entered: bool, scanned: bool) -> bool
     requires first { 1 ≤ n }
     requires there { n ≤ length hunks.now.marks }
     requires scanned { scanned ≡ true → mark_at n hunks.now.marks ≡ New }
+    requires entered { entered ≡ true → scanned ≡ false
+        → (i : ℕ) × (mark_at n hunks.now.marks ≡ Kept i) }
     ensures unscanned { result ≡ true → scanned ≡ false }
     ensures kept { result ≡ true → (i : ℕ) × (mark_at n hunks.now.marks ≡ Kept i) }
     ensures new { result ≡ false → mark_at n hunks.now.marks ≡ New }
 {
     if scanned {
         return false;
+    }
+    if entered {
+        return true;
     }
     match hunks.mark(n) {
         Mark::Kept(_) => true,
@@ -94,6 +112,10 @@ fn enter<Q: Lines>(
         → AsksOn
         (asking_at s (asked_so (Q.state lines.old).asked borrows) p line.old)
         (asking_at s (asked_so (Q.state lines.new).asked borrows) p line.new) }
+    ensures pays { (s : Sight) (p : Length) (steps : ℕ) → s.table ≡ table.now
+        → s.contents ≡ (Q.state lines.old).contents → p.lines + 1 ≡ n → mark_of s p ≡ New
+        → StandsAt s p line.old
+        → OnOk result (PaysOn (paying_at s steps p line.old) (paying_at s steps p line.new)) }
     ensures scanned { OnOk result (line.new.scanned ≡ true) }
     ensures contents { (Q.state lines.new).contents ≡ (Q.state lines.old).contents }
 {

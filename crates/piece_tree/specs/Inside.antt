@@ -1,11 +1,11 @@
 -- How the list of pieces lies in a tree.
-use Rattle.std.specs.Prelude.{ℕ, ◌+◌, ◌*◌, ◌<◌, ◌≤◌, ◌^◌, List, map}
+use Rattle.std.specs.Prelude.{ℕ, ◌≡◌, ◌+◌, ◌*◌, ◌<◌, ◌≤◌, ◌^◌, List, map}
 use Rattle.std.specs.List.{All}
 use Rattle.rb_arena.specs.Value.{SplitsAt}
 use Rattle.piece_tree.specs.declared.piece.Piece.{Piece}
 use Rattle.piece_tree.specs.declared.piece.PieceSum.{PieceSum}
 use Rattle.piece_tree.specs.declared.piece.Found.{Found}
-use Rattle.piece_tree.specs.Pieces.{Entry, IsPieceOf, pieces_of, unit_count}
+use Rattle.piece_tree.specs.Pieces.{Entry, IsPieceOf, pieces_of, unit_count, sum_of}
 use Rattle.piece_tree.specs.Searches.{few_breaks}
 
 abbrev pub entry_of : ℕ × Piece → Entry
@@ -22,8 +22,9 @@ found_at before item = record { id = item.0; span = item.1.span; breaks = item.1
 abbrev pub in_order : List (ℕ × Piece) → List Piece
 in_order items = pieces_of (entries_of items)
 
--- the tree has room for two more pieces a splice
-pub record IsTree (pieces : List Piece) (free spare : ℕ) : Type 0 where
+-- the sum is that of the pieces, and the tree has room for two more a splice
+pub record IsTree (pieces : List Piece) (whole : PieceSum) (free spare : ℕ) : Type 0 where
+  pub sum : whole ≡ sum_of pieces
   pub small : unit_count pieces < 2 ^ 62
   pub few : All few_breaks pieces
   pub room : 2 * spare ≤ free

@@ -24,6 +24,8 @@ const PIECES_A_SPLICE: u64 = 2;
 #[derive(Drop)]
 pub struct PieceTree {
     tree: RbTree<PieceWeave>,
+    /// What all pieces have together.
+    whole: PieceSum,
     /// For how many splices there is room.
     spare: u64,
 }
@@ -36,7 +38,7 @@ impl Model for PieceTree {
 
     ghost view = { λ t. record { entries = entries_of t.tree.items; spare = t.spare } };
 
-    ghost invariant = { λ t. IsTree (in_order t.tree.items) t.tree.spare t.spare };
+    ghost invariant = { λ t. IsTree (in_order t.tree.items) t.whole t.tree.spare t.spare };
 }
 
 impl PieceTree {
@@ -46,6 +48,10 @@ impl PieceTree {
     {
         PieceTree {
             tree: RbTree::new(alloc),
+            whole: PieceSum {
+                units: 0,
+                breaks: 0,
+            },
             spare: 0,
         }
     }
@@ -66,20 +72,20 @@ impl PieceTree {
         Ok(())
     }
 
-    /// How many units the pieces have.
+    /// How many units the pieces have. It reads no node.
     pub fn len(&self) -> u64
         ensures sum { result ≡ unit_count (pieces_of self.now.entries) }
         ensures small { result < 2 ^ 62 }
     {
-        self.tree.sum().units
+        self.whole.units
     }
 
-    /// How many breaks the pieces have.
+    /// How many breaks the pieces have. It reads no node.
     pub fn breaks(&self) -> u64
         ensures sum { result ≡ break_count_of (pieces_of self.now.entries) }
         ensures small { result < 2 ^ 62 }
     {
-        self.tree.sum().breaks
+        self.whole.breaks
     }
 
     /// The piece that has the unit at this offset. Each node that is visited is a step.
@@ -110,14 +116,6 @@ impl PieceTree {
             unreachable!();
         };
         found(at)
-    }
-
-    /// The first piece; None where there is none.
-    pub fn first(&self) -> Option<(PieceId, ChunkSpan)>
-        ensures { result ≡ first_of self.now.entries }
-    {
-        let first = self.tree.first()?;
-        Some((first, self.tree.get(first).span))
     }
 
     /// The piece after the one of this name.
@@ -209,6 +207,7 @@ impl PieceTree {
         ensures spare { self.new.spare + 1 ≡ self.old.spare }
     {
         let first = replace_units(&mut self.tree, &at, offset, deleted, span, chunks);
+        self.whole = self.tree.sum();
         self.spare -= 1;
         first
     }

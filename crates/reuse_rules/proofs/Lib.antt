@@ -2,3 +2,8 @@ pub mod Agreements
 pub mod KeptRuns
 pub mod Followings
 pub mod EditedLines
+pub mod Prices
+pub mod PriceBounds
+pub mod Ways
+pub mod PairedTrees
+pub mod Walks

@@ -1,16 +1,15 @@
 -- What clap makes of words, and that it is what they are.
 use Rattle.std.proofs.Common.{◌≡◌, ◌∙◌, ◌||◌, if◌then◌else◌, ◌^◌, ◌<◌, ◌++◌, ℕ, Bool, true, false, List, [], ◌∷◌, Option, Some, None, refl, ap, sym, subst, codes, fold, length, map, slice_get, string_bytes, String, Global, ◌==◌, ◌≤◌, nat_le, Result, Ok, Err, option_and_then, arith}
 use Rattle.std.specs.Char.{digit_value, encode_utf8}
-use Rattle.std.specs.List.{list_any}
 use Rattle.std.specs.Str.{IsUtf8, bytes_eq, chars, encode_utf8_all}
 use Rattle.std.specs.Str.Parse.{IsNumeral, ParsesUnsigned, digits_value, starts_with_minus, without_leading_plus}
 use Rattle.std.specs.Bool.{then_some}
 use Rattle.clap.specs.Matches.{ReadsOne}
-use Rattle.std.proofs.lemmas.Bool.{eqb-true, leb-true, leb-false, or_parts}
+use Rattle.std.proofs.lemmas.Bool.{eqb-true, leb-true, leb-false}
 use Rattle.std.proofs.lemmas.Str.{IsUtf8-past_char, IsUtf8-string_bytes, encodes-chars}
 use Rattle.std.proofs.lemmas.Slice.Eq.{bytes_eq-Decides}
 use Rattle.clap.proofs.OnLiterals.{clap_on_literals}
-use Rattle.clap.proofs.WalkLemmas.{list_any-map, walk_stopped}
+use Rattle.clap.proofs.WalkLemmas.{walk_stopped}
 use Rattle.clap.specs.Lexer.{long_of, name_and_value, short_of}
 use Rattle.clap.specs.Kinds.{Kinds, IsAmong, or_else}
 use Rattle.clap.specs.Walk.{Text, Walk, bundle_met, nothing_held, walk, walk_from, walked}
@@ -23,7 +22,7 @@ use Rattle.clap.specs.declared.error.kind.ErrorKind.{ErrorKind}
 use Rattle.clap.specs.declared.error.kind.ErrorKind.TheVariants.{InvalidSubcommand, MissingRequiredArgument, UnknownArgument, ValueValidation}
 use Rattle.script_play.specs.declared.TheConstants.{MOST_LINES}
 use Rattle.script_runner.specs.CommandLine.{command_line, command_found}
-use Rattle.script_runner.specs.Words.{most_seed, number_in, play_command, words_command}
+use Rattle.script_runner.specs.Words.{most_seed, number_in, play_command, arguments, command_with, words_command}
 use Rattle.script_runner.specs.declared.words.Words.{Words}
 use Rattle.script_runner.specs.declared.words.Words.TheVariants.{NoCommand}
 
@@ -112,41 +111,26 @@ in_both : (b : Bool) (other : Words) → other ≡ NoCommand → NoCommand ≡ (
 in_both true other is = sym is
 in_both false other is = refl
 
-bad_count : (word x : Text) (rest : List Text) → fits x ≡ false → NoCommand ≡ words_command (word ∷ x ∷ rest)
-bad_count word x [] bad = refl
-bad_count word x (y ∷ []) bad = in_both _ _ (ap (λ n. play_command n (number_in most_seed y)) (no_number MOST_LINES x (omega arith) bad))
-bad_count word x (y ∷ z ∷ rest) bad = refl
+bad_count : (name x : Text) (rest : List Text) → fits x ≡ false → NoCommand ≡ command_with name (x ∷ rest)
+bad_count name x [] bad = refl
+bad_count name x (y ∷ []) bad = in_both _ _ (ap (λ n. play_command n (number_in most_seed y)) (no_number MOST_LINES x (omega arith) bad))
+bad_count name x (y ∷ z ∷ rest) bad = refl
 
-bad_seed : (word x y : Text) (rest : List Text) → fits y ≡ false → NoCommand ≡ words_command (word ∷ x ∷ y ∷ rest)
-bad_seed word x y [] bad =
+bad_seed : (name x y : Text) (rest : List Text) → fits y ≡ false → NoCommand ≡ command_with name (x ∷ y ∷ rest)
+bad_seed name x y [] bad =
     in_both _ _ (ap (play_command (number_in MOST_LINES x)) (no_number most_seed y (omega arith) bad) ∙ no_seed _)
-bad_seed word x y (z ∷ rest) bad = refl
+bad_seed name x y (z ∷ rest) bad = refl
 
--- a word that is `--` is in no command
-dashed : (word : Text) → bytes_eq word (codes "--") ≡ true → fits word ≡ false
-dashed word is =
-    minus_fits word _ (subst (λ w. starts_with_minus w ≡ true) (sym ((bytes_eq-Decides word (codes "--")).0 is)) refl) refl
+no_run : (x : Text) (rest : List Text) → NoCommand ≡ command_with (codes "run") (x ∷ rest)
+no_run x [] = refl
+no_run x (y ∷ []) = refl
+no_run x (y ∷ z ∷ rest) = refl
 
-no_name : (word text : List ℕ) → bytes_eq word (codes "--") ≡ true → bytes_eq (codes "--") text ≡ false → bytes_eq word text ≡ false
-no_name word text is other = rw ((bytes_eq-Decides word (codes "--")).0 is) other
-
-dashes_alone : (word : List ℕ) (is : Bool) → bytes_eq word (codes "--") ≡ is → (is || false) ≡ true → NoCommand ≡ words_command (word ∷ [])
-dashes_alone word true is some = rw (no_name word (codes "run") is refl) refl
-dashes_alone word false is some = let wrong : false ≡ true = some in cc
-
-dashes_among : (word count seed : List ℕ) (w c s : Bool) → bytes_eq word (codes "--") ≡ w → bytes_eq count (codes "--") ≡ c → bytes_eq seed (codes "--") ≡ s
-    → (w || (c || (s || false))) ≡ true → NoCommand ≡ words_command (word ∷ count ∷ seed ∷ [])
-dashes_among word count seed true c s w' c' s' some = rw (no_name word (codes "play") w' refl) refl
-dashes_among word count seed false true s w' c' s' some = bad_count word count (seed ∷ []) (dashed count c')
-dashes_among word count seed false false true w' c' s' some = bad_seed word count seed [] (dashed seed s')
-dashes_among word count seed false false false w' c' s' some = let wrong : false ≡ true = some in cc
-
-pub no_command : (words : List (List ℕ)) → list_any (λ word. bytes_eq word (codes "--")) words ≡ true → NoCommand ≡ words_command words
-no_command [] some = refl
-no_command (word ∷ []) some = dashes_alone word _ refl some
-no_command (word ∷ count ∷ []) some = refl
-no_command (word ∷ count ∷ seed ∷ []) some = dashes_among word count seed _ _ _ refl refl refl some
-no_command (word ∷ count ∷ seed ∷ other ∷ others) some = refl
+no_other : (name : Text) (rest : List Text) → bytes_eq name (codes "run") ≡ false → bytes_eq name (codes "play") ≡ false → NoCommand ≡ command_with name rest
+no_other name [] r p = rw r refl
+no_other name (x ∷ []) r p = refl
+no_other name (x ∷ y ∷ []) r p = rw p refl
+no_other name (x ∷ y ∷ z ∷ rest) r p = refl
 
 -- ---- what a word is to clap
 
@@ -164,6 +148,7 @@ data Flag (word : Text) : Type 0 where
 data Word (word : Text) : Type 0 where
   plain : Plain word → Word word
   flag : Flag word → Word word
+  dashes : word ≡ codes "--" → Word word
 
 some_first : (bs cs : List ℕ) → chars bs ≡ cs → encode_utf8_all cs ≡ bs → 0 < length bs → (x : ℕ) × (slice_get (chars bs) 0 ≡ Some x)
 some_first bs [] is all more = let none : length bs ≡ 0 = ap length (sym all) in absurd (omega arith)
@@ -191,13 +176,21 @@ word_from b bs true is text other =
     subst (λ k. IsUtf8 (k ∷ bs) → bytes_eq (k ∷ bs) (codes "--") ≡ false → Word (k ∷ bs)) same (after_minus bs) text other
 word_from b bs false is text other = plain (record { dashes = other; long = rw is refl; short = rw is refl })
 
-word_of : (word : Text) → IsUtf8 word → bytes_eq word (codes "--") ≡ false → Word word
-word_of [] text other = plain (record { dashes = refl; long = refl; short = refl })
-word_of (b ∷ bs) text other = word_from b bs _ refl text other
+word_by_dashes : (word : Text) (is : Bool) → bytes_eq word (codes "--") ≡ is → IsUtf8 word → Word word
+word_by_dashes word true is text = dashes ((bytes_eq-Decides word (codes "--")).0 is)
+word_by_dashes [] false is text = plain (record { dashes = refl; long = refl; short = refl })
+word_by_dashes (b ∷ bs) false is text = word_from b bs _ refl text is
+
+word_of : (word : Text) → IsUtf8 word → Word word
+word_of word text = word_by_dashes word _ refl text
 
 minus_of : (word : Text) → Flag word → starts_with_minus word ≡ true
 minus_of word (by_long is other p long) = is
 minus_of word (by_short is other long f fs short x first) = is
+
+not_dashes : (word : Text) → Flag word → bytes_eq word (codes "--") ≡ false
+not_dashes word (by_long is other p long) = other
+not_dashes word (by_short is other long f fs short x first) = other
 
 no_fit : (word : Text) → Flag word → fits word ≡ false
 no_fit word f = minus_fits word _ (minus_of word f) refl
@@ -206,11 +199,9 @@ abbrev Each : (Text → Type 0) → List Text → Type 0
 Each P [] = Unit {0}
 Each P (word ∷ rest) = P word × Each P rest
 
-words_each : (words : List Text) → Each IsUtf8 words → list_any (λ word. bytes_eq word (codes "--")) words ≡ false → Each Word words
-words_each [] texts none = tt
-words_each (word ∷ rest) texts none =
-    let parts = or_parts _ _ none in
-    (word_of word texts.0 parts.0, words_each rest texts.1 parts.1)
+words_each : (words : List Text) → Each IsUtf8 words → Each Word words
+words_each [] texts = tt
+words_each (word ∷ rest) texts = (word_of word texts.0, words_each rest texts.1)
 
 -- ---- what clap makes of them
 
@@ -285,12 +276,12 @@ unfolding clap_on_literals program
 plain_at_run x rest p = rw (p.dashes, p.long, p.short) refl
 
 -- a command refuses its words
-refused_run : (rest : List Text) → entered_fault program (Some (codes "run", rest)) ≡ UnknownArgument ∷ [] → NoCommand ≡ words_command (codes "run" ∷ rest)
+refused_run : (rest : List Text) → entered_fault program (Some (codes "run", rest)) ≡ UnknownArgument ∷ [] → NoCommand ≡ command_with (codes "run") (arguments rest)
     → Reading (codes "run" ∷ rest)
 unfolding clap_on_literals start met program
 refused_run rest below is = not_taken UnknownArgument [] (refused_below (codes "run") rest UnknownArgument [] refl refl below) is
 
-refused_play : (rest : List Text) (k : ErrorKind) → entered_fault program (Some (codes "play", rest)) ≡ k ∷ [] → NoCommand ≡ words_command (codes "play" ∷ rest)
+refused_play : (rest : List Text) (k : ErrorKind) → entered_fault program (Some (codes "play", rest)) ≡ k ∷ [] → NoCommand ≡ command_with (codes "play") (arguments rest)
     → Reading (codes "play" ∷ rest)
 unfolding clap_on_literals start met program
 refused_play rest k below is = not_taken k [] (refused_below (codes "play") rest k [] refl refl below) is
@@ -312,35 +303,38 @@ first_by word false false r p = other r p
 first : (word : Text) → First word
 first word = first_by word _ _ refl refl
 
+dashes_first : (rest : List Text) → Reading (codes "--" ∷ rest)
+unfolding clap_on_literals
+dashes_first [] = not_taken _ _ refl refl
+dashes_first (x ∷ rest) = not_taken _ _ refl (no_other (codes "--") (arguments (x ∷ rest)) refl refl)
+
 read_other : (word : Text) (rest : List Text) → bytes_eq (codes "run") word ≡ false → bytes_eq (codes "play") word ≡ false → Word word
     → NoCommand ≡ words_command (word ∷ rest) → Reading (word ∷ rest)
 unfolding clap_on_literals
 read_other word rest no_run no_play (plain p) is =
     not_taken UnknownArgument (InvalidSubcommand ∷ []) (rw (no_run, no_play, p.dashes, p.long, p.short) refl) is
 read_other word rest no_run no_play (flag f) is = not_taken UnknownArgument [] (flag_first word rest no_run no_play f) is
+read_other word rest no_run no_play (dashes d) is = subst (λ (t : Text). Reading (t ∷ rest)) (sym d) (dashes_first rest)
 
-no_other : (word : Text) (rest : List Text) → bytes_eq word (codes "run") ≡ false → bytes_eq word (codes "play") ≡ false → NoCommand ≡ words_command (word ∷ rest)
-no_other word [] r p = rw r refl
-no_other word (x ∷ []) r p = refl
-no_other word (x ∷ y ∷ []) r p = rw p refl
-no_other word (x ∷ y ∷ z ∷ rest) r p = refl
-
-no_run : (x : Text) (rest : List Text) → NoCommand ≡ words_command (codes "run" ∷ x ∷ rest)
-no_run x [] = refl
-no_run x (y ∷ []) = refl
-no_run x (y ∷ z ∷ rest) = refl
+-- ---- `run`
 
 read_run : Reading (codes "run" ∷ [])
 unfolding clap_on_literals
 read_run = taken refl refl
+
+run_then_dashes : (rest : List Text) → Reading (codes "run" ∷ codes "--" ∷ rest)
+unfolding clap_on_literals program
+run_then_dashes [] = taken refl refl
+run_then_dashes (x ∷ rest) = refused_run (codes "--" ∷ x ∷ rest) refl (no_run x rest)
 
 read_run_then : (rest : List Text) → Each Word rest → Reading (codes "run" ∷ rest)
 read_run_then [] each = read_run
 read_run_then (x ∷ rest) each = by each.0
   where
     by : Word x → Reading (codes "run" ∷ x ∷ rest)
-    by (plain p) = refused_run (x ∷ rest) (plain_at_run x rest p) (no_run x rest)
-    by (flag f) = refused_run (x ∷ rest) (flag_at_run x rest f) (no_run x rest)
+    by (plain p) = refused_run (x ∷ rest) (plain_at_run x rest p) (rw p.dashes (no_run x (arguments rest)))
+    by (flag f) = refused_run (x ∷ rest) (flag_at_run x rest f) (rw (not_dashes x f) (no_run x (arguments rest)))
+    by (dashes d) = subst (λ (t : Text). Reading (codes "run" ∷ t ∷ rest)) (sym d) (run_then_dashes rest)
 
 -- ---- `play`
 
@@ -351,8 +345,8 @@ read_play = not_taken _ _ refl refl
 module _ (x : Text) where
   one : Plain x → (b : Bool) → fits x ≡ b → Reading (codes "play" ∷ x ∷ [])
   unfolding clap_on_literals
-  one p true f = not_taken MissingRequiredArgument [] (rw (p.dashes, p.long, p.short, f) refl) refl
-  one p false f = not_taken ValueValidation [] (rw (p.dashes, p.long, p.short, f) refl) refl
+  one p true f = not_taken MissingRequiredArgument [] (rw (p.dashes, p.long, p.short, f) refl) (rw p.dashes refl)
+  one p false f = not_taken ValueValidation [] (rw (p.dashes, p.long, p.short, f) refl) (rw p.dashes refl)
 
 -- two words, of which clap takes the first for a number
 module _ (x y : Text) (f : fits x ≡ true) where
@@ -360,7 +354,8 @@ module _ (x y : Text) (f : fits x ≡ true) where
   unfolding clap_on_literals
   two p q true g = taken (rw (p.dashes, p.long, p.short, q.dashes, q.long, q.short, f, g) refl) (rw (p.dashes, p.long, p.short, q.dashes, q.long, q.short) refl)
   two p q false g =
-      not_taken ValueValidation [] (rw (p.dashes, p.long, p.short, q.dashes, q.long, q.short, f, g) refl) (bad_seed (codes "play") x y [] g)
+      not_taken ValueValidation [] (rw (p.dashes, p.long, p.short, q.dashes, q.long, q.short, f, g) refl)
+      (rw (p.dashes, q.dashes) (bad_seed (codes "play") x y [] g))
 
 -- more words, of which clap takes the first for a number
 module _ (x y z : Text) (rest : List Text) (f : fits x ≡ true) where
@@ -379,13 +374,94 @@ module _ (x y : Text) (rest : List Text) (f : fits x ≡ false) where
   unfolding clap_on_literals program
   bad_plain p q = rw (p.dashes, p.long, p.short, q.dashes, q.long, q.short, f) refl
 
+-- ---- `play`, with `--` before its arguments, between them or behind them; what comes behind that is not looked at but as a number
+
+module _ (x : Text) where
+  dashes_one : (b : Bool) → fits x ≡ b → Reading (codes "play" ∷ codes "--" ∷ x ∷ [])
+  unfolding clap_on_literals
+  dashes_one true f = not_taken MissingRequiredArgument [] (rw f refl) refl
+  dashes_one false f = not_taken ValueValidation [] (rw f refl) refl
+
+  one_dashes : Plain x → (b : Bool) → fits x ≡ b → Reading (codes "play" ∷ x ∷ codes "--" ∷ [])
+  unfolding clap_on_literals
+  one_dashes p true f = not_taken MissingRequiredArgument [] (rw (p.dashes, p.long, p.short, f) refl) (rw p.dashes refl)
+  one_dashes p false f = not_taken ValueValidation [] (rw (p.dashes, p.long, p.short, f) refl) (rw p.dashes refl)
+
+module _ (x y : Text) where
+  dashes_two : (a b : Bool) → fits x ≡ a → fits y ≡ b → Reading (codes "play" ∷ codes "--" ∷ x ∷ y ∷ [])
+  unfolding clap_on_literals
+  dashes_two true true f g = taken (rw (f, g) refl) refl
+  dashes_two true false f g = not_taken ValueValidation [] (rw (f, g) refl) (bad_seed (codes "play") x y [] g)
+  dashes_two false b f g = not_taken ValueValidation [] (rw f refl) (bad_count (codes "play") x (y ∷ []) f)
+
+  dashes_between : Plain x → (a b : Bool) → fits x ≡ a → fits y ≡ b → Reading (codes "play" ∷ x ∷ codes "--" ∷ y ∷ [])
+  unfolding clap_on_literals
+  dashes_between p true true f g = taken (rw (p.dashes, p.long, p.short, f, g) refl) (rw (p.dashes, p.long, p.short) refl)
+  dashes_between p true false f g = not_taken ValueValidation [] (rw (p.dashes, p.long, p.short, f, g) refl) (rw p.dashes (bad_seed (codes "play") x y [] g))
+  dashes_between p false b f g = not_taken ValueValidation [] (rw (p.dashes, p.long, p.short, f) refl) (rw p.dashes (bad_count (codes "play") x (y ∷ []) f))
+
+  two_dashes : Plain x → Plain y → (a b : Bool) → fits x ≡ a → fits y ≡ b → Reading (codes "play" ∷ x ∷ y ∷ codes "--" ∷ [])
+  unfolding clap_on_literals
+  two_dashes p q true true f g =
+      taken (rw (p.dashes, p.long, p.short, q.dashes, q.long, q.short, f, g) refl) (rw (p.dashes, p.long, p.short, q.dashes, q.long, q.short) refl)
+  two_dashes p q true false f g =
+      not_taken ValueValidation [] (rw (p.dashes, p.long, p.short, q.dashes, q.long, q.short, f, g) refl)
+      (rw (p.dashes, q.dashes) (bad_seed (codes "play") x y [] g))
+  two_dashes p q false b f g =
+      not_taken ValueValidation [] (rw (p.dashes, p.long, p.short, q.dashes, q.long, q.short, f) refl)
+      (rw (p.dashes, q.dashes) (bad_count (codes "play") x (y ∷ []) f))
+
+-- a third word, wherever `--` stands before it
+module _ (x y z : Text) (rest : List Text) where
+  third_behind : (a : Bool) → fits x ≡ a → Reading (codes "play" ∷ codes "--" ∷ x ∷ y ∷ z ∷ rest)
+  unfolding clap_on_literals program
+  third_behind true f = refused_play (codes "--" ∷ x ∷ y ∷ z ∷ rest) UnknownArgument (rw f refl) refl
+  third_behind false f = refused_play (codes "--" ∷ x ∷ y ∷ z ∷ rest) ValueValidation (rw f refl) refl
+
+  third_between : Plain x → (a : Bool) → fits x ≡ a → Reading (codes "play" ∷ x ∷ codes "--" ∷ y ∷ z ∷ rest)
+  unfolding clap_on_literals program
+  third_between p true f = refused_play (x ∷ codes "--" ∷ y ∷ z ∷ rest) UnknownArgument (rw (p.dashes, p.long, p.short, f) refl) (rw p.dashes refl)
+  third_between p false f = refused_play (x ∷ codes "--" ∷ y ∷ z ∷ rest) ValueValidation (rw (p.dashes, p.long, p.short, f) refl) (rw p.dashes refl)
+
+  third_last : Plain x → Plain y → (a : Bool) → fits x ≡ a → Reading (codes "play" ∷ x ∷ y ∷ codes "--" ∷ z ∷ rest)
+  unfolding clap_on_literals program
+  third_last p q true f =
+      refused_play (x ∷ y ∷ codes "--" ∷ z ∷ rest) UnknownArgument (rw (p.dashes, p.long, p.short, q.dashes, q.long, q.short, f) refl) (rw (p.dashes, q.dashes) refl)
+  third_last p q false f =
+      refused_play (x ∷ y ∷ codes "--" ∷ z ∷ rest) ValueValidation (rw (p.dashes, p.long, p.short, q.dashes, q.long, q.short, f) refl) (rw (p.dashes, q.dashes) refl)
+
+dashes_at_once : (rest : List Text) → Reading (codes "play" ∷ codes "--" ∷ rest)
+unfolding clap_on_literals
+dashes_at_once [] = not_taken _ _ refl refl
+dashes_at_once (x ∷ []) = dashes_one x _ refl
+dashes_at_once (x ∷ y ∷ []) = dashes_two x y _ _ refl refl
+dashes_at_once (x ∷ y ∷ z ∷ rest) = third_behind x y z rest _ refl
+
+dashes_after_one : (x : Text) (rest : List Text) → Plain x → Reading (codes "play" ∷ x ∷ codes "--" ∷ rest)
+dashes_after_one x [] p = one_dashes x p _ refl
+dashes_after_one x (y ∷ []) p = dashes_between x y p _ _ refl refl
+dashes_after_one x (y ∷ z ∷ rest) p = third_between x y z rest p _ refl
+
+dashes_after_two : (x y : Text) (rest : List Text) → Plain x → Plain y → Reading (codes "play" ∷ x ∷ y ∷ codes "--" ∷ rest)
+dashes_after_two x y [] p q = two_dashes x y p q _ _ refl refl
+dashes_after_two x y (z ∷ rest) p q = third_last x y z rest p q _ refl
+
+-- ---- `play`, with any words
+
 after_two : (x y : Text) (rest : List Text) → fits x ≡ true → Plain x → Plain y → Each Word rest → Reading (codes "play" ∷ x ∷ y ∷ rest)
 after_two x y [] f p q each = two x y f p q _ refl
 after_two x y (z ∷ rest) f p q each = by each.0
   where
     by : Word z → Reading (codes "play" ∷ x ∷ y ∷ z ∷ rest)
-    by (plain r) = refused_play (x ∷ y ∷ z ∷ rest) UnknownArgument (third_plain x y z rest f p q r) refl
-    by (flag g) = refused_play (x ∷ y ∷ z ∷ rest) UnknownArgument (third_flag x y z rest f p q g) refl
+    by (plain r) = refused_play (x ∷ y ∷ z ∷ rest) UnknownArgument (third_plain x y z rest f p q r) (rw (p.dashes, q.dashes, r.dashes) refl)
+    by (flag g) = refused_play (x ∷ y ∷ z ∷ rest) UnknownArgument (third_flag x y z rest f p q g) (rw (p.dashes, q.dashes, not_dashes z g) refl)
+    by (dashes d) = subst (λ (t : Text). Reading (codes "play" ∷ x ∷ y ∷ t ∷ rest)) (sym d) (dashes_after_two x y rest p q)
+
+-- a number that clap refuses, and more words
+bad_first : (x y : Text) (rest : List Text) → fits x ≡ false → Plain x → Plain y → Reading (codes "play" ∷ x ∷ y ∷ rest)
+bad_first x y rest f p q =
+    refused_play (x ∷ y ∷ rest) ValueValidation (bad_plain x y rest f p q)
+    (rw (p.dashes, q.dashes) (bad_count (codes "play") x (y ∷ arguments rest) f))
 
 after_one : (x : Text) (rest : List Text) → Plain x → Each Word rest → Reading (codes "play" ∷ x ∷ rest)
 after_one x [] p each = one x p _ refl
@@ -393,11 +469,14 @@ after_one x (y ∷ rest) p each = by each.0
   where
     plain_by : Plain y → (b : Bool) → fits x ≡ b → Reading (codes "play" ∷ x ∷ y ∷ rest)
     plain_by q true f = after_two x y rest f p q each.1
-    plain_by q false f = refused_play (x ∷ y ∷ rest) ValueValidation (bad_plain x y rest f p q) (bad_count (codes "play") x (y ∷ rest) f)
+    plain_by q false f = bad_first x y rest f p q
 
     by : Word y → Reading (codes "play" ∷ x ∷ y ∷ rest)
     by (plain q) = plain_by q _ refl
-    by (flag g) = refused_play (x ∷ y ∷ rest) UnknownArgument (flag_at_seed x y rest p g) (bad_seed (codes "play") x y rest (no_fit y g))
+    by (flag g) =
+        refused_play (x ∷ y ∷ rest) UnknownArgument (flag_at_seed x y rest p g)
+        (rw (p.dashes, not_dashes y g) (bad_seed (codes "play") x y (arguments rest) (no_fit y g)))
+    by (dashes d) = subst (λ (t : Text). Reading (codes "play" ∷ x ∷ t ∷ rest)) (sym d) (dashes_after_one x rest p)
 
 read_play_then : (rest : List Text) → Each Word rest → Reading (codes "play" ∷ rest)
 read_play_then [] each = read_play
@@ -405,14 +484,17 @@ read_play_then (x ∷ rest) each = by each.0
   where
     by : Word x → Reading (codes "play" ∷ x ∷ rest)
     by (plain p) = after_one x rest p each.1
-    by (flag f) = refused_play (x ∷ rest) UnknownArgument (flag_at_count x rest f) (bad_count (codes "play") x rest (no_fit x f))
+    by (flag f) =
+        refused_play (x ∷ rest) UnknownArgument (flag_at_count x rest f)
+        (rw (not_dashes x f) (bad_count (codes "play") x (arguments rest) (no_fit x f)))
+    by (dashes d) = subst (λ (t : Text). Reading (codes "play" ∷ t ∷ rest)) (sym d) (dashes_at_once rest)
 
 -- ---- all words
 
 read_first : (word : Text) (rest : List Text) → First word → Word word → Each Word rest → Reading (word ∷ rest)
 read_first word rest (run is) w each = subst (λ (t : Text). Reading (t ∷ rest)) (sym is) (read_run_then rest each)
 read_first word rest (play is) w each = subst (λ (t : Text). Reading (t ∷ rest)) (sym is) (read_play_then rest each)
-read_first word rest (other r p r' p') w each = read_other word rest r' p' w (no_other word rest r p)
+read_first word rest (other r p r' p') w each = read_other word rest r' p' w (no_other word (arguments rest) r p)
 
 reading_each : (words : List Text) → Each Word words → Reading words
 reading_each [] each = read_none
@@ -422,9 +504,8 @@ each_text : (words : List (String Global)) → Each IsUtf8 (map string_bytes wor
 each_text [] = tt
 each_text (word ∷ rest) = (IsUtf8-string_bytes word, each_text rest)
 
-pub reading : (words : List (String Global)) → list_any (λ word. bytes_eq (string_bytes word) (codes "--")) words ≡ false → Reading (map string_bytes words)
-reading words none =
-    reading_each _ (words_each _ (each_text words) (sym (list_any-map (λ word. bytes_eq word (codes "--")) string_bytes words) ∙ none))
+pub reading : (words : List (String Global)) → Reading (map string_bytes words)
+reading words = reading_each _ (words_each _ (each_text words))
 
 pub command_read : (words : List Text) → Reading words → fault_of command_line words ≡ [] → command_found (subcommand_of command_line words) ≡ words_command words
 command_read words (taken none is) fault = is

@@ -27,9 +27,23 @@ too_great_a_number = refl
 no_number : map (λ count. played count (codes "0")) (codes "-1" ∷ codes "1.0" ∷ codes "+" ∷ [] ∷ []) ≡ NoCommand ∷ NoCommand ∷ NoCommand ∷ NoCommand ∷ []
 no_number = refl
 
-dashes : map words_command ((codes "--" ∷ []) ∷ (codes "run" ∷ codes "--" ∷ []) ∷ (codes "play" ∷ codes "--" ∷ codes "5" ∷ codes "1" ∷ []) ∷ [])
-    ≡ NoCommand ∷ NoCommand ∷ NoCommand ∷ []
+-- `--` may stand once behind the name, and not before it
+dashes : map words_command (
+    (codes "run" ∷ codes "--" ∷ [])
+    ∷ (codes "play" ∷ codes "--" ∷ codes "5" ∷ codes "1" ∷ [])
+    ∷ (codes "play" ∷ codes "5" ∷ codes "1" ∷ codes "--" ∷ [])
+    ∷ []
+    ) ≡ Run ∷ Play 5 1 ∷ Play 5 1 ∷ []
 dashes = refl
+
+no_dashes : map words_command (
+    (codes "--" ∷ [])
+    ∷ (codes "--" ∷ codes "run" ∷ [])
+    ∷ (codes "run" ∷ codes "--" ∷ codes "--" ∷ [])
+    ∷ (codes "play" ∷ codes "5" ∷ codes "--" ∷ [])
+    ∷ []
+    ) ≡ NoCommand ∷ NoCommand ∷ NoCommand ∷ NoCommand ∷ []
+no_dashes = refl
 
 no_seed : words_command (codes "play" ∷ codes "1" ∷ []) ≡ NoCommand
 no_seed = refl

@@ -19,11 +19,21 @@ play_command (Some count) (Some seed) = Play count seed
 play_command (Some count) None = NoCommand
 play_command None seed = NoCommand
 
+-- The words behind a command. The first `--` says that no option comes behind it, and is itself no argument (the guidelines for
+-- the syntax of utilities in POSIX, which clap follows); there is no option here.
+abbrev pub arguments : List (List ℕ) → List (List ℕ)
+arguments [] = []
+arguments (word ∷ words) = if bytes_eq word (codes "--") then words else word ∷ arguments words
+
 -- `run`, or `play COUNT SEED`
+abbrev pub command_with : List ℕ → List (List ℕ) → Words
+command_with name [] = if bytes_eq name (codes "run") then Run else NoCommand
+command_with name (count ∷ []) = NoCommand
+command_with name (count ∷ seed ∷ []) =
+    if bytes_eq name (codes "play") then play_command (number_in MOST_LINES count) (number_in most_seed seed) else NoCommand
+command_with name (count ∷ seed ∷ other ∷ others) = NoCommand
+
+-- the command that the words are: its name comes first
 abbrev pub words_command : List (List ℕ) → Words
 words_command [] = NoCommand
-words_command (word ∷ []) = if bytes_eq word (codes "run") then Run else NoCommand
-words_command (word ∷ count ∷ []) = NoCommand
-words_command (word ∷ count ∷ seed ∷ []) =
-    if bytes_eq word (codes "play") then play_command (number_in MOST_LINES count) (number_in most_seed seed) else NoCommand
-words_command (word ∷ count ∷ seed ∷ other ∷ others) = NoCommand
+words_command (name ∷ words) = command_with name (arguments words)

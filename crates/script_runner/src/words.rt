@@ -1,8 +1,6 @@
 //! Which command the words of the command line are.
 
-ghost use Rattle.std.specs.Prelude.{◌≡◌, ◌≤◌, ℕ, [], ◌∷◌, Ok, false, IfSome, IfOk, map, string_bytes, codes};
-ghost use Rattle.std.specs.List.{list_any};
-ghost use Rattle.std.specs.Str.{bytes_eq};
+ghost use Rattle.std.specs.Prelude.{◌≡◌, ◌≤◌, ℕ, Ok, false, IfSome, IfOk, map, string_bytes, codes};
 ghost use Rattle.clap.specs.Walk.{rows_of, rule_of};
 ghost use Rattle.clap.specs.Words.{app_of, found_of, subcommand_rows_of};
 ghost use Rattle.clap.specs.declared.builder.command.Command.TheViews.{out-Command};
@@ -32,21 +30,11 @@ pub(crate) fn words_of(alloc: Global, words: &[String]) -> Result<Words, AllocEr
         command ≡ words_command (map string_bytes words.now)) }
     ensures count { (count seed : ℕ) → result ≡ Ok (Words.Play count seed) → IsCount count }
 {
-    // clap would pass over `--`.
-    if has_dashes(words) {
-        return Ok(Words::NoCommand);
-    }
     match command_line(alloc)?.try_get_matches_from(words) {
         Ok(matches) => Ok(command_found(&matches)),
         Err(error) if error.kind() == ErrorKind::OutOfMemory => Err(AllocError),
         Err(_) => Ok(Words::NoCommand),
     }
-}
-
-fn has_dashes(words: &[String]) -> bool
-    ensures { result ≡ list_any (λ word. bytes_eq (string_bytes word) (codes "--")) words.now }
-{
-    words.iter().any(|word| word.as_str() == "--")
 }
 
 /// What clap is told of the command line.

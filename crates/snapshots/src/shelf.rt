@@ -1,6 +1,6 @@
 //! The shelf.
 
-ghost use Rattle.std.specs.Prelude.{◌≡◌, ℕ, List, [], map, find, ◌++◌, OnErr, ◌||◌, nat_le, nat_lt, length};
+ghost use Rattle.std.specs.Prelude.{◌≡◌, Err, ℕ, List, [], map, find, ◌++◌, OnErr, ◌||◌, nat_le, nat_lt, length};
 ghost use Rattle.std.specs.List.{All, list_any};
 ghost use Rattle.std.specs.Option.{option_copied};
 ghost use Rattle.chunk_buffers.specs.Chunks.{LiesIn};
@@ -115,7 +115,7 @@ impl Shelf {
     }
 
     /// The snapshot is no longer open, and its id is not used again. It refuses with Unknown where no snapshot of this
-    /// id is open.
+    /// id is open. It takes no memory.
     pub fn close(&mut self, id: u64) -> Result<(), ShelfError>
         ensures change { (buffers : List (List ℕ))
             → Closes result (shown buffers self.old) (shown buffers self.new)
@@ -123,6 +123,7 @@ impl Shelf {
         ensures inside { (buffers : List (List ℕ)) → LieIn buffers self.old
             → LieIn buffers self.new }
         ensures err { OnErr result (self.new ≡ self.old) }
+        ensures sure { ¬ (result ≡ Err ShelfError.Memory) }
     {
         if !self.is_open(id) {
             return Err(ShelfError::Unknown);

@@ -1,5 +1,5 @@
 -- Worked examples: what an edit takes along.
-use Rattle.std.specs.Prelude.{◌≡◌, ℕ, false, Some, None, List, [], ◌∷◌, replicate, codes, refl}
+use Rattle.std.specs.Prelude.{◌≡◌, ℕ, false, Some, None, List, [], ◌∷◌, codes, refl}
 use Rattle.chunk_buffers.specs.declared.span.ChunkSpan.{ChunkSpan}
 use Rattle.text_buffer.specs.declared.spot.Spot.{Spot}
 use Rattle.text_buffer.specs.Along.{rest_before, rests_of}
@@ -19,22 +19,22 @@ place units offset = record {
 abbrev words : List (List ℕ)
 words = codes "some words" ∷ []
 
-a_unit_gives_way_and_both_rests_come : rests_of words (place 10 4) (place 10 5) 1 ≡ record { front = Some (span 0 4); back = Some (span 5 5) }
+a_unit_gives_way_and_both_rests_come : rests_of words (place 7 3) (place 7 4) 1 ≡ record { front = Some (span 0 3); back = Some (span 4 3) }
 a_unit_gives_way_and_both_rests_come = refl
 
-what_is_typed_takes_the_front_alone : rests_of words (place 10 4) (place 10 4) 1 ≡ record { front = Some (span 0 4); back = None }
+what_is_typed_takes_the_front_alone : rests_of words (place 7 3) (place 7 3) 1 ≡ record { front = Some (span 0 3); back = None }
 what_is_typed_takes_the_front_alone = refl
 
-a_unit_that_goes_joins_the_rests : rests_of words (place 10 4) (place 10 5) 0 ≡ record { front = Some (span 0 4); back = Some (span 5 5) }
+a_unit_that_goes_joins_the_rests : rests_of words (place 7 3) (place 7 4) 0 ≡ record { front = Some (span 0 3); back = Some (span 4 3) }
 a_unit_that_goes_joins_the_rests = refl
 
 the_first_unit_goes_and_nothing_comes : rests_of words (place 10 0) (place 10 1) 0 ≡ record { front = None; back = None }
 the_first_unit_goes_and_nothing_comes = refl
 
--- 33 units before the place are too many
-a_long_front_stays : rests_of (replicate 40 97 ∷ []) (place 40 33) (place 40 34) 1 ≡ record { front = None; back = Some (span 34 6) }
+-- four units before the place are too many
+a_long_front_stays : rests_of words (place 8 4) (place 8 5) 1 ≡ record { front = None; back = Some (span 5 3) }
 a_long_front_stays = refl
 
 -- and so are two breaks, an LF each
-two_breaks_stay : rest_before ((97 ∷ 10 ∷ 98 ∷ 10 ∷ 99 ∷ 100 ∷ []) ∷ []) (place 6 5).found 5 ≡ None
+two_breaks_stay : rest_before ((10 ∷ 97 ∷ 10 ∷ 98 ∷ []) ∷ []) (place 4 3).found 3 ≡ None
 two_breaks_stay = refl

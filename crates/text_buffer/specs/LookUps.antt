@@ -1,15 +1,12 @@
 -- Places of a text that were looked up.
-use Rattle.std.specs.Prelude.{ℕ, ◌≡◌, ◌+◌, ◌<◌, ◌≤◌, ◌^◌, true, Option, Some, None, List, [], length, take, drop, IfSome}
+use Rattle.std.specs.Prelude.{ℕ, ◌≡◌, ◌<◌, ◌^◌, true, Option, Some, None, List, [], length, take, drop, IfSome}
 use Rattle.chunk_buffers.specs.declared.span.ChunkSpan.{ChunkSpan}
 use Rattle.chunk_buffers.specs.Chunks.{Shown, units_at}
-use Rattle.piece_tree.specs.declared.piece.Found.{Found}
 use Rattle.piece_tree.specs.Pieces.{Pieces, StandsAt, IsFound}
 use Rattle.text_lengths.specs.declared.Span.{Span}
 use Rattle.text_rules.specs.Lines.{line_feed, carriage_return, begins_with}
 use Rattle.text_rules.specs.Breaks.{ends_with, count_to, break_ends}
 use Rattle.unit_text.specs.Units.{is_place}
-use Rattle.text_buffer.specs.declared.look_up.Sought.{Sought}
-use Rattle.text_buffer.specs.declared.look_up.Sought.TheVariants.{Offset, Break}
 use Rattle.text_buffer.specs.declared.queries.Counted.{Counted}
 use Rattle.text_buffer.specs.declared.spot.Spot.{Spot}
 use Rattle.text_buffer.specs.Text.{text_of}
@@ -30,11 +27,6 @@ span_between start end = record { start = start.offset; end = end.offset }
 abbrev pub units_of : List (List ℕ) → Option (ℕ × ChunkSpan) → List ℕ
 units_of buffers None = []
 units_of buffers (Some named) = units_at buffers named.1
-
--- the looked-up piece has that unit or that break; either counts from 0
-abbrev pub Has : Found → Sought → Type 0
-Has found (Offset offset) = (found.before.units ≤ offset) × (offset < found.before.units + found.span.units)
-Has found (Break number) = (found.before.breaks ≤ number) × (number < found.before.breaks + found.breaks)
 
 -- the offset is a place, and what was looked up there is so
 pub record IsCounted (tree : Pieces) (chunks : Shown) (offset : ℕ) (at : Counted) : Type 0 where

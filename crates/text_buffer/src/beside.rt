@@ -14,7 +14,7 @@ use chunk_buffers::{ChunkSpan, Chunks};
 use piece_tree::{Found, PieceTree};
 
 /// The most units that are taken along on one side.
-pub(crate) const MOST_ALONG: usize = 32;
+pub(crate) const MOST_ALONG: usize = 3;
 
 /// The most breaks that these have.
 pub(crate) const MOST_BREAKS_ALONG: u64 = 1;

@@ -65,9 +65,15 @@ fn find_start<L: Ledger>(
         (pieces.now.entries ≡ []) (StartsAt pieces.now chunks.now n) }
     ensures cost { WithinLookUps 1 (length pieces.now.entries) (steps.new - steps.old) }
 {
+    if pieces.len() == 0 {
+        return None;
+    }
     if n == 1 {
-        let (id, rest) = pieces.first()?;
-        return Some(Place { id, rest });
+        let found = pieces.find_offset(0, steps);
+        return Some(Place {
+            id: found.id,
+            rest: found.span,
+        });
     }
     let (found, own) = break_at(pieces, chunks, &None, n - 1, steps);
     let rest = chunks.part(found.span, own, found.span.units as u64);

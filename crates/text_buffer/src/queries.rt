@@ -1,16 +1,19 @@
-//! Positions of places, and places of positions: a search, and what is near to what it finds.
+//! Positions of places, and places of positions. Each node that is visited is a step: the piece at hand is asked first, and no walk
+//! goes from a piece to the one beside it.
 
-ghost use Rattle.std.specs.Prelude.{◌≡◌, ◌+◌, ◌-◌, ◌<◌, ◌≤◌, ◌^◌, Some, None, false, if◌then◌else◌, length, slice_index_or, MatchOption, IfSome};
+ghost use Rattle.std.specs.Prelude.{◌≡◌, ◌+◌, ◌-◌, ◌<◌, ◌≤◌, ◌^◌, ◌&&◌, nat_le, Some, None, false, if◌then◌else◌, length, take, slice_index_or, MatchOption, IfSome};
+ghost use Rattle.chunk_buffers.specs.Chunks.{units_at, LiesIn};
 ghost use Rattle.piece_tree.specs.Costs.{WithinLookUps};
 ghost use Rattle.piece_tree.specs.Pieces.{pieces_of, unit_count, IsFound};
 ghost use Rattle.unit_text.specs.Units.{is_place};
 ghost use Rattle.text_rules.specs.Lines.{Line, lines_of, line_start};
 ghost use Rattle.text_rules.specs.Positions.{position_of, is_position, offset_of};
-ghost use Rattle.text_buffer.specs.Text.{text_of, IsText};
+ghost use Rattle.text_buffer.specs.Text.{text_of, ends_with_pair, IsText};
 ghost use Rattle.text_buffer.specs.LookUps.{IsCounted};
 
 use crate::breaks::ends_with_pair;
-use crate::look_up::{FEW_PIECES, break_at, cuts_pair_beside, unit_near};
+use crate::look_up::{break_at, cuts_pair_beside, nearer, unit_near};
+use crate::spot::one_if;
 use chunk_buffers::Chunks;
 use piece_tree::{Found, PieceTree};
 use std::sync::ledger::Ledger;
@@ -26,15 +29,15 @@ pub(crate) struct Counted {
     pub breaks: u64,
 }
 
-/// Where a line starts.
+/// Where a line starts, or where its content ends.
 #[derive(Drop)]
-pub(crate) struct LineStart {
+pub(crate) struct LineBound {
     pub offset: u64,
-    /// The piece that has the break before it; None at the start of the text.
+    /// The piece that has the break there; None at the start of the text and at its end.
     pub found: Option<Found>,
 }
 
-/// The position of the offset; None where the offset is no place of the text. Each node that a search visits is a step.
+/// The position of the offset; None where the offset is no place of the text. Each node that is visited is a step.
 pub(crate) fn position_in<L: Ledger>(
     pieces: &PieceTree,
     chunks: &Chunks,
@@ -44,7 +47,7 @@ pub(crate) fn position_in<L: Ledger>(
     requires { IsText pieces.now chunks.now }
     ensures position { let units = (text_of pieces.now chunks.now).units in
         result ≡ (if is_place units offset then Some (position_of units offset) else None) }
-    ensures cost { WithinLookUps 2 (length pieces.now.entries) (steps.new - steps.old) }
+    ensures cost { WithinLookUps 3 (length pieces.now.entries) (steps.new - steps.old) }
 {
     let Some(at) = breaks_at(pieces, chunks, offset, steps) else {
         return None;
@@ -56,7 +59,7 @@ pub(crate) fn position_in<L: Ledger>(
     })
 }
 
-/// The offset of the position; None where it is no position of the text. Each node that a search visits is a step.
+/// The offset of the position; None where it is no position of the text. Each node that is visited is a step.
 pub(crate) fn offset_in<L: Ledger>(
     pieces: &PieceTree,
     chunks: &Chunks,
@@ -66,7 +69,7 @@ pub(crate) fn offset_in<L: Ledger>(
     requires { IsText pieces.now chunks.now }
     ensures offset { let units = (text_of pieces.now chunks.now).units in
         result ≡ (if is_position units position then Some (offset_of units position) else None) }
-    ensures cost { WithinLookUps 3 (length pieces.now.entries) (steps.new - steps.old) }
+    ensures cost { WithinLookUps 4 (length pieces.now.entries) (steps.new - steps.old) }
 {
     if position.line == 0 {
         return None;
@@ -79,11 +82,11 @@ pub(crate) fn offset_in<L: Ledger>(
     if position.column == 0 {
         return None;
     }
-    if position.column - 1 > end - start.offset {
+    if position.column - 1 > end.offset - start.offset {
         return None;
     }
     let offset = start.offset + (position.column - 1);
-    if is_place_near(pieces, chunks, &start.found, offset, steps) {
+    if is_place_in_line(pieces, chunks, &start, &end, offset, steps) {
         Some(offset)
     } else {
         None
@@ -100,7 +103,7 @@ fn breaks_at<L: Ledger>(
     requires { IsText pieces.now chunks.now }
     ensures place { MatchOption result (is_place (text_of pieces.now chunks.now).units offset ≡ false)
         (IsCounted pieces.now chunks.now offset) }
-    ensures cost { WithinLookUps 1 (length pieces.now.entries) (steps.new - steps.old) }
+    ensures cost { WithinLookUps 2 (length pieces.now.entries) (steps.new - steps.old) }
 {
     if offset > pieces.len() {
         return None;
@@ -112,7 +115,7 @@ fn breaks_at<L: Ledger>(
         });
     }
     let found = pieces.find_offset(offset, steps);
-    if cuts_pair_beside(pieces, chunks, &found, offset) {
+    if cuts_pair_beside(pieces, chunks, &None, &found, offset, steps) {
         return None;
     }
     let own = chunks.breaks_to(found.span, offset - found.before.units);
@@ -129,7 +132,7 @@ fn start_after<L: Ledger>(
     near: &Option<Found>,
     breaks: u64,
     steps: &mut Steps<L>,
-) -> LineStart
+) -> LineBound
     requires text { IsText pieces.now chunks.now }
     requires near { IfSome near.now (IsFound pieces.now.entries) }
     requires there { breaks < length (lines_of (text_of pieces.now chunks.now).units) }
@@ -138,68 +141,81 @@ fn start_after<L: Ledger>(
     ensures cost { WithinLookUps 1 (length pieces.now.entries) (steps.new - steps.old) }
 {
     if breaks == 0 {
-        return LineStart {
+        return LineBound {
             offset: 0,
             found: None,
         };
     }
     let (found, own) = break_at(pieces, chunks, near, breaks, steps);
-    LineStart {
+    LineBound {
         offset: found.before.units + own,
         found: Some(found),
     }
 }
 
-// The offset after the content of the line that starts there.
+// Where the content of the line ends that starts there. Its break is looked for in the piece that has the break before it.
 fn content_end<L: Ledger>(
     pieces: &PieceTree,
     chunks: &Chunks,
     line: u64,
-    start: &LineStart,
+    start: &LineBound,
     steps: &mut Steps<L>,
-) -> u64
+) -> LineBound
     requires text { IsText pieces.now chunks.now }
     requires near { IfSome start.now.found (IsFound pieces.now.entries) }
     requires first { 0 < line }
     requires there { line ≤ length (lines_of (text_of pieces.now chunks.now).units) }
     requires start { start.now.offset ≡ line_start (text_of pieces.now chunks.now).units line }
-    ensures content { (d : Line) → result ≡ start.now.offset + length
+    ensures content { (d : Line) → result.offset ≡ start.now.offset + length
         (slice_index_or (lines_of (text_of pieces.now chunks.now).units) (line - 1) d).content }
-    ensures within { result ≤ length (text_of pieces.now chunks.now).units }
+    ensures within { result.offset ≤ length (text_of pieces.now chunks.now).units }
+    ensures found { IfSome result.found (IsFound pieces.now.entries) }
     ensures cost { WithinLookUps 1 (length pieces.now.entries) (steps.new - steps.old) }
 {
     if line == pieces.breaks() + 1 {
-        return pieces.len();
+        return LineBound {
+            offset: pieces.len(),
+            found: None,
+        };
     }
     let (found, own) = break_at(pieces, chunks, &start.found, line, steps);
     let end = found.before.units + own;
-    if end - start.offset < 2 {
-        return end - 1;
-    }
-    // A CR LF lies in one piece.
-    if ends_with_pair(&chunks.units(found.span)[..own as usize]) {
-        end - 2
-    } else {
-        end - 1
+    let is_pair = ends_line_with_pair(chunks, &found, own, end - start.offset);
+    LineBound {
+        offset: end - 1 - one_if(is_pair),
+        found: Some(found),
     }
 }
 
-// Whether the offset, which is near a piece, is a place of the text.
-fn is_place_near<L: Ledger>(
+// Whether a line of so many units ends with CR LF, whose break ends behind so many units of the piece. A CR LF lies in one piece.
+fn ends_line_with_pair(chunks: &Chunks, found: &Found, own: u64, units: u64) -> bool
+    requires inside { LiesIn chunks.now.buffers found.now.span }
+    requires within { own ≤ found.now.span.units }
+    ensures { result ≡ (nat_le 2 units
+        && ends_with_pair (take own (units_at chunks.now.buffers found.now.span))) }
+{
+    2 <= units && ends_with_pair(&chunks.units(found.span)[..own as usize])
+}
+
+// Whether the offset is a place of the text, which is looked for in the pieces that have the breaks of its line.
+fn is_place_in_line<L: Ledger>(
     pieces: &PieceTree,
     chunks: &Chunks,
-    near: &Option<Found>,
+    start: &LineBound,
+    end: &LineBound,
     offset: u64,
     steps: &mut Steps<L>,
 ) -> bool
     requires text { IsText pieces.now chunks.now }
-    requires near { IfSome near.now (IsFound pieces.now.entries) }
+    requires start { IfSome start.now.found (IsFound pieces.now.entries) }
+    requires end { IfSome end.now.found (IsFound pieces.now.entries) }
     ensures place { result ≡ is_place (text_of pieces.now chunks.now).units offset }
-    ensures cost { WithinLookUps 1 (length pieces.now.entries) (steps.new - steps.old) }
+    ensures cost { WithinLookUps 2 (length pieces.now.entries) (steps.new - steps.old) }
 {
     if offset >= pieces.len() {
         return offset == pieces.len();
     }
-    let found = unit_near(pieces, near, FEW_PIECES, offset, steps);
-    !cuts_pair_beside(pieces, chunks, &found, offset)
+    let near = nearer(&start.found, &end.found, offset);
+    let found = unit_near(pieces, &near, offset, steps);
+    !cuts_pair_beside(pieces, chunks, &start.found, &found, offset, steps)
 }

@@ -5,7 +5,7 @@ ghost use Rattle.std.specs.List.{All};
 ghost use Rattle.piece_tree.specs.Pieces.{Entry, IsFound, HasUnit};
 ghost use Rattle.text_buffer.specs.Remembering.{end_of};
 
-use crate::look_up::{Sought, has};
+use crate::look_up::has_unit;
 use piece_tree::Found;
 use std::alloc::{AllocError, Global};
 use std::marker::Model;
@@ -69,7 +69,7 @@ impl Remembered {
             .pieces
             .partition_point(|piece| piece.before.units <= offset);
         let found = self.pieces.get(starting.checked_sub(1)?)?;
-        if has(found, Sought::Offset(offset)) {
+        if has_unit(found, offset) {
             Some(found)
         } else {
             None

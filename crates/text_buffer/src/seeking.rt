@@ -4,7 +4,7 @@ ghost use Rattle.std.specs.Prelude.{◌≡◌, [], IfSome};
 ghost use Rattle.std.specs.List.{All};
 ghost use Rattle.piece_tree.specs.Pieces.{IsFound};
 
-use crate::look_up::{Sought, has, piece_near, piece_toward};
+use crate::look_up::{has_unit, piece_near};
 use crate::remembered::Remembered;
 use piece_tree::{Found, PieceTree};
 use text_lengths::Span;
@@ -82,9 +82,9 @@ fn piece_before(pieces: &PieceTree, near: &Option<Found>, found: &Found) -> Opti
 {
     let before = found.before.units.checked_sub(1)?;
     if let Some(piece) = near
-        && has(piece, Sought::Offset(before))
+        && has_unit(piece, before)
     {
         return Some(*piece);
     }
-    piece_toward(pieces, found, Sought::Offset(before))
+    pieces.prev_found(found)
 }

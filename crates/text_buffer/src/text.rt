@@ -77,13 +77,14 @@ impl TextBuffer {
         ensures units { IfOk result (λ text. text.units ≡ units.now) }
         ensures spans { IfOk result (λ text. length text.spans ≤ 1) }
     {
+        if units.is_empty() {
+            return Ok(TextBuffer::new(alloc));
+        }
         let mut pieces = PieceTree::new(alloc);
         let mut chunks = Chunks::new(alloc);
-        if !units.is_empty() {
-            pieces.reserve(1)?;
-            let span = chunks.append_whole(units)?;
-            pieces.splice(None, 0, 0, Some(span), &chunks);
-        }
+        pieces.reserve(1)?;
+        let span = chunks.append_whole(units)?;
+        pieces.splice(None, 0, 0, Some(span), &chunks);
         Ok(TextBuffer {
             pieces,
             chunks,
@@ -174,6 +175,8 @@ impl TextBuffer {
             → GrowsAt self.new (span.start + length text.now) }
         ensures appended { unit_count self.new.buffers
             ≤ unit_count self.old.buffers + length text.now + units_beside_text }
+        ensures eight { unit_count self.new.buffers
+            ≤ unit_count self.old.buffers + length text.now + 8 }
         ensures grown { Extends self.old.buffers self.new.buffers }
         ensures spare_edits { self.new.spare_edits + 1 ≡ self.old.spare_edits }
         ensures spare_units { self.old.spare_units
@@ -234,20 +237,20 @@ impl TextBuffer {
         }
     }
 
-    /// The position of the offset; None where the offset is no place of the text. Each node that a search visits is a step.
+    /// The position of the offset; None where the offset is no place of the text. Each node that is visited is a step.
     pub fn position_at<L: Ledger>(&self, offset: u64, steps: &mut Steps<L>) -> Option<Position>
         ensures position { result ≡ (if is_place self.now.units offset
             then Some (position_of self.now.units offset) else None) }
-        ensures cost { WithinLookUps 2 (length self.now.spans) (steps.new - steps.old) }
+        ensures cost { WithinLookUps 3 (length self.now.spans) (steps.new - steps.old) }
     {
         position_in(&self.pieces, &self.chunks, offset, steps)
     }
 
-    /// The offset of the position; None where it is no position of the text. Each node that a search visits is a step.
+    /// The offset of the position; None where it is no position of the text. Each node that is visited is a step.
     pub fn offset_at<L: Ledger>(&self, position: Position, steps: &mut Steps<L>) -> Option<u64>
         ensures offset { result ≡ (if is_position self.now.units position
             then Some (offset_of self.now.units position) else None) }
-        ensures cost { WithinLookUps 3 (length self.now.spans) (steps.new - steps.old) }
+        ensures cost { WithinLookUps 4 (length self.now.spans) (steps.new - steps.old) }
     {
         offset_in(&self.pieces, &self.chunks, position, steps)
     }
@@ -308,16 +311,28 @@ impl TextBuffer {
         dirty_between(&self.pieces, &self.chunks, &start, &end, text)
     }
 
-    // Whether the offsets are places. The second is looked for where the first was found.
+    // Whether the offsets are places, by steps that nobody counts.
     fn has_places(&self, start: u64, end: u64) -> bool
         requires { start ≤ end }
         ensures { result ≡ (is_place self.now.units start && is_place self.now.units end) }
     {
+        self.has_places_for::<Brand>(start, end, Blank::new(1))
+    }
+
+    // The second is looked for where the first was found.
+    fn has_places_for<L: Ledger>(&self, start: u64, end: u64, blank: Blank) -> bool
+        requires ordered { start ≤ end }
+        requires name { blank.name ≡ L.name }
+        requires parts { blank.parts ≡ L.parts }
+        requires some { 0 < L.parts }
+        ensures { result ≡ (is_place self.now.units start && is_place self.now.units end) }
+    {
+        let mut steps = Steps::<L>::new(blank);
         if start >= self.len() {
             return end == self.len();
         }
         let first = piece_at(&self.pieces, &self.remembered, &None, start);
-        if cuts_pair_beside(&self.pieces, &self.chunks, &first, start) {
+        if cuts_pair_beside(&self.pieces, &self.chunks, &None, &first, start, &mut steps) {
             return false;
         }
         if end == start {
@@ -326,8 +341,9 @@ impl TextBuffer {
         if end >= self.len() {
             return end == self.len();
         }
-        let last = piece_at(&self.pieces, &self.remembered, &Some(first), end);
-        !cuts_pair_beside(&self.pieces, &self.chunks, &last, end)
+        let near = Some(first);
+        let last = piece_at(&self.pieces, &self.remembered, &near, end);
+        !cuts_pair_beside(&self.pieces, &self.chunks, &near, &last, end, &mut steps)
     }
 
     /// Appends the units of the span. An error leaves `out` as it was.

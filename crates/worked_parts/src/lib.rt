@@ -1,4 +1,4 @@
-//! Tests of calls that the program does not make yet.
+//! Tests of calls of the document's parts, each by itself.
 #![tactic(auto)]
 
 #[cfg(test)]

@@ -100,13 +100,27 @@ fn compare(rt: &impl Abort, hunks: &Hunks, marks: &[Mark]) {
     assert_eq!(rt; hunks.lines(), marks.len() as u64);
     for line in 1..hunks.lines() + 1 {
         let index = line as usize - 1;
-        assert_eq!(rt; Some(hunks.mark(line)), marks.get(index).copied());
-        assert_eq!(rt; hunks.kept_from(line), kept_from(marks, index) as u64);
+        let (mark, kept) = hunks.at(line);
+        assert_eq!(rt; Some(mark), marks.get(index).copied());
+        assert_eq!(rt; kept, kept_from(marks, index) as u64);
     }
     assert_eq!(rt;
         hunks.is_clean(),
         marks.iter().all(|mark| *mark != Mark::New)
     );
+}
+
+#[test]
+fn two_lines_of_five_become_one(rt: HostRuntime) -> Result<(), Fail> {
+    let mut hunks = Hunks::new(rt.alloc());
+    hunks.clean(5);
+    hunks.reserve(1)?;
+    hunks.edit(2, 2, 1);
+    assert_eq!(rt; hunks.stale(), Some((2, 2)));
+    assert_eq!(rt; hunks.at(3), (Mark::Kept(4), 2));
+    hunks.clean(5);
+    assert_eq!(rt; hunks.stale(), None);
+    Ok(())
 }
 
 #[test]

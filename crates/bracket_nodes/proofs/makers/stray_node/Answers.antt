@@ -12,7 +12,8 @@ invariant_of-shared c = rw (c.leaf-kept.ensures, c.one.ensures) (record {
   missing = λ k. has_kind-one c.args.kind k;
   closed = refl;
   capped = refl;
-  nesting = refl;
   height = refl;
+  highest = refl;
+  nesting = refl;
   last = refl;
 })

@@ -9,6 +9,7 @@ use Rattle.bracket_nodes.specs.SharedLists.{shared_items, shared_weight}
 use Rattle.bracket_nodes.specs.declared.parser.Taken.{Taken}
 use Rattle.bracket_nodes.specs.Source.{Ahead, Takes, closing_taken, pair_taken}
 use Rattle.bracket_nodes.proofs.Parsing.{Takes-end, AsksOn-same, AsksOn-then, Takes-ready, Takes-closing, Takes-capped, Takes-paired, asks_not_missing, Reads-start, Reads-one, Listed-after, bracket_weighs}
+use Rattle.bracket_nodes.proofs.Payments.{PaysOn-same, PaysOn-then, HasRoom-on}
 use Rattle.bracket_nodes.proofs.parser.+parser.Goals as goal
 
 taken_as : {E : Type 0} (r : Result Taken E) (x : Taken) (P : Taken → Type 0) → IfOk r (λ y. y ≡ x) → P x → IfOk r P
@@ -17,7 +18,7 @@ taken_as r x P h p = IfOk-weaker r (λ (y : Taken). y ≡ x) P (λ y e. subst P 
 pub parse_list-loop-joiner-init : goal.parse_list-loop-joiner-init
 parse_list-loop-joiner-init g t c =
     let start : Ahead = g.S.Source.ahead c.args.source.now in
-    (rw c.new-joiner.ensures (Reads-start start c.args.opened c.args.level c.requires.some), c.requires.stands, AsksOn-same start.asking)
+    (rw c.new-joiner.ensures (Reads-start start c.args.opened c.args.level c.requires.some), c.requires.stands, AsksOn-same start.asking, λ room. PaysOn-same (g.S.Source.paying c.args.source.now))
 
 pub parse_list-loop-joiner-preserved : goal.parse_list-loop-joiner-preserved
 parse_list-loop-joiner-preserved g t c =
@@ -30,6 +31,10 @@ parse_list-loop-joiner-preserved g t c =
           (shared_items c.loop-joiner.joiner.lists.items) (shared_weight c.loop-joiner.joiner.lists.items) c.in-One.node c.loop-joiner.invariant.0 parsed),
       c.in_ok-node.ensures.stands,
       AsksOn-then start.asking now.asking new.asking c.loop-joiner.invariant.2 c.take.ensures.asks,
+      λ room.
+          let on = c.loop-joiner.invariant.3 room in
+          PaysOn-then (g.S.Source.paying c.args.source.now) (g.S.Source.paying c.loop-joiner.source) (g.S.Source.paying c.take.new.source) on
+          (rw c.in-One.is at (c.in_ok-node.ensures.pays (HasRoom-on (g.S.Source.paying c.args.source.now) (g.S.Source.paying c.loop-joiner.source) c.args.level on room))),
     )
 
 pub parse_list-returns-in-Last-clause-listed : goal.parse_list-returns-in-Last-clause-listed

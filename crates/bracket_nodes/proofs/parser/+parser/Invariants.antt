@@ -2,6 +2,7 @@ use Rattle.std.proofs.Common.{◌+◌, ◌-◌, ◌*◌}
 use Rattle.bracket_rules.specs.declared.TheConstants.{MOST_OPEN}
 use Rattle.bracket_nodes.specs.SharedLists.{shared_items, shared_weight}
 use Rattle.bracket_nodes.specs.Source.{AsksOn, Reads, weight_ahead}
+use Rattle.bracket_nodes.specs.Paying.{HasRoom, PaysOn}
 use Rattle.bracket_nodes.proofs.parser.+parser.Given as goal
 
 abbrev pub decreases-parse_list : goal.decreases-parse_list
@@ -16,6 +17,7 @@ invariant-parse_list-loop-joiner g l =
     (shared_items l.joiner.lists.items) (shared_weight l.joiner.lists.items)
     × g.S.Source.stands l.source
     × AsksOn (g.S.Source.ahead l.initial.source).asking (g.S.Source.ahead l.source).asking
+    × (HasRoom (g.S.Source.paying l.initial.source) l.level → PaysOn (g.S.Source.paying l.initial.source) (g.S.Source.paying l.source))
 
 abbrev pub decreases-parse_list-loop-joiner : goal.decreases-parse_list-loop-joiner
 decreases-parse_list-loop-joiner g l = weight_ahead (g.S.Source.ahead l.source)

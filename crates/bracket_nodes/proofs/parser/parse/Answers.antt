@@ -11,5 +11,6 @@ returns g c =
       light = whole_light start new c.in_ok-part.part.list c.in_ok-part.part.stop listed;
       stands = c.in_ok-part.ensures.stands;
       asks = c.parse_list.ensures.asks;
+      spends = c.parse_list.ensures.spends;
       whole = whole_asked start new c.in_ok-part.part.list c.in_ok-part.part.stop listed;
     }

@@ -1,8 +1,15 @@
-use Rattle.std.proofs.Common.{◌∙◌, sym, subst}
+use Rattle.std.proofs.Common.{◌≡◌, ℕ, ◌+◌, ◌∙◌, sym, subst, arith}
+use Rattle.text_lengths.specs.declared.Length.{Length}
+use Rattle.text_lengths.specs.Length.{length_of}
+use Rattle.bracket_rules.specs.declared.Token.{Token}
 use Rattle.bracket_trees.specs.Tree.{Tree}
+use Rattle.bracket_nodes.specs.declared.parser.Next.TheVariants.{Bracket}
+use Rattle.bracket_nodes.specs.Paying.{PaysFor}
+use Rattle.node_reuse.specs.Paying.{paying_at}
 use Rattle.bracket_nodes.specs.Borrowed.{node_of}
-use Rattle.node_reuse.specs.OldText.{OldText, IsReusable, NoneReusable, IsOldToken, NoOldBracket}
+use Rattle.node_reuse.specs.OldText.{OldText, IsReusable, IsLongestReusable, NoneReusable, IsOldToken, NoOldBracket}
 use Rattle.node_reuse.proofs.KeptReader.{kept_node, kept_bracket, kept_end}
+use Rattle.node_reuse.proofs.ReaderPays.{kept_node_pays, kept_bracket_pays}
 use Rattle.node_reuse.proofs.kept.next_of_old.Goals as goal
 
 pub returns-in-Some-clause-reads : goal.returns-in-Some-clause-reads
@@ -23,3 +30,22 @@ returns-clause-reads g c = λ s line old kept scanned h.
     kept_end s c.args.place.now line c.args.opened c.args.level c.requires.level h kept scanned
     (subst (λ (o : OldText). NoneReusable o c.args.place.now c.args.opened c.args.level) (sym old) c.in_default.ensures.none)
     (subst (λ (o : OldText). NoOldBracket o c.args.place.now) (sym (old ∙ sym c.longest_at.follows.holds-at-none)) c.in_default-token_at.ensures.none)
+
+pub returns-in-Some-clause-pays : goal.returns-in-Some-clause-pays
+returns-in-Some-clause-pays g c = λ s line old kept scanned h room.
+    let n : Tree = node_of c.in-Some.node in
+    let longest : IsLongestReusable s.old c.args.place.now c.args.opened c.args.level n =
+    subst (λ (o : OldText). IsLongestReusable o c.args.place.now c.args.opened c.args.level n) (sym old) c.in-Some.ensures.some in
+    rw (c.plus.ensures, c.length-length.ensures, c.longest_at.ensures.step)
+    (kept_node_pays s c.args.place.now line c.args.steps.now c.args.opened c.args.level h kept scanned room n longest)
+
+pub returns-in-Some-token_at-clause-pays : goal.returns-in-Some-token_at-clause-pays
+returns-in-Some-token_at-clause-pays g c = λ s line old kept scanned h room.
+    let two : c.args.steps.now + 2 ≡ c.token_at.new.steps = omega (arith, c.longest_at.ensures.step, c.token_at.ensures.step) in
+    let found : Token = c.in-Some-token_at.token in
+    let p : Length = c.args.place.now in
+    subst (λ (n : ℕ). PaysFor (paying_at s c.args.steps.now p line) (paying_at s n (length_of p.lines (p.columns + found.len)) line)
+    (Bracket found.kind found.len found.opening)) two
+    (kept_bracket_pays s c.args.place.now line c.args.steps.now c.args.opened c.args.level h kept scanned room c.in-Some-token_at.token
+    (subst (λ (o : OldText). NoneReusable o c.args.place.now c.args.opened c.args.level) (sym old) c.in_default.ensures.none)
+    (subst (λ (o : OldText). IsOldToken o c.args.place.now c.in-Some-token_at.token) (sym (old ∙ sym c.longest_at.follows.holds-at-none)) c.in-Some-token_at.ensures.some))

@@ -1,8 +1,10 @@
-use Rattle.std.proofs.Common.{List, [], Result, Ok, Err, ℕ}
+use Rattle.std.proofs.Common.{rules, List, [], Result, Ok, Err, ℕ}
 use Rattle.std.specs.Prelude.{OnErr}
 use Rattle.node_reuse.specs.Texts.{AsksFront, new_lines}
 use Rattle.node_reuse.specs.Reader.{Sight, sight, asked_so}
-use Rattle.node_reuse.proofs.WholeReader.{some_ahead, first_stands, start_fits, whole_tree, whole_light, none_asked}
+use Rattle.node_reuse.proofs.WholeReader.{some_ahead, first_stands, start_fits, whole_tree, whole_tight, whole_light, none_asked}
+use Rattle.node_reuse.specs.Paying.{token_count}
+use Rattle.node_reuse.proofs.StepBound.{start_room, steps_within}
 use Rattle.node_reuse.proofs.parsed.reparse.Goals as goal
 
 none_if : {A E : Type 0} (r : Result A E) (lines asked : List ℕ) → OnErr r (AsksFront lines asked asked)
@@ -15,7 +17,7 @@ returns-in_err-line-clause-front g c = none_if c.from_residual.result (new_lines
 pub parse-requires-clause-stands : goal.parse-requires-clause-stands
 parse-requires-clause-stands g c =
     let s : Sight = sight c.args.table.now (g.Q.Lines.state c.args.lines.now).contents (g.O.Old.text c.args.old) c.args.hunks.now.marks in
-    first_stands s c.in_ok-line.line c.requires.some c.first_line.ensures.table c.requires.marks c.requires.count c.requires.stays
+    first_stands s c.in_ok-line.line c.requires.some c.first_line.ensures.table c.requires.marks c.requires.count c.requires.agrees
     c.in_ok-line.ensures.scanned c.in_ok-line.ensures.asked
 
 pub parse-requires-clause-some : goal.parse-requires-clause-some
@@ -24,14 +26,41 @@ parse-requires-clause-some g c = some_ahead c.args.table.now (g.Q.Lines.state c.
 pub parse-requires-clause-fits : goal.parse-requires-clause-fits
 parse-requires-clause-fits g c =
     let s : Sight = sight c.args.table.now (g.Q.Lines.state c.args.lines.now).contents (g.O.Old.text c.args.old) c.args.hunks.now.marks in
-    start_fits s _ c.in_ok-line.line c.requires.some c.requires.stays c.requires.fits
+    start_fits s _ c.in_ok-line.line c.first_line.ensures.table c.requires.some c.requires.agrees (g.met.Q.Lines.fits c.args.lines.now)
 
 pub returns-clause-tree : goal.returns-clause-tree
 returns-clause-tree g c =
     let s : Sight = sight c.args.table.now (g.Q.Lines.state c.args.lines.now).contents (g.O.Old.text c.args.old) c.args.hunks.now.marks in
     whole_tree s c.in_ok-tree.tree c.requires.some c.in_ok-tree.ensures.tree
 
+pub returns-clause-tight : goal.returns-clause-tight
+returns-clause-tight g c =
+    let s : Sight = sight c.args.table.now (g.Q.Lines.state c.args.lines.now).contents (g.O.Old.text c.args.old) c.args.hunks.now.marks in
+    whole_tight s (asked_so [] []) c.in_ok-line.line c.in_ok-tree.tree c.requires.some c.requires.agrees c.in_ok-tree.ensures.tree c.in_ok-tree.ensures.light
+
 pub returns-clause-light : goal.returns-clause-light
 returns-clause-light g c =
     let s : Sight = sight c.args.table.now (g.Q.Lines.state c.args.lines.now).contents (g.O.Old.text c.args.old) c.args.hunks.now.marks in
-    whole_light s (asked_so [] []) c.in_ok-line.line c.in_ok-tree.tree c.requires.some c.requires.stays c.in_ok-tree.ensures.light
+    whole_light s (asked_so [] []) c.in_ok-line.line c.in_ok-tree.tree c.first_line.ensures.table c.requires.some c.requires.agrees c.in_ok-tree.ensures.light
+
+-- ---- steps
+
+pub returns-in_err-tree-clause-steps : goal.returns-in_err-tree-clause-steps
+returns-in_err-tree-clause-steps g c = λ old there paired one room.
+    let s : Sight = sight c.args.table.now (g.Q.Lines.state c.args.lines.now).contents (g.O.Old.text c.args.old) c.args.hunks.now.marks in
+    let line = c.in_ok-line.line in
+    let steps = c.args.steps.now in
+    let within = steps_within s line steps old there paired c.requires.agrees one c.parse.new.source.steps.now
+    (token_count s.table s.contents (new_lines s.marks))
+    (c.parse.ensures.spends (start_room s line steps old there paired c.requires.agrees one room c.in_ok-line.ensures.scanned)) in
+    search (rules, within)
+
+pub returns-clause-steps : goal.returns-clause-steps
+returns-clause-steps g c = λ old there paired one room.
+    let s : Sight = sight c.args.table.now (g.Q.Lines.state c.args.lines.now).contents (g.O.Old.text c.args.old) c.args.hunks.now.marks in
+    let line = c.in_ok-line.line in
+    let steps = c.args.steps.now in
+    let within = steps_within s line steps old there paired c.requires.agrees one c.parse.new.source.steps.now
+    (token_count s.table s.contents (new_lines s.marks))
+    (c.parse.ensures.spends (start_room s line steps old there paired c.requires.agrees one room c.in_ok-line.ensures.scanned)) in
+    search (rules, within)

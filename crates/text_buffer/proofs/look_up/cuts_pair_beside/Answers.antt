@@ -15,10 +15,10 @@ no_pair true false = refl
 no_pair true true = refl
 
 pub unit_in-unit-requires-clause-inside : goal.unit_in-unit-requires-clause-inside
-unit_in-unit-requires-clause-inside c = found_inside c.args.chunks.now.buffers c.args.pieces.now.entries c.args.found.now c.requires.unit.piece c.requires.text.pieces
+unit_in-unit-requires-clause-inside g c = found_inside c.args.chunks.now.buffers c.args.pieces.now.entries c.args.found.now c.requires.unit.piece c.requires.text.pieces
 
-pub returns-then-offset-eq0 : goal.returns-then-offset-eq0
-returns-then-offset-eq0 c =
+pub returns-then-offset-eq0-clause-cuts : goal.returns-then-offset-eq0-clause-cuts
+returns-then-offset-eq0-clause-cuts g c =
     let x = spelled c.args.chunks.now.buffers (pieces_of c.args.pieces.now.entries) in
     let unit = c.unit_in-unit.ensures ∙ sym (found_unit c.args.chunks.now.buffers c.args.pieces.now.entries c.args.found.now c.requires.unit.piece c.requires.text.pieces c.args.offset c.requires.unit.start c.requires.unit.end) in
     elim c.then-offset-eq0.branch [
@@ -29,11 +29,21 @@ returns-then-offset-eq0 c =
           ∙ no_pair (nat_lt 0 c.args.offset) (is_high_surrogate (get_or x (c.args.offset - 1) 0)))
     ]
 
-pub returns : goal.returns
-returns c =
+pub unit_near-holder-requires-clause-near : goal.unit_near-holder-requires-clause-near
+unit_near-holder-requires-clause-near g c = c.nearer-nearest.ensures c.args.pieces.now.entries c.requires.unit.piece c.requires.near
+
+pub unit_in-before-requires-clause-inside : goal.unit_in-before-requires-clause-inside
+unit_in-before-requires-clause-inside g c =
+    found_inside c.args.chunks.now.buffers c.args.pieces.now.entries c.unit_near-holder.result c.unit_near-holder.ensures.unit.piece c.requires.text.pieces
+
+pub returns-clause-cuts : goal.returns-clause-cuts
+returns-clause-cuts g c =
+    let there = c.unit_near-holder.ensures.unit in
+    let before = c.unit_in-before.ensures
+    ∙ sym (found_unit c.args.chunks.now.buffers c.args.pieces.now.entries c.unit_near-holder.result there.piece c.requires.text.pieces (c.args.offset - 1) there.start there.end) in
     let x = spelled c.args.chunks.now.buffers (pieces_of c.args.pieces.now.entries) in
     let unit = c.unit_in-unit.ensures ∙ sym (found_unit c.args.chunks.now.buffers c.args.pieces.now.entries c.args.found.now c.requires.unit.piece c.requires.text.pieces c.args.offset c.requires.unit.start c.requires.unit.end) in
     c.cuts_pair.ensures
-    ∙ ap (λ u. is_high_surrogate u && is_low_surrogate c.unit_in-unit.result) c.unit_beside-before.ensures
+    ∙ ap (λ u. is_high_surrogate u && is_low_surrogate c.unit_in-unit.result) before
     ∙ ap (λ u. is_high_surrogate (get_or x (c.args.offset - 1) 0) && is_low_surrogate u) unit
     ∙ ap (λ t. t && is_high_surrogate (get_or x (c.args.offset - 1) 0) && is_low_surrogate (get_or x c.args.offset 0)) (sym (lt-ltb 0 c.args.offset (omega (arith, c.if-offset-eq0.false))))

@@ -1,5 +1,6 @@
 use Rattle.std.proofs.Common.{◌≡◌, ◌+◌, length, sym, ◌∙◌, refl, arith}
 use Rattle.piece_tree.specs.Pieces.{pieces_of}
+use Rattle.piece_tree.proofs.Costs.{no_look_up, look_ups-add}
 use Rattle.text_rules.specs.Breaks.{count_to, break_ends}
 use Rattle.text_buffer.specs.Text.{text_of, spelled}
 use Rattle.text_buffer.proofs.Found.{found_inside, found_count, units_shown, breaks_shown, count_small}
@@ -45,7 +46,23 @@ returns-clause-place g c =
     let x = spelled c.args.chunks.now.buffers (pieces_of c.args.pieces.now.entries) in
     let units = units_shown c.args.pieces.now c.args.chunks.now (text_of c.args.pieces.now c.args.chunks.now) c.requires refl in
     record {
-      place = place_inside x c.args.offset (omega (arith, units)) (sym c.cuts_pair_beside.ensures ∙ c.if-cuts_pair_beside.false);
+      place = place_inside x c.args.offset (omega (arith, units)) (sym c.cuts_pair_beside.ensures.cuts ∙ c.if-cuts_pair_beside.false);
       found = c.find_offset-found.ensures.piece;
       breaks = counted g (goal.at.returns-clause-place g c).After-breaks_to-own;
     }
+
+pub returns-then-offset-len-clause-cost : goal.returns-then-offset-len-clause-cost
+returns-then-offset-len-clause-cost g c = no_look_up 2 (length c.args.pieces.now.entries) c.args.steps.now c.args.steps.now refl
+
+pub returns-then-offset-len-2-clause-cost : goal.returns-then-offset-len-2-clause-cost
+returns-then-offset-len-2-clause-cost g c = no_look_up 2 (length c.args.pieces.now.entries) c.args.steps.now c.args.steps.now refl
+
+pub returns-then-cuts_pair_beside-clause-cost : goal.returns-then-cuts_pair_beside-clause-cost
+returns-then-cuts_pair_beside-clause-cost g c =
+    look_ups-add 1 1 (length c.args.pieces.now.entries) c.args.steps.now c.find_offset-found.new.steps c.cuts_pair_beside.new.steps
+    c.find_offset-found.ensures.cost c.cuts_pair_beside.ensures.cost
+
+pub returns-clause-cost : goal.returns-clause-cost
+returns-clause-cost g c =
+    look_ups-add 1 1 (length c.args.pieces.now.entries) c.args.steps.now c.find_offset-found.new.steps c.cuts_pair_beside.new.steps
+    c.find_offset-found.ensures.cost c.cuts_pair_beside.ensures.cost

@@ -12,7 +12,7 @@ use Rattle.text_buffer.proofs.queries.position_in.Goals as goal
 
 pub returns-in_default-clause-cost : goal.returns-in_default-clause-cost
 returns-in_default-clause-cost g c =
-    fewer_look_ups 1 2 (length c.args.pieces.now.entries) (c.breaks_at.new.steps - c.args.steps.now) (omega arith) c.breaks_at.ensures.cost
+    fewer_look_ups 2 3 (length c.args.pieces.now.entries) (c.breaks_at.new.steps - c.args.steps.now) (omega arith) c.breaks_at.ensures.cost
 
 pub start_after-start-requires-clause-there : goal.start_after-start-requires-clause-there
 start_after-start-requires-clause-there g c =
@@ -43,5 +43,5 @@ returns-clause-position g c =
 
 pub returns-clause-cost : goal.returns-clause-cost
 returns-clause-cost g c =
-    look_ups-add 1 1 (length c.args.pieces.now.entries) c.args.steps.now c.breaks_at.new.steps c.start_after-start.new.steps
+    look_ups-add 2 1 (length c.args.pieces.now.entries) c.args.steps.now c.breaks_at.new.steps c.start_after-start.new.steps
     c.breaks_at.ensures.cost c.start_after-start.ensures.cost

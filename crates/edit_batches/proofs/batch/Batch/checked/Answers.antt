@@ -33,20 +33,20 @@ stand : (x : List ℕ) (ops : List Op) → has_bad_span x ops ≡ false → over
 stand x ops good apart = stand_from_start x ops (all_good x ops good) apart
 
 pub returns-then-has_bad_span-clause-rule : goal.returns-then-has_bad_span-clause-rule
-returns-then-has_bad_span-clause-rule g c = λ given same.
-    by_range (g.F.Flat.units c.args.text.now) c.args.ops.items given same (search rules)
+returns-then-has_bad_span-clause-rule g c =
+    by_range (g.F.Flat.units c.args.text.now) c.in_ok-ops.ops.items c.args.ops.items (search rules) (search rules)
 
 pub returns-then-overlap-clause-rule : goal.returns-then-overlap-clause-rule
-returns-then-overlap-clause-rule g c = λ given same.
-    by_overlap (g.F.Flat.units c.args.text.now) c.args.ops.items given same (search rules) (search rules)
+returns-then-overlap-clause-rule g c =
+    by_overlap (g.F.Flat.units c.args.text.now) c.in_ok-ops.ops.items c.args.ops.items (search rules) (search rules) (search rules)
 
 pub returns-then-is_too_long-clause-rule : goal.returns-then-is_too_long-clause-rule
-returns-then-is_too_long-clause-rule g c = λ given same.
-    by_limit (g.F.Flat.units c.args.text.now) c.args.ops.items given same (search rules) (search rules) (search rules)
+returns-then-is_too_long-clause-rule g c =
+    by_limit (g.F.Flat.units c.args.text.now) c.in_ok-ops.ops.items c.args.ops.items (search rules) (search rules) (search rules) (search rules)
 
 pub returns-clause-rule : goal.returns-clause-rule
-returns-clause-rule g c = λ given same.
-    by_none (g.F.Flat.units c.args.text.now) c.args.ops.items given same (search rules) (search rules) (search rules)
+returns-clause-rule g c =
+    by_none (g.F.Flat.units c.args.text.now) c.in_ok-ops.ops.items c.args.ops.items (search rules) (search rules) (search rules) (search rules)
 
 pub is_too_long-requires : goal.is_too_long-requires
 is_too_long-requires g c =
@@ -54,15 +54,15 @@ is_too_long-requires g c =
 
 pub returns-clause-standing : goal.returns-clause-standing
 returns-clause-standing g c =
-    stand (g.F.Flat.units c.args.text.now) c.args.ops.items (search rules) (search rules)
+    stand (g.F.Flat.units c.args.text.now) c.in_ok-ops.ops.items (search rules) (search rules)
 
 pub returns-clause-texts : goal.returns-clause-texts
 returns-clause-texts g c =
-    let standing = stand (g.F.Flat.units c.args.text.now) c.args.ops.items (search rules) (search rules) in
-    let fits : length (applied_from 0 (g.F.Flat.units c.args.text.now) c.args.ops.items) ≤ most_units = search rules in
-    omega (arith, fits, text_units_applied 0 (g.F.Flat.units c.args.text.now) c.args.ops.items standing)
+    let standing = stand (g.F.Flat.units c.args.text.now) c.in_ok-ops.ops.items (search rules) (search rules) in
+    let fits : length (applied_from 0 (g.F.Flat.units c.args.text.now) c.in_ok-ops.ops.items) ≤ most_units = search rules in
+    omega (arith, fits, text_units_applied 0 (g.F.Flat.units c.args.text.now) c.in_ok-ops.ops.items standing)
 
 pub invariant_of-result : goal.invariant_of-result
 invariant_of-result g c =
-    follow_standing 0 (g.F.Flat.units c.args.text.now) c.args.ops.items
-    (stand (g.F.Flat.units c.args.text.now) c.args.ops.items (search rules) (search rules))
+    follow_standing 0 (g.F.Flat.units c.args.text.now) c.in_ok-ops.ops.items
+    (stand (g.F.Flat.units c.args.text.now) c.in_ok-ops.ops.items (search rules) (search rules))

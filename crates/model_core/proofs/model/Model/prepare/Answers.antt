@@ -1,12 +1,12 @@
 use Rattle.std.proofs.Common.{◌≡◌, ◌+◌, ◌≤◌, Ok, ap, subst, arith}
 use Rattle.std.proofs.lemmas.Grind.{common_steps}
-use Rattle.batch_rules.specs.Batches.{checked_batch, inverse_from, text_units}
+use Rattle.batch_rules.specs.Batches.{inverse_from, text_units}
 use Rattle.batch_rules.proofs.Standing.{accepted, text_units_applied}
 use Rattle.document_rules.specs.Document.{greatest_version}
 use Rattle.model_core.specs.State.{ModelState}
 use Rattle.model_core.specs.Ways.{IsUntouched}
 use Rattle.model_core.proofs.Untouched.{parts_untouched, document_untouched}
-use Rattle.model_core.proofs.Preparing.{edit_ready}
+use Rattle.model_core.proofs.Preparing.{told_of_all, accepted_of_all, edit_ready}
 use Rattle.model_core.proofs.model.Model.prepare.Goals as goal
 use Rattle.model_core.proofs.model.Model.prepare.Goals.{After-make_room}
 
@@ -17,14 +17,14 @@ kept c = subst (λ t. IsUntouched t c.make_room.new.text c.self.inside.last c.ma
 pub text_units-requires : goal.text_units-requires
 text_units-requires c =
     let x = c.seek.new.self.units in
-    let rule : checked_batch x c.args.ops.items ≡ Ok c.in_ok-batch.batch = grind (arith, common_steps) in
+    let rule = accepted_of_all x c.args.ops.items c.in_ok-ops.ops.items c.in_ok-batch.batch c.checked.result (grind (arith, common_steps)) c.checked.ensures.rule (grind (arith, common_steps)) in
     let ok = accepted x c.args.ops.items c.in_ok-batch.batch rule in
     omega (arith, text_units_applied 0 x c.in_ok-batch.batch ok.standing, ok.fits)
 
 pub text_breaks-requires : goal.text_breaks-requires
 text_breaks-requires c =
     let x = c.seek.new.self.units in
-    let rule : checked_batch x c.args.ops.items ≡ Ok c.in_ok-batch.batch = grind (arith, common_steps) in
+    let rule = accepted_of_all x c.args.ops.items c.in_ok-ops.ops.items c.in_ok-batch.batch c.checked.result (grind (arith, common_steps)) c.checked.ensures.rule (grind (arith, common_steps)) in
     let ok = accepted x c.args.ops.items c.in_ok-batch.batch rule in
     omega (arith, text_units_applied 0 x c.in_ok-batch.batch ok.standing, ok.fits, ap text_units c.ops-2.ensures.ops)
 
@@ -62,7 +62,7 @@ returns-clause-ready c =
     let x = c.seek.new.self.units in
     let sorted = c.in_ok-batch.batch in
     let text = c.make_room.ensures.kept.units in
-    let rule : checked_batch x c.args.ops.items ≡ Ok sorted = grind (arith, common_steps) in
+    let rule = accepted_of_all x c.args.ops.items c.in_ok-ops.ops.items sorted c.checked.result (grind (arith, common_steps)) c.checked.ensures.rule (grind (arith, common_steps)) in
     let inverse : c.in_ok-inverse.inverse ≡ inverse_from 0 0 x sorted = grind (arith, common_steps) in
     let next : c.in_ok-next.next ≡ m.version + 1 = grind (arith, common_steps) in
     let last : c.in_ok-next.next ≤ greatest_version = grind (arith, common_steps) in
@@ -75,3 +75,13 @@ returns-clause-ready c =
       breaks = grind (arith, common_steps);
       changes = grind (arith, common_steps);
     })
+
+pub returns-in_err-batch-clause-ready : goal.returns-in_err-batch-clause-ready
+returns-in_err-batch-clause-ready c =
+    let told = told_of_all c.seek.new.self.units c.args.ops.items c.in_ok-ops.ops.items c.checked.result (grind (arith, common_steps)) c.checked.ensures.rule in
+    grind (arith, common_steps, told)
+
+pub returns-in_err-next-clause-ready : goal.returns-in_err-next-clause-ready
+returns-in_err-next-clause-ready c =
+    let told = told_of_all c.seek.new.self.units c.args.ops.items c.in_ok-ops.ops.items c.checked.result (grind (arith, common_steps)) c.checked.ensures.rule in
+    grind (arith, common_steps, told)

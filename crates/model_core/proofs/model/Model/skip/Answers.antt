@@ -1,6 +1,6 @@
-use Rattle.std.proofs.Common.{◌≡◌, Ok, sym, subst}
+use Rattle.std.proofs.Common.{sym, subst}
 use Rattle.document_rules.specs.Paired.{IsPairedState}
-use Rattle.document_rules.specs.Snapshots.{flat_peek_of}
+use Rattle.document_rules.specs.Snapshots.{EndsBesidePairs}
 use Rattle.model_core.specs.State.{ModelState}
 use Rattle.model_core.proofs.Shelving.{IsShelf-skipped, skipped_paired}
 use Rattle.model_core.proofs.model.Model.skip.Goals as goal
@@ -15,8 +15,8 @@ invariant_of-self c =
 
 pub returns-clause-paired_state : goal.returns-clause-paired_state
 returns-clause-paired_state c =
-    λ count units taken all paired.
+    λ whole paired.
     let kept = c.self.invariant.5 in
-    skipped_paired _ _ (subst (λ (s : ModelState). IsPairedState s.document) (sym c.self.view_is) paired) c.args.id c.args.n count units
+    skipped_paired _ _ (subst (λ (s : ModelState). IsPairedState s.document) (sym c.self.view_is) paired) c.args.id c.args.n
     kept.sound (c.skip.ensures.change c.self.inside.text.buffers kept.inside)
-    (subst (λ (s : ModelState). flat_peek_of s.document c.args.id count ≡ Ok units) (sym c.self.view_is) taken) all
+    (subst (λ (s : ModelState). EndsBesidePairs s.document c.args.id c.args.n) (sym c.self.view_is) whole)

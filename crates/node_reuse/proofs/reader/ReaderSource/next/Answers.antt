@@ -1,10 +1,12 @@
 use Rattle.std.proofs.Common.{◌≡◌, ◌∙◌, Result, Ok, Err, ℕ, List, [], ◌∷◌, refl, ap, length, arith}
 use Rattle.std.specs.Prelude.{OnErr}
+use Rattle.std.proofs.lemmas.Bool.{ltb-true}
 use Rattle.mark_rules.specs.declared.Mark.TheVariants.{New}
 use Rattle.node_reuse.specs.declared.line.Line.{Line}
 use Rattle.node_reuse.specs.Reader.{Sight, sight, asked_so, mark_of, StandsAt}
 use Rattle.node_reuse.proofs.FreshReader.{fresh_line, lines_within}
-use Rattle.node_reuse.proofs.ReaderCalls.{reads_comes, reads_stands, reads_asks, new_comes, new_stands, new_asks, failed_asks, last_line, has_numbers}
+use Rattle.node_reuse.proofs.ReaderCalls.{reads_comes, reads_stands, reads_asks, new_comes, new_stands, new_asks, failed_asks, last_line, has_numbers, entered_kept}
+use Rattle.node_reuse.proofs.ReaderPays.{new_pays}
 use Rattle.node_reuse.proofs.reader.ReaderSource.next.Goals as goal
 
 on_err : {A E : Type 0} (r : Result A E) (l : Line) → OnErr r (l ≡ l)
@@ -24,6 +26,12 @@ is_kept-requires-clause-there g c =
     let s : Sight = sight self.table.now (g.Q.Lines.state self.lines.now).contents (g.O.Old.text self.text.now) self.hunks.now.marks in
     let numbers = has_numbers s self.place self.line.now c.requires.stands in
     omega (arith, numbers.within)
+
+pub is_kept-requires-clause-entered : goal.is_kept-requires-clause-entered
+is_kept-requires-clause-entered g c = λ entered unscanned.
+    let self = c.args.self.now in
+    let s : Sight = sight self.table.now (g.Q.Lines.state self.lines.now).contents (g.O.Old.text self.text.now) self.hunks.now.marks in
+    entered_kept s self.place self.line.now c.requires.stands unscanned (ltb-true 0 self.place.columns entered)
 
 pub next_of_old-requires-clause-there : goal.next_of_old-requires-clause-there
 next_of_old-requires-clause-there g c =
@@ -139,3 +147,23 @@ returns-clause-asks g c =
     (g.Q.Lines.state self.lines.now).asked (g.Q.Lines.state c.enter.new.lines).asked borrows self.place c.next_of_line.new.place self.line.now c.enter.new.line
     c.next_of_line.new.line c.args.opened c.args.level reads
     c.next_of_line.ensures.same_place c.next_of_line.ensures.same_line (c.enter.ensures.asks s self.place borrows refl new c.requires.stands)
+
+-- ---- what is paid
+
+pub returns-then-is_kept-clause-pays : goal.returns-then-is_kept-clause-pays
+returns-then-is_kept-clause-pays g c = λ room.
+    let self = c.args.self.now in
+    let s : Sight = sight self.table.now (g.Q.Lines.state self.lines.now).contents (g.O.Old.text self.text.now) self.hunks.now.marks in
+    rw c.next_of_old.ensures.same_text
+    (c.next_of_old.ensures.pays s self.line.now refl (c.is_kept.ensures.kept c.if-is_kept.true) (c.is_kept.ensures.unscanned c.if-is_kept.true) c.requires.stands room)
+
+pub returns-clause-pays : goal.returns-clause-pays
+returns-clause-pays g c = λ room.
+    let self = c.args.self.now in
+    let s : Sight = sight self.table.now (g.Q.Lines.state self.lines.now).contents (g.O.Old.text self.text.now) self.hunks.now.marks in
+    let new : mark_of s self.place ≡ New = c.is_kept.ensures.new c.if-is_kept.false in
+    let stands : StandsAt s self.place c.enter.new.line = c.in_ok-enter.ensures.stands s self.place refl refl refl new c.requires.stands in
+    new_pays c.next_of_line.result s.table s.contents (g.Q.Lines.state c.enter.new.lines).contents s.old s.marks c.enter.ensures.contents
+    self.steps.now self.place c.next_of_line.new.place self.line.now c.enter.new.line c.next_of_line.new.line
+    (c.in_ok-enter.ensures.pays s self.place self.steps.now refl refl refl new c.requires.stands)
+    (c.next_of_line.ensures.pays s self.steps.now stands)

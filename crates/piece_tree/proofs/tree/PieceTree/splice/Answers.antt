@@ -3,6 +3,7 @@ use Rattle.std.specs.List.{All}
 use Rattle.piece_tree.specs.Pieces.{Pieces, pieces_of, unit_count, IsPieceOf, IsFound, spliced}
 use Rattle.piece_tree.specs.Searches.{few_breaks}
 use Rattle.piece_tree.specs.Inside.{in_order}
+use Rattle.piece_tree.proofs.Sums.{sum_is}
 use Rattle.piece_tree.proofs.Cuts.{pieces_few}
 use Rattle.piece_tree.proofs.Prolonged.{units-spliced, pieces-spliced}
 use Rattle.piece_tree.proofs.Fronts.{found_still}
@@ -13,6 +14,7 @@ invariant_of-self c =
     let b = c.args.chunks.now.buffers in let ps = in_order c.self.inside.tree.items in let end = c.args.offset + c.args.deleted in
     let shown = ap (λ v. unit_count (pieces_of v.entries)) c.self.view_is in let all = subst (All (IsPieceOf b)) (sym (ap (λ v. pieces_of v.entries) c.self.view_is)) c.requires.pieces in
     let order : in_order c.replace_units-first.new.tree.items ≡ spliced b c.args.offset end c.args.span ps = c.replace_units-first.ensures.spliced in record {
+      sum = c.sum-self-inside.ensures ∙ sum_is c.replace_units-first.new.tree.items;
       small = omega (arith, ap unit_count order, units-spliced b c.args.offset end c.args.span ps (omega (arith, shown, c.requires.range)), shown, c.requires.range, c.requires.small);
       few = subst (All few_breaks) (sym order) (pieces_few b _ (pieces-spliced b c.args.offset end c.args.span ps c.requires.inside all));
       room = omega (arith, c.self.invariant.room, c.replace_units-first.ensures.room);

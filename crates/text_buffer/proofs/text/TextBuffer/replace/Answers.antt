@@ -374,3 +374,6 @@ pub returns-clause-after : goal.returns-clause-after
 returns-clause-after c =
     ap (λ x. drop (c.dirty_between-dirty.result.first - 1 + c.dirty_between-dirty.result.new) (lines_of x)) (returns-clause-units c)
     ∙ after_dirty c.args.self.now.units c.args.span c.args.text.now c.requires.ordered c.requires.within c.dirty_between-dirty.result (returns-clause-dirty c)
+
+pub returns-clause-eight : goal.returns-clause-eight
+returns-clause-eight c = omega (arith, returns-clause-appended c)

@@ -1,0 +1,34 @@
+//! An old text that counts the calls that ask it.
+
+use bracket_nodes::{Kinds, NodeRef};
+use node_reuse::{Old, Token};
+use std::sync::ledger::Ledger;
+use steps::Steps;
+use text_lengths::Length;
+
+/// What a reader sees of an old text, and how often it asked.
+#[derive(Drop)]
+pub(crate) struct Counting<'c, O> {
+    pub old: O,
+    pub calls: &'c mut u64,
+}
+
+impl<O: Old> Old for Counting<'_, O> {
+    ghost text = { λ c. O.text c.old };
+
+    fn longest_at<L: Ledger>(
+        &mut self,
+        place: Length,
+        opened: Kinds,
+        level: u64,
+        steps: &mut Steps<L>,
+    ) -> Option<NodeRef<'_>> {
+        *self.calls = self.calls.saturating_add(1);
+        self.old.longest_at(place, opened, level, steps)
+    }
+
+    fn token_at<L: Ledger>(&mut self, place: Length, steps: &mut Steps<L>) -> Option<Token> {
+        *self.calls = self.calls.saturating_add(1);
+        self.old.token_at(place, steps)
+    }
+}

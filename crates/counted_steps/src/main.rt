@@ -1,0 +1,68 @@
+//! Prints how many calls a reparse makes of the old text, beside the bound that its clause `steps` states. The status is 1
+//! where a count passes its bound.
+#![tactic(auto)]
+
+mod counting;
+mod measures;
+mod shapes;
+mod text_lines;
+
+use measures::{Measured, measure};
+use shapes::{SHAPES, Shape};
+use std::io;
+use std::process::ExitCode;
+
+/// How many brackets a text has.
+const SIZES: [u64; 5] = [100, 1_000, 10_000, 100_000, 1_000_000];
+
+/// Prints a row, and tells whether the count keeps within its bound.
+fn print_row(rt: &HostRuntime, shape: Shape, brackets: u64, row: Measured) -> io::Result<bool> {
+    let Measured {
+        nesting,
+        highest,
+        tokens,
+        calls,
+    } = row;
+    print!(rt;
+        "| {} | {brackets} | {nesting} | {highest} | {tokens} | {calls} | ",
+        shape.name
+    )?;
+    match row.bound() {
+        Some(bound) => println!(rt; "{bound} |")?,
+        None => println!(rt; "none |")?,
+    }
+    Ok(row.bound().is_none_or(|bound| calls <= bound))
+}
+
+/// Prints the rows of a shape, and tells whether each keeps within its bound.
+fn print_shape(rt: &HostRuntime, shape: Shape) -> io::Result<bool> {
+    let mut keeps = true;
+    for brackets in SIZES {
+        if !shape.fits(brackets) {
+            continue;
+        }
+        for line in shape.lines {
+            let row = measure(rt.alloc(), shape, brackets, line)?;
+            keeps &= print_row(rt, shape, brackets, row)?;
+        }
+    }
+    Ok(keeps)
+}
+
+fn print_table(rt: &HostRuntime) -> io::Result<bool> {
+    println!(rt; "| text | brackets | nesting | highest list | new tokens | calls | bound |")?;
+    println!(rt; "| --- | --: | --: | --: | --: | --: | --: |")?;
+    let mut keeps = true;
+    for shape in SHAPES {
+        keeps &= print_shape(rt, shape)?;
+    }
+    Ok(keeps)
+}
+
+fn main(rt: HostRuntime) -> io::Result<ExitCode> {
+    if print_table(&rt)? {
+        return Ok(ExitCode::SUCCESS);
+    }
+    println!(rt; "A count passes its bound.")?;
+    Ok(ExitCode::FAILURE)
+}

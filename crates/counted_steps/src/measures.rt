@@ -1,0 +1,144 @@
+//! How often a reparse asks the old text.
+
+ghost use Rattle.std.specs.Prelude.{◌≡◌, ◌+◌, ◌*◌, ◌<◌, ◌≤◌, IfOk, IfSome, IfNone};
+ghost use Rattle.bracket_rules.specs.Rows.{text_rows};
+ghost use Rattle.bracket_trees.specs.Told.{IsTreeOf};
+ghost use Rattle.bracket_trees.specs.Tree.{nesting, highest};
+ghost use Rattle.node_reuse.specs.Paying.{most_steps};
+ghost use Rattle.node_reuse.specs.Texts.{IsTight};
+ghost use Rattle.counted_steps.specs.Edited.{IsMarkedEdit};
+
+use crate::counting::Counting;
+use crate::shapes::{Shape, line_of};
+use crate::text_lines::TextLines;
+use bracket_nodes::Node;
+use bracket_rules::MOST_OPEN;
+use bracket_scan::BracketTable;
+use line_hunks::Hunks;
+use node_reuse::{OldReader, Parsed, reparse};
+use std::alloc::{AllocError, Global};
+use std::marker::Brand;
+use std::sync::ledger::{Blank, Ledger};
+use steps::Steps;
+use unit_text::Units;
+
+/// What a reparse took, and what its bound is made of.
+#[derive(Clone, Copy)]
+pub(crate) struct Measured {
+    pub nesting: u64,
+    /// The greatest height of a list.
+    pub highest: u64,
+    /// How many tokens the new line has.
+    pub tokens: u64,
+    pub calls: u64,
+    ghost low: { highest ≤ 64 },
+}
+
+impl Measured {
+    /// So many calls of a reparse by this tree, for a new line of so many tokens.
+    fn new(tree: &Node, tokens: u64, calls: u64) -> Measured
+        ensures nesting { result.nesting ≡ nesting tree.now }
+        ensures highest { result.highest ≡ highest tree.now }
+        ensures tokens { result.tokens ≡ tokens }
+        ensures calls { result.calls ≡ calls }
+    {
+        // The leaves together fit 64 bits, so no list is higher than 64.
+        let _length = tree.length();
+        Measured {
+            nesting: tree.nesting(),
+            highest: tree.highest(),
+            tokens,
+            calls,
+        }
+    }
+
+    /// The most calls, where old tree and new line are within what the bound asks; each bracket of the texts of these shapes
+    /// is one of a pair.
+    pub(crate) fn bound(self) -> Option<u64>
+        ensures some { IfSome result (λ bound.
+            bound ≡ most_steps self.nesting self.highest self.tokens) }
+        ensures premise { IfSome result (λ _. 2 * self.nesting + self.tokens ≤ MOST_OPEN) }
+        ensures none { IfNone result (MOST_OPEN < 2 * self.nesting + self.tokens) }
+    {
+        let brackets = self.nesting.saturating_mul(2).saturating_add(self.tokens);
+        if brackets > MOST_OPEN {
+            return None;
+        }
+        Some(self.tokens + 16 * ((self.nesting + 1) * (self.highest + 1)))
+    }
+}
+
+/// What the reparse takes of a text of this shape whose line in the middle becomes this one.
+pub(crate) fn measure(
+    alloc: Global,
+    shape: Shape,
+    brackets: u64,
+    line: &str,
+) -> Result<Measured, AllocError> {
+    let text = shape.text(alloc, brackets)?;
+    let line = line_of(alloc, line)?;
+    measure_in::<Brand>(alloc, text, line, Blank::new(1))
+}
+
+#[tactic(auto, using(crate::proofs::Edits::edit_laws))]
+fn measure_in<L: Ledger>(
+    alloc: Global,
+    mut text: TextLines,
+    line: Units,
+    blank: Blank,
+) -> Result<Measured, AllocError>
+    requires name { blank.name ≡ L.name }
+    requires parts { blank.parts ≡ L.parts }
+    requires some { 0 < L.parts }
+{
+    let table = BracketTable::standard();
+    let mut steps = Steps::<L>::new(blank);
+    let mut tokens = Vec::new(alloc);
+    table.scan(line.as_slice(), &mut tokens)?;
+    let parsed = first_parse(alloc, &table, &mut text, &mut steps)?;
+    // It tells that the tree meets the rules of nodes.
+    let _length = parsed.tree().length();
+    let hunks = edit_middle(alloc, &mut text, line)?;
+    let mut calls = 0;
+    let old = Counting {
+        old: OldReader::new(alloc, Some(parsed.tree()), &hunks),
+        calls: &mut calls,
+    };
+    reparse(alloc, old, &hunks, &table, &mut text, &mut steps)?;
+    Ok(Measured::new(parsed.tree(), tokens.len() as u64, calls))
+}
+
+/// The parse of a text that was not parsed before.
+fn first_parse<L: Ledger>(
+    alloc: Global,
+    table: &BracketTable,
+    text: &mut TextLines,
+    steps: &mut Steps<L>,
+) -> Result<Parsed, AllocError>
+    ensures tree { IfOk result (λ parsed.
+        IsTreeOf (text_rows table.now text.old.lines.items) parsed.tree) }
+    ensures tight { IfOk result (λ parsed. IsTight parsed.tree) }
+    ensures lines { text.new.lines.items ≡ text.old.lines.items }
+{
+    let mut hunks = Hunks::new(alloc);
+    hunks.reserve(1)?;
+    hunks.edit(1, 1, text.count());
+    let old = OldReader::new(alloc, None, &hunks);
+    reparse(alloc, old, &hunks, table, text, steps)
+}
+
+/// Puts the line in the middle of the text, which was parsed, and marks it.
+#[tactic(auto, using(crate::proofs::Edits::length_clean))]
+fn edit_middle(alloc: Global, text: &mut TextLines, line: Units) -> Result<Hunks, AllocError>
+    ensures { IfOk result (λ hunks.
+        IsMarkedEdit text.old.lines.items text.new.lines.items hunks.marks) }
+{
+    let count = text.count();
+    let middle = count / 2 + 1;
+    let mut hunks = Hunks::new(alloc);
+    hunks.reserve(1)?;
+    hunks.clean(count);
+    hunks.edit(middle, 1, 1);
+    text.put(middle, line)?;
+    Ok(hunks)
+}

@@ -1,0 +1,65 @@
+-- What a reader of the text of now pays: a step for each call that asks the old text.
+use Rattle.std.specs.Prelude.{◌≡◌, ℕ, ◌+◌, ◌*◌, Bool, false, if◌then◌else◌, List, [], ◌∷◌, length, Option, Some, None, refl}
+use Rattle.text_lengths.specs.declared.Length.{Length}
+use Rattle.bracket_rules.specs.Table.{Table, tokens_of}
+use Rattle.bracket_trees.specs.Tree.{Tree, nesting}
+use Rattle.bracket_nodes.specs.Paying.{Paying}
+use Rattle.mark_rules.specs.declared.Mark.{Mark}
+use Rattle.reuse_rules.specs.Prices.{Costs, calls, openings, all_paired}
+use Rattle.reuse_rules.specs.Ways.{way_price}
+use Rattle.node_reuse.specs.declared.line.Line.{Line}
+use Rattle.node_reuse.specs.Texts.{content_at}
+use Rattle.node_reuse.specs.Reader.{Sight, unasked, tokens_left}
+
+-- ---- the old tree
+
+abbrev pub all_paired_in : Option Tree → Bool
+all_paired_in None = false
+all_paired_in (Some old) = all_paired old
+
+abbrev pub nesting_in : Option Tree → ℕ
+nesting_in None = 0
+nesting_in (Some old) = nesting old
+
+abbrev pub way_price_in : Costs → Option Tree → List Mark → Length → ℕ
+way_price_in costs None marks p = 0
+way_price_in costs (Some old) marks p = way_price costs old marks p
+
+-- ---- new lines
+
+-- the tokens of the lines of these numbers
+abbrev pub token_count : Table → List (List ℕ) → List ℕ → ℕ
+token_count table contents [] = 0
+token_count table contents (n ∷ lines) = length (tokens_of table (content_at n contents)) + token_count table contents lines
+
+abbrev pub tokens_read : Bool → Line → ℕ
+tokens_read scanned line = if scanned then length (tokens_left line) else 0
+
+-- the tokens that are left of the line that is read, where it was scanned, and those of the lines to ask for
+abbrev pub tokens_ahead : Sight → Length → Line → ℕ
+tokens_ahead s p line = tokens_read line.scanned line + token_count s.table s.contents (unasked s.marks p line.scanned)
+
+-- ---- what is paid
+
+-- at place p, after so many steps: two more for the end
+abbrev pub paying_at : Sight → ℕ → Length → Line → Paying
+paying_at s steps p line = record {
+  known = all_paired_in s.old.tree;
+  paid = steps;
+  due = 2 + way_price_in calls s.old.tree s.marks p;
+  opens = way_price_in openings s.old.tree s.marks p + tokens_ahead s p line;
+  deepest = nesting_in s.old.tree;
+}
+
+-- ---- a bound
+
+-- So many steps at most takes the parse of a text by an old tree of this nesting, whose lists are at most so high, where
+-- the lines that are asked for are one run of so many tokens.
+abbrev pub most_steps : ℕ → ℕ → ℕ → ℕ
+most_steps nesting height tokens = tokens + 16 * ((nesting + 1) * (height + 1))
+
+pairs_in_one_another : most_steps 1 3 2 ≡ 130
+pairs_in_one_another = refl
+
+one_node : most_steps 0 0 0 ≡ 16
+one_node = refl
