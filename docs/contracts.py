@@ -7,7 +7,8 @@ ROOT = Path(__file__).resolve().parent.parent
 IMPORT = re.compile(r"\s*(?:ghost )?use Rattle\.(\w+)\.specs\.([\w.]+?)\.\{(.*)\}")
 FUNCTION = re.compile(r"( *)(pub )?(?:pub\(\w+\) )?fn (\w+)")
 CLAUSE = re.compile(r" *(requires|ensures)\*? (?:(\w+) )?\{")
-OWNER = re.compile(r"(?:pub(?:\(\w+\))? )?(?:impl|trait)\b(?:<[^>]*>)? (?:.* for )?(\w+)")
+OWNER = re.compile(r"(?:pub(?:\(\w+\))? )?(impl|trait)\b(?:<[^>]*>)? (.* for )?(\w+)")
+DOC = re.compile(r" */// ?(.*)")
 
 
 class Clause(NamedTuple):
@@ -19,12 +20,13 @@ class Clause(NamedTuple):
 
 
 class Function(NamedTuple):
-    """A function or method with its contract, and whether it is public."""
+    """A function or method with its contract, whether it is public, as those of a trait are, and what its comment says."""
 
     name: str
     owner: str
     is_public: bool
     clauses: list[Clause]
+    doc: str
 
 
 def imports_of(lines, crate):
@@ -49,17 +51,27 @@ def clause_at(lines, start):
     return Clause(match[1], match[2] or "", text[text.index("{") + 1 : text.rindex("}")].strip())
 
 
+def doc_above(lines, at):
+    """What the comment above this line says."""
+    said = []
+    while at and (lines[at - 1].lstrip().startswith("#[") or DOC.match(lines[at - 1])):
+        at -= 1
+        said += [match[1] for match in [DOC.match(lines[at])] if match]
+    return " ".join(reversed(said))
+
+
 def functions_of(path):
     """The functions of a source file, in order."""
-    lines, owner, found = path.read_text().split("\n"), "", []
+    lines, owner, of_trait, found = path.read_text().split("\n"), "", False, []
     for at, line in enumerate(lines):
         if match := OWNER.match(line):
-            owner = match[1]
+            owner, of_trait = match[3], match[1] == "trait" or bool(match[2])
         elif line == "}":
-            owner = ""
+            owner, of_trait = "", False
         elif match := FUNCTION.match(line):
-            indent, is_public, name = len(match[1]), bool(match[2]), match[3]
-            found.append(Function(name, owner if indent else "", is_public, []))
+            indent, name = len(match[1]), match[3]
+            is_public = bool(match[2]) or bool(indent) and of_trait
+            found.append(Function(name, owner if indent else "", is_public, [], doc_above(lines, at)))
         elif found and CLAUSE.match(line) and len(line) - len(line.lstrip()) == indent + 4:
             found[-1].clauses.append(clause_at(lines, at))
     return found

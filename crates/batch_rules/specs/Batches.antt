@@ -2,8 +2,8 @@
 use Rattle.std.specs.Prelude.{ℕ, ◌+◌, ◌-◌, ◌^◌, ◌≤◌, ◌==◌, ◌&&◌, ◌||◌, Bool, false, nat_lt, nat_le, if◌then◌else◌, List, [], ◌∷◌, ◌++◌, length, take, drop, sum_by, Result, Ok, Err, ⊤}
 use Rattle.std.specs.List.{list_any}
 use Rattle.text_rules.specs.declared.Op.{Op}
+use Rattle.text_rules.specs.declared.TheConstants.{MOST_TEXT_UNITS}
 use Rattle.text_rules.specs.Edits.{is_bad_span, edited}
-use Rattle.batch_rules.specs.declared.TheConstants.{MOST_TEXT_UNITS}
 use Rattle.batch_rules.specs.Refusals.{BatchRefusal}
 use Rattle.batch_rules.specs.Refusals as refused
 

@@ -22,7 +22,8 @@ an_insert_at_the_end_of_a_deletion = refl
 two_deletions_that_touch : inverse_of (codes "abcdef") (op 1 3 [] ∷ op 3 5 [] ∷ []) ≡ op 1 1 (codes "bc") ∷ op 1 1 (codes "de") ∷ []
 two_deletions_that_touch = refl
 
-the_inverse_of_two_ops : inverse_of (codes "abcdef") (op 4 5 (codes "Y") ∷ op 1 2 (codes "XX") ∷ []) ≡ op 1 3 (codes "b") ∷ op 5 6 (codes "e") ∷ []
+the_inverse_of_two_ops : inverse_of (codes "abcdef") (op 4 5 (codes "Y") ∷ op 1 2 (codes "XX") ∷ [])
+    ≡ op 1 3 (codes "b") ∷ op 5 6 (codes "e") ∷ []
 the_inverse_of_two_ops = refl
 
 two_ops_taken_back : applied (codes "aXXcdYf") (op 1 3 (codes "b") ∷ op 5 6 (codes "e") ∷ []) ≡ codes "abcdef"
@@ -34,7 +35,8 @@ two_ops_from_the_last_to_the_first = refl
 texts_of_two_ops : text_units (op 1 2 (codes "XX") ∷ op 4 5 (codes "Y") ∷ []) ≡ 3
 texts_of_two_ops = refl
 
-a_batch_comes_in_order : checked_batch (codes "abcdef") (op 4 5 (codes "Y") ∷ op 1 2 (codes "XX") ∷ []) ≡ Ok (op 1 2 (codes "XX") ∷ op 4 5 (codes "Y") ∷ [])
+a_batch_comes_in_order : checked_batch (codes "abcdef") (op 4 5 (codes "Y") ∷ op 1 2 (codes "XX") ∷ [])
+    ≡ Ok (op 1 2 (codes "XX") ∷ op 4 5 (codes "Y") ∷ [])
 a_batch_comes_in_order = refl
 
 a_bad_span_comes_before_an_overlap : checked_batch (codes "abc") (op 0 2 [] ∷ op 1 3 [] ∷ op 2 9 [] ∷ []) ≡ Err refused.range

@@ -3,9 +3,6 @@
 
 use thiserror::Error;
 
-/// The most units that a text may have.
-pub const MOST_TEXT_UNITS: u64 = 0x3FFF_FFFF;
-
 /// Why a batch was refused.
 #[derive(Clone, Copy, PartialEq, Eq, Debug, Error)]
 pub enum BatchError {

@@ -1,8 +1,8 @@
 -- Each part of a tree has fewer nodes than the tree.
 use Rattle.std.proofs.Common.{◌<◌, ap, arith, inl, inr}
 use Rattle.text_lengths.specs.declared.Length.{Length}
-use Rattle.bracket_trees.specs.Tree.{Tree, text, pair, stray, capped, nothing, two, three}
-use Rattle.bracket_trees.specs.Parts.{IsPart}
+use Rattle.bracket_tree_rules.specs.Tree.{Tree, text, pair, stray, capped, nothing, two, three}
+use Rattle.bracket_tree_rules.specs.Parts.{IsPart}
 use Rattle.bracket_nodes.specs.Shapes.{tree_size}
 
 pub part_smaller : (p : Length) (t : Tree) (r : Length) (part : Tree) → IsPart p t r part → tree_size part < tree_size t

@@ -8,7 +8,7 @@ use Rattle.text_lengths.specs.declared.Length.{Length}
 use Rattle.text_lengths.specs.Length.{length_plus}
 use Rattle.bracket_rules.specs.declared.Entry.{Entry}
 use Rattle.bracket_rules.specs.Parse.{bracket, spot, Judged, judged_opening, entries_of, is_between}
-use Rattle.bracket_trees.specs.Tree.{Tree, pair, two, three, tree_length, inside_start, inside_end, closing_spot, closing_entries, tree_entries, IsTree}
+use Rattle.bracket_tree_rules.specs.Tree.{Tree, pair, two, three, tree_length, inside_start, inside_end, closing_spot, closing_entries, tree_entries, IsTree}
 use Rattle.bracket_nodes.specs.Walks.{chosen, entry_if}
 use Rattle.bracket_nodes.proofs.EntryPlaces.{EachPlace, each_later, each_earlier}
 

@@ -3,11 +3,11 @@ use Rattle.std.proofs.Common.{◌≡◌, ℕ, ◌+◌, ◌≤◌, ◌<◌, ◌^�
 use Rattle.std.proofs.lemmas.Bool.{cases_lt}
 use Rattle.std.proofs.lemmas.Nat.{pow_below}
 use Rattle.std.specs.Prelude.{unwrap_or, bit_or}
-use Rattle.bracket_trees.specs.Tree.{Tree, text, pair, stray, capped, nothing, two, three, tree_length, is_missing, nesting, height, highest, weight, IsEven, IsTree}
+use Rattle.bracket_tree_rules.specs.Tree.{Tree, text, pair, stray, capped, nothing, two, three, tree_length, is_missing, nesting, height, highest, weight, IsEven, IsTree}
 use Rattle.text_lengths.proofs.Lengths.{length_plus_assoc}
-use Rattle.bracket_trees.specs.Told.{has_kind}
-use Rattle.bracket_trees.proofs.KindSets.{has_kind-union}
-use Rattle.bracket_trees.proofs.Weights.{units_of, length_within, nesting_within, height_within, highest_doubles}
+use Rattle.bracket_tree_rules.specs.Told.{has_kind}
+use Rattle.bracket_tree_rules.proofs.KindSets.{has_kind-union}
+use Rattle.bracket_tree_rules.proofs.Weights.{units_of, length_within, nesting_within, height_within, highest_doubles}
 use Rattle.bracket_nodes.specs.declared.kept.Kept.{Kept}
 use Rattle.bracket_nodes.specs.Kept.{later, last_level, Keeps, both_of}
 use Rattle.bracket_nodes.specs.Bounds.{IsBounded}

@@ -4,8 +4,8 @@ use Rattle.text_lengths.specs.declared.Length.{Length}
 use Rattle.text_lengths.specs.Length.{length_plus, is_before}
 use Rattle.text_lengths.proofs.Lengths.{length_plus_assoc}
 use Rattle.bracket_rules.specs.Parse.{bracket, Spot, spot, Judged, judged_opening}
-use Rattle.bracket_trees.specs.Tree.{is_some_width, Tree, text, pair, stray, capped, nothing, two, three, wide, tree_length, inside_start, inside_end, closing_entries, tree_entries, level_after, level_before}
-use Rattle.bracket_trees.proofs.Levels.{not_before_later, not_before_sum, level_before-opening}
+use Rattle.bracket_tree_rules.specs.Tree.{is_some_width, Tree, text, pair, stray, capped, nothing, two, three, wide, tree_length, inside_start, inside_end, closing_entries, tree_entries, level_after, level_before}
+use Rattle.bracket_tree_rules.proofs.Levels.{not_before_later, not_before_sum, level_before-opening}
 use Rattle.bracket_nodes.specs.Kept.{later, inside_level, last_level}
 use Rattle.bracket_nodes.specs.Walks.{level_from}
 use Rattle.bracket_nodes.proofs.EntryPlaces.{EachPlace, each_later}

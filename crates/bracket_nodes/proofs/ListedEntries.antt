@@ -5,7 +5,7 @@ use Rattle.text_lengths.specs.declared.Length.{Length}
 use Rattle.text_lengths.specs.Length.{length_plus}
 use Rattle.bracket_rules.specs.declared.Entry.{Entry}
 use Rattle.bracket_rules.specs.Parse.{bracket, spot, judged_opening}
-use Rattle.bracket_trees.specs.Tree.{Tree, text, pair, stray, capped, nothing, two, three, tree_length, tree_entries, inside_start, inside_end, closing_spot, closing_entries}
+use Rattle.bracket_tree_rules.specs.Tree.{Tree, text, pair, stray, capped, nothing, two, three, tree_length, tree_entries, inside_start, inside_end, closing_spot, closing_entries}
 use Rattle.bracket_nodes.specs.Shapes.{tree_size}
 use Rattle.bracket_nodes.specs.Walks.{chosen}
 use Rattle.bracket_nodes.specs.declared.listing.Left.{Left}

@@ -3,14 +3,14 @@ use Rattle.std.proofs.Common.{◌≡◌, ℕ, suc, sum, ◌+◌, ◌<◌, ◌≤
 use Rattle.std.proofs.lemmas.Bool.Decides.{eqb_tells}
 use Rattle.bracket_rules.specs.declared.TheConstants.{MOST_OPEN}
 use Rattle.bracket_rules.specs.Rows.{Row, HasRow, glue}
-use Rattle.bracket_trees.specs.Tree.{Tree, pair, stray, capped, bracket_row, tree_rows, weight, is_missing, IsLone, items}
-use Rattle.bracket_trees.specs.Weights.{glue_weights, tree_weights, all_weights, AreCovered}
-use Rattle.bracket_trees.specs.Told.{has_kind, with_kind, Tells, IsTreeOf}
-use Rattle.bracket_trees.proofs.Weights.{weight_pos}
-use Rattle.bracket_trees.proofs.LineWeights.{HasWeight, zero_glue, glue_zero, HasWeight-tree, glue_weights-assoc, AreCovered-same, AreCovered-then, AreCovered-glue, covered_after, sum_after, sum-tree_weights, all_weights-append, all_weights-items}
-use Rattle.bracket_trees.proofs.KindSets.{has_kind-none, has_kind-with_other}
-use Rattle.bracket_trees.proofs.Telling.{Tells-none, Tells-append, Tells-fitting, Tells-stray, Tells-capped, Tells-paired, Tells-unclosed_end, Tells-unclosed_below, not_missing_inside}
-use Rattle.bracket_trees.proofs.Whole.{IsTreeOf-from_Tells}
+use Rattle.bracket_tree_rules.specs.Tree.{Tree, pair, stray, capped, bracket_row, tree_rows, weight, is_missing, IsLone, items}
+use Rattle.bracket_tree_rules.specs.Weights.{glue_weights, tree_weights, all_weights, AreCovered}
+use Rattle.bracket_tree_rules.specs.Told.{has_kind, with_kind, Tells, IsTreeOf}
+use Rattle.bracket_tree_rules.proofs.Weights.{weight_pos}
+use Rattle.bracket_tree_rules.proofs.LineWeights.{HasWeight, zero_glue, glue_zero, HasWeight-tree, glue_weights-assoc, AreCovered-same, AreCovered-then, AreCovered-glue, covered_after, sum_after, sum-tree_weights, all_weights-append, all_weights-items}
+use Rattle.bracket_tree_rules.proofs.KindSets.{has_kind-none, has_kind-with_other}
+use Rattle.bracket_tree_rules.proofs.Telling.{Tells-none, Tells-append, Tells-fitting, Tells-stray, Tells-capped, Tells-paired, Tells-unclosed_end, Tells-unclosed_below, not_missing_inside}
+use Rattle.bracket_tree_rules.proofs.Whole.{IsTreeOf-from_Tells}
 use Rattle.bracket_nodes.specs.declared.parser.Stop.{Stop}
 use Rattle.bracket_nodes.specs.declared.parser.Stop.TheVariants.{AtEnd, AtClosing}
 use Rattle.bracket_nodes.specs.declared.parser.Taken.TheVariants.{One, Last, Nothing}

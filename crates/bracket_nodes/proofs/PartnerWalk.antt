@@ -7,11 +7,11 @@ use Rattle.text_lengths.specs.declared.Length.{Length}
 use Rattle.text_lengths.specs.Length.{length_plus, is_before}
 use Rattle.bracket_rules.specs.Parse.{bracket, Spot, spot, Judged, judged_opening, same_place, partner_at}
 use Rattle.text_lengths.proofs.Lengths.{same_length}
-use Rattle.bracket_trees.specs.Tree.{Tree, text, pair, stray, capped, nothing, two, three, wide, is_some_width, tree_length, inside_start, inside_end, closing_spot, closing_entries, tree_entries, IsTree}
-use Rattle.bracket_trees.specs.Parts.{Holds, IsPart, NoPartHolds}
-use Rattle.bracket_trees.proofs.Levels.{not_before_later, not_before_sum}
-use Rattle.bracket_trees.proofs.Longest.{not_before_front}
-use Rattle.bracket_trees.proofs.Parts.{here, by_here, held_here, opening_apart, end_apart}
+use Rattle.bracket_tree_rules.specs.Tree.{Tree, text, pair, stray, capped, nothing, two, three, wide, is_some_width, tree_length, inside_start, inside_end, closing_spot, closing_entries, tree_entries, IsTree}
+use Rattle.bracket_tree_rules.specs.Parts.{Holds, IsPart, NoPartHolds}
+use Rattle.bracket_tree_rules.proofs.Levels.{not_before_later, not_before_sum}
+use Rattle.bracket_tree_rules.proofs.Longest.{not_before_front}
+use Rattle.bracket_tree_rules.proofs.Parts.{here, by_here, held_here, opening_apart, end_apart}
 use Rattle.bracket_nodes.specs.Walks.{place_and_len, NoOwnPartnerAt}
 use Rattle.bracket_nodes.proofs.EntryPlaces.{EachPlace, each_later, each_earlier}
 

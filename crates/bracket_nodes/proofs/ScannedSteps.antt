@@ -5,11 +5,11 @@ use Rattle.bracket_rules.specs.declared.Token.{Token}
 use Rattle.bracket_rules.specs.declared.TheConstants.{MOST_OPEN}
 use Rattle.bracket_rules.specs.Table.{token, AreInLine}
 use Rattle.bracket_rules.specs.Rows.{Row, HasRow, row, empty_row, shifted, glue}
-use Rattle.bracket_trees.specs.Tree.{text, wide}
-use Rattle.bracket_trees.specs.Told.{Fits}
+use Rattle.bracket_tree_rules.specs.Tree.{text, wide}
+use Rattle.bracket_tree_rules.specs.Told.{Fits}
 use Rattle.text_lengths.specs.Length.{length_of}
-use Rattle.bracket_trees.proofs.Glue.{empty_glue}
-use Rattle.bracket_trees.proofs.LineWeights.{AreCovered-same}
+use Rattle.bracket_tree_rules.proofs.Glue.{empty_glue}
+use Rattle.bracket_tree_rules.proofs.LineWeights.{AreCovered-same}
 use Rattle.bracket_nodes.specs.declared.scanned.ScannedLine.{ScannedLine}
 use Rattle.bracket_nodes.specs.Source.{GivesNode, GivesBracket}
 use Rattle.bracket_nodes.specs.ScannedLines.{moved_back, rows_left, with_break, scanned_weights, ahead_of}

@@ -3,7 +3,7 @@ use Rattle.std.proofs.Common.{◌≡◌, ℕ, ◌+◌, List, [], ◌∷◌, ◌+
 use Rattle.std.proofs.lemmas.List.{append-nil}
 use Rattle.std.specs.declared.rc.Rc.{Rc}
 use Rattle.std.specs.declared.alloc.Global.{Global}
-use Rattle.bracket_trees.specs.Tree.{Tree, weight, items}
+use Rattle.bracket_tree_rules.specs.Tree.{Tree, weight, items}
 use Rattle.bracket_nodes.specs.declared.node.Inner.{Inner}
 use Rattle.bracket_nodes.specs.Lists.{Joins}
 use Rattle.bracket_nodes.specs.SharedLists.{shared_items, shared_weight}

@@ -1,5 +1,5 @@
 -- A node that is borrowed from a tree.
-use Rattle.bracket_trees.specs.Tree.{Tree}
+use Rattle.bracket_tree_rules.specs.Tree.{Tree}
 use Rattle.bracket_nodes.specs.declared.find.NodeRef.{NodeRef}
 
 -- the tree that it is

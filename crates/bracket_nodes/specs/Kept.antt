@@ -1,8 +1,9 @@
 -- What a node keeps of its tree.
-use Rattle.std.specs.Prelude.{◌≡◌, ℕ, suc, ◌<◌, ◌^◌, ◌&&◌, ◌||◌, max, bit_or, Option, Some, None, unwrap_or}
+use Rattle.std.specs.Prelude.{◌≡◌, ℕ, suc, ◌<◌, ◌^◌, true, false, ◌&&◌, ◌||◌, max, bit_or, Option, Some, None, unwrap_or}
+use Rattle.text_lengths.specs.declared.Length.{Length}
 use Rattle.text_lengths.specs.Length.{length_plus}
-use Rattle.bracket_trees.specs.Tree.{Tree, text, pair, stray, capped, nothing, two, three, tree_length, is_missing, is_closed, is_capped, nesting, height, highest, weight, IsTree}
-use Rattle.bracket_trees.specs.Told.{has_kind}
+use Rattle.bracket_tree_rules.specs.Tree.{Tree, text, pair, stray, capped, nothing, two, three, tree_length, is_missing, is_closed, is_capped, nesting, height, highest, weight, IsTree}
+use Rattle.bracket_tree_rules.specs.Told.{has_kind}
 use Rattle.bracket_nodes.specs.declared.kept.Kept.{Kept}
 
 abbrev pub later : Option ℕ → Option ℕ → Option ℕ
@@ -35,6 +36,19 @@ pub record Keeps (t : Tree) (kept : Kept) : Type 0 where
   pub highest : kept.highest ≡ highest t
   pub nesting : kept.nesting ≡ nesting t
   pub last : kept.last_level ≡ last_level t
+
+-- what is kept of a leaf
+abbrev pub leaf_kept : Length → ℕ → Option ℕ → Kept
+leaf_kept length missing last_level = record {
+  length = length;
+  missing = missing;
+  closed = true;
+  capped = false;
+  height = 0;
+  highest = 0;
+  nesting = 0;
+  last_level = last_level;
+}
 
 -- what is kept of a list of this height, from what is kept of its parts
 abbrev pub both_of : Kept → Kept → ℕ → Kept

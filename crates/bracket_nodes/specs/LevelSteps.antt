@@ -1,8 +1,8 @@
 -- The walk down to the level at a place, step by step.
 use Rattle.std.specs.Prelude.{◌≡◌, ℕ}
 use Rattle.text_lengths.specs.declared.Length.{Length}
-use Rattle.bracket_trees.specs.Tree.{tree_entries, level_before}
-use Rattle.bracket_trees.specs.Parts.{IsPart}
+use Rattle.bracket_tree_rules.specs.Tree.{tree_entries, level_before}
+use Rattle.bracket_tree_rules.specs.Parts.{IsPart}
 use Rattle.bracket_nodes.specs.Walks.{HasRoom}
 use Rattle.bracket_nodes.specs.declared.lookups.LevelWalk.{LevelWalk}
 use Rattle.bracket_nodes.specs.declared.lookups.LevelStep.{LevelStep}

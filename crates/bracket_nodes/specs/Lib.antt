@@ -12,3 +12,4 @@ pub mod ScannedLines
 pub mod Borrowed
 pub mod LevelSteps
 pub mod Listing
+pub mod Parts

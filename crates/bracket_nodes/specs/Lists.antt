@@ -1,6 +1,6 @@
 -- Lists that take in others.
 use Rattle.std.specs.Prelude.{◌≡◌, ℕ, ◌+◌, false, List, ◌++◌}
-use Rattle.bracket_trees.specs.Tree.{Tree, height, weight, is_nothing, items}
+use Rattle.bracket_tree_rules.specs.Tree.{Tree, height, weight, is_nothing, items}
 use Rattle.bracket_nodes.specs.declared.lists.Grown.{Grown}
 use Rattle.bracket_nodes.specs.declared.lists.Grown.TheVariants.{One, Two}
 

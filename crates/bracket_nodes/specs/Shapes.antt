@@ -1,6 +1,6 @@
 -- What a node is as a tree.
 use Rattle.std.specs.Prelude.{ℕ, ◌+◌}
-use Rattle.bracket_trees.specs.Tree.{Tree, text, pair, stray, capped, nothing, two, three}
+use Rattle.bracket_tree_rules.specs.Tree.{Tree, text, pair, stray, capped, nothing, two, three}
 use Rattle.bracket_nodes.specs.declared.node.Shape.{Shape}
 use Rattle.bracket_nodes.specs.declared.node.Shape.TheVariants.{Text, Pair, Stray, Capped, Nothing, Two, Three}
 

@@ -2,7 +2,7 @@
 use Rattle.std.specs.Prelude.{◌≡◌, ℕ, ◌+◌, List, [], ◌∷◌, ◌++◌}
 use Rattle.std.specs.declared.rc.Rc.{Rc}
 use Rattle.std.specs.declared.alloc.Global.{Global}
-use Rattle.bracket_trees.specs.Tree.{Tree, weight, items}
+use Rattle.bracket_tree_rules.specs.Tree.{Tree, weight, items}
 use Rattle.bracket_nodes.specs.declared.node.Inner.{Inner}
 
 abbrev pub shared_items : List (Rc Inner Global) → List Tree

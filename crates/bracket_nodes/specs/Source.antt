@@ -2,9 +2,9 @@
 use Rattle.std.specs.Prelude.{◌≡◌, ℕ, ◌+◌, ◌<◌, ◌≤◌, Bool, true, false, ◌==◌, if◌then◌else◌, List, [], ◌∷◌, ◌++◌, length, sum, Some, None, ⊤}
 use Rattle.bracket_rules.specs.declared.TheConstants.{MOST_PAIRS}
 use Rattle.bracket_rules.specs.Rows.{Row, HasRow, empty_row, glue}
-use Rattle.bracket_trees.specs.Tree.{Tree, pair, stray, nothing, bracket_row, tree_rows, weight, is_nothing, IsTree, items}
-use Rattle.bracket_trees.specs.Weights.{glue_weights, tree_weights, all_weights, AreCovered}
-use Rattle.bracket_trees.specs.Told.{has_kind, Fits, Tells}
+use Rattle.bracket_tree_rules.specs.Tree.{Tree, pair, stray, nothing, bracket_row, tree_rows, weight, is_nothing, IsTree, items}
+use Rattle.bracket_tree_rules.specs.Weights.{glue_weights, tree_weights, all_weights, AreCovered}
+use Rattle.bracket_tree_rules.specs.Told.{has_kind, Fits, Tells}
 use Rattle.bracket_nodes.specs.declared.parser.Next.{Next}
 use Rattle.bracket_nodes.specs.declared.parser.Next.TheVariants.{End, Ready, Bracket}
 use Rattle.bracket_nodes.specs.declared.parser.Stop.{Stop}

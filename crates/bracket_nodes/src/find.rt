@@ -1,11 +1,12 @@
 // What a reader asks of a node of an old tree: whether it may be taken, and whether a bracket of it starts here.
 ghost use Rattle.std.specs.Prelude.{◌≡◌, ◌≢◌, ◌+◌, ◌<◌, ◌≤◌, ◌^◌, ◌⊎◌, ◌↔◌, Some, None, IsTrue, IfOk, IfSome, IfNone};
-ghost use Rattle.bracket_trees.specs.Tree.{tree_length, weight};
-ghost use Rattle.bracket_trees.specs.Told.{Fits};
-ghost use Rattle.bracket_trees.specs.Places.{touched, MayBeTaken};
-ghost use Rattle.bracket_trees.specs.Found.{token_at, IsTakenHere, IsTokenAt};
-ghost use Rattle.bracket_trees.specs.Parts.{NoOwnBracketAt};
+ghost use Rattle.bracket_tree_rules.specs.Tree.{tree_length};
+ghost use Rattle.bracket_tree_rules.specs.Told.{Fits};
+ghost use Rattle.bracket_tree_rules.specs.Places.{touched, MayBeTaken};
+ghost use Rattle.bracket_tree_rules.specs.Found.{token_at, IsTakenHere, IsTokenAt};
+ghost use Rattle.bracket_tree_rules.specs.Parts.{NoOwnBracketAt};
 ghost use Rattle.bracket_nodes.specs.Borrowed.{node_of};
+ghost use Rattle.bracket_nodes.specs.Parts.{reach};
 
 use crate::kinds::Kinds;
 use crate::lists::{Shared, is_nothing};
@@ -91,10 +92,10 @@ fn has_room(level: u64, nesting: u64) -> bool
     level <= MOST_OPEN && nesting <= MOST_OPEN - level
 }
 
-#[tactic(auto, using(bracket_trees::proofs::BracketAt::own_brackets))]
+#[tactic(auto, using(bracket_tree_rules::proofs::BracketAt::own_brackets))]
 // The bracket at the place that stands in the node and in no part of it.
 pub(crate) fn bracket_here(here: &Placed, place: &Length) -> Option<Token>
-    requires { here.now.start.lines + here.now.start.columns + weight here.now.node.now.value < 2 ^ 64 }
+    requires { reach here.now < 2 ^ 64 }
     ensures some { IfSome result (IsTokenAt here.now.start here.now.node.now.value place.now) }
     ensures none { IfNone result (NoOwnBracketAt here.now.start here.now.node.now.value place.now) }
 {

@@ -1,7 +1,7 @@
 // Many nodes joined to one list.
 ghost use Rattle.std.specs.Prelude.{◌≡◌, ℕ, ◌+◌, ◌<◌, ◌^◌, ◌++◌, [], IfOk, OnOk};
-ghost use Rattle.bracket_trees.specs.Items.{all_length, all_tokens, all_entries};
-ghost use Rattle.bracket_trees.specs.Tree.{weight, items, tree_length, tree_tokens, tree_entries, all_items, all_weight};
+ghost use Rattle.bracket_tree_rules.specs.Items.{all_length, all_tokens, all_entries};
+ghost use Rattle.bracket_tree_rules.specs.Tree.{weight, items, tree_length, tree_tokens, tree_entries, all_items, all_weight};
 ghost use Rattle.text_lengths.specs.declared.Length.{Length};
 ghost use Rattle.bracket_nodes.specs.SharedLists.{Takes, shared_items, shared_weight};
 

@@ -1,6 +1,6 @@
 // Sets of kinds.
 ghost use Rattle.std.specs.Prelude.{◌≡◌, ◌<◌, ◌^◌, ◌↔◌, ℕ, true, false, IsTrue, bit_or};
-ghost use Rattle.bracket_trees.specs.Told.{has_kind, with_kind};
+ghost use Rattle.bracket_tree_rules.specs.Told.{has_kind, with_kind};
 
 use bracket_rules::MOST_PAIRS;
 use std::marker::Model;

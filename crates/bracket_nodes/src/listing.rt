@@ -1,9 +1,10 @@
 // The entries of some lines: a walk down to the parts that reach these lines.
 ghost use Rattle.std.specs.Prelude.{◌≡◌, ℕ, ◌+◌, ◌*◌, ◌<◌, ◌≤◌, ◌++◌, length, take, true, All, OnOk, OnErr};
 ghost use Rattle.bracket_rules.specs.Parse.{bracket, Spot, is_between, entries_between, entries_of, judged_opening};
-ghost use Rattle.bracket_trees.specs.Tree.{tree_entries, tree_story, closing_entries, closing_spot};
+ghost use Rattle.bracket_tree_rules.specs.Tree.{tree_story, closing_entries, closing_spot};
 ghost use Rattle.bracket_nodes.specs.Shapes.{tree_size};
-ghost use Rattle.bracket_nodes.specs.Listing.{all_left, all_steps, HasRoomLeft};
+ghost use Rattle.bracket_nodes.specs.Listing.{all_steps, HasRoomLeft, LeavesFirst, ListsFirst};
+ghost use Rattle.bracket_nodes.specs.Parts.{entries_at};
 ghost use Rattle.bracket_nodes.specs.Walks.{HasRoom, chosen, entry_if};
 
 use crate::makers::wide;
@@ -47,8 +48,8 @@ enum Left<'a> {
 // Appends the entries of a whole tree; on want of memory only some.
 fn push_entries(whole: Placed<'_>, lines: LineRange, out: &mut Vec<Entry>) -> Result<(), AllocError>
     requires { HasRoom whole.start 0 whole.node.now.value }
-    ensures ok { OnOk result (out.new.items ≡ out.old.items
-        ++ chosen lines.from lines.to (tree_entries whole.entry.start 0 whole.entry.node.now.value)) }
+    ensures ok { OnOk result (out.new.items
+        ≡ out.old.items ++ chosen lines.from lines.to (entries_at whole.entry 0)) }
     ensures err { OnErr result (take (length out.old.items) out.new.items ≡ out.old.items) }
 {
     // The last one is listed first.
@@ -73,9 +74,8 @@ fn push_first<'a>(
     out: &mut Vec<Entry>,
 ) -> Result<(), AllocError>
     requires { HasRoom here.start level here.node.now.value }
-    ensures listed { OnOk result (out.new.items ++ all_left lines.from lines.to left.new.items
-        ≡ (out.old.items ++ chosen lines.from lines.to (tree_entries here.entry.start level here.entry.node.now.value))
-        ++ all_left lines.from lines.to left.old.items) }
+    ensures listed { OnOk result (ListsFirst lines (entries_at here.entry level)
+        out.old.items left.old.items out.new.items left.new.items) }
     ensures room { OnOk result (All HasRoomLeft left.old.items → All HasRoomLeft left.new.items) }
     ensures fewer { OnOk result (all_steps left.new.items
         < all_steps left.old.items + 2 * tree_size here.entry.node.now.value) }
@@ -126,9 +126,8 @@ fn push_first<'a>(
 // Leaves a part for later, before all that was left.
 fn leave<'a>(left: &mut Vec<Left<'a>>, here: Placed<'a>, level: u64) -> Result<(), AllocError>
     requires { HasRoom here.start level here.node.now.value }
-    ensures entries { (from to : ℕ) → OnOk result (all_left from to left.new.items
-        ≡ chosen from to (tree_entries here.entry.start level here.entry.node.now.value)
-        ++ all_left from to left.old.items) }
+    ensures entries { OnOk result
+        (LeavesFirst (entries_at here.entry level) left.old.items left.new.items) }
     ensures room { OnOk result (All HasRoomLeft left.old.items → All HasRoomLeft left.new.items) }
     ensures steps { OnOk result (all_steps left.new.items
         ≡ 2 * tree_size here.entry.node.now.value + all_steps left.old.items) }
@@ -146,9 +145,8 @@ fn leave_closing(
     level: u64,
     closing: Option<u64>,
 ) -> Result<(), AllocError>
-    ensures entries { (from to : ℕ) (opener : Spot) → OnOk result (all_left from to left.new.items
-        ≡ chosen from to (closing_entries place kind level closing opener)
-        ++ all_left from to left.old.items) }
+    ensures entries { (opener : Spot) → OnOk result (LeavesFirst
+        (closing_entries place kind level closing opener) left.old.items left.new.items) }
     ensures room { OnOk result (All HasRoomLeft left.old.items → All HasRoomLeft left.new.items) }
     ensures steps { OnOk result (all_steps left.new.items ≤ 1 + all_steps left.old.items) }
 {

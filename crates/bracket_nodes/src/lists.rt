@@ -1,6 +1,6 @@
 // Lists as (2,3)-trees, and how two of them are joined.
 ghost use Rattle.std.specs.Prelude.{◌≡◌, ◌+◌, ◌<◌, ◌≤◌, ◌^◌, ◌++◌, false, IfOk, suc};
-ghost use Rattle.bracket_trees.specs.Tree.{two, three, height, weight, is_nothing, IsEven, items};
+ghost use Rattle.bracket_tree_rules.specs.Tree.{two, three, height, weight, is_nothing, IsEven, items};
 ghost use Rattle.bracket_nodes.specs.Lists.{AreListsOf, grown_items, grown_weight, Grows, Joins};
 ghost use Rattle.bracket_nodes.specs.Lists.{Grows, Joins};
 

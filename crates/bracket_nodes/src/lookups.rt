@@ -3,9 +3,10 @@ ghost use Rattle.std.specs.Prelude.{◌≡◌, ◌+◌, ◌<◌, ◌≤◌, ◌^
 ghost use Rattle.std.specs.Option.{option_map};
 ghost use Rattle.text_lengths.specs.Length.{length_plus, is_before};
 ghost use Rattle.bracket_rules.specs.Parse.{partner_at};
-ghost use Rattle.bracket_trees.specs.Tree.{weight, tree_length, is_some_width, tree_entries, tree_level, tree_partner};
+ghost use Rattle.bracket_tree_rules.specs.Tree.{tree_length, is_some_width, tree_level, tree_partner};
 ghost use Rattle.bracket_nodes.specs.Kept.{last_level};
 ghost use Rattle.bracket_nodes.specs.LevelSteps.{IsLevelStep};
+ghost use Rattle.bracket_nodes.specs.Parts.{entries_at, reach};
 ghost use Rattle.bracket_nodes.specs.Walks.{HasRoom, level_from, place_and_len, NoOwnPartnerAt};
 
 use crate::lists::Shared;
@@ -115,8 +116,7 @@ impl<'a> LevelWalk<'a> {
         requires { HasRoom self.now.here.start self.now.level self.now.here.node.now.value }
         ensures start { result.here.start
             ≡ length_plus self.now.here.start (tree_length self.now.here.node.now.value) }
-        ensures fits { result.here.start.lines + result.here.start.columns
-            ≤ self.now.here.start.lines + self.now.here.start.columns + weight self.now.here.node.now.value }
+        ensures fits { result.here.start.lines + result.here.start.columns ≤ reach self.now.here }
         ensures node { result.here.node.now.value ≡ node.now.value }
         ensures level { result.level ≡ self.now.level }
         ensures before { result.before
@@ -161,9 +161,9 @@ fn level_from(level: u64, before: u64, last: Option<u64>) -> u64
 #[tactic(auto, using(crate::proofs::PartnerWalk::own_partners))]
 // The partner of a bracket at the place that stands in the node and in no part of it.
 fn partner_here(here: &Placed, place: &Length) -> Option<(Length, u64)>
-    requires { here.now.start.lines + here.now.start.columns + weight here.now.node.now.value < 2 ^ 64 }
-    ensures some { IfSome result (λ found. (level : ℕ) → option_map place_and_len
-        (partner_at place.now (tree_entries here.now.start level here.now.node.now.value)) ≡ Some found) }
+    requires { reach here.now < 2 ^ 64 }
+    ensures some { IfSome result (λ found. (level : ℕ) →
+        option_map place_and_len (partner_at place.now (entries_at here.now level)) ≡ Some found) }
     ensures none { IfNone result (NoOwnPartnerAt here.now.start here.now.node.now.value place.now) }
 {
     let node = here.node;

@@ -1,10 +1,10 @@
 // The makers of nodes, each with what the node keeps of its subtree.
-ghost use Rattle.std.specs.Prelude.{◌≡◌, ◌+◌, ◌-◌, ◌<◌, ◌^◌, true, false, IfOk, unwrap_or, Some, None};
+ghost use Rattle.std.specs.Prelude.{◌≡◌, ◌+◌, ◌-◌, ◌<◌, ◌^◌, false, IfOk, unwrap_or, Some, None};
 ghost use Rattle.std.specs.Option.{ForSome};
 ghost use Rattle.text_lengths.specs.Length.{length_plus};
-ghost use Rattle.bracket_trees.specs.Tree.{text, pair, stray, capped, nothing, two, three, wide, width_of, is_missing, weight, IsGap, IsPair, IsLone, IsEven};
+ghost use Rattle.bracket_tree_rules.specs.Tree.{text, pair, stray, capped, nothing, two, three, wide, width_of, is_missing, weight, IsGap, IsPair, IsLone, IsEven};
 ghost use Rattle.bracket_nodes.specs.Bracket.{IsBracketLength, columns_of};
-ghost use Rattle.bracket_nodes.specs.Kept.{later, inside_level};
+ghost use Rattle.bracket_nodes.specs.Kept.{leaf_kept, later, inside_level};
 
 use crate::kept::Kept;
 use crate::kinds::Kinds;
@@ -16,16 +16,7 @@ use text_lengths::Length;
 
 // A leaf whose level after its last entry is this one.
 fn leaf(length: Length, missing: Kinds, last_level: Option<u64>) -> Kept
-    ensures { result ≡ record {
-      length = length;
-      missing = missing;
-      closed = true;
-      capped = false;
-      height = 0;
-      highest = 0;
-      nesting = 0;
-      last_level = last_level;
-    } }
+    ensures { result ≡ leaf_kept length missing last_level }
 {
     Kept {
         length,

@@ -1,8 +1,8 @@
 // The nodes of a bracket tree.
 ghost use Rattle.std.specs.Prelude.{◌≡◌, ◌+◌, ◌<◌, ◌≤◌, ◌^◌, ℕ, IfOk};
 ghost use Rattle.text_lengths.specs.Length.{length_plus};
-ghost use Rattle.bracket_trees.specs.Told.{has_kind};
-ghost use Rattle.bracket_trees.specs.Tree.{tree_length, is_missing, is_closed, is_capped, nesting, height, highest, weight, IsTree};
+ghost use Rattle.bracket_tree_rules.specs.Told.{has_kind};
+ghost use Rattle.bracket_tree_rules.specs.Tree.{tree_length, is_missing, is_closed, is_capped, nesting, height, highest, weight, IsTree};
 ghost use Rattle.bracket_nodes.specs.Kept.{Keeps};
 ghost use Rattle.bracket_nodes.specs.Shapes.{tree_size};
 ghost use Rattle.bracket_nodes.specs.Bounds.{IsBounded};
@@ -21,8 +21,8 @@ pub struct Node {
 }
 
 impl Model for Node {
-    ghost use Rattle.bracket_trees.specs.Tree.{Tree};
-    ghost use Rattle.bracket_trees.specs.TreeCode.{tree_code};
+    ghost use Rattle.bracket_tree_rules.specs.Tree.{Tree};
+    ghost use Rattle.bracket_tree_rules.specs.TreeCode.{tree_code};
 
     ghost Value = { Tree };
 
@@ -115,8 +115,8 @@ pub(crate) enum Shape {
 }
 
 impl Model for Inner {
-    ghost use Rattle.bracket_trees.specs.Tree.{Tree};
-    ghost use Rattle.bracket_trees.specs.TreeCode.{tree_code};
+    ghost use Rattle.bracket_tree_rules.specs.Tree.{Tree};
+    ghost use Rattle.bracket_tree_rules.specs.TreeCode.{tree_code};
 
     ghost Value = { Tree };
 

@@ -1,9 +1,9 @@
 // The parser: it makes a tree of what a source gives.
 ghost use Rattle.std.specs.Prelude.{◌≡◌, ◌+◌, ◌<◌, ◌≤◌, ◌^◌, [], false, IfOk, OnOk};
 ghost use Rattle.bracket_rules.specs.Rows.{HasRow};
-ghost use Rattle.bracket_trees.specs.Told.{IsTreeOf};
-ghost use Rattle.bracket_trees.specs.Tree.{IsLone, is_missing, weight};
-ghost use Rattle.bracket_trees.specs.Weights.{tree_weights, AreCovered};
+ghost use Rattle.bracket_tree_rules.specs.Told.{IsTreeOf};
+ghost use Rattle.bracket_tree_rules.specs.Tree.{IsLone, is_missing, weight};
+ghost use Rattle.bracket_tree_rules.specs.Weights.{tree_weights, AreCovered};
 ghost use Rattle.bracket_nodes.specs.Source.{AsksOn, Listed, Takes, HasWidth, weights_ahead, weight_ahead, stop_width, closing_taken, pair_taken};
 ghost use Rattle.bracket_nodes.specs.Paying.{HasRoom, Spends, PaysUpTo, PaysTaken};
 

@@ -1,8 +1,9 @@
 // A node of a tree at its place, and the part of it that holds a place.
 ghost use Rattle.std.specs.Prelude.{◌+◌, ◌<◌, ◌≤◌, ◌^◌, ◌↔◌, ◌≡◌, IsTrue, IfSome, IfNone};
 ghost use Rattle.text_lengths.specs.Length.{no_length, length_plus};
-ghost use Rattle.bracket_trees.specs.Tree.{tree_length, wide, weight, nesting, IsTree};
-ghost use Rattle.bracket_trees.specs.Parts.{Holds, IsPart, NoPartHolds};
+ghost use Rattle.bracket_tree_rules.specs.Tree.{tree_length, wide, weight, nesting, IsTree};
+ghost use Rattle.bracket_tree_rules.specs.Parts.{Holds, IsPart, NoPartHolds};
+ghost use Rattle.bracket_nodes.specs.Parts.{reach};
 
 use crate::lists::Shared;
 use crate::makers::wide;
@@ -36,7 +37,7 @@ impl<'a> Placed<'a> {
 
     /// The part of the node that holds the place.
     pub fn part_at(&self, place: &Length) -> Option<Placed<'a>>
-        requires { self.now.start.lines + self.now.start.columns + weight self.now.node.now.value < 2 ^ 64 }
+        requires { reach self.now < 2 ^ 64 }
         ensures part { IfSome result (λ part.
             IsPart self.now.start self.now.node.now.value part.start part.node.now.value) }
         ensures holds { IfSome result (λ part.
@@ -94,10 +95,10 @@ impl<'a> Placed<'a> {
 
     /// The node that starts where this one ends.
     pub fn next(&self, node: &'a Shared) -> Placed<'a>
-        requires { self.now.start.lines + self.now.start.columns + weight self.now.node.now.value < 2 ^ 64 }
+        requires { reach self.now < 2 ^ 64 }
         ensures start { result.start ≡ length_plus self.now.start (tree_length self.now.node.now.value) }
         ensures fits { result.start.lines + result.start.columns
-            ≤ self.now.start.lines + self.now.start.columns + weight self.now.node.now.value }
+            ≤ reach self.now }
         ensures node { result.node.now.value ≡ node.now.value }
     {
         Placed {
@@ -108,7 +109,7 @@ impl<'a> Placed<'a> {
 
     // The node, if it holds the place.
     fn holding(&self, place: &Length) -> Option<Placed<'a>>
-        requires { self.now.start.lines + self.now.start.columns + weight self.now.node.now.value < 2 ^ 64 }
+        requires { reach self.now < 2 ^ 64 }
         ensures start { IfSome result (λ same. same.start ≡ self.now.start) }
         ensures node { IfSome result (λ same. same.node.now.value ≡ self.now.node.now.value) }
         ensures some { IfSome result (λ _. Holds self.now.start self.now.node.now.value place.now) }
@@ -119,7 +120,7 @@ impl<'a> Placed<'a> {
 
     /// Whether the node starts at the place or before it, and ends after it.
     pub fn holds(&self, place: &Length) -> bool
-        requires { self.now.start.lines + self.now.start.columns + weight self.now.node.now.value < 2 ^ 64 }
+        requires { reach self.now < 2 ^ 64 }
         ensures { IsTrue result ↔ Holds self.now.start self.now.node.now.value place.now }
     {
         !place.before(&self.start) && place.before(&self.node.end(&self.start))

@@ -1,10 +1,10 @@
 //! A reader of a tree that goes on where it stood.
 ghost use Rattle.std.specs.Prelude.{◌≡◌, ◌<◌, ◌^◌, true, IfSome, IfNone};
 ghost use Rattle.text_lengths.specs.Length.{no_length, is_before};
-ghost use Rattle.bracket_trees.specs.Tree.{tree_length, weight, IsTree};
-ghost use Rattle.bracket_trees.specs.Places.{IsLongest, NoneMayBeTaken};
-ghost use Rattle.bracket_trees.specs.Found.{IsTokenAt, NoBracketAt};
-ghost use Rattle.bracket_trees.specs.Parts.{IsShown, ShowsNodes, ShowsBrackets};
+ghost use Rattle.bracket_tree_rules.specs.Tree.{tree_length, weight, IsTree};
+ghost use Rattle.bracket_tree_rules.specs.Places.{IsLongest, NoneMayBeTaken};
+ghost use Rattle.bracket_tree_rules.specs.Found.{IsTokenAt, NoBracketAt};
+ghost use Rattle.bracket_tree_rules.specs.Parts.{IsShown, ShowsNodes, ShowsBrackets};
 ghost use Rattle.bracket_nodes.specs.Borrowed.{node_of};
 
 use crate::find::{NodeRef, Room, bracket_here, is_taken_here};
@@ -28,9 +28,9 @@ pub struct NodeReader<'a> {
 
 impl<'a> Model for NodeReader<'a> {
     ghost use Rattle.std.specs.Prelude.{All};
-    ghost use Rattle.bracket_trees.specs.Tree.{Tree};
-    ghost use Rattle.bracket_trees.specs.TreeCode.{tree_code};
-    ghost use Rattle.bracket_trees.specs.Parts.{IsShown};
+    ghost use Rattle.bracket_tree_rules.specs.Tree.{Tree};
+    ghost use Rattle.bracket_tree_rules.specs.TreeCode.{tree_code};
+    ghost use Rattle.bracket_tree_rules.specs.Parts.{IsShown};
 
     ghost Value = { Tree };
 

@@ -1,7 +1,7 @@
 // A whole text as a source, from the scans of its lines.
 ghost use Rattle.std.specs.Prelude.{◌≡◌, ◌<◌, ◌^◌, [], length, sum, IfOk};
-ghost use Rattle.bracket_trees.specs.Told.{IsTreeOf};
-ghost use Rattle.bracket_trees.specs.Weights.{tree_weights, AreCovered};
+ghost use Rattle.bracket_tree_rules.specs.Told.{IsTreeOf};
+ghost use Rattle.bracket_tree_rules.specs.Weights.{tree_weights, AreCovered};
 ghost use Rattle.bracket_nodes.specs.ScannedLines.{AreLines, scanned_rows, scanned_weights};
 
 use crate::kinds::Kinds;

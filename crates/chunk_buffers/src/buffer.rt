@@ -102,7 +102,8 @@ impl Buffer {
     }
 
     pub(crate) fn break_count(&self) -> u64
-        ensures { result ≡ break_count self.now.units }
+        ensures count { result ≡ break_count self.now.units }
+        ensures few { result < 2 ^ 32 }
     {
         self.ends.len() as u64
     }

@@ -1,6 +1,6 @@
 //! The buffers together.
 
-ghost use Rattle.std.specs.Prelude.{◌≡◌, ◌+◌, ◌-◌, ◌<◌, ◌≤◌, ◌++◌, [], length, take, drop, IfOk, OnOk, OnErr};
+ghost use Rattle.std.specs.Prelude.{◌≡◌, ◌+◌, ◌-◌, ◌<◌, ◌≤◌, ◌^◌, ◌++◌, [], length, take, drop, IfOk, OnOk, OnErr};
 ghost use Rattle.chunk_buffers.specs.Buffer.{breaks_to};
 ghost use Rattle.chunk_buffers.specs.Chunks.{units_at, LiesIn, Extends, EndsLast, unit_count, part_of};
 ghost use Rattle.line_starts.specs.Starts.{break_count};
@@ -13,6 +13,9 @@ use std::marker::Model;
 
 /// The least room of a buffer, in units.
 const LEAST_ROOM: usize = 4096;
+
+/// The most room that a buffer has beyond what is asked for, in units. Its breaks lie in a list that grows, so it stays small.
+const MOST_ROOM: usize = 1 << 16;
 
 /// There are no more buffers, so that the number of one is a number of 32 bits.
 const MOST_BUFFERS: usize = u32::MAX as usize;
@@ -56,10 +59,10 @@ impl Chunks {
         }
     }
 
-    /// Makes room for that many texts with that many units and that many breaks together. It fails where memory is short, and where
-    /// they are longer than a buffer may be. An error leaves all as it was.
-    pub fn reserve(&mut self, texts: u64, units: u64, breaks: u64) -> Result<(), AllocError>
-        ensures ok { OnOk result (texts + units ≤ self.new.spare) }
+    /// Makes room for that many units, where each text takes one more than it has, and for that many breaks. It fails where memory is
+    /// short, and where they are more than a buffer holds. An error leaves all as it was.
+    pub fn reserve(&mut self, units: u64, breaks: u64) -> Result<(), AllocError>
+        ensures ok { OnOk result (units ≤ self.new.spare) }
         ensures breaks { OnOk result (breaks ≤ self.new.spare_breaks) }
         ensures same { Extends self.old.buffers self.new.buffers }
         ensures units { unit_count self.new.buffers ≡ unit_count self.old.buffers }
@@ -67,9 +70,9 @@ impl Chunks {
         ensures kept_breaks { self.old.spare_breaks ≤ self.new.spare_breaks }
         ensures err { OnErr result (self.new ≡ self.old) }
     {
-        let room = texts.checked_add(units).ok_or(AllocError)? as usize;
-        if room > self.room() {
-            return self.begin_buffer(room, breaks.max(self.spare_breaks));
+        let units = units as usize;
+        if units > self.room() {
+            return self.begin_buffer(units, breaks.max(self.spare_breaks));
         }
         self.reserve_breaks(breaks)
     }
@@ -103,13 +106,25 @@ impl Chunks {
         ensures units { unit_count self.new.buffers ≡ unit_count self.old.buffers }
         ensures err { OnErr result (self.new ≡ self.old) }
     {
-        let buffer = Buffer::with_room(self.alloc, units.max(LEAST_ROOM), breaks as usize)?;
+        let room = units.max(self.usual_room());
+        let buffer = Buffer::with_room(self.alloc, room, breaks as usize)?;
         if self.buffers.len() == MOST_BUFFERS {
             return Err(AllocError);
         }
         self.buffers.push(buffer)?;
         self.spare_breaks = breaks;
         Ok(())
+    }
+
+    // The room of a new buffer: twice what the last one holds, so that there are few.
+    fn usual_room(&self) -> usize
+        ensures { result ≤ 2 ^ 16 }
+    {
+        let last = match self.buffers.last() {
+            Some(buffer) => buffer.units().len(),
+            None => 0,
+        };
+        (2 * last.min(MOST_ROOM / 2)).max(LEAST_ROOM)
     }
 
     // The room of the last buffer.
@@ -122,30 +137,14 @@ impl Chunks {
         }
     }
 
-    /// Appends the text, and takes no memory.
-    pub fn append(&mut self, text: &[u16]) -> ChunkSpan
-        requires room { length text.now < self.old.spare }
-        requires breaks { break_count text.now ≤ self.old.spare_breaks }
-        ensures shown { units_at self.new.buffers result ≡ text.now }
-        ensures inside { LiesIn self.new.buffers result }
-        ensures grown { Extends self.old.buffers self.new.buffers }
-        ensures units { unit_count self.new.buffers
-            ≤ unit_count self.old.buffers + length text.now + 1 }
-        ensures spare { self.old.spare ≤ self.new.spare + length text.now + 1 }
-        ensures spare_breaks { self.old.spare_breaks
-            ≤ self.new.spare_breaks + break_count text.now }
-        ensures last { EndsLast self.old.buffers self.new.buffers result text.now }
-    {
-        self.append_joined(&[], text, &[])
-    }
-
-    /// Appends the three texts as one, and takes no memory.
-    pub fn append_joined(&mut self, before: &[u16], text: &[u16], after: &[u16]) -> ChunkSpan
+    /// Appends the three texts as one, and answers where they lie and how many breaks they have. It takes no memory.
+    pub fn append_joined(&mut self, before: &[u16], text: &[u16], after: &[u16]) -> (ChunkSpan, u32)
         requires room { length (before.now ++ text.now ++ after.now) < self.old.spare }
         requires breaks { break_count (before.now ++ text.now ++ after.now)
             ≤ self.old.spare_breaks }
-        ensures shown { units_at self.new.buffers result ≡ before.now ++ text.now ++ after.now }
-        ensures inside { LiesIn self.new.buffers result }
+        ensures shown { units_at self.new.buffers result.0 ≡ before.now ++ text.now ++ after.now }
+        ensures inside { LiesIn self.new.buffers result.0 }
+        ensures breaks { result.1 ≡ break_count (before.now ++ text.now ++ after.now) }
         ensures grown { Extends self.old.buffers self.new.buffers }
         ensures units { unit_count self.new.buffers
             ≤ unit_count self.old.buffers + length (before.now ++ text.now ++ after.now) + 1 }
@@ -153,43 +152,48 @@ impl Chunks {
             ≤ self.new.spare + length (before.now ++ text.now ++ after.now) + 1 }
         ensures spare_breaks { self.old.spare_breaks
             ≤ self.new.spare_breaks + break_count (before.now ++ text.now ++ after.now) }
-        ensures last { EndsLast self.old.buffers self.new.buffers result
+        ensures last { EndsLast self.old.buffers self.new.buffers result.0
             (before.now ++ text.now ++ after.now) }
     {
         let number = self.buffers.len() - 1;
         let buffer = &mut self.buffers[number];
-        let breaks = buffer.break_count();
+        let earlier = buffer.break_count();
         let start = buffer.append(before, text, after);
-        self.spare_breaks -= buffer.break_count() - breaks;
-        ChunkSpan {
+        let breaks = buffer.break_count() - earlier;
+        self.spare_breaks -= breaks;
+        let span = ChunkSpan {
             buffer: number as u32,
             start: start as u32,
             units: (before.len() + text.len() + after.len()) as u32,
-        }
+        };
+        (span, breaks as u32)
     }
 
-    /// Appends the text to a buffer of its own, which takes the memory for it and no more. It fails where memory is short, and for a
-    /// text that is longer than a buffer may be.
-    pub fn append_whole(&mut self, text: &[u16]) -> Result<ChunkSpan, AllocError>
-        ensures shown { IfOk result (λ span. units_at self.new.buffers span ≡ text.now) }
-        ensures inside { IfOk result (λ span. LiesIn self.new.buffers span) }
+    /// Appends the text to a buffer of its own, which takes the memory for it and no more, and answers where it lies and how many breaks
+    /// it has. It fails where memory is short, and for a text that is longer than a buffer may be.
+    pub fn append_whole(&mut self, text: &[u16]) -> Result<(ChunkSpan, u32), AllocError>
+        ensures shown { IfOk result (λ at. units_at self.new.buffers at.0 ≡ text.now) }
+        ensures inside { IfOk result (λ at. LiesIn self.new.buffers at.0) }
+        ensures breaks { IfOk result (λ at. at.1 ≡ break_count text.now) }
         ensures grown { Extends self.old.buffers self.new.buffers }
         ensures units { OnOk result
             (unit_count self.new.buffers ≡ unit_count self.old.buffers + length text.now) }
         ensures err { OnErr result (self.new ≡ self.old) }
     {
         let buffer = Buffer::of_text(self.alloc, text)?;
+        let breaks = buffer.break_count();
         let number = self.buffers.len();
         if number == MOST_BUFFERS {
             return Err(AllocError);
         }
         self.buffers.push(buffer)?;
         self.spare_breaks = 0;
-        Ok(ChunkSpan {
+        let span = ChunkSpan {
             buffer: number as u32,
             start: 0,
             units: text.len() as u32,
-        })
+        };
+        Ok((span, breaks as u32))
     }
 
     /// The units that the span shows.

@@ -2,8 +2,8 @@
 use Rattle.std.proofs.Common.{◌≡◌, ℕ, List, length, Some, sym, subst, ◌∙◌}
 use Rattle.bracket_rules.specs.Rows.{Row, text_rows}
 use Rattle.bracket_rules.specs.Table.{Table}
-use Rattle.bracket_trees.specs.Told.{IsTreeOf}
-use Rattle.bracket_trees.specs.Tree.{Tree, IsTree}
+use Rattle.bracket_tree_rules.specs.Told.{IsTreeOf}
+use Rattle.bracket_tree_rules.specs.Tree.{Tree, IsTree}
 use Rattle.mark_rules.specs.declared.Mark.{Mark}
 use Rattle.mark_rules.specs.Marks.{clean_marks}
 use Rattle.mark_rules.proofs.MarkLaws.{length-kept_marks}

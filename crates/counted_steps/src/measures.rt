@@ -2,11 +2,12 @@
 
 ghost use Rattle.std.specs.Prelude.{◌≡◌, ◌+◌, ◌*◌, ◌<◌, ◌≤◌, IfOk, IfSome, IfNone};
 ghost use Rattle.bracket_rules.specs.Rows.{text_rows};
-ghost use Rattle.bracket_trees.specs.Told.{IsTreeOf};
-ghost use Rattle.bracket_trees.specs.Tree.{nesting, highest};
+ghost use Rattle.bracket_tree_rules.specs.Told.{IsTreeOf};
+ghost use Rattle.bracket_tree_rules.specs.Tree.{nesting, highest};
 ghost use Rattle.node_reuse.specs.Paying.{most_steps};
 ghost use Rattle.node_reuse.specs.Texts.{IsTight};
 ghost use Rattle.counted_steps.specs.Edited.{IsMarkedEdit};
+ghost use Rattle.steps.specs.Counting.{IsFor};
 
 use crate::counting::Counting;
 use crate::shapes::{Shape, line_of};
@@ -87,9 +88,7 @@ fn measure_in<L: Ledger>(
     line: Units,
     blank: Blank,
 ) -> Result<Measured, AllocError>
-    requires name { blank.name ≡ L.name }
-    requires parts { blank.parts ≡ L.parts }
-    requires some { 0 < L.parts }
+    requires { IsFor L.Ledger blank }
 {
     let table = BracketTable::standard();
     let mut steps = Steps::<L>::new(blank);

@@ -5,7 +5,7 @@ ghost use Rattle.reuse_rules.specs.Edits.{IsEdited};
 
 use node_reuse::Lines;
 use std::alloc::{AllocError, Global};
-use trails::Trail;
+use steps::Trail;
 use unit_text::Units;
 
 /// No text has as many lines.

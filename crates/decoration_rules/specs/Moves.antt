@@ -62,7 +62,8 @@ at_end edit = if edit.force then move else own
 abbrev pub moved_offset : Bool → ℕ → Edit → ℕ
 moved_offset sticks offset edit =
     if stays_before (at_start edit) sticks offset edit.start then offset else
-    (if nat_lt 0 (replaced edit) && not edit.force && stays_before (at_replaced edit) sticks offset (edit.start + replaced edit) then offset else
+    (if nat_lt 0 (replaced edit) && not edit.force && stays_before (at_replaced edit) sticks offset (edit.start + replaced edit)
+    then offset else
     (if stays_before (at_end edit) sticks offset edit.end then edit.start + edit.units
     else offset + edit.units - removed edit))
 

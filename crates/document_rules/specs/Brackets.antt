@@ -39,7 +39,8 @@ position_at place = record { line = place.lines + 1; column = place.columns + 1 
 -- where the other bracket of the pair of which one starts at this position starts, and how many units it has
 abbrev pub flat_match : FlatState → Position → Result (Option (Position × ℕ)) FlatRefusal
 flat_match f p =
-    if is_position f.units p then Ok (option_map (λ spot. (position_at spot.place, spot.len)) (bracket_partner (brackets_of f) (place_of p)))
+    if is_position f.units p
+    then Ok (option_map (λ spot. (position_at spot.place, spot.len)) (bracket_partner (brackets_of f) (place_of p)))
     else Err range
 
 -- how many brackets are open after those that start before this position

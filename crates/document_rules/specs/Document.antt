@@ -135,7 +135,9 @@ unless_last_version f new = if nat_le greatest_version f.version then Err limit 
 
 abbrev pub undone_step : FlatState → List (Step FlatChange) → Result (Option FlatState) FlatRefusal
 undone_step f [] = Ok None
-undone_step f (step ∷ steps) = unless_last_version f (returned f (text_before f.units step.changes) step.alt_before (carried_back f.decorations step.changes) (undone f.history))
+undone_step f (step ∷ steps) =
+    unless_last_version f
+    (returned f (text_before f.units step.changes) step.alt_before (carried_back f.decorations step.changes) (undone f.history))
 
 -- back to the text before the last step; nothing where there is none
 abbrev pub flat_undo : FlatState → Result (Option FlatState) FlatRefusal
@@ -143,7 +145,9 @@ flat_undo f = undone_step f f.history.undo
 
 abbrev pub redone_step : FlatState → List (Step FlatChange) → Result (Option FlatState) FlatRefusal
 redone_step f [] = Ok None
-redone_step f (step ∷ steps) = unless_last_version f (returned f (text_after f.units step.changes) step.alt_after (carried_on f.decorations step.changes) (redone f.history))
+redone_step f (step ∷ steps) =
+    unless_last_version f
+    (returned f (text_after f.units step.changes) step.alt_after (carried_on f.decorations step.changes) (redone f.history))
 
 -- on to the text after the step that was undone last; nothing where there is none
 abbrev pub flat_redo : FlatState → Result (Option FlatState) FlatRefusal

@@ -2,12 +2,14 @@
 use Rattle.std.specs.Prelude.{◌≡◌, ℕ, List, [], ◌∷◌, Result, Ok, Err, Option, Some, None, codes, false, true, refl}
 use Rattle.text_rules.specs.declared.Op.{Op}
 use Rattle.decoration_rules.specs.declared.Deco.{Deco}
+use Rattle.decoration_rules.specs.declared.Mark.{Mark}
 use Rattle.decoration_rules.specs.declared.Sticky.TheVariants.{AlwaysGrows}
 use Rattle.bracket_rules.specs.Table.{standard_table}
 use Rattle.bracket_rules.specs.declared.Entry.{Entry}
 use Rattle.bracket_rules.specs.declared.Status.{Status}
 use Rattle.bracket_rules.specs.declared.Status.TheVariants.{PairedOpening, PairedClosing, Unclosed, Unexpected}
 use Rattle.undo_rules.specs.Stack.{Stack}
+use Rattle.snapshot_rules.specs.Snapshots.{FlatShelf}
 use Rattle.document_rules.specs.Snapshots.{flat_snapshot, flat_peek_of, flat_skipped, flat_close_of, EndsBesidePairs}
 use Rattle.document_rules.specs.Stops.{flat_stops}
 use Rattle.document_rules.specs.Brackets.{flat_brackets, flat_match, flat_level}
@@ -24,7 +26,11 @@ at_version version alternative text history =
 
 an_edit_over_a_break : flat_edit (new_document (codes "ab\ncd") standard_table) (op 1 4 (codes "X") ∷ [])
     ≡ Ok (at_version 2 2 (codes "aXd") (record {
-      undo = record { changes = record { before = codes "ab\ncd"; ops = op 1 4 (codes "X") ∷ []; after = codes "aXd" } ∷ []; alt_before = 1; alt_after = 2 } ∷ [];
+      undo = record {
+        changes = record { before = codes "ab\ncd"; ops = op 1 4 (codes "X") ∷ []; after = codes "aXd" } ∷ [];
+        alt_before = 1;
+        alt_after = 2;
+      } ∷ [];
       redo = [];
       is_open = true;
     }))
@@ -36,7 +42,9 @@ an_edit_past_the_end = refl
 two_edits_that_overlap : flat_edit (new_document (codes "abcde") standard_table) (op 1 4 [] ∷ op 3 3 [] ∷ []) ≡ Err overlap
 two_edits_that_overlap = refl
 
-an_edit_at_the_last_version : flat_edit (record (new_document (codes "ab") standard_table) { version = greatest_version }) (op 1 2 (codes "X") ∷ []) ≡ Err limit
+an_edit_at_the_last_version : flat_edit (record (new_document (codes "ab") standard_table) { version = greatest_version })
+    (op 1 2 (codes "X") ∷ [])
+    ≡ Err limit
 an_edit_at_the_last_version = refl
 
 -- "a", after an edit has put "b" behind it
@@ -66,13 +74,18 @@ an_undo_takes_back_the_whole_step = refl
 no_undo_at_the_last_version : flat_undo (record one_edit { version = greatest_version }) ≡ Err limit
 no_undo_at_the_last_version = refl
 
--- "ab" with a decoration of owner 1 at its one inner place
-abbrev decorated_text : FlatState
-decorated_text = record (new_document (codes "ab") standard_table) {
-  decorations = record { marks = record { id = 1; owner = 1; span = record { start = 1; end = 1 }; sticky = AlwaysGrows; collapse = false } ∷ []; next_id = 2 };
-}
+-- a decoration of owner 1, the first
+abbrev mark_at : ℕ → ℕ → Mark
+mark_at start end =
+    record { id = 1; owner = 1; span = record { start = start; end = end }; sticky = AlwaysGrows; collapse = false }
 
-a_decoration_of_one_place : flat_decorate (new_document (codes "ab") standard_table) 1 [] (record { span = record { start = 1; end = 1 }; stick = 0; collapse = false } ∷ []) ≡ Ok decorated_text
+-- "ab" with a decoration at its one inner place
+abbrev decorated_text : FlatState
+decorated_text = record (new_document (codes "ab") standard_table) { decorations = record { marks = mark_at 1 1 ∷ []; next_id = 2 } }
+
+a_decoration_of_one_place : flat_decorate (new_document (codes "ab") standard_table) 1 []
+    (record { span = record { start = 1; end = 1 }; stick = 0; collapse = false } ∷ [])
+    ≡ Ok decorated_text
 a_decoration_of_one_place = refl
 
 -- where the decoration stands
@@ -82,8 +95,11 @@ stands_at f = flat_deco f 1
 abbrev deco : ℕ → ℕ → Deco
 deco start end = record { id = 1; owner = 1; span = record { start = start; end = end }; stick = 0; collapse = false }
 
+abbrev forced_op : Op
+forced_op = record (op 1 1 (codes "x")) { force = true }
+
 abbrev forced_insert : FlatState
-forced_insert = after_batch decorated_text (record (op 1 1 (codes "x")) { force = true } ∷ []) (record (op 1 1 (codes "x")) { force = true } ∷ [])
+forced_insert = after_batch decorated_text (forced_op ∷ []) (forced_op ∷ [])
 
 a_forced_insert_moves_it : stands_at forced_insert ≡ Some (deco 2 2)
 a_forced_insert_moves_it = refl
@@ -111,8 +127,9 @@ it_touches_the_unit_before_it : flat_decos decorated_text (record { start = 0; e
 it_touches_the_unit_before_it = refl
 
 -- a redo forces nothing: the decoration grows, which it did not at first
-a_redo_forces_nothing : carried_on decorated_text.decorations (record { before = codes "ab"; ops = record (op 1 1 (codes "x")) { force = true } ∷ []; after = codes "axb" } ∷ [])
-    ≡ record { marks = record { id = 1; owner = 1; span = record { start = 1; end = 2 }; sticky = AlwaysGrows; collapse = false } ∷ []; next_id = 2 }
+a_redo_forces_nothing : carried_on decorated_text.decorations
+    (record { before = codes "ab"; ops = forced_op ∷ []; after = codes "axb" } ∷ [])
+    ≡ record { marks = mark_at 1 2 ∷ []; next_id = 2 }
 a_redo_forces_nothing = refl
 
 nothing_to_undo : flat_undo (new_document (codes "ab") standard_table) ≡ Ok None
@@ -140,7 +157,8 @@ no_offset_inside_a_break : flat_offset (new_document (codes "a\r\nb") standard_t
 no_offset_inside_a_break = refl
 
 abbrev entry : ℕ → ℕ → Status → ℕ → Entry
-entry column kind status level = record { place = record { lines = 0; columns = column }; len = 1; kind = kind; status = status; level = level }
+entry column kind status level =
+    record { place = record { lines = 0; columns = column }; len = 1; kind = kind; status = status; level = level }
 
 brackets_of_one_line : flat_brackets (new_document (codes "([)]{") standard_table) 1 1
     ≡ Ok (entry 0 0 PairedOpening 0 ∷ entry 1 1 Unclosed 1 ∷ entry 2 0 PairedClosing 0 ∷ entry 3 1 Unexpected 0 ∷ entry 4 2 Unclosed 0 ∷ [])
@@ -165,9 +183,13 @@ level_after_a_pair = refl
 level_at_the_end : flat_level (new_document (codes "([)]{") standard_table) (record { line = 1; column = 6 }) ≡ Ok 1
 level_at_the_end = refl
 
+-- the one snapshot, of which this is left to read
+abbrev one_snapshot : List ℕ → FlatShelf
+one_snapshot rest = record { snapshots = record { id = 1; rest = rest } ∷ []; next_id = 2 }
+
 -- `hi`, which was put on the shelf
 abbrev hi : FlatState
-hi = record (new_document (codes "hi") standard_table) { shelf = record { snapshots = record { id = 1; rest = codes "hi" } ∷ []; next_id = 2 } }
+hi = record (new_document (codes "hi") standard_table) { shelf = one_snapshot (codes "hi") }
 
 a_snapshot_of_the_text_of_now : flat_snapshot (new_document (codes "hi") standard_table) ≡ Ok hi
 a_snapshot_of_the_text_of_now = refl
@@ -184,7 +206,7 @@ what_was_read_is_read_once = refl
 
 -- of `a` and two surrogates that are a pair, two units end inside it
 abbrev smile : FlatState
-smile = record (new_document [] standard_table) { shelf = record { snapshots = record { id = 1; rest = 97 ∷ 0xD83D ∷ 0xDE00 ∷ [] } ∷ []; next_id = 2 } }
+smile = record (new_document [] standard_table) { shelf = one_snapshot (97 ∷ 0xD83D ∷ 0xDE00 ∷ []) }
 
 a_unit_before_a_pair : EndsBesidePairs smile 1 1
 a_unit_before_a_pair = refl
@@ -198,7 +220,8 @@ no_such_snapshot = refl
 a_read_of_one_unit : flat_peek_of hi 1 1 ≡ Err range
 a_read_of_one_unit = refl
 
-a_snapshot_is_closed : flat_close_of hi 1 ≡ Ok (record (new_document (codes "hi") standard_table) { shelf = record { snapshots = []; next_id = 2 } })
+a_snapshot_is_closed : flat_close_of hi 1
+    ≡ Ok (record (new_document (codes "hi") standard_table) { shelf = record { snapshots = []; next_id = 2 } })
 a_snapshot_is_closed = refl
 
 no_snapshot_to_close : flat_close_of (new_document (codes "hi") standard_table) 1 ≡ Err unknown

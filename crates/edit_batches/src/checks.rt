@@ -3,8 +3,7 @@
 ghost use Rattle.std.specs.Prelude.{◌≡◌, nat_lt, length};
 ghost use Rattle.batch_rules.specs.Batches.{most_units, has_bad_span, overlap, applied_from, StandFrom};
 
-use batch_rules::MOST_TEXT_UNITS;
-use text_rules::{Op, is_bad_span};
+use text_rules::{MOST_TEXT_UNITS, Op, is_bad_span};
 use unit_text::Flat;
 
 pub(crate) fn has_bad_span<F: Flat>(ops: &[Op], text: &F) -> bool

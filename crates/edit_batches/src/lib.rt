@@ -7,6 +7,6 @@ mod inverse;
 mod order;
 
 pub use batch::Batch;
-pub use batch_rules::{BatchError, MOST_TEXT_UNITS};
+pub use batch_rules::BatchError;
 pub use order::sorted_ops;
-pub use text_rules::Op;
+pub use text_rules::{MOST_TEXT_UNITS, Op};

@@ -1,5 +1,5 @@
 -- What contracts see of a stack, and what its fields keep.
-use Rattle.std.specs.Prelude.{◌≡◌, ℕ, ◌+◌, ◌≤◌, ◌&&◌, Bool, true, nat_lt, if◌then◌else◌, List, [], ◌∷◌, ◌++◌, map, reverse, length, Option, Some, None, is_some}
+use Rattle.std.specs.Prelude.{◌≡◌, ℕ, ◌+◌, ◌≤◌, ◌&&◌, Bool, true, nat_lt, if◌then◌else◌, List, [], ◌∷◌, ◌++◌, map, take, drop, reverse, length, Option, Some, None, is_some}
 use Rattle.std.specs.Vec.{vec_len, vec_capacity}
 use Rattle.edit_stack.specs.declared.element.Element.{Element}
 use Rattle.edit_stack.specs.declared.stack.EditStack.TheInside.{Inside}
@@ -12,9 +12,13 @@ module _ {C : Type 0} where
   opened None = []
   opened (Some e) = step_of e ∷ []
 
+  -- the closed elements that can be undone or redone, the first one made first
+  abbrev pub kept_elements : Inside C → List (Element C)
+  kept_elements s = take s.kept s.elements.items
+
   -- how many elements there are
   abbrev pub element_count : Inside C → ℕ
-  element_count s = vec_len s.done + length (opened s.open_element) + vec_len s.taken_back
+  element_count s = s.kept + length (opened s.open_element)
 
   -- whether the open element has room for one change more
   abbrev pub may_join : Option (Element C) → Bool
@@ -22,23 +26,23 @@ module _ {C : Type 0} where
   may_join (Some e) = nat_lt (vec_len e.changes) (vec_capacity e.changes)
 
   abbrev pub is_ready : Inside C → Bool
-  is_ready s = nat_lt (element_count s) (vec_capacity s.done) && nat_lt (element_count s) (vec_capacity s.taken_back)
-      && nat_lt 0 (vec_capacity s.room) && may_join s.open_element
+  is_ready s = nat_lt (element_count s) (vec_capacity s.elements) && nat_lt 0 (vec_capacity s.room) && may_join s.open_element
 
   abbrev pub shown : Inside C → Shown C
   shown s = record {
     stack = record {
-      undo = opened s.open_element ++ map step_of (reverse s.done.items);
-      redo = map step_of (reverse s.taken_back.items);
+      undo = opened s.open_element ++ map step_of (reverse (take s.done (kept_elements s)));
+      redo = map step_of (drop s.done (kept_elements s));
       is_open = is_some s.open_element;
     };
     spare = if is_ready s then 1 else 0;
   }
 
-  -- each list has room for all elements
+  -- there is room for all elements
   pub record HasRoom (s : Inside C) : Type 0 where
-    pub done : element_count s ≤ vec_capacity s.done
-    pub taken_back : element_count s ≤ vec_capacity s.taken_back
+    pub done : s.done ≤ s.kept
+    pub kept : s.kept ≤ vec_len s.elements
+    pub elements : element_count s ≤ vec_capacity s.elements
     pub room : s.room.items ≡ []
     -- while an element is open there is nothing to redo
-    pub apart : is_some s.open_element ≡ true → s.taken_back.items ≡ []
+    pub apart : is_some s.open_element ≡ true → s.kept ≡ s.done

@@ -1,6 +1,6 @@
 //! The two lists.
 
-ghost use Rattle.std.specs.Prelude.{◌≡◌, ◌<◌, ◌≤◌, length, slice_get, OnOk, option_map};
+ghost use Rattle.std.specs.Prelude.{◌≡◌, ◌+◌, ◌<◌, ◌≤◌, ◌++◌, ◌∷◌, [], length, take, slice_get, OnOk, option_map, vec_len, vec_capacity};
 ghost use Rattle.std.specs.Option.{option_copied};
 ghost use Rattle.edit_stack.specs.Element.{step_of};
 ghost use Rattle.undo_rules.specs.Stack.{empty_stack, pushed, stopped, undone, redone};
@@ -11,14 +11,20 @@ use std::marker::Model;
 use std::mem;
 
 /// What can be undone and redone. Only `reserve` takes memory.
+///
+/// An undo and a redo move no element: they move the place in one list up to which its elements are done. What can be
+/// redone no longer stays behind those that can, until others take its place, and each push lets one of it go: so no
+/// push pays for all that was undone before it.
 #[derive(Drop)]
 pub struct EditStack<C> {
     alloc: Global,
-    /// The closed elements; the next to undo is the last.
-    done: Vec<Element<C>>,
+    /// The closed elements, in the order in which they were made, and those that can be had no more.
+    elements: Vec<Element<C>>,
+    /// So many of the elements are done. The next to undo is the last of these.
+    done: usize,
+    /// So many are done or can be redone. The next to redo is the first that is not done.
+    kept: usize,
     open_element: Option<Element<C>>,
-    /// What was undone; the next to redo is the last.
-    taken_back: Vec<Element<C>>,
     /// For the first change of the next element.
     room: Vec<C>,
 }
@@ -43,9 +49,10 @@ impl<C: Drop> EditStack<C> {
     {
         EditStack {
             alloc,
-            done: Vec::new(alloc),
+            elements: Vec::new(alloc),
+            done: 0,
+            kept: 0,
             open_element: None,
-            taken_back: Vec::new(alloc),
             room: Vec::new(alloc),
         }
     }
@@ -56,8 +63,7 @@ impl<C: Drop> EditStack<C> {
         ensures stack { self.new.stack ≡ self.old.stack }
         ensures kept { self.old.spare ≤ self.new.spare }
     {
-        self.done.reserve(self.taken_back.len() + 2)?;
-        self.taken_back.reserve(self.done.len() + 2)?;
+        self.elements.reserve(2)?;
         self.room.reserve(1)?;
         if let Some(open) = &mut self.open_element {
             open.changes.reserve(1)?;
@@ -71,7 +77,8 @@ impl<C: Drop> EditStack<C> {
         requires { 0 < self.old.spare }
         ensures { self.new.stack ≡ pushed self.old.stack change alt_before alt_after }
     {
-        self.taken_back.clear();
+        self.kept = self.done;
+        let_one_go(&mut self.elements, self.kept);
         match &mut self.open_element {
             Some(open) => {
                 open.changes.push(change).unwrap();
@@ -95,7 +102,9 @@ impl<C: Drop> EditStack<C> {
         ensures room { 0 < self.old.spare → 0 < self.new.spare }
     {
         if let Some(open) = self.open_element.take() {
-            self.done.push(open).unwrap();
+            put_at(&mut self.elements, self.done, open);
+            self.kept += 1;
+            self.done = self.kept;
         }
     }
 
@@ -105,7 +114,8 @@ impl<C: Drop> EditStack<C> {
     {
         match &self.open_element {
             Some(open) => Some(open),
-            None => self.done.last(),
+            None if self.done > 0 => Some(&self.elements[self.done - 1]),
+            None => None,
         }
     }
 
@@ -113,7 +123,10 @@ impl<C: Drop> EditStack<C> {
     pub fn redo_next(&self) -> Option<&Element<C>>
         ensures { option_map step_of (option_copied result) ≡ slice_get self.now.stack.redo 0 }
     {
-        self.taken_back.last()
+        if self.done == self.kept {
+            return None;
+        }
+        Some(&self.elements[self.done])
     }
 
     /// The element that was the next to undo is the next to redo now.
@@ -122,11 +135,13 @@ impl<C: Drop> EditStack<C> {
         ensures stack { self.new.stack ≡ undone self.old.stack }
         ensures room { 0 < self.old.spare → 0 < self.new.spare }
     {
-        let element = match self.open_element.take() {
-            Some(open) => open,
-            None => self.done.pop().unwrap(),
-        };
-        self.taken_back.push(element).unwrap();
+        match self.open_element.take() {
+            Some(open) => {
+                put_at(&mut self.elements, self.done, open);
+                self.kept = self.done + 1;
+            }
+            None => self.done -= 1,
+        }
     }
 
     /// The element that was the next to redo is the next to undo now.
@@ -135,7 +150,33 @@ impl<C: Drop> EditStack<C> {
         ensures stack { self.new.stack ≡ redone self.old.stack }
         ensures room { 0 < self.old.spare → 0 < self.new.spare }
     {
-        let element = self.taken_back.pop().unwrap();
-        self.done.push(element).unwrap();
+        self.done += 1;
+    }
+}
+
+/// Puts the element behind the first `at`. What stood there goes.
+fn put_at<C: Drop>(elements: &mut Vec<Element<C>>, at: usize, element: Element<C>)
+    requires place { at ≤ vec_len elements.old }
+    requires room { at < vec_capacity elements.old }
+    ensures items { take (at + 1) elements.new.items ≡ take at elements.old.items ++ element ∷ [] }
+    ensures len { at < vec_len elements.new }
+    ensures capacity { vec_capacity elements.old ≤ vec_capacity elements.new }
+{
+    if at < elements.len() {
+        elements[at] = element;
+    } else {
+        elements.push(element).unwrap();
+    }
+}
+
+/// Lets one go that is not among the first `kept`.
+fn let_one_go<C: Drop>(elements: &mut Vec<Element<C>>, kept: usize)
+    requires { kept ≤ vec_len elements.old }
+    ensures items { take kept elements.new.items ≡ take kept elements.old.items }
+    ensures len { kept ≤ vec_len elements.new }
+    ensures capacity { vec_capacity elements.old ≤ vec_capacity elements.new }
+{
+    if kept < elements.len() {
+        elements.truncate(elements.len() - 1);
     }
 }

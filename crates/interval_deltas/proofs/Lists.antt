@@ -6,7 +6,7 @@ use Rattle.std.proofs.lemmas.Bool.{or_parts, or_from, both_ways, cases_Bool, con
 use Rattle.std.proofs.lemmas.List.Sums.{sum_by-append, sum_by-cons}
 use Rattle.std.proofs.lemmas.List.Sorted.{IsPermutation-trans, IsPermutation-sym, IsPermutation-middle, IsPermutation-append_left}
 use Rattle.rb_arena.specs.Names.{times_named, HaveOwnNames}
-use Rattle.rb_arena.specs.Value.{SplitsAfter}
+use Rattle.rb_arena.specs.RbTree.{SplitsAfter}
 use Rattle.decoration_rules.specs.declared.Edit.{Edit}
 use Rattle.decoration_rules.specs.declared.Mark.{Mark}
 use Rattle.decoration_rules.specs.Moves.{moved_mark}

@@ -9,7 +9,7 @@ use Rattle.std.proofs.lemmas.Bool.Decides.{nat_tests}
 use Rattle.std.proofs.lemmas.Int.{ints}
 use Rattle.rb_rules.specs.declared.weave.Turn.TheVariants.{Stop, Left, Right}
 use Rattle.rb_rules.specs.Woven.{sum_of}
-use Rattle.rb_arena.specs.Value.{SplitsAt, EndsWith, last_or}
+use Rattle.rb_arena.specs.RbTree.{SplitsAt, EndsWith, last_or}
 use Rattle.rb_arena.specs.Searching.{EndsAt}
 use Rattle.decoration_rules.specs.declared.Mark.{Mark}
 use Rattle.decoration_rules.specs.Marks.{stands_before, IsInOrder}

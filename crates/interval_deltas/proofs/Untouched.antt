@@ -5,7 +5,7 @@ use Rattle.std.proofs.lemmas.Bool.Decides.{nat_tests}
 use Rattle.std.specs.Prelude.{is_some}
 use Rattle.std.proofs.lemmas.Bool.{false≢true}
 use Rattle.rb_arena.specs.Names.{HaveOwnNames}
-use Rattle.rb_arena.specs.Value.{SplitsAt, SplitsAfter, PlaceAfter, AtPlace, first_or}
+use Rattle.rb_arena.specs.RbTree.{SplitsAt, SplitsAfter, PlaceAfter, AtPlace, first_or}
 use Rattle.decoration_rules.specs.declared.Edit.{Edit}
 use Rattle.decoration_rules.specs.declared.Mark.{Mark}
 use Rattle.decoration_rules.specs.Marks.{stands_before, IsInOrder}

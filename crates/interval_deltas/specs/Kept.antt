@@ -3,7 +3,7 @@ use Rattle.std.specs.Prelude.{ℕ, ℤ, pos, ◌≡◌, ◌<◌, ◌≤ℤ◌, �
 use Rattle.std.specs.Int.{cast_unsigned}
 use Rattle.std.proofs.Common.{w64}
 use Rattle.rb_rules.specs.Woven.{AllItems}
-use Rattle.rb_arena.specs.Value.{SplitsAt, SplitsAfter}
+use Rattle.rb_arena.specs.RbTree.{SplitsAt, SplitsAfter}
 use Rattle.rb_arena.specs.Searching.{Found}
 use Rattle.decoration_rules.specs.declared.Edit.{Edit}
 use Rattle.decoration_rules.specs.declared.Mark.{Mark}

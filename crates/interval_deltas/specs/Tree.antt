@@ -1,6 +1,6 @@
 -- What contracts see of a tree, and what its fields keep.
 use Rattle.std.specs.Prelude.{ℕ, ◌≡◌, ◌==◌, List, [], ◌∷◌, length, Option, Some, None, if◌then◌else◌, count_by}
-use Rattle.rb_arena.specs.Value.{Listed}
+use Rattle.rb_arena.specs.RbTree.{Listed}
 use Rattle.decoration_rules.specs.declared.Mark.{Mark}
 use Rattle.decoration_rules.specs.Marks.{IsInOrder, HasDistinctIds}
 use Rattle.interval_deltas.specs.declared.names.Entry.{Entry}

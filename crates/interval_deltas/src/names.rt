@@ -2,7 +2,7 @@
 ghost use Rattle.std.specs.Prelude.{◌≡◌, [], ◌+◌, ◌<◌, ◌≤◌, Some, None, OnOk, IsSome, MatchResult, count_by, length, insert, filter, vec_len, vec_capacity};
 ghost use Rattle.interval_deltas.specs.Names.{node_of, HasNode, IsById, StandsAt, BelongsAt, is_named};
 
-use slot_arena::NodeId;
+use raw_arena::NodeId;
 use std::alloc::{AllocError, Global};
 use std::marker::Model;
 

@@ -1,14 +1,15 @@
 //! Searches in the tree, which nobody counts.
-ghost use Rattle.std.specs.Prelude.{◌≡◌, ◌<◌, None};
+ghost use Rattle.std.specs.Prelude.{◌≡◌, None};
+ghost use Rattle.steps.specs.Counting.{IsFor};
 ghost use Rattle.rb_arena.specs.Searching.{Found};
-ghost use Rattle.rb_arena.specs.Value.{first_or, AtItem, AtPlace, IsItem, PlaceAfter};
+ghost use Rattle.rb_arena.specs.RbTree.{first_or, AtItem, AtPlace, IsItem, PlaceAfter};
 ghost use Rattle.decoration_rules.specs.Marks.{IsInOrder};
 ghost use Rattle.interval_deltas.specs.Weave.{marks, mark_turn};
 ghost use Rattle.interval_deltas.specs.Kept.{AreMarks, marks_of, IsPlace, mark_at, PartedAt, FirstReaching, ShowsFirst};
 
 use crate::weave::{KeptMark, Marks, Place, Sought, placed};
+use raw_arena::NodeId;
 use rb_arena::RbTree;
-use slot_arena::NodeId;
 use std::marker::Brand;
 use std::sync::ledger::{Blank, Ledger};
 use steps::Steps;
@@ -36,9 +37,7 @@ fn search_for<L: Ledger>(
     sought: Sought,
     blank: Blank,
 ) -> Option<(NodeId, KeptMark, Option<i64>)>
-    requires name { blank.name ≡ L.name }
-    requires parts { blank.parts ≡ L.parts }
-    requires some { 0 < L.parts }
+    requires blank { IsFor L.Ledger blank }
     ensures { Found marks mark_turn sought tree.now.items result }
 {
     let mut steps = Steps::<L>::new(blank);
@@ -51,9 +50,7 @@ fn search_after_for<L: Ledger>(
     sought: Sought,
     blank: Blank,
 ) -> Option<(NodeId, KeptMark, Option<i64>)>
-    requires name { blank.name ≡ L.name }
-    requires parts { blank.parts ≡ L.parts }
-    requires some { 0 < L.parts }
+    requires blank { IsFor L.Ledger blank }
     requires named { IsItem tree.now.items id }
     ensures { AtItem tree.now.items id (λ us x vs. Found marks mark_turn sought vs result) }
 {

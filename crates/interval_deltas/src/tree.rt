@@ -2,7 +2,7 @@
 
 ghost use Rattle.std.specs.Prelude.{◌≡◌, ◌+◌, ◌<◌, ◌≤◌, ◌++◌, ◌∷◌, [], true, false, length, map, take, vec_len, OnOk, OnErr};
 ghost use Rattle.std.specs.List.{All};
-ghost use Rattle.rb_arena.specs.Value.{AtPlace, PlaceAfter};
+ghost use Rattle.rb_arena.specs.RbTree.{AtPlace, PlaceAfter};
 ghost use Rattle.decoration_rules.specs.Moves.{offset_limit, moved_mark};
 ghost use Rattle.decoration_rules.specs.Marks.{in_order, put_in_order, is_live, mark_of, without, touching, IsInOrder};
 ghost use Rattle.interval_deltas.specs.Weave.{is_mark};
@@ -14,8 +14,8 @@ use crate::names::Names;
 use crate::search::{first_reaching, last_before, reaching_after};
 use crate::weave::{KeptMark, Marks};
 use decoration_rules::{Edit, Mark};
+use raw_arena::NodeId;
 use rb_arena::RbTree;
-use slot_arena::NodeId;
 use std::alloc::{AllocError, Global};
 use std::marker::Model;
 use text_lengths::Span;

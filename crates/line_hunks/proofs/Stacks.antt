@@ -2,7 +2,8 @@
 use Rattle.std.proofs.Common.{◌≡◌, ℕ, zero, suc, ◌+◌, ◌-◌, ◌<◌, ◌≤◌, false, ltb, List, [], ◌∷◌, ◌++◌, length, get_or, take, drop, inl, inr, Some, refl, sym, ◌∙◌, ap, subst, arith}
 use Rattle.std.specs.Prelude.{slice_get}
 use Rattle.std.specs.List.Sorted.{IsNonDecreasingBy}
-use Rattle.std.proofs.lemmas.Bool.{ltb-true, ltb-false, cases_lt}
+use Rattle.std.proofs.lemmas.Bool.{ltb-true, ltb-false, lt-ltb, le-ltb, cases_lt}
+use Rattle.std.proofs.lemmas.Option.{get_or_from_slice_get}
 use Rattle.std.proofs.lemmas.List.{append_assoc, take-append-drop, drop_more, get_or-take, length-take-le}
 use Rattle.line_hunks.specs.declared.run.Run.{Run}
 use Rattle.line_hunks.specs.declared.stack.Stacked.{Stacked}
@@ -100,6 +101,43 @@ heights-rise lines (item ∷ items) stacked zero zero d order within = omega ari
 heights-rise lines (item ∷ items) stacked (suc i) zero d order within = absurd (omega arith)
 heights-rise lines (item ∷ items) stacked zero (suc j) d order within = height-up item.height j items d stacked.1 (omega arith)
 heights-rise lines (item ∷ items) stacked (suc i) (suc j) d order within = heights-rise item.height items stacked.1 i j d (omega arith) (omega arith)
+
+-- A search by halves.
+
+-- those before low are lower than so many lines, and those from high on are not
+pub record IsBetween (line : ℕ) (items : List Stacked) (low high : ℕ) : Type 0 where
+  pub order : low ≤ high
+  pub within : high ≤ length items
+  pub lower : (k : ℕ) (d : Stacked) → k < low → (get_or items k d).height < line
+  pub higher : (k : ℕ) (d : Stacked) → high ≤ k → k < length items → line ≤ (get_or items k d).height
+
+pub halve-up : (line : ℕ) (items : List Stacked) (low high middle : ℕ) (found : Stacked) → AreStackedOn 0 items → IsBetween line items low high → low ≤ middle → middle < high
+    → slice_get items middle ≡ Some found → found.height < line → IsBetween line items (middle + 1) high
+halve-up line items low high middle found stacked between from below read under = record {
+  order = omega (arith, below);
+  within = between.within;
+  lower = λ k e lt.
+      let same : get_or items middle e ≡ found = get_or_from_slice_get items middle found e read in
+      omega (arith, ap (λ (s : Stacked). s.height) same, under, heights-rise 0 items stacked k middle e (omega (arith, lt)) (omega (arith, below, between.within)));
+  higher = between.higher;
+}
+
+pub halve-down : (line : ℕ) (items : List Stacked) (low high middle : ℕ) (found : Stacked) → AreStackedOn 0 items → IsBetween line items low high → low ≤ middle → middle < high
+    → slice_get items middle ≡ Some found → line ≤ found.height → IsBetween line items low middle
+halve-down line items low high middle found stacked between from below read reach = record {
+  order = from;
+  within = omega (arith, below, between.within);
+  lower = between.lower;
+  higher = λ k e ge within.
+      let same : get_or items middle e ≡ found = get_or_from_slice_get items middle found e read in
+      omega (arith, ap (λ (s : Stacked). s.height) same, reach, heights-rise 0 items stacked middle k e ge within);
+}
+
+pub halved : (line : ℕ) (items : List Stacked) (low high : ℕ) → IsBetween line items low high → high ≤ low → IsPlaceOf line items low
+halved line items low high between end = (
+  λ k d from below. lt-ltb (get_or items k d).height line (between.lower k d below),
+  λ k d from below. le-ltb (get_or items k d).height line (between.higher k d (omega (arith, from, end)) below),
+)
 
 pub place-within : (line : ℕ) (items : List Stacked) (at : ℕ) → 0 < line → line ≤ top_of 0 items → IsPlaceOf line items at → at < length items
 place-within line items at some reach point = elim (cases_lt at (length items)) [

@@ -5,6 +5,7 @@ ghost use Rattle.line_hunks.specs.Run.{lines_in};
 ghost use Rattle.line_hunks.specs.Stack.{AreStackedOn, IsPlaceOf, Holds};
 
 use crate::run::Run;
+use paged_list::PagedList;
 use std::alloc::{AllocError, Global};
 use std::marker::Model;
 
@@ -15,19 +16,19 @@ pub(crate) struct Stacked {
     pub height: u64,
 }
 
-/// Runs one on another. Only `reserve` takes memory.
+/// Runs one on another. Only `reserve` takes memory, and moves no run.
 #[derive(Drop)]
 pub(crate) struct RunStack {
-    runs: Vec<Stacked>,
+    runs: PagedList<Stacked>,
 }
 
 impl Model for RunStack {
-    ghost use Rattle.std.specs.Prelude.{[], vec_capacity};
+    ghost use Rattle.std.specs.Prelude.{[]};
     ghost use Rattle.line_hunks.specs.Stack.{Shown, runs_onto, AreStackedOn};
 
     ghost Value = { Shown };
 
-    ghost view = { λ s. record { runs = runs_onto [] s.runs.items; room = vec_capacity s.runs } };
+    ghost view = { λ s. record { runs = runs_onto [] s.runs.items; room = s.runs.capacity } };
 
     ghost invariant = { λ s. AreStackedOn 0 s.runs.items };
 }
@@ -37,7 +38,7 @@ impl RunStack {
         ensures { result.runs ≡ [] }
     {
         RunStack {
-            runs: Vec::new(alloc),
+            runs: PagedList::new(alloc),
         }
     }
 
@@ -52,9 +53,9 @@ impl RunStack {
     pub(crate) fn lines(&self) -> u64
         ensures { result ≡ lines_in self.now.runs }
     {
-        match self.runs.last() {
-            Some(top) => top.height,
-            None => 0,
+        match self.runs.len() {
+            0 => 0,
+            count => self.runs.get(count - 1).height,
         }
     }
 
@@ -74,7 +75,7 @@ impl RunStack {
         ensures room { self.old.room ≤ self.new.room }
     {
         let height = self.lines() + run.lines;
-        self.runs.push(Stacked { run, height }).unwrap();
+        self.runs.push(Stacked { run, height });
     }
 
     pub(crate) fn pop(&mut self) -> Option<Run>
@@ -91,7 +92,7 @@ impl RunStack {
         ensures runs { self.new.runs ≡ [] }
         ensures room { self.old.room ≤ self.new.room }
     {
-        self.runs.clear();
+        while self.pop().is_some() {}
     }
 
     /// The run whose lines and those below it are at least so many, while those below it are fewer.
@@ -100,15 +101,25 @@ impl RunStack {
         requires within { lines ≤ lines_in self.now.runs }
         ensures { Holds self.now.runs lines result }
     {
-        self.runs[lower_runs(self.runs.as_slice(), lines)]
+        *self.runs.get(lower_runs(&self.runs, lines))
     }
 }
 
 /// How many of the runs, the lowest first, are lower than so many lines.
-fn lower_runs(runs: &[Stacked], lines: u64) -> usize
-    requires { AreStackedOn 0 runs.now }
-    ensures bound { result ≤ length runs.now }
-    ensures parted { IsPlaceOf lines runs.now result }
+fn lower_runs(runs: &PagedList<Stacked>, lines: u64) -> usize
+    requires { AreStackedOn 0 runs.now.items }
+    ensures bound { result ≤ length runs.now.items }
+    ensures parted { IsPlaceOf lines runs.now.items result }
 {
-    runs.partition_point(|stacked| stacked.height < lines)
+    let mut low = 0;
+    let mut high = runs.len();
+    while low < high {
+        let middle = low + (high - low) / 2;
+        if runs.get(middle).height < lines {
+            low = middle + 1;
+        } else {
+            high = middle;
+        }
+    }
+    low
 }

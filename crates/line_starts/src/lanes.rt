@@ -1,8 +1,9 @@
 //! Breaks by lanes: several units are looked at together.
 
-ghost use Rattle.std.specs.Prelude.{◌≡◌, ◌+◌, ◌*◌, ◌<◌, ◌≤◌, ◌∷◌, [], length, drop};
+ghost use Rattle.std.specs.Prelude.{◌≡◌, ◌+◌, ◌*◌, ◌<◌, ◌≤◌, ◌∷◌, [], length};
 ghost use Rattle.std.specs.Simd.Lanes.{chunk, zip2, mask_l};
-ghost use Rattle.text_rules.specs.Breaks.{break_ends, ends_break};
+ghost use Rattle.line_starts.specs.Starts.{breaks_from, at_four};
+ghost use Rattle.text_rules.specs.Breaks.{ends_break};
 
 use std::simd::prelude::*;
 use unit_text::{CARRIAGE_RETURN, LINE_FEED};
@@ -30,8 +31,7 @@ pub(crate) fn ends_in_block(units: &[u16], at: usize) -> u64
 #[inline(always)]
 pub(crate) fn breaks_in_block(units: &[u16], at: usize) -> u32
     requires { at + 32 < length units.now }
-    ensures { result + length (break_ends 0 (drop (at + 32) units.now))
-        ≡ length (break_ends 0 (drop at units.now)) }
+    ensures { result + breaks_from units.now (at + 32) ≡ breaks_from units.now at }
 {
     ends_in_block(units, at).count_ones()
 }
@@ -41,8 +41,7 @@ pub(crate) fn breaks_in_block(units: &[u16], at: usize) -> u32
 pub(crate) fn breaks_in_front(units: &[u16], at: usize, many: usize) -> u32
     requires within { at + 32 < length units.now }
     requires few { many ≤ 32 }
-    ensures { result + length (break_ends 0 (drop (at + many) units.now))
-        ≡ length (break_ends 0 (drop at units.now)) }
+    ensures { result + breaks_from units.now (at + many) ≡ breaks_from units.now at }
 {
     (ends_in_block(units, at) % (1 << many)).count_ones()
 }
@@ -51,14 +50,8 @@ pub(crate) fn breaks_in_front(units: &[u16], at: usize, many: usize) -> u32
 #[inline(always)]
 pub(crate) fn breaks_in_blocks(units: &[u16], at: usize, apart: usize) -> u64
     requires { apart * 3 + at + 32 < length units.now }
-    ensures { result + length (break_ends 0 (drop (at + 32) units.now))
-        + length (break_ends 0 (drop (apart + at + 32) units.now))
-        + length (break_ends 0 (drop (apart * 2 + at + 32) units.now))
-        + length (break_ends 0 (drop (apart * 3 + at + 32) units.now))
-        ≡ length (break_ends 0 (drop at units.now))
-        + length (break_ends 0 (drop (apart + at) units.now))
-        + length (break_ends 0 (drop (apart * 2 + at) units.now))
-        + length (break_ends 0 (drop (apart * 3 + at) units.now)) }
+    ensures { result + at_four (λ place. breaks_from units.now (place + 32)) at apart
+        ≡ at_four (breaks_from units.now) at apart }
 {
     u64::from(breaks_in_block(units, at))
         + u64::from(breaks_in_block(units, apart + at))

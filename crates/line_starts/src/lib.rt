@@ -4,7 +4,7 @@
 mod lanes;
 
 ghost use Rattle.std.specs.Prelude.{◌≡◌, ℕ, ◌+◌, ◌-◌, ◌*◌, ◌<◌, ◌≤◌, ◌^◌, ◌++◌, true, false, List, length, drop, get_or, OnOk, OnErr, IsOk, vec_len, vec_capacity, take};
-ghost use Rattle.line_starts.specs.Starts.{starts_of, break_count, break_ends_at};
+ghost use Rattle.line_starts.specs.Starts.{starts_of, break_count, break_ends_at, breaks_from};
 ghost use Rattle.text_lengths.specs.Length.{length_plus};
 ghost use Rattle.text_rules.specs.Breaks.{break_ends, count_to, ends_break, joins_pair};
 ghost use Rattle.text_rules.specs.Lines.{text_length};
@@ -138,12 +138,10 @@ fn apart(units: &[u16]) -> usize
     }
 }
 
-/// How many breaks end with the units between two places: those of the text from the first place on are these, and those from the
-/// second on.
+/// How many breaks end with the units between two places.
 pub fn breaks_between(units: &[u16], from: usize, to: usize) -> u64
     requires { (from ≤ to) × (to ≤ length units.now) }
-    ensures { result + length (break_ends 0 (drop to units.now))
-        ≡ length (break_ends 0 (drop from units.now)) }
+    ensures { result + breaks_from units.now to ≡ breaks_from units.now from }
 {
     let mut breaks = 0;
     let mut at = from;
@@ -158,8 +156,7 @@ pub fn breaks_between(units: &[u16], from: usize, to: usize) -> u64
 fn breaks_in_rest(units: &[u16], from: usize, to: usize) -> u64
     requires between { (from ≤ to) × (to ≤ length units.now) }
     requires near { to ≤ from + 32 }
-    ensures { result + length (break_ends 0 (drop to units.now))
-        ≡ length (break_ends 0 (drop from units.now)) }
+    ensures { result + breaks_from units.now to ≡ breaks_from units.now from }
 {
     if from + LANES < units.len() {
         return u64::from(breaks_in_front(units, from, to - from));
@@ -169,8 +166,7 @@ fn breaks_in_rest(units: &[u16], from: usize, to: usize) -> u64
 
 fn breaks_one_by_one(units: &[u16], from: usize, to: usize) -> u64
     requires { (from ≤ to) × (to ≤ length units.now) }
-    ensures { result + length (break_ends 0 (drop to units.now))
-        ≡ length (break_ends 0 (drop from units.now)) }
+    ensures { result + breaks_from units.now to ≡ breaks_from units.now from }
 {
     let mut breaks = 0;
     for at in from..to {

@@ -16,8 +16,9 @@ use Rattle.decoration_rules.proofs.InText.{LieIn-moved, LieIn-decorated, moved_m
 use Rattle.decoration_rules.proofs.MarkLists.{carried-none, carried-first}
 use Rattle.document_rules.specs.Document.{edit_of, carried_by, carried_back, carried_on, unforced}
 use Rattle.model_core.specs.declared.change.Change.{Change}
-use Rattle.model_core.specs.History.{text_back, changes_back, changes_on, LeadBack}
+use Rattle.model_core.specs.History.{text_back, changes_back, changes_on, LeadBack, ops_by}
 use Rattle.model_core.specs.Carrying.{edit_with, carried_with, decorations_back, decorations_on, AreIn}
+use Rattle.model_core.specs.declared.change.Way.TheVariants.{Back, On}
 
 -- no op moves nothing
 pub carried_with-none : (forces : Bool) (d : Decorations) → IsSound d → carried_with forces d [] ≡ d
@@ -62,7 +63,7 @@ carried_turn forces first ops done op now d sound are_in inside is carried_so or
 pub carried_back-kept : (d : Decorations) (now : List ℕ) (cs : List Change) → LeadBack now cs → carried_back d (changes_back now cs) ≡ decorations_back d cs
 carried_back-kept d now [] lead = refl
 carried_back-kept d now (c ∷ cs) lead =
-    ap (λ e. carried_by e (inverse_from 0 0 (text_back now (c ∷ cs)) c.batch)) (carried_back-kept d now cs lead.1)
+    ap (λ e. carried_by e (inverse_from 0 0 (text_back now (c ∷ cs)) (ops_by On c))) (carried_back-kept d now cs lead.1)
     ∙ ap (carried_by (decorations_back d cs)) (sym lead.0.inverse)
 
 edits-unforced : (ops : List Op) → map edit_of (map unforced ops) ≡ map (edit_with false) ops
@@ -72,20 +73,20 @@ edits-unforced (op ∷ ops) = ap (λ es. edit_with false op ∷ es) (edits-unfor
 pub carried_on-kept : (d : Decorations) (now : List ℕ) (cs : List Change) → carried_on d (changes_on now cs) ≡ decorations_on d cs
 carried_on-kept d now [] = refl
 carried_on-kept d now (c ∷ cs) =
-    let same : carried_by d (map unforced c.batch) ≡ carried_with false d c.batch =
-    ap (λ es. record { marks = carried d.marks es; next_id = d.next_id }) (edits-unforced c.batch) in
-    ap (λ e. carried_on e (changes_on (applied_from 0 now c.batch) cs)) same ∙ carried_on-kept (carried_with false d c.batch) (applied_from 0 now c.batch) cs
+    let same : carried_by d (map unforced (ops_by On c)) ≡ carried_with false d (ops_by On c) =
+    ap (λ es. record { marks = carried d.marks es; next_id = d.next_id }) (edits-unforced (ops_by On c)) in
+    ap (λ e. carried_on e (changes_on (applied_from 0 now (ops_by On c)) cs)) same ∙ carried_on-kept (carried_with false d (ops_by On c)) (applied_from 0 now (ops_by On c)) cs
 
 pub decorations_back-cut : (d : Decorations) (cs : List Change) (i : ℕ) (c : Change) → i < length cs → c ≡ get_or cs i c
-    → decorations_back d (drop i cs) ≡ carried_with true (decorations_back d (drop (suc i) cs)) c.inverse
+    → decorations_back d (drop i cs) ≡ carried_with true (decorations_back d (drop (suc i) cs)) (ops_by Back c)
 decorations_back-cut d cs i c inside is = ap (decorations_back d) (drop-cons cs i c inside ∙ ap (λ e. e ∷ drop (suc i) cs) (sym is))
 
 pub decorations_on-cut : (d : Decorations) (cs : List Change) (i : ℕ) (c : Change) → i < length cs → c ≡ get_or cs i c
-    → decorations_on d (drop i cs) ≡ decorations_on (carried_with false d c.batch) (drop (i + 1) cs)
+    → decorations_on d (drop i cs) ≡ decorations_on (carried_with false d (ops_by On c)) (drop (i + 1) cs)
 decorations_on-cut d cs i c inside is =
     let next : suc i ≡ i + 1 = omega arith in
     ap (decorations_on d) (drop-cons cs i c inside ∙ ap (λ e. e ∷ drop (suc i) cs) (sym is))
-    ∙ ap (λ (k : ℕ). decorations_on (carried_with false d c.batch) (drop k cs)) next
+    ∙ ap (λ (k : ℕ). decorations_on (carried_with false d (ops_by On c)) (drop k cs)) next
 
 -- Decorations that are changed still lie in the text.
 pub inside-decorated : (result : Result ℕ DecoError) (old new : Decorations) (owner : ℕ) (remove : List ℕ) (add : List NewDeco) (units : List ℕ)

@@ -7,7 +7,7 @@ use Rattle.mark_rules.specs.declared.Mark.{Mark}
 use Rattle.mark_rules.specs.declared.Mark.TheVariants.{Kept, New}
 use Rattle.mark_rules.specs.Marks.{kept_marks, clean_marks, edited_marks, has_new, GoesOn, RisesFrom, Rises}
 use Rattle.mark_rules.proofs.MarkLaws.{has_new-append, has_new-kept_marks}
-use Rattle.bracket_trees.specs.Tree.{Tree}
+use Rattle.bracket_tree_rules.specs.Tree.{Tree}
 use Rattle.model_core.specs.State.{fresh_tree}
 use Rattle.node_reuse.specs.Reading.{AllNew}
 use Rattle.reuse_rules.specs.Agreement.{BeginsAlike}

@@ -12,40 +12,39 @@ use Rattle.undo_rules.specs.Stack.{Stack, pushed}
 use Rattle.snapshot_rules.specs.Snapshots.{FlatShelf}
 use Rattle.document_rules.specs.Document.{flat_edit, greatest_version}
 use Rattle.model_core.specs.declared.change.Change.{Change}
-use Rattle.model_core.specs.History.{history_of, Leads, IsHistory}
+use Rattle.model_core.specs.History.{ops_by, history_of, Leads, IsHistory}
 use Rattle.bracket_rules.specs.Table.{Table}
 use Rattle.decoration_rules.specs.Decorations.{Decorations}
 use Rattle.model_core.specs.Carrying.{carried_with}
 use Rattle.model_core.proofs.Histories.{history-pushed, IsHistory-pushed}
+use Rattle.model_core.specs.declared.change.Way.TheVariants.{Back, On}
 
-module _ (x : List ℕ) (ops sorted back : List Op) (rule : checked_batch x ops ≡ Ok sorted) (fits : length x ≤ most_units) (inverse : back ≡ inverse_from 0 0 x sorted) where
-  change : Change
-  change = record { batch = sorted; inverse = back }
-
-  pub leads : Leads x (record { batch = sorted; inverse = back }) (applied_from 0 x sorted)
+module _ (x : List ℕ) (ops : List Op) (change : Change) (rule : checked_batch x ops ≡ Ok (ops_by On change)) (fits : length x ≤ most_units)
+    (inverse : ops_by Back change ≡ inverse_from 0 0 x (ops_by On change)) where
+  pub leads : Leads x change (applied_from 0 x (ops_by On change))
   leads =
-      let ok = accepted x ops sorted rule in
+      let ok = accepted x ops (ops_by On change) rule in
       record { standing = ok.standing; on = refl; inverse = inverse; fits_before = fits; fits_after = ok.fits }
 
   pub edited_history : (s : Stack Change) (alternative version : ℕ) → IsHistory x s
-      → IsHistory (applied_from 0 x sorted) (pushed s (record { batch = sorted; inverse = back }) alternative version)
-  edited_history s alternative version = IsHistory-pushed s (record { batch = sorted; inverse = back }) x (applied_from 0 x sorted) alternative version leads
+      → IsHistory (applied_from 0 x (ops_by On change)) (pushed s change alternative version)
+  edited_history s alternative version = IsHistory-pushed s change x (applied_from 0 x (ops_by On change)) alternative version leads
 
   pub edited_document : (s : Stack Change) (d : Decorations) (table : Table) (shelf : FlatShelf) (version alternative : ℕ) → version + 1 ≤ greatest_version
       → flat_edit (record { units = x; version = version; alternative = alternative; decorations = d; table = table; history = history_of x s; shelf = shelf }) ops
       ≡ Ok (record {
-        units = applied_from 0 x sorted;
+        units = applied_from 0 x (ops_by On change);
         version = version + 1;
         alternative = version + 1;
-        decorations = carried_with true d sorted;
+        decorations = carried_with true d (ops_by On change);
         table = table;
-        history = history_of (applied_from 0 x sorted) (pushed s (record { batch = sorted; inverse = back }) alternative (version + 1));
+        history = history_of (applied_from 0 x (ops_by On change)) (pushed s change alternative (version + 1));
         shelf = shelf;
       })
   edited_document s d table shelf version alternative few =
-      let ok = accepted x ops sorted rule in
+      let ok = accepted x ops (ops_by On change) rule in
       let below : nat_le greatest_version version ≡ false = lt-leb greatest_version version (omega (arith, few)) in
-      let history = history-pushed s (record { batch = sorted; inverse = back }) x (applied_from 0 x sorted) alternative (version + 1) leads in
+      let history = history-pushed s change x (applied_from 0 x (ops_by On change)) alternative (version + 1) leads in
       rw (rule, below, history, ok.in_order) refl
 
 pub edited_paired : (x : List ℕ) (ops sorted : List Op) → checked_batch x ops ≡ Ok sorted → IsPaired x → All HasPairedText ops

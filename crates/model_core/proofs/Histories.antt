@@ -5,33 +5,34 @@ use Rattle.batch_rules.proofs.Inverses.{inverse_gives_back}
 use Rattle.undo_rules.specs.Stack.{Step, Stack, joined, pushed, undone_lists, redone_lists}
 use Rattle.document_rules.specs.Document.{text_before, text_after}
 use Rattle.model_core.specs.declared.change.Change.{Change}
-use Rattle.model_core.specs.History.{text_back, text_on, changes_back, changes_on, undo_steps, redo_steps, history_of, Leads, LeadBack, LeadOn, StepsLeadBack, StepsLeadOn, IsHistory}
+use Rattle.model_core.specs.History.{text_back, text_on, changes_back, changes_on, undo_steps, redo_steps, history_of, Leads, LeadBack, LeadOn, StepsLeadBack, StepsLeadOn, IsHistory, ops_by}
+use Rattle.model_core.specs.declared.change.Way.TheVariants.{Back, On}
 
 -- A step and one change more.
 
-pub text_back-more : (cs : List Change) (c : Change) (after : List ℕ) → text_back after (cs ++ c ∷ []) ≡ text_back (applied_from 0 after c.inverse) cs
+pub text_back-more : (cs : List Change) (c : Change) (after : List ℕ) → text_back after (cs ++ c ∷ []) ≡ text_back (applied_from 0 after (ops_by Back c)) cs
 text_back-more [] c after = refl
-text_back-more (d ∷ cs) c after = ap (λ x. applied_from 0 x d.inverse) (text_back-more cs c after)
+text_back-more (d ∷ cs) c after = ap (λ x. applied_from 0 x (ops_by Back d)) (text_back-more cs c after)
 
-pub changes_back-more : (cs : List Change) (c : Change) (before after : List ℕ) → applied_from 0 after c.inverse ≡ before
-    → changes_back after (cs ++ c ∷ []) ≡ changes_back before cs ++ record { before = before; ops = c.batch; after = after } ∷ []
-changes_back-more [] c before after led = ap (λ x. record { before = x; ops = c.batch; after = after } ∷ []) led
+pub changes_back-more : (cs : List Change) (c : Change) (before after : List ℕ) → applied_from 0 after (ops_by Back c) ≡ before
+    → changes_back after (cs ++ c ∷ []) ≡ changes_back before cs ++ record { before = before; ops = ops_by On c; after = after } ∷ []
+changes_back-more [] c before after led = ap (λ x. record { before = x; ops = ops_by On c; after = after } ∷ []) led
 changes_back-more (d ∷ cs) c before after led =
     let back : text_back after (cs ++ c ∷ []) ≡ text_back before cs = text_back-more cs c after ∙ ap (λ x. text_back x cs) led in
     rw (changes_back-more cs c before after led, back) refl
 
-pub LeadBack-more : (cs : List Change) (c : Change) (before after : List ℕ) → applied_from 0 after c.inverse ≡ before → Leads before c after → LeadBack before cs
+pub LeadBack-more : (cs : List Change) (c : Change) (before after : List ℕ) → applied_from 0 after (ops_by Back c) ≡ before → Leads before c after → LeadBack before cs
     → LeadBack after (cs ++ c ∷ [])
 LeadBack-more [] c before after led leads old = (subst (λ x. Leads x c after) (sym led) leads, tt)
 LeadBack-more (d ∷ cs) c before after led leads old =
     let back : text_back after (cs ++ c ∷ []) ≡ text_back before cs = text_back-more cs c after ∙ ap (λ x. text_back x cs) led in
-    (subst (λ x. Leads (applied_from 0 x d.inverse) d x) (sym back) old.0, LeadBack-more cs c before after led leads old.1)
+    (subst (λ x. Leads (applied_from 0 x (ops_by Back d)) d x) (sym back) old.0, LeadBack-more cs c before after led leads old.1)
 
 -- A change that leads from one text to the other.
 
-pub leads_back : (before after : List ℕ) (c : Change) → Leads before c after → applied_from 0 after c.inverse ≡ before
+pub leads_back : (before after : List ℕ) (c : Change) → Leads before c after → applied_from 0 after (ops_by Back c) ≡ before
 leads_back before after c leads =
-    rw (leads.on, leads.inverse) (inverse_gives_back before c.batch leads.standing)
+    rw (leads.on, leads.inverse) (inverse_gives_back before (ops_by On c) leads.standing)
 
 -- A step that is undone can be made again from the text before it.
 
@@ -42,7 +43,7 @@ text_on-back (c ∷ cs) now lead = ap (λ x. text_on x cs) (sym lead.0.on) ∙ t
 pub changes_on-back : (cs : List Change) (now : List ℕ) → LeadBack now cs → changes_on (text_back now cs) cs ≡ changes_back now cs
 changes_on-back [] now lead = refl
 changes_on-back (c ∷ cs) now lead =
-    rw (sym lead.0.on) (ap (λ x. record { before = text_back now (c ∷ cs); ops = c.batch; after = text_back now cs } ∷ x) (changes_on-back cs now lead.1))
+    rw (sym lead.0.on) (ap (λ x. record { before = text_back now (c ∷ cs); ops = ops_by On c; after = text_back now cs } ∷ x) (changes_on-back cs now lead.1))
 
 pub LeadOn-back : (cs : List Change) (now : List ℕ) → LeadBack now cs → LeadOn (text_back now cs) cs
 LeadOn-back [] now lead = tt
@@ -54,22 +55,22 @@ LeadOn-back (c ∷ cs) now lead =
 pub text_back-on : (cs : List Change) (now : List ℕ) → LeadOn now cs → text_back (text_on now cs) cs ≡ now
 text_back-on [] now lead = refl
 text_back-on (c ∷ cs) now lead =
-    ap (λ x. applied_from 0 x c.inverse) (text_back-on cs (applied_from 0 now c.batch) lead.1) ∙ leads_back now (applied_from 0 now c.batch) c lead.0
+    ap (λ x. applied_from 0 x (ops_by Back c)) (text_back-on cs (applied_from 0 now (ops_by On c)) lead.1) ∙ leads_back now (applied_from 0 now (ops_by On c)) c lead.0
 
 pub changes_back-on : (cs : List Change) (now : List ℕ) → LeadOn now cs → changes_back (text_on now cs) cs ≡ changes_on now cs
 changes_back-on [] now lead = refl
 changes_back-on (c ∷ cs) now lead =
-    let mid = applied_from 0 now c.batch in
+    let mid = applied_from 0 now (ops_by On c) in
     let there : text_back (text_on mid cs) cs ≡ mid = text_back-on cs mid lead.1 in
-    let back : applied_from 0 (text_back (text_on mid cs) cs) c.inverse ≡ now = text_back-on (c ∷ cs) now lead in
+    let back : applied_from 0 (text_back (text_on mid cs) cs) (ops_by Back c) ≡ now = text_back-on (c ∷ cs) now lead in
     rw (changes_back-on cs mid lead.1, back, there) refl
 
 pub LeadBack-on : (cs : List Change) (now : List ℕ) → LeadOn now cs → LeadBack (text_on now cs) cs
 LeadBack-on [] now lead = tt
 LeadBack-on (c ∷ cs) now lead =
-    let mid = applied_from 0 now c.batch in
+    let mid = applied_from 0 now (ops_by On c) in
     let there : text_back (text_on mid cs) cs ≡ mid = text_back-on cs mid lead.1 in
-    let back : applied_from 0 (text_back (text_on mid cs) cs) c.inverse ≡ now = text_back-on (c ∷ cs) now lead in
+    let back : applied_from 0 (text_back (text_on mid cs) cs) (ops_by Back c) ≡ now = text_back-on (c ∷ cs) now lead in
     (subst (λ x. Leads x c (text_back (text_on mid cs) cs)) (sym back) (subst (λ x. Leads now c x) (sym there) lead.0), LeadBack-on cs mid lead.1)
 
 -- The texts before and after a step.
@@ -80,19 +81,19 @@ text_before-back (c ∷ cs) now = refl
 
 pub text_after-on : (cs : List Change) (now : List ℕ) → text_after now (changes_on now cs) ≡ text_on now cs
 text_after-on [] now = refl
-text_after-on (c ∷ cs) now = text_after-on cs (applied_from 0 now c.batch)
+text_after-on (c ∷ cs) now = text_after-on cs (applied_from 0 now (ops_by On c))
 
 -- A whole history, when a change is pushed.
 
-undo_steps-joined : (is_open : Bool) (ss : List (Step Change)) (c : Change) (before after : List ℕ) (a b : ℕ) → applied_from 0 after c.inverse ≡ before
-    → undo_steps after (joined is_open ss c a b) ≡ joined is_open (undo_steps before ss) (record { before = before; ops = c.batch; after = after }) a b
+undo_steps-joined : (is_open : Bool) (ss : List (Step Change)) (c : Change) (before after : List ℕ) (a b : ℕ) → applied_from 0 after (ops_by Back c) ≡ before
+    → undo_steps after (joined is_open ss c a b) ≡ joined is_open (undo_steps before ss) (record { before = before; ops = ops_by On c; after = after }) a b
 undo_steps-joined true [] c before after a b led =
-    ap (λ x. record { changes = record { before = x; ops = c.batch; after = after } ∷ []; alt_before = a; alt_after = b } ∷ []) led
+    ap (λ x. record { changes = record { before = x; ops = ops_by On c; after = after } ∷ []; alt_before = a; alt_after = b } ∷ []) led
 undo_steps-joined true (s ∷ ss) c before after a b led =
     let back : text_back after (s.changes ++ c ∷ []) ≡ text_back before s.changes = text_back-more s.changes c after ∙ ap (λ x. text_back x s.changes) led in
     rw (changes_back-more s.changes c before after led, back) refl
 undo_steps-joined false ss c before after a b led =
-    ap (λ x. record { changes = record { before = x; ops = c.batch; after = after } ∷ []; alt_before = a; alt_after = b } ∷ undo_steps x ss) led
+    ap (λ x. record { changes = record { before = x; ops = ops_by On c; after = after } ∷ []; alt_before = a; alt_after = b } ∷ undo_steps x ss) led
 
 StepsLeadBack-joined : (is_open : Bool) (ss : List (Step Change)) (c : Change) (before after : List ℕ) (a b : ℕ) → Leads before c after → StepsLeadBack before ss
     → StepsLeadBack after (joined is_open ss c a b)
@@ -108,7 +109,7 @@ StepsLeadBack-joined false ss c before after a b leads old =
     ((subst (λ x. Leads x c after) (sym led) leads, tt), subst (λ x. StepsLeadBack x ss) (sym led) old)
 
 pub history-pushed : (s : Stack Change) (c : Change) (before after : List ℕ) (a b : ℕ) → Leads before c after
-    → history_of after (pushed s c a b) ≡ pushed (history_of before s) (record { before = before; ops = c.batch; after = after }) a b
+    → history_of after (pushed s c a b) ≡ pushed (history_of before s) (record { before = before; ops = ops_by On c; after = after }) a b
 history-pushed s c before after a b leads =
     ap (λ u. record { undo = u; redo = []; is_open = true }) (undo_steps-joined s.is_open s.undo c before after a b (leads_back before after c leads))
 

@@ -10,7 +10,7 @@ use Rattle.document_rules.proofs.Places.{entries_small, partner_small}
 use Rattle.bracket_nodes.specs.Walks.{place_and_len}
 use Rattle.text_lengths.specs.declared.Length.{Length}
 use Rattle.bracket_rules.specs.Table.{Table, is_table}
-use Rattle.bracket_trees.specs.Tree.{Tree, tree_story, tree_partner, tree_level}
+use Rattle.bracket_tree_rules.specs.Tree.{Tree, tree_story, tree_partner, tree_level}
 use Rattle.bracket_rules.specs.Rows.{text_brackets}
 use Rattle.bracket_rules.specs.Parse.{Spot, partner_at, entries_of, entries_between, bracket_entries, bracket_partner, bracket_level}
 use Rattle.document_rules.specs.Brackets.{line_contents, brackets_of, flat_brackets, IsSmall}

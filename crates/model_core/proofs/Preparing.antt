@@ -24,10 +24,13 @@ use Rattle.model_core.specs.declared.ready.Action.{Action}
 use Rattle.model_core.specs.declared.ready.Action.TheVariants.{Edit, Move}
 use Rattle.model_core.specs.State.{ModelState, KeepsRoom, KeptBy, GrownBy, KeepsParse}
 use Rattle.model_core.specs.Ways.{next_steps}
-use Rattle.model_core.specs.History.{text_breaks}
+use Rattle.text_buffer.specs.Room as text_room
+use Rattle.text_buffer.specs.declared.room.Need as text_need
+use Rattle.model_core.specs.History.{ops_by, need_of_ops}
 use Rattle.model_core.specs.Prepared.{Prepared, IsEnough, need_of, next_op_count, next_unit_count, next_break_count, IsChangeOf, CanAct, CanCommit, Acts, HasActed, ArePairedTexts, IsEditReady, IsMoveReady}
 use Rattle.model_core.proofs.Editing.{edited_paired}
 use Rattle.model_core.proofs.Stepping.{IsPairedState-by}
+use Rattle.model_core.specs.declared.change.Change.TheVariants.{Ops}
 
 -- ---- a batch in its order
 
@@ -99,17 +102,17 @@ can_commit now ready action is version can room = record {
 }
 
 pub edit_ready : (now : ModelState) (ops sorted back : List Op) (ready : Prepared) → checked_batch now.document.units ops ≡ Ok sorted
-    → back ≡ inverse_from 0 0 now.document.units sorted → ready.action ≡ Edit (record { batch = sorted; inverse = back })
+    → back ≡ inverse_from 0 0 now.document.units sorted → ready.action ≡ Edit (Ops sorted back)
     → ready.version ≡ now.document.version → now.document.version + 1 ≤ greatest_version
-    → IsEnough now.room (record { edits = length sorted; units = text_units sorted; breaks = text_breaks sorted; changes = 1 }) → IsEditReady ops now ready
+    → IsEnough now.room (record { text = need_of_ops sorted; changes = 1 }) → IsEditReady ops now ready
 edit_ready now ops sorted back ready rule inverse is version few room =
     let f : FlatState = now.document in
     let ok = accepted f.units ops sorted rule in
     record {
-      action = is ∙ ap (λ (b : List Op). Edit (record { batch = sorted; inverse = b })) inverse
-          ∙ ap (λ (s : List Op). Edit (record { batch = s; inverse = inverse_from 0 0 f.units s })) ok.in_order;
+      action = is ∙ ap (λ (b : List Op). Edit (Ops sorted b)) inverse
+          ∙ ap (λ (s : List Op). Edit (Ops s (inverse_from 0 0 f.units s))) ok.in_order;
       accepted = edit_accepted f ops sorted rule few ∙ ap (λ (s : List Op). Ok (after_batch f ops s)) ok.in_order;
-      can = can_commit now ready (Edit (record { batch = sorted; inverse = back })) is version
+      can = can_commit now ready (Edit (Ops sorted back)) is version
           (record { accepted = checked_again f.units ops sorted rule; inverse = inverse }) room;
     }
 
@@ -124,7 +127,7 @@ one_document : (answer : Result FlatState FlatRefusal) (one other : FlatState) �
 one_document answer one other is also = cc
 
 pub IsPairedState-acted : (action : Action) (old new : FlatState) → Acts action old new → ArePairedTexts action → IsPairedState old → IsPairedState new
-IsPairedState-acted (Edit change) old new done texts paired = IsPairedState-edit (Ok tt) old new change.batch done texts paired
+IsPairedState-acted (Edit change) old new done texts paired = IsPairedState-edit (Ok tt) old new (ops_by On change) done texts paired
 IsPairedState-acted (Move way) old new done texts paired = IsPairedState-by way (Ok true) old new done paired
 
 -- by an edit that is carried out where it was prepared
@@ -140,7 +143,7 @@ module _ (old mid new : ModelState) (ready : Prepared) (same : mid.document ≡ 
   edited_as_prepared ops is =
       let sorted : List Op = sorted_ops ops in
       let x : List ℕ = mid.document.units in
-      let action : Action = Edit (record { batch = sorted; inverse = inverse_from 0 0 x sorted }) in
+      let action : Action = Edit (Ops sorted (inverse_from 0 0 x sorted)) in
       let can : CanAct action mid.document = subst (λ a. CanAct a mid.document) is.action is.can.action in
       let made : Acts action mid.document new.document = subst (λ a. Acts a mid.document new.document) is.action done in
       let left : HasActed action mid new = subst (λ a. HasActed a mid new) is.action acted in
@@ -172,13 +175,18 @@ can_act : (action : Action) (old new : FlatState) → IsSameText old new → Can
 can_act (Edit change) old new same can = subst (λ x. IsChangeOf x change) (sym same.units) can
 can_act (Move way) old new same can = subst (λ (steps : List (Step FlatChange)). 0 < length steps) (sym (same_steps way old new same)) can
 
+still_enough : (need : text_need.Need) (old new : text_room.Room) → text_room.KeepsRoom old new → text_room.IsEnough old need → text_room.IsEnough new need
+still_enough need old new kept room = record {
+  edits = omega (arith, room.edits, kept.edits);
+  units = omega (arith, room.units, kept.units);
+  breaks = omega (arith, room.breaks, kept.breaks);
+}
+
 enough_room : (action : Action) (old new : ModelState) → IsSameText old.document new.document → KeepsRoom old.room new.room
     → IsEnough old.room (need_of action old.document) → IsEnough new.room (need_of action new.document)
 enough_room (Edit change) old new same kept room = record {
-  edits = omega (arith, room.edits, kept.edits);
+  text = still_enough (need_of_ops (ops_by On change)) old.room.text new.room.text kept.text room.text;
   marks = omega (arith, room.marks, kept.marks);
-  units = omega (arith, room.units, kept.units);
-  breaks = omega (arith, room.breaks, kept.breaks);
   changes = kept.changes room.changes;
 }
 enough_room (Move way) old new same kept room =
@@ -186,11 +194,14 @@ enough_room (Move way) old new same kept room =
     let edits = ap next_op_count steps in
     let units = ap (next_unit_count way) steps in
     let breaks = ap (next_break_count way) steps in
+    let still = still_enough _ old.room.text new.room.text kept.text room.text in
     record {
-      edits = omega (arith, room.edits, kept.edits, edits);
+      text = record {
+        edits = omega (arith, still.edits, edits);
+        units = omega (arith, still.units, edits, units);
+        breaks = omega (arith, still.breaks, edits, breaks);
+      };
       marks = omega (arith, room.marks, kept.marks, edits);
-      units = omega (arith, room.units, kept.units, edits, units);
-      breaks = omega (arith, room.breaks, kept.breaks, edits, breaks);
       changes = omega arith;
     }
 

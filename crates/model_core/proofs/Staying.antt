@@ -11,8 +11,8 @@ use Rattle.batch_rules.specs.Batches.{applied_from, StandFrom, edited_backwards}
 use Rattle.batch_rules.proofs.Backwards.{backwards_is_one_pass, backwards_step}
 use Rattle.bracket_rules.specs.Table.{Table, is_table}
 use Rattle.bracket_rules.specs.Rows.{Row, text_rows}
-use Rattle.bracket_trees.specs.Told.{IsTreeOf}
-use Rattle.bracket_trees.specs.Tree.{Tree, tree_rows, IsTree}
+use Rattle.bracket_tree_rules.specs.Told.{IsTreeOf}
+use Rattle.bracket_tree_rules.specs.Tree.{Tree, tree_rows, IsTree}
 use Rattle.mark_rules.specs.declared.Mark.{Mark}
 use Rattle.mark_rules.specs.declared.Mark.TheVariants.{New}
 use Rattle.mark_rules.specs.Marks.{clean_marks, has_new}
@@ -25,7 +25,7 @@ use Rattle.node_reuse.specs.Reading.{AgreesIfThere}
 use Rattle.document_rules.specs.Brackets.{line_contents}
 use Rattle.model_core.specs.declared.change.Change.{Change}
 use Rattle.model_core.specs.declared.change.Way.TheVariants.{Back, On}
-use Rattle.model_core.specs.History.{text_back, text_on, changes_back, changes_on, LeadBack, LeadOn, op_count}
+use Rattle.model_core.specs.History.{text_back, text_on, changes_back, changes_on, LeadBack, LeadOn, op_count, ops_by}
 use Rattle.model_core.specs.State.{fresh_tree, IsKept, KeptBy}
 use Rattle.model_core.specs.LineMarks.{marked_by, marked_backwards, marked_back, marked_on}
 use Rattle.model_core.specs.Staying.{StaysWith}
@@ -129,7 +129,7 @@ stays_applied tree marks table x ops standing stays =
 
 -- the change whose turn it is to be taken back
 pub marked_back-first : (marks : List Mark) (after : List ℕ) (c : Change) (cs : List Change) → LeadBack after (c ∷ cs)
-    → marked_back marks (changes_back after (c ∷ cs)) ≡ marked_backwards (text_back after cs) c.inverse (marked_back marks (changes_back after cs))
+    → marked_back marks (changes_back after (c ∷ cs)) ≡ marked_backwards (text_back after cs) (ops_by Back c) (marked_back marks (changes_back after cs))
 marked_back-first marks after c cs lead = ap (λ ops. marked_backwards (text_back after cs) ops (marked_back marks (changes_back after cs))) (sym lead.0.inverse)
 
 pub stays_back : (tree : Option Tree) (marks : List Mark) (table : Table) (after : List ℕ) (cs : List Change) → LeadBack after cs → StaysWith tree marks table after
@@ -137,15 +137,15 @@ pub stays_back : (tree : Option Tree) (marks : List Mark) (table : Table) (after
 stays_back tree marks table after [] lead stays = stays
 stays_back tree marks table after (c ∷ cs) lead stays =
     subst (λ ms. StaysWith tree ms table (text_back after (c ∷ cs))) (sym (marked_back-first marks after c cs lead))
-    (stays_applied tree (marked_back marks (changes_back after cs)) table (text_back after cs) c.inverse (fit_back _ _ c lead.0).standing
+    (stays_applied tree (marked_back marks (changes_back after cs)) table (text_back after cs) (ops_by Back c) (fit_back _ _ c lead.0).standing
     (stays_back tree marks table after cs lead.1 stays))
 
 pub stays_on : (tree : Option Tree) (marks : List Mark) (table : Table) (before : List ℕ) (cs : List Change) → LeadOn before cs → StaysWith tree marks table before
     → StaysWith tree (marked_on marks (changes_on before cs)) table (text_on before cs)
 stays_on tree marks table before [] lead stays = stays
 stays_on tree marks table before (c ∷ cs) lead stays =
-    stays_on tree (marked_backwards before c.batch marks) table (applied_from 0 before c.batch) cs lead.1
-    (stays_applied tree marks table before c.batch (fit_on before (applied_from 0 before c.batch) c lead.0).standing stays)
+    stays_on tree (marked_backwards before (ops_by On c) marks) table (applied_from 0 before (ops_by On c)) cs lead.1
+    (stays_applied tree marks table before (ops_by On c) (fit_on before (applied_from 0 before (ops_by On c)) c lead.0).standing stays)
 
 -- ---- one turn of each walk
 
@@ -167,7 +167,7 @@ marked_turn x ops marks done op now ms inside is text marked =
 pub marked_turn_back : (after : List ℕ) (cs : List Change) (marks : List Mark) (done : ℕ) (c : Change) (now : List ℕ) (ms : List Mark) → LeadBack after cs → done < length cs
     → c ≡ slice_index_or cs (length cs - 1 - done) c → now ≡ text_back after (drop (length cs - done) cs)
     → ms ≡ marked_back marks (changes_back after (drop (length cs - done) cs))
-    → marked_backwards now c.inverse ms ≡ marked_back marks (changes_back after (drop (length cs - (done + 1)) cs))
+    → marked_backwards now (ops_by Back c) ms ≡ marked_back marks (changes_back after (drop (length cs - (done + 1)) cs))
 marked_turn_back after cs marks done c now ms lead inside is text marked =
     let i : ℕ = length cs - 1 - done in
     let here : length cs - (done + 1) ≡ i = omega arith in
@@ -176,17 +176,17 @@ marked_turn_back after cs marks done c now ms lead inside is text marked =
     let led : LeadBack after (c ∷ drop (suc i) cs) = subst (LeadBack after) cut (LeadBack-drop i after cs lead) in
     let now_is : now ≡ text_back after (drop (suc i) cs) = text ∙ ap (λ (k : ℕ). text_back after (drop k cs)) next in
     let marks_are : ms ≡ marked_back marks (changes_back after (drop (suc i) cs)) = marked ∙ ap (λ (k : ℕ). marked_back marks (changes_back after (drop k cs))) next in
-    ap (λ t. marked_backwards t c.inverse ms) now_is ∙ ap (marked_backwards (text_back after (drop (suc i) cs)) c.inverse) marks_are
+    ap (λ t. marked_backwards t (ops_by Back c) ms) now_is ∙ ap (marked_backwards (text_back after (drop (suc i) cs)) (ops_by Back c)) marks_are
     ∙ sym (marked_back-first marks after c (drop (suc i) cs) led)
     ∙ sym (ap (λ d. marked_back marks (changes_back after d)) (ap (λ (k : ℕ). drop k cs) here ∙ cut))
 
 -- the change whose turn it is to be made again
 pub marked_turn_on : (ms : List Mark) (now : List ℕ) (cs : List Change) (i : ℕ) (c : Change) → i < length cs → c ≡ slice_index_or cs i c
-    → marked_on ms (changes_on now (drop i cs)) ≡ marked_on (marked_backwards now c.batch ms) (changes_on (applied_from 0 now c.batch) (drop (i + 1) cs))
+    → marked_on ms (changes_on now (drop i cs)) ≡ marked_on (marked_backwards now (ops_by On c) ms) (changes_on (applied_from 0 now (ops_by On c)) (drop (i + 1) cs))
 marked_turn_on ms now cs i c inside is =
     let next : suc i ≡ i + 1 = omega arith in
     ap (λ d. marked_on ms (changes_on now d)) (drop-cons cs i c inside ∙ ap (λ d. d ∷ drop (suc i) cs) (sym is))
-    ∙ ap (λ (k : ℕ). marked_on (marked_backwards now c.batch ms) (changes_on (applied_from 0 now c.batch) (drop k cs))) next
+    ∙ ap (λ (k : ℕ). marked_on (marked_backwards now (ops_by On c) ms) (changes_on (applied_from 0 now (ops_by On c)) (drop k cs))) next
 
 -- ---- whether the tree is that of the text of now
 
@@ -216,17 +216,17 @@ marked_step_back marks after [] lead = refl
 marked_step_back marks after (c ∷ cs) lead =
     let mid : List Mark = marked_back marks (changes_back after cs) in
     subst (MarkedBy (op_count Back (c ∷ cs)) marks) (sym (marked_back-first marks after c cs lead))
-    (marked_more (op_count Back (c ∷ cs)) (op_count Back cs) (length c.inverse) marks mid (marked_backwards (text_back after cs) c.inverse mid) (op_count-cons Back c cs)
-    (marked_step_back marks after cs lead.1) (marked_ops 0 (text_back after cs) c.inverse mid (fit_back _ _ c lead.0).standing))
+    (marked_more (op_count Back (c ∷ cs)) (op_count Back cs) (length (ops_by Back c)) marks mid (marked_backwards (text_back after cs) (ops_by Back c) mid) (op_count-cons Back c cs)
+    (marked_step_back marks after cs lead.1) (marked_ops 0 (text_back after cs) (ops_by Back c) mid (fit_back _ _ c lead.0).standing))
 
 pub marked_step_on : (marks : List Mark) (before : List ℕ) (cs : List Change) → LeadOn before cs → MarkedBy (op_count On cs) marks (marked_on marks (changes_on before cs))
 unfolding MarkedBy
 marked_step_on marks before [] lead = refl
 marked_step_on marks before (c ∷ cs) lead =
-    let after : List ℕ = applied_from 0 before c.batch in
-    let mid : List Mark = marked_backwards before c.batch marks in
-    marked_more (op_count On (c ∷ cs)) (length c.batch) (op_count On cs) marks mid (marked_on mid (changes_on after cs)) (omega (arith, op_count-cons On c cs))
-    (marked_ops 0 before c.batch marks (fit_on before after c lead.0).standing) (marked_step_on mid after cs lead.1)
+    let after : List ℕ = applied_from 0 before (ops_by On c) in
+    let mid : List Mark = marked_backwards before (ops_by On c) marks in
+    marked_more (op_count On (c ∷ cs)) (length (ops_by On c)) (op_count On cs) marks mid (marked_on mid (changes_on after cs)) (omega (arith, op_count-cons On c cs))
+    (marked_ops 0 before (ops_by On c) marks (fit_on before after c lead.0).standing) (marked_step_on mid after cs lead.1)
 
 kept_by : (ops : ℕ) (tree : Option Tree) (before after : List Mark) → MarkedBy ops before after → KeptBy ops (is_some (fresh_tree tree before)) (is_some (fresh_tree tree after))
 unfolding MarkedBy

@@ -1,10 +1,11 @@
 -- A step that is undone or redone: what it leaves, and what the flat document has then.
-use Rattle.std.proofs.Common.{◌≡◌, ℕ, ◌+◌, ◌<◌, ◌≤◌, Bool, List, [], ◌∷◌, length, slice_get, Option, Result, Some, None, Ok, Err, refl, ap, sym, subst, arith}
+use Rattle.std.proofs.Common.{◌≡◌, ℕ, ◌+◌, ◌<◌, ◌≤◌, Bool, List, [], ◌∷◌, length, slice_get, Option, Result, Some, None, Ok, Err, is_some, refl, ap, sym, subst, arith}
 use Rattle.std.specs.List.{All}
+use Rattle.std.specs.Option.{option_map}
 use Rattle.std.proofs.lemmas.Bool.{lt-leb, le-leb}
 use Rattle.batch_rules.specs.Batches.{most_units, applied_from, text_units}
 use Rattle.undo_rules.specs.Stack.{Step, Stack}
-use Rattle.bracket_trees.specs.Tree.{Tree}
+use Rattle.bracket_tree_rules.specs.Tree.{Tree}
 use Rattle.document_rules.specs.declared.ModelError.{ModelError}
 use Rattle.document_rules.specs.Outcomes.{Moves}
 use Rattle.document_rules.specs.Paired.{IsPairedState}
@@ -18,7 +19,7 @@ use Rattle.model_core.specs.declared.change.Way.TheVariants.{Back, On}
 use Rattle.model_core.specs.Ways.{text_by, changes_by, LeadBy, decorations_by, marked_along, marked_step, next_steps, passed, alternative_after, flat_move}
 use Rattle.model_core.specs.Staying.{StaysWith}
 use Rattle.model_core.specs.Prepared.{next_op_count, next_unit_count, next_break_count}
-use Rattle.model_core.specs.History.{text_back, text_on, op_count, unit_count, text_breaks, breaks_along, ops_by, history_of, LeadBack, LeadOn, IsHistory}
+use Rattle.model_core.specs.History.{text_back, text_on, op_count, unit_count, text_breaks, breaks_along, ops_by, undo_steps, redo_steps, history_of, LeadBack, LeadOn, IsHistory}
 use Rattle.bracket_rules.specs.Table.{Table}
 use Rattle.decoration_rules.specs.Decorations.{Decorations}
 use Rattle.mark_rules.specs.declared.Mark.{Mark}
@@ -48,7 +49,7 @@ fits_back now (c ∷ cs) fits lead = lead.0.fits_before
 
 fits_on : (now : List ℕ) (cs : List Change) → length now ≤ most_units → LeadOn now cs → length (text_on now cs) ≤ most_units
 fits_on now [] fits lead = fits
-fits_on now (c ∷ cs) fits lead = fits_on (applied_from 0 now c.batch) cs lead.0.fits_after lead.1
+fits_on now (c ∷ cs) fits lead = fits_on (applied_from 0 now (ops_by On c)) cs lead.0.fits_after lead.1
 
 -- what a step does that comes next on the way
 pub record IsStep (way : Way) (now : List ℕ) (version alternative : ℕ) (d : Decorations) (table : Table) (shelf : FlatShelf) (s : Stack Change) (step : Step Change) : Type 0 where
@@ -117,6 +118,23 @@ no_step_on On now version alternative d table shelf s none = rw (none_of s.redo 
 pub no_next_on : (way : Way) (now : List ℕ) (s : Stack Change) → slice_get (next_steps way s) 0 ≡ None → next_steps way (history_of now s) ≡ []
 no_next_on Back now s none = rw (none_of s.undo none) refl
 no_next_on On now s none = rw (none_of s.redo none) refl
+
+next_of_undo : (now : List ℕ) (ss : List (Step Change)) → is_some (slice_get (undo_steps now ss) 0) ≡ is_some (slice_get ss 0)
+next_of_undo now [] = refl
+next_of_undo now (s ∷ ss) = refl
+
+next_of_redo : (now : List ℕ) (ss : List (Step Change)) → is_some (slice_get (redo_steps now ss) 0) ≡ is_some (slice_get ss 0)
+next_of_redo now [] = refl
+next_of_redo now (s ∷ ss) = refl
+
+-- a step comes next where one is kept
+pub next_on : (way : Way) (now : List ℕ) (s : Stack Change) → is_some (slice_get (next_steps way (history_of now s)) 0) ≡ is_some (slice_get (next_steps way s) 0)
+next_on Back now s = next_of_undo now s.undo
+next_on On now s = next_of_redo now s.redo
+
+pub mapped_twice : {A B C : Type 0} (f : B → C) (g : A → B) (o : Option A) → is_some (option_map f (option_map g o)) ≡ is_some o
+mapped_twice f g None = refl
+mapped_twice f g (Some x) = refl
 
 -- ---- what holds on either way
 

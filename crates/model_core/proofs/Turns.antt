@@ -85,9 +85,9 @@ pub record IsFit (way : Way) (c : Change) (now : List ℕ) : Type 0 where
 pub fit_back : (before after : List ℕ) (c : Change) → Leads before c after → IsFit Back c after
 fit_back before after c leads =
     record {
-      standing = rw (leads.on, leads.inverse) (inverse_stands_from_start before c.batch leads.standing);
+      standing = rw (leads.on, leads.inverse) (inverse_stands_from_start before (ops_by On c) leads.standing);
       few = leads.fits_after;
-      units = rw leads.inverse (omega (arith, text_units_inverse 0 0 before c.batch leads.standing, leads.fits_before));
+      units = rw leads.inverse (omega (arith, text_units_inverse 0 0 before (ops_by On c) leads.standing, leads.fits_before));
     }
 
 pub fit_on : (before after : List ℕ) (c : Change) → Leads before c after → IsFit On c before
@@ -95,18 +95,18 @@ fit_on before after c leads =
     record {
       standing = leads.standing;
       few = leads.fits_before;
-      units = omega (arith, text_units_applied 0 before c.batch leads.standing, ap length leads.on, leads.fits_after);
+      units = omega (arith, text_units_applied 0 before (ops_by On c) leads.standing, ap length leads.on, leads.fits_after);
     }
 
 -- the change whose turn it is to be taken back, after so many others
 pub record IsTurnBack (after : List ℕ) (cs : List Change) (done : ℕ) (c : Change) (now : List ℕ) : Type 0 where
   pub fit : IsFit Back c now
-  pub leaves : text_back after (drop (length cs - (done + 1)) cs) ≡ applied_from 0 now c.inverse
-  pub ops : op_count Back (drop (length cs - (done + 1)) cs) ≡ length c.inverse + op_count Back (drop (length cs - done) cs)
-  pub units : unit_count Back (drop (length cs - (done + 1)) cs) ≡ text_units c.inverse + unit_count Back (drop (length cs - done) cs)
+  pub leaves : text_back after (drop (length cs - (done + 1)) cs) ≡ applied_from 0 now (ops_by Back c)
+  pub ops : op_count Back (drop (length cs - (done + 1)) cs) ≡ length (ops_by Back c) + op_count Back (drop (length cs - done) cs)
+  pub units : unit_count Back (drop (length cs - (done + 1)) cs) ≡ text_units (ops_by Back c) + unit_count Back (drop (length cs - done) cs)
   pub ops_left : op_count Back (drop (length cs - (done + 1)) cs) ≤ op_count Back cs
   pub units_left : unit_count Back (drop (length cs - (done + 1)) cs) ≤ unit_count Back cs
-  pub breaks : breaks_along Back (drop (length cs - (done + 1)) cs) ≡ text_breaks c.inverse + breaks_along Back (drop (length cs - done) cs)
+  pub breaks : breaks_along Back (drop (length cs - (done + 1)) cs) ≡ text_breaks (ops_by Back c) + breaks_along Back (drop (length cs - done) cs)
   pub breaks_left : breaks_along Back (drop (length cs - (done + 1)) cs) ≤ breaks_along Back cs
 
 pub LeadBack-drop : (i : ℕ) (after : List ℕ) (cs : List Change) → LeadBack after cs → LeadBack after (drop i cs)
@@ -119,9 +119,9 @@ turn_back_at : (after : List ℕ) (cs : List Change) (i done : ℕ) (c : Change)
 turn_back_at after cs i done c now lead inside here next is text =
     let cut : drop i cs ≡ c ∷ drop (suc i) cs = drop-cons cs i c inside ∙ ap (λ d. d ∷ drop (suc i) cs) (sym is) in
     let led : LeadBack after (c ∷ drop (suc i) cs) = subst (LeadBack after) cut (LeadBack-drop i after cs lead) in
-    let ops : op_count Back (drop i cs) ≡ length c.inverse + op_count Back (drop (suc i) cs) = rw cut (op_count-cons Back c (drop (suc i) cs)) in
-    let units : unit_count Back (drop i cs) ≡ text_units c.inverse + unit_count Back (drop (suc i) cs) = rw cut (unit_count-cons Back c (drop (suc i) cs)) in
-    let breaks : breaks_along Back (drop i cs) ≡ text_breaks c.inverse + breaks_along Back (drop (suc i) cs) = rw cut (breaks_along-cons Back c (drop (suc i) cs)) in
+    let ops : op_count Back (drop i cs) ≡ length (ops_by Back c) + op_count Back (drop (suc i) cs) = rw cut (op_count-cons Back c (drop (suc i) cs)) in
+    let units : unit_count Back (drop i cs) ≡ text_units (ops_by Back c) + unit_count Back (drop (suc i) cs) = rw cut (unit_count-cons Back c (drop (suc i) cs)) in
+    let breaks : breaks_along Back (drop i cs) ≡ text_breaks (ops_by Back c) + breaks_along Back (drop (suc i) cs) = rw cut (breaks_along-cons Back c (drop (suc i) cs)) in
     record {
       fit = subst (IsFit Back c) (sym text) (fit_back _ _ c led.0);
       leaves = rw (here, cut, text) refl;
@@ -142,11 +142,11 @@ turn_back after cs done c now lead inside is text =
 -- the change whose turn it is to be made again, after so many others
 pub record IsTurnOnAt (cs : List Change) (done : ℕ) (c : Change) (now : List ℕ) : Type 0 where
   pub fit : IsFit On c now
-  pub leaves : text_on now (drop done cs) ≡ text_on (applied_from 0 now c.batch) (drop (done + 1) cs)
-  pub lead : LeadOn (applied_from 0 now c.batch) (drop (done + 1) cs)
-  pub ops : op_count On (drop done cs) ≡ length c.batch + op_count On (drop (done + 1) cs)
-  pub units : unit_count On (drop done cs) ≡ text_units c.batch + unit_count On (drop (done + 1) cs)
-  pub breaks : breaks_along On (drop done cs) ≡ text_breaks c.batch + breaks_along On (drop (done + 1) cs)
+  pub leaves : text_on now (drop done cs) ≡ text_on (applied_from 0 now (ops_by On c)) (drop (done + 1) cs)
+  pub lead : LeadOn (applied_from 0 now (ops_by On c)) (drop (done + 1) cs)
+  pub ops : op_count On (drop done cs) ≡ length (ops_by On c) + op_count On (drop (done + 1) cs)
+  pub units : unit_count On (drop done cs) ≡ text_units (ops_by On c) + unit_count On (drop (done + 1) cs)
+  pub breaks : breaks_along On (drop done cs) ≡ text_breaks (ops_by On c) + breaks_along On (drop (done + 1) cs)
 
 pub turn_on_at : (cs : List Change) (done : ℕ) (c : Change) (now : List ℕ) → done < length cs → c ≡ slice_index_or cs done c → LeadOn now (drop done cs) → IsTurnOnAt cs done c now
 turn_on_at cs done c now inside is lead =
@@ -155,7 +155,7 @@ turn_on_at cs done c now inside is lead =
     drop-cons cs done c inside ∙ ap (λ d. d ∷ drop (suc done) cs) (sym is) ∙ ap (λ (k : ℕ). c ∷ drop k cs) next in
     let led : LeadOn now (c ∷ drop (done + 1) cs) = subst (LeadOn now) cut lead in
     record {
-      fit = fit_on now (applied_from 0 now c.batch) c led.0;
+      fit = fit_on now (applied_from 0 now (ops_by On c)) c led.0;
       leaves = ap (text_on now) cut;
       lead = led.1;
       ops = ap (op_count On) cut ∙ op_count-cons On c (drop (done + 1) cs);
@@ -167,8 +167,8 @@ turn_on_at cs done c now inside is lead =
 pub ops_back : (after : List ℕ) (cs : List Change) → LeadBack after cs → sum_by (λ (change : FlatChange). length change.ops) (changes_back after cs) ≡ op_count Back cs
 ops_back after [] lead = refl
 ops_back after (c ∷ cs) lead =
-    let first : FlatChange = record { before = text_back after (c ∷ cs); ops = c.batch; after = text_back after cs } in
-    let same : length c.inverse ≡ length c.batch = ap length lead.0.inverse ∙ length-inverse_from 0 0 (text_back after (c ∷ cs)) c.batch in
+    let first : FlatChange = record { before = text_back after (c ∷ cs); ops = ops_by On c; after = text_back after cs } in
+    let same : length (ops_by Back c) ≡ length (ops_by On c) = ap length lead.0.inverse ∙ length-inverse_from 0 0 (text_back after (c ∷ cs)) (ops_by On c) in
     omega (arith, sum_by-cons {X = FlatChange} (λ change. length change.ops) first (changes_back after cs), op_count-cons Back c cs, same, ops_back after cs lead.1)
 
 -- a measure of the ops on a way, such as the units of their texts, is that of the kept ones
@@ -176,16 +176,16 @@ pub measured_back : (measure : List Op → ℕ) (after : List ℕ) (cs : List Ch
     → sum_by (λ (change : FlatChange). measure (ops_along Back change)) (changes_back after cs) ≡ sum_by (λ (c : Change). measure (ops_by Back c)) cs
 measured_back measure after [] lead = refl
 measured_back measure after (c ∷ cs) lead =
-    let first : FlatChange = record { before = text_back after (c ∷ cs); ops = c.batch; after = text_back after cs } in
-    let same : measure c.inverse ≡ measure (ops_along Back first) = ap measure lead.0.inverse in
+    let first : FlatChange = record { before = text_back after (c ∷ cs); ops = ops_by On c; after = text_back after cs } in
+    let same : measure (ops_by Back c) ≡ measure (ops_along Back first) = ap measure lead.0.inverse in
     omega (arith, sum_by-cons {X = FlatChange} (λ change. measure (ops_along Back change)) first (changes_back after cs), sum_by-cons {X = Change} (λ d. measure (ops_by Back d)) c cs, same, measured_back measure after cs lead.1)
 
 pub measured_on : (measure : List Op → ℕ) (before : List ℕ) (cs : List Change)
     → sum_by (λ (change : FlatChange). measure (ops_along On change)) (changes_on before cs) ≡ sum_by (λ (c : Change). measure (ops_by On c)) cs
 measured_on measure before [] = refl
 measured_on measure before (c ∷ cs) =
-    let after = applied_from 0 before c.batch in
-    let first : FlatChange = record { before = before; ops = c.batch; after = after } in
+    let after = applied_from 0 before (ops_by On c) in
+    let first : FlatChange = record { before = before; ops = ops_by On c; after = after } in
     omega (arith, sum_by-cons {X = FlatChange} (λ change. measure (ops_along On change)) first (changes_on after cs), sum_by-cons {X = Change} (λ d. measure (ops_by On d)) c cs, measured_on measure after cs)
 
 -- each change of a step is fit for its way
@@ -195,4 +195,4 @@ few_back after (c ∷ cs) lead = All-cons (λ d. text_units (ops_by Back d) ≤ 
 
 pub few_on : (before : List ℕ) (cs : List Change) → LeadOn before cs → All (λ c. text_units (ops_by On c) ≤ most_units) cs
 few_on before [] lead = All-nil (λ c. text_units (ops_by On c) ≤ most_units)
-few_on before (c ∷ cs) lead = All-cons (λ d. text_units (ops_by On d) ≤ most_units) c cs (fit_on _ _ c lead.0).units (few_on (applied_from 0 before c.batch) cs lead.1)
+few_on before (c ∷ cs) lead = All-cons (λ d. text_units (ops_by On d) ≤ most_units) c cs (fit_on _ _ c lead.0).units (few_on (applied_from 0 before (ops_by On c)) cs lead.1)

@@ -2,7 +2,7 @@
 use Rattle.std.specs.Prelude.{◌≡◌, ℕ, ◌+◌, ◌*◌, ◌≤◌, true, List, Option, Some}
 use Rattle.bracket_rules.specs.Table.{Table}
 use Rattle.bracket_rules.specs.declared.TheConstants.{MOST_OPEN}
-use Rattle.bracket_trees.specs.Tree.{Tree, nesting, highest}
+use Rattle.bracket_tree_rules.specs.Tree.{Tree, nesting, highest}
 use Rattle.mark_rules.specs.declared.Mark.{Mark}
 use Rattle.reuse_rules.specs.Prices.{all_paired}
 use Rattle.reuse_rules.specs.Ways.{IsOneRun}

@@ -14,6 +14,7 @@ use Rattle.model_core.specs.State.{Room, ModelState}
 use Rattle.model_core.specs.History.{text_breaks}
 use Rattle.model_core.specs.Prepared.{Need, CanCommit, IsEnough, next_op_count, next_unit_count, next_break_count}
 use Rattle.model_core.specs.LineMarks.{marked_by, marked_backwards, marked_back}
+use Rattle.model_core.specs.declared.change.Change.TheVariants.{Ops}
 
 abbrev insert : ℕ → Op
 insert at = record { span = record { start = at; end = at }; text = codes "x"; force = false }
@@ -93,17 +94,17 @@ the_break_that_comes_back = refl
 
 -- two edits, whose texts have five units and one break
 abbrev two_edits : Need
-two_edits = record { edits = 2; units = 5; breaks = 1; changes = 1 }
+two_edits = record { text = record { edits = 2; units = 5; breaks = 1 }; changes = 1 }
 
 -- room for them, with so many breaks
 abbrev room_with : ℕ → Room
-room_with breaks = record { edits = 2; marks = 2; units = 135; breaks = breaks; changes = 1 }
+room_with breaks = record { text = record { edits = 2; units = 135; breaks = breaks }; marks = 2; changes = 1 }
 
 five_breaks_are_enough : IsEnough (room_with 5) two_edits
-five_breaks_are_enough = record { edits = omega arith; marks = omega arith; units = omega arith; breaks = omega arith; changes = omega arith }
+five_breaks_are_enough = record { text = record { edits = omega arith; units = omega arith; breaks = omega arith }; marks = omega arith; changes = omega arith }
 
 four_breaks_are_one_too_few : IsEnough (room_with 4) two_edits → ⊥
-four_breaks_are_one_too_few enough = omega (arith, enough.breaks)
+four_breaks_are_one_too_few enough = omega (arith, enough.text.breaks)
 
 -- a document of one line, with room for one edit that puts one unit in
 abbrev six_letters : ModelState
@@ -114,16 +115,16 @@ six_letters = record {
   marks = New ∷ [];
   fresh = false;
   pieces = 1;
-  room = record { edits = 1; marks = 1; units = 66; breaks = 2; changes = 1 };
+  room = record { text = record { edits = 1; units = 66; breaks = 2 }; marks = 1; changes = 1 };
 }
 
 -- `x` in the place of `cd`, and what takes it back
 abbrev two_by_one : Change
-two_by_one = record { batch = replace 2 4 (codes "x") ∷ []; inverse = replace 2 3 (codes "cd") ∷ [] }
+two_by_one = Ops (replace 2 4 (codes "x") ∷ []) (replace 2 3 (codes "cd") ∷ [])
 
 two_units_make_way_for_one : CanCommit six_letters (record { version = 1; action = Edit two_by_one })
 two_units_make_way_for_one = record {
   version = refl;
   action = record { accepted = refl; inverse = refl };
-  room = record { edits = omega arith; marks = omega arith; units = omega arith; breaks = omega arith; changes = omega arith };
+  room = record { text = record { edits = omega arith; units = omega arith; breaks = omega arith }; marks = omega arith; changes = omega arith };
 }

@@ -2,34 +2,41 @@
 use Rattle.std.specs.Prelude.{ℕ, ◌≡◌, ◌≤◌, List, [], ◌∷◌, length, sum_by, ⊤}
 use Rattle.text_rules.specs.declared.Op.{Op}
 use Rattle.line_starts.specs.Starts.{break_count}
+use Rattle.text_buffer.specs.declared.room.Need.{Need}
 use Rattle.batch_rules.specs.Batches.{most_units, applied_from, inverse_from, text_units, StandFrom}
 use Rattle.undo_rules.specs.Stack.{Step, Stack}
 use Rattle.document_rules.specs.Document.{FlatChange}
 use Rattle.model_core.specs.declared.change.Change.{Change}
+use Rattle.model_core.specs.declared.change.Change.TheVariants.{Ops}
 use Rattle.model_core.specs.declared.change.Way.{Way}
 use Rattle.model_core.specs.declared.change.Way.TheVariants.{Back, On}
+
+-- the ops that lead a text along the change
+abbrev pub ops_by : Way → Change → List Op
+ops_by Back (Ops batch inverse) = inverse
+ops_by On (Ops batch inverse) = batch
 
 -- the text before the changes, where `after` is the one after them
 abbrev pub text_back : List ℕ → List Change → List ℕ
 text_back after [] = after
-text_back after (c ∷ cs) = applied_from 0 (text_back after cs) c.inverse
+text_back after (c ∷ cs) = applied_from 0 (text_back after cs) (ops_by Back c)
 
 -- the text after the changes, where `before` is the one before them
 abbrev pub text_on : List ℕ → List Change → List ℕ
 text_on before [] = before
-text_on before (c ∷ cs) = text_on (applied_from 0 before c.batch) cs
+text_on before (c ∷ cs) = text_on (applied_from 0 before (ops_by On c)) cs
 
 -- the changes with their whole texts, from the text after them back
 abbrev pub changes_back : List ℕ → List Change → List FlatChange
 changes_back after [] = []
 changes_back after (c ∷ cs) =
-    record { before = text_back after (c ∷ cs); ops = c.batch; after = text_back after cs } ∷ changes_back after cs
+    record { before = text_back after (c ∷ cs); ops = ops_by On c; after = text_back after cs } ∷ changes_back after cs
 
 -- the changes with their whole texts, from the text before them on
 abbrev pub changes_on : List ℕ → List Change → List FlatChange
 changes_on before [] = []
 changes_on before (c ∷ cs) =
-    record { before = before; ops = c.batch; after = applied_from 0 before c.batch } ∷ changes_on (applied_from 0 before c.batch) cs
+    record { before = before; ops = ops_by On c; after = applied_from 0 before (ops_by On c) } ∷ changes_on (applied_from 0 before (ops_by On c)) cs
 
 -- what can be undone from the text of now
 abbrev pub undo_steps : List ℕ → List (Step Change) → List (Step FlatChange)
@@ -48,9 +55,9 @@ history_of now s = record { undo = undo_steps now s.undo; redo = redo_steps now 
 
 -- the change leads from one text to the other, and back
 pub record Leads (before : List ℕ) (c : Change) (after : List ℕ) : Type 0 where
-  pub standing : StandFrom 0 before c.batch
-  pub on : after ≡ applied_from 0 before c.batch
-  pub inverse : c.inverse ≡ inverse_from 0 0 before c.batch
+  pub standing : StandFrom 0 before (ops_by On c)
+  pub on : after ≡ applied_from 0 before (ops_by On c)
+  pub inverse : ops_by Back c ≡ inverse_from 0 0 before (ops_by On c)
   pub fits_before : length before ≤ most_units
   pub fits_after : length after ≤ most_units
 
@@ -60,7 +67,7 @@ LeadBack after (c ∷ cs) = Leads (text_back after (c ∷ cs)) c (text_back afte
 
 abbrev pub LeadOn : List ℕ → List Change → Type 0
 LeadOn before [] = ⊤
-LeadOn before (c ∷ cs) = Leads before c (applied_from 0 before c.batch) × LeadOn (applied_from 0 before c.batch) cs
+LeadOn before (c ∷ cs) = Leads before c (applied_from 0 before (ops_by On c)) × LeadOn (applied_from 0 before (ops_by On c)) cs
 
 abbrev pub StepsLeadBack : List ℕ → List (Step Change) → Type 0
 StepsLeadBack now [] = ⊤
@@ -75,11 +82,6 @@ pub record IsHistory (now : List ℕ) (s : Stack Change) : Type 0 where
   pub back : StepsLeadBack now s.undo
   pub on : StepsLeadOn now s.redo
 
--- the ops that lead a text along the change
-abbrev pub ops_by : Way → Change → List Op
-ops_by Back c = c.inverse
-ops_by On c = c.batch
-
 -- how many breaks the texts of the ops have together
 abbrev pub text_breaks : List Op → ℕ
 text_breaks ops = sum_by (λ op. break_count op.text) ops
@@ -93,3 +95,11 @@ unit_count way cs = sum_by (λ c. text_units (ops_by way c)) cs
 
 abbrev pub breaks_along : Way → List Change → ℕ
 breaks_along way cs = sum_by (λ c. text_breaks (ops_by way c)) cs
+
+-- what the ops ask for
+abbrev pub need_of_ops : List Op → Need
+need_of_ops ops = record { edits = length ops; units = text_units ops; breaks = text_breaks ops }
+
+-- what the changes ask for on the way
+abbrev pub need_along : Way → List Change → Need
+need_along way cs = record { edits = op_count way cs; units = unit_count way cs; breaks = breaks_along way cs }

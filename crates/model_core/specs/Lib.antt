@@ -6,6 +6,7 @@ pub mod LineMarks
 pub mod Staying
 pub mod TextWeights
 pub mod Counting
+pub mod Edited
 pub mod Ways
 pub mod Shelving
 pub mod Prepared

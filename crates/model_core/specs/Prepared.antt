@@ -1,5 +1,5 @@
 -- Changes of the document that were prepared: what each asks of the document that it is carried out on, and what it does.
-use Rattle.std.specs.Prelude.{◌≡◌, ℕ, ◌+◌, ◌*◌, ◌<◌, ◌≤◌, List, [], ◌∷◌, length, sum_by, Option, Some, None, Result, Ok, Err, All, ⊤}
+use Rattle.std.specs.Prelude.{◌≡◌, ℕ, ◌<◌, ◌≤◌, List, [], ◌∷◌, length, sum_by, Option, Some, None, Result, Ok, Err, All, ⊤}
 use Rattle.unit_text.specs.Units.{IsPaired}
 use Rattle.text_rules.specs.declared.Op.{Op}
 use Rattle.batch_rules.specs.Batches.{checked_batch, sorted_ops, inverse_from, inverse_of, text_units}
@@ -14,10 +14,12 @@ use Rattle.model_core.specs.declared.change.Way.TheVariants.{Back, On}
 use Rattle.model_core.specs.declared.ready.Action.{Action}
 use Rattle.model_core.specs.declared.ready.Action.TheVariants.{Edit, Move}
 use Rattle.model_core.specs.State.{Room, ModelState, KeptBy, GrownBy}
-use Rattle.text_buffer.specs.Text.{units_beside_text, breaks_beside_text}
+use Rattle.text_buffer.specs.Room as text_room
+use Rattle.text_buffer.specs.declared.room.Need as text_need
 use Rattle.model_core.specs.LineMarks.{marked_backwards}
-use Rattle.model_core.specs.History.{text_breaks}
+use Rattle.model_core.specs.History.{text_breaks, ops_by, need_of_ops}
 use Rattle.model_core.specs.Ways.{next_steps, flat_move, marked_step}
+use Rattle.model_core.specs.declared.change.Change.TheVariants.{Ops}
 
 -- what contracts see of one
 pub record Prepared : Type 0 where
@@ -51,39 +53,32 @@ next_break_count way steps = next_sum text_breaks way steps
 
 -- the room that an action takes
 pub record Need : Type 0 where
-  pub edits : ℕ
-  pub units : ℕ
-  pub breaks : ℕ
+  pub text : text_need.Need
   pub changes : ℕ
 
 -- an edit is kept as one change more; a move keeps what is there
 abbrev pub need_of : Action → FlatState → Need
-need_of (Edit change) f = record {
-  edits = length change.batch;
-  units = text_units change.batch;
-  breaks = text_breaks change.batch;
-  changes = 1;
-}
+need_of (Edit change) f = record { text = need_of_ops (ops_by On change); changes = 1 }
 need_of (Move way) f = record {
-  edits = next_op_count (next_steps way f.history);
-  units = next_unit_count way (next_steps way f.history);
-  breaks = next_break_count way (next_steps way f.history);
+  text = record {
+    edits = next_op_count (next_steps way f.history);
+    units = next_unit_count way (next_steps way f.history);
+    breaks = next_break_count way (next_steps way f.history);
+  };
   changes = 0;
 }
 
 pub record IsEnough (room : Room) (need : Need) : Type 0 where
-  pub edits : need.edits ≤ room.edits
-  pub marks : need.edits ≤ room.marks
-  pub units : need.units + units_beside_text * need.edits ≤ room.units
-  pub breaks : need.breaks + breaks_beside_text * need.edits ≤ room.breaks
+  pub text : text_room.IsEnough room.text need.text
+  pub marks : need.text.edits ≤ room.marks
   pub changes : need.changes ≤ room.changes
 
 -- ---- what is asked of the document
 
 -- a batch in its order that the rule accepts on text x, with the one that takes it back
 pub record IsChangeOf (x : List ℕ) (change : Change) : Type 0 where
-  pub accepted : checked_batch x change.batch ≡ Ok change.batch
-  pub inverse : change.inverse ≡ inverse_from 0 0 x change.batch
+  pub accepted : checked_batch x (ops_by On change) ≡ Ok (ops_by On change)
+  pub inverse : ops_by Back change ≡ inverse_from 0 0 x (ops_by On change)
 
 -- a move needs a step that comes next
 abbrev pub CanAct : Action → FlatState → Type 0
@@ -100,11 +95,11 @@ pub record CanCommit (now : ModelState) (ready : Prepared) : Type 0 where
 
 -- the new document is the one that the rule makes
 abbrev pub Acts : Action → FlatState → FlatState → Type 0
-Acts (Edit change) old new = flat_edit old change.batch ≡ Ok new
+Acts (Edit change) old new = flat_edit old (ops_by On change) ≡ Ok new
 Acts (Move way) old new = flat_move way old ≡ Ok (Some new)
 
 abbrev pub marks_after : Action → FlatState → List Mark → List Mark
-marks_after (Edit change) f marks = marked_backwards f.units change.batch marks
+marks_after (Edit change) f marks = marked_backwards f.units (ops_by On change) marks
 marks_after (Move way) f marks = marked_step way marks (next_steps way f.history)
 
 -- what it leaves of the last parse and of the pieces
@@ -112,19 +107,19 @@ pub record HasActed (action : Action) (old new : ModelState) : Type 0 where
   pub parsed : new.parsed ≡ old.parsed
   pub tree : new.tree ≡ old.tree
   pub marks : new.marks ≡ marks_after action old.document old.marks
-  pub fresh : KeptBy (need_of action old.document).edits old.fresh new.fresh
-  pub pieces : GrownBy (need_of action old.document).edits old.pieces new.pieces
+  pub fresh : KeptBy (need_of action old.document).text.edits old.fresh new.fresh
+  pub pieces : GrownBy (need_of action old.document).text.edits old.pieces new.pieces
 
 -- no new text has a lone surrogate; a move brings none
 abbrev pub ArePairedTexts : Action → Type 0
-ArePairedTexts (Edit change) = All (λ (op : Op). IsPaired op.text) change.batch
+ArePairedTexts (Edit change) = All (λ (op : Op). IsPaired op.text) (ops_by On change)
 ArePairedTexts (Move way) = ⊤
 
 -- ---- what the calls that prepare answer, on the document of now
 
 -- The rule accepts the ops. It makes the same document of them in their order: `same_in_order` of proofs/Preparing.antt.
 pub record IsEditReady (ops : List Op) (now : ModelState) (ready : Prepared) : Type 0 where
-  pub action : ready.action ≡ Edit (record { batch = sorted_ops ops; inverse = inverse_of now.document.units ops })
+  pub action : ready.action ≡ Edit (Ops (sorted_ops ops) (inverse_of now.document.units ops))
   pub accepted : flat_edit now.document ops ≡ Ok (after_batch now.document ops (sorted_ops ops))
   pub can : CanCommit now ready
 

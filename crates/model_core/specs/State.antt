@@ -1,9 +1,10 @@
 -- What contracts see of a model.
 use Rattle.std.specs.Prelude.{◌≡◌, ℕ, zero, suc, ◌+◌, ◌*◌, ◌<◌, ◌≤◌, Bool, true, false, if◌then◌else◌, List, length, Option, Some, None, Result, Ok, Err, OnOk, OnErr, ⊤}
+use Rattle.text_buffer.specs.Room as text_room
 use Rattle.bracket_rules.specs.Table.{Table, is_table}
-use Rattle.bracket_trees.specs.Tree.{Tree}
+use Rattle.bracket_tree_rules.specs.Tree.{Tree}
 use Rattle.bracket_rules.specs.Rows.{text_rows}
-use Rattle.bracket_trees.specs.Told.{IsTreeOf}
+use Rattle.bracket_tree_rules.specs.Told.{IsTreeOf}
 use Rattle.mark_rules.specs.declared.Mark.{Mark}
 use Rattle.mark_rules.specs.Marks.{has_new, clean_marks}
 use Rattle.node_reuse.specs.Texts.{new_lines}
@@ -14,22 +15,16 @@ use Rattle.document_rules.specs.Brackets.{line_contents}
 
 -- the room that was made for changes
 pub record Room : Type 0 where
-  -- for how many edits of the text, and for how many of the marks of its lines
-  pub edits : ℕ
+  -- for edits of the text, and for how many edits of the marks of its lines
+  pub text : text_room.Room
   pub marks : ℕ
-  -- for how many units of new texts; each edit takes up to `units_beside_text` more than its text has
-  pub units : ℕ
-  -- for how many breaks of these texts; each edit takes up to `breaks_beside_text` more than its text has
-  pub breaks : ℕ
   -- for how many changes more that are kept for undo
   pub changes : ℕ
 
 -- the old room is still there
 pub record KeepsRoom (old new : Room) : Type 0 where
-  pub edits : old.edits ≤ new.edits
+  pub text : text_room.KeepsRoom old.text new.text
   pub marks : old.marks ≤ new.marks
-  pub units : old.units ≤ new.units
-  pub breaks : old.breaks ≤ new.breaks
   pub changes : 0 < old.changes → 0 < new.changes
 
 pub record ModelState : Type 0 where

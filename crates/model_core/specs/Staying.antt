@@ -3,9 +3,9 @@ use Rattle.std.specs.Prelude.{◌≡◌, ℕ, true, List, Option, length}
 use Rattle.text_rules.specs.Lines.{lines_of}
 use Rattle.bracket_rules.specs.Table.{Table, is_table}
 use Rattle.bracket_rules.specs.Rows.{text_rows}
-use Rattle.bracket_trees.specs.Told.{IsTreeOf}
-use Rattle.bracket_trees.specs.Tree.{Tree}
-use Rattle.bracket_trees.specs.Weights.{tree_weights, AreCovered}
+use Rattle.bracket_tree_rules.specs.Told.{IsTreeOf}
+use Rattle.bracket_tree_rules.specs.Tree.{Tree}
+use Rattle.bracket_tree_rules.specs.Weights.{tree_weights, AreCovered}
 use Rattle.mark_rules.specs.declared.Mark.{Mark}
 use Rattle.node_reuse.specs.ParsedTree.{ParsedTree}
 use Rattle.node_reuse.specs.Texts.{text_weights, new_lines, IsTight}

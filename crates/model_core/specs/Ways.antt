@@ -1,5 +1,5 @@
 -- The two ways on which steps lead the text: an undo takes it back, a redo on.
-use Rattle.std.specs.Prelude.{◌≡◌, ℕ, ◌+◌, ◌*◌, ◌≤◌, List, length, Option, Result}
+use Rattle.std.specs.Prelude.{◌≡◌, ℕ, ◌≤◌, List, length, Option, Result}
 use Rattle.text_rules.specs.Lines.{lines_of}
 use Rattle.decoration_rules.specs.Decorations.{Decorations}
 use Rattle.mark_rules.specs.declared.Mark.{Mark}
@@ -12,9 +12,9 @@ use Rattle.model_core.specs.declared.change.Change.{Change}
 use Rattle.model_core.specs.declared.change.Way.{Way}
 use Rattle.model_core.specs.declared.change.Way.TheVariants.{Back, On}
 use Rattle.model_core.specs.State.{GrownBy}
-use Rattle.text_buffer.specs.Text.{units_beside_text, breaks_beside_text}
+use Rattle.text_buffer.specs.Room.{IsEnough, KeepsRoom}
 use Rattle.model_core.specs.Staying.{ParseState}
-use Rattle.model_core.specs.History.{text_back, text_on, changes_back, changes_on, LeadBack, LeadOn, op_count, unit_count, breaks_along}
+use Rattle.model_core.specs.History.{text_back, text_on, changes_back, changes_on, LeadBack, LeadOn, op_count, need_along}
 use Rattle.model_core.specs.Carrying.{decorations_back, decorations_on, AreIn}
 use Rattle.model_core.specs.LineMarks.{marked_back, marked_on, undone_marks, redone_marks}
 
@@ -66,9 +66,7 @@ flat_move On f = flat_redo f
 -- the changes lead the text this way, and there is room for them
 pub record CanLead (way : Way) (text : Text) (d : Decorations) (last : ParseState) (cs : List Change) : Type 0 where
   pub lead : LeadBy way text.units cs
-  pub edits : op_count way cs ≤ text.spare_edits
-  pub room : unit_count way cs + units_beside_text * op_count way cs ≤ text.spare_units
-  pub breaks : breaks_along way cs + breaks_beside_text * op_count way cs ≤ text.spare_breaks
+  pub room : IsEnough text.room (need_along way cs)
   pub lines : length last.marks ≡ length (lines_of text.units)
   pub spare : op_count way cs ≤ last.spare
   pub inside : AreIn (length text.units) d
@@ -89,9 +87,7 @@ pub record IsUntouched (old new : Text) (old_last last : ParseState) : Type 0 wh
   pub units : new.units ≡ old.units
   pub spans : new.spans ≡ old.spans
   pub grown : Extends old.buffers new.buffers
-  pub edits : old.spare_edits ≤ new.spare_edits
-  pub room : old.spare_units ≤ new.spare_units
-  pub breaks : old.spare_breaks ≤ new.spare_breaks
+  pub room : KeepsRoom old.room new.room
   pub spare : old_last.spare ≤ last.spare
   pub marks : last.marks ≡ old_last.marks
   pub parsed : last.parsed ≡ old_last.parsed

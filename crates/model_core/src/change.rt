@@ -1,14 +1,14 @@
 //! Batches that were carried out, and how the text is led along them.
 
-ghost use Rattle.std.specs.Prelude.{◌≡◌, ◌+◌, ◌*◌, ◌<◌, ◌≤◌, ◌^◌, length, slice_get, option_map, OnOk};
+ghost use Rattle.std.specs.Prelude.{◌≡◌, ◌+◌, ◌<◌, ◌≤◌, ◌^◌, length, slice_get, is_some, option_map, OnOk};
 ghost use Rattle.std.specs.List.{All};
 ghost use Rattle.std.specs.Option.{option_copied};
 ghost use Rattle.edit_stack.specs.Element.{step_of};
 ghost use Rattle.batch_rules.specs.Batches.{most_units, applied_from, text_units, StandFrom};
-ghost use Rattle.model_core.specs.History.{ops_by, op_count, unit_count, text_breaks, breaks_along};
+ghost use Rattle.model_core.specs.History.{ops_by, op_count, text_breaks, need_of_ops, need_along};
 ghost use Rattle.model_core.specs.Ways.{next_steps, passed, alternative_after, CanLead, HasLed, IsUntouched};
 ghost use Rattle.model_core.specs.State.{GrownBy};
-ghost use Rattle.text_buffer.specs.Text.{units_beside_text, breaks_beside_text};
+ghost use Rattle.text_buffer.specs.Room.{IsEnough, HasSpent};
 ghost use Rattle.chunk_buffers.specs.Chunks.{Extends};
 ghost use Rattle.text_rules.specs.Lines.{lines_of};
 ghost use Rattle.model_core.specs.LineMarks.{marked_backwards};
@@ -20,7 +20,7 @@ use edit_batches::Batch;
 use edit_stack::{EditStack, Element};
 use line_starts::count_breaks;
 use std::alloc::AllocError;
-use text_buffer::TextBuffer;
+use text_buffer::{Need, TextBuffer};
 use text_rules::Op;
 use unit_text::Flat;
 
@@ -33,20 +33,29 @@ pub(crate) enum Way {
     On,
 }
 
-/// A batch that was carried out, and the one that takes it back.
+/// A change that was carried out.
 #[derive(Drop)]
-pub(crate) struct Change {
-    pub batch: Batch,
-    pub inverse: Batch,
+pub(crate) enum Change {
+    /// A batch, and the one that takes it back.
+    Ops { batch: Batch, inverse: Batch },
 }
 
 impl Change {
+    /// The ops that lead a text along it this way.
+    pub(crate) fn ops(&self, way: Way) -> &[Op]
+        ensures { result.now ≡ ops_by way self.now }
+    {
+        self.batch_for(way).ops()
+    }
+
     fn batch_for(&self, way: Way) -> &Batch
         ensures { result.now ≡ ops_by way self.now }
     {
-        match way {
-            Way::Back => &self.inverse,
-            Way::On => &self.batch,
+        match self {
+            Change::Ops { batch, inverse } => match way {
+                Way::Back => inverse,
+                Way::On => batch,
+            },
         }
     }
 }
@@ -62,21 +71,13 @@ pub(crate) fn apply(
 )
     requires standing { StandFrom 0 text.old.units ops.now }
     requires small { length text.old.units + text_units ops.now + 1 < 2 ^ 62 }
-    requires edits { length ops.now ≤ text.old.spare_edits }
-    requires room { text_units ops.now + units_beside_text * length ops.now
-        ≤ text.old.spare_units }
-    requires breaks { text_breaks ops.now + breaks_beside_text * length ops.now
-        ≤ text.old.spare_breaks }
+    requires room { IsEnough text.old.room (need_of_ops ops.now) }
     requires lines { length last.old.marks ≡ length (lines_of text.old.units) }
     requires spare { length ops.now ≤ last.old.spare }
     requires inside { AreIn (length text.old.units) decorations.old }
     ensures units { text.new.units ≡ applied_from 0 text.old.units ops.now }
     ensures pieces { GrownBy (length ops.now) (length text.old.spans) (length text.new.spans) }
-    ensures edits { text.old.spare_edits ≤ text.new.spare_edits + length ops.now }
-    ensures room { text.old.spare_units ≤ text.new.spare_units
-        + (text_units ops.now + units_beside_text * length ops.now) }
-    ensures breaks { text.old.spare_breaks ≤ text.new.spare_breaks
-        + (text_breaks ops.now + breaks_beside_text * length ops.now) }
+    ensures spent { HasSpent (need_of_ops ops.now) text.old.room text.new.room }
     ensures decorations { decorations.new ≡ carried_with forces decorations.old ops.now }
     ensures inside { AreIn (length text.new.units) decorations.new }
     ensures marks { last.new.marks ≡ marked_backwards text.old.units ops.now last.old.marks }
@@ -118,7 +119,7 @@ fn take_back(
 {
     for done in 0..changes.len() {
         let change = &changes[changes.len() - 1 - done];
-        apply(text, decorations, last, change.inverse.ops(), true);
+        apply(text, decorations, last, change.ops(Way::Back), true);
     }
 }
 
@@ -134,7 +135,7 @@ fn make_again(
         last.old last.new changes.now }
 {
     for change in changes {
-        apply(text, decorations, last, change.batch.ops(), false);
+        apply(text, decorations, last, change.ops(Way::On), false);
     }
 }
 
@@ -168,23 +169,18 @@ pub(crate) fn text_breaks(ops: &[Op]) -> u64
     breaks
 }
 
-/// Makes room for so many edits, whose texts have so many units and breaks together. An error leaves the text and the
-/// marks as they were, and room that was there stays.
+/// Makes room for the edits. An error leaves the text and the marks as they were, and room that was there stays.
 pub(crate) fn make_room(
     text: &mut TextBuffer,
     last: &mut LastParse,
-    edits: u64,
-    units: u64,
-    breaks: u64,
+    need: Need,
 ) -> Result<(), AllocError>
-    ensures edits { OnOk result (edits ≤ text.new.spare_edits) }
-    ensures room { OnOk result (units + units_beside_text * edits ≤ text.new.spare_units) }
-    ensures breaks { OnOk result (breaks + breaks_beside_text * edits ≤ text.new.spare_breaks) }
-    ensures spare { OnOk result (edits ≤ last.new.spare) }
+    ensures room { OnOk result (IsEnough text.new.room need) }
+    ensures spare { OnOk result (need.edits ≤ last.new.spare) }
     ensures kept { IsUntouched text.old text.new last.old last.new }
 {
-    text.reserve(edits, units, breaks)?;
-    last.reserve(edits)
+    text.reserve(need)?;
+    last.reserve(need.edits)
 }
 
 /// Makes room to lead the text along the changes this way. An error leaves the text and the marks as they were, and room
@@ -196,11 +192,7 @@ pub(crate) fn reserve_for(
     way: Way,
 ) -> Result<(), AllocError>
     requires { All (λ c. text_units (ops_by way c) ≤ most_units) changes.now }
-    ensures edits { OnOk result (op_count way changes.now ≤ text.new.spare_edits) }
-    ensures room { OnOk result (unit_count way changes.now
-        + units_beside_text * op_count way changes.now ≤ text.new.spare_units) }
-    ensures breaks { OnOk result (breaks_along way changes.now
-        + breaks_beside_text * op_count way changes.now ≤ text.new.spare_breaks) }
+    ensures room { OnOk result (IsEnough text.new.room (need_along way changes.now)) }
     ensures spare { OnOk result (op_count way changes.now ≤ last.new.spare) }
     ensures kept { IsUntouched text.old text.new last.old last.new }
 {
@@ -217,7 +209,15 @@ pub(crate) fn reserve_for(
             .checked_add(text_breaks(batch.ops()))
             .ok_or(AllocError)?;
     }
-    make_room(text, last, edits, units, breaks)
+    make_room(
+        text,
+        last,
+        Need {
+            edits,
+            units,
+            breaks,
+        },
+    )
 }
 
 /// The step that comes next on the way.
@@ -229,6 +229,14 @@ pub(crate) fn next_step(history: &EditStack<Change>, way: Way) -> Option<&Elemen
         Way::Back => history.undo_next(),
         Way::On => history.redo_next(),
     }
+}
+
+/// Whether a step comes next on the way.
+#[tactic(auto, using(crate::proofs::Stepping::mapped_twice))]
+pub(crate) fn has_next(history: &EditStack<Change>, way: Way) -> bool
+    ensures { result ≡ is_some (slice_get (next_steps way history.now.stack) 0) }
+{
+    next_step(history, way).is_some()
 }
 
 /// The alternative version at the end of the step.

@@ -4,7 +4,7 @@ ghost use Rattle.std.specs.Prelude.{◌≡◌, ◌+◌, ◌-◌, ◌<◌, ◌≤
 ghost use Rattle.std.specs.Option.{option_copied};
 ghost use Rattle.batch_rules.specs.Batches.{most_units};
 ghost use Rattle.text_rules.specs.Lines.{lines_of};
-ghost use Rattle.bracket_trees.specs.Tree.{IsTree};
+ghost use Rattle.bracket_tree_rules.specs.Tree.{IsTree};
 ghost use Rattle.mark_rules.specs.declared.Mark.TheVariants.{New};
 ghost use Rattle.mark_rules.specs.Marks.{clean_marks, edited_marks};
 ghost use Rattle.model_core.specs.State.{fresh_tree};
@@ -26,7 +26,7 @@ pub(crate) struct LastParse {
 
 impl Model for LastParse {
     ghost use Rattle.std.specs.Coded.{codes};
-    ghost use Rattle.bracket_trees.specs.TreeCode.{tree_code};
+    ghost use Rattle.bracket_tree_rules.specs.TreeCode.{tree_code};
     ghost use Rattle.node_reuse.specs.ParsedTree.{parsed_tree_code};
     ghost use Rattle.model_core.specs.State.{parsed_tree};
     ghost use Rattle.model_core.specs.Staying.{ParseState};

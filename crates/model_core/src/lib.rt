@@ -3,17 +3,22 @@
 
 mod brackets;
 mod change;
+mod errors;
 mod last_parse;
 mod model;
 mod places;
 mod ready;
 mod text_lines;
 
-pub use bracket_nodes::{Entry, Status};
-pub use bracket_scan::BracketTable;
+pub use bracket_nodes::{Entry, Node, Status};
+pub use bracket_scan::{BracketTable, TableError};
+pub use decoration_rules::Sticky;
 pub use decorations::{Deco, NewDeco};
 pub use document_rules::ModelError;
 pub use model::Model;
 pub use node_reuse::Parsed;
 pub use ready::Ready;
+pub use steps::Steps;
+pub use text_lengths::{Length, Position, Span};
 pub use text_rules::Op;
+pub use unit_text::{Units, units_of, utf8_of};

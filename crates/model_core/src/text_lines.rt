@@ -4,8 +4,8 @@ ghost use Rattle.std.specs.Prelude.{◌≡◌, ◌<◌, ◌^◌, [], length};
 
 use node_reuse::Lines;
 use std::alloc::AllocError;
+use steps::Trail;
 use text_buffer::{LineReader, TextBuffer};
-use trails::Trail;
 
 /// The lines of a text, and the numbers of those that were asked for, which only proofs read.
 #[derive(Drop)]

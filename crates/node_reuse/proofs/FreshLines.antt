@@ -9,11 +9,11 @@ use Rattle.bracket_rules.specs.declared.TheConstants.{MOST_OPEN}
 use Rattle.bracket_rules.specs.Table.{Table, is_table, tokens_of}
 use Rattle.bracket_rules.specs.Rows.{Row, HasRow, row, empty_row, glue, text_rows}
 use Rattle.bracket_rules.proofs.Tokens.{tokens_of-in_line}
-use Rattle.bracket_trees.specs.Tree.{text}
-use Rattle.bracket_trees.specs.Weights.{glue_weights, AreCovered}
-use Rattle.bracket_trees.specs.Places.{rows_from}
-use Rattle.bracket_trees.proofs.Glue.{empty_glue}
-use Rattle.bracket_trees.proofs.LineWeights.{AreCovered-same}
+use Rattle.bracket_tree_rules.specs.Tree.{text}
+use Rattle.bracket_tree_rules.specs.Weights.{glue_weights, AreCovered}
+use Rattle.bracket_tree_rules.specs.Places.{rows_from}
+use Rattle.bracket_tree_rules.proofs.Glue.{empty_glue}
+use Rattle.bracket_tree_rules.proofs.LineWeights.{AreCovered-same}
 use Rattle.bracket_nodes.specs.Source.{GivesNode, IsOver}
 use Rattle.bracket_nodes.specs.ScannedLines.{moved_back}
 use Rattle.reuse_rules.specs.Following.{Reached}

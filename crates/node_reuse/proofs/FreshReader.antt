@@ -9,9 +9,9 @@ use Rattle.bracket_rules.specs.declared.Token.{Token}
 use Rattle.bracket_rules.specs.declared.TheConstants.{MOST_OPEN}
 use Rattle.bracket_rules.specs.Rows.{Row}
 use Rattle.bracket_rules.specs.Table.{AreInLine}
-use Rattle.bracket_trees.specs.Tree.{Tree, text, wide}
-use Rattle.bracket_trees.specs.Weights.{glue_weights, tree_weights, AreCovered}
-use Rattle.bracket_trees.specs.Places.{rows_from}
+use Rattle.bracket_tree_rules.specs.Tree.{Tree, text, wide}
+use Rattle.bracket_tree_rules.specs.Weights.{glue_weights, tree_weights, AreCovered}
+use Rattle.bracket_tree_rules.specs.Places.{rows_from}
 use Rattle.bracket_nodes.specs.declared.parser.Next.{Next}
 use Rattle.bracket_nodes.specs.declared.parser.Next.TheVariants.{End, Ready, Bracket}
 use Rattle.bracket_nodes.specs.Source.{GivesNode, GivesBracket, IsOver, AsksOn}
@@ -33,6 +33,17 @@ use Rattle.node_reuse.proofs.Unasked.{none_unasked}
 
 -- ---- what a source gives, with what it has yet to ask for
 
+-- so much is left at the two places: these weights and what is left at the second are within what is left at the first
+covered_left : (s : Sight) (p q : Length) (l m : ℕ) (weights : List ℕ)
+    → left_at s.old.tree s.marks (sight_weights s) p ≡ l → left_at s.old.tree s.marks (sight_weights s) q ≡ m
+    → AreCovered (glue_weights weights (m ∷ drop (suc q.lines) (sight_weights s))) (l ∷ drop (suc p.lines) (sight_weights s))
+    → AreCovered (glue_weights weights (left_at s.old.tree s.marks (sight_weights s) q ∷ drop (suc q.lines) (sight_weights s)))
+    (left_at s.old.tree s.marks (sight_weights s) p ∷ drop (suc p.lines) (sight_weights s))
+covered_left s p q l m weights e f h =
+    subst (λ (x : ℕ). AreCovered (glue_weights weights (left_at s.old.tree s.marks (sight_weights s) q ∷ drop (suc q.lines) (sight_weights s)))
+    (x ∷ drop (suc p.lines) (sight_weights s))) (sym e)
+    (subst (λ (x : ℕ). AreCovered (glue_weights weights (x ∷ drop (suc q.lines) (sight_weights s))) (l ∷ drop (suc p.lines) (sight_weights s))) (sym f) h)
+
 pub node_seen : (s : Sight) (asked : Asked) (p q : Length) (from to : Line) (kinds level l m : ℕ) (t : Tree)
     → left_at s.old.tree s.marks (sight_weights s) p ≡ l → left_at s.old.tree s.marks (sight_weights s) q ≡ m
     → GivesNode (ahead_at (sight_rows s) (sight_weights s) p l) (ahead_at (sight_rows s) (sight_weights s) q m) kinds level t
@@ -42,11 +53,7 @@ node_seen s asked p q from to kinds level l m t e f g = record {
   some = g.some;
   fits = g.fits;
   spells = g.spells;
-  weighs =
-      subst (λ (x : ℕ). AreCovered (glue_weights (tree_weights t) (left_at s.old.tree s.marks (sight_weights s) q ∷ drop (suc q.lines) (sight_weights s)))
-      (x ∷ drop (suc p.lines) (sight_weights s))) (sym e)
-      (subst (λ (x : ℕ). AreCovered (glue_weights (tree_weights t) (x ∷ drop (suc q.lines) (sight_weights s))) (l ∷ drop (suc p.lines) (sight_weights s))) (sym f)
-      g.weighs);
+  weighs = covered_left s p q l m (tree_weights t) e f g.weighs;
   rest = g.rest;
 }
 
@@ -58,11 +65,7 @@ bracket_seen s asked p q from to k w l m opening e f g = record {
   has_kind = g.has_kind;
   wide = g.wide;
   spells = g.spells;
-  weighs =
-      subst (λ (x : ℕ). AreCovered (glue_weights (w ∷ []) (left_at s.old.tree s.marks (sight_weights s) q ∷ drop (suc q.lines) (sight_weights s)))
-      (x ∷ drop (suc p.lines) (sight_weights s))) (sym e)
-      (subst (λ (x : ℕ). AreCovered (glue_weights (w ∷ []) (x ∷ drop (suc q.lines) (sight_weights s))) (l ∷ drop (suc p.lines) (sight_weights s))) (sym f)
-      g.weighs);
+  weighs = covered_left s p q l m (w ∷ []) e f g.weighs;
   rest = g.rest;
 }
 

@@ -9,10 +9,10 @@ use Rattle.bracket_rules.specs.declared.Token.{Token}
 use Rattle.bracket_rules.specs.declared.TheConstants.{MOST_OPEN}
 use Rattle.bracket_rules.specs.Table.{token, AreInLine}
 use Rattle.bracket_rules.specs.Rows.{Row, HasRow, row, empty_row, shifted, glue}
-use Rattle.bracket_trees.specs.Tree.{text, wide, bracket_row}
-use Rattle.bracket_trees.specs.Places.{IsBounded, rows_from}
-use Rattle.bracket_trees.proofs.Glue.{empty_glue}
-use Rattle.bracket_trees.proofs.LineWeights.{AreCovered-same}
+use Rattle.bracket_tree_rules.specs.Tree.{text, wide, bracket_row}
+use Rattle.bracket_tree_rules.specs.Places.{IsBounded, rows_from}
+use Rattle.bracket_tree_rules.proofs.Glue.{empty_glue}
+use Rattle.bracket_tree_rules.proofs.LineWeights.{AreCovered-same}
 use Rattle.bracket_nodes.specs.Source.{GivesNode, GivesBracket}
 use Rattle.bracket_nodes.specs.ScannedLines.{moved_back}
 use Rattle.bracket_nodes.proofs.ScannedSteps.{line_end, shifted-moved_back, same_row, fits_text}

@@ -5,9 +5,9 @@ use Rattle.std.proofs.lemmas.List.{length-drop}
 use Rattle.text_lengths.specs.declared.Length.{Length}
 use Rattle.text_lengths.specs.Length.{length_of}
 use Rattle.bracket_rules.specs.Rows.{next_line}
-use Rattle.bracket_trees.specs.Weights.{glue_weights, AreCovered}
-use Rattle.bracket_trees.proofs.LineWeights.{HasWeight, AreCovered-same, AreCovered-then}
-use Rattle.bracket_trees.specs.Leaves.{Leaf, weight_from, weights_from}
+use Rattle.bracket_tree_rules.specs.Weights.{glue_weights, AreCovered}
+use Rattle.bracket_tree_rules.proofs.LineWeights.{HasWeight, AreCovered-same, AreCovered-then}
+use Rattle.bracket_tree_rules.specs.Leaves.{Leaf, weight_from, weights_from}
 
 HasWeight-from : (q : Length) (k : ℕ) (ls : List Leaf) → HasWeight (weights_from q k ls)
 HasWeight-from q zero ls = tt

@@ -8,22 +8,22 @@ use Rattle.text_lengths.proofs.Lengths.{none_plus}
 use Rattle.bracket_rules.specs.declared.TheConstants.{MOST_OPEN, MOST_PAIRS}
 use Rattle.bracket_rules.specs.Parse.{Bracket, bracket}
 use Rattle.bracket_rules.specs.Rows.{Row, empty_row}
-use Rattle.bracket_trees.specs.Tree.{Tree, text, pair, stray, capped, nothing, two, three, wide, bracket_row, tree_length, tree_tokens, closing_brackets, inside_start, inside_end, IsTree, IsWidth}
-use Rattle.bracket_trees.specs.Weights.{glue_weights, tree_weights, AreCovered}
-use Rattle.bracket_trees.specs.Places.{IsAmong, HasBracket, IsEdge, at_text, at_bracket, at_end, rows_from}
-use Rattle.bracket_trees.proofs.Places.{IsAmong-append}
-use Rattle.bracket_trees.proofs.LineWeights.{AreCovered-same, AreCovered-then, AreCovered-glue}
+use Rattle.bracket_tree_rules.specs.Tree.{Tree, text, pair, stray, capped, nothing, two, three, wide, bracket_row, tree_length, tree_tokens, closing_brackets, inside_start, inside_end, IsTree, IsWidth}
+use Rattle.bracket_tree_rules.specs.Weights.{glue_weights, tree_weights, AreCovered}
+use Rattle.bracket_tree_rules.specs.Places.{IsAmong, HasBracket, IsEdge, at_text, at_bracket, at_end, rows_from}
+use Rattle.bracket_tree_rules.proofs.Places.{IsAmong-append}
+use Rattle.bracket_tree_rules.proofs.LineWeights.{AreCovered-same, AreCovered-then, AreCovered-glue}
 use Rattle.bracket_nodes.specs.Source.{Ahead, GivesNode, GivesBracket, IsOver, weights_ahead}
 use Rattle.mark_rules.specs.declared.Mark.{Mark}
 use Rattle.mark_rules.specs.declared.Mark.TheVariants.{Kept, New}
 use Rattle.mark_rules.specs.Marks.{mark_at, kept_run}
 use Rattle.reuse_rules.specs.Following.{Reached}
 use Rattle.reuse_rules.proofs.Followings.{bracket_taken, ends_alike, text_may_be_taken}
-use Rattle.bracket_trees.specs.Leaves.{weight_left}
+use Rattle.bracket_tree_rules.specs.Leaves.{weight_left}
 use Rattle.node_reuse.specs.OldText.{old_text, NoneReusable, NoOldBracket}
 use Rattle.node_reuse.specs.Reading.{IsFollowing}
 use Rattle.node_reuse.specs.Ahead.{ahead_at}
-use Rattle.bracket_trees.proofs.PartedLeaves.{bracket_weighs}
+use Rattle.bracket_tree_rules.proofs.PartedLeaves.{bracket_weighs}
 use Rattle.node_reuse.proofs.KeptSteps.{TookAt, took_at, reached_end}
 
 -- ---- brackets of trees

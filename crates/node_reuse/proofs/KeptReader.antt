@@ -8,9 +8,9 @@ use Rattle.text_lengths.proofs.Lengths.{same_length}
 use Rattle.bracket_rules.specs.declared.Token.{Token}
 use Rattle.bracket_rules.specs.declared.TheConstants.{MOST_OPEN}
 use Rattle.bracket_rules.specs.Parse.{Bracket}
-use Rattle.bracket_trees.specs.Tree.{Tree, wide, tree_length}
-use Rattle.bracket_trees.specs.Places.{HasNode, lines_touched, rows_from}
-use Rattle.bracket_trees.specs.Leaves.{weight_left}
+use Rattle.bracket_tree_rules.specs.Tree.{Tree, wide, tree_length}
+use Rattle.bracket_tree_rules.specs.Places.{HasNode, lines_touched, rows_from}
+use Rattle.bracket_tree_rules.specs.Leaves.{weight_left}
 use Rattle.bracket_nodes.specs.declared.parser.Next.TheVariants.{End, Ready, Bracket as NextBracket}
 use Rattle.bracket_nodes.specs.Source.{IsOver}
 use Rattle.mark_rules.specs.declared.Mark.{Mark}

@@ -6,12 +6,12 @@ use Rattle.text_lengths.specs.declared.Length.{Length}
 use Rattle.text_lengths.specs.Length.{length_of, no_length, length_plus}
 use Rattle.text_lengths.proofs.Lengths.{same_length}
 use Rattle.bracket_rules.specs.Rows.{Row, HasRow, empty_row, glue, rows_length}
-use Rattle.bracket_trees.specs.Tree.{Tree, tree_rows, tree_length}
-use Rattle.bracket_trees.specs.Weights.{glue_weights, tree_weights, AreCovered}
-use Rattle.bracket_trees.specs.Places.{HasNode, MayBeTaken, rows_from, lines_touched}
-use Rattle.bracket_trees.proofs.Glue.{rows_length-tree, glue_empty}
-use Rattle.bracket_trees.proofs.Places.{IsTree-node}
-use Rattle.bracket_trees.proofs.LineWeights.{HasWeight-tree, glue_weights-assoc}
+use Rattle.bracket_tree_rules.specs.Tree.{Tree, tree_rows, tree_length}
+use Rattle.bracket_tree_rules.specs.Weights.{glue_weights, tree_weights, AreCovered}
+use Rattle.bracket_tree_rules.specs.Places.{HasNode, MayBeTaken, rows_from, lines_touched}
+use Rattle.bracket_tree_rules.proofs.Glue.{rows_length-tree, glue_empty}
+use Rattle.bracket_tree_rules.proofs.Places.{IsTree-node}
+use Rattle.bracket_tree_rules.proofs.LineWeights.{HasWeight-tree, glue_weights-assoc}
 use Rattle.bracket_nodes.specs.Source.{GivesNode}
 use Rattle.mark_rules.specs.declared.Mark.{Mark}
 use Rattle.mark_rules.specs.declared.Mark.TheVariants.{Kept}
@@ -20,11 +20,11 @@ use Rattle.reuse_rules.specs.Reuse.{IsKeptAs}
 use Rattle.reuse_rules.specs.Following.{Reached, Follows}
 use Rattle.reuse_rules.proofs.Followings.{Took, node_taken, Reached-rows}
 use Rattle.reuse_rules.proofs.KeptRuns.{kept_run_mark}
-use Rattle.bracket_trees.specs.Leaves.{leaves, weight_from, weights_from, weight_left}
+use Rattle.bracket_tree_rules.specs.Leaves.{leaves, weight_from, weights_from, weight_left}
 use Rattle.node_reuse.specs.Texts.{IsLightBy}
 use Rattle.node_reuse.specs.Reading.{IsFollowing}
 use Rattle.node_reuse.specs.Ahead.{ahead_at, fresh_left}
-use Rattle.bracket_trees.proofs.PartedLeaves.{node_weighs}
+use Rattle.bracket_tree_rules.proofs.PartedLeaves.{node_weighs}
 use Rattle.node_reuse.proofs.KeptCovers.{AreLight, cover_kept, cover_turned}
 
 -- ---- where a reader is among the rows

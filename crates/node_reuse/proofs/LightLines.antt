@@ -8,11 +8,11 @@ use Rattle.bracket_rules.specs.declared.Token.{Token}
 use Rattle.bracket_rules.specs.Rows.{Row, next_line, text_rows}
 use Rattle.bracket_rules.specs.Table.{Table, is_table, tokens_of, AreInLine}
 use Rattle.bracket_rules.proofs.Tokens.{tokens_of-in_line}
-use Rattle.bracket_trees.specs.Tree.{Tree, tree_length, tree_rows, IsTree}
-use Rattle.bracket_trees.specs.Weights.{tree_weights, AreCovered}
-use Rattle.bracket_trees.specs.Leaves.{Leaf, leaves, weight_from, weights_from, line_weight}
-use Rattle.bracket_trees.proofs.LineWeights.{AreCovered-at, length-tree_weights}
-use Rattle.bracket_trees.proofs.PartedLeaves.{lines_weigh}
+use Rattle.bracket_tree_rules.specs.Tree.{Tree, tree_length, tree_rows, IsTree}
+use Rattle.bracket_tree_rules.specs.Weights.{tree_weights, AreCovered}
+use Rattle.bracket_tree_rules.specs.Leaves.{Leaf, leaves, weight_from, weights_from, line_weight}
+use Rattle.bracket_tree_rules.proofs.LineWeights.{AreCovered-at, length-tree_weights}
+use Rattle.bracket_tree_rules.proofs.PartedLeaves.{lines_weigh}
 use Rattle.mark_rules.specs.declared.Mark.{Mark}
 use Rattle.mark_rules.specs.declared.Mark.TheVariants.{Kept, New}
 use Rattle.reuse_rules.specs.Agreement.{Alike, Agrees}

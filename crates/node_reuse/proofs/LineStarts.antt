@@ -5,15 +5,15 @@ use Rattle.text_lengths.specs.declared.Length.{Length}
 use Rattle.text_lengths.specs.Length.{length_of}
 use Rattle.bracket_rules.specs.declared.Token.{Token}
 use Rattle.bracket_rules.specs.Rows.{Row}
-use Rattle.bracket_trees.specs.Tree.{Tree}
-use Rattle.bracket_trees.specs.Places.{rows_from}
+use Rattle.bracket_tree_rules.specs.Tree.{Tree}
+use Rattle.bracket_tree_rules.specs.Places.{rows_from}
 use Rattle.mark_rules.specs.declared.Mark.{Mark}
 use Rattle.mark_rules.specs.declared.Mark.TheVariants.{Kept, New}
 use Rattle.mark_rules.specs.Marks.{mark_at, Rises}
 use Rattle.reuse_rules.specs.Reuse.{IsKeptAs}
 use Rattle.reuse_rules.specs.Following.{Reached}
 use Rattle.reuse_rules.proofs.Followings.{Follows-line}
-use Rattle.bracket_trees.specs.Leaves.{weight_left}
+use Rattle.bracket_tree_rules.specs.Leaves.{weight_left}
 use Rattle.node_reuse.specs.Ahead.{fresh_left}
 use Rattle.node_reuse.specs.Reading.{StaysIfThere, IsInLine, left_by, left_at}
 use Rattle.node_reuse.proofs.OldPlaces.{kept_from_one}

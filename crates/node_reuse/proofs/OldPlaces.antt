@@ -7,9 +7,9 @@ use Rattle.text_lengths.proofs.Lengths.{same_length}
 use Rattle.bracket_rules.specs.declared.Token.{Token}
 use Rattle.bracket_rules.specs.Table.{token}
 use Rattle.bracket_rules.specs.Parse.{bracket}
-use Rattle.bracket_trees.specs.Tree.{Tree}
-use Rattle.bracket_trees.specs.Places.{HasNode, IsLongest, NoneMayBeTaken}
-use Rattle.bracket_trees.specs.Found.{IsTokenAt, NoBracketAt}
+use Rattle.bracket_tree_rules.specs.Tree.{Tree}
+use Rattle.bracket_tree_rules.specs.Places.{HasNode, IsLongest, NoneMayBeTaken}
+use Rattle.bracket_tree_rules.specs.Found.{IsTokenAt, NoBracketAt}
 use Rattle.mark_rules.specs.declared.Mark.{Mark}
 use Rattle.mark_rules.specs.declared.Mark.TheVariants.{Kept, New}
 use Rattle.mark_rules.specs.Marks.{mark_at, kept_run, RisesFrom, Rises}

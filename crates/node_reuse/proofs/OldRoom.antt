@@ -6,11 +6,11 @@ use Rattle.text_lengths.specs.declared.Length.{Length}
 use Rattle.text_lengths.specs.Length.{no_length, length_plus}
 use Rattle.bracket_rules.specs.declared.Token.{Token}
 use Rattle.bracket_rules.specs.Parse.{Bracket, bracket}
-use Rattle.bracket_trees.specs.Tree.{Tree, text, pair, stray, capped, nothing, two, three, wide, width_of, tree_length, tree_tokens, closing_brackets, inside_start, inside_end, weight}
-use Rattle.bracket_trees.specs.Places.{HasNode, IsHere, HasBracket, IsAmong, IsLongest, lines_touched}
-use Rattle.bracket_trees.specs.Found.{IsTokenAt}
-use Rattle.bracket_trees.proofs.Places.{IsAmong-append}
-use Rattle.bracket_trees.proofs.Weights.{units_of, plus_within, length_within}
+use Rattle.bracket_tree_rules.specs.Tree.{Tree, text, pair, stray, capped, nothing, two, three, wide, width_of, tree_length, tree_tokens, closing_brackets, inside_start, inside_end, weight}
+use Rattle.bracket_tree_rules.specs.Places.{HasNode, IsHere, HasBracket, IsAmong, IsLongest, lines_touched}
+use Rattle.bracket_tree_rules.specs.Found.{IsTokenAt}
+use Rattle.bracket_tree_rules.proofs.Places.{IsAmong-append}
+use Rattle.bracket_tree_rules.proofs.Weights.{units_of, plus_within, length_within}
 use Rattle.mark_rules.specs.declared.Mark.{Mark}
 use Rattle.mark_rules.specs.declared.Mark.TheVariants.{Kept, New}
 use Rattle.mark_rules.specs.Marks.{numbered, kept_run}

@@ -7,8 +7,8 @@ use Rattle.std.proofs.lemmas.List.{drop-drop, length-drop, get_or-drop}
 use Rattle.text_lengths.specs.declared.Length.{Length}
 use Rattle.text_lengths.specs.Length.{length_of, no_length}
 use Rattle.bracket_rules.specs.Rows.{Row, rows_length}
-use Rattle.bracket_trees.specs.Tree.{Tree, tree_rows, tree_length}
-use Rattle.bracket_trees.proofs.Glue.{rows_length-tree, HasRow-tree_rows}
+use Rattle.bracket_tree_rules.specs.Tree.{Tree, tree_rows, tree_length}
+use Rattle.bracket_tree_rules.proofs.Glue.{rows_length-tree, HasRow-tree_rows}
 use Rattle.mark_rules.specs.declared.Mark.{Mark}
 use Rattle.mark_rules.specs.declared.Mark.TheVariants.{Kept, New}
 use Rattle.mark_rules.specs.Marks.{mark_at, numbered, kept_run, GoesOn, RisesFrom}

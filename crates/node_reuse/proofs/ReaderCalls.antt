@@ -8,7 +8,7 @@ use Rattle.text_lengths.specs.Length.{length_of}
 use Rattle.text_lengths.proofs.Lengths.{same_length}
 use Rattle.bracket_rules.specs.declared.Token.{Token}
 use Rattle.bracket_rules.specs.Table.{Table, tokens_of}
-use Rattle.bracket_trees.specs.Places.{rows_from}
+use Rattle.bracket_tree_rules.specs.Places.{rows_from}
 use Rattle.bracket_nodes.specs.declared.parser.Next.{Next}
 use Rattle.bracket_nodes.specs.declared.parser.Next.TheVariants.{End, Ready, Bracket}
 use Rattle.bracket_nodes.specs.Source.{Ahead, Comes, AsksOn}

@@ -8,8 +8,8 @@ use Rattle.bracket_rules.specs.declared.Token.{Token}
 use Rattle.bracket_rules.specs.declared.TheConstants.{MOST_OPEN}
 use Rattle.bracket_rules.specs.Table.{Table, tokens_of}
 use Rattle.bracket_rules.specs.Parse.{Bracket}
-use Rattle.bracket_trees.specs.Tree.{Tree, text, wide, tree_length, nesting}
-use Rattle.bracket_trees.specs.Places.{HasNode, lines_touched}
+use Rattle.bracket_tree_rules.specs.Tree.{Tree, text, wide, tree_length, nesting}
+use Rattle.bracket_tree_rules.specs.Places.{HasNode, lines_touched}
 use Rattle.bracket_nodes.specs.declared.parser.Next.{Next}
 use Rattle.bracket_nodes.specs.declared.parser.Next.TheVariants.{End, Ready, Bracket as NextBracket}
 use Rattle.bracket_nodes.specs.Paying.{Paying, HasRoom, PaysOn, PaysFor}

@@ -6,8 +6,8 @@ use Rattle.text_lengths.specs.Length.{no_length}
 use Rattle.text_lengths.proofs.Lengths.{none_plus}
 use Rattle.bracket_rules.specs.Rows.{Row}
 use Rattle.bracket_rules.specs.declared.TheConstants.{MOST_OPEN}
-use Rattle.bracket_trees.specs.Tree.{Tree, tree_length, nesting, highest}
-use Rattle.bracket_trees.proofs.Longest.{not_before_itself}
+use Rattle.bracket_tree_rules.specs.Tree.{Tree, tree_length, nesting, highest}
+use Rattle.bracket_tree_rules.proofs.Longest.{not_before_itself}
 use Rattle.bracket_nodes.specs.Paying.{HasRoom}
 use Rattle.mark_rules.specs.declared.Mark.{Mark}
 use Rattle.reuse_rules.specs.Prices.{Costs, calls, openings, all_paired, price}
@@ -18,7 +18,7 @@ use Rattle.node_reuse.specs.declared.line.Line.{Line}
 use Rattle.node_reuse.specs.Texts.{new_lines}
 use Rattle.node_reuse.specs.Reading.{AgreesWith, AgreesIfThere}
 use Rattle.node_reuse.specs.Reader.{Sight, sight_rows, unasked}
-use Rattle.node_reuse.specs.Paying.{all_paired_in, nesting_in, way_price_in, token_count, tokens_read, tokens_ahead, paying_at, most_steps}
+use Rattle.node_reuse.specs.Paying.{all_paired_in, nesting_in, way_price_in, token_count, tokens_read, tokens_ahead, paying_at, most_steps, TakesFewSteps}
 use Rattle.node_reuse.proofs.OneRun.{one_run_price}
 
 module _ (old : Tree) (marks : List Mark) (now : List Row) (agrees : AgreesWith old marks now) (one : IsOneRun (new_lines marks)) where
@@ -59,7 +59,7 @@ module _ (s : Sight) (line : Line) (steps : ℕ) (old : Tree) (there : s.old.tre
   agreed : AgreesWith old s.marks (sight_rows s)
   agreed = subst (λ (o : Option Tree). AgreesIfThere o s.marks (sight_rows s)) there agrees
 
-  pub start_room : 2 * nesting old + token_count s.table s.contents (new_lines s.marks) ≤ MOST_OPEN → line.scanned ≡ false
+  start_room : 2 * nesting old + token_count s.table s.contents (new_lines s.marks) ≤ MOST_OPEN → line.scanned ≡ false
       → HasRoom (paying_at s steps no_length line) 0
   start_room room unscanned =
       let deep : nesting_in s.old.tree ≡ nesting old = ap nesting_in there in
@@ -72,8 +72,16 @@ module _ (s : Sight) (line : Line) (steps : ℕ) (old : Tree) (there : s.old.tre
         room = omega (arith, deep, way, tokens, way_openings old s.marks (sight_rows s) agreed one, room);
       }
 
-  pub steps_within : (after d : ℕ) → after ≤ steps + (paying_at s steps no_length line).due → after ≤ steps + most_steps (nesting old) (highest old) d
+  steps_within : (after d : ℕ) → after ≤ steps + (paying_at s steps no_length line).due → after ≤ steps + most_steps (nesting old) (highest old) d
   steps_within after d spent =
       let way : way_price_in calls s.old.tree s.marks no_length ≡ way_price calls old s.marks no_length =
       ap (λ (o : Option Tree). way_price_in calls o s.marks no_length) there in
       omega (arith, spent, way, way_calls old s.marks (sight_rows s) agreed one, within_bound (nesting old) (highest old))
+
+-- a reader that was at the start, and spends no more than is due there if it has room, takes few steps
+pub few_steps : (s : Sight) (line : Line) (from to : ℕ) → AgreesIfThere s.old.tree s.marks (sight_rows s) → line.scanned ≡ false
+    → (HasRoom (paying_at s from no_length line) 0 → to ≤ from + (paying_at s from no_length line).due)
+    → TakesFewSteps s.old s.table s.contents (new_lines s.marks) from to
+few_steps s line from to agrees unscanned spends = λ old there paired one room.
+    steps_within s line from old there paired agrees one to (token_count s.table s.contents (new_lines s.marks))
+    (spends (start_room s line from old there paired agrees one room unscanned))

@@ -4,11 +4,11 @@ use Rattle.std.specs.Prelude.{slice_index}
 use Rattle.text_lengths.specs.Length.{no_length}
 use Rattle.bracket_rules.specs.Rows.{Row, HasRow, text_rows}
 use Rattle.bracket_rules.specs.Table.{Table, is_table}
-use Rattle.bracket_trees.specs.Told.{IsTreeOf}
-use Rattle.bracket_trees.specs.Tree.{Tree}
-use Rattle.bracket_trees.specs.Weights.{tree_weights, AreCovered}
-use Rattle.bracket_trees.specs.Places.{rows_from}
-use Rattle.bracket_trees.proofs.LineWeights.{AreCovered-same, AreCovered-then, AreCovered-sum}
+use Rattle.bracket_tree_rules.specs.Told.{IsTreeOf}
+use Rattle.bracket_tree_rules.specs.Tree.{Tree}
+use Rattle.bracket_tree_rules.specs.Weights.{tree_weights, AreCovered}
+use Rattle.bracket_tree_rules.specs.Places.{rows_from}
+use Rattle.bracket_tree_rules.proofs.LineWeights.{AreCovered-same, AreCovered-then, AreCovered-sum}
 use Rattle.bracket_nodes.specs.Source.{weights_ahead, weight_ahead}
 use Rattle.reuse_rules.specs.Following.{Reached}
 use Rattle.reuse_rules.proofs.Followings.{Reached-start, Reached-rows}

@@ -4,7 +4,7 @@ use Rattle.text_lengths.specs.declared.Length.{Length}
 use Rattle.bracket_rules.specs.declared.Token.{Token}
 use Rattle.bracket_rules.specs.Rows.{Row, row}
 use Rattle.bracket_rules.specs.Table.{AreInLine}
-use Rattle.bracket_trees.specs.Places.{rows_from}
+use Rattle.bracket_tree_rules.specs.Places.{rows_from}
 use Rattle.bracket_nodes.specs.ScannedLines.{moved_back}
 use Rattle.bracket_nodes.specs.Source.{Ahead, asks_nothing}
 use Rattle.reuse_rules.specs.Following.{Reached}

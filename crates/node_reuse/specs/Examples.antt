@@ -4,8 +4,8 @@ use Rattle.text_lengths.specs.Length.{length_of}
 use Rattle.mark_rules.specs.Marks.{clean_marks, edited_marks}
 use Rattle.bracket_rules.specs.Table.{standard_table}
 use Rattle.bracket_rules.specs.Rows.{text_rows}
-use Rattle.bracket_trees.specs.Tree.{Tree, text, two, tree_rows}
-use Rattle.bracket_trees.specs.Weights.{tree_weights}
+use Rattle.bracket_tree_rules.specs.Tree.{Tree, text, two, tree_rows}
+use Rattle.bracket_tree_rules.specs.Weights.{tree_weights}
 use Rattle.node_reuse.specs.Texts.{text_weights, row_weights, new_lines}
 use Rattle.node_reuse.specs.Reader.{unasked}
 

@@ -4,5 +4,6 @@ pub mod Ahead
 pub mod Reading
 pub mod Reader
 pub mod Paying
+pub mod Calls
 pub mod ParsedTree
 mod Examples

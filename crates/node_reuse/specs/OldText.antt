@@ -6,8 +6,8 @@ use Rattle.text_lengths.specs.Length.{is_before}
 use Rattle.bracket_rules.specs.declared.Token.{Token}
 use Rattle.bracket_rules.specs.Parse.{Bracket}
 use Rattle.bracket_rules.specs.Table.{token}
-use Rattle.bracket_trees.specs.Tree.{Tree, tree_length}
-use Rattle.bracket_trees.specs.TreeCode.{tree_code}
+use Rattle.bracket_tree_rules.specs.Tree.{Tree, tree_length}
+use Rattle.bracket_tree_rules.specs.TreeCode.{tree_code}
 use Rattle.mark_rules.specs.declared.Mark.{Mark}
 use Rattle.mark_rules.specs.declared.Mark.TheVariants.{Kept, New}
 use Rattle.reuse_rules.specs.Reuse.{IsKeptAs, Reusable, IsOldBracket}

@@ -1,8 +1,8 @@
 -- What contracts see of a tree that was parsed.
 use Rattle.std.specs.Prelude.{ℕ, refl}
 use Rattle.std.specs.Coded.{Coded, code_by, coded_ℕ, coded×}
-use Rattle.bracket_trees.specs.Tree.{Tree}
-use Rattle.bracket_trees.specs.TreeCode.{tree_code}
+use Rattle.bracket_tree_rules.specs.Tree.{Tree}
+use Rattle.bracket_tree_rules.specs.TreeCode.{tree_code}
 
 -- the tree of a text, and how many of its lines its parse asked for
 pub record ParsedTree : Type 0 where

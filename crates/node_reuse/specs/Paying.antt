@@ -1,13 +1,15 @@
 -- What a reader of the text of now pays: a step for each call that asks the old text.
-use Rattle.std.specs.Prelude.{◌≡◌, ℕ, ◌+◌, ◌*◌, Bool, false, if◌then◌else◌, List, [], ◌∷◌, length, Option, Some, None, refl}
+use Rattle.std.specs.Prelude.{◌≡◌, ℕ, ◌+◌, ◌*◌, ◌≤◌, Bool, true, false, if◌then◌else◌, List, [], ◌∷◌, length, Option, Some, None, refl}
 use Rattle.text_lengths.specs.declared.Length.{Length}
 use Rattle.bracket_rules.specs.Table.{Table, tokens_of}
-use Rattle.bracket_trees.specs.Tree.{Tree, nesting}
+use Rattle.bracket_rules.specs.declared.TheConstants.{MOST_OPEN}
+use Rattle.bracket_tree_rules.specs.Tree.{Tree, nesting, highest}
 use Rattle.bracket_nodes.specs.Paying.{Paying}
 use Rattle.mark_rules.specs.declared.Mark.{Mark}
 use Rattle.reuse_rules.specs.Prices.{Costs, calls, openings, all_paired}
-use Rattle.reuse_rules.specs.Ways.{way_price}
+use Rattle.reuse_rules.specs.Ways.{way_price, IsOneRun}
 use Rattle.node_reuse.specs.declared.line.Line.{Line}
+use Rattle.node_reuse.specs.OldText.{OldText}
 use Rattle.node_reuse.specs.Texts.{content_at}
 use Rattle.node_reuse.specs.Reader.{Sight, unasked, tokens_left}
 
@@ -57,6 +59,13 @@ paying_at s steps p line = record {
 -- the lines that are asked for are one run of so many tokens.
 abbrev pub most_steps : ℕ → ℕ → ℕ → ℕ
 most_steps nesting height tokens = tokens + 16 * ((nesting + 1) * (height + 1))
+
+-- Where each bracket of the old tree is one of a pair, the lines that are asked for are one run, and its tokens leave room for
+-- the old pairs, no more steps are taken than that.
+abbrev pub TakesFewSteps : OldText → Table → List (List ℕ) → List ℕ → ℕ → ℕ → Type 0
+TakesFewSteps old table contents asked from to = (tree : Tree) → old.tree ≡ Some tree → all_paired tree ≡ true → IsOneRun asked
+    → let tokens = token_count table contents asked in
+    2 * nesting tree + tokens ≤ MOST_OPEN → to ≤ from + most_steps (nesting tree) (highest tree) tokens
 
 pairs_in_one_another : most_steps 1 3 2 ≡ 130
 pairs_in_one_another = refl

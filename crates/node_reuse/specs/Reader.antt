@@ -4,7 +4,7 @@ use Rattle.text_lengths.specs.declared.Length.{Length}
 use Rattle.bracket_rules.specs.declared.Token.{Token}
 use Rattle.bracket_rules.specs.Rows.{Row, text_rows}
 use Rattle.bracket_rules.specs.Table.{Table, is_table}
-use Rattle.bracket_trees.specs.Places.{rows_from}
+use Rattle.bracket_tree_rules.specs.Places.{rows_from}
 use Rattle.bracket_nodes.specs.declared.parser.Next.{Next}
 use Rattle.bracket_nodes.specs.Source.{Ahead, Asking, Comes, AsksOn}
 use Rattle.mark_rules.specs.declared.Mark.{Mark}

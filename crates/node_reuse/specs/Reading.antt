@@ -4,14 +4,14 @@ use Rattle.text_lengths.specs.declared.Length.{Length}
 use Rattle.text_lengths.specs.Length.{length_of}
 use Rattle.bracket_rules.specs.declared.Token.{Token}
 use Rattle.bracket_rules.specs.Rows.{Row}
-use Rattle.bracket_trees.specs.Tree.{Tree, tree_rows, IsTree}
-use Rattle.bracket_trees.specs.Places.{rows_from}
+use Rattle.bracket_tree_rules.specs.Tree.{Tree, tree_rows, IsTree}
+use Rattle.bracket_tree_rules.specs.Places.{rows_from}
 use Rattle.mark_rules.specs.declared.Mark.{Mark}
 use Rattle.mark_rules.specs.declared.Mark.TheVariants.{Kept, New}
 use Rattle.mark_rules.specs.Marks.{mark_at}
 use Rattle.reuse_rules.specs.Agreement.{Agrees}
 use Rattle.reuse_rules.specs.Following.{Reached, Follows}
-use Rattle.bracket_trees.specs.Leaves.{weight_left}
+use Rattle.bracket_tree_rules.specs.Leaves.{weight_left}
 use Rattle.node_reuse.specs.Texts.{IsTight, IsLightBy}
 use Rattle.node_reuse.specs.Ahead.{fresh_left, IsFresh}
 

@@ -3,12 +3,12 @@ use Rattle.std.specs.Prelude.{◌≡◌, ◌++◌, ℕ, suc, ◌+◌, ◌-◌, �
 use Rattle.text_lengths.specs.Length.{length_of}
 use Rattle.bracket_rules.specs.declared.Token.{Token}
 use Rattle.bracket_rules.specs.Rows.{Row}
-use Rattle.bracket_trees.specs.Tree.{Tree, tree_rows}
-use Rattle.bracket_trees.specs.Weights.{tree_weights, AreCovered}
+use Rattle.bracket_tree_rules.specs.Tree.{Tree, tree_rows}
+use Rattle.bracket_tree_rules.specs.Weights.{tree_weights, AreCovered}
 use Rattle.mark_rules.specs.declared.Mark.{Mark}
 use Rattle.mark_rules.specs.declared.Mark.TheVariants.{Kept, New}
 use Rattle.reuse_rules.specs.Reuse.{IsKeptAs}
-use Rattle.bracket_trees.specs.Leaves.{line_weight}
+use Rattle.bracket_tree_rules.specs.Leaves.{line_weight}
 
 -- what each line may weigh: its units, and one more for the break that ends it where another line follows
 abbrev pub text_weights : List (List ℕ) → List ℕ

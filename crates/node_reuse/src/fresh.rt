@@ -1,14 +1,12 @@
 // What comes in a new line.
-ghost use Rattle.std.specs.Prelude.{◌≡◌, ◌-◌, ◌^◌, ◌<◌, ◌≤◌, ℕ, true, IfOk, OnErr};
+ghost use Rattle.std.specs.Prelude.{◌≡◌, ◌-◌, ◌^◌, ◌<◌, true, IfOk, OnErr};
 ghost use Rattle.bracket_rules.specs.Table.{AreInLine};
-ghost use Rattle.bracket_trees.specs.Tree.{text, wide};
-ghost use Rattle.bracket_nodes.specs.Paying.{PaysFor};
-ghost use Rattle.node_reuse.specs.Paying.{paying_at};
-ghost use Rattle.node_reuse.specs.Reader.{Sight, tokens_left, StandsAt, IsLast, ReadsOn};
+ghost use Rattle.bracket_tree_rules.specs.Tree.{text, wide};
+ghost use Rattle.node_reuse.specs.Calls.{ReadsNewLine, PaysForNewLine};
+ghost use Rattle.node_reuse.specs.Reader.{tokens_left};
 
 use crate::line::Line;
 use bracket_nodes::{Next, text_node};
-use bracket_rules::MOST_OPEN;
 use std::alloc::{AllocError, Global};
 use text_lengths::Length;
 
@@ -28,12 +26,8 @@ pub(crate) fn next_of_line(
     requires scanned { line.old.scanned ≡ true }
     requires in_line { AreInLine place.old.columns line.old.columns (tokens_left line.old) }
     requires fits { place.old.lines < 2 ^ 62 }
-    ensures reads { (s : Sight) (opened level : ℕ) → level ≤ MOST_OPEN
-        → StandsAt s place.old line.old → IsLast s place.old last
-        → IfOk result (ReadsOn s place.old line.old place.new line.new opened level) }
-    ensures pays { (s : Sight) (steps : ℕ) → StandsAt s place.old line.old
-        → IfOk result (PaysFor
-        (paying_at s steps place.old line.old) (paying_at s steps place.new line.new)) }
+    ensures reads { ReadsNewLine last place.old line.old place.new line.new result }
+    ensures pays { PaysForNewLine place.old line.old place.new line.new result }
     ensures same_place { OnErr result (place.new ≡ place.old) }
     ensures same_line { OnErr result (line.new ≡ line.old) }
 {

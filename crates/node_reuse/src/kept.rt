@@ -1,9 +1,6 @@
 // What comes in a kept line.
-ghost use Rattle.std.specs.Prelude.{◌≡◌, ◌+◌, ◌<◌, ◌≤◌, false, length, IfOk, OnErr};
-ghost use Rattle.bracket_nodes.specs.Paying.{HasRoom, PaysFor};
-ghost use Rattle.node_reuse.specs.declared.line.Line.{Line};
-ghost use Rattle.node_reuse.specs.Reader.{Sight, IsKept, StandsAt, ReadsOn};
-ghost use Rattle.node_reuse.specs.Paying.{paying_at};
+ghost use Rattle.std.specs.Prelude.{◌≡◌, ◌+◌, ◌<◌, ◌≤◌, length, OnErr};
+ghost use Rattle.node_reuse.specs.Calls.{ReadsKeptLine, PaysForKeptLine};
 
 use crate::old::Old;
 use bracket_nodes::{Kinds, Next};
@@ -24,13 +21,9 @@ pub(crate) fn next_of_old<O: Old, L: Ledger>(
 ) -> Result<Next, AllocError>
     requires level { level ≤ MOST_OPEN }
     requires there { place.old.lines < length (O.text old.old).marks }
-    ensures reads { (s : Sight) (line : Line) → s.old ≡ O.text old.old → IsKept s place.old
-        → line.scanned ≡ false → StandsAt s place.old line
-        → IfOk result (ReadsOn s place.old line place.new line opened level) }
-    ensures pays { (s : Sight) (line : Line) → s.old ≡ O.text old.old → IsKept s place.old
-        → line.scanned ≡ false → StandsAt s place.old line
-        → HasRoom (paying_at s steps.old place.old line) level → IfOk result (PaysFor
-        (paying_at s steps.old place.old line) (paying_at s steps.new place.new line)) }
+    ensures reads { ReadsKeptLine (O.text old.old) place.old place.new opened level result }
+    ensures pays { PaysForKeptLine (O.text old.old)
+        place.old steps.old place.new steps.new level result }
     ensures steps { steps.new ≤ steps.old + 2 }
     ensures same_text { O.text old.new ≡ O.text old.old }
     ensures same_place { OnErr result (place.new ≡ place.old) }

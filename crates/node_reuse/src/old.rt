@@ -1,9 +1,9 @@
 //! An old text as a reader sees it.
 
-ghost use Rattle.std.specs.Prelude.{◌≡◌, ◌+◌, ◌^◌, ◌<◌, drop, length, IfSome, IfNone, ⊤};
+ghost use Rattle.std.specs.Prelude.{◌≡◌, ◌+◌, ◌^◌, ◌<◌, drop, length, IfSome, IfNone};
 ghost use Rattle.std.specs.Option.{option_copied};
 ghost use Rattle.text_lengths.specs.Length.{length_plus};
-ghost use Rattle.bracket_trees.specs.Tree.{tree_length};
+ghost use Rattle.bracket_tree_rules.specs.Tree.{tree_length};
 ghost use Rattle.mark_rules.specs.Marks.{kept_run};
 ghost use Rattle.bracket_nodes.specs.Borrowed.{node_of};
 ghost use Rattle.node_reuse.specs.OldText.{IsOldPlace, IsNewLine, Fits64, IsLongestReusable, NoneReusable, IsOldToken, NoOldBracket};
@@ -21,10 +21,8 @@ use text_lengths::Length;
 /// An old text, from a place of the text of now. Lines are counted from 0. No other call leads to the nodes of an old
 /// text. Each takes one step, and leaves the text as it was; none fails for want of memory.
 pub trait Old {
-    ghost use mathlib.Core.Option.{none};
-    ghost use denote.Follow.{follows_so};
-    ghost use Rattle.std.specs.Prelude.{⊤};
     ghost use Rattle.std.specs.Borrow.{sem};
+    ghost use Rattle.std.specs.Io.BufRead.{Rests};
     ghost use Rattle.node_reuse.specs.OldText.{OldText, Fits64, IsLongestReusable, NoneReusable, IsOldToken, NoOldBracket};
 
     ghost text: { Self → OldText };
@@ -45,8 +43,7 @@ pub trait Old {
         ensures fits { IfSome result (λ node.
             Fits64 (length_plus place (tree_length (node_of node)))) }
         ensures step { steps.new ≡ steps.old + 1 }
-        ensures* same { sem 𝓛 (follows_so Self.row Self.row self.entry.ghost_name none
-            (λ _ _. ⊤) (λ after. text after ≡ text self.old)) };
+        ensures* same { sem 𝓛 (Rests Self.row self.entry (λ after. text after ≡ text self.old)) };
 
     /// The old bracket at this place of the text of now, as one of its line; none where the line is new.
     fn token_at<L: Ledger>(&mut self, place: Length, steps: &mut Steps<L>) -> Option<Token>

@@ -1,15 +1,11 @@
 //! The parse of a text whose lines changed in part.
 
-ghost use Rattle.std.specs.Prelude.{◌≡◌, ◌+◌, ◌*◌, ◌<◌, ◌≤◌, ◌++◌, true, length, Some, IfOk, OnOk, OnErr};
+ghost use Rattle.std.specs.Prelude.{◌≡◌, ◌<◌, ◌++◌, true, length, IfOk, OnOk, OnErr};
 ghost use Rattle.bracket_rules.specs.Rows.{text_rows};
 ghost use Rattle.bracket_rules.specs.Table.{is_table};
-ghost use Rattle.bracket_rules.specs.declared.TheConstants.{MOST_OPEN};
-ghost use Rattle.bracket_trees.specs.Told.{IsTreeOf};
-ghost use Rattle.bracket_trees.specs.Tree.{Tree, nesting, highest};
-ghost use Rattle.bracket_trees.specs.Weights.{tree_weights, AreCovered};
-ghost use Rattle.reuse_rules.specs.Prices.{all_paired};
-ghost use Rattle.reuse_rules.specs.Ways.{IsOneRun};
-ghost use Rattle.node_reuse.specs.Paying.{token_count, most_steps};
+ghost use Rattle.bracket_tree_rules.specs.Told.{IsTreeOf};
+ghost use Rattle.bracket_tree_rules.specs.Weights.{tree_weights, AreCovered};
+ghost use Rattle.node_reuse.specs.Paying.{TakesFewSteps};
 ghost use Rattle.node_reuse.specs.Reading.{AgreesIfThere};
 ghost use Rattle.node_reuse.specs.Texts.{text_weights, new_lines, AsksFront, IsTight};
 
@@ -89,12 +85,8 @@ pub fn reparse<O: Old + Drop, Q: Lines, L: Ledger>(
     ensures front { OnErr result (AsksFront (new_lines hunks.now.marks)
         (Q.state lines.old).asked (Q.state lines.new).asked) }
     ensures contents { (Q.state lines.new).contents ≡ (Q.state lines.old).contents }
-    ensures steps { (tree : Tree) → (O.text old).tree ≡ Some tree → all_paired tree ≡ true
-        → IsOneRun (new_lines hunks.now.marks)
-        → let tokens = token_count table.now (Q.state lines.old).contents
-        (new_lines hunks.now.marks) in
-        2 * nesting tree + tokens ≤ MOST_OPEN
-        → steps.new ≤ steps.old + most_steps (nesting tree) (highest tree) tokens }
+    ensures steps { TakesFewSteps (O.text old) table.now (Q.state lines.old).contents
+        (new_lines hunks.now.marks) steps.old steps.new }
 {
     let mut line = first_line(alloc, table)?;
     let place = Length {

@@ -1,12 +1,8 @@
 // A source that takes over what it may of an old text.
-ghost use Rattle.std.specs.Prelude.{◌≡◌, ◌+◌, ◌<◌, ◌≤◌, ◌^◌, true, false, ℕ, List, length, OnOk};
-ghost use Rattle.text_lengths.specs.declared.Length.{Length};
+ghost use Rattle.std.specs.Prelude.{◌≡◌, ◌+◌, ◌<◌, ◌≤◌, ◌^◌, true, false, ℕ, length, OnOk};
 ghost use Rattle.mark_rules.specs.declared.Mark.TheVariants.{Kept, New};
 ghost use Rattle.mark_rules.specs.Marks.{mark_at};
-ghost use Rattle.bracket_nodes.specs.Source.{AsksOn};
-ghost use Rattle.bracket_nodes.specs.Paying.{PaysOn};
-ghost use Rattle.node_reuse.specs.Reader.{Sight, mark_of, asked_so, asking_at, StandsAt};
-ghost use Rattle.node_reuse.specs.Paying.{paying_at};
+ghost use Rattle.node_reuse.specs.Calls.{StandsOnEntry, AsksOnEntry, PaysOnEntry};
 
 use crate::fresh::next_of_line;
 use crate::kept::next_of_old;
@@ -104,18 +100,12 @@ fn enter<Q: Lines>(
     requires first { 1 ≤ n }
     requires there { n ≤ length (Q.state lines.old).contents }
     requires count { line.old.asked + 1 < 2 ^ 64 }
-    ensures stands { (s : Sight) (p : Length) → s.table ≡ table.now
-        → s.contents ≡ (Q.state lines.old).contents → p.lines + 1 ≡ n → mark_of s p ≡ New
-        → StandsAt s p line.old → OnOk result (StandsAt s p line.new) }
-    ensures asks { (s : Sight) (p : Length) (borrows : List ℕ) → p.lines + 1 ≡ n
-        → mark_of s p ≡ New → StandsAt s p line.old
-        → AsksOn
-        (asking_at s (asked_so (Q.state lines.old).asked borrows) p line.old)
-        (asking_at s (asked_so (Q.state lines.new).asked borrows) p line.new) }
-    ensures pays { (s : Sight) (p : Length) (steps : ℕ) → s.table ≡ table.now
-        → s.contents ≡ (Q.state lines.old).contents → p.lines + 1 ≡ n → mark_of s p ≡ New
-        → StandsAt s p line.old
-        → OnOk result (PaysOn (paying_at s steps p line.old) (paying_at s steps p line.new)) }
+    ensures stands { StandsOnEntry table.now (Q.state lines.old).contents n
+        line.old line.new result }
+    ensures asks { AsksOnEntry n (Q.state lines.old).asked (Q.state lines.new).asked
+        line.old line.new }
+    ensures pays { PaysOnEntry table.now (Q.state lines.old).contents n
+        line.old line.new result }
     ensures scanned { OnOk result (line.new.scanned ≡ true) }
     ensures contents { (Q.state lines.new).contents ≡ (Q.state lines.old).contents }
 {

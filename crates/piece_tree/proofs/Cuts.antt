@@ -1,6 +1,7 @@
 -- Cutting a list of pieces, and what the parts have.
-use Rattle.std.proofs.Common.{◌≡◌, ℕ, ◌+◌, ◌-◌, ◌<◌, ◌≤◌, List, [], ◌∷◌, ◌++◌, drop, refl, ap, sym, subst, ◌∙◌, inl, inr, zero-add, arith}
+use Rattle.std.proofs.Common.{◌≡◌, ℕ, ◌+◌, ◌-◌, ◌<◌, ◌≤◌, Option, Some, List, [], ◌∷◌, ◌++◌, drop, refl, ap, sym, subst, ◌∙◌, inl, inr, zero-add, arith}
 use Rattle.std.specs.List.{All}
+use Rattle.std.specs.Option.{ForSome}
 use Rattle.std.proofs.lemmas.Bool.{lt-leb, le-leb, cases_lt, cases_eq, ne_eqb}
 use Rattle.std.proofs.lemmas.List.{length-take}
 use Rattle.std.proofs.lemmas.List.Elements.{All-head, All-tail, All-cons, All-nil, All-weaker}
@@ -108,6 +109,12 @@ module _ (b : List (List ℕ)) where
   piece_few p is =
       let shown = units_at b p.span in
       omega (arith, is.breaks, break_count_is shown, break_ends_few 0 shown, length-take p.span.units (drop p.span.start (buffer_at b p.span.buffer)))
+
+  pub some_few : (piece : Option Piece) → ForSome piece (IsPieceOf b) → ForSome piece few_breaks
+  some_few piece counted p e = piece_few p (counted p e)
+
+  pub one_few : (p : Piece) → IsPieceOf b p → ForSome (Some p) few_breaks
+  one_few p is q e = let same : p ≡ q = cc in subst few_breaks same (piece_few p is)
 
   pub span_few : (p : Piece) (span : ChunkSpan) → LiesIn b span → p ≡ piece_of b span → few_breaks p
   span_few p span lies e = subst few_breaks (sym e) (piece_few (piece_of b span) (record { inside = lies; breaks = refl }))

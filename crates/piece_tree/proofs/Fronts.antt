@@ -1,6 +1,6 @@
 -- What a splice leaves before the place where it cuts.
 use Rattle.std.proofs.Common.{◌≡◌, ℕ, ◌+◌, ◌<◌, ◌≤◌, List, [], ◌∷◌, ◌++◌, ap, sym, ◌∙◌, append_assoc, arith}
-use Rattle.rb_arena.specs.Value.{SplitsAt}
+use Rattle.rb_arena.specs.RbTree.{SplitsAt}
 use Rattle.piece_tree.specs.declared.piece.Piece.{Piece}
 use Rattle.piece_tree.specs.declared.piece.Found.{Found}
 use Rattle.piece_tree.specs.Pieces.{IsFound, pieces_of, unit_count}

@@ -4,7 +4,7 @@ use Rattle.std.specs.Option.{IfSome, option_map}
 use Rattle.chunk_buffers.specs.declared.span.ChunkSpan.{ChunkSpan}
 use Rattle.piece_tree.specs.declared.piece.Piece.{Piece}
 use Rattle.piece_tree.specs.declared.piece.PieceSum.{PieceSum}
-use Rattle.piece_tree.specs.Pieces.{IsFound, sum_of, unit_count, piece_of, piece_list, goes_on, prolonged, followed_by}
+use Rattle.piece_tree.specs.Pieces.{IsFound, sum_of, unit_count, piece_of, listed, span_of, goes_on, prolonged, followed_by}
 use Rattle.piece_tree.specs.Inside.{entries_of, found_at, in_order}
 use Rattle.piece_tree.specs.Runs.{HeadsRest}
 use Rattle.piece_tree.proofs.Sums.{entries-append, units-cons}
@@ -37,42 +37,42 @@ heads_some : (us : List (ℕ × Piece)) (p : Piece) (ps : List Piece) (new : Lis
 heads_some us p ps new (name, (ws, told, place)) = absurd cc
 
 module _ (b : List (List ℕ)) where
-  followed_head : (own span : ChunkSpan) (goes : Bool) → goes_on own span ≡ goes
-      → (p : Piece) × ((ps : List Piece) × (followed_by b (piece_of b own ∷ []) (Some span) ≡ p ∷ ps) × (own.units ≤ p.span.units))
-  followed_head own span true goes = (piece_of b (prolonged own span), ([], followed_on b (piece_of b own) span goes, omega arith))
-  followed_head own span false goes = (piece_of b own, (piece_of b span ∷ [], followed_apart b (piece_of b own) span goes, omega arith))
+  followed_head : (own : Piece) (span : ChunkSpan) (goes : Bool) → goes_on own.span span ≡ goes
+      → (p : Piece) × ((ps : List Piece) × (followed_by b (own ∷ []) (Some span) ≡ p ∷ ps) × (own.span.units ≤ p.span.units))
+  followed_head own span true goes = (piece_of b (prolonged own.span span), ([], followed_on b own span goes, omega arith))
+  followed_head own span false goes = (own, (piece_of b span ∷ [], followed_apart b own span goes, omega arith))
 
-  -- what follows a span begins with a piece that has its units
-  followed_by_head : (own : ChunkSpan) (span : Option ChunkSpan)
-      → (p : Piece) × ((ps : List Piece) × (followed_by b (piece_of b own ∷ []) span ≡ p ∷ ps) × (own.units ≤ p.span.units))
-  followed_by_head own None = (piece_of b own, ([], refl, omega arith))
-  followed_by_head own (Some span) = followed_head own span (goes_on own span) refl
+  -- what follows a piece begins with one that has its units
+  followed_by_head : (own : Piece) (span : Option ChunkSpan)
+      → (p : Piece) × ((ps : List Piece) × (followed_by b (own ∷ []) span ≡ p ∷ ps) × (own.span.units ≤ p.span.units))
+  followed_by_head own None = (own, ([], refl, omega arith))
+  followed_by_head own (Some span) = followed_head own span (goes_on own.span span) refl
 
 module _ (b : List (List ℕ)) (us : List (ℕ × Piece)) (ps : List Piece) (new : List (ℕ × Piece)) where
   -- the first of those that a splice puts has the units that stay before what comes
-  heads_units : (left span : Option ChunkSpan) (id : ℕ) (x : Piece) → HeadsRest us (followed_by b (piece_list b left) span ++ ps) (Some (id, x)) new
-      → unit_count (piece_list b left) ≤ x.span.units
+  heads_units : (left : Option Piece) (span : Option ChunkSpan) (id : ℕ) (x : Piece) → HeadsRest us (followed_by b (listed left) span ++ ps) (Some (id, x)) new
+      → unit_count (listed left) ≤ x.span.units
   heads_units None span id x heads = omega arith
   heads_units (Some own) span id x heads =
       let (p, (qs, e, within)) = followed_by_head b own span in
       let first = heads_first us p (qs ++ ps) id x new (subst (λ rs. HeadsRest us (rs ++ ps) (Some (id, x)) new) e heads) in
-      omega (arith, within, units-cons (piece_of b own) [], ap (λ (q : Piece). q.span.units) first)
+      omega (arith, within, units-cons own [], ap (λ (q : Piece). q.span.units) first)
 
   -- so it reaches the offset
-  pub heads_near : (left span : Option ChunkSpan) (first : Option (ℕ × Piece)) (before : PieceSum) (offset : ℕ) → before ≡ sum_of (in_order us)
-      → offset ≡ unit_count (in_order us) + unit_count (piece_list b left) → HeadsRest us (followed_by b (piece_list b left) span ++ ps) first new
+  pub heads_near : (left : Option Piece) (span : Option ChunkSpan) (first : Option (ℕ × Piece)) (before : PieceSum) (offset : ℕ) → before ≡ sum_of (in_order us)
+      → offset ≡ unit_count (in_order us) + unit_count (listed left) → HeadsRest us (followed_by b (listed left) span ++ ps) first new
       → IfSome (option_map (found_at before) first) (λ found. (found.before.units ≤ offset) × (offset ≤ found.before.units + found.span.units))
   heads_near left span None before offset sum begins heads = tt
   heads_near left span (Some item) before offset sum begins heads =
       let units = ap (λ (s : PieceSum). s.units) sum in
       let reach = heads_units left span item.0 item.1 heads in (omega (arith, units, begins), omega (arith, units, begins, reach))
 
-  -- and there is one where a span comes
-  pub heads_none : (left span : Option ChunkSpan) (first : Option (ℕ × Piece)) (before : PieceSum) → option_map (found_at before) first ≡ None
-      → HeadsRest us (followed_by b (piece_list b left) span ++ ps) first new → span ≡ None
-  heads_none left span (Some item) before none heads = absurd cc
+  -- and there is one where a piece comes
+  pub heads_none : (left piece : Option Piece) (first : Option (ℕ × Piece)) (before : PieceSum) → option_map (found_at before) first ≡ None
+      → HeadsRest us (followed_by b (listed left) (span_of piece) ++ ps) first new → piece ≡ None
+  heads_none left piece (Some item) before none heads = absurd cc
   heads_none left None None before none heads = refl
-  heads_none None (Some span) None before none heads = absurd (heads_some us (piece_of b span) ps new heads)
-  heads_none (Some own) (Some span) None before none heads =
-      let (p, (qs, e, within)) = followed_by_head b own (Some span) in
+  heads_none None (Some q) None before none heads = absurd (heads_some us (piece_of b q.span) ps new heads)
+  heads_none (Some own) (Some q) None before none heads =
+      let (p, (qs, e, within)) = followed_by_head b own (Some q.span) in
       absurd (heads_some us p (qs ++ ps) new (subst (λ rs. HeadsRest us (rs ++ ps) None new) e heads))

@@ -6,7 +6,7 @@ use Rattle.rb_rules.specs.declared.weave.Turn.{Turn}
 use Rattle.rb_rules.specs.declared.weave.Turn.TheVariants.{Stop, Left, Right}
 use Rattle.rb_rules.specs.Woven as woven
 use Rattle.rb_arena.specs.Searching as searching
-use Rattle.rb_arena.specs.Value.{SplitsAt}
+use Rattle.rb_arena.specs.RbTree.{SplitsAt}
 use Rattle.piece_tree.specs.declared.piece.Piece.{Piece}
 use Rattle.piece_tree.specs.declared.piece.PieceSum.{PieceSum}
 use Rattle.piece_tree.specs.declared.piece.Found.{Found}

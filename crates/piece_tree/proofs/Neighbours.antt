@@ -8,7 +8,7 @@ use Rattle.piece_tree.specs.declared.piece.Found.{Found}
 use Rattle.piece_tree.specs.declared.piece.PieceSum.{PieceSum}
 use Rattle.piece_tree.specs.Pieces.{Entry, IsAmong, IsFound, AreNeighbours, pieces_of, unit_count, break_count_of, sum_of}
 use Rattle.piece_tree.specs.Searches.{few_breaks}
-use Rattle.rb_arena.specs.Value.{SplitsAt, first_or, last_or}
+use Rattle.rb_arena.specs.RbTree.{SplitsAt, first_or, last_or}
 use Rattle.piece_tree.specs.Inside.{entry_of, entries_of}
 use Rattle.piece_tree.proofs.Sums.{units-cons, breaks-cons, breaks_few, entries-append}
 use Rattle.piece_tree.proofs.Places.{piece_found, split_entries, item_after, last_there}

@@ -4,7 +4,7 @@ use Rattle.std.proofs.lemmas.List.{length-append}
 use Rattle.std.proofs.lemmas.Option.{none-some}
 use Rattle.std.specs.Option.{unwrap_or}
 use Rattle.chunk_buffers.specs.Chunks.{part_of}
-use Rattle.rb_arena.specs.Value.{IsItem, SplitsAt, EndsWith, first_or, last_or}
+use Rattle.rb_arena.specs.RbTree.{IsItem, SplitsAt, EndsWith, first_or, last_or}
 use Rattle.piece_tree.specs.declared.piece.Piece.{Piece}
 use Rattle.piece_tree.specs.declared.piece.Found.{Found}
 use Rattle.piece_tree.specs.Pieces.{Entry, IsAmong, IsFound, last_of, pieces_of, sum_of, piece_of, back}

@@ -10,7 +10,7 @@ use Rattle.std.proofs.lemmas.List.Sums.{sum_by-append}
 use Rattle.chunk_buffers.specs.declared.span.ChunkSpan.{ChunkSpan}
 use Rattle.chunk_buffers.specs.Chunks.{units_at, buffer_at, LiesIn}
 use Rattle.piece_tree.specs.declared.piece.Piece.{Piece}
-use Rattle.piece_tree.specs.Pieces.{unit_count, piece_of, piece_list, IsPieceOf, goes_on, goes_on_from, prolonged, followed, followed_by, front, back, spliced}
+use Rattle.piece_tree.specs.Pieces.{unit_count, piece_of, piece_list, listed, span_of, IsPieceOf, goes_on, goes_on_from, prolonged, followed, followed_by, front, back, spliced}
 use Rattle.piece_tree.proofs.Sums.{units-cons}
 use Rattle.piece_tree.proofs.Cuts.{units-front, units-back, pieces-front, pieces-back}
 
@@ -43,6 +43,16 @@ pub goes_on_from-last : (ps : List Piece) (p : Piece) (span : ChunkSpan) → goe
 goes_on_from-last [] p span = refl
 goes_on_from-last (q ∷ []) p span = refl
 goes_on_from-last (q ∷ r ∷ ps) p span = goes_on_from-last (r ∷ ps) p span
+
+-- a counted piece that comes is that of its span
+module _ (b : List (List ℕ)) where
+  pub listed_is : (piece : Option Piece) → ForSome piece (IsPieceOf b) → piece_list b (span_of piece) ≡ listed piece
+  listed_is None counted = refl
+  listed_is (Some p) counted = λ i. record { span = p.span; breaks = sym (counted p refl).breaks i } ∷ []
+
+  pub inside_listed : (piece : Option Piece) → ForSome piece (IsPieceOf b) → ForSome (span_of piece) (LiesIn b)
+  inside_listed None counted span e = absurd cc
+  inside_listed (Some p) counted span e = let same : p.span ≡ span = cc in subst (LiesIn b) same (counted p refl).inside
 
 module _ (b : List (List ℕ)) where
   pub followed_on : (p : Piece) (span : ChunkSpan) → goes_on p.span span ≡ true → followed b (p ∷ []) span ≡ piece_of b (prolonged p.span span) ∷ []

@@ -8,12 +8,12 @@ use Rattle.std.proofs.lemmas.List.Elements.{All-append, All-cons, All-head, All-
 use Rattle.std.proofs.lemmas.List.Sums.{sum_by-append}
 use Rattle.chunk_buffers.specs.declared.span.ChunkSpan.{ChunkSpan}
 use Rattle.chunk_buffers.specs.Chunks.{LiesIn, part_of}
-use Rattle.rb_arena.specs.Value.{IsItem, AtItem, LeavesOut, SplitsAt, first_or}
+use Rattle.rb_arena.specs.RbTree.{IsItem, AtItem, LeavesOut, SplitsAt, first_or}
 use Rattle.piece_tree.specs.declared.piece.Piece.{Piece}
 use Rattle.piece_tree.specs.declared.piece.PieceSum.{PieceSum}
 use Rattle.piece_tree.specs.declared.edits.Cut.{Cut}
 use Rattle.piece_tree.specs.declared.edits.Run.{Run}
-use Rattle.piece_tree.specs.Pieces.{unit_count, break_count_of, sum_of, piece_of, piece_list, IsPieceOf, goes_on, goes_on_from, followed_by, front, back, spliced}
+use Rattle.piece_tree.specs.Pieces.{unit_count, break_count_of, sum_of, piece_of, listed, piece_list, IsPieceOf, goes_on, goes_on_from, followed_by, front, back, spliced}
 use Rattle.piece_tree.specs.Searches.{few_breaks}
 use Rattle.piece_tree.specs.Inside.{in_order}
 use Rattle.rb_arena.specs.Pairs.{AtPair, HasMerged}
@@ -54,7 +54,7 @@ pub joint_ends : (us : List (ℕ × Piece)) (span : Option ChunkSpan) (name : Op
 joint_ends us None name id is joint = absurd (none-some id (sym joint ∙ is))
 joint_ends us (Some span) name id is joint = (subst (IsJoint us (Some span)) is joint).0
 
-some_is : (first second : ChunkSpan) → ◌≡◌ {A = Option ChunkSpan} (Some first) (Some second) → first ≡ second
+some_is : (first second : Piece) → ◌≡◌ {A = Option Piece} (Some first) (Some second) → first ≡ second
 some_is first second e = cc
 
 module _ (b : List (List ℕ)) where
@@ -63,9 +63,9 @@ module _ (b : List (List ℕ)) where
   followed_by-last ps p (Some span) = followed-last b ps p span
 
   -- a place in a piece cuts the pieces as it cuts this one
-  spliced_at : (items us : List (ℕ × Piece)) (id : ℕ) (x : Piece) (vs : List (ℕ × Piece)) (offset own deleted : ℕ) (span left : Option ChunkSpan) → SplitsAt items id us x vs
-      → offset ≡ units_in us + own → followed_by b (in_order us ++ front b own (x ∷ in_order vs)) span ≡ in_order us ++ followed_by b (piece_list b left) span
-      → spliced b offset (offset + deleted) span (in_order items) ≡ in_order us ++ followed_by b (piece_list b left) span ++ back b (own + deleted) (x ∷ in_order vs)
+  spliced_at : (items us : List (ℕ × Piece)) (id : ℕ) (x : Piece) (vs : List (ℕ × Piece)) (offset own deleted : ℕ) (span : Option ChunkSpan) (left : Option Piece) → SplitsAt items id us x vs
+      → offset ≡ units_in us + own → followed_by b (in_order us ++ front b own (x ∷ in_order vs)) span ≡ in_order us ++ followed_by b (listed left) span
+      → spliced b offset (offset + deleted) span (in_order items) ≡ in_order us ++ followed_by b (listed left) span ++ back b (own + deleted) (x ∷ in_order vs)
   spliced_at items us id x vs offset own deleted span left e count says =
       let parts = ap in_order e ∙ in_order-append us ((id, x) ∷ vs) in
       let first = ap (front b offset) parts ∙ front-append b (in_order us) (x ∷ in_order vs) offset own count in
@@ -75,44 +75,44 @@ module _ (b : List (List ℕ)) where
   -- a cut right behind a piece
   pub cut_whole : (items us : List (ℕ × Piece)) (id : ℕ) (x : Piece) (vs : List (ℕ × Piece)) (offset deleted : ℕ) (span : Option ChunkSpan) (before : PieceSum) (cut : Cut)
       → SplitsAt items id us x vs → before ≡ sum_of (in_order us) → offset ≡ units_in us + x.span.units → front b 0 (in_order vs) ≡ [] → IsPieceOf b x
-      → cut ≡ record { id = id; left = Some x.span; end = x.span.units + deleted; before = before } → IsCut b offset (offset + deleted) span items cut
+      → cut ≡ record { id = id; left = Some x; end = x.span.units + deleted; before = before } → IsCut b offset (offset + deleted) span items cut
   cut_whole items us id x vs offset deleted span before cut e sum count none is told =
       let n = x.span.units in
       let zero : n - n ≡ 0 = omega arith in
-      let same : x ∷ [] ≡ piece_of b x.span ∷ [] = ap (λ p. p ∷ []) (own_piece b x is) in
       let own : front b n (x ∷ in_order vs) ≡ x ∷ [] = front_past b n x (in_order vs) (omega arith) ∙ ap (λ (k : ℕ). x ∷ front b k (in_order vs)) zero ∙ ap (λ ps. x ∷ ps) none in
-      let says : followed_by b (in_order us ++ front b n (x ∷ in_order vs)) span ≡ in_order us ++ followed_by b (piece_of b x.span ∷ []) span =
-      ap (λ ps. followed_by b (in_order us ++ ps) span) own ∙ followed_by-last (in_order us) x span ∙ ap (λ ps. in_order us ++ followed_by b ps span) same in
+      let says : followed_by b (in_order us ++ front b n (x ∷ in_order vs)) span ≡ in_order us ++ followed_by b (x ∷ []) span =
+      ap (λ ps. followed_by b (in_order us ++ ps) span) own ∙ followed_by-last (in_order us) x span in
       subst (IsCut b offset (offset + deleted) span items) (sym told) (record {
         earlier = us;
         piece = x;
         later = vs;
         place = e;
-        inside = λ left eq. subst (LiesIn b) (some_is x.span left eq) is.inside;
-        within = λ left eq. omega (arith, ap (λ (s : ChunkSpan). s.units) (some_is x.span left eq));
+        counted = λ left eq. subst (IsPieceOf b) (some_is x left eq) is;
+        within = λ left eq. omega (arith, ap (λ (p : Piece). p.span.units) (some_is x left eq));
         reach = omega (arith, count);
         before = sum;
-        begins = omega (arith, count, units-cons (piece_of b x.span) []);
-        spliced = spliced_at items us id x vs offset n deleted span (Some x.span) e count says;
+        begins = omega (arith, count, units-cons x []);
+        spliced = spliced_at items us id x vs offset n deleted span (Some x) e count says;
       })
 
   -- a cut inside a piece
-  pub cut_inside : (items us : List (ℕ × Piece)) (id : ℕ) (x : Piece) (vs : List (ℕ × Piece)) (offset own deleted : ℕ) (span : Option ChunkSpan) (left : ChunkSpan) (before : PieceSum)
-      → SplitsAt items id us x vs → before ≡ sum_of (in_order us) → offset ≡ units_in us + own → 0 < own → own < x.span.units → left ≡ part_of x.span 0 own → LiesIn b left
+  pub cut_inside : (items us : List (ℕ × Piece)) (id : ℕ) (x : Piece) (vs : List (ℕ × Piece)) (offset own deleted : ℕ) (span : Option ChunkSpan) (left : Piece) (before : PieceSum)
+      → SplitsAt items id us x vs → before ≡ sum_of (in_order us) → offset ≡ units_in us + own → 0 < own → own < x.span.units → left ≡ piece_of b (part_of x.span 0 own) → IsPieceOf b left
       → IsCut b offset (offset + deleted) span items (record { id = id; left = Some left; end = own + deleted; before = before })
-  cut_inside items us id x vs offset own deleted span left before e sum count some within part lies =
-      let own_front : front b own (x ∷ in_order vs) ≡ piece_of b left ∷ [] = front_part b own x (in_order vs) some within ∙ ap (λ s. piece_of b s ∷ []) (sym part) in record {
+  cut_inside items us id x vs offset own deleted span left before e sum count some within part is =
+      let own_front : front b own (x ∷ in_order vs) ≡ left ∷ [] = front_part b own x (in_order vs) some within ∙ ap (λ p. p ∷ []) (sym part) in
+      let size = ap (λ (p : Piece). p.span.units) part in record {
         earlier = us;
         piece = x;
         later = vs;
         place = e;
-        inside = λ other eq. subst (LiesIn b) (some_is left other eq) lies;
-        within = λ other eq. omega (arith, within, ap (λ (s : ChunkSpan). s.units) part, ap (λ (s : ChunkSpan). s.units) (some_is left other eq));
+        counted = λ other eq. subst (IsPieceOf b) (some_is left other eq) is;
+        within = λ other eq. omega (arith, within, size, ap (λ (p : Piece). p.span.units) (some_is left other eq));
         reach = omega (arith, count, within);
         before = sum;
-        begins = omega (arith, count, ap (λ (s : ChunkSpan). s.units) part, units-cons (piece_of b left) []);
+        begins = omega (arith, count, size, units-cons left []);
         spliced = spliced_at items us id x vs offset own deleted span (Some left) e count
-            (ap (λ ps. followed_by b (in_order us ++ ps) span) own_front ∙ followed_by-last (in_order us) (piece_of b left) span);
+            (ap (λ ps. followed_by b (in_order us ++ ps) span) own_front ∙ followed_by-last (in_order us) left span);
       }
 
   apart : (ps : List Piece) (span : Option ChunkSpan) → ForSome span (λ s. goes_on_from ps s ≡ false) → followed_by b ps span ≡ ps ++ followed_by b [] span
@@ -130,7 +130,7 @@ module _ (b : List (List ℕ)) where
         piece = x;
         later = vs;
         place = e;
-        inside = λ left eq. absurd cc;
+        counted = λ left eq. absurd cc;
         within = λ left eq. absurd cc;
         reach = omega (arith, count);
         before = sum;
@@ -312,19 +312,19 @@ module _ (b : List (List ℕ)) (start end : ℕ) (span : Option ChunkSpan) (item
   pub first_fits : is.piece.span.units ≤ h.whole.span.units
   first_fits = gathered_first cut.end is.earlier is.piece is.later middle run h
 
-  module _ (new : List (ℕ × Piece)) (rest : Option ChunkSpan) (r : LeavesRest b cut.end is.earlier h.whole h.later new run rest) where
+  module _ (new : List (ℕ × Piece)) (rest : Option Piece) (r : LeavesRest b cut.end is.earlier h.whole h.later new run rest) where
     abbrev before : List Piece
-    before = in_order is.earlier ++ followed_by b (piece_list b cut.left) span
+    before = in_order is.earlier ++ followed_by b (listed cut.left) span
 
-    spliced_rest : before ++ (piece_list b rest ++ in_order r.later) ≡ spliced b start end span (in_order items)
+    spliced_rest : before ++ (listed rest ++ in_order r.later) ≡ spliced b start end span (in_order items)
     spliced_rest =
         ap (λ ps. before ++ ps) (r.left ∙ sym (gathered_back cut.end is.earlier is.piece is.later middle run h b from_cut)) ∙ sym is.spliced
 
-    pub spliced_put : before ++ piece_list b rest ++ in_order r.later ≡ spliced b start end span (in_order items)
-    spliced_put = append_assoc before (piece_list b rest) (in_order r.later) ∙ spliced_rest
+    pub spliced_put : before ++ listed rest ++ in_order r.later ≡ spliced b start end span (in_order items)
+    spliced_put = append_assoc before (listed rest) (in_order r.later) ∙ spliced_rest
 
     -- in the place of the run they fit
-    pub room_put : start ≤ units_in items → units_in is.earlier + (unit_count (piece_list b cut.left) + unit_count (piece_list b span) + unit_count (piece_list b rest)) + units_in r.later
+    pub room_put : start ≤ units_in items → units_in is.earlier + (unit_count (listed cut.left) + unit_count (piece_list b span) + unit_count (listed rest)) + units_in r.later
         ≡ start + unit_count (piece_list b span) + (units_in items - end)
     room_put within =
         let f : Piece → ℕ = λ q. q.span.units in
@@ -332,8 +332,8 @@ module _ (b : List (List ℕ)) (start end : ℕ) (span : Option ChunkSpan) (item
           arith,
           ap unit_count spliced_rest,
           units-spliced b start end span (in_order items) within,
-          sum_by-append f before (piece_list b rest ++ in_order r.later),
-          sum_by-append f (piece_list b rest) (in_order r.later),
-          sum_by-append f (in_order is.earlier) (followed_by b (piece_list b cut.left) span),
-          units-followed_by b (piece_list b cut.left) span,
+          sum_by-append f before (listed rest ++ in_order r.later),
+          sum_by-append f (listed rest) (in_order r.later),
+          sum_by-append f (in_order is.earlier) (followed_by b (listed cut.left) span),
+          units-followed_by b (listed cut.left) span,
         )

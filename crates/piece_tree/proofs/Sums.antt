@@ -5,7 +5,7 @@ use Rattle.std.proofs.lemmas.List.{map-append, length-map}
 use Rattle.std.proofs.lemmas.List.Elements.{All-head, All-tail, All-cons, All-nil}
 use Rattle.std.proofs.lemmas.List.Sums.{sum_by-cons, sum_by-append}
 use Rattle.rb_rules.specs.Woven as woven
-use Rattle.rb_arena.specs.Value.{SplitsAt}
+use Rattle.rb_arena.specs.RbTree.{SplitsAt}
 use Rattle.piece_tree.specs.declared.piece.Piece.{Piece}
 use Rattle.piece_tree.specs.declared.piece.PieceSum.{PieceSum}
 use Rattle.piece_tree.specs.Pieces.{unit_count, break_count_of, sum_of}

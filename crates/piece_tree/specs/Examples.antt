@@ -1,7 +1,6 @@
 -- Worked examples: what stands beside a piece, where a splice cuts, the run that it makes, and what it tells of the pieces that it put.
 use Rattle.std.proofs.Common.{◌≡◌, ℕ, zero, suc, Some, None, List, [], ◌∷◌, ◌++◌, codes, All, length, length-append, refl, ap, subst, ◌∙◌, arith}
 use Rattle.chunk_buffers.specs.declared.span.ChunkSpan.{ChunkSpan}
-use Rattle.chunk_buffers.specs.Chunks.{LiesIn}
 use Rattle.piece_tree.specs.declared.piece.Found.{Found}
 use Rattle.piece_tree.specs.declared.piece.Piece.{Piece}
 use Rattle.piece_tree.specs.declared.edits.Cut.{Cut}
@@ -64,7 +63,7 @@ items = (1, piece 0 2) ∷ (2, piece 7 3) ∷ (3, piece 5 2) ∷ []
 
 -- what goes ends behind two units of the second piece, of which so many stay
 abbrev cut : ℕ → Cut
-cut units = record { id = 2; left = Some (span 7 units); end = 2; before = record { units = 2; breaks = 0 } }
+cut units = record { id = 2; left = Some (piece 7 units); end = 2; before = record { units = 2; breaks = 0 } }
 
 -- "cd" takes the place of "i"
 a_cut_counts_from_its_piece : IsCut letters 3 4 (Some (span 2 2)) items (cut 1)
@@ -73,9 +72,10 @@ a_cut_counts_from_its_piece = record {
   piece = piece 7 3;
   later = (3, piece 5 2) ∷ [];
   place = refl;
-  inside = λ left e. let same : span 7 1 ≡ left = cc in
-      subst (LiesIn letters) same (record { buffer = omega arith; few = omega arith; end = omega arith; fits = omega arith });
-  within = λ left e. let same : span 7 1 ≡ left = cc in omega (arith, ap (λ (s : ChunkSpan). s.units) same);
+  counted = λ left e. let same : piece 7 1 ≡ left = cc in
+      subst (IsPieceOf letters) same
+      (record { inside = record { buffer = omega arith; few = omega arith; end = omega arith; fits = omega arith }; breaks = refl });
+  within = λ left e. let same : piece 7 1 ≡ left = cc in omega (arith, ap (λ (p : Piece). p.span.units) same);
   reach = omega arith;
   before = refl;
   begins = refl;
@@ -135,10 +135,10 @@ a_run_stands_among_pieces = record {
 }
 
 -- three of the run's units go, and so the first one of its last span
-a_rest_of_the_last_span_stays : LeavesRest letters 3 [] (piece 0 5) ((3, piece 5 2) ∷ []) ((1, piece 0 5) ∷ (3, piece 5 2) ∷ []) run (Some (span 8 2))
+a_rest_of_the_last_span_stays : LeavesRest letters 3 [] (piece 0 5) ((3, piece 5 2) ∷ []) ((1, piece 0 5) ∷ (3, piece 5 2) ∷ []) run (Some (piece 8 2))
 a_rest_of_the_last_span_stays = record { later = (3, piece 5 2) ∷ []; place = refl; left = refl }
 
-the_last_span_does_not_stay : (new : List (ℕ × Piece)) → LeavesRest letters 3 [] (piece 0 5) ((3, piece 5 2) ∷ []) new run (Some (span 7 3)) → ⊥
+the_last_span_does_not_stay : (new : List (ℕ × Piece)) → LeavesRest letters 3 [] (piece 0 5) ((3, piece 5 2) ∷ []) new run (Some (piece 7 3)) → ⊥
 the_last_span_does_not_stay new is =
     let left : piece 7 3 ∷ in_order is.later ≡ piece 8 2 ∷ piece 5 2 ∷ [] = is.left in
     let same : piece 7 3 ≡ piece 8 2 = cc in absurd (omega (arith, ap (λ (p : Piece). p.span.units) same))

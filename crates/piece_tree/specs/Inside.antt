@@ -1,7 +1,7 @@
 -- How the list of pieces lies in a tree.
 use Rattle.std.specs.Prelude.{ℕ, ◌≡◌, ◌+◌, ◌*◌, ◌<◌, ◌≤◌, ◌^◌, List, map}
 use Rattle.std.specs.List.{All}
-use Rattle.rb_arena.specs.Value.{SplitsAt}
+use Rattle.rb_arena.specs.RbTree.{SplitsAt}
 use Rattle.piece_tree.specs.declared.piece.Piece.{Piece}
 use Rattle.piece_tree.specs.declared.piece.PieceSum.{PieceSum}
 use Rattle.piece_tree.specs.declared.piece.Found.{Found}

@@ -38,6 +38,15 @@ abbrev pub piece_list : List (List ℕ) → Option ChunkSpan → List Piece
 piece_list buffers None = []
 piece_list buffers (Some span) = piece_of buffers span ∷ []
 
+-- a piece that may be there, as a list
+abbrev pub listed : Option Piece → List Piece
+listed None = []
+listed (Some p) = p ∷ []
+
+abbrev pub span_of : Option Piece → Option ChunkSpan
+span_of None = None
+span_of (Some p) = Some p.span
+
 -- whether the second span starts where the first one ends, in the same buffer
 abbrev pub goes_on : ChunkSpan → ChunkSpan → Bool
 goes_on first second = first.buffer == second.buffer && first.start + first.units == second.start

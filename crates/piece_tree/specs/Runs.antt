@@ -4,11 +4,11 @@ use Rattle.std.specs.List.{All}
 use Rattle.std.specs.Option.{ForSome}
 use Rattle.chunk_buffers.specs.declared.span.ChunkSpan.{ChunkSpan}
 use Rattle.chunk_buffers.specs.Chunks.{LiesIn}
-use Rattle.rb_arena.specs.Value.{SplitsAt, EndsWith}
+use Rattle.rb_arena.specs.RbTree.{SplitsAt, EndsWith}
 use Rattle.piece_tree.specs.declared.piece.Piece.{Piece}
 use Rattle.piece_tree.specs.declared.edits.Cut.{Cut}
 use Rattle.piece_tree.specs.declared.edits.Run.{Run}
-use Rattle.piece_tree.specs.Pieces.{unit_count, break_count_of, sum_of, piece_of, piece_list, IsPieceOf, goes_on_from, followed_by, back, spliced}
+use Rattle.piece_tree.specs.Pieces.{unit_count, break_count_of, sum_of, piece_of, listed, IsPieceOf, goes_on_from, followed_by, back, spliced}
 use Rattle.piece_tree.specs.Inside.{in_order}
 
 -- the piece has what the two have together
@@ -30,13 +30,13 @@ pub record IsCut (b : List (List ℕ)) (start end : ℕ) (span : Option ChunkSpa
   pub piece : Piece
   pub later : List (ℕ × Piece)
   pub place : SplitsAt items cut.id earlier piece later
-  pub inside : ForSome cut.left (LiesIn b)
-  pub within : ForSome cut.left (λ left. left.units ≤ piece.span.units)
+  pub counted : ForSome cut.left (IsPieceOf b)
+  pub within : ForSome cut.left (λ left. left.span.units ≤ piece.span.units)
   pub reach : start ≤ unit_count (in_order earlier) + piece.span.units
   pub before : cut.before ≡ sum_of (in_order earlier)
-  pub begins : start ≡ unit_count (in_order earlier) + unit_count (piece_list b cut.left)
+  pub begins : start ≡ unit_count (in_order earlier) + unit_count (listed cut.left)
   pub spliced : spliced b start end span (in_order items)
-      ≡ in_order earlier ++ followed_by b (piece_list b cut.left) span ++ back b cut.end (piece ∷ in_order later)
+      ≡ in_order earlier ++ followed_by b (listed cut.left) span ++ back b cut.end (piece ∷ in_order later)
 
 -- the piece x and the one right behind it are now one under the run's name
 pub record HasTaken (us : List (ℕ × Piece)) (x : Piece) (vs : List (ℕ × Piece)) (new : List (ℕ × Piece)) (run : Run) : Type 0 where
@@ -86,10 +86,10 @@ pub record LosesBehind (b : List (List ℕ)) (n : ℕ) (id : ℕ) (us : List (�
   pub left : in_order later ≡ back b n (in_order vs)
 
 -- the run stands where it stood, and its rest and the pieces behind it are what is left of its last part and of those that stood there
-pub record LeavesRest (b : List (List ℕ)) (end : ℕ) (us : List (ℕ × Piece)) (x : Piece) (vs : List (ℕ × Piece)) (new : List (ℕ × Piece)) (run : Run) (rest : Option ChunkSpan) : Type 0 where
+pub record LeavesRest (b : List (List ℕ)) (end : ℕ) (us : List (ℕ × Piece)) (x : Piece) (vs : List (ℕ × Piece)) (new : List (ℕ × Piece)) (run : Run) (rest : Option Piece) : Type 0 where
   pub later : List (ℕ × Piece)
   pub place : SplitsAt new run.id us x later
-  pub left : piece_list b rest ++ in_order later
+  pub left : listed rest ++ in_order later
       ≡ back b (end + run.last.units - x.span.units) (piece_of b run.last ∷ in_order vs)
 
 -- these items stand at the front, each under its name

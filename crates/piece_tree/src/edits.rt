@@ -1,4 +1,4 @@
-//! The changes of a splice: units that go, and a span that comes.
+//! The changes of a splice: units that go, and a piece that comes.
 //!
 //! A splice walks to the top of the tree once. The pieces that it touches are merged into one first, which has their sum, so that
 //! nothing changes above; then what comes is put in the place of that one.
@@ -6,8 +6,8 @@ ghost use Rattle.std.specs.Prelude.{◌≡◌, ℕ, ◌+◌, ◌-◌, ◌<◌, �
 ghost use Rattle.std.specs.List.{All};
 ghost use Rattle.std.specs.Option.{ForSome, ForNone, option_map};
 ghost use Rattle.chunk_buffers.specs.Chunks.{LiesIn};
-ghost use Rattle.rb_arena.specs.Value.{IsItem, AtItem, HasInstead};
-ghost use Rattle.piece_tree.specs.Pieces.{piece_of, piece_list, unit_count, IsPieceOf, goes_on, prolonged, followed_by, spliced, IsFound, StandsAt};
+ghost use Rattle.rb_arena.specs.RbTree.{IsItem, AtItem, HasInstead};
+ghost use Rattle.piece_tree.specs.Pieces.{piece_of, listed, span_of, unit_count, IsPieceOf, goes_on, prolonged, followed_by, spliced, IsFound, StandsAt};
 ghost use Rattle.piece_tree.specs.Searches.{few_breaks};
 ghost use Rattle.piece_tree.specs.Inside.{entries_of, in_order, found_at, HasRoomAt, HasUnits, IsCounted, HasPiecesBehind};
 ghost use Rattle.piece_tree.specs.Runs.{HasBoth, IsJoint, IsCut, HasTaken, TakesNone, Gathers, IsRun, LosesBehind, LeavesRest, KeepsFront, KeepsBefore, HeadsRest};
@@ -22,7 +22,7 @@ use rb_arena::RbTree;
 struct Cut {
     id: PieceId,
     /// What of the piece stays before what comes, if anything.
-    left: Option<ChunkSpan>,
+    left: Option<Piece>,
     /// Where what goes ends, counted from the piece's start.
     end: u64,
     /// What the pieces before this one have.
@@ -37,39 +37,39 @@ struct Run {
     last: ChunkSpan,
 }
 
-/// Puts a span, if there is one, in the place of units from the offset on, where the piece of the unit at the offset was looked up.
+/// Puts a piece, if there is one, in the place of units from the offset on, where the piece of the unit at the offset was looked up.
 /// Tells the first of the pieces that it put, if any.
 pub(crate) fn replace_units(
     tree: &mut RbTree<PieceWeave>,
     at: &Option<Found>,
     offset: u64,
     deleted: u64,
-    span: Option<ChunkSpan>,
+    piece: Option<Piece>,
     chunks: &Chunks,
 ) -> Option<Found>
     requires place { StandsAt (entries_of tree.old.items) at.now offset }
     requires range { offset + deleted ≤ unit_count (in_order tree.old.items) }
     requires small { unit_count (in_order tree.old.items) < 2 ^ 62 }
     requires room { 1 < tree.old.spare }
-    requires inside { ForSome span (LiesIn chunks.now.buffers) }
+    requires counted { ForSome piece (IsPieceOf chunks.now.buffers) }
     requires pieces { All (IsPieceOf chunks.now.buffers) (in_order tree.old.items) }
-    requires fits { unit_count (in_order tree.old.items)
-        + unit_count (piece_list chunks.now.buffers span) < 2 ^ 62 + deleted }
-    ensures spliced { in_order tree.new.items
-        ≡ spliced chunks.now.buffers offset (offset + deleted) span (in_order tree.old.items) }
+    requires fits { unit_count (in_order tree.old.items) + unit_count (listed piece)
+        < 2 ^ 62 + deleted }
+    ensures spliced { in_order tree.new.items ≡ spliced chunks.now.buffers
+        offset (offset + deleted) (span_of piece) (in_order tree.old.items) }
     ensures front { KeepsBefore offset tree.old.items tree.new.items }
     ensures told { IfSome result (IsFound (entries_of tree.new.items)) }
     ensures near { IfSome result (λ found. (found.before.units ≤ offset)
         × (offset ≤ found.before.units + found.span.units)) }
-    ensures none { ForNone result (span ≡ None) }
+    ensures none { ForNone result (piece ≡ None) }
     ensures room { tree.old.spare ≤ tree.new.spare + 2 }
 {
-    let Some(cut) = first_cut(tree, at, offset, deleted, span, chunks) else {
-        return Some(put_only(tree, span?, chunks));
+    let Some(cut) = first_cut(tree, at, offset, deleted, piece, chunks) else {
+        return Some(put_only(tree, piece?));
     };
     let run = gather(tree, cut.id, cut.end);
     let right = rest_behind(tree, &run, cut.end, chunks);
-    let first = put(tree, run.id, cut.left, span, right, chunks);
+    let first = put(tree, run.id, cut.left, piece, right, chunks);
     found_first(first, cut.before)
 }
 
@@ -81,17 +81,16 @@ fn found_first(first: Option<(PieceId, Piece)>, before: PieceSum) -> Option<Foun
     Some(found((id, piece, before)))
 }
 
-/// Puts a span into a tree with no piece, and tells its piece.
-fn put_only(tree: &mut RbTree<PieceWeave>, span: ChunkSpan, chunks: &Chunks) -> Found
+/// Puts a piece into a tree with none, and tells it.
+fn put_only(tree: &mut RbTree<PieceWeave>, piece: Piece) -> Found
     requires empty { tree.old.items ≡ [] }
     requires room { 0 < tree.old.spare }
-    requires inside { LiesIn chunks.now.buffers span }
-    ensures items { tree.new.items ≡ (result.id, piece_of chunks.now.buffers span) ∷ [] }
+    requires few { few_breaks piece }
+    ensures items { tree.new.items ≡ (result.id, piece) ∷ [] }
     ensures told { IsFound (entries_of tree.new.items) result }
     ensures first { result.before.units ≡ 0 }
     ensures room { tree.old.spare ≤ tree.new.spare + 1 }
 {
-    let piece = piece_of(chunks, span);
     let none = PieceSum {
         units: 0,
         breaks: 0,
@@ -105,7 +104,7 @@ fn first_cut(
     at: &Option<Found>,
     offset: u64,
     deleted: u64,
-    span: Option<ChunkSpan>,
+    piece: Option<Piece>,
     chunks: &Chunks,
 ) -> Option<Cut>
     requires place { StandsAt (entries_of tree.now.items) at.now offset }
@@ -113,7 +112,7 @@ fn first_cut(
     requires small { unit_count (in_order tree.now.items) < 2 ^ 62 }
     requires pieces { All (IsPieceOf chunks.now.buffers) (in_order tree.now.items) }
     ensures { MatchOption result (tree.now.items ≡ [])
-        (IsCut chunks.now.buffers offset (offset + deleted) span tree.now.items) }
+        (IsCut chunks.now.buffers offset (offset + deleted) (span_of piece) tree.now.items) }
 {
     let Some(found) = at else {
         return Some(cut_behind(tree, tree.last()?, tree.sum(), deleted));
@@ -122,12 +121,12 @@ fn first_cut(
     if 0 < own {
         return Some(Cut {
             id: found.id,
-            left: Some(chunks.part(found.span, 0, own)),
+            left: Some(piece_of(chunks, chunks.part(found.span, 0, own))),
             end: own + deleted,
             before: found.before,
         });
     }
-    if let Some(before) = joint(tree, found.id, span) {
+    if let Some(before) = joint(tree, found.id, piece) {
         return Some(cut_behind(tree, before, found.before, deleted));
     }
     Some(Cut {
@@ -145,7 +144,7 @@ fn cut_behind(tree: &RbTree<PieceWeave>, id: PieceId, sum: PieceSum, deleted: u6
     ensures { AtItem tree.now.items id (λ us x vs.
         result ≡ record {
           id = id;
-          left = Some x.span;
+          left = Some x;
           end = x.span.units + deleted;
           before = record { units = sum.units - x.span.units; breaks = sum.breaks - x.breaks };
         }) }
@@ -153,7 +152,7 @@ fn cut_behind(tree: &RbTree<PieceWeave>, id: PieceId, sum: PieceSum, deleted: u6
     let piece = tree.get(id);
     Cut {
         id,
-        left: Some(piece.span),
+        left: Some(piece),
         end: piece.span.units as u64 + deleted,
         before: PieceSum {
             units: sum.units - piece.span.units as u64,
@@ -162,14 +161,14 @@ fn cut_behind(tree: &RbTree<PieceWeave>, id: PieceId, sum: PieceSum, deleted: u6
     }
 }
 
-/// The piece right before that one, where there is a span that goes on from it.
-fn joint(tree: &RbTree<PieceWeave>, id: PieceId, span: Option<ChunkSpan>) -> Option<PieceId>
+/// The piece right before that one, where what comes goes on from it.
+fn joint(tree: &RbTree<PieceWeave>, id: PieceId, piece: Option<Piece>) -> Option<PieceId>
     requires { IsItem tree.now.items id }
-    ensures { AtItem tree.now.items id (λ us x vs. IsJoint us span result) }
+    ensures { AtItem tree.now.items id (λ us x vs. IsJoint us (span_of piece) result) }
 {
-    let span = span?;
+    let piece = piece?;
     let before = tree.prev(id)?;
-    if goes_on(tree.get(before).span, span) {
+    if goes_on(tree.get(before).span, piece.span) {
         Some(before)
     } else {
         None
@@ -250,24 +249,20 @@ fn both_of(first: Piece, second: Piece) -> Option<Piece>
 }
 
 /// What of a run stays behind its first units. Where the run has no more than these, units right behind it go.
-fn rest_behind(
-    tree: &mut RbTree<PieceWeave>,
-    run: &Run,
-    end: u64,
-    chunks: &Chunks,
-) -> Option<ChunkSpan>
+fn rest_behind(tree: &mut RbTree<PieceWeave>, run: &Run, end: u64, chunks: &Chunks) -> Option<Piece>
     requires run { IsRun chunks.now.buffers end tree.old.items run.now }
     requires small { unit_count (in_order tree.old.items) < 2 ^ 62 }
     ensures left { AtItem tree.old.items run.now.id (λ us x vs.
         LeavesRest chunks.now.buffers end us x vs tree.new.items run.now result) }
-    ensures inside { ForSome result (LiesIn chunks.now.buffers) }
+    ensures counted { ForSome result (IsPieceOf chunks.now.buffers) }
     ensures small { unit_count (in_order tree.new.items) < 2 ^ 62 }
     ensures room { tree.old.spare ≤ tree.new.spare }
 {
     let units = tree.get(run.id).span.units as u64;
     if end < units {
         let last = run.last.units as u64;
-        return Some(chunks.part(run.last, end + last - units, last));
+        let rest = chunks.part(run.last, end + last - units, last);
+        return Some(piece_of(chunks, rest));
     }
     remove_units(tree, run.id, end - units, chunks);
     None
@@ -297,47 +292,47 @@ fn remove_units(tree: &mut RbTree<PieceWeave>, after: PieceId, units: u64, chunk
     }
 }
 
-/// Puts what stays on both sides and the span between them in the place of a piece, and tells the first piece that it put, if any.
-/// Where the span goes on from what stays before it, the two are one piece.
+/// Puts what stays on both sides and the piece between them in the place of a piece, and tells the first piece that it put, if any.
+/// Where what comes goes on from what stays before it, the two are one piece.
 fn put(
     tree: &mut RbTree<PieceWeave>,
     id: PieceId,
-    left: Option<ChunkSpan>,
-    span: Option<ChunkSpan>,
-    right: Option<ChunkSpan>,
+    left: Option<Piece>,
+    piece: Option<Piece>,
+    right: Option<Piece>,
     chunks: &Chunks,
 ) -> Option<(PieceId, Piece)>
-    requires left { ForSome left (λ s. HasUnits tree.old.items id s.units) }
-    requires fits { HasRoomAt tree.old.items id (unit_count (piece_list chunks.now.buffers left)
-        + unit_count (piece_list chunks.now.buffers span)
-        + unit_count (piece_list chunks.now.buffers right)) }
+    requires left { ForSome left (λ p. HasUnits tree.old.items id p.span.units) }
+    requires fits { HasRoomAt tree.old.items id
+        (unit_count (listed left) + unit_count (listed piece) + unit_count (listed right)) }
     requires small { unit_count (in_order tree.old.items) < 2 ^ 62 }
     requires room { 1 < tree.old.spare }
-    requires inside_left { ForSome left (LiesIn chunks.now.buffers) }
-    requires inside { ForSome span (LiesIn chunks.now.buffers) }
-    requires inside_right { ForSome right (LiesIn chunks.now.buffers) }
+    requires counted_left { ForSome left (IsPieceOf chunks.now.buffers) }
+    requires counted { ForSome piece (IsPieceOf chunks.now.buffers) }
+    requires counted_right { ForSome right (IsPieceOf chunks.now.buffers) }
     ensures items { AtItem tree.old.items id (λ us x vs. in_order tree.new.items
-        ≡ in_order us ++ followed_by chunks.now.buffers (piece_list chunks.now.buffers left) span
-        ++ piece_list chunks.now.buffers right ++ in_order vs) }
+        ≡ in_order us ++ followed_by chunks.now.buffers (listed left) (span_of piece)
+        ++ listed right ++ in_order vs) }
     ensures front { AtItem tree.old.items id (λ us x vs. KeepsFront us tree.new.items) }
     ensures first { AtItem tree.old.items id (λ us x vs. HeadsRest us
-        (followed_by chunks.now.buffers (piece_list chunks.now.buffers left) span
-        ++ piece_list chunks.now.buffers right) result tree.new.items) }
+        (followed_by chunks.now.buffers (listed left) (span_of piece) ++ listed right)
+        result tree.new.items) }
     ensures room { tree.old.spare ≤ tree.new.spare + 2 }
 {
     let Some(own) = left else {
-        return put_two(tree, id, span, right, chunks);
+        return put_two(tree, id, piece, right);
     };
-    let Some(span) = span else {
-        return put_two(tree, id, left, right, chunks);
+    let Some(piece) = piece else {
+        return put_two(tree, id, left, right);
     };
-    if goes_on(own, span) {
-        return put_two(tree, id, Some(prolonged(own, span)), right, chunks);
+    if goes_on(own.span, piece.span) {
+        let whole = piece_of(chunks, prolonged(own.span, piece.span));
+        return put_two(tree, id, Some(whole), right);
     }
     let Some(right) = right else {
-        return put_two(tree, id, left, Some(span), chunks);
+        return put_two(tree, id, left, Some(piece));
     };
-    Some(put_three(tree, id, own, span, right, chunks))
+    Some(put_three(tree, id, own, piece, right))
 }
 
 /// The first span with the units of one that goes on from it.
@@ -352,36 +347,34 @@ fn prolonged(first: ChunkSpan, second: ChunkSpan) -> ChunkSpan
     }
 }
 
-/// Puts three spans in the place of a piece, which has the units of the first and more, and tells the first piece. The sum changes with
-/// the last two alone.
+/// Puts three pieces in the place of one, which has the units of the first and more, and tells the first. The sum changes with the
+/// last two alone.
 fn put_three(
     tree: &mut RbTree<PieceWeave>,
     id: PieceId,
-    first: ChunkSpan,
-    second: ChunkSpan,
-    third: ChunkSpan,
-    chunks: &Chunks,
+    first: Piece,
+    second: Piece,
+    third: Piece,
 ) -> (PieceId, Piece)
-    requires first { HasUnits tree.old.items id first.units }
-    requires fits { HasRoomAt tree.old.items id (first.units + second.units + third.units) }
+    requires first { HasUnits tree.old.items id first.span.units }
+    requires fits { HasRoomAt tree.old.items id
+        (first.span.units + second.span.units + third.span.units) }
     requires small { unit_count (in_order tree.old.items) < 2 ^ 62 }
     requires room { 1 < tree.old.spare }
-    requires inside_first { LiesIn chunks.now.buffers first }
-    requires inside_second { LiesIn chunks.now.buffers second }
-    requires inside_third { LiesIn chunks.now.buffers third }
+    requires few_first { few_breaks first }
+    requires few_second { few_breaks second }
+    requires few_third { few_breaks third }
     ensures items { AtItem tree.old.items id (λ us x vs. in_order tree.new.items
-        ≡ in_order us ++ piece_of chunks.now.buffers first
-        ∷ piece_of chunks.now.buffers second ∷ piece_of chunks.now.buffers third ∷ in_order vs) }
+        ≡ in_order us ++ first ∷ second ∷ third ∷ in_order vs) }
     ensures front { AtItem tree.old.items id (λ us x vs. KeepsFront us tree.new.items) }
-    ensures first { AtItem tree.old.items id (λ us x vs. HeadsRest us
-        (piece_of chunks.now.buffers first ∷ []) (Some result) tree.new.items) }
+    ensures first { AtItem tree.old.items id (λ us x vs.
+        HeadsRest us (first ∷ []) (Some result) tree.new.items) }
     ensures room { tree.old.spare ≤ tree.new.spare + 2 }
 {
-    let own = piece_of(chunks, first);
-    let rest = rest_of(tree.get(id), own);
-    let other = tree.set_and_insert_after(id, own, rest);
-    put_two(tree, other, Some(second), Some(third), chunks);
-    (id, own)
+    let rest = rest_of(tree.get(id), first);
+    let other = tree.set_and_insert_after(id, first, rest);
+    put_two(tree, other, Some(second), Some(third));
+    (id, first)
 }
 
 /// A piece that has what a whole has beside a part of it. Its span stands for that.
@@ -403,64 +396,58 @@ fn rest_of(whole: Piece, part: Piece) -> Piece
     }
 }
 
-/// Puts up to two spans in the place of a piece, and tells the first piece that it put, if any.
+/// Puts up to two pieces in the place of one, and tells the first that it put, if any.
 fn put_two(
     tree: &mut RbTree<PieceWeave>,
     id: PieceId,
-    first: Option<ChunkSpan>,
-    second: Option<ChunkSpan>,
-    chunks: &Chunks,
+    first: Option<Piece>,
+    second: Option<Piece>,
 ) -> Option<(PieceId, Piece)>
-    requires fits { HasRoomAt tree.old.items id (unit_count (piece_list chunks.now.buffers first)
-        + unit_count (piece_list chunks.now.buffers second)) }
+    requires fits { HasRoomAt tree.old.items id
+        (unit_count (listed first) + unit_count (listed second)) }
     requires room { 0 < tree.old.spare }
-    requires inside_first { ForSome first (LiesIn chunks.now.buffers) }
-    requires inside_second { ForSome second (LiesIn chunks.now.buffers) }
+    requires few_first { ForSome first few_breaks }
+    requires few_second { ForSome second few_breaks }
     ensures items { AtItem tree.old.items id (λ us x vs. in_order tree.new.items
-        ≡ in_order us ++ piece_list chunks.now.buffers first
-        ++ piece_list chunks.now.buffers second ++ in_order vs) }
+        ≡ in_order us ++ listed first ++ listed second ++ in_order vs) }
     ensures front { AtItem tree.old.items id (λ us x vs. KeepsFront us tree.new.items) }
-    ensures first { AtItem tree.old.items id (λ us x vs. HeadsRest us
-        (piece_list chunks.now.buffers first ++ piece_list chunks.now.buffers second)
-        result tree.new.items) }
+    ensures first { AtItem tree.old.items id (λ us x vs.
+        HeadsRest us (listed first ++ listed second) result tree.new.items) }
     ensures room { tree.old.spare ≤ tree.new.spare + 1 }
 {
     let Some(one) = first else {
-        return put_one(tree, id, second, chunks);
+        return put_one(tree, id, second);
     };
     let Some(other) = second else {
-        return put_one(tree, id, first, chunks);
+        return put_one(tree, id, first);
     };
-    // By what this piece gives up, the spans fit.
+    // By what this piece gives up, the two fit.
     let _own = tree.get(id);
-    let piece = piece_of(chunks, one);
-    tree.set_and_insert_after(id, piece, piece_of(chunks, other));
-    Some((id, piece))
+    tree.set_and_insert_after(id, one, other);
+    Some((id, one))
 }
 
-/// Puts a span in the place of a piece, or nothing, and tells the piece that it put.
+/// Puts a piece in the place of one, or nothing, and tells the piece that it put.
 fn put_one(
     tree: &mut RbTree<PieceWeave>,
     id: PieceId,
-    span: Option<ChunkSpan>,
-    chunks: &Chunks,
+    piece: Option<Piece>,
 ) -> Option<(PieceId, Piece)>
-    requires fits { HasRoomAt tree.old.items id (unit_count (piece_list chunks.now.buffers span)) }
-    requires inside { ForSome span (LiesIn chunks.now.buffers) }
+    requires fits { HasRoomAt tree.old.items id (unit_count (listed piece)) }
+    requires few { ForSome piece few_breaks }
     ensures items { AtItem tree.old.items id (λ us x vs. in_order tree.new.items
-        ≡ in_order us ++ piece_list chunks.now.buffers span ++ in_order vs) }
+        ≡ in_order us ++ listed piece ++ in_order vs) }
     ensures front { AtItem tree.old.items id (λ us x vs. KeepsFront us tree.new.items) }
-    ensures first { AtItem tree.old.items id (λ us x vs. HeadsRest us
-        (piece_list chunks.now.buffers span) result tree.new.items) }
+    ensures first { AtItem tree.old.items id (λ us x vs.
+        HeadsRest us (listed piece) result tree.new.items) }
     ensures room { tree.old.spare ≤ tree.new.spare }
 {
-    // By what this piece gives up, the span fits.
+    // By what this piece gives up, the new one fits.
     let _own = tree.get(id);
-    let Some(span) = span else {
+    let Some(piece) = piece else {
         tree.remove(id);
         return None;
     };
-    let piece = piece_of(chunks, span);
     tree.set(id, piece);
     Some((id, piece))
 }
@@ -480,7 +467,8 @@ fn shorten(tree: &mut RbTree<PieceWeave>, id: PieceId, span: ChunkSpan, chunks: 
 /// The piece of a span.
 fn piece_of(chunks: &Chunks, span: ChunkSpan) -> Piece
     requires { LiesIn chunks.now.buffers span }
-    ensures { result ≡ piece_of chunks.now.buffers span }
+    ensures piece { result ≡ piece_of chunks.now.buffers span }
+    ensures counted { IsPieceOf chunks.now.buffers result }
 {
     Piece {
         span,

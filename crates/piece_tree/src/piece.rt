@@ -1,7 +1,7 @@
 //! Pieces, their names and their sums.
 
 use chunk_buffers::ChunkSpan;
-use slot_arena::NodeId;
+use raw_arena::NodeId;
 
 /// The name of a piece in its tree. A splice may change it.
 pub type PieceId = NodeId;

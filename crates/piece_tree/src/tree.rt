@@ -3,8 +3,7 @@
 ghost use Rattle.std.specs.Prelude.{◌≡◌, ℕ, ◌+◌, ◌-◌, ◌*◌, ◌<◌, ◌≤◌, ◌^◌, ◌++◌, ◌∷◌, List, [], length, map, Option, None, MatchOption, IfSome, OnOk, OnErr};
 ghost use Rattle.std.specs.List.{All};
 ghost use Rattle.std.specs.Option.{ForSome, ForNone};
-ghost use Rattle.chunk_buffers.specs.Chunks.{LiesIn};
-ghost use Rattle.piece_tree.specs.Pieces.{pieces_of, unit_count, break_count_of, piece_list, IsPieceOf, spliced, IsFound, AreNeighbours, IsAmong, StandsAt, Entry, first_of, last_of};
+ghost use Rattle.piece_tree.specs.Pieces.{pieces_of, unit_count, break_count_of, listed, span_of, IsPieceOf, spliced, IsFound, AreNeighbours, IsAmong, StandsAt, Entry, first_of, last_of};
 ghost use Rattle.piece_tree.specs.Costs.{WithinLookUps};
 
 use crate::edits::replace_units;
@@ -177,36 +176,36 @@ impl PieceTree {
         Some(found((prev, piece, before)))
     }
 
-    /// Puts the span in the place of `deleted` units from the offset on, where the piece that has the unit at the offset was looked
+    /// Puts the piece in the place of `deleted` units from the offset on, where the piece that has the unit at the offset was looked
     /// up; None at the end. It makes no search, and takes no memory. It tells the first of the pieces that it put in the place
-    /// of those that it touched, if any, as a look-up would tell it. Where a span came, there is one.
+    /// of those that it touched, if any, as a look-up would tell it. Where a piece came, there is one.
     pub fn splice(
         &mut self,
         at: Option<Found>,
         offset: u64,
         deleted: u64,
-        span: Option<ChunkSpan>,
+        piece: Option<Piece>,
         chunks: &Chunks,
     ) -> Option<Found>
         requires place { StandsAt self.old.entries at offset }
         requires range { offset + deleted ≤ unit_count (pieces_of self.old.entries) }
         requires room { 0 < self.old.spare }
-        requires inside { ForSome span (LiesIn chunks.now.buffers) }
+        requires counted { ForSome piece (IsPieceOf chunks.now.buffers) }
         requires pieces { All (IsPieceOf chunks.now.buffers) (pieces_of self.old.entries) }
-        requires small { unit_count (pieces_of self.old.entries)
-            + unit_count (piece_list chunks.now.buffers span) < 2 ^ 62 + deleted }
+        requires small { unit_count (pieces_of self.old.entries) + unit_count (listed piece)
+            < 2 ^ 62 + deleted }
         ensures spliced { pieces_of self.new.entries
-            ≡ spliced chunks.now.buffers offset (offset + deleted) span
+            ≡ spliced chunks.now.buffers offset (offset + deleted) (span_of piece)
             (pieces_of self.old.entries) }
         ensures front { (found : Found) → IsFound self.old.entries found
             → found.before.units + found.span.units < offset → IsFound self.new.entries found }
         ensures told { IfSome result (IsFound self.new.entries) }
         ensures near { IfSome result (λ found. (found.before.units ≤ offset)
             × (offset ≤ found.before.units + found.span.units)) }
-        ensures none { ForNone result (span ≡ None) }
+        ensures none { ForNone result (piece ≡ None) }
         ensures spare { self.new.spare + 1 ≡ self.old.spare }
     {
-        let first = replace_units(&mut self.tree, &at, offset, deleted, span, chunks);
+        let first = replace_units(&mut self.tree, &at, offset, deleted, piece, chunks);
         self.whole = self.tree.sum();
         self.spare -= 1;
         first

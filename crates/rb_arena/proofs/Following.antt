@@ -21,7 +21,7 @@ use Rattle.rb_arena.specs.Leaving.{shown}
 use Rattle.rb_arena.specs.Placing.{HangsAfter, WovenIn, CanHang, IsValueAlone, above_place, leaf_for}
 use Rattle.rb_arena.specs.Rising.{MendedBeside}
 use Rattle.rb_arena.specs.Stopping.{RightAbove}
-use Rattle.rb_arena.specs.Value.{first_hole, with_item, loose_in, KeepsWithin}
+use Rattle.rb_arena.specs.RbTree.{first_hole, with_item, loose_in, KeepsWithin}
 use Rattle.rb_arena.proofs.Growing.{depth_height, first-plug, first-lefts, first-rights}
 use Rattle.rb_arena.proofs.Heirs.{as_deep, shift_first, slack_first}
 use Rattle.rb_arena.proofs.Inserting.{valued_renamed}

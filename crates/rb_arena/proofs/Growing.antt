@@ -17,7 +17,7 @@ use Rattle.rb_rules.specs.Memory.{Makes, Spot, here, below}
 use Rattle.rb_rules.specs.Weaving.{Weaving}
 use Rattle.rb_rules.specs.Woven.{entries, lefts, rights, shift_at}
 use Rattle.rb_rules.proofs.Balance.{bound}
-use Rattle.rb_arena.specs.Value.{grown, first_hole, end_hole, up_on, nearest, neighbour_of}
+use Rattle.rb_arena.specs.RbTree.{grown, first_hole, end_hole, up_on, nearest, neighbour_of}
 
 module _ {D : Type 0} where
   pub grown_is : (m : map.FinMap nat_cmp (Slot D)) (n : ℕ) (p : Option ℕ) (t : Tree D) → Makes m p t → height t ≤ n → grown m n (root_of t) ≡ t

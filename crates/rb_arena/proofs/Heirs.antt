@@ -33,7 +33,7 @@ use Rattle.rb_arena.specs.Ends.{HangsAt, IsEnd}
 use Rattle.rb_arena.specs.Leaving.{leaf_height, Emptied, Unlinked, Unlinks, UnlinksBefore, NoChild, OneChild, Stores, StoresBeside, StoresBoth, StoresItem, StillLists, IsShown, IsKept, StandsValued, StandsWoven, WovenSpot}
 use Rattle.rb_arena.specs.Placing.{StartsAt, above_place, IsThere}
 use Rattle.rb_arena.specs.Relative.{LawsOf}
-use Rattle.rb_arena.specs.Value.{first_hole, with_item}
+use Rattle.rb_arena.specs.RbTree.{first_hole, with_item}
 use Rattle.rb_arena.proofs.Growing.{depth_height, first-plug, first-lefts, first-rights}
 use Rattle.rb_arena.proofs.Leaving.{Spotted, spotted, childless_spot, valued_without, fit_leaf, none_of, stored_there, leaf_lives}
 use Rattle.rb_arena.proofs.Locating.{cut, after_list, lying}

@@ -15,7 +15,7 @@ use Rattle.rb_arena.specs.declared.links.Links.{Links}
 use Rattle.rb_arena.specs.Ends.{StandsLow, IsBeside}
 use Rattle.rb_arena.specs.Leaving.{StoresBeside, WovenSpot, shown}
 use Rattle.rb_arena.specs.Rising.{MendedBeside}
-use Rattle.rb_arena.specs.Value.{items_in, loose_in, Chain, KeepsWithin, IsItem, first_or, last_or, name_beside}
+use Rattle.rb_arena.specs.RbTree.{items_in, loose_in, Chain, KeepsWithin, IsItem, first_or, last_or, name_beside}
 use Rattle.rb_arena.proofs.Growing.{depth_height}
 use Rattle.rb_arena.proofs.Leaving.{valued_without}
 use Rattle.rb_arena.proofs.Listing.{low, items_are, loose_are, keeps_mended}

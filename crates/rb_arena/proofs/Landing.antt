@@ -18,7 +18,7 @@ use Rattle.rb_rules.proofs.Live.{Live, live_root}
 use Rattle.rb_arena.specs.Leaving.{loosened}
 use Rattle.rb_arena.specs.Placing.{CanTake, HangsAfter}
 use Rattle.rb_arena.specs.Rising.{Mended}
-use Rattle.rb_arena.specs.Value.{first_hole, items_in, loose_in, Chain, HasPut, Keeps, PlaceAfter, SplitsAfter, SumsPut, front_of}
+use Rattle.rb_arena.specs.RbTree.{first_hole, items_in, loose_in, Chain, HasPut, Keeps, PlaceAfter, SplitsAfter, SumsPut, front_of}
 use Rattle.rb_arena.proofs.Growing.{first-plug}
 use Rattle.rb_arena.proofs.Inserting.{valued_renamed}
 use Rattle.rb_arena.proofs.Listing.{low, can_take, list_first, keeps_mended}

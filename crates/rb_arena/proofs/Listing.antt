@@ -13,7 +13,7 @@ use Rattle.rb_rules.specs.Woven.{entries, Woven, Valued, lefts, rights, shift_at
 use Rattle.rb_rules.proofs.Wider.{woven_wider}
 use Rattle.rb_arena.specs.Placing.{CanTake, StartsAt}
 use Rattle.rb_arena.specs.Rising.{Mended}
-use Rattle.rb_arena.specs.Value.{grown, first_hole, items_in, loose_in, Chain, Keeps}
+use Rattle.rb_arena.specs.RbTree.{grown, first_hole, items_in, loose_in, Chain, Keeps}
 use Rattle.rb_arena.proofs.Growing.{grown_is, grown_none, depth_height, height_size, not_high, first-plug, length-entries, first-lefts, first-rights}
 
 module _ {X S B : Type 0} (w : Weaving X S B) where

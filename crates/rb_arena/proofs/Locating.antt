@@ -8,7 +8,7 @@ use Rattle.rb_rules.specs.Tree.{Tree, tip, fork, Hole, top, on, plug, above, roo
 use Rattle.rb_rules.specs.Memory.{Spot, here, below}
 use Rattle.rb_rules.specs.Weaving.{Weaving}
 use Rattle.rb_rules.specs.Woven.{entries, lefts, rights, shift_at, AllItems}
-use Rattle.rb_arena.specs.Value.{end_hole, first_hole, first_or, up_next, last_hole, last_or, name_at_end, up_prev, neighbour_of}
+use Rattle.rb_arena.specs.RbTree.{end_hole, first_hole, first_or, up_next, last_hole, last_or, name_at_end, up_prev, neighbour_of}
 
 module _ {A : Type 0} where
   head_or : A → List A → A

@@ -31,7 +31,7 @@ use Rattle.rb_arena.specs.Placing.{IsThere, above_place}
 use Rattle.rb_arena.specs.Relative.{LawsOf}
 use Rattle.rb_arena.specs.Rising.{MendedBeside}
 use Rattle.rb_arena.specs.Stopping.{RightRound, SlackIn, IsSlackTo, RenewsOver}
-use Rattle.rb_arena.specs.Value.{with_item, up_on, first_or, last_or}
+use Rattle.rb_arena.specs.RbTree.{with_item, up_on, first_or, last_or}
 use Rattle.rb_arena.proofs.Growing.{depth_height, no_root}
 use Rattle.rb_arena.proofs.Heirs.{none_right, hangs_right, heir_child, next as heir_next}
 use Rattle.rb_arena.proofs.Leaving.{spotted, childless_spot, valued_without, fit_leaf, none_of, empty_mended, empty_closing}

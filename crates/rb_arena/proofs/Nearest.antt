@@ -17,7 +17,7 @@ use Rattle.rb_rules.proofs.Holes.{count_self}
 use Rattle.rb_rules.proofs.Weaves.{woven_at, whole_is}
 use Rattle.rb_arena.specs.Merging.{fore, aft}
 use Rattle.rb_arena.specs.Stopping.{hole_of, kept_sum, RightRound, RightAbove}
-use Rattle.rb_arena.specs.Value.{with_item, up_on, first_or}
+use Rattle.rb_arena.specs.RbTree.{with_item, up_on, first_or}
 use Rattle.rb_arena.proofs.Heirs.{last_same}
 
 module _ {X S B : Type 0} where

@@ -18,7 +18,7 @@ use Rattle.rb_rules.proofs.Weaves.{woven_at, near_of}
 use Rattle.rb_arena.proofs.Slots.{upper_at}
 use Rattle.rb_arena.specs.Placing.{passed, above_place, CanPass, IsShiftTo, IsWovenPlace, PathSoFar, StepsTo, WovenIn}
 use Rattle.rb_arena.specs.Relative.{LawsOf}
-use Rattle.slot_arena.specs.Arena.{IsLive}
+use Rattle.raw_arena.specs.Arena.{IsLive}
 use Rattle.std.specs.Prelude.{IfSome}
 use Rattle.rb_rules.proofs.Live.{slot_here}
 use Rattle.rb_arena.specs.declared.links.Links.{Links}

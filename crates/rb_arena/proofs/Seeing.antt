@@ -4,7 +4,7 @@ use Rattle.std.proofs.Math.Nat.{pow-le-pow_right}
 use Rattle.std.specs.Prelude.{IfSome}
 use Rattle.std.specs.Option.{unwrap_or}
 use Rattle.std.specs.FinMap as map
-use Rattle.slot_arena.specs.Arena.{Nodes, node}
+use Rattle.raw_arena.specs.Arena.{Nodes, node}
 use Rattle.rb_rules.specs.declared.slot.Data.{Data}
 use Rattle.rb_rules.specs.declared.slot.Side.{Side}
 use Rattle.rb_rules.specs.declared.slot.Slot.{Slot}
@@ -33,7 +33,7 @@ use Rattle.rb_arena.specs.Stopping.{SlackTo, IsSlackTo, RenewsOver}
 use Rattle.rb_arena.specs.Rising.{Mended, MendedBeside}
 use Rattle.rb_arena.specs.Searching.{Found, StandsIn, CanGoDown, FindsBelow, StepsBelow, CanGoOn, FindsOn, StepsOn, CanSearchAfter, GoesOn, StepsAfter, items_after}
 use Rattle.rb_arena.specs.Shifting.{FindsReach, Reaches, CanShiftAll, ShiftsAll}
-use Rattle.rb_arena.specs.Value.{Listed, NamesDiffer, items_in, loose_in, seen, Kept, KeepsWithin, IsItem, AtItem, HasPut, PlaceAfter, SumsPut, SumsLanded, SumsWith, SumsWithAndTo, HasInstead, HasInsteadAndAfter, with_item, SplitsAt, SplitsAfter, EndsWith, CanMoveAfter, SumsMoved, LeavesOut, first_hole, HasLifted, end_hole, front_of, name_at_end, name_beside}
+use Rattle.rb_arena.specs.RbTree.{Listed, NamesDiffer, items_in, loose_in, seen, Kept, KeepsWithin, IsItem, AtItem, HasPut, PlaceAfter, SumsPut, SumsLanded, SumsWith, SumsWithAndTo, HasInstead, HasInsteadAndAfter, with_item, SplitsAt, SplitsAfter, EndsWith, CanMoveAfter, SumsMoved, LeavesOut, first_hole, HasLifted, end_hole, front_of, name_at_end, name_beside}
 use Rattle.rb_arena.proofs.Climbing.{square_is, thrice}
 use Rattle.rb_arena.proofs.Following.{right_hole, hole_after, hangs_after, woven_after, own_after, next_alone, same_leaf, can_hang, right_after, both_there}
 use Rattle.rb_arena.proofs.Growing.{length-entries}

@@ -20,7 +20,7 @@ use Rattle.rb_arena.specs.declared.links.Links.{Links}
 use Rattle.rb_arena.specs.Leaving.{shown}
 use Rattle.rb_arena.specs.Rising.{Mended}
 use Rattle.rb_arena.specs.Stopping.{SlackTo}
-use Rattle.rb_arena.specs.Value.{with_item, items_in, loose_in, Keeps, KeepsWithin}
+use Rattle.rb_arena.specs.RbTree.{with_item, items_in, loose_in, Keeps, KeepsWithin}
 use Rattle.rb_arena.proofs.Keeping.{Node, own_spot, woven_there, few_above}
 use Rattle.rb_arena.proofs.Listing.{loose_are, keeps_mended}
 use Rattle.rb_arena.proofs.Stopping.{right_at}

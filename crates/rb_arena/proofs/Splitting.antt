@@ -19,7 +19,7 @@ use Rattle.rb_rules.proofs.Held.{items_left, items_right}
 use Rattle.rb_arena.specs.Leaving.{Stores}
 use Rattle.rb_arena.specs.Placing.{HangsAfter}
 use Rattle.rb_arena.specs.Shifting.{CanShiftFrom}
-use Rattle.rb_arena.specs.Value.{first_hole, PlaceAfter, SplitsAfter}
+use Rattle.rb_arena.specs.RbTree.{first_hole, PlaceAfter, SplitsAfter}
 use Rattle.rb_arena.proofs.Growing.{depth_height, not_high, first-plug, length-entries, first-lefts, first-rights}
 use Rattle.rb_arena.proofs.Locating.{locate_in, after_list}
 

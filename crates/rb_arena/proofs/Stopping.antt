@@ -20,7 +20,7 @@ use Rattle.rb_rules.proofs.Shapes.{each-plug, same_items}
 use Rattle.rb_rules.proofs.Weaves.{sum-append, woven_at, woven_summed}
 use Rattle.rb_rules.specs.declared.weave.Weave.{Ghosts}
 use Rattle.rb_arena.specs.declared.links.Links.{Links}
-use Rattle.rb_arena.specs.Value.{first_hole}
+use Rattle.rb_arena.specs.RbTree.{first_hole}
 use Rattle.rb_arena.specs.Relative.{IsSlackFrom, LawsOf, RenewsFrom}
 use Rattle.rb_arena.specs.declared.climb.Change.{Change}
 use Rattle.rb_arena.specs.Exchanging.{Changed}

@@ -4,7 +4,7 @@ use Rattle.std.specs.Prelude.{IfSome}
 use Rattle.std.proofs.lemmas.Cmp.{nat_cmp_total}
 use Rattle.std.specs.Ordering.{nat_cmp}
 use Rattle.std.specs.FinMap as map
-use Rattle.slot_arena.specs.Arena.{IsLive}
+use Rattle.raw_arena.specs.Arena.{IsLive}
 use Rattle.rb_rules.specs.declared.slot.Data.{Data}
 use Rattle.rb_rules.specs.declared.slot.Side.{Side}
 use Rattle.rb_rules.specs.declared.slot.Slot.{Slot}

@@ -9,7 +9,7 @@ use Rattle.rb_arena.specs.Ends.{StandsLow}
 use Rattle.rb_arena.specs.Merging.{CanMerge, Merges}
 use Rattle.rb_arena.specs.Pairs.{HasNext, SumsMerged, HasMerged}
 use Rattle.rb_arena.specs.Relative.{LawsOf}
-use Rattle.rb_arena.specs.Value.{Listed, seen, Kept, KeepsWithin}
+use Rattle.rb_arena.specs.RbTree.{Listed, seen, Kept, KeepsWithin}
 use Rattle.rb_arena.proofs.Keeping.{Shows, node_of, stored_there, loose_seen, stands_item}
 use Rattle.rb_arena.proofs.Listing.{keeps_mended}
 use Rattle.rb_arena.proofs.Merging.{sum_renamed}

@@ -5,7 +5,7 @@ use Rattle.std.specs.Option.{unwrap_or}
 use Rattle.std.proofs.lemmas.Option.{none-some}
 use Rattle.std.specs.Ordering.{nat_cmp}
 use Rattle.std.specs.FinMap as map
-use Rattle.slot_arena.specs.Arena.{node, IsLive}
+use Rattle.raw_arena.specs.Arena.{node, IsLive}
 use denote.Enum.Bare.{sameb}
 use Rattle.rb_rules.specs.contracts.slot.Side.{the_type}
 use Rattle.rb_rules.specs.declared.slot.Side.{Side}
@@ -20,7 +20,7 @@ use Rattle.rb_rules.proofs.Memories.{opened}
 use Rattle.rb_arena.specs.declared.links.Links.{Links}
 use Rattle.rb_arena.specs.Ends.{HangsAt, IsEnd, HangsPast, IsFirstPast, NearsEnd, StandsAbove, LowAt, StandsLow, IsAboveOn, IsBeside, NearsAbove}
 use Rattle.rb_arena.specs.Placing.{above_place, right_of, StartsAt, HangsAfter}
-use Rattle.rb_arena.specs.Value.{end_hole, up_on}
+use Rattle.rb_arena.specs.RbTree.{end_hole, up_on}
 use Rattle.rb_arena.proofs.Growing.{forked_here, height-forked, height-below, end_fork, up_past, sides_differ, same_side, hole_depth, no_height, no_root, neighbour_none, neighbour_some}
 use Rattle.rb_arena.proofs.Paths.{above-place}
 use Rattle.rb_arena.proofs.Slots.{child-slot, upper_at}

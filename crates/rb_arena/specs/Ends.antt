@@ -5,7 +5,7 @@ use Rattle.rb_rules.specs.Tree.{Tree, Hole, plug, root_of, depth, height}
 use Rattle.rb_rules.specs.Memory.{Made, Spot, here, Stands, place_of}
 use Rattle.rb_arena.specs.declared.links.Links.{Links}
 use Rattle.rb_arena.specs.Placing.{HoleAt, StartsAt, Hangs, WhereHangs, HangsRight, WhereHangsRight}
-use Rattle.rb_arena.specs.Value.{first_hole, end_hole, up_on, neighbour_of}
+use Rattle.rb_arena.specs.RbTree.{first_hole, end_hole, up_on, neighbour_of}
 
 module _ {D : Type 0} (tree : Links D) where
   -- a subtree of that name hangs at that place

@@ -1,7 +1,7 @@
 -- The first node of a chain comes to a place of a tree in memory. A proof sees behind a word here where it opens it.
 use Rattle.std.specs.Prelude.{◌≡◌, ℕ, Option}
 use Rattle.std.specs.FinMap as map
-use Rattle.slot_arena.specs.Arena.{Nodes}
+use Rattle.raw_arena.specs.Arena.{Nodes}
 use Rattle.rb_rules.specs.declared.slot.Data.{Data}
 use Rattle.rb_rules.specs.declared.slot.Side.{Side}
 use Rattle.rb_rules.specs.declared.slot.Slot.{Slot}

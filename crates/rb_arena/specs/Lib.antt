@@ -13,6 +13,6 @@ pub mod Rising
 pub mod Searching
 pub mod Shifting
 pub mod Stopping
-pub mod Value
+pub mod RbTree
 pub mod Names
 pub mod Merging

@@ -1,6 +1,6 @@
 -- A place for an item in a tree in memory.
 use Rattle.std.specs.Prelude.{◌≡◌, ℕ, ◌+◌, ◌-◌, ◌≤◌, true, [], ◌∷◌, ◌++◌, Option, Some, None, IfSome}
-use Rattle.slot_arena.specs.Arena.{IsLive}
+use Rattle.raw_arena.specs.Arena.{IsLive}
 use Rattle.std.specs.Ordering.{nat_cmp}
 use Rattle.std.specs.FinMap as map
 use Rattle.rb_rules.specs.declared.slot.Data.{Data}

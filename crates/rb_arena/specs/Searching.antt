@@ -13,7 +13,7 @@ use Rattle.rb_arena.specs.declared.descend.Next.{Next}
 use Rattle.rb_arena.specs.declared.descend.Next.TheVariants as next
 use Rattle.rb_arena.specs.declared.descend.Standing.{Standing}
 use Rattle.rb_arena.specs.declared.links.Links.{Links}
-use Rattle.rb_arena.specs.Value.{SplitsAt}
+use Rattle.rb_arena.specs.RbTree.{SplitsAt}
 
 module _ {X S B : Type 0} (w : Weaving X S B) where
   -- the sum of some items and of one after them

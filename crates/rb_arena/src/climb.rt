@@ -9,8 +9,8 @@ ghost use Rattle.rb_arena.specs.Stopping.{RenewsOver, RenewsUnder};
 
 use crate::links::{Links, node_of, rewrite};
 use crate::sums::{summed, whole};
+use raw_arena::NodeId;
 use rb_rules::{Data, Side, Slot, Weave};
-use slot_arena::NodeId;
 
 /// The most nodes on a path, by the balance of the tree.
 pub(crate) const LONGEST: u32 = 128;

@@ -6,8 +6,8 @@ ghost use Rattle.rb_arena.specs.Closing.{IsShort, IsClosing, ClosesTo, ClosesFro
 use crate::links::{Links, Place, place, read};
 use crate::mend::{paint, red_child};
 use crate::sums::turn_node;
+use raw_arena::NodeId;
 use rb_rules::{Data, Side, Weave};
-use slot_arena::NodeId;
 
 /// One step at most for each node on a path, and one more below a red node.
 const MOST_STEPS: u32 = 129;

@@ -1,6 +1,6 @@
 //! A search from the top down, or from a node on.
 ghost use Rattle.std.specs.Prelude.{◌≡◌, ◌-◌, IfSome};
-ghost use Rattle.slot_arena.specs.Arena.{IsLive};
+ghost use Rattle.raw_arena.specs.Arena.{IsLive};
 ghost use Rattle.rb_arena.specs.Relative.{RelativeItem, RelativeSum, RelativeBy, before_node};
 ghost use Rattle.rb_arena.specs.Searching.{past_item, inside, past_subtree, right_of_node};
 ghost use Rattle.rb_arena.specs.Searching.{CanGoDown, FindsBelow, StepsBelow};
@@ -10,8 +10,8 @@ use crate::climb::LONGEST;
 use crate::insert::{copy_of, shift_to};
 use crate::links::{Links, Place, place, visit};
 use crate::sums::whole;
+use raw_arena::NodeId;
 use rb_rules::{Data, Side, Slot, Turn, Weave};
-use slot_arena::NodeId;
 use std::sync::ledger::Ledger;
 use steps::Steps;
 

@@ -16,8 +16,8 @@ use crate::insert::{copy_of, kept_below, parent_at, path_shift};
 use crate::links::{Links, Place, hang, node_of, place, read, replace, string};
 use crate::sums::turn_node;
 use crate::tree::end_place;
+use raw_arena::NodeId;
 use rb_rules::{Data, Side, Weave};
-use slot_arena::NodeId;
 
 /// What a node leaves where it goes from a tree: an empty place, and whether a red node is missing there.
 pub(crate) struct Vacancy {

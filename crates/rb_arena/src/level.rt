@@ -6,8 +6,8 @@ ghost use Rattle.rb_arena.specs.Relative.{RelativeItem, RelativeSum};
 ghost use Rattle.rb_arena.specs.Shifting.{CanLevelAt, Levels};
 
 use crate::links::{Links, node_of, rewrite};
+use raw_arena::NodeId;
 use rb_rules::{Data, Weave};
-use slot_arena::NodeId;
 
 /// A node's data with the shift of its path applied, and with none for its right subtree.
 fn level_datum<W: Weave>(

@@ -1,15 +1,15 @@
 //! A tree's nodes and their links, whatever data the nodes have.
 ghost use Rattle.std.specs.Prelude.{◌≡◌, ◌+◌, ◌<◌, Some, None, IfSome};
 ghost use Rattle.std.specs.FinMap as map;
-ghost use Rattle.slot_arena.specs.Arena.{node, IsLive};
+ghost use Rattle.raw_arena.specs.Arena.{node, IsLive};
 ghost use Rattle.rb_rules.specs.declared.slot.Slot.{Slot};
 ghost use Rattle.rb_rules.specs.Memory.{place_of, adopted, hung, root_hung};
 ghost use Rattle.rb_rules.specs.Memory.{Stands, AtSpot};
 ghost use Rattle.rb_arena.specs.Nodes.{HasChildAt, HeadsChain, Inherits, KeepLive, LosesFirst};
 ghost use Rattle.rb_arena.specs.Nodes.{Lives, LivesAt, LivesIf, Rewrites, TurnsAt, slot_of, strung};
 
+use raw_arena::{Arena, NodeId};
 use rb_rules::{Packed, Side, Slot};
-use slot_arena::{Arena, NodeId};
 use std::marker::Brand;
 use std::sync::ledger::{Blank, Ledger};
 use steps::Steps;

@@ -9,8 +9,8 @@ ghost use Rattle.rb_arena.specs.Mending.{case_of, bent, HasChild, red_child_in};
 
 use crate::links::{Links, node_of, place, read, rewrite};
 use crate::sums::turn_node;
+use raw_arena::{Arena, NodeId};
 use rb_rules::{Data, Packed, Side, Weave};
-use slot_arena::{Arena, NodeId};
 
 /// One step at most for each node on a path, and one at the topmost.
 const MOST_STEPS: u32 = 129;

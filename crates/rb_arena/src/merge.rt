@@ -15,8 +15,8 @@ use crate::leave::{Vacancy, item_for, to_leaf};
 use crate::links::{Links, Place, hang, node_of, place};
 use crate::sums::replace_item;
 use crate::tree::{above_on, end_place};
+use raw_arena::NodeId;
 use rb_rules::{Data, Side, Weave};
-use slot_arena::NodeId;
 
 /// A leaf hangs in the tree no more, and keeps its slot. The tree's sums may be wrong.
 #[tactic(auto, using(crate::proofs::Merging::cutting_leaf))]

@@ -11,8 +11,8 @@ use crate::climb::{LONGEST, renew_up};
 use crate::insert::parent_at;
 use crate::level::level;
 use crate::links::{Links, Place, node_of, place, rewrite};
+use raw_arena::NodeId;
 use rb_rules::{Data, Side, Weave};
-use slot_arena::NodeId;
 
 /// Moves a node's item and its right subtree, and leaves its sums as they are.
 #[tactic(auto, unfolding(crate::specs::Shifting::CanMove, crate::specs::Nodes::Rewrites))]

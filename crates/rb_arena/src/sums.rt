@@ -5,12 +5,12 @@ ghost use Rattle.rb_arena.specs.Ends.{StandsLow};
 ghost use Rattle.rb_arena.specs.Nodes.{LivesIf, Rewritten};
 ghost use Rattle.rb_arena.specs.Relative.{CanSumOver, CanTurnOver, CanTurnNode, Turns};
 ghost use Rattle.rb_arena.specs.Relative.{IsLowered, IsRaised, IsSummed};
-ghost use Rattle.rb_arena.specs.Value.{with_item};
+ghost use Rattle.rb_arena.specs.RbTree.{with_item};
 ghost use Rattle.rb_rules.specs.Woven.{whole_in};
 
 use crate::links::{Links, node_of, read, rewrite, turn};
+use raw_arena::{Arena, NodeId};
 use rb_rules::{Data, Packed, Side, Weave};
-use slot_arena::{Arena, NodeId};
 
 /// The sum that the topmost node of a subtree keeps.
 #[tactic(auto, unfolding(crate::specs::Nodes::Lives, crate::specs::Nodes::LivesIf))]

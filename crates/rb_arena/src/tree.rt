@@ -2,18 +2,18 @@
 ghost use Rattle.std.specs.Prelude.{◌≡◌, None, length, ◌-◌, ◌^◌, ◌+◌, ◌<◌, ◌≤◌, [], ◌∷◌, OnOk};
 ghost use Rattle.rb_rules.specs.declared.slot.Side.TheVariants.{Left};
 ghost use Rattle.rb_rules.specs.Woven.{sum_of};
-ghost use Rattle.rb_arena.specs.Value.{listed};
-ghost use Rattle.rb_arena.specs.Value.{first_or, last_or, front_of, name_at_end, name_beside};
-ghost use Rattle.rb_arena.specs.Value.{IsItem, AtItem, HasAfter, HasPut, HasInstead};
-ghost use Rattle.rb_arena.specs.Value.{HasInsteadAndAfter, SumsWithAndTo};
-ghost use Rattle.rb_arena.specs.Value.{HasLifted, LeavesOut};
-ghost use Rattle.rb_arena.specs.Value.{SumsTo, SumsPut, SumsWith};
-ghost use Rattle.rb_arena.specs.Value.{PlaceAfter, CanMoveAfter, SumsMoved, HasMoved};
-ghost use Rattle.rb_arena.specs.Value.{HasFront, AtFront, SumsLanded, HasLanded};
+ghost use Rattle.rb_arena.specs.RbTree.{listed};
+ghost use Rattle.rb_arena.specs.RbTree.{first_or, last_or, front_of, name_at_end, name_beside};
+ghost use Rattle.rb_arena.specs.RbTree.{IsItem, AtItem, HasAfter, HasPut, HasInstead};
+ghost use Rattle.rb_arena.specs.RbTree.{HasInsteadAndAfter, SumsWithAndTo};
+ghost use Rattle.rb_arena.specs.RbTree.{HasLifted, LeavesOut};
+ghost use Rattle.rb_arena.specs.RbTree.{SumsTo, SumsPut, SumsWith};
+ghost use Rattle.rb_arena.specs.RbTree.{PlaceAfter, CanMoveAfter, SumsMoved, HasMoved};
+ghost use Rattle.rb_arena.specs.RbTree.{HasFront, AtFront, SumsLanded, HasLanded};
 ghost use Rattle.rb_arena.specs.Landing.{CanLand, Lands};
 ghost use Rattle.rb_arena.specs.Names.{HaveOwnNames};
 ghost use Rattle.rb_arena.specs.Pairs.{HasNext, SumsMerged, HasMerged};
-ghost use Rattle.rb_arena.specs.Value.{NamesDiffer};
+ghost use Rattle.rb_arena.specs.RbTree.{NamesDiffer};
 ghost use Rattle.rb_arena.specs.Searching.{Found, CanGoOn, FindsOn, StepsOn};
 ghost use Rattle.rb_arena.specs.Ends.{HangsAt, IsEnd, HangsPast, IsFirstPast, StandsLow, IsAboveOn, IsBeside};
 
@@ -25,8 +25,8 @@ use crate::links::{Links, Place, node_of, place, read, unstring};
 use crate::merge::merge;
 use crate::shift::{reach_for, shift_from};
 use crate::sums::{replace_item, whole};
+use raw_arena::{Arena, NodeId};
 use rb_rules::{Data, Side, Weave};
-use slot_arena::{Arena, NodeId};
 use std::alloc::{AllocError, Global};
 use std::marker::Model;
 use std::sync::ledger::Ledger;
@@ -46,7 +46,7 @@ pub struct RbTree<W: Weave> {
 }
 
 impl<W: Weave> Model for RbTree<W> {
-    ghost use Rattle.rb_arena.specs.Value.{Listed, listed_code, seen, Kept};
+    ghost use Rattle.rb_arena.specs.RbTree.{Listed, listed_code, seen, Kept};
 
     ghost Value = { Listed W.Item };
 
@@ -221,7 +221,7 @@ impl<W: Weave> RbTree<W> {
     }
 
     /// The first item's name. No name stands twice, among the items and the loose ones.
-    #[tactic(auto, unfolding(crate::specs::Value::NamesDiffer, crate::specs::Value::name_at_end))]
+    #[tactic(auto, unfolding(crate::specs::RbTree::NamesDiffer, crate::specs::RbTree::name_at_end))]
     pub fn first(&self) -> Option<NodeId>
         ensures first { result ≡ first_or None self.now.items }
         ensures names { HaveOwnNames self.now.items self.now.loose }
@@ -230,7 +230,7 @@ impl<W: Weave> RbTree<W> {
     }
 
     /// The last item's name.
-    #[tactic(auto, unfolding(crate::specs::Value::name_at_end))]
+    #[tactic(auto, unfolding(crate::specs::RbTree::name_at_end))]
     pub fn last(&self) -> Option<NodeId>
         ensures { result ≡ last_or None self.now.items }
     {

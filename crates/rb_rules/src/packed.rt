@@ -2,7 +2,7 @@
 ghost use Rattle.std.specs.Prelude.{◌≡◌, ⊤};
 
 use crate::slot::Slot;
-use slot_arena::Link;
+use raw_arena::Link;
 use std::alloc::AllocError;
 use std::marker::Model;
 

@@ -1,7 +1,7 @@
 //! A node of a tree.
 ghost use Rattle.std.specs.Prelude.{◌≡◌};
 
-use slot_arena::NodeId;
+use raw_arena::NodeId;
 
 /// One of the two sides of a node.
 #[derive(Clone, Copy, PartialEq, Eq, Debug)]

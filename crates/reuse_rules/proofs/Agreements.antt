@@ -2,8 +2,8 @@
 use Rattle.std.proofs.Common.{◌≡◌, ℕ, zero, suc, ◌-◌, ◌<◌, ◌≤◌, List, [], ◌∷◌, refl, ap, sym, ◌∙◌, subst, arith}
 use Rattle.bracket_rules.specs.declared.Token.{Token}
 use Rattle.bracket_rules.specs.Rows.{HasRow, Row, row, empty_row, joined_row, glue, rows_length}
-use Rattle.bracket_trees.specs.Places.{AreBefore, IsBounded, lines_touched, touched}
-use Rattle.bracket_trees.proofs.Glue.{HasRow-glue, empty_glue}
+use Rattle.bracket_tree_rules.specs.Places.{AreBefore, IsBounded, lines_touched, touched}
+use Rattle.bracket_tree_rules.proofs.Glue.{HasRow-glue, empty_glue}
 use Rattle.reuse_rules.specs.Agreement.{Alike, GoOnAlike}
 
 -- ---- rows of a kept run

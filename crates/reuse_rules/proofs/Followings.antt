@@ -11,10 +11,10 @@ use Rattle.bracket_rules.specs.Table.{token}
 use Rattle.bracket_rules.specs.Rows.{HasRow, Row, row, empty_row, glue, rows_length}
 use Rattle.bracket_rules.specs.declared.TheConstants.{MOST_OPEN}
 use Rattle.bracket_rules.specs.Parse.{Bracket}
-use Rattle.bracket_trees.specs.Tree.{Tree, text, tree_rows, bracket_row, tree_length, IsTree, IsGap}
-use Rattle.bracket_trees.specs.Places.{IsEdge, HasBracket, IsBounded, later_brackets, from_column, rows_from, HasNode, MayBeTaken, lines_touched, touched}
-use Rattle.bracket_trees.proofs.Glue.{HasRow-glue, glue_empty, empty_glue, glue_assoc, rows_length-glue, HasRow-tree_rows, rows_length-tree}
-use Rattle.bracket_trees.proofs.Places.{rows_from-glue, IsBounded-glue, IsBounded-bracket, IsBounded-tree, IsTree-node, Begins, node_begins, bracket_begins, edge_at_start, edge_at_line, edge_after_node, edge_after_bracket}
+use Rattle.bracket_tree_rules.specs.Tree.{Tree, text, tree_rows, bracket_row, tree_length, IsTree, IsGap}
+use Rattle.bracket_tree_rules.specs.Places.{IsEdge, HasBracket, IsBounded, later_brackets, from_column, rows_from, HasNode, MayBeTaken, lines_touched, touched}
+use Rattle.bracket_tree_rules.proofs.Glue.{HasRow-glue, glue_empty, empty_glue, glue_assoc, rows_length-glue, HasRow-tree_rows, rows_length-tree}
+use Rattle.bracket_tree_rules.proofs.Places.{rows_from-glue, IsBounded-glue, IsBounded-bracket, IsBounded-tree, IsTree-node, Begins, node_begins, bracket_begins, edge_at_start, edge_at_line, edge_after_node, edge_after_bracket}
 use Rattle.mark_rules.specs.declared.Mark.{Mark}
 use Rattle.mark_rules.specs.declared.Mark.TheVariants.{Kept, New}
 use Rattle.mark_rules.specs.Marks.{mark_at, kept_run}

@@ -1,59 +1,58 @@
 -- Trees whose brackets are all paired: each node of one may be taken where there is room.
-use Rattle.std.proofs.Common.{◌≡◌, ℕ, suc, ◌+◌, ◌<◌, ◌≤◌, Bool, true, false, ◌&&◌, ◌||◌, Option, Some, None, refl, ap, sym, ◌∙◌, subst, arith, inl, inr}
+use Rattle.std.proofs.Common.{◌≡◌, ℕ, ◌+◌, ◌≤◌, true, false, ◌&&◌, Some, None, refl, ap, sym, ◌∙◌, arith, inl, inr}
 use Rattle.std.proofs.lemmas.Bool.{and_parts}
 use Rattle.text_lengths.specs.declared.Length.{Length}
 use Rattle.bracket_rules.specs.declared.TheConstants.{MOST_OPEN}
-use Rattle.bracket_trees.specs.Tree.{Tree, text, pair, stray, capped, nothing, two, three, tree_length, inside_start, is_missing, is_closed, is_capped, nesting}
-use Rattle.bracket_trees.specs.Places.{IsHere, HasNode}
-use Rattle.bracket_trees.specs.Told.{Fits}
+use Rattle.bracket_tree_rules.specs.Tree.{Tree, text, pair, stray, capped, nothing, two, three, inside_start, is_missing, is_closed, is_capped, nesting}
+use Rattle.bracket_tree_rules.specs.Places.{IsHere, HasNode}
+use Rattle.bracket_tree_rules.specs.Told.{Fits}
 use Rattle.reuse_rules.specs.Prices.{all_paired}
 
-paired_closed : (t : Tree) → all_paired t ≡ true → is_closed t ≡ true
-paired_closed (text l) e = refl
-paired_closed (pair k o i None) e = absurd cc
-paired_closed (pair k o i (Some w)) e = paired_closed i e
-paired_closed (stray k w) e = absurd cc
-paired_closed (capped k w) e = absurd cc
-paired_closed nothing e = refl
-paired_closed (two a b) e = let both = and_parts (all_paired a) (all_paired b) e in rw (paired_closed a both.0, paired_closed b both.1) refl
-paired_closed (three a b c) e =
-    let outer = and_parts (all_paired a) (all_paired b && all_paired c) e in
-    let inner = and_parts (all_paired b) (all_paired c) outer.1 in
-    rw (paired_closed a outer.0, paired_closed b inner.0, paired_closed c inner.1) refl
+-- the tree has no unclosed bracket, none beyond the most that may be open, and no unexpected one
+record Lacks (t : Tree) : Type 0 where
+  closed : is_closed t ≡ true
+  uncapped : is_capped t ≡ false
+  none_missing : (k : ℕ) → is_missing k t ≡ false
 
-paired_uncapped : (t : Tree) → all_paired t ≡ true → is_capped t ≡ false
-paired_uncapped (text l) e = refl
-paired_uncapped (pair k o i None) e = absurd cc
-paired_uncapped (pair k o i (Some w)) e = paired_uncapped i e
-paired_uncapped (stray k w) e = absurd cc
-paired_uncapped (capped k w) e = absurd cc
-paired_uncapped nothing e = refl
-paired_uncapped (two a b) e = let both = and_parts (all_paired a) (all_paired b) e in rw (paired_uncapped a both.0, paired_uncapped b both.1) refl
-paired_uncapped (three a b c) e =
+paired_lacks : (t : Tree) → all_paired t ≡ true → Lacks t
+paired_lacks (text l) e = record { closed = refl; uncapped = refl; none_missing = λ k. refl }
+paired_lacks (pair k o i None) e = absurd cc
+paired_lacks (pair k o i (Some w)) e =
+    let inside = paired_lacks i e in
+    record { closed = inside.closed; uncapped = inside.uncapped; none_missing = inside.none_missing }
+paired_lacks (stray k w) e = absurd cc
+paired_lacks (capped k w) e = absurd cc
+paired_lacks nothing e = record { closed = refl; uncapped = refl; none_missing = λ k. refl }
+paired_lacks (two a b) e =
+    let both = and_parts (all_paired a) (all_paired b) e in
+    let first = paired_lacks a both.0 in
+    let second = paired_lacks b both.1 in
+    record {
+      closed = rw (first.closed, second.closed) refl;
+      uncapped = rw (first.uncapped, second.uncapped) refl;
+      none_missing = λ k. rw (first.none_missing k, second.none_missing k) refl;
+    }
+paired_lacks (three a b c) e =
     let outer = and_parts (all_paired a) (all_paired b && all_paired c) e in
     let inner = and_parts (all_paired b) (all_paired c) outer.1 in
-    rw (paired_uncapped a outer.0, paired_uncapped b inner.0, paired_uncapped c inner.1) refl
-
-none_missing : (k : ℕ) (t : Tree) → all_paired t ≡ true → is_missing k t ≡ false
-none_missing k (text l) e = refl
-none_missing k (pair j o i None) e = absurd cc
-none_missing k (pair j o i (Some w)) e = none_missing k i e
-none_missing k (stray j w) e = absurd cc
-none_missing k (capped j w) e = absurd cc
-none_missing k nothing e = refl
-none_missing k (two a b) e = let both = and_parts (all_paired a) (all_paired b) e in rw (none_missing k a both.0, none_missing k b both.1) refl
-none_missing k (three a b c) e =
-    let outer = and_parts (all_paired a) (all_paired b && all_paired c) e in
-    let inner = and_parts (all_paired b) (all_paired c) outer.1 in
-    rw (none_missing k a outer.0, none_missing k b inner.0, none_missing k c inner.1) refl
+    let first = paired_lacks a outer.0 in
+    let second = paired_lacks b inner.0 in
+    let third = paired_lacks c inner.1 in
+    record {
+      closed = rw (first.closed, second.closed, third.closed) refl;
+      uncapped = rw (first.uncapped, second.uncapped, third.uncapped) refl;
+      none_missing = λ k. rw (first.none_missing k, second.none_missing k, third.none_missing k) refl;
+    }
 
 pub paired_fits : (kinds level : ℕ) (t : Tree) → all_paired t ≡ true → level + nesting t ≤ MOST_OPEN → Fits kinds level t
-paired_fits kinds level t e room = record {
-  closed = paired_closed t e;
-  uncapped = paired_uncapped t e;
-  apart = λ k missing. let clash : true ≡ false = sym missing ∙ none_missing k t e in absurd cc;
-  room = room;
-}
+paired_fits kinds level t e room =
+    let lacks = paired_lacks t e in
+    record {
+      closed = lacks.closed;
+      uncapped = lacks.uncapped;
+      apart = λ k missing. let clash : true ≡ false = sym missing ∙ lacks.none_missing k in absurd cc;
+      room = room;
+    }
 
 pub paired_node : (p : Length) (t : Tree) (q : Length) (n : Tree) → HasNode p t q n → all_paired t ≡ true → all_paired n ≡ true
 paired_node p (text l) q n here e = ap all_paired here.node ∙ e

@@ -1,13 +1,14 @@
 -- How great the price of a way through a tree is at most: from its start on, or up to its end.
-use Rattle.std.proofs.Common.{◌≡◌, ℕ, zero, suc, ◌+◌, ◌*◌, ◌<◌, ◌≤◌, max, Bool, true, false, ◌&&◌, ◌||◌, cond, Option, Some, None, refl, ap, sym, ◌∙◌, subst, arith, inl, inr}
+use Rattle.std.proofs.Common.{◌≡◌, ℕ, zero, suc, ◌+◌, ◌*◌, ◌≤◌, Bool, true, false, ◌&&◌, ◌||◌, cond, Option, Some, None, refl, ap, sym, ◌∙◌, subst, arith, inl, inr}
 use Rattle.std.proofs.lemmas.Bool.{cases_Bool}
 use Rattle.text_lengths.specs.declared.Length.{Length}
-use Rattle.text_lengths.specs.Length.{length_plus, is_before}
-use Rattle.bracket_trees.specs.Tree.{Tree, text, pair, stray, capped, nothing, two, three, wide, width_of, tree_length, inside_start, inside_end, is_nothing, nesting, height, highest, IsTree}
-use Rattle.bracket_trees.proofs.Levels.{not_before_later, not_before_sum}
-use Rattle.bracket_trees.proofs.Longest.{not_before_itself}
+use Rattle.text_lengths.specs.Length.{is_before}
+use Rattle.bracket_tree_rules.specs.Tree.{Tree, text, pair, stray, capped, nothing, two, three, wide, tree_length, inside_start, inside_end, nesting, height, highest, IsTree}
+use Rattle.bracket_tree_rules.proofs.Levels.{not_before_later, not_before_sum}
+use Rattle.bracket_tree_rules.proofs.Longest.{not_before_itself}
+use Rattle.bracket_tree_rules.proofs.Weights.{height_within}
 use Rattle.reuse_rules.specs.Prices.{Costs, calls, openings, between, opening_price, closing_price, price}
-use Rattle.reuse_rules.proofs.Prices.{IsUpTo, end_of, end_of_pair, end_of_two, end_of_three, up_to, up_to_first, up_to_pair, price_past, price_ahead, price_whole}
+use Rattle.reuse_rules.proofs.Prices.{IsUpTo, end_of, end_of_two, end_of_three, up_to, up_to_pair, price_past, price_ahead, price_whole}
 
 -- ---- so many times the same
 
@@ -47,14 +48,22 @@ closing_within c from to p (Some w) = of (is_before p from) (is_before p to)
     of false true = omega arith
     of false false = omega arith
 
-pub height_below_highest : (t : Tree) → height t ≤ highest t
-height_below_highest (text l) = omega arith
-height_below_highest (pair k o i w) = omega arith
-height_below_highest (stray k w) = omega arith
-height_below_highest (capped k w) = omega arith
-height_below_highest nothing = omega arith
-height_below_highest (two a b) = omega arith
-height_below_highest (three a b d) = omega arith
+-- where the parts of a list end, if the list ends at a place or before it
+
+ends_of_two : (p to : Length) (a b : Tree) → IsUpTo (end_of p (two a b)) to → IsUpTo (end_of p a) to × IsUpTo (end_of (end_of p a) b) to
+ends_of_two p to a b e =
+    let r = end_of p a in
+    let last : IsUpTo (end_of r b) to = subst (λ (x : Length). IsUpTo x to) (sym (end_of_two p a b)) e in
+    (not_before_later r (end_of r b) to (not_before_sum r (tree_length b)) last, last)
+
+ends_of_three : (p to : Length) (a b d : Tree) → IsUpTo (end_of p (three a b d)) to
+    → IsUpTo (end_of p a) to × IsUpTo (end_of (end_of p a) b) to × IsUpTo (end_of (end_of (end_of p a) b) d) to
+ends_of_three p to a b d e =
+    let r = end_of p a in
+    let s = end_of r b in
+    let last : IsUpTo (end_of s d) to = subst (λ (x : Length). IsUpTo x to) (sym (end_of_three p a b d)) e in
+    let second : IsUpTo s to = not_before_later s (end_of s d) to (not_before_sum s (tree_length d)) last in
+    (not_before_later r s to (not_before_sum r (tree_length b)) second, second, last)
 
 -- ---- the bounds
 
@@ -71,23 +80,19 @@ unfolding times
 pair_within c most from to p k o i w low inner =
     let opens = opening_within c from p in
     let closes = closing_within c from to (inside_end p o i) w in
-    let high : height i ≤ most = omega (arith, low, height_below_highest i) in
+    let high : height i ≤ most = omega (arith, low, height_within i) in
     let lists = times-mono (height i) most (c.node + c.node) high in
     between_within from to p (end_of p (pair k o i w)) c.node _ (way_bound c most (pair k o i w)) (omega arith) (omega arith)
 
 module _ (c : Costs) (most : ℕ) where
-  two_within : (from to p : Length) (a b : Tree) → height a ≡ height b
-      → (price c from to p a + price c from to (end_of p a) b ≤ c.node + (c.node + c.node) + (times (height a) (c.node + c.node) + times (max (nesting a) (nesting b)) (pair_bound c most)))
-      → price c from to p (two a b) ≤ way_bound c most (two a b)
+  -- a list is passed for two nodes at most and the way through one of its parts
+  list_within : (from to p : Length) (t part : Tree) (parts : ℕ) → height t ≡ suc (height part) → nesting part ≤ nesting t
+      → parts ≤ c.node + c.node + way_bound c most part → between from to p (end_of p t) c.node parts ≤ way_bound c most t
   unfolding times
-  two_within from to p a b even parts = between_within from to p (end_of p (two a b)) c.node _ (way_bound c most (two a b)) (omega arith) (omega arith)
-
-  three_within : (from to p : Length) (a b d : Tree)
-      → (price c from to p a + (price c from to (end_of p a) b + price c from to (end_of (end_of p a) b) d)
-      ≤ c.node + (c.node + c.node) + (times (height a) (c.node + c.node) + times (max (nesting a) (max (nesting b) (nesting d))) (pair_bound c most)))
-      → price c from to p (three a b d) ≤ way_bound c most (three a b d)
-  unfolding times
-  three_within from to p a b d parts = between_within from to p (end_of p (three a b d)) c.node _ (way_bound c most (three a b d)) (omega arith) (omega arith)
+  list_within from to p t part parts level deep within =
+      let lists : times (height t) (c.node + c.node) ≡ times (suc (height part)) (c.node + c.node) = ap (λ (n : ℕ). times n (c.node + c.node)) level in
+      let pairs = times-mono (nesting part) (nesting t) (pair_bound c most) deep in
+      between_within from to p (end_of p t) c.node parts (way_bound c most t) (omega arith) (omega arith)
 
   -- from the start of a tree, or from before it
   pub price_from_start : (from to p : Length) (t : Tree) → IsTree t → highest t ≤ most → IsUpTo from p → price c from to p t ≤ way_bound c most t
@@ -100,52 +105,40 @@ module _ (c : Costs) (most : ℕ) where
   price_from_start from to p (two a b) h low f =
       let r = end_of p a in
       let later : IsUpTo from r = not_before_later from p r f (not_before_sum p (tree_length a)) in
-      let even : height a ≡ height b = h.0.level in
-      let same : times (height a) (c.node + c.node) ≡ times (height b) (c.node + c.node) = ap (λ (n : ℕ). times n (c.node + c.node)) even in
-      let deep_a = times-mono (nesting a) (max (nesting a) (nesting b)) (pair_bound c most) (omega arith) in
-      let deep_b = times-mono (nesting b) (max (nesting a) (nesting b)) (pair_bound c most) (omega arith) in
-      two_within from to p a b even (elim (cases_Bool (is_before r to)) [
+      elim (cases_Bool (is_before r to)) [
         | inl on ↦
             let whole = price_whole c from to p a h.1.0 h.0.first f (up_to r to on) in
             let rest = price_from_start from to r b h.1.1 (omega (arith, low)) later in
-            omega arith
+            list_within from to p (two a b) b _ (ap suc h.0.level) (omega arith) (omega arith)
         | inr past ↦
             let none = price_ahead c from to r b past in
             let first = price_from_start from to p a h.1.0 (omega (arith, low)) f in
-            omega arith
-      ])
+            list_within from to p (two a b) a _ refl (omega arith) (omega arith)
+      ]
   price_from_start from to p (three a b d) h low f =
       let r = end_of p a in
       let s = end_of r b in
       let later : IsUpTo from r = not_before_later from p r f (not_before_sum p (tree_length a)) in
       let last : IsUpTo from s = not_before_later from r s later (not_before_sum r (tree_length b)) in
-      let even : height a ≡ height b = h.0.0.level in
-      let even_last : height b ≡ height d = h.0.1.level in
-      let same : times (height a) (c.node + c.node) ≡ times (height b) (c.node + c.node) = ap (λ (n : ℕ). times n (c.node + c.node)) even in
-      let same_last : times (height b) (c.node + c.node) ≡ times (height d) (c.node + c.node) = ap (λ (n : ℕ). times n (c.node + c.node)) even_last in
-      let deepest : ℕ = max (nesting a) (max (nesting b) (nesting d)) in
-      let deep_a = times-mono (nesting a) deepest (pair_bound c most) (omega arith) in
-      let deep_b = times-mono (nesting b) deepest (pair_bound c most) (omega arith) in
-      let deep_d = times-mono (nesting d) deepest (pair_bound c most) (omega arith) in
-      three_within from to p a b d (elim (cases_Bool (is_before r to)) [
+      elim (cases_Bool (is_before r to)) [
         | inl on ↦
             let whole = price_whole c from to p a h.1.0 h.0.0.first f (up_to r to on) in
             elim (cases_Bool (is_before s to)) [
               | inl more ↦
                   let second = price_whole c from to r b h.1.1.0 h.0.0.second later (up_to s to more) in
                   let rest = price_from_start from to s d h.1.1.1 (omega (arith, low)) last in
-                  omega arith
+                  list_within from to p (three a b d) d _ (ap suc (h.0.0.level ∙ h.0.1.level)) (omega arith) (omega arith)
               | inr past ↦
                   let none = price_ahead c from to s d past in
                   let rest = price_from_start from to r b h.1.1.0 (omega (arith, low)) later in
-                  omega arith
+                  list_within from to p (three a b d) b _ (ap suc h.0.0.level) (omega arith) (omega arith)
             ]
         | inr past ↦
             let none = price_ahead c from to r b past in
             let none_last = price_ahead c from to s d (not_before_later to r s past (not_before_sum r (tree_length b))) in
             let first = price_from_start from to p a h.1.0 (omega (arith, low)) f in
-            omega arith
-      ])
+            list_within from to p (three a b d) a _ refl (omega arith) (omega arith)
+      ]
 
   -- up to the end of a tree, or behind it
   pub price_to_end : (from to p : Length) (t : Tree) → IsTree t → highest t ≤ most → IsUpTo (end_of p t) to → price c from to p t ≤ way_bound c most t
@@ -158,55 +151,40 @@ module _ (c : Costs) (most : ℕ) where
   price_to_end from to p nothing h low e = omega arith
   price_to_end from to p (two a b) h low e =
       let r = end_of p a in
-      let end_b : IsUpTo (end_of r b) to = subst (λ (x : Length). IsUpTo x to) (sym (end_of_two p a b)) e in
-      let end_a : IsUpTo r to = not_before_later r (end_of r b) to (not_before_sum r (tree_length b)) end_b in
-      let even : height a ≡ height b = h.0.level in
-      let same : times (height a) (c.node + c.node) ≡ times (height b) (c.node + c.node) = ap (λ (n : ℕ). times n (c.node + c.node)) even in
-      let deep_a = times-mono (nesting a) (max (nesting a) (nesting b)) (pair_bound c most) (omega arith) in
-      let deep_b = times-mono (nesting b) (max (nesting a) (nesting b)) (pair_bound c most) (omega arith) in
-      two_within from to p a b even (elim (cases_Bool (is_before from r)) [
+      let ends = ends_of_two p to a b e in
+      elim (cases_Bool (is_before from r)) [
         | inl on ↦
-            let whole = price_whole c from to r b h.1.1 h.0.second (up_to from r on) end_b in
-            let first = price_to_end from to p a h.1.0 (omega (arith, low)) end_a in
-            omega arith
+            let whole = price_whole c from to r b h.1.1 h.0.second (up_to from r on) ends.1 in
+            let first = price_to_end from to p a h.1.0 (omega (arith, low)) ends.0 in
+            list_within from to p (two a b) a _ refl (omega arith) (omega arith)
         | inr past ↦
             let none = price_past c from to p a past in
-            let rest = price_to_end from to r b h.1.1 (omega (arith, low)) end_b in
-            omega arith
-      ])
+            let rest = price_to_end from to r b h.1.1 (omega (arith, low)) ends.1 in
+            list_within from to p (two a b) b _ (ap suc h.0.level) (omega arith) (omega arith)
+      ]
   price_to_end from to p (three a b d) h low e =
       let r = end_of p a in
       let s = end_of r b in
-      let end_d : IsUpTo (end_of s d) to = subst (λ (x : Length). IsUpTo x to) (sym (end_of_three p a b d)) e in
-      let end_b : IsUpTo s to = not_before_later s (end_of s d) to (not_before_sum s (tree_length d)) end_d in
-      let end_a : IsUpTo r to = not_before_later r s to (not_before_sum r (tree_length b)) end_b in
-      let even : height a ≡ height b = h.0.0.level in
-      let even_last : height b ≡ height d = h.0.1.level in
-      let same : times (height a) (c.node + c.node) ≡ times (height b) (c.node + c.node) = ap (λ (n : ℕ). times n (c.node + c.node)) even in
-      let same_last : times (height b) (c.node + c.node) ≡ times (height d) (c.node + c.node) = ap (λ (n : ℕ). times n (c.node + c.node)) even_last in
-      let deepest : ℕ = max (nesting a) (max (nesting b) (nesting d)) in
-      let deep_a = times-mono (nesting a) deepest (pair_bound c most) (omega arith) in
-      let deep_b = times-mono (nesting b) deepest (pair_bound c most) (omega arith) in
-      let deep_d = times-mono (nesting d) deepest (pair_bound c most) (omega arith) in
-      three_within from to p a b d (elim (cases_Bool (is_before from s)) [
+      let ends = ends_of_three p to a b d e in
+      elim (cases_Bool (is_before from s)) [
         | inl on ↦
-            let whole = price_whole c from to s d h.1.1.1 h.0.1.second (up_to from s on) end_d in
+            let whole = price_whole c from to s d h.1.1.1 h.0.1.second (up_to from s on) ends.2 in
             elim (cases_Bool (is_before from r)) [
               | inl more ↦
-                  let second = price_whole c from to r b h.1.1.0 h.0.0.second (up_to from r more) end_b in
-                  let first = price_to_end from to p a h.1.0 (omega (arith, low)) end_a in
-                  omega arith
+                  let second = price_whole c from to r b h.1.1.0 h.0.0.second (up_to from r more) ends.1 in
+                  let first = price_to_end from to p a h.1.0 (omega (arith, low)) ends.0 in
+                  list_within from to p (three a b d) a _ refl (omega arith) (omega arith)
               | inr past ↦
                   let none = price_past c from to p a past in
-                  let first = price_to_end from to r b h.1.1.0 (omega (arith, low)) end_b in
-                  omega arith
+                  let first = price_to_end from to r b h.1.1.0 (omega (arith, low)) ends.1 in
+                  list_within from to p (three a b d) b _ (ap suc h.0.0.level) (omega arith) (omega arith)
             ]
         | inr past ↦
             let none_second = price_past c from to r b past in
             let none = price_past c from to p a (not_before_later r s from (not_before_sum r (tree_length b)) past) in
-            let rest = price_to_end from to s d h.1.1.1 (omega (arith, low)) end_d in
-            omega arith
-      ])
+            let rest = price_to_end from to s d h.1.1.1 (omega (arith, low)) ends.2 in
+            list_within from to p (three a b d) d _ (ap suc (h.0.0.level ∙ h.0.1.level)) (omega arith) (omega arith)
+      ]
 
 -- ---- no bracket opens on the way to a tree's end
 
@@ -233,18 +211,13 @@ none_opens from to p (stray k w) e = between_within from to p (end_of p (stray k
 none_opens from to p (capped k w) e = between_within from to p (end_of p (capped k w)) 0 0 0 (omega arith) (omega arith)
 none_opens from to p nothing e = omega arith
 none_opens from to p (two a b) e =
-    let r = end_of p a in
-    let end_b : IsUpTo (end_of r b) to = subst (λ (x : Length). IsUpTo x to) (sym (end_of_two p a b)) e in
-    let end_a : IsUpTo r to = not_before_later r (end_of r b) to (not_before_sum r (tree_length b)) end_b in
-    between_within from to p (end_of p (two a b)) 0 _ 0 (omega arith) (omega (arith, none_opens from to p a end_a, none_opens from to r b end_b))
+    let ends = ends_of_two p to a b e in
+    between_within from to p (end_of p (two a b)) 0 _ 0 (omega arith)
+    (omega (arith, none_opens from to p a ends.0, none_opens from to (end_of p a) b ends.1))
 none_opens from to p (three a b d) e =
-    let r = end_of p a in
-    let s = end_of r b in
-    let end_d : IsUpTo (end_of s d) to = subst (λ (x : Length). IsUpTo x to) (sym (end_of_three p a b d)) e in
-    let end_b : IsUpTo s to = not_before_later s (end_of s d) to (not_before_sum s (tree_length d)) end_d in
-    let end_a : IsUpTo r to = not_before_later r s to (not_before_sum r (tree_length b)) end_b in
+    let ends = ends_of_three p to a b d e in
     between_within from to p (end_of p (three a b d)) 0 _ 0 (omega arith)
-    (omega (arith, none_opens from to p a end_a, none_opens from to r b end_b, none_opens from to s d end_d))
+    (omega (arith, none_opens from to p a ends.0, none_opens from to (end_of p a) b ends.1, none_opens from to (end_of (end_of p a) b) d ends.2))
 
 -- ---- the calls of a way, and what opens on it
 
@@ -255,7 +228,7 @@ times-is (suc n) x = omega (arith, times-is n x)
 
 pub calls_bound : (t : Tree) → way_bound calls (highest t) t ≤ 1 + (2 * highest t + nesting t * (2 * highest t + 4))
 calls_bound t =
-    let lists = times-mono (height t) (highest t) 2 (height_below_highest t) in
+    let lists = times-mono (height t) (highest t) 2 (height_within t) in
     let high = times-is (highest t) 2 in
     let deep = times-is (nesting t) (pair_bound calls (highest t)) in
     let each : pair_bound calls (highest t) ≡ 2 * highest t + 4 = omega arith in

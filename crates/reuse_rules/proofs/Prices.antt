@@ -1,19 +1,18 @@
 -- The price of a way through a tree falls with each longest node that is taken, and with each bracket where none is.
-use Rattle.std.proofs.Common.{◌≡◌, ◌⊎◌, ℕ, suc, ◌+◌, ◌<◌, ◌≤◌, Bool, true, false, ◌&&◌, ◌||◌, cond, Option, Some, None, List, [], ◌∷◌, refl, ap, sym, ◌∙◌, subst, arith, inl, inr}
+use Rattle.std.proofs.Common.{◌≡◌, ℕ, ◌+◌, ◌<◌, ◌≤◌, Bool, true, false, ◌&&◌, cond, Option, Some, None, refl, ap, sym, ◌∙◌, subst, arith, inl, inr}
 use Rattle.std.proofs.lemmas.Bool.{cases_Bool, and_parts}
 use Rattle.std.proofs.lemmas.Bool.Decides.{nat_tests}
-use Rattle.std.proofs.lemmas.Grind.{common_steps}
 use Rattle.text_lengths.specs.declared.Length.{Length}
 use Rattle.text_lengths.specs.Length.{length_plus, is_before}
 use Rattle.text_lengths.proofs.Lengths.{length_plus_assoc, same_length}
-use Rattle.bracket_rules.specs.Parse.{Bracket, bracket}
-use Rattle.bracket_trees.specs.Tree.{Tree, text, pair, stray, capped, nothing, two, three, wide, width_of, tree_length, tree_tokens, closing_brackets, inside_start, inside_end, is_nothing, IsWidth, IsTree}
-use Rattle.bracket_trees.specs.Places.{IsHere, HasNode, IsAmong, HasBracket}
-use Rattle.bracket_trees.proofs.Levels.{not_before_later, not_before_sum}
-use Rattle.bracket_trees.proofs.Longest.{before_more, not_before_itself, not_both, node_from, node_ends}
-use Rattle.bracket_trees.proofs.BracketAt.{bracket_from, before_wide}
-use Rattle.bracket_trees.proofs.Places.{IsAmong-append}
-use Rattle.reuse_rules.specs.Prices.{all_paired, Costs, between, opening_price, closing_price, price}
+use Rattle.bracket_rules.specs.Parse.{Bracket}
+use Rattle.bracket_tree_rules.specs.Tree.{Tree, text, pair, stray, capped, nothing, two, three, wide, width_of, tree_length, tree_tokens, closing_brackets, inside_start, inside_end, is_nothing, IsTree}
+use Rattle.bracket_tree_rules.specs.Places.{IsHere, HasNode, IsAmong, HasBracket}
+use Rattle.bracket_tree_rules.proofs.Levels.{not_before_later, not_before_sum}
+use Rattle.bracket_tree_rules.proofs.Longest.{not_before_itself, not_both, node_from, node_ends, node_itself}
+use Rattle.bracket_tree_rules.proofs.BracketAt.{bracket_from, before_wide}
+use Rattle.bracket_tree_rules.proofs.Places.{IsAmong-append}
+use Rattle.reuse_rules.specs.Prices.{all_paired, Costs, between, closing_price, price}
 
 -- ---- the order of places
 
@@ -58,16 +57,6 @@ up_to_pair x p k o i c h =
 
 pub up_to_first : (x p : Length) (a b : Tree) → IsUpTo x (end_of p a) → IsUpTo x (end_of (end_of p a) b)
 up_to_first x p a b h = not_before_later x (end_of p a) (end_of (end_of p a) b) h (not_before_sum (end_of p a) (tree_length b))
-
--- the tree is a node of its own
-pub node_itself : (p : Length) (t : Tree) → HasNode p t p t
-node_itself p (text l) = record { node = refl; place = refl }
-node_itself p (pair k o i c) = inl (record { node = refl; place = refl })
-node_itself p (stray k w) = record { node = refl; place = refl }
-node_itself p (capped k w) = record { node = refl; place = refl }
-node_itself p nothing = record { node = refl; place = refl }
-node_itself p (two a b) = inl (record { node = refl; place = refl })
-node_itself p (three a b c) = inl (record { node = refl; place = refl })
 
 pub starts_before_end : (p : Length) (t : Tree) → IsTree t → is_nothing t ≡ false → is_before p (end_of p t) ≡ true
 starts_before_end p t h some = node_ends p t p t h some (node_itself p t)
@@ -204,36 +193,30 @@ between_falls from next to start end k whole parts less s on inside within all f
 
 -- ---- prices of trees that are passed, that lie ahead, or that lie between the places
 
+-- as much is paid for a tree as for anything that ends where it does, and nothing for the empty list
+price_as_one : (c : Costs) (from to p : Length) (t : Tree) (k : ℕ) → (is_nothing t ≡ true → k ≡ 0)
+    → ((parts : ℕ) → between from to p (end_of p t) c.node parts ≡ k) → price c from to p t ≡ k
+price_as_one c from to p (text l) k empty one = one 0
+price_as_one c from to p (pair k o i w) m empty one = one _
+price_as_one c from to p (stray k w) m empty one = one 0
+price_as_one c from to p (capped k w) m empty one = one 0
+price_as_one c from to p nothing k empty one = sym (empty refl)
+price_as_one c from to p (two a b) k empty one = one _
+price_as_one c from to p (three a b d) k empty one = one _
+
 pub price_past : (c : Costs) (from to p : Length) (t : Tree) → IsUpTo (end_of p t) from → price c from to p t ≡ 0
-price_past c from to p (text l) h = between_past from to p (end_of p (text l)) c.node 0 h
-price_past c from to p (pair k o i w) h = between_past from to p (end_of p (pair k o i w)) c.node _ h
-price_past c from to p (stray k w) h = between_past from to p (end_of p (stray k w)) c.node 0 h
-price_past c from to p (capped k w) h = between_past from to p (end_of p (capped k w)) c.node 0 h
-price_past c from to p nothing h = refl
-price_past c from to p (two a b) h = between_past from to p (end_of p (two a b)) c.node _ h
-price_past c from to p (three a b d) h = between_past from to p (end_of p (three a b d)) c.node _ h
+price_past c from to p t h = price_as_one c from to p t 0 (λ none. refl) (λ parts. between_past from to p (end_of p t) c.node parts h)
 
 pub price_ahead : (c : Costs) (from to p : Length) (t : Tree) → IsUpTo to p → price c from to p t ≡ 0
-price_ahead c from to p (text l) h = between_ahead from to p (end_of p (text l)) c.node 0 h
-price_ahead c from to p (pair k o i w) h = between_ahead from to p (end_of p (pair k o i w)) c.node _ h
-price_ahead c from to p (stray k w) h = between_ahead from to p (end_of p (stray k w)) c.node 0 h
-price_ahead c from to p (capped k w) h = between_ahead from to p (end_of p (capped k w)) c.node 0 h
-price_ahead c from to p nothing h = refl
-price_ahead c from to p (two a b) h = between_ahead from to p (end_of p (two a b)) c.node _ h
-price_ahead c from to p (three a b d) h = between_ahead from to p (end_of p (three a b d)) c.node _ h
+price_ahead c from to p t h = price_as_one c from to p t 0 (λ none. refl) (λ parts. between_ahead from to p (end_of p t) c.node parts h)
 
 pub price_whole : (c : Costs) (from to p : Length) (t : Tree) → IsTree t → is_nothing t ≡ false → IsUpTo from p → IsUpTo (end_of p t) to → price c from to p t ≡ c.node
-price_whole c from to p t tree some f e = whole t tree some f e (up_to_before from p (end_of p t) f (starts_before_end p t tree some)) (before_up_to p (end_of p t) to (starts_before_end p t tree some) e)
-  where
-    whole : (t : Tree) → IsTree t → is_nothing t ≡ false → IsUpTo from p → IsUpTo (end_of p t) to → is_before from (end_of p t) ≡ true → is_before p to ≡ true
-        → price c from to p t ≡ c.node
-    whole (text l) tree some f e a b = between_whole from to p (end_of p (text l)) c.node 0 a b f e
-    whole (pair k o i w) tree some f e a b = between_whole from to p (end_of p (pair k o i w)) c.node _ a b f e
-    whole (stray k w) tree some f e a b = between_whole from to p (end_of p (stray k w)) c.node 0 a b f e
-    whole (capped k w) tree some f e a b = between_whole from to p (end_of p (capped k w)) c.node 0 a b f e
-    whole nothing tree some f e a b = absurd cc
-    whole (two x y) tree some f e a b = between_whole from to p (end_of p (two x y)) c.node _ a b f e
-    whole (three x y z) tree some f e a b = between_whole from to p (end_of p (three x y z)) c.node _ a b f e
+price_whole c from to p t tree some f e =
+    let long = starts_before_end p t tree some in
+    let start = up_to_before from p (end_of p t) f long in
+    let end = before_up_to p (end_of p t) to long e in
+    price_as_one c from to p t c.node (λ none. absurd (not_both (is_nothing t) none some))
+    (λ parts. between_whole from to p (end_of p t) c.node parts start end f e)
 
 closing_from : (c : Costs) (from next to p : Length) (w : Option ℕ) → IsUpTo from p → IsUpTo next p → closing_price c next to p w ≡ closing_price c from to p w
 closing_from c from next to p None f n = refl

@@ -1,5 +1,5 @@
 -- A reader that takes the longest node at each place, and a bracket where there is none, pays what the way costs.
-use Rattle.std.proofs.Common.{◌≡◌, ◌⊎◌, ℕ, zero, suc, ◌+◌, ◌-◌, ◌<◌, ◌≤◌, Bool, true, false, List, [], ◌∷◌, length, drop, drop-cons, refl, ap, sym, ◌∙◌, subst, arith, inl, inr}
+use Rattle.std.proofs.Common.{◌≡◌, ℕ, zero, suc, ◌+◌, ◌-◌, ◌<◌, ◌≤◌, true, false, List, ◌∷◌, length, drop, drop-cons, refl, ap, sym, ◌∙◌, subst, arith, inl, inr}
 use Rattle.std.specs.Prelude.{slice_index_or}
 use Rattle.std.proofs.lemmas.Bool.{cases_lt}
 use Rattle.std.proofs.lemmas.Bool.Decides.{nat_tests}
@@ -10,16 +10,16 @@ use Rattle.text_lengths.specs.Length.{length_of, no_length, length_plus, is_befo
 use Rattle.text_lengths.proofs.Lengths.{same_length}
 use Rattle.bracket_rules.specs.declared.TheConstants.{MOST_OPEN}
 use Rattle.bracket_rules.specs.Parse.{Bracket}
-use Rattle.bracket_trees.specs.Tree.{Tree, wide, tree_length, nesting, is_nothing, IsTree}
-use Rattle.bracket_trees.specs.Places.{HasNode, lines_touched, touched, MayBeTaken}
-use Rattle.bracket_trees.proofs.Places.{IsTree-node}
+use Rattle.bracket_tree_rules.specs.Tree.{Tree, wide, tree_length, nesting, is_nothing, IsTree}
+use Rattle.bracket_tree_rules.specs.Places.{HasNode, lines_touched, MayBeTaken}
+use Rattle.bracket_tree_rules.proofs.Places.{IsTree-node}
 use Rattle.mark_rules.specs.declared.Mark.{Mark}
 use Rattle.mark_rules.specs.declared.Mark.TheVariants.{Kept, New}
 use Rattle.mark_rules.specs.Marks.{kept_run}
 use Rattle.reuse_rules.specs.Reuse.{IsKeptAs, Reusable, IsOldBracket}
 use Rattle.reuse_rules.specs.Prices.{all_paired, Costs, price}
 use Rattle.reuse_rules.specs.Ways.{runs_price, lines_price, way_price}
-use Rattle.reuse_rules.proofs.Prices.{IsUpTo, end_of, starts_before_end, EndsLast, NoneEnds, bracket_price, node_falls, bracket_falls}
+use Rattle.reuse_rules.proofs.Prices.{IsUpTo, end_of, starts_before_end, NoneEnds, bracket_price, node_falls, bracket_falls}
 use Rattle.reuse_rules.proofs.PairedTrees.{paired_fits, paired_node, nesting_node}
 use Rattle.reuse_rules.proofs.Ways.{price_in_run, price_behind_run}
 

@@ -1,16 +1,13 @@
 -- The way through kept lines: within a run, behind it, and what it costs where the new lines are one run.
-use Rattle.std.proofs.Common.{◌≡◌, ◌≢◌, ℕ, zero, suc, ◌+◌, ◌-◌, ◌<◌, ◌≤◌, Bool, true, false, cond, eqb, List, [], ◌∷◌, length, drop, refl, ap, sym, ◌∙◌, subst, arith, inl, inr}
+use Rattle.std.proofs.Common.{◌≡◌, ℕ, zero, suc, ◌+◌, ◌-◌, ◌<◌, ◌≤◌, eqb, List, [], ◌∷◌, drop, refl, ap, sym, ◌∙◌, subst, arith, inl, inr}
 use Rattle.std.proofs.lemmas.Bool.{cases_Bool, eqb-true, ne_eqb, eq-eqb}
-use Rattle.text_lengths.specs.declared.Length.{Length}
-use Rattle.text_lengths.specs.Length.{length_of, no_length, is_before}
-use Rattle.bracket_trees.specs.Tree.{Tree, tree_length}
+use Rattle.text_lengths.specs.Length.{length_of, no_length}
+use Rattle.bracket_tree_rules.specs.Tree.{Tree}
 use Rattle.mark_rules.specs.declared.Mark.{Mark}
 use Rattle.mark_rules.specs.declared.Mark.TheVariants.{Kept, New}
-use Rattle.mark_rules.specs.Marks.{numbered, kept_run, GoesOn, RisesFrom, Rises}
-use Rattle.reuse_rules.specs.Agreement.{BeginsAlike}
+use Rattle.mark_rules.specs.Marks.{numbered, kept_run, Rises}
 use Rattle.reuse_rules.specs.Prices.{Costs, price}
-use Rattle.reuse_rules.specs.Ways.{run_price, runs_price, lines_price, IsOneRun}
-use Rattle.reuse_rules.proofs.Prices.{IsUpTo}
+use Rattle.reuse_rules.specs.Ways.{runs_price, lines_price}
 
 module _ (c : Costs) (old : Tree) where
   -- ---- in a run, and behind it

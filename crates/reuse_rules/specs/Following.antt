@@ -3,8 +3,8 @@ use Rattle.std.specs.Prelude.{◌≡◌, ℕ, List, drop}
 use Rattle.text_lengths.specs.declared.Length.{Length}
 use Rattle.text_lengths.specs.Length.{length_of, no_length}
 use Rattle.bracket_rules.specs.Rows.{HasRow, Row, glue, rows_length}
-use Rattle.bracket_trees.specs.Tree.{Tree, tree_rows}
-use Rattle.bracket_trees.specs.Places.{IsEdge, IsBounded, rows_from}
+use Rattle.bracket_tree_rules.specs.Tree.{Tree, tree_rows}
+use Rattle.bracket_tree_rules.specs.Places.{IsEdge, IsBounded, rows_from}
 use Rattle.mark_rules.specs.declared.Mark.{Mark}
 use Rattle.mark_rules.specs.Marks.{kept_run}
 use Rattle.reuse_rules.specs.Agreement.{Alike}

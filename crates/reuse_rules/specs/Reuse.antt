@@ -3,8 +3,8 @@ use Rattle.std.specs.Prelude.{◌≡◌, ℕ, ◌+◌, List, drop}
 use Rattle.text_lengths.specs.declared.Length.{Length}
 use Rattle.text_lengths.specs.Length.{length_of, no_length}
 use Rattle.bracket_rules.specs.Parse.{Bracket}
-use Rattle.bracket_trees.specs.Tree.{Tree}
-use Rattle.bracket_trees.specs.Places.{HasNode, HasBracket, MayBeTaken}
+use Rattle.bracket_tree_rules.specs.Tree.{Tree}
+use Rattle.bracket_tree_rules.specs.Places.{HasNode, HasBracket, MayBeTaken}
 use Rattle.mark_rules.specs.declared.Mark.{Mark}
 use Rattle.mark_rules.specs.declared.Mark.TheVariants.{Kept}
 use Rattle.mark_rules.specs.Marks.{mark_at, kept_run}

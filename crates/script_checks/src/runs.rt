@@ -1,8 +1,7 @@
 //! Runs of the program.
 
 use memory_streams::{Fault, MemSink, MemSource, SureSink};
-use model_core::Model;
-use script_runner::{Served, run_words, serve};
+use script_runner::{Served, Session, run_words, serve};
 use std::alloc::{AllocError, Global};
 
 /// The most bytes that are kept of what the program writes.
@@ -55,7 +54,7 @@ pub fn run_line(
 /// Serves a new document's script, by reads into eight bytes, within the budget.
 pub fn served(alloc: Global, src: &mut MemSource, out: &mut MemSink, most: u64) -> Served {
     let mut buf = [0; 8];
-    serve(alloc, &mut Model::new(alloc), src, out, &mut buf, most)
+    serve(&mut Session::new(alloc), src, out, &mut buf, most)
 }
 
 /// Runs the word `run` over the script, which should end with that status, have written that and complain of nothing. Tells
@@ -82,6 +81,18 @@ pub fn difference(
         "{name}: ended with {ended} (wanted: {status}), having written {wrote:?}"
     )?;
     Ok(Some(told))
+}
+
+/// The same where no read and no write fails or comes short.
+pub fn plain_difference(
+    alloc: Global,
+    name: &str,
+    script: &[u8],
+    written: &[u8],
+    status: u8,
+) -> Result<Option<String>, AllocError> {
+    let (reads, writes) = (ALL_READ, ALL_WRITTEN);
+    difference(alloc, name, script, reads, writes, written, status)
 }
 
 fn source(alloc: Global, script: &[u8], reads: Reads) -> Result<MemSource, AllocError> {

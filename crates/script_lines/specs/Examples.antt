@@ -33,7 +33,8 @@ new_without_collapse = refl
 
 -- `null` is neither on nor off
 new_with_null :
-    new_deco_in (object (member (codes "at") (array (two 2 5)) (member (codes "collapse") null (member (codes "stick") (whole 1) no_members))))
+    new_deco_in (object (member (codes "at") (array (two 2 5))
+    (member (codes "collapse") null (member (codes "stick") (whole 1) no_members))))
     ≡ None
 new_with_null = refl
 
@@ -59,7 +60,8 @@ of_any_owner = refl
 
 -- `{"at":[2,5],"cmd":"decos","owner":OWNER}`
 abbrev of_owner : Data → Data
-of_owner owner = object (member (codes "at") (array (two 2 5)) (member (codes "cmd") (string (codes "decos")) (member (codes "owner") owner no_members)))
+of_owner owner = object (member (codes "at") (array (two 2 5))
+    (member (codes "cmd") (string (codes "decos")) (member (codes "owner") owner no_members)))
 
 of_owner_7 : command_in (of_owner (whole 7)) ≡ Some (Decos (record { start = 2; end = 5 }) (Some 7))
 of_owner_7 = refl
@@ -74,7 +76,8 @@ pair opening closing = array (item (string opening) (item (string closing) no_it
 
 -- `{"brackets":BRACKETS,"cmd":"open","text":""}`
 abbrev open_with : Data → Data
-open_with brackets = object (member (codes "brackets") brackets (member (codes "cmd") (string (codes "open")) (member (codes "text") (string []) no_members)))
+open_with brackets = object (member (codes "brackets") brackets
+    (member (codes "cmd") (string (codes "open")) (member (codes "text") (string []) no_members)))
 
 open_without_brackets : command_in (object (member (codes "cmd") (string (codes "open")) (member (codes "text") (string []) no_members)))
     ≡ Some (Open [] None)
@@ -116,7 +119,8 @@ level_at_position = refl
 abbrev with_number : List ℕ → List ℕ → ℕ → Data
 with_number cmd key n = object (member (codes "cmd") (string cmd) (member key (whole n) no_members))
 
-a_read : command_in (object (member (codes "cmd") (string (codes "read")) (member (codes "count") (whole 9) (member (codes "id") (whole 1) no_members))))
+a_read : command_in (object (member (codes "cmd") (string (codes "read"))
+    (member (codes "count") (whole 9) (member (codes "id") (whole 1) no_members))))
     ≡ Some (Read 1 9)
 a_read = refl
 

@@ -1,5 +1,5 @@
 -- The fields of a JSON object, as serde_json reads it.
-use Rattle.std.specs.Prelude.{ℕ, Bool, true, false, ◌&&◌, List, [], ◌∷◌, Option, Some, None, option_map, option_and_then, codes}
+use Rattle.std.specs.Prelude.{ℕ, Bool, true, false, ◌&&◌, List, [], ◌∷◌, ◌++◌, Option, Some, None, option_map, option_and_then, codes}
 use Rattle.std.specs.List.{list_any}
 use Rattle.std.specs.Str.{bytes_eq}
 use Rattle.serde_json.specs.Data.{Data, null, boolean, number, string, array, object, Items, no_items, item, Members, no_members, member}
@@ -22,6 +22,14 @@ has_only names (number n) = false
 has_only names (string s) = false
 has_only names (array ds) = false
 has_only names (object ms) = keys_among names ms
+
+-- the fields that every command may have
+abbrev pub common_fields : List (List ℕ)
+common_fields = codes "cmd" ∷ []
+
+-- the value is an object, and has no field beside the common ones and those of the names
+abbrev pub has_fields : List (List ℕ) → Data → Bool
+has_fields names d = has_only (common_fields ++ names) d
 
 -- the whole number below 2 ^ 64 that the value is
 abbrev pub whole_number : Data → Option ℕ
@@ -80,8 +88,11 @@ span_of a b = do
 abbrev pub span_in : Items → Option Span
 span_in ds = two_of span_of ds
 
+abbrev pub span_from : Data → Option Span
+span_from d = option_and_then span_in (as_array d)
+
 abbrev pub span_at : List ℕ → Data → Option Span
-span_at key d = option_and_then span_in (option_and_then as_array (get key d))
+span_at key d = option_and_then span_from (get key d)
 
 abbrev pub flag_of : Option Data → Option Bool
 flag_of None = Some false

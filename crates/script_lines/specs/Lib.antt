@@ -2,6 +2,12 @@ pub mod Reading
 pub mod Fields
 pub mod Decorations
 pub mod Brackets
+pub mod Rows
+pub mod EditCommands
+pub mod TextCommands
+pub mod DecorationCommands
+pub mod BracketCommands
+pub mod SnapshotCommands
 pub mod Commands
 pub mod Replies
 mod Examples

@@ -1,13 +1,12 @@
 //! The fields of a JSON object.
 
-ghost use Rattle.std.specs.Prelude.{◌≡◌, true, false, map, string_bytes, option_and_then, OnOk, OnErr, IfErr};
+ghost use Rattle.std.specs.Prelude.{◌≡◌, ◌++◌, ◌||◌, true, false, map, string_bytes, OnOk, OnErr, IfErr};
 ghost use Rattle.std.specs.BTreeMap.{keys};
 ghost use Rattle.std.specs.List.{list_any, list_all};
 ghost use Rattle.std.specs.Str.{bytes_eq};
-ghost use Rattle.serde_json.specs.Find.{as_array};
 ghost use Rattle.serde_json.specs.View.{view, items_view};
 ghost use Rattle.script_lines.specs.Reading.{Reads};
-ghost use Rattle.script_lines.specs.Fields.{has_only, whole_number, number_at, optional_number_at, text_of, text_at, span_in, span_at, position_of, positions_in, positions_at, position_in, flag_at};
+ghost use Rattle.script_lines.specs.Fields.{has_only, has_fields, whole_number, number_at, optional_number_at, text_of, text_at, span_in, span_from, span_at, position_of, positions_in, positions_at, position_in, flag_at};
 
 use crate::items::Item;
 use serde_json::{Map, Value};
@@ -27,22 +26,55 @@ pub enum LineFault {
     Memory,
 }
 
-/// Whether the value is an object with no field beside those of the names.
-pub(crate) fn has_only(value: &Value, names: &[&str]) -> bool
-    ensures { result ≡ has_only (map (λ name. name.now) names.now) (view value.now) }
+/// Refuses what is no object, or has a field beside those of the names.
+pub(crate) fn expect_only(value: &Value, names: &[&str]) -> Result<(), LineFault>
+    ensures only { OnOk result
+        (has_only (map (λ name. name.now) names.now) (view value.now) ≡ true) }
+    ensures other { OnErr result
+        (has_only (map (λ name. name.now) names.now) (view value.now) ≡ false) }
+    ensures syntax { IfErr result (λ fault. fault ≡ LineFault.Syntax) }
+{
+    if has_only(value, &[], names) {
+        Ok(())
+    } else {
+        Err(LineFault::Syntax)
+    }
+}
+
+/// Refuses what is no object, or has a field beside those that every command may have and those of the names.
+pub(crate) fn expect_fields(value: &Value, names: &[&str]) -> Result<(), LineFault>
+    ensures only { OnOk result
+        (has_fields (map (λ name. name.now) names.now) (view value.now) ≡ true) }
+    ensures other { OnErr result
+        (has_fields (map (λ name. name.now) names.now) (view value.now) ≡ false) }
+    ensures syntax { IfErr result (λ fault. fault ≡ LineFault.Syntax) }
+{
+    if has_only(value, &["cmd"], names) {
+        Ok(())
+    } else {
+        Err(LineFault::Syntax)
+    }
+}
+
+/// Whether the value is an object with no field beside those of the two lists of names.
+fn has_only(value: &Value, common: &[&str], names: &[&str]) -> bool
+    ensures { result ≡ has_only
+        (map (λ name. name.now) common.now ++ map (λ name. name.now) names.now)
+        (view value.now) }
 {
     match value.as_object() {
-        Some(members) => are_names(members, names),
+        Some(members) => are_names(members, common, names),
         None => false,
     }
 }
 
-fn are_names(members: &Map<String, Value>, names: &[&str]) -> bool
+fn are_names(members: &Map<String, Value>, common: &[&str], names: &[&str]) -> bool
     ensures { result ≡ list_all
-        (λ key. list_any (bytes_eq (string_bytes key)) (map (λ name. name.now) names.now))
+        (λ key. list_any (bytes_eq (string_bytes key)) (map (λ name. name.now) common.now)
+        || list_any (bytes_eq (string_bytes key)) (map (λ name. name.now) names.now))
         (keys members.now) }
 {
-    members.keys().all(|key| is_one_of(key.as_str(), names))
+    members.keys().all(|key| is_one_of(key.as_str(), common) || is_one_of(key.as_str(), names))
 }
 
 fn is_one_of(key: &str, names: &[&str]) -> bool
@@ -54,21 +86,6 @@ fn is_one_of(key: &str, names: &[&str]) -> bool
         }
     }
     false
-}
-
-/// Refuses what is no object, or has a field beside those of the names.
-pub(crate) fn expect_only(value: &Value, names: &[&str]) -> Result<(), LineFault>
-    ensures only { OnOk result
-        (has_only (map (λ name. name.now) names.now) (view value.now) ≡ true) }
-    ensures other { OnErr result
-        (has_only (map (λ name. name.now) names.now) (view value.now) ≡ false) }
-    ensures syntax { IfErr result (λ fault. fault ≡ LineFault.Syntax) }
-{
-    if has_only(value, names) {
-        Ok(())
-    } else {
-        Err(LineFault::Syntax)
-    }
 }
 
 fn whole_number(value: &Value) -> Option<u64>
@@ -125,7 +142,7 @@ pub(crate) fn span_at(value: &Value, key: &str) -> Result<Span, LineFault>
 }
 
 pub(crate) fn span_from(value: &Value) -> Result<Span, LineFault>
-    ensures { Reads result (option_and_then span_in (as_array (view value.now))) }
+    ensures { Reads result (span_from (view value.now)) }
 {
     let items = value.as_array().ok_or(LineFault::Syntax)?;
     span_in(items.as_slice())

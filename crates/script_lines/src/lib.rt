@@ -3,6 +3,7 @@
 
 mod bracket;
 mod command;
+mod commands;
 mod decoration;
 mod fields;
 mod items;

@@ -8,6 +8,7 @@ use Rattle.document_rules.specs.Document.{FlatState}
 use Rattle.script_streams.specs.Streams.{SinkState, TakenWhole, Rose, greatest_count}
 use Rattle.script_streams.proofs.StreamLaws.{Wrote-append, Wrote-nothing}
 use Rattle.script_runner.specs.declared.serving.Progress.{Progress}
+use Rattle.script_runner.specs.Session.{SessionState}
 use Rattle.script_runner.specs.Script.{cut, is_refused, whole_lines, all_lines, written, IsInOneLine, Turn, Transcript}
 use Rattle.script_runner.specs.Progress.{IsLineSoFar, refusals, memory_refusals, Led, Went, Broken, Broke, LineAnswered, LineBroken, PieceAnswered, PieceBroken}
 use Rattle.script_runner.specs.Step.{memory_reply}
@@ -42,7 +43,7 @@ few_memory_refusals start script replies end t =
 
 -- ---- what led here
 
-pub Led-start : (start : FlatState) (progress : Progress) → IsLineSoFar progress.line [] → progress.refused ≡ 0 → progress.memory ≡ 0
+pub Led-start : (start : SessionState) (progress : Progress) → IsLineSoFar progress.line [] → progress.refused ≡ 0 → progress.memory ≡ 0
     → Led start [] [] start progress
 Led-start start progress line refused memory = record {
   replies = [];
@@ -53,25 +54,25 @@ Led-start start progress line refused memory = record {
   memory = memory;
 }
 
-pub Went-nothing : (doc : FlatState) (progress : Progress) → Went doc progress [] [] doc progress
-Went-nothing doc progress start read out led = rw (append-nil read, append-nil out) led
+pub Went-nothing : (state : SessionState) (progress : Progress) → Went state progress [] [] state progress
+Went-nothing state progress start read out led = rw (append-nil read, append-nil out) led
 
-module _ (doc doc' doc'' : FlatState) (progress progress' progress'' : Progress) (x y a b : List ℕ) where
-  pub Went-append : Went doc progress x a doc' progress' → Went doc' progress' y b doc'' progress''
-      → Went doc progress (x ++ y) (a ++ b) doc'' progress''
+module _ (state state' state'' : SessionState) (progress progress' progress'' : Progress) (x y a b : List ℕ) where
+  pub Went-append : Went state progress x a state' progress' → Went state' progress' y b state'' progress''
+      → Went state progress (x ++ y) (a ++ b) state'' progress''
   Went-append first second start read out led =
       rw (← append_assoc read x y, ← append_assoc out a b) (second start (read ++ x) (out ++ a) (first start read out led))
 
-  pub Broke-append : Went doc progress x a doc' progress' → Broke doc' progress' y b doc'' → Broke doc progress (x ++ y) (a ++ b) doc''
+  pub Broke-append : Went state progress x a state' progress' → Broke state' progress' y b state'' → Broke state progress (x ++ y) (a ++ b) state''
   Broke-append first second start read out led =
       rw (← append_assoc read x y, ← append_assoc out a b) (second start (read ++ x) (out ++ a) (first start read out led))
 
 -- the line goes on
-pub Went-line : (doc : FlatState) (progress progress' : Progress) (bytes : List ℕ) → IsInOneLine bytes
+pub Went-line : (state : SessionState) (progress progress' : Progress) (bytes : List ℕ) → IsInOneLine bytes
     → ((line : List ℕ) → IsLineSoFar progress.line line → IsLineSoFar progress'.line (line ++ bytes))
     → progress'.refused ≡ progress.refused → progress'.memory ≡ progress.memory
-    → Went doc progress bytes [] doc progress'
-Went-line doc progress progress' bytes one line refused memory start read out led = record {
+    → Went state progress bytes [] state progress'
+Went-line state progress progress' bytes one line refused memory start read out led = record {
   replies = led.replies;
   transcript = rw (ap (λ c. c.ended) (cut-append_line read bytes one)) led.transcript;
   out_is = append-nil out ∙ led.out_is;
@@ -95,9 +96,9 @@ rest-break read end =
 pub counted_more : (n m a : ℕ) → n ≡ min a greatest_count → min (n + m) greatest_count ≡ min (a + m) greatest_count
 counted_more n m a is = omega arith
 
-module _ (end : List ℕ) (doc doc' : FlatState) (progress progress' : Progress) (out out' : SinkState) where
-  pub Went-break : IsInOneLine end → (answered : LineAnswered end doc progress doc' progress' out out')
-      → Went doc progress (end ++ 10 ∷ []) answered.reply doc' progress'
+module _ (end : List ℕ) (state state' : SessionState) (progress progress' : Progress) (out out' : SinkState) where
+  pub Went-break : IsInOneLine end → (answered : LineAnswered end state progress state' progress' out out')
+      → Went state progress (end ++ 10 ∷ []) answered.reply state' progress'
   Went-break one answered start read written_so_far led = record {
     replies = led.replies ++ answered.reply ∷ [];
     transcript = rw (ended-break read end [] one) (Transcript-push _ _ _ _ _ _ _ led.transcript (answered.turn _ led.line));
@@ -110,16 +111,16 @@ module _ (end : List ℕ) (doc doc' : FlatState) (progress progress' : Progress)
   }
 
   -- the reply to the line that ends here broke off
-  pub broken_at : (broken : LineBroken end doc progress doc' out out') (start : FlatState) (read before : List ℕ) (lines others : List (List ℕ))
-      → lines ≡ whole_lines read ++ ((cut read).rest ++ end) ∷ others → Led start read before doc progress
-      → Broken start lines (before ++ broken.sink.front) doc'
+  pub broken_at : (broken : LineBroken end state progress state' out out') (start : SessionState) (read before : List ℕ) (lines others : List (List ℕ))
+      → lines ≡ whole_lines read ++ ((cut read).rest ++ end) ∷ others → Led start read before state progress
+      → Broken start lines (before ++ broken.sink.front) state'
   broken_at broken start read before lines others lines_are led = record {
     done = whole_lines read;
     line = (cut read).rest ++ end;
     others = others;
     lines_are = lines_are;
     replies = led.replies;
-    mid = doc;
+    mid = state;
     transcript = led.transcript;
     reply = broken.reply;
     turn = broken.turn _ led.line;
@@ -128,35 +129,35 @@ module _ (end : List ℕ) (doc doc' : FlatState) (progress progress' : Progress)
     out_is = ap (λ x. x ++ broken.sink.front) led.out_is;
   }
 
-  pub Broke-break : IsInOneLine end → (after : List ℕ) (broken : LineBroken end doc progress doc' out out')
-      → Broke doc progress (end ++ 10 ∷ after) broken.sink.front doc'
+  pub Broke-break : IsInOneLine end → (after : List ℕ) (broken : LineBroken end state progress state' out out')
+      → Broke state progress (end ++ 10 ∷ after) broken.sink.front state'
   Broke-break one after broken start read written_so_far led =
       broken_at broken start read written_so_far _ (whole_lines after) (ended-break read end after one) led
 
 -- ---- a piece of the script
 
 -- of the piece, what stands before rest is answered
-pub record IsAnsweredTo (piece rest : List ℕ) (doc : FlatState) (progress : Progress) (doc' : FlatState) (progress' : Progress) (out out' : SinkState) : Type 0 where
+pub record IsAnsweredTo (piece rest : List ℕ) (state : SessionState) (progress : Progress) (state' : SessionState) (progress' : Progress) (out out' : SinkState) : Type 0 where
   pub consumed : List ℕ
   pub added : List ℕ
   pub whole : piece ≡ consumed ++ rest
-  pub went : Went doc progress consumed added doc' progress'
+  pub went : Went state progress consumed added state' progress'
   pub sink : TakenWhole out out' added
 
-pub answered_to_start : (piece : List ℕ) (doc : FlatState) (progress : Progress) (out : SinkState) → IsAnsweredTo piece piece doc progress doc progress out out
-answered_to_start piece doc progress out = record {
+pub answered_to_start : (piece : List ℕ) (state : SessionState) (progress : Progress) (out : SinkState) → IsAnsweredTo piece piece state progress state progress out out
+answered_to_start piece state progress out = record {
   consumed = [];
   added = [];
   whole = refl;
-  went = Went-nothing doc progress;
+  went = Went-nothing state progress;
   sink = record { wrote = Wrote-nothing out; faults = refl };
 }
 
-module _ (piece rest : List ℕ) (doc : FlatState) (progress : Progress) (mid : FlatState) (progress' : Progress) (out out' : SinkState)
-    (before : IsAnsweredTo piece rest doc progress mid progress' out out') (line : List ℕ) (one : IsInOneLine line) where
-  pub answered_to_line : (after : List ℕ) (doc' : FlatState) (progress'' : Progress) (out'' : SinkState) → rest ≡ line ++ 10 ∷ after
-      → LineAnswered line mid progress' doc' progress'' out' out'' → IsAnsweredTo piece after doc progress doc' progress'' out out''
-  answered_to_line after doc' progress'' out'' parts answered = record {
+module _ (piece rest : List ℕ) (state : SessionState) (progress : Progress) (mid : SessionState) (progress' : Progress) (out out' : SinkState)
+    (before : IsAnsweredTo piece rest state progress mid progress' out out') (line : List ℕ) (one : IsInOneLine line) where
+  pub answered_to_line : (after : List ℕ) (state' : SessionState) (progress'' : Progress) (out'' : SinkState) → rest ≡ line ++ 10 ∷ after
+      → LineAnswered line mid progress' state' progress'' out' out'' → IsAnsweredTo piece after state progress state' progress'' out out''
+  answered_to_line after state' progress'' out'' parts answered = record {
     consumed = before.consumed ++ (line ++ 10 ∷ []);
     added = before.added ++ answered.reply;
     whole = before.whole ∙ ap (λ x. before.consumed ++ x) (parts ∙ sym (append_assoc line (10 ∷ []) after))
@@ -168,9 +169,9 @@ module _ (piece rest : List ℕ) (doc : FlatState) (progress : Progress) (mid : 
     };
   }
 
-  pub piece_broken : (after : List ℕ) (doc' : FlatState) (out'' : SinkState) → rest ≡ line ++ 10 ∷ after
-      → LineBroken line mid progress' doc' out' out'' → PieceBroken piece doc progress doc' out out''
-  piece_broken after doc' out'' parts broken = record {
+  pub piece_broken : (after : List ℕ) (state' : SessionState) (out'' : SinkState) → rest ≡ line ++ 10 ∷ after
+      → LineBroken line mid progress' state' out' out'' → PieceBroken piece state progress state' out out''
+  piece_broken after state' out'' parts broken = record {
     added = before.added ++ broken.sink.front;
     broke = rw (before.whole, parts)
         (Broke-append _ _ _ _ progress' progress' _ _ _ _ before.went (Broke-break line _ _ _ progress' _ _ one after broken));
@@ -181,7 +182,7 @@ module _ (piece rest : List ℕ) (doc : FlatState) (progress : Progress) (mid : 
   pub piece_answered : (progress'' : Progress)
       → ((bytes : List ℕ) → IsLineSoFar progress'.line bytes → IsLineSoFar progress''.line (bytes ++ line))
       → progress''.refused ≡ progress'.refused → progress''.memory ≡ progress'.memory
-      → rest ≡ line → PieceAnswered piece doc progress mid progress'' out out'
+      → rest ≡ line → PieceAnswered piece state progress mid progress'' out out'
   piece_answered progress'' extended refused memory last = record {
     added = before.added ++ [];
     went = rw (before.whole, last)

@@ -9,20 +9,21 @@ use Rattle.script_streams.specs.Streams.{SourceState, SinkState, Gave, NothingLe
 use Rattle.script_runner.specs.declared.running.Status.TheVariants as status
 use Rattle.script_runner.specs.declared.serving.Served.{Served}
 use Rattle.script_runner.specs.declared.serving.Served.TheVariants.{Ended, ReadFault, WriteFault, TooLong}
+use Rattle.script_runner.specs.Session.{SessionState, new_session}
 use Rattle.script_runner.specs.Script.{all_lines, written, is_refused, Transcript}
 use Rattle.script_runner.specs.Progress.{refusals}
 use Rattle.script_runner.specs.Serving.{Serves, ServedAll}
 use Rattle.script_runner.specs.Runs.{most_script_bytes, status_after, EndsWith, Runs, IsAnswered, IsTold}
 
 module _ (src src' : SourceState) (out out' : SinkState) where
-  runs_after_end : (refused memory : ℕ) (end : FlatState) → ServedAll most_script_bytes empty_document end src src' out out' refused memory
+  runs_after_end : (refused memory : ℕ) (end : SessionState) → ServedAll most_script_bytes new_session end src src' out out' refused memory
       → Runs (status_after (Ended refused memory)) src src' out out'
   runs_after_end zero memory end served = record { memory = memory; end = end; served = served }
   runs_after_end (suc more) memory end served =
       rw (lt-ltb 0 (suc more) (omega arith)) (more, record { memory = memory; end = end; served = served })
 
   -- the status after serving tells what stands
-  pub runs_after : (served : Served) (end : FlatState) → Serves served most_script_bytes empty_document end src src' out out'
+  pub runs_after : (served : Served) (end : SessionState) → Serves served most_script_bytes new_session end src src' out out'
       → Runs (status_after served) src src' out out'
   runs_after (Ended refused memory) end served = runs_after_end refused memory end served
   runs_after ReadFault end served = (end, served)
@@ -54,14 +55,14 @@ pub record IsWritten (script : List ℕ) (out out' : SinkState) (number : ℕ) :
   pub wrote : Wrote out out' (written replies)
 
 module _ (src src' : SourceState) (out out' : SinkState) (script : List ℕ) (left : src.left ≡ Some script) where
-  written_is : (number refused memory : ℕ) (end : FlatState) → ServedAll most_script_bytes empty_document end src src' out out' refused memory
+  written_is : (number refused memory : ℕ) (end : SessionState) → ServedAll most_script_bytes new_session end src src' out out' refused memory
       → ((replies : List (List ℕ)) → refused ≡ refusals replies → number ≡ cond (list_any is_refused replies) 1 0) → IsWritten script out out' number
   written_is number refused memory end served status =
       let whole = whole_script src'.left script served.script (subst (λ left. Gave left src'.left served.script) left served.gave) served.nothing_left in
       record {
         replies = served.replies;
-        end = end;
-        transcript = subst (λ x. Transcript empty_document (all_lines x) served.replies end) whole served.transcript;
+        end = end.document;
+        transcript = subst (λ x. Transcript empty_document (all_lines x) served.replies end.document) whole served.transcript;
         status = status served.replies served.refused_is;
         wrote = served.wrote;
       }

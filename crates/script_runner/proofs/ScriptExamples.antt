@@ -8,6 +8,7 @@ use Rattle.script_lines.proofs.ReadExamples.{an_opening, an_edit, a_line, a_size
 use Rattle.text_rules.specs.declared.Op.{Op}
 use Rattle.bracket_rules.specs.Table.{standard_table}
 use Rattle.document_rules.specs.Document.{FlatState, empty_document, new_document, after_batch}
+use Rattle.script_runner.specs.Session.{new_session}
 use Rattle.script_runner.specs.Step.{answered, out_of_memory}
 use Rattle.script_runner.specs.Script.{most_line_bytes, whole_lines, all_lines, Turn, Transcript}
 use Rattle.script_runner.specs.Progress.{Broken}
@@ -82,14 +83,14 @@ the_first_example = (opened, opened_turn, (edited, edited_turn, (edited, line_tu
 -- ---- after a failed write
 
 -- the first of two lines was answered, and of the second reply two bytes were written
-a_reply_is_cut : Broken empty_document (whole_lines (codes "{\"cmd\":\"size\"}\n{\"cmd\":\"size\"}\n")) (codes "ok 0 1\nok") empty_document
+a_reply_is_cut : Broken new_session (whole_lines (codes "{\"cmd\":\"size\"}\n{\"cmd\":\"size\"}\n")) (codes "ok 0 1\nok") new_session
 a_reply_is_cut = record {
   done = size_line ∷ [];
   line = size_line;
   others = [];
   lines_are = refl;
   replies = codes "ok 0 1\n" ∷ [];
-  mid = empty_document;
+  mid = new_session;
   transcript = (empty_document, size_is_told, refl);
   reply = codes "ok 0 1\n";
   turn = size_is_told;

@@ -1,9 +1,10 @@
 -- Worked examples of the definitions.
-use Rattle.std.specs.Prelude.{◌≡◌, ◌∷◌, [], codes, refl, false, None}
+use Rattle.std.specs.Prelude.{◌≡◌, ℕ, List, ◌∷◌, [], codes, refl, false, None}
 use Rattle.document_rules.specs.Document.{FlatState, new_document, empty_document}
 use Rattle.bracket_rules.specs.Table.{standard_table}
 use Rattle.script_lines.specs.declared.command.Command.TheVariants.{Open, Edit, Undo, Version, Size, Line, Value, Offset, Brackets, Match, Level, Snapshot, Read, Close, Stops}
 use Rattle.script_lines.specs.declared.command.Command.TheVariants as command
+use Rattle.script_lines.specs.declared.op.LineOp.{LineOp}
 use Rattle.script_lines.specs.declared.op.Place.TheVariants.{At, InRange}
 use Rattle.std.specs.Fmt.{digits}
 use Rattle.std.specs.Char.Utf16.{utf16_chars}
@@ -27,12 +28,16 @@ opened : step empty_document (Open (codes "ab\ncd") None) ≡ (codes "ok 1 5 2\n
 unfolding digits
 opened = refl
 
-edited_over_a_break : (step (new_document (codes "ab\ncd") standard_table) (Edit (record { place = At (record { start = 1; end = 4 }); text = codes "X"; force = false } ∷ []))).0 ≡ codes "ok 2 3 1\n"
+-- an op at a span
+abbrev over : ℕ → ℕ → List ℕ → LineOp
+over start end text = record { place = At (record { start = start; end = end }); text = text; force = false }
+
+edited_over_a_break : (step (new_document (codes "ab\ncd") standard_table) (Edit (over 1 4 (codes "X") ∷ []))).0 ≡ codes "ok 2 3 1\n"
 unfolding digits
 edited_over_a_break = refl
 
 two_edits_that_overlap : step (new_document (codes "abcde") standard_table)
-    (Edit (record { place = At (record { start = 1; end = 4 }); text = []; force = false } ∷ record { place = At (record { start = 3; end = 3 }); text = []; force = false } ∷ []))
+    (Edit (over 1 4 [] ∷ over 3 3 [] ∷ []))
     ≡ (codes "! overlap\n", new_document (codes "abcde") standard_table)
 two_edits_that_overlap = refl
 
@@ -43,7 +48,8 @@ versions_of_a_new_document : step empty_document Version ≡ (codes "ok 1 1\n", 
 unfolding digits
 versions_of_a_new_document = refl
 
-the_first_line : step (new_document (codes "aXd") standard_table) (Line 1) ≡ (codes "ok \"aXd\"\n", new_document (codes "aXd") standard_table)
+the_first_line : step (new_document (codes "aXd") standard_table) (Line 1)
+    ≡ (codes "ok \"aXd\"\n", new_document (codes "aXd") standard_table)
 unfolding utf16_chars encode
 the_first_line = refl
 
@@ -51,19 +57,30 @@ size_of_a_new_document : step empty_document Size ≡ (codes "ok 0 1\n", empty_d
 unfolding digits
 size_of_a_new_document = refl
 
-edited_by_range : (step (new_document (codes "ab\ncd") standard_table) (Edit (record { place = InRange (record { line = 1; column = 2 }) (record { line = 2; column = 2 }); text = codes "X"; force = false } ∷ []))).0 ≡ codes "ok 2 3 1\n"
+-- an op in a range of positions
+abbrev in_range : ℕ → ℕ → ℕ → ℕ → List ℕ → LineOp
+in_range line column line' column' text = record {
+  place = InRange (record { line = line; column = column }) (record { line = line'; column = column' });
+  text = text;
+  force = false;
+}
+
+edited_by_range : (step (new_document (codes "ab\ncd") standard_table) (Edit (in_range 1 2 2 2 (codes "X") ∷ []))).0
+    ≡ codes "ok 2 3 1\n"
 unfolding digits
 edited_by_range = refl
 
-a_range_with_no_such_column : step (new_document (codes "ab\ncd") standard_table) (Edit (record { place = InRange (record { line = 1; column = 4 }) (record { line = 2; column = 1 }); text = []; force = false } ∷ []))
+a_range_with_no_such_column : step (new_document (codes "ab\ncd") standard_table) (Edit (in_range 1 4 2 1 [] ∷ []))
     ≡ (codes "! range\n", new_document (codes "ab\ncd") standard_table)
 a_range_with_no_such_column = refl
 
-offset_after_a_break : step (new_document (codes "ab\r\ncd") standard_table) (Offset (record { line = 2; column = 1 })) ≡ (codes "ok 4\n", new_document (codes "ab\r\ncd") standard_table)
+offset_after_a_break : step (new_document (codes "ab\r\ncd") standard_table) (Offset (record { line = 2; column = 1 }))
+    ≡ (codes "ok 4\n", new_document (codes "ab\r\ncd") standard_table)
 unfolding digits
 offset_after_a_break = refl
 
-position_inside_a_break : step (new_document (codes "ab\r\ncd") standard_table) (command.Position 3) ≡ (codes "ok 1 4\n", new_document (codes "ab\r\ncd") standard_table)
+position_inside_a_break : step (new_document (codes "ab\r\ncd") standard_table) (command.Position 3)
+    ≡ (codes "ok 1 4\n", new_document (codes "ab\r\ncd") standard_table)
 unfolding digits
 position_inside_a_break = refl
 
@@ -71,7 +88,8 @@ brackets_of_a_line : (step (new_document (codes "([)") standard_table) (Brackets
 unfolding digits
 brackets_of_a_line = refl
 
-the_partner_of_a_bracket : (step (new_document (codes "([)") standard_table) (Match (record { line = 1; column = 1 }))).0 ≡ codes "ok 1 3 1\n"
+the_partner_of_a_bracket : (step (new_document (codes "([)") standard_table) (Match (record { line = 1; column = 1 }))).0
+    ≡ codes "ok 1 3 1\n"
 unfolding digits
 the_partner_of_a_bracket = refl
 

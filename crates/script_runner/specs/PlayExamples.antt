@@ -17,14 +17,17 @@ scripts_to_play : played (codes "12") (codes "0") ∷ played (codes "10000000") 
     ≡ Play 12 0 ∷ Play 10000000 18446744073709551615 ∷ []
 scripts_to_play = refl
 
-a_plus_or_zeros : played (codes "+1") (codes "0") ∷ played (codes "001") (codes "+05") ∷ [] ≡ Play 1 0 ∷ Play 1 5 ∷ []
+a_plus_or_zeros : played (codes "+1") (codes "0") ∷ played (codes "001") (codes "+05") ∷ []
+    ≡ Play 1 0 ∷ Play 1 5 ∷ []
 a_plus_or_zeros = refl
 
-too_great_a_number : played (codes "10000001") (codes "0") ∷ played (codes "1") (codes "18446744073709551616") ∷ [] ≡ NoCommand ∷ NoCommand ∷ []
+too_great_a_number : played (codes "10000001") (codes "0") ∷ played (codes "1") (codes "18446744073709551616") ∷ []
+    ≡ NoCommand ∷ NoCommand ∷ []
 too_great_a_number = refl
 
 -- a minus, a point, a plus alone, and nothing
-no_number : map (λ count. played count (codes "0")) (codes "-1" ∷ codes "1.0" ∷ codes "+" ∷ [] ∷ []) ≡ NoCommand ∷ NoCommand ∷ NoCommand ∷ NoCommand ∷ []
+no_number : map (λ count. played count (codes "0")) (codes "-1" ∷ codes "1.0" ∷ codes "+" ∷ [] ∷ [])
+    ≡ NoCommand ∷ NoCommand ∷ NoCommand ∷ NoCommand ∷ []
 no_number = refl
 
 -- `--` may stand once behind the name, and not before it

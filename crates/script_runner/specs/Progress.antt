@@ -1,11 +1,11 @@
 -- What the loop over a script keeps: how the bytes read so far were answered, whatever they are.
 use Rattle.std.specs.Prelude.{◌≡◌, ℕ, ◌+◌, ◌≤◌, min, false, List, [], ◌∷◌, ◌++◌, length, count_by, Result, Ok, Err, ⊤}
 use Rattle.std.specs.Str.{bytes_eq}
-use Rattle.document_rules.specs.Document.{FlatState}
 use Rattle.script_streams.specs.declared.Failed.{Failed}
 use Rattle.script_streams.specs.Streams.{SinkState, greatest_count, Rose, Wrote, StartsWith, TakenWhole, Cut}
 use Rattle.script_runner.specs.declared.line.PartialLine.{PartialLine}
 use Rattle.script_runner.specs.declared.serving.Progress.{Progress}
+use Rattle.script_runner.specs.Session.{SessionState}
 use Rattle.script_runner.specs.Step.{memory_reply}
 use Rattle.script_runner.specs.Script.{cut, whole_lines, most_line_bytes, is_blank, is_refused, written, Turn, Transcript}
 
@@ -21,74 +21,80 @@ refusals replies = count_by is_refused replies
 abbrev pub memory_refusals : List (List ℕ) → ℕ
 memory_refusals replies = count_by (bytes_eq memory_reply) replies
 
--- From this start the bytes read led to the bytes written, to the document now and to what the loop keeps.
-pub record Led (start : FlatState) (read out : List ℕ) (now : FlatState) (progress : Progress) : Type 0 where
+-- From this start the bytes read led to the bytes written, to the state now and to what the loop keeps.
+pub record Led (start : SessionState) (read out : List ℕ) (now : SessionState) (progress : Progress) : Type 0 where
   pub replies : List (List ℕ)
-  pub transcript : Transcript start (whole_lines read) replies now
+  pub transcript : Transcript start.document (whole_lines read) replies now.document
   pub out_is : out ≡ written replies
   pub line : IsLineSoFar progress.line (cut read).rest
   pub refused : progress.refused ≡ min (refusals replies) greatest_count
   pub memory : progress.memory ≡ min (memory_refusals replies) greatest_count
 
 -- Whatever led here, these bytes read and these written lead on to there.
-abbrev pub Went : FlatState → Progress → List ℕ → List ℕ → FlatState → Progress → Type 0
-Went doc progress bytes added doc' progress' =
-    (start : FlatState) (read out : List ℕ) → Led start read out doc progress → Led start (read ++ bytes) (out ++ added) doc' progress'
+abbrev pub Went : SessionState → Progress → List ℕ → List ℕ → SessionState → Progress → Type 0
+Went state progress bytes added state' progress' =
+    (start : SessionState) (read out : List ℕ) → Led start read out state progress
+    → Led start (read ++ bytes) (out ++ added) state' progress'
 
 -- Of these lines the first were answered, and of the reply to one more a front was written.
-pub record Broken (start : FlatState) (lines : List (List ℕ)) (out : List ℕ) (now : FlatState) : Type 0 where
+pub record Broken (start : SessionState) (lines : List (List ℕ)) (out : List ℕ) (now : SessionState) : Type 0 where
   pub done : List (List ℕ)
   pub line : List ℕ
   pub others : List (List ℕ)
   pub lines_are : lines ≡ done ++ line ∷ others
   pub replies : List (List ℕ)
-  pub mid : FlatState
-  pub transcript : Transcript start done replies mid
+  pub mid : SessionState
+  pub transcript : Transcript start.document done replies mid.document
   pub reply : List ℕ
-  pub turn : Turn mid line reply now
+  pub turn : Turn mid.document line reply now.document
   pub front : List ℕ
   pub starts : StartsWith reply front
   pub out_is : out ≡ written replies ++ front
 
 -- Whatever led here, these bytes were read and these written when a write failed.
-abbrev pub Broke : FlatState → Progress → List ℕ → List ℕ → FlatState → Type 0
-Broke doc progress bytes added doc' =
-    (start : FlatState) (read out : List ℕ) → Led start read out doc progress → Broken start (whole_lines (read ++ bytes)) (out ++ added) doc'
+abbrev pub Broke : SessionState → Progress → List ℕ → List ℕ → SessionState → Type 0
+Broke state progress bytes added state' =
+    (start : SessionState) (read out : List ℕ) → Led start read out state progress
+    → Broken start (whole_lines (read ++ bytes)) (out ++ added) state'
 
 -- ---- one line
 
 -- the line that these bytes end was answered, and the next one begins
-pub record LineAnswered (end : List ℕ) (doc : FlatState) (progress : Progress) (doc' : FlatState) (progress' : Progress) (out out' : SinkState) : Type 0 where
+pub record LineAnswered (end : List ℕ) (state : SessionState) (progress : Progress)
+    (state' : SessionState) (progress' : Progress) (out out' : SinkState) : Type 0 where
   pub reply : List ℕ
-  pub turn : (line : List ℕ) → IsLineSoFar progress.line line → Turn doc (line ++ end) reply doc'
+  pub turn : (line : List ℕ) → IsLineSoFar progress.line line → Turn state.document (line ++ end) reply state'.document
   pub sink : TakenWhole out out' reply
   pub line : IsLineSoFar progress'.line []
   pub refused : progress'.refused ≡ min (progress.refused + refusals (reply ∷ [])) greatest_count
   pub memory : progress'.memory ≡ min (progress.memory + memory_refusals (reply ∷ [])) greatest_count
 
 -- the line that these bytes end was answered, but its reply was not written whole
-pub record LineBroken (end : List ℕ) (doc : FlatState) (progress : Progress) (doc' : FlatState) (out out' : SinkState) : Type 0 where
+pub record LineBroken (end : List ℕ) (state : SessionState) (progress : Progress)
+    (state' : SessionState) (out out' : SinkState) : Type 0 where
   pub reply : List ℕ
-  pub turn : (line : List ℕ) → IsLineSoFar progress.line line → Turn doc (line ++ end) reply doc'
+  pub turn : (line : List ℕ) → IsLineSoFar progress.line line → Turn state.document (line ++ end) reply state'.document
   pub sink : Cut out out' reply
 
-abbrev pub AnswersLine : Result ⊤ Failed → List ℕ → FlatState → Progress → FlatState → Progress → SinkState → SinkState → Type 0
-AnswersLine (Ok x) end doc progress doc' progress' out out' = LineAnswered end doc progress doc' progress' out out'
-AnswersLine (Err failed) end doc progress doc' progress' out out' = LineBroken end doc progress doc' out out'
+abbrev pub AnswersLine : Result ⊤ Failed → List ℕ → SessionState → Progress → SessionState → Progress → SinkState → SinkState → Type 0
+AnswersLine (Ok x) end state progress state' progress' out out' = LineAnswered end state progress state' progress' out out'
+AnswersLine (Err failed) end state progress state' progress' out out' = LineBroken end state progress state' out out'
 
 -- ---- a piece of the script, cut anywhere
 
-pub record PieceAnswered (piece : List ℕ) (doc : FlatState) (progress : Progress) (doc' : FlatState) (progress' : Progress) (out out' : SinkState) : Type 0 where
+pub record PieceAnswered (piece : List ℕ) (state : SessionState) (progress : Progress)
+    (state' : SessionState) (progress' : Progress) (out out' : SinkState) : Type 0 where
   pub added : List ℕ
-  pub went : Went doc progress piece added doc' progress'
+  pub went : Went state progress piece added state' progress'
   pub sink : TakenWhole out out' added
 
-pub record PieceBroken (piece : List ℕ) (doc : FlatState) (progress : Progress) (doc' : FlatState) (out out' : SinkState) : Type 0 where
+pub record PieceBroken (piece : List ℕ) (state : SessionState) (progress : Progress)
+    (state' : SessionState) (out out' : SinkState) : Type 0 where
   pub added : List ℕ
-  pub broke : Broke doc progress piece added doc'
+  pub broke : Broke state progress piece added state'
   pub wrote : Wrote out out' added
   pub faults : Rose out.faults out'.faults
 
-abbrev pub AnswersPiece : Result ⊤ Failed → List ℕ → FlatState → Progress → FlatState → Progress → SinkState → SinkState → Type 0
-AnswersPiece (Ok x) piece doc progress doc' progress' out out' = PieceAnswered piece doc progress doc' progress' out out'
-AnswersPiece (Err failed) piece doc progress doc' progress' out out' = PieceBroken piece doc progress doc' out out'
+abbrev pub AnswersPiece : Result ⊤ Failed → List ℕ → SessionState → Progress → SessionState → Progress → SinkState → SinkState → Type 0
+AnswersPiece (Ok x) piece state progress state' progress' out out' = PieceAnswered piece state progress state' progress' out out'
+AnswersPiece (Err failed) piece state progress state' progress' out out' = PieceBroken piece state progress state' out out'

@@ -7,6 +7,7 @@ use Rattle.script_runner.specs.declared.running.Status.{Status}
 use Rattle.script_runner.specs.declared.running.Status.TheVariants as status
 use Rattle.script_runner.specs.declared.serving.Served.{Served}
 use Rattle.script_runner.specs.declared.serving.Served.TheVariants.{Ended, ReadFault, WriteFault, TooLong}
+use Rattle.script_runner.specs.Session.{SessionState, new_session}
 use Rattle.script_runner.specs.Script.{all_lines, written, is_refused, Transcript}
 use Rattle.script_runner.specs.Serving.{ServedAll, ServedToReadFault, ServedToWriteFault, ServedToLimit}
 
@@ -70,8 +71,8 @@ pub record IsTold (script before : List ℕ) (out out' : SinkState) (number : �
 -- the script was answered to its end, and this many replies begin with `!`
 pub record AnswersAll (src src' : SourceState) (out out' : SinkState) (refused : ℕ) : Type 0 where
   pub memory : ℕ
-  pub end : FlatState
-  pub served : ServedAll most_script_bytes empty_document end src src' out out' refused memory
+  pub end : SessionState
+  pub served : ServedAll most_script_bytes new_session end src src' out out' refused memory
 
 abbrev pub Runs : Status → SourceState → SourceState → SinkState → SinkState → Type 0
 -- every line of the script was answered, and no reply begins with `!`
@@ -80,8 +81,8 @@ Runs status.Answered src src' out out' = AnswersAll src src' out out' 0
 Runs status.Refused src src' out out' = (more : ℕ) × AnswersAll src src' out out' (suc more)
 -- there was no memory to begin with, and nothing was read or written
 Runs status.Memory src src' out out' = (src' ≡ src) × (out' ≡ out)
-Runs status.ReadFault src src' out out' = (end : FlatState) × ServedToReadFault most_script_bytes empty_document end src src' out out'
-Runs status.WriteFault src src' out out' = (end : FlatState) × ServedToWriteFault most_script_bytes empty_document end src src' out out'
-Runs status.TooLong src src' out out' = (end : FlatState) × ServedToLimit most_script_bytes empty_document end src src' out out'
+Runs status.ReadFault src src' out out' = (end : SessionState) × ServedToReadFault most_script_bytes new_session end src src' out out'
+Runs status.WriteFault src src' out out' = (end : SessionState) × ServedToWriteFault most_script_bytes new_session end src src' out out'
+Runs status.TooLong src src' out out' = (end : SessionState) × ServedToLimit most_script_bytes new_session end src src' out out'
 -- the words `run` are a command
 Runs status.Usage src src' out out' = ⊥

@@ -1,9 +1,9 @@
 -- What serving a script did, by how it ended.
 use Rattle.std.specs.Prelude.{◌≡◌, ℕ, ◌+◌, ◌<◌, ◌≤◌, ◌⊎◌, min, Bool, true, false, if◌then◌else◌, List, ◌++◌, length}
-use Rattle.document_rules.specs.Document.{FlatState}
 use Rattle.script_streams.specs.Streams.{SourceState, SinkState, greatest_count, Gave, NothingLeft, Wrote, Rose}
 use Rattle.script_runner.specs.declared.serving.Served.{Served}
 use Rattle.script_runner.specs.declared.serving.Served.TheVariants.{Ended, ReadFault, WriteFault, TooLong}
+use Rattle.script_runner.specs.Session.{SessionState}
 use Rattle.script_runner.specs.Script.{whole_lines, all_lines, written, Transcript}
 use Rattle.script_runner.specs.Progress.{refusals, memory_refusals, Led, Broken}
 use Rattle.script_runner.specs.declared.serving.Progress.{Progress}
@@ -17,7 +17,8 @@ abbrev pub lines_read : Bool → List ℕ → List (List ℕ)
 lines_read ended script = if ended then all_lines script else whole_lines script
 
 -- The script was read to its end, and every line of it answered: the replies written are those of the flat document.
-pub record ServedAll (most : ℕ) (start end : FlatState) (src src' : SourceState) (out out' : SinkState) (refused memory : ℕ) : Type 0 where
+pub record ServedAll (most : ℕ) (start end : SessionState) (src src' : SourceState)
+    (out out' : SinkState) (refused memory : ℕ) : Type 0 where
   pub script : List ℕ
   pub gave : Gave src.left src'.left script
   pub budget : length script < most
@@ -25,7 +26,7 @@ pub record ServedAll (most : ℕ) (start end : FlatState) (src src' : SourceStat
   pub nothing_left : NothingLeft src'.left
   pub ended : src'.ended ≡ true
   pub replies : List (List ℕ)
-  pub transcript : Transcript start (all_lines script) replies end
+  pub transcript : Transcript start.document (all_lines script) replies end.document
   pub wrote : Wrote out out' (written replies)
   pub refused_is : refused ≡ refusals replies
   pub memory_is : memory ≡ memory_refusals replies
@@ -33,20 +34,20 @@ pub record ServedAll (most : ℕ) (start end : FlatState) (src src' : SourceStat
   pub sink_faults : out'.faults ≡ out.faults
 
 -- A read failed; the whole lines read before were answered.
-pub record ServedToReadFault (most : ℕ) (start end : FlatState) (src src' : SourceState) (out out' : SinkState) : Type 0 where
+pub record ServedToReadFault (most : ℕ) (start end : SessionState) (src src' : SourceState) (out out' : SinkState) : Type 0 where
   pub script : List ℕ
   pub gave : Gave src.left src'.left script
   pub budget : length script < most
   pub given : RoseBy src.given (length script) src'.given
   pub not_ended : src'.ended ≡ false
   pub replies : List (List ℕ)
-  pub transcript : Transcript start (whole_lines script) replies end
+  pub transcript : Transcript start.document (whole_lines script) replies end.document
   pub wrote : Wrote out out' (written replies)
   pub source_faults : Rose src.faults src'.faults
   pub sink_faults : out'.faults ≡ out.faults
 
 -- A write failed; whole replies were written, and then a front of the next one.
-pub record ServedToWriteFault (most : ℕ) (start end : FlatState) (src src' : SourceState) (out out' : SinkState) : Type 0 where
+pub record ServedToWriteFault (most : ℕ) (start end : SessionState) (src src' : SourceState) (out out' : SinkState) : Type 0 where
   pub script : List ℕ
   pub gave : Gave src.left src'.left script
   pub budget : length script ≤ most
@@ -58,19 +59,19 @@ pub record ServedToWriteFault (most : ℕ) (start end : FlatState) (src src' : S
   pub sink_faults : Rose out.faults out'.faults
 
 -- As many bytes were read as may be, and the end was not seen; the whole lines among them were answered.
-pub record ServedToLimit (most : ℕ) (start end : FlatState) (src src' : SourceState) (out out' : SinkState) : Type 0 where
+pub record ServedToLimit (most : ℕ) (start end : SessionState) (src src' : SourceState) (out out' : SinkState) : Type 0 where
   pub script : List ℕ
   pub gave : Gave src.left src'.left script
   pub most_is : length script ≡ most
   pub given : RoseBy src.given most src'.given
   pub not_ended : 0 < most → src'.ended ≡ false
   pub replies : List (List ℕ)
-  pub transcript : Transcript start (whole_lines script) replies end
+  pub transcript : Transcript start.document (whole_lines script) replies end.document
   pub wrote : Wrote out out' (written replies)
   pub source_faults : src'.faults ≡ src.faults
   pub sink_faults : out'.faults ≡ out.faults
 
-abbrev pub Serves : Served → ℕ → FlatState → FlatState → SourceState → SourceState → SinkState → SinkState → Type 0
+abbrev pub Serves : Served → ℕ → SessionState → SessionState → SourceState → SourceState → SinkState → SinkState → Type 0
 Serves (Ended refused memory) most start end src src' out out' = ServedAll most start end src src' out out' refused memory
 Serves ReadFault most start end src src' out out' = ServedToReadFault most start end src src' out out'
 Serves WriteFault most start end src src' out out' = ServedToWriteFault most start end src src' out out'
@@ -79,31 +80,32 @@ Serves TooLong most start end src src' out out' = ServedToLimit most start end s
 -- ---- the end of the script
 
 -- Every line of the script was answered, and the numbers are those of the replies, as far as they can be counted.
-pub record AllAnswered (start : FlatState) (script out : List ℕ) (end : FlatState) (refused memory : ℕ) : Type 0 where
+pub record AllAnswered (start : SessionState) (script out : List ℕ) (end : SessionState) (refused memory : ℕ) : Type 0 where
   pub replies : List (List ℕ)
-  pub transcript : Transcript start (all_lines script) replies end
+  pub transcript : Transcript start.document (all_lines script) replies end.document
   pub out_is : out ≡ written replies
   pub refused_is : refused ≡ min (refusals replies) greatest_count
   pub memory_is : memory ≡ min (memory_refusals replies) greatest_count
 
 -- Whatever was read and written before, all of its lines are answered now.
-pub record Finished (doc : FlatState) (progress : Progress) (doc' : FlatState) (out out' : SinkState) (refused memory : ℕ) : Type 0 where
+pub record Finished (state : SessionState) (progress : Progress)
+    (state' : SessionState) (out out' : SinkState) (refused memory : ℕ) : Type 0 where
   pub added : List ℕ
-  pub answered : (start : FlatState) (read before : List ℕ) → Led start read before doc progress
-      → AllAnswered start read (before ++ added) doc' refused memory
+  pub answered : (start : SessionState) (read before : List ℕ) → Led start read before state progress
+      → AllAnswered start read (before ++ added) state' refused memory
   pub wrote : Wrote out out' added
   pub faults : out'.faults ≡ out.faults
 
 -- Whatever was read and written before, the reply to the last line was not written whole.
-pub record FinishBroken (doc : FlatState) (progress : Progress) (doc' : FlatState) (out out' : SinkState) : Type 0 where
+pub record FinishBroken (state : SessionState) (progress : Progress) (state' : SessionState) (out out' : SinkState) : Type 0 where
   pub added : List ℕ
-  pub broke : (start : FlatState) (read before : List ℕ) → Led start read before doc progress
-      → Broken start (all_lines read) (before ++ added) doc'
+  pub broke : (start : SessionState) (read before : List ℕ) → Led start read before state progress
+      → Broken start (all_lines read) (before ++ added) state'
   pub wrote : Wrote out out' added
   pub faults : Rose out.faults out'.faults
 
-abbrev pub Finishes : Served → FlatState → Progress → FlatState → SinkState → SinkState → Type 0
-Finishes (Ended refused memory) doc progress doc' out out' = Finished doc progress doc' out out' refused memory
-Finishes WriteFault doc progress doc' out out' = FinishBroken doc progress doc' out out'
-Finishes ReadFault doc progress doc' out out' = ⊥
-Finishes TooLong doc progress doc' out out' = ⊥
+abbrev pub Finishes : Served → SessionState → Progress → SessionState → SinkState → SinkState → Type 0
+Finishes (Ended refused memory) state progress state' out out' = Finished state progress state' out out' refused memory
+Finishes WriteFault state progress state' out out' = FinishBroken state progress state' out out'
+Finishes ReadFault state progress state' out out' = ⊥
+Finishes TooLong state progress state' out out' = ⊥

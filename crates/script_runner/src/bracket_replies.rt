@@ -8,17 +8,18 @@ ghost use Rattle.script_runner.specs.Told.{Tells};
 ghost use Rattle.script_runner.specs.Bytes.{bytes_of};
 
 use crate::outcome::{Outcome, Reply};
-use model_core::{Entry, Model, Status};
+use crate::session::Session;
+use model_core::{Entry, Status};
 use script_lines::{Command, Short, long_begin, long_end, long_mark, long_number};
 use std::alloc::{AllocError, Global};
 use text_lengths::Position;
 
-pub(crate) fn brackets_reply(alloc: Global, model: &mut Model, from: u64, to: u64) -> Outcome
-    ensures { Tells model.old.document (Command.Brackets from to) result model.new.document }
+pub(crate) fn brackets_reply(session: &mut Session, from: u64, to: u64) -> Outcome
+    ensures { Tells session.old (Command.Brackets from to) result session.new }
 {
-    let mut entries = Vec::new(alloc);
-    model.brackets_in(from, to, &mut entries)?;
-    Ok(list_reply(alloc, entries.as_slice())?)
+    let mut entries = Vec::new(session.alloc);
+    session.model.brackets_in(from, to, &mut entries)?;
+    Ok(list_reply(session.alloc, entries.as_slice())?)
 }
 
 fn list_reply(alloc: Global, entries: &[Entry]) -> Result<Reply, AllocError>
@@ -57,10 +58,10 @@ fn status_letter(status: Status) -> u8
     }
 }
 
-pub(crate) fn match_reply(model: &mut Model, p: Position) -> Outcome
-    ensures { Tells model.old.document (Command.Match p) result model.new.document }
+pub(crate) fn match_reply(session: &mut Session, p: Position) -> Outcome
+    ensures { Tells session.old (Command.Match p) result session.new }
 {
-    match model.match_at(p)? {
+    match session.model.match_at(p)? {
         Some((partner, len)) => {
             Ok(Reply::Short(Short::ok(&[partner.line, partner.column, len])))
         }
@@ -68,9 +69,9 @@ pub(crate) fn match_reply(model: &mut Model, p: Position) -> Outcome
     }
 }
 
-pub(crate) fn level_reply(model: &mut Model, p: Position) -> Outcome
-    ensures { Tells model.old.document (Command.Level p) result model.new.document }
+pub(crate) fn level_reply(session: &mut Session, p: Position) -> Outcome
+    ensures { Tells session.old (Command.Level p) result session.new }
 {
-    let level = model.level_at(p)?;
+    let level = session.model.level_at(p)?;
     Ok(Reply::Short(Short::ok(&[level])))
 }

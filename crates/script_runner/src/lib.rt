@@ -10,8 +10,11 @@ mod playing;
 mod reply;
 mod running;
 mod serving;
+mod session;
 mod snapshot_replies;
 mod words;
 
+pub use outcome::{Outcome, Refused, Reply, write_outcome};
 pub use running::run_words;
 pub use serving::{Served, serve};
+pub use session::Session;

@@ -12,7 +12,7 @@ use std::alloc::AllocError;
 
 /// The reply to a line that is not refused.
 #[derive(Drop)]
-pub(crate) enum Reply {
+pub enum Reply {
     /// A blank line has none.
     Nothing,
     Short(Short),
@@ -20,7 +20,7 @@ pub(crate) enum Reply {
 }
 
 impl Reply {
-    fn as_slice(&self) -> &[u8]
+    pub fn as_slice(&self) -> &[u8]
         ensures { result.now ≡ bytes_of self.now }
     {
         match self {
@@ -33,10 +33,10 @@ impl Reply {
 
 /// A line was refused for this reason.
 #[derive(Clone, Copy)]
-pub(crate) struct Refused(pub Refusal);
+pub struct Refused(pub Refusal);
 
 /// What comes of a line.
-pub(crate) type Outcome = Result<Reply, Refused>;
+pub type Outcome = Result<Reply, Refused>;
 
 impl From<ModelError> for Refused {
     ghost from_gives = { λ error refused. refused ≡ record { 0 = refusal_of error } };
@@ -78,7 +78,7 @@ impl From<AllocError> for Refused {
 }
 
 /// Writes the reply whole, or the one that tells the refusal.
-pub(crate) fn write_outcome<K: Sink>(outcome: &Outcome, out: &mut K) -> Result<(), Failed>
+pub fn write_outcome<K: Sink>(outcome: &Outcome, out: &mut K) -> Result<(), Failed>
     ensures { WritesWhole result (K.state out.old) (K.state out.new)
         (bytes_of_outcome outcome.now) }
 {

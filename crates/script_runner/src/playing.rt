@@ -7,9 +7,9 @@ ghost use Rattle.script_runner.specs.Playing.{part, line_of, SumsUp, Shows, Play
 
 use crate::running::{MOST_SCRIPT_BYTES, Status, read_buffer};
 use crate::serving::{Served, serve};
+use crate::session::Session;
 use arrayvec::ArrayVec;
 use itoa::Buffer;
-use model_core::Model;
 use script_play::{PlaySource, TallySink};
 use script_streams::{Sink, write_whole};
 use std::alloc::Global;
@@ -51,18 +51,12 @@ fn sum_up(alloc: Global, count: u32, seed: u64, buf: &mut [u8]) -> Option<Summar
     requires room { 0 < length buf.old }
     ensures { IfSome result (λ summary. SumsUp summary count seed) }
 {
-    let mut model = Model::new(alloc);
+    let mut session = Session::new(alloc);
     let mut src = PlaySource::new(count, seed);
     let mut tally = TallySink::new();
-    let served = serve(
-        alloc,
-        &mut model,
-        &mut src,
-        &mut tally,
-        buf,
-        MOST_SCRIPT_BYTES,
-    );
+    let served = serve(&mut session, &mut src, &mut tally, buf, MOST_SCRIPT_BYTES);
     let refused = refused_of(served)?;
+    let model = session.model();
     Some(Summary {
         count,
         refused,

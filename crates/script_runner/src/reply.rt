@@ -13,9 +13,10 @@ ghost use Rattle.script_runner.specs.Bytes.{bytes_of, bytes_of_outcome};
 
 use crate::bracket_replies::{brackets_reply, level_reply, match_reply};
 use crate::decoration_replies::{deco_reply, decorate_reply, decos_reply};
-use crate::line::{MOST_LINE_BYTES, PartialLine, is_blank};
+use crate::line::PartialLine;
 use crate::ops::ops_at;
 use crate::outcome::{Outcome, Refused, Reply};
+use crate::session::Session;
 use crate::snapshot_replies::{close_reply, read_reply, snapshot_reply, stops_reply};
 use model_core::{BracketTable, Model};
 use script_lines::{Command, LineOps, Refusal, Short, command_of, long_begin, long_end, long_text};
@@ -23,41 +24,23 @@ use std::alloc::{AllocError, Global};
 use text_lengths::{Position, Span};
 
 /// Answers the line that these bytes end. One that lies whole in them is read where it lies.
-pub(crate) fn reply_at_end(
-    alloc: Global,
-    model: &mut Model,
-    line: &mut PartialLine,
-    end: &[u8],
-) -> Outcome
-    ensures turn { (bytes : List ℕ) → IsLineSoFar line.old bytes → Turn model.old.document
-        (bytes ++ end.now) (bytes_of_outcome result) model.new.document }
+pub(crate) fn reply_at_end(session: &mut Session, line: &mut PartialLine, end: &[u8]) -> Outcome
+    ensures turn { (bytes : List ℕ) → IsLineSoFar line.old bytes
+        → Turn session.old.document (bytes ++ end.now) (bytes_of_outcome result)
+        session.new.document }
     ensures accepted { IfOk result (λ reply. is_refused (bytes_of reply) ≡ false) }
 {
     if line.len == 0 {
-        return reply_to_whole(alloc, model, end);
+        return session.answer(end);
     }
     line.extend(end);
-    reply_to_kept(alloc, model, line)
-}
-
-/// Answers the line of these bytes.
-fn reply_to_whole(alloc: Global, model: &mut Model, line: &[u8]) -> Outcome
-    ensures turn { Turn model.old.document line.now (bytes_of_outcome result) model.new.document }
-    ensures accepted { IfOk result (λ reply. is_refused (bytes_of reply) ≡ false) }
-{
-    if line.len() > MOST_LINE_BYTES {
-        return Err(Refused(Refusal::Limit));
-    }
-    if is_blank(line) {
-        return Ok(Reply::Nothing);
-    }
-    reply_to_bytes(alloc, model, line)
+    reply_to_kept(session, line)
 }
 
 /// Answers the line as far as its bytes are known.
-fn reply_to_kept(alloc: Global, model: &mut Model, line: &PartialLine) -> Outcome
+fn reply_to_kept(session: &mut Session, line: &PartialLine) -> Outcome
     ensures turn { (bytes : List ℕ) → IsLineSoFar line.now bytes
-        → Turn model.old.document bytes (bytes_of_outcome result) model.new.document }
+        → Turn session.old.document bytes (bytes_of_outcome result) session.new.document }
     ensures accepted { IfOk result (λ reply. is_refused (bytes_of reply) ≡ false) }
 {
     if line.is_too_long() {
@@ -69,56 +52,50 @@ fn reply_to_kept(alloc: Global, model: &mut Model, line: &PartialLine) -> Outcom
     if line.is_lost {
         return Err(Refused(Refusal::Memory));
     }
-    reply_to_bytes(alloc, model, line.bytes.as_slice())
+    reply_to_bytes(session, line.bytes.as_slice())
 }
 
-fn reply_to_bytes(alloc: Global, model: &mut Model, line: &[u8]) -> Outcome
-    ensures { TellsBy (commanded model.old.document (command_of line.now))
-        model.old.document result model.new.document }
+pub(crate) fn reply_to_bytes(session: &mut Session, line: &[u8]) -> Outcome
+    ensures { TellsBy (commanded session.old.document (command_of line.now))
+        session.old result session.new }
 {
-    let command = command_of(alloc, line)?;
-    carry_out(alloc, model, command)
+    let command = command_of(session.alloc, line)?;
+    carry_out(session, command)
 }
 
-fn carry_out(alloc: Global, model: &mut Model, command: Command) -> Outcome
-    ensures { Tells model.old.document command result model.new.document }
+fn carry_out(session: &mut Session, command: Command) -> Outcome
+    ensures { Tells session.old command result session.new }
 {
     match command {
-        Command::Open { text, brackets } => open_reply(model, text.as_slice(), brackets),
-        Command::Edit { ops } => edit_reply(alloc, model, ops),
-        Command::Decorate { owner, remove, add } => decorate_reply(model, owner, remove, add),
-        Command::Undo => undo_reply(model),
-        Command::Redo => redo_reply(model),
-        Command::Stop => {
-            model.stop();
-            Ok(Reply::Short(Short::ok(&[])))
-        }
-        Command::Version => {
-            let (version, alternative) = model.versions();
-            Ok(Reply::Short(Short::ok(&[version, alternative])))
-        }
-        Command::Size => Ok(Reply::Short(Short::ok(&[model.len(), model.line_count()]))),
-        Command::Line { n } => line_reply(alloc, model, n),
-        Command::Value { at } => value_reply(alloc, model, at),
-        Command::Offset { p } => offset_reply(model, p),
-        Command::Position { offset } => position_reply(model, offset),
-        Command::Deco { id } => deco_reply(model, id),
-        Command::Decos { at, owner } => decos_reply(alloc, model, at, owner),
-        Command::Brackets { from, to } => brackets_reply(alloc, model, from, to),
-        Command::Match { p } => match_reply(model, p),
-        Command::Level { p } => level_reply(model, p),
-        Command::Snapshot => snapshot_reply(model),
-        Command::Read { id, count } => read_reply(alloc, model, id, count),
-        Command::Close { id } => close_reply(model, id),
-        Command::Stops { n } => stops_reply(alloc, model, n),
+        Command::Open { text, brackets } => open_reply(session, text.as_slice(), brackets),
+        Command::Edit { ops } => edit_reply(session, ops),
+        Command::Decorate { owner, remove, add } => decorate_reply(session, owner, remove, add),
+        Command::Undo => undo_reply(session),
+        Command::Redo => redo_reply(session),
+        Command::Stop => stop_reply(session),
+        Command::Version => versions_reply(session),
+        Command::Size => size_reply(session),
+        Command::Line { n } => line_reply(session, n),
+        Command::Value { at } => value_reply(session, at),
+        Command::Offset { p } => offset_reply(session, p),
+        Command::Position { offset } => position_reply(session, offset),
+        Command::Deco { id } => deco_reply(session, id),
+        Command::Decos { at, owner } => decos_reply(session, at, owner),
+        Command::Brackets { from, to } => brackets_reply(session, from, to),
+        Command::Match { p } => match_reply(session, p),
+        Command::Level { p } => level_reply(session, p),
+        Command::Snapshot => snapshot_reply(session),
+        Command::Read { id, count } => read_reply(session, id, count),
+        Command::Close { id } => close_reply(session, id),
+        Command::Stops { n } => stops_reply(session, n),
     }
 }
 
-fn open_reply(model: &mut Model, text: &[u16], brackets: Option<BracketTable>) -> Outcome
-    ensures { Tells model.old.document (Command.Open text.now brackets) result model.new.document }
+fn open_reply(session: &mut Session, text: &[u16], brackets: Option<BracketTable>) -> Outcome
+    ensures { Tells session.old (Command.Open text.now brackets) result session.new }
 {
-    model.open_doc(text, table_of(brackets))?;
-    Ok(change_reply(model))
+    session.model.open_doc(text, table_of(brackets))?;
+    Ok(change_reply(&session.model))
 }
 
 /// The brackets that are asked for, or the standard ones.
@@ -131,26 +108,46 @@ fn table_of(brackets: Option<BracketTable>) -> BracketTable
     }
 }
 
-fn edit_reply(alloc: Global, model: &mut Model, ops: LineOps) -> Outcome
-    ensures { Tells model.old.document (Command.Edit ops) result model.new.document }
+fn edit_reply(session: &mut Session, ops: LineOps) -> Outcome
+    ensures { Tells session.old (Command.Edit ops) result session.new }
 {
-    let ops = ops_at(alloc, model, ops)?;
-    model.edit(ops)?;
-    Ok(change_reply(model))
+    let ops = ops_at(session.alloc, &session.model, ops)?;
+    session.model.edit(ops)?;
+    Ok(change_reply(&session.model))
 }
 
-fn undo_reply(model: &mut Model) -> Outcome
-    ensures { Tells model.old.document Command.Undo result model.new.document }
+fn undo_reply(session: &mut Session) -> Outcome
+    ensures { Tells session.old Command.Undo result session.new }
 {
-    let is_moved = model.undo()?;
-    Ok(move_reply(is_moved, model))
+    let is_moved = session.model.undo()?;
+    Ok(move_reply(is_moved, &session.model))
 }
 
-fn redo_reply(model: &mut Model) -> Outcome
-    ensures { Tells model.old.document Command.Redo result model.new.document }
+fn redo_reply(session: &mut Session) -> Outcome
+    ensures { Tells session.old Command.Redo result session.new }
 {
-    let is_moved = model.redo()?;
-    Ok(move_reply(is_moved, model))
+    let is_moved = session.model.redo()?;
+    Ok(move_reply(is_moved, &session.model))
+}
+
+fn stop_reply(session: &mut Session) -> Outcome
+    ensures { Tells session.old Command.Stop result session.new }
+{
+    session.model.stop();
+    Ok(Reply::Short(Short::ok(&[])))
+}
+
+fn versions_reply(session: &Session) -> Outcome
+    ensures { Tells session.now Command.Version result session.now }
+{
+    let (version, alternative) = session.model.versions();
+    Ok(Reply::Short(Short::ok(&[version, alternative])))
+}
+
+fn size_reply(session: &Session) -> Outcome
+    ensures { Tells session.now Command.Size result session.now }
+{
+    Ok(Reply::Short(Short::ok(&[session.model.len(), session.model.line_count()])))
 }
 
 fn change_reply(model: &Model) -> Reply
@@ -170,36 +167,39 @@ fn move_reply(is_moved: bool, model: &Model) -> Reply
     }
 }
 
-fn line_reply(alloc: Global, model: &Model, n: u64) -> Outcome
-    ensures { Tells model.now.document (Command.Line n) result model.now.document }
+fn line_reply(session: &Session, n: u64) -> Outcome
+    ensures { Tells session.now (Command.Line n) result session.now }
 {
-    let mut units = Vec::new(alloc);
-    model.line(n, &mut units)?;
-    Ok(text_reply(alloc, units.as_slice())?)
+    let mut units = Vec::new(session.alloc);
+    session.model.line(n, &mut units)?;
+    Ok(text_reply(session.alloc, units.as_slice())?)
 }
 
-fn value_reply(alloc: Global, model: &Model, span: Span) -> Outcome
-    ensures { Tells model.now.document (Command.Value span) result model.now.document }
+fn value_reply(session: &Session, span: Span) -> Outcome
+    ensures { Tells session.now (Command.Value span) result session.now }
 {
-    let mut units = Vec::new(alloc);
-    model.value(span, &mut units)?;
-    Ok(text_reply(alloc, units.as_slice())?)
+    let mut units = Vec::new(session.alloc);
+    session.model.value(span, &mut units)?;
+    Ok(text_reply(session.alloc, units.as_slice())?)
 }
 
-fn offset_reply(model: &Model, p: Position) -> Outcome
-    ensures answer { bytes_of_outcome result ≡ offset_answer (flat_offset model.now.document p) }
+fn offset_reply(session: &Session, p: Position) -> Outcome
+    ensures answer { bytes_of_outcome result ≡ offset_answer (flat_offset session.now.document p) }
     ensures accepted { IfOk result (λ reply. is_refused (bytes_of reply) ≡ false) }
 {
-    let offset = model.offset(p).ok_or(Refused(Refusal::Range))?;
+    let offset = session.model.offset(p).ok_or(Refused(Refusal::Range))?;
     Ok(Reply::Short(Short::ok(&[offset])))
 }
 
-fn position_reply(model: &Model, offset: u64) -> Outcome
+fn position_reply(session: &Session, offset: u64) -> Outcome
     ensures answer { bytes_of_outcome result
-        ≡ position_answer (flat_position model.now.document offset) }
+        ≡ position_answer (flat_position session.now.document offset) }
     ensures accepted { IfOk result (λ reply. is_refused (bytes_of reply) ≡ false) }
 {
-    let p = model.position(offset).ok_or(Refused(Refusal::Range))?;
+    let p = session
+        .model
+        .position(offset)
+        .ok_or(Refused(Refusal::Range))?;
     Ok(Reply::Short(Short::ok(&[p.line, p.column])))
 }
 

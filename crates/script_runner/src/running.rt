@@ -10,8 +10,8 @@ ghost use Rattle.script_runner.specs.Runs.{most_script_bytes, number_of, status_
 
 use crate::playing::play;
 use crate::serving::{Served, serve};
+use crate::session::Session;
 use crate::words::{Words, words_of};
-use model_core::Model;
 use script_streams::{Sink, Source, write_whole};
 use std::alloc::{AllocError, Global};
 
@@ -136,10 +136,9 @@ fn run<S: Source, K: Sink>(alloc: Global, src: &mut S, out: &mut K) -> Status
     let Ok(mut buf) = read_buffer(alloc) else {
         return Status::Memory;
     };
-    let mut model = Model::new(alloc);
+    let mut session = Session::new(alloc);
     let served = serve(
-        alloc,
-        &mut model,
+        &mut session,
         src,
         out,
         buf.as_mut_slice(),

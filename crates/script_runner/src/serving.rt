@@ -10,8 +10,8 @@ ghost use Rattle.script_runner.specs.Serving.{Serves, Finishes};
 use crate::line::PartialLine;
 use crate::outcome::{Outcome, Refused, write_outcome};
 use crate::reply::reply_at_end;
+use crate::session::Session;
 use memchr::memchr;
-use model_core::Model;
 use script_lines::Refusal;
 use script_streams::{Failed, Sink, Source};
 use std::alloc::Global;
@@ -84,18 +84,17 @@ fn is_for_memory(outcome: &Outcome) -> bool
 /// Reads the script line by line, carries out each command, and writes its whole reply before the next command. Takes
 /// at most `most` bytes, and makes no read after them. A last line without LF is a whole line when the end was seen.
 pub fn serve<S: Source, K: Sink>(
-    alloc: Global,
-    model: &mut Model,
+    session: &mut Session,
     src: &mut S,
     out: &mut K,
     buf: &mut [u8],
     most: u64,
 ) -> Served
     requires { 0 < length buf.old }
-    ensures { Serves result most model.old.document model.new.document
+    ensures { Serves result most session.old session.new
         (S.state src.old) (S.state src.new) (K.state out.old) (K.state out.new) }
 {
-    let mut progress = Progress::new(alloc);
+    let mut progress = Progress::new(session.alloc);
     let mut left = most;
     while left > 0 {
         let room = buf.len().min(left as usize);
@@ -103,10 +102,10 @@ pub fn serve<S: Source, K: Sink>(
             return Served::ReadFault;
         };
         if given == 0 {
-            return finish(alloc, model, progress, out);
+            return finish(session, progress, out);
         }
         left -= given as u64;
-        if answer_piece(alloc, model, &mut progress, &buf[..given], out).is_err() {
+        if answer_piece(session, &mut progress, &buf[..given], out).is_err() {
             return Served::WriteFault;
         }
     }
@@ -114,14 +113,14 @@ pub fn serve<S: Source, K: Sink>(
 }
 
 /// Answers the last line, if the script does not end with LF.
-fn finish<K: Sink>(alloc: Global, model: &mut Model, mut progress: Progress, out: &mut K) -> Served
-    ensures { Finishes result model.old.document progress model.new.document
+fn finish<K: Sink>(session: &mut Session, mut progress: Progress, out: &mut K) -> Served
+    ensures { Finishes result session.old progress session.new
         (K.state out.old) (K.state out.new) }
 {
     if progress.line.len == 0 {
         return progress.ended();
     }
-    match answer_line(alloc, model, &mut progress, &[], out) {
+    match answer_line(session, &mut progress, &[], out) {
         Ok(()) => progress.ended(),
         Err(Failed) => Served::WriteFault,
     }
@@ -129,16 +128,15 @@ fn finish<K: Sink>(alloc: Global, model: &mut Model, mut progress: Progress, out
 
 /// Answers the line that these bytes end.
 fn answer_line<K: Sink>(
-    alloc: Global,
-    model: &mut Model,
+    session: &mut Session,
     progress: &mut Progress,
     end: &[u8],
     out: &mut K,
 ) -> Result<(), Failed>
-    ensures { AnswersLine result end.now model.old.document progress.old
-        model.new.document progress.new (K.state out.old) (K.state out.new) }
+    ensures { AnswersLine result end.now session.old progress.old
+        session.new progress.new (K.state out.old) (K.state out.new) }
 {
-    let outcome = reply_at_end(alloc, model, &mut progress.line, end);
+    let outcome = reply_at_end(session, &mut progress.line, end);
     write_outcome(&outcome, out)?;
     progress.count(&outcome);
     progress.line.clear();
@@ -147,18 +145,17 @@ fn answer_line<K: Sink>(
 
 /// Answers each line that the piece of the script completes, and keeps what comes after the last of them.
 fn answer_piece<K: Sink>(
-    alloc: Global,
-    model: &mut Model,
+    session: &mut Session,
     progress: &mut Progress,
     piece: &[u8],
     out: &mut K,
 ) -> Result<(), Failed>
-    ensures { AnswersPiece result piece.now model.old.document progress.old
-        model.new.document progress.new (K.state out.old) (K.state out.new) }
+    ensures { AnswersPiece result piece.now session.old progress.old
+        session.new progress.new (K.state out.old) (K.state out.new) }
 {
     let mut rest = piece;
     while let Some((line, after)) = split_line(rest) {
-        answer_line(alloc, model, progress, line, out)?;
+        answer_line(session, progress, line, out)?;
         rest = after;
     }
     progress.line.extend(rest);

@@ -7,41 +7,41 @@ ghost use Rattle.script_runner.specs.Bytes.{bytes_of};
 
 use crate::outcome::{Outcome, Reply};
 use crate::reply::text_reply;
-use model_core::Model;
+use crate::session::Session;
 use script_lines::{Command, Short, long_begin, long_end, long_number};
 use std::alloc::{AllocError, Global};
 
-pub(crate) fn snapshot_reply(model: &mut Model) -> Outcome
-    ensures { Tells model.old.document Command.Snapshot result model.new.document }
+pub(crate) fn snapshot_reply(session: &mut Session) -> Outcome
+    ensures { Tells session.old Command.Snapshot result session.new }
 {
-    let id = model.snapshot()?;
+    let id = session.model.snapshot()?;
     Ok(Reply::Short(Short::ok(&[id])))
 }
 
 /// The units are passed only when the reply stands, so want of memory leaves the snapshot as it was.
-pub(crate) fn read_reply(alloc: Global, model: &mut Model, id: u64, count: u64) -> Outcome
-    ensures { Tells model.old.document (Command.Read id count) result model.new.document }
+pub(crate) fn read_reply(session: &mut Session, id: u64, count: u64) -> Outcome
+    ensures { Tells session.old (Command.Read id count) result session.new }
 {
-    let mut units = Vec::new(alloc);
-    model.peek(id, count, &mut units)?;
-    let reply = text_reply(alloc, units.as_slice())?;
-    model.skip(id, units.len() as u64);
+    let mut units = Vec::new(session.alloc);
+    session.model.peek(id, count, &mut units)?;
+    let reply = text_reply(session.alloc, units.as_slice())?;
+    session.model.skip(id, units.len() as u64);
     Ok(reply)
 }
 
-pub(crate) fn close_reply(model: &mut Model, id: u64) -> Outcome
-    ensures { Tells model.old.document (Command.Close id) result model.new.document }
+pub(crate) fn close_reply(session: &mut Session, id: u64) -> Outcome
+    ensures { Tells session.old (Command.Close id) result session.new }
 {
-    model.close(id)?;
+    session.model.close(id)?;
     Ok(Reply::Short(Short::ok(&[])))
 }
 
-pub(crate) fn stops_reply(alloc: Global, model: &Model, n: u64) -> Outcome
-    ensures { Tells model.now.document (Command.Stops n) result model.now.document }
+pub(crate) fn stops_reply(session: &Session, n: u64) -> Outcome
+    ensures { Tells session.now (Command.Stops n) result session.now }
 {
-    let mut columns = Vec::new(alloc);
-    model.stops(n, &mut columns)?;
-    Ok(numbers_reply(alloc, columns.as_slice())?)
+    let mut columns = Vec::new(session.alloc);
+    session.model.stops(n, &mut columns)?;
+    Ok(numbers_reply(session.alloc, columns.as_slice())?)
 }
 
 fn numbers_reply(alloc: Global, numbers: &[u64]) -> Result<Reply, AllocError>

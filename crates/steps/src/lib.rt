@@ -1,10 +1,14 @@
-//! A counter of steps, which costs nothing at run time.
+//! A counter of steps, and a list of numbers, which only proofs read and which cost nothing at run time.
 #![tactic(auto)]
 
-ghost use Rattle.std.specs.Prelude.{◌≡◌, ◌+◌, ◌<◌};
+mod trail;
+
+ghost use Rattle.std.specs.Prelude.{◌≡◌, ◌+◌};
+ghost use Rattle.steps.specs.Counting.{IsFor};
 
 use std::marker::Model;
 use std::sync::ledger::{Blank, Book, Ledger, Share};
+pub use trail::Trail;
 
 /// How many steps were taken, for any ledger `L`. It takes no bytes, and only `tick` changes it.
 ///
@@ -28,9 +32,7 @@ impl<L: Ledger> Model for Steps<L> {
 impl<L: Ledger> Steps<L> {
     /// No step yet, in a ledger that nothing stands for so far.
     pub fn new(blank: Blank) -> Steps<L>
-        requires name { blank.name ≡ L.name }
-        requires parts { blank.parts ≡ L.parts }
-        requires some { 0 < L.parts }
+        requires { IsFor L.Ledger blank }
         ensures { result ≡ 0 }
     {
         let (book, share) = blank.open();

@@ -12,11 +12,11 @@ use Rattle.piece_tree.specs.Pieces.{Pieces, pieces_of, unit_count, StandsAt, Has
 use Rattle.text_rules.specs.Lines.{line_feed, carriage_return, begins_with}
 use Rattle.text_rules.specs.Breaks.{ends_with, joins_pair}
 use Rattle.text_rules.proofs.Breaks.{and_false, ends_with_push}
-use Rattle.text_buffer.specs.declared.spot.Spot.{Spot}
+use Rattle.text_buffer.specs.declared.edit.Spot.{Spot}
 use Rattle.text_buffer.specs.declared.beside.Rests.{Rests}
 use Rattle.text_buffer.specs.declared.beside.TheConstants.{MOST_BREAKS_ALONG}
 use Rattle.text_buffer.specs.Text.{spelled, IsText, unit_if, most_along}
-use Rattle.text_buffer.specs.LookUps.{IsSpot}
+use Rattle.text_buffer.specs.Edits.{IsSpot}
 use Rattle.text_buffer.specs.Along.{is_little, if_little, rest_before, rest_behind, rests_of, units_along}
 use Rattle.text_buffer.proofs.AddedBreaks.{one_break_most}
 use Rattle.text_buffer.proofs.Borders.{begins_with-append, begins_with-take, ends_with-append, ends_with-drop}
@@ -141,68 +141,74 @@ module _ (tree : Pieces) (chunks : Shown) (is : IsText tree chunks) where
       let lies = found_inside chunks.buffers tree.entries found at.piece is.pieces in
       record { buffer = lies.buffer; few = lies.few; end = omega (arith, lies.end, ordered, within); fits = omega (arith, lies.fits, ordered, within) }
 
-  front_little : (found : Found) (offset : ℕ) (joins : Bool) → HasUnit tree.entries found offset → IsLittle chunks.buffers (part_of found.span 0 (offset - found.before.units))
-      → IsFrontAlong (spelled chunks.buffers (pieces_of tree.entries)) offset joins (units_at chunks.buffers (part_of found.span 0 (offset - found.before.units)))
-  front_little found offset joins at little =
-      let n : ℕ = offset - found.before.units in
-      let y = earlier_text chunks.buffers tree.entries found at.piece is.pieces in
-      let w = own_text chunks.buffers tree.entries found at.piece is.pieces in
-      let z = later_text chunks.buffers tree.entries found at.piece is.pieces in
-      let text = found_text chunks.buffers tree.entries found at.piece is.pieces in
-      let start = found_start chunks.buffers tree.entries found at.piece is.pieces in
-      let size = found_size chunks.buffers tree.entries found at.piece is.pieces in
-      let u_is : units_at chunks.buffers (part_of found.span 0 n) ≡ take n w =
-      front_of_piece chunks.buffers (record { span = found.span; breaks = found.breaks }) n (own_is chunks.buffers tree.entries found at.piece is.pieces) (omega (arith, at.start, at.end)) in
-      let u = units_at chunks.buffers (part_of found.span 0 n) in
-      let long : length u ≡ n = ap length u_is ∙ length-take-le n w (omega (arith, size, at.start, at.end)) in
-      let back : offset - length u ≡ found.before.units = omega (arith, long, at.start) in
-      let front : take (offset - length u) (spelled chunks.buffers (pieces_of tree.entries)) ≡ y =
-      ap (λ (k : ℕ). take k (spelled chunks.buffers (pieces_of tree.entries))) back ∙ ap (take found.before.units) text ∙ take_at y (w ++ z) found.before.units start in
-      let own : take n (w ++ z) ≡ take n w = take-append-le n w z (omega (arith, size, at.start, at.end)) in
-      let none : joins_pair y (units_at chunks.buffers (part_of found.span 0 n)) ≡ false =
-      ap (joins_pair y) (u_is ∙ sym own) ∙ begins_with-take n y (w ++ z) (parts chunks.buffers tree.entries found at.piece is.pieces is.full is.unsplit).0 in
-      record {
-        few = omega (arith, long, little.few);
-        breaks = little.breaks;
-        there = omega (arith, long, at.start);
-        before = ap (λ s. s ++ u) front ∙ ap (λ s. y ++ s) (u_is ∙ sym own)
-            ∙ sym (ap (take offset) text ∙ take-past offset found.before.units y (w ++ z) (sym start) at.start);
-        apart = λ rest e. ap (λ s. joins_pair s (u ++ rest)) front
-            ∙ ap (λ f. ends_with carriage_return y && f) (begins_with-append line_feed u rest (omega (arith, long, little.some))) ∙ none;
-      }
+  -- a place in a piece that was looked up, and the texts before the piece, in it and behind it
+  module _ (found : Found) (offset : ℕ) (joins : Bool) (at : HasUnit tree.entries found offset) where
+    abbrev n : ℕ
+    n = offset - found.before.units
 
-  back_little : (found : Found) (offset : ℕ) (joins : Bool) → HasUnit tree.entries found offset
-      → IsLittle chunks.buffers (part_of found.span (offset - found.before.units) found.span.units)
-      → IsBackAlong (spelled chunks.buffers (pieces_of tree.entries)) offset joins (units_at chunks.buffers (part_of found.span (offset - found.before.units) found.span.units))
-  back_little found offset joins at little =
-      let n : ℕ = offset - found.before.units in
-      let y = earlier_text chunks.buffers tree.entries found at.piece is.pieces in
-      let w = own_text chunks.buffers tree.entries found at.piece is.pieces in
-      let z = later_text chunks.buffers tree.entries found at.piece is.pieces in
-      let text = found_text chunks.buffers tree.entries found at.piece is.pieces in
-      let start = found_start chunks.buffers tree.entries found at.piece is.pieces in
-      let size = found_size chunks.buffers tree.entries found at.piece is.pieces in
-      let u_is : units_at chunks.buffers (part_of found.span n found.span.units) ≡ drop n w =
-      back_of_piece chunks.buffers (record { span = found.span; breaks = found.breaks }) n (own_is chunks.buffers tree.entries found at.piece is.pieces) (omega (arith, at.start, at.end)) in
-      let u = units_at chunks.buffers (part_of found.span n found.span.units) in
-      let long : length u ≡ found.span.units - n = ap length u_is ∙ length-drop n w ∙ ap (λ (k : ℕ). k - n) size in
-      let ends : offset + length u ≡ found.before.units + found.span.units = omega (arith, long, at.start, at.end) in
-      let last : found.before.units + found.span.units - found.before.units ≡ length w = omega (arith, size) in
-      let rest : drop (offset + length u) (spelled chunks.buffers (pieces_of tree.entries)) ≡ z =
-      ap (λ (k : ℕ). drop k (spelled chunks.buffers (pieces_of tree.entries))) ends ∙ ap (drop (found.before.units + found.span.units)) text
-      ∙ drop-past (found.before.units + found.span.units) found.before.units y (w ++ z) (sym start) (omega arith)
-      ∙ drop_at w z (found.before.units + found.span.units - found.before.units) (sym last) in
-      record {
-        few = omega (arith, long, little.few);
-        breaks = little.breaks;
-        there = omega (arith, ends, found_reach chunks.buffers tree.entries found at.piece is.pieces);
-        behind = ap (λ s. u ++ s) rest ∙ ap (λ s. s ++ z) u_is ∙ sym (found_rest chunks.buffers tree.entries found at.piece is.pieces offset at.start at.end);
-        apart = λ front e. ap (joins_pair (front ++ u)) rest
-            ∙ ap (λ f. f && begins_with line_feed z)
-            (ends_with-append carriage_return front u (omega (arith, long, little.some)) ∙ ap (ends_with carriage_return) u_is
-            ∙ ends_with-drop carriage_return n w (omega (arith, size, at.start, at.end)))
-            ∙ (parts chunks.buffers tree.entries found at.piece is.pieces is.full is.unsplit).1.1.0;
-      }
+    abbrev y : List ℕ
+    y = earlier_text chunks.buffers tree.entries found at.piece is.pieces
+
+    abbrev w : List ℕ
+    w = own_text chunks.buffers tree.entries found at.piece is.pieces
+
+    abbrev z : List ℕ
+    z = later_text chunks.buffers tree.entries found at.piece is.pieces
+
+    text : x ≡ y ++ (w ++ z)
+    text = found_text chunks.buffers tree.entries found at.piece is.pieces
+
+    start : length y ≡ found.before.units
+    start = found_start chunks.buffers tree.entries found at.piece is.pieces
+
+    size : length w ≡ found.span.units
+    size = found_size chunks.buffers tree.entries found at.piece is.pieces
+
+    front_little : IsLittle b (part_of found.span 0 n) → IsFrontAlong x offset joins (units_at b (part_of found.span 0 n))
+    front_little little =
+        let u_is : units_at b (part_of found.span 0 n) ≡ take n w =
+        front_of_piece b (record { span = found.span; breaks = found.breaks }) n (own_is b tree.entries found at.piece is.pieces) (omega (arith, at.start, at.end)) in
+        let u = units_at b (part_of found.span 0 n) in
+        let long : length u ≡ n = ap length u_is ∙ length-take-le n w (omega (arith, size, at.start, at.end)) in
+        let back : offset - length u ≡ found.before.units = omega (arith, long, at.start) in
+        let front : take (offset - length u) x ≡ y =
+        ap (λ (k : ℕ). take k x) back ∙ ap (take found.before.units) text ∙ take_at y (w ++ z) found.before.units start in
+        let own : take n (w ++ z) ≡ take n w = take-append-le n w z (omega (arith, size, at.start, at.end)) in
+        let none : joins_pair y (units_at b (part_of found.span 0 n)) ≡ false =
+        ap (joins_pair y) (u_is ∙ sym own) ∙ begins_with-take n y (w ++ z) (parts b tree.entries found at.piece is.pieces is.full is.unsplit).0 in
+        record {
+          few = omega (arith, long, little.few);
+          breaks = little.breaks;
+          there = omega (arith, long, at.start);
+          before = ap (λ s. s ++ u) front ∙ ap (λ s. y ++ s) (u_is ∙ sym own)
+              ∙ sym (ap (take offset) text ∙ take-past offset found.before.units y (w ++ z) (sym start) at.start);
+          apart = λ rest e. ap (λ s. joins_pair s (u ++ rest)) front
+              ∙ ap (λ f. ends_with carriage_return y && f) (begins_with-append line_feed u rest (omega (arith, long, little.some))) ∙ none;
+        }
+
+    back_little : IsLittle b (part_of found.span n found.span.units) → IsBackAlong x offset joins (units_at b (part_of found.span n found.span.units))
+    back_little little =
+        let u_is : units_at b (part_of found.span n found.span.units) ≡ drop n w =
+        back_of_piece b (record { span = found.span; breaks = found.breaks }) n (own_is b tree.entries found at.piece is.pieces) (omega (arith, at.start, at.end)) in
+        let u = units_at b (part_of found.span n found.span.units) in
+        let long : length u ≡ found.span.units - n = ap length u_is ∙ length-drop n w ∙ ap (λ (k : ℕ). k - n) size in
+        let ends : offset + length u ≡ found.before.units + found.span.units = omega (arith, long, at.start, at.end) in
+        let last : found.before.units + found.span.units - found.before.units ≡ length w = omega (arith, size) in
+        let rest : drop (offset + length u) x ≡ z =
+        ap (λ (k : ℕ). drop k x) ends ∙ ap (drop (found.before.units + found.span.units)) text
+        ∙ drop-past (found.before.units + found.span.units) found.before.units y (w ++ z) (sym start) (omega arith)
+        ∙ drop_at w z (found.before.units + found.span.units - found.before.units) (sym last) in
+        record {
+          few = omega (arith, long, little.few);
+          breaks = little.breaks;
+          there = omega (arith, ends, found_reach b tree.entries found at.piece is.pieces);
+          behind = ap (λ s. u ++ s) rest ∙ ap (λ s. s ++ z) u_is ∙ sym (found_rest b tree.entries found at.piece is.pieces offset at.start at.end);
+          apart = λ front e. ap (joins_pair (front ++ u)) rest
+              ∙ ap (λ f. f && begins_with line_feed z)
+              (ends_with-append carriage_return front u (omega (arith, long, little.some)) ∙ ap (ends_with carriage_return) u_is
+              ∙ ends_with-drop carriage_return n w (omega (arith, size, at.start, at.end)))
+              ∙ (parts b tree.entries found at.piece is.pieces is.full is.unsplit).1.1.0;
+        }
 
   -- what an edit takes along, whichever it is
   module _ (spot : Spot) (there : IsSpot tree chunks spot) (within : spot.offset ≤ length (spelled chunks.buffers (pieces_of tree.entries))) where

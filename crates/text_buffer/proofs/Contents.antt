@@ -115,6 +115,8 @@ ends_with_pair_long [] e = absurd cc
 ends_with_pair_long (u ∷ []) e = absurd cc
 ends_with_pair_long (u ∷ v ∷ x) e = omega arith
 
+pub ruleset pair_ends = (ends_with_pair_at, ends_with_pair_short, ends_with_pair_long)
+
 -- the text of some lines
 abbrev text_of_lines : List Line → List ℕ
 text_of_lines lines = flat_map (λ l. l.content ++ l.break) lines

@@ -7,10 +7,10 @@ use Rattle.std.proofs.lemmas.List.Elements.{All-cons, All-nil, All-append}
 use Rattle.chunk_buffers.specs.declared.span.ChunkSpan.{ChunkSpan}
 use Rattle.chunk_buffers.specs.Chunks.{units_at, LiesIn, Extends}
 use Rattle.piece_tree.specs.declared.piece.Piece.{Piece}
-use Rattle.piece_tree.specs.Pieces.{unit_count, piece_of, piece_list, followed_by, IsPieceOf, spliced}
+use Rattle.piece_tree.specs.Pieces.{unit_count, piece_of, piece_list, listed, span_of, followed_by, IsPieceOf, spliced}
 use Rattle.piece_tree.specs.Pieces as P
 use Rattle.piece_tree.proofs.Cuts.{pieces-front}
-use Rattle.piece_tree.proofs.Prolonged.{pieces-spliced, pieces-followed_by, length-followed_by}
+use Rattle.piece_tree.proofs.Prolonged.{listed_is, pieces-spliced, pieces-followed_by, length-followed_by}
 use Rattle.text_rules.specs.Breaks.{joins_pair}
 use Rattle.text_buffer.specs.Text.{spelled, IsUnsplit, IsAdded}
 use Rattle.text_buffer.proofs.Spelling.{spelled-append, spelled-front, spelled-back, length-spelled}
@@ -121,9 +121,13 @@ module _ (x text front after : List ℕ) (start end : ℕ) (front_joins back_joi
       subst (λ (qs : List Piece). IsReplaced b ps qs x text start end) (sym pieces_are)
       (IsReplaced-at old_b b ps span grown all full unsplit x_is ordered added)
 
-pub units-added : (b : List (List ℕ)) (span : Option ChunkSpan) (units : List ℕ) → IsAdded b span units → unit_count (piece_list b span) ≡ length units
-units-added b span units added =
-    sym (length-spelled b (piece_list b span) (added_pieces b span units added)) ∙ ap length (added_text b span units added)
+-- a counted piece has the units that were added
+pub units-listed : (b : List (List ℕ)) (piece : Option Piece) (units : List ℕ) → IsAdded b (span_of piece) units → ForSome piece (IsPieceOf b)
+    → unit_count (listed piece) ≡ length units
+units-listed b piece units added counted =
+    let span = span_of piece in
+    sym (ap unit_count (listed_is b piece counted)) ∙ sym (length-spelled b (piece_list b span) (added_pieces b span units added))
+    ∙ ap length (added_text b span units added)
 
 pub length-edited : (x text : List ℕ) (start end : ℕ) → start ≤ length x → length (take start x ++ text ++ drop end x) ≡ start + length text + (length x - end)
 length-edited x text start end within =

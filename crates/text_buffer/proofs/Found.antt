@@ -63,6 +63,18 @@ breaks_of_pieces b (p ∷ ps) all a =
 pub line_count_of_pieces : (b : List (List ℕ)) (ps : List Piece) → All (IsPieceOf b) ps → IsUnsplit b ps → break_count_of ps + 1 ≡ length (lines_of (spelled b ps))
 line_count_of_pieces b ps all a = omega (arith, breaks_of_pieces b ps all a, line_count_is (spelled b ps))
 
+pub lines_of_pieces : (b : List (List ℕ)) (ps : List Piece) → All (IsPieceOf b) ps → IsUnsplit b ps → length (lines_of (spelled b ps)) ≡ break_count_of ps + 1
+lines_of_pieces b ps all a = sym (line_count_of_pieces b ps all a)
+
+pub all_breaks : (b : List (List ℕ)) (ps : List Piece) → All (IsPieceOf b) ps → IsUnsplit b ps
+    → count_to (length (spelled b ps)) (break_ends 0 (spelled b ps)) ≡ break_count_of ps
+all_breaks b ps all a =
+    let x : List ℕ = spelled b ps in
+    count_to_all 0 (length x) x (omega arith) ∙ sym (breaks_of_pieces b ps all a)
+
+-- the text has as many units, breaks and lines as the pieces count
+pub ruleset sizes = (length-spelled, lines_of_pieces, all_breaks)
+
 -- what the pieces count, in the text that contracts see
 pub units_shown : (tree : Pieces) (chunks : Shown) (seen : Text) → IsText tree chunks → text_of tree chunks ≡ seen
     → unit_count (pieces_of tree.entries) ≡ length seen.units

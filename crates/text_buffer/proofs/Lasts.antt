@@ -4,6 +4,7 @@ use Rattle.std.proofs.lemmas.List.{length-take-le, get_or-take}
 use Rattle.text_rules.specs.Lines.{line_feed, carriage_return, begins_with}
 use Rattle.text_rules.specs.Breaks.{ends_with, joins_pair}
 use Rattle.text_rules.proofs.Breaks.{ends_with_last}
+use Rattle.text_buffer.proofs.Spelling.{length-spelled}
 use Rattle.text_buffer.proofs.Borders.{ends_with-append}
 
 pub ends_with_at : (x : List ℕ) (offset : ℕ) → 0 < offset → offset ≤ length x → ends_with carriage_return (take offset x) ≡ (get_or x (offset - 1) 0 == carriage_return)
@@ -21,3 +22,5 @@ pub joins_pair_after : (before text after : List ℕ) → 0 < length text → be
 joins_pair_after before text after some lf =
     ap (λ b. ends_with carriage_return (before ++ text) && b) lf ∙ and_true (ends_with carriage_return (before ++ text))
     ∙ ends_with-append carriage_return before text some ∙ ends_with_last text
+
+pub ruleset last_units = (ends_with_at, length-spelled)

@@ -7,6 +7,7 @@ pub mod FirstLines
 pub mod Found
 pub mod Walks
 pub mod LineWalks
+pub mod RunWalks
 pub mod Followed
 pub mod Edited
 pub mod Growing

@@ -13,9 +13,9 @@ use Rattle.piece_tree.specs.declared.piece.Found.{Found}
 use Rattle.piece_tree.specs.Pieces.{Pieces, Entry, pieces_of, unit_count, sum_of, first_of, IsPieceOf, IsFound, IsAmong}
 use Rattle.text_rules.specs.Lines.{Line, lines_of, line_length, line_start, line_at, line_feed, begins_with, carriage_return}
 use Rattle.text_rules.specs.Breaks.{joins_pair}
-use Rattle.text_buffer.specs.declared.place.Place.{Place}
+use Rattle.text_buffer.specs.declared.cursor.Cursor.{Cursor}
 use Rattle.text_buffer.specs.Text.{text_of, spelled, IsText, IsUnsplit}
-use Rattle.text_buffer.specs.Places.{IsPlace, text_from, StartsAt}
+use Rattle.text_buffer.specs.Places.{IsPlace, text_from, IsAt, StartsAt}
 use Rattle.text_buffer.proofs.Spelling.{length-units_at, length-spelled, drop-past}
 use Rattle.text_buffer.proofs.Borders.{ends_with-append}
 use Rattle.text_buffer.proofs.Contents.{line_at_is}
@@ -35,7 +35,7 @@ module _ (b : List (List ℕ)) where
   rest_of_span span rest at lies within is =
       is ∙ take_all (span.units - at) (drop at (units_at b span)) (omega (arith, length-drop at (units_at b span), length-units_at b span lies))
 
-  module _ (entries : List Entry) (place : Place) (is : IsPlace b entries place) where
+  module _ (entries : List Entry) (place : Cursor) (is : IsPlace b entries place) where
     abbrev found : Found
     found = record { id = place.id; span = is.piece.span; breaks = is.piece.breaks; before = sum_of (pieces_of is.earlier) }
 
@@ -61,16 +61,29 @@ module _ (b : List (List ℕ)) where
         ∙ ap (λ s. spelled b (pieces_of is.earlier) ++ s) (ap (λ s. s ++ later) is.units ∙ append_assoc is.before (units_at b place.rest) later)
         ∙ sym (append_assoc (spelled b (pieces_of is.earlier)) is.before (units_at b place.rest ++ later))
 
+  -- the start of the next piece
+  abbrev pub after_place : (entries : List Entry) (place : Cursor) (p : IsPlace b entries place) → All (IsPieceOf b) (pieces_of entries) → (next : ℕ) (span : ChunkSpan)
+      → Some (next, span) ≡ first_of p.later → IsPlace b entries (record { id = next; rest = span })
+  after_place entries place p all next span e = record {
+    earlier = p.earlier ++ record { id = place.id; piece = p.piece } ∷ [];
+    piece = next_piece entries p.earlier place.id p.piece p.later p.among next span e;
+    later = (after_next entries p.earlier place.id p.piece p.later p.among next span e).1.0;
+    among = next_place entries p.earlier place.id p.piece p.later p.among next span e;
+    inside = (next_has entries p.earlier place.id p.piece p.later p.among next span e (IsPieceOf b) all).inside;
+    before = [];
+    units = refl;
+  }
+
   module _ (entries : List Entry) where
     -- Of the text from a place on the walk has copied some units behind old ones, up to another place: no break is among them.
-    pub record Passed (from old out : List ℕ) (place : Place) : Type 0 where
+    pub record Passed (from old out : List ℕ) (place : Cursor) : Type 0 where
       pub is : IsPlace b entries place
       pub units : List ℕ
       pub copied : out ≡ old ++ units
       pub text : from ≡ units ++ text_from b entries place is
       pub lines : lines_of from ≡ in_front units (lines_of (text_from b entries place is))
 
-    pub passed_none : (place : Place) (is : IsPlace b entries place) (old : List ℕ) → Passed (text_from b entries place is) old old place
+    pub passed_none : (place : Cursor) (is : IsPlace b entries place) (old : List ℕ) → Passed (text_from b entries place is) old old place
     passed_none place is old = record {
       is = is;
       units = [];
@@ -80,11 +93,11 @@ module _ (b : List (List ℕ)) where
     }
 
     -- an error leaves the old units in front
-    pub kept : (from old out new : List ℕ) (place : Place) → Passed from old out place → new ≡ out → take (length old) new ≡ old
+    pub kept : (from old out new : List ℕ) (place : Cursor) → Passed from old out place → new ≡ out → take (length old) new ≡ old
     kept from old out new place w same = ap (take (length old)) (same ∙ w.copied) ∙ take_at old w.units (length old) refl
 
     -- what is copied is no longer than the text
-    pub copied_within : All (IsPieceOf b) (pieces_of entries) → (start : Place) (is : IsPlace b entries start) (old out : List ℕ) (place : Place)
+    pub copied_within : All (IsPieceOf b) (pieces_of entries) → (start : Cursor) (is : IsPlace b entries start) (old out : List ℕ) (place : Cursor)
         → Passed (text_from b entries start is) old out place → length out + place.rest.units ≤ length old + unit_count (pieces_of entries)
     copied_within all start is old out place w =
         let own : List ℕ = units_at b place.rest in
@@ -103,7 +116,7 @@ module _ (b : List (List ℕ)) where
         )
 
     -- the rest of a piece that has no break in it
-    module _ (from old out : List ℕ) (place : Place) (w : Passed from old out place) (new : List ℕ)
+    module _ (from old out : List ℕ) (place : Cursor) (w : Passed from old out place) (new : List ℕ)
         (new_is : new ≡ out ++ units_at b place.rest) (none : break_count (units_at b place.rest) ≡ 0) where
       abbrev more : List ℕ
       more = w.units ++ units_at b place.rest
@@ -128,17 +141,8 @@ module _ (b : List (List ℕ)) where
           → Passed from old new (record { id = next; rest = span })
       passed_more all next span e =
           let p : IsPlace b entries place = w.is in
-          let others : List Entry = (after_next entries p.earlier place.id p.piece p.later p.among next span e).1.0 in
           let first = (after_next entries p.earlier place.id p.piece p.later p.among next span e).1.1 in record {
-            is = record {
-              earlier = p.earlier ++ record { id = place.id; piece = p.piece } ∷ [];
-              piece = next_piece entries p.earlier place.id p.piece p.later p.among next span e;
-              later = others;
-              among = next_place entries p.earlier place.id p.piece p.later p.among next span e;
-              inside = (next_has entries p.earlier place.id p.piece p.later p.among next span e (IsPieceOf b) all).inside;
-              before = [];
-              units = refl;
-            };
+            is = after_place entries place p all next span e;
             units = more;
             copied = copied_more;
             text = w.text ∙ sym (append_assoc w.units (units_at b place.rest) (spelled b (pieces_of p.later)))
@@ -174,42 +178,22 @@ module _ (b : List (List ℕ)) where
         ∙ drop-append-le own (units_at b f.span) after (omega (arith, within, found_size b entries f is all))
         ∙ ap (λ s. s ++ after) (sym rest_units))
 
--- the first line starts at the first piece
-pub starts_first : (tree : Pieces) (chunks : Shown) (id : ℕ) (span : ChunkSpan) → All (IsPieceOf chunks.buffers) (pieces_of tree.entries) → Some (id, span) ≡ first_of tree.entries
-    → StartsAt tree chunks 1 (record { id = id; rest = span })
-starts_first tree chunks id span all e =
-    let (breaks, (later, is)) = first_there tree.entries id span e in
-    let piece : Piece = record { span = span; breaks = breaks } in record {
-      first = omega arith;
-      there = omega (arith, some_line (spelled chunks.buffers (pieces_of tree.entries)));
-      is = record {
-        earlier = [];
-        piece = piece;
-        later = later;
-        among = is;
-        inside = (All-head (IsPieceOf chunks.buffers) piece (pieces_of later) (subst (λ es. All (IsPieceOf chunks.buffers) (pieces_of es)) is all)).inside;
-        before = [];
-        units = refl;
-      };
-      text = sym (ap (λ es. spelled chunks.buffers (pieces_of es)) is);
-    }
-
-module _ (tree : Pieces) (chunks : Shown) (n : ℕ) (start : Place) (s : StartsAt tree chunks n start) where
+module _ (tree : Pieces) (chunks : Shown) (n : ℕ) (start : Cursor) (s : StartsAt tree chunks n start) where
   abbrev x : List ℕ
   x = (text_of tree chunks).units
 
   abbrev from : List ℕ
-  from = text_from chunks.buffers tree.entries start s.is
+  from = text_from chunks.buffers tree.entries start s.at.is
 
   -- the line that starts there is the first one from there on
   line_is : (line : Line) → line_at x n ≡ Some line → line ≡ first_line (lines_of from)
   line_is line e =
       let found = line_at_is x n line s.first s.there in
       let same : get_or (lines_of x) (n - 1) line ≡ line = cc in
-      sym (ap (λ t. first_line (lines_of t)) s.text ∙ first_from x n line s.first s.there ∙ same)
+      sym (ap (λ t. first_line (lines_of t)) s.at.text ∙ first_from x n line s.first s.there ∙ same)
 
   count : length (lines_of from) ≡ length (lines_of x) - (n - 1)
-  count = ap length (ap lines_of s.text ∙ lines_from x n s.first s.there) ∙ length-drop (n - 1) (lines_of x)
+  count = ap length (ap lines_of s.at.text ∙ lines_from x n s.first s.there) ∙ length-drop (n - 1) (lines_of x)
 
   -- where the walk comes to the end of the text
   pub end_content : (old new content : List ℕ) (line : Line) → new ≡ old ++ content → lines_of from ≡ record { content = content; break = [] } ∷ [] → line_at x n ≡ Some line
@@ -221,7 +205,7 @@ module _ (tree : Pieces) (chunks : Shown) (n : ℕ) (start : Place) (s : StartsA
   end_number content e = omega (arith, count, ap length e, s.first, s.there)
 
   -- where it comes to a break
-  module _ (text : IsText tree chunks) (old out : List ℕ) (place : Place) (w : Passed chunks.buffers tree.entries from old out place)
+  module _ (text : IsText tree chunks) (old out : List ℕ) (place : Cursor) (w : Passed chunks.buffers tree.entries from old out place)
       (some : break_count (units_at chunks.buffers place.rest) ≡ 0 → ⊥) where
     abbrev own : List ℕ
     own = units_at chunks.buffers place.rest
@@ -262,11 +246,11 @@ module _ (tree : Pieces) (chunks : Shown) (n : ℕ) (start : Place) (s : StartsA
           let m : ℕ = length w.units in
           let whole : Line = record { content = w.units ++ f.content; break = f.break } in
           let long : line_length (first_line (lines_of (drop (line_start x n) x))) ≡ m + end =
-          ap (λ t. line_length (first_line (lines_of t))) (sym s.text) ∙ ap (λ ls. line_length (first_line ls)) lines_broken
+          ap (λ t. line_length (first_line (lines_of t))) (sym s.at.text) ∙ ap (λ ls. line_length (first_line ls)) lines_broken
           ∙ omega (arith, length-append w.units f.content, size) in
           let there : line_start x (n + 1) ≡ line_start x n + (m + end) = next_start x n s.first s.there ∙ ap (λ (k : ℕ). line_start x n + k) long in
           let place : m + end - m ≡ end = omega arith in
-          sym (ap (λ (k : ℕ). drop k x) there ∙ sym (drop-drop (m + end) (line_start x n) x) ∙ ap (drop (m + end)) (sym s.text ∙ w.text)
+          sym (ap (λ (k : ℕ). drop k x) there ∙ sym (drop-drop (m + end) (line_start x n) x) ∙ ap (drop (m + end)) (sym s.at.text ∙ w.text)
           ∙ drop-past (m + end) m w.units (own ++ after) refl (omega arith) ∙ ap (λ (k : ℕ). drop k (own ++ after)) place
           ∙ drop-append-le end own after within ∙ ap (λ t. t ++ after) (sym left_units))
 
@@ -274,17 +258,19 @@ module _ (tree : Pieces) (chunks : Shown) (n : ℕ) (start : Place) (s : StartsA
       break_next = record {
         first = omega arith;
         there = omega (arith, count, ap length lines_broken, some_line (drop (line_length f) own ++ after), s.first, s.there);
-        is = record {
-          earlier = w.is.earlier;
-          piece = w.is.piece;
-          later = w.is.later;
-          among = w.is.among;
-          inside = lies;
-          before = w.is.before ++ take end own;
-          units = w.is.units ∙ ap (λ t. w.is.before ++ t) (sym (take-append-drop end own))
-              ∙ sym (append_assoc w.is.before (take end own) (drop end own)) ∙ ap (λ t. (w.is.before ++ take end own) ++ t) (sym left_units);
+        at = record {
+          is = record {
+            earlier = w.is.earlier;
+            piece = w.is.piece;
+            later = w.is.later;
+            among = w.is.among;
+            inside = lies;
+            before = w.is.before ++ take end own;
+            units = w.is.units ∙ ap (λ t. w.is.before ++ t) (sym (take-append-drop end own))
+                ∙ sym (append_assoc w.is.before (take end own) (drop end own)) ∙ ap (λ t. (w.is.before ++ take end own) ++ t) (sym left_units);
+          };
+          text = next_text;
         };
-        text = next_text;
       }
 
 pub on_err_always : {T E P : Type 0} (r : Result T E) → P → OnErr r P

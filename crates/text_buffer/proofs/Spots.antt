@@ -13,7 +13,6 @@ use Rattle.text_rules.specs.Lines.{line_feed, carriage_return, begins_with}
 use Rattle.text_rules.specs.Breaks.{ends_with, joins_pair, count_to, break_ends}
 use Rattle.text_rules.proofs.Breaks.{and_false, break_ends-append, count_to_all, count_to_none, count_to-append}
 use Rattle.text_buffer.specs.Text.{spelled, one_if, text_of, IsText}
-use Rattle.text_buffer.specs.LookUps.{units_of}
 use Rattle.text_buffer.proofs.Borders.{ends_with-append, some_spelled}
 use Rattle.text_buffer.proofs.Replacing.{ends_with_split, ends_with_some}
 use Rattle.text_buffer.proofs.Spelling.{length-spelled}
@@ -60,24 +59,6 @@ count_before x place true feed within a f =
     let none = count_to_none (0 + length y) (place - 1) z (omega (arith, long)) in
     let own = count_return (drop place x) (0 + length y) place feed f (omega (arith, long, some, size)) in
     omega (arith, here, before, none, own)
-
-module _ (b : List (List ℕ)) where
-  -- pieces end as the last of them does
-  pub ends_with-last : (entries : List Entry) → All (IsPieceOf b) (pieces_of entries) → All (λ (p : Piece). 0 < p.span.units) (pieces_of entries)
-      → ends_with carriage_return (spelled b (pieces_of entries)) ≡ ends_with carriage_return (units_of b (last_of entries))
-  ends_with-last [] all full = refl
-  ends_with-last (e ∷ []) all full = ap (ends_with carriage_return) (append-nil (units_at b e.piece.span))
-  ends_with-last (e ∷ f ∷ entries) all full =
-      let rest : List Piece = pieces_of (f ∷ entries) in
-      let tail : All (IsPieceOf b) rest = All-tail (IsPieceOf b) e.piece rest all in
-      let full_tail : All (λ (p : Piece). 0 < p.span.units) rest = All-tail (λ (p : Piece). 0 < p.span.units) e.piece rest full in
-      ends_with-append carriage_return (units_at b e.piece.span) (spelled b rest) (some_spelled b f.piece (pieces_of entries) tail full_tail)
-      ∙ ends_with-last (f ∷ entries) tail full_tail
-
-  pub last_inside : (entries : List Entry) → All (IsPieceOf b) (pieces_of entries) → IfSome (last_of entries) (λ named. LiesIn b named.1)
-  last_inside [] all = tt
-  last_inside (e ∷ []) all = (All-head (IsPieceOf b) e.piece [] all).inside
-  last_inside (e ∷ f ∷ entries) all = last_inside (f ∷ entries) (All-tail (IsPieceOf b) e.piece (pieces_of (f ∷ entries)) all)
 
 -- a place that was looked up is one of the text
 pub spot_within : (tree : Pieces) (chunks : Shown) (at : Option Found) (offset : ℕ) → IsText tree chunks → StandsAt tree.entries at offset

@@ -6,7 +6,7 @@ use Rattle.chunk_buffers.specs.Chunks.{units_at, part_of}
 use Rattle.line_starts.specs.Starts.{break_count}
 use Rattle.piece_tree.specs.declared.piece.Found.{Found}
 use Rattle.text_buffer.specs.declared.beside.TheConstants.{MOST_BREAKS_ALONG}
-use Rattle.text_buffer.specs.declared.spot.Spot.{Spot}
+use Rattle.text_buffer.specs.declared.edit.Spot.{Spot}
 use Rattle.text_buffer.specs.declared.beside.Rests.{Rests}
 use Rattle.text_lengths.specs.declared.Span.{Span}
 use Rattle.text_buffer.specs.Text.{Text, most_along, unit_if}

@@ -1,7 +1,7 @@
 -- Worked examples: what an edit takes along.
 use Rattle.std.specs.Prelude.{◌≡◌, ℕ, false, Some, None, List, [], ◌∷◌, codes, refl}
 use Rattle.chunk_buffers.specs.declared.span.ChunkSpan.{ChunkSpan}
-use Rattle.text_buffer.specs.declared.spot.Spot.{Spot}
+use Rattle.text_buffer.specs.declared.edit.Spot.{Spot}
 use Rattle.text_buffer.specs.Along.{rest_before, rests_of}
 
 abbrev span : ℕ → ℕ → ChunkSpan

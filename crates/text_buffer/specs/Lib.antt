@@ -1,7 +1,10 @@
+pub mod Room
 pub mod Text
+pub mod Views
 pub mod Remembering
 pub mod Places
 pub mod LookUps
+pub mod Edits
 pub mod Along
 mod Examples
 pub use Rattle.piece_tree.specs.Costs

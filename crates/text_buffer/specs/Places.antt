@@ -4,11 +4,11 @@ use Rattle.chunk_buffers.specs.Chunks.{Shown, units_at, LiesIn}
 use Rattle.piece_tree.specs.declared.piece.Piece.{Piece}
 use Rattle.piece_tree.specs.Pieces.{Pieces, Entry, pieces_of}
 use Rattle.text_rules.specs.Lines.{lines_of, line_start}
-use Rattle.text_buffer.specs.declared.place.Place.{Place}
+use Rattle.text_buffer.specs.declared.cursor.Cursor.{Cursor}
 use Rattle.text_buffer.specs.Text.{text_of, spelled}
 
 -- the place is in the piece of that name, whose units it has from itself on
-pub record IsPlace (buffers : List (List ℕ)) (entries : List Entry) (place : Place) : Type 0 where
+pub record IsPlace (buffers : List (List ℕ)) (entries : List Entry) (place : Cursor) : Type 0 where
   pub earlier : List Entry
   pub piece : Piece
   pub later : List Entry
@@ -19,17 +19,26 @@ pub record IsPlace (buffers : List (List ℕ)) (entries : List Entry) (place : P
   pub units : units_at buffers piece.span ≡ before ++ units_at buffers place.rest
 
 -- the units from the place on
-abbrev pub text_from : (buffers : List (List ℕ)) (entries : List Entry) (place : Place) → IsPlace buffers entries place → List ℕ
+abbrev pub text_from : (buffers : List (List ℕ)) (entries : List Entry) (place : Cursor) → IsPlace buffers entries place → List ℕ
 text_from buffers entries place is = units_at buffers place.rest ++ spelled buffers (pieces_of is.later)
 
+-- the text goes on from the place as it does from the offset
+pub record IsAt (tree : Pieces) (chunks : Shown) (offset : ℕ) (place : Cursor) : Type 0 where
+  pub is : IsPlace chunks.buffers tree.entries place
+  pub text : text_from chunks.buffers tree.entries place is ≡ drop offset (text_of tree chunks).units
+
+-- and its piece goes on there
+pub record HasRun (tree : Pieces) (chunks : Shown) (offset : ℕ) (place : Cursor) : Type 0 where
+  pub at : IsAt tree chunks offset place
+  pub some : 0 < place.rest.units
+
 -- the line of this number, counted from 1, starts at the place
-pub record StartsAt (tree : Pieces) (chunks : Shown) (n : ℕ) (place : Place) : Type 0 where
+pub record StartsAt (tree : Pieces) (chunks : Shown) (n : ℕ) (place : Cursor) : Type 0 where
   pub first : 0 < n
   pub there : n ≤ length (lines_of (text_of tree chunks).units)
-  pub is : IsPlace chunks.buffers tree.entries place
-  pub text : text_from chunks.buffers tree.entries place is ≡ drop (line_start (text_of tree chunks).units n) (text_of tree chunks).units
+  pub at : IsAt tree chunks (line_start (text_of tree chunks).units n) place
 
 -- where the line after that one starts: nowhere, where that one is the last
-abbrev pub NextStartsAt : Pieces → Shown → ℕ → Option Place → Type 0
+abbrev pub NextStartsAt : Pieces → Shown → ℕ → Option Cursor → Type 0
 NextStartsAt tree chunks n None = n ≡ length (lines_of (text_of tree chunks).units)
 NextStartsAt tree chunks n (Some place) = StartsAt tree chunks (n + 1) place

@@ -6,22 +6,14 @@ use Rattle.chunk_buffers.specs.Chunks.{Shown, buffer_at, units_at, LiesIn}
 use Rattle.piece_tree.specs.declared.piece.Piece.{Piece}
 use Rattle.piece_tree.specs.Pieces.{Pieces, pieces_of, unit_count, IsPieceOf, IsFound}
 use Rattle.text_buffer.specs.declared.beside.TheConstants.{MOST_ALONG}
-use Rattle.text_buffer.specs.declared.text.TheConstants.{UNITS_AN_EDIT, BREAKS_AN_EDIT}
 use Rattle.piece_tree.specs.declared.piece.Found.{Found}
 use Rattle.text_rules.specs.Lines.{line_feed, carriage_return}
 use Rattle.text_rules.specs.Breaks.{joins_pair}
+use Rattle.text_buffer.specs.Room.{Room}
 
 -- the most units that an edit takes along on each side of its span
 abbrev pub most_along : ℕ
 most_along = MOST_ALONG
-
--- how many units an edit may append beside those of its text: what it takes along on both sides, and one that keeps buffers apart
-abbrev pub units_beside_text : ℕ
-units_beside_text = UNITS_AN_EDIT
-
--- and how many breaks: those of what it takes along
-abbrev pub breaks_beside_text : ℕ
-breaks_beside_text = BREAKS_AN_EDIT
 
 -- what contracts see of a text buffer
 pub record Text : Type 0 where
@@ -29,11 +21,8 @@ pub record Text : Type 0 where
   -- the spans of the buffers that spell the units, one for each piece
   pub spans : List ChunkSpan
   pub buffers : List (List ℕ)
-  -- for how many edits there is room, and for how many units and breaks; each edit takes up to `units_beside_text` and
-  -- `breaks_beside_text` more than its text has
-  pub spare_edits : ℕ
-  pub spare_units : ℕ
-  pub spare_breaks : ℕ
+  -- for what edits there is room
+  pub room : Room
 
 -- the units of the pieces, one after another
 abbrev pub spelled : List (List ℕ) → List Piece → List ℕ
@@ -62,9 +51,7 @@ text_of tree chunks = record {
   units = spelled chunks.buffers (pieces_of tree.entries);
   spans = map (λ p. p.span) (pieces_of tree.entries);
   buffers = chunks.buffers;
-  spare_edits = tree.spare;
-  spare_units = chunks.spare;
-  spare_breaks = chunks.spare_breaks;
+  room = record { edits = tree.spare; units = chunks.spare; breaks = chunks.spare_breaks };
 }
 
 -- at that offset of the text one of its spans ends, where the last buffer ends: what is appended next goes on from that span

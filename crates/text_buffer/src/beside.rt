@@ -2,16 +2,17 @@
 
 ghost use Rattle.std.specs.Prelude.{◌≡◌, ◌-◌, ◌≤◌, length, IfSome};
 ghost use Rattle.chunk_buffers.specs.Chunks.{LiesIn};
-ghost use Rattle.piece_tree.specs.Pieces.{pieces_of, unit_count, StandsAt};
-ghost use Rattle.text_buffer.specs.Text.{most_along, IsText};
-ghost use Rattle.text_buffer.specs.LookUps.{IsSpot};
+ghost use Rattle.piece_tree.specs.Pieces.{StandsAt};
+ghost use Rattle.text_buffer.specs.Edits.{IsSpot, AreEnds};
+ghost use Rattle.text_buffer.specs.Text.{most_along};
+ghost use Rattle.text_buffer.specs.Views.{IsView};
 ghost use Rattle.text_buffer.specs.Along.{if_little, rest_before, rest_behind, rests_of, units_along};
 
-use crate::look_up::piece_near;
-use crate::spot::Spot;
+use crate::edit::{Ends, Spot};
+use crate::view::View;
 use arrayvec::ArrayVec;
 use chunk_buffers::{ChunkSpan, Chunks};
-use piece_tree::{Found, PieceTree};
+use piece_tree::Found;
 
 /// The most units that are taken along on one side.
 pub(crate) const MOST_ALONG: usize = 3;
@@ -26,62 +27,68 @@ pub(crate) struct Rests {
     pub back: Option<ChunkSpan>,
 }
 
-/// What an edit between the two places takes along, so that no small piece is left beside its text.
-pub(crate) fn rests_of(
-    pieces: &PieceTree,
-    chunks: &Chunks,
-    start: &Spot,
-    end: &Spot,
-    text: &[u16],
-) -> Rests
-    requires text { IsText pieces.now chunks.now }
-    requires start { IsSpot pieces.now chunks.now start.now }
-    requires end { IsSpot pieces.now chunks.now end.now }
-    ensures { result ≡ rests_of chunks.now.buffers start.now end.now (length text.now) }
-{
-    let front = rest_before(pieces, chunks, start);
-    let back = if start.offset == end.offset {
-        None
-    } else {
-        rest_behind(pieces, chunks, end)
-    };
-    if text.is_empty() && (front.is_none() || back.is_none()) {
-        return Rests {
-            front: None,
-            back: None,
+impl View<'_> {
+    /// What an edit between the two places takes along, so that no small piece is left beside its text.
+    pub(crate) fn rests_of(&self, ends: &Ends, text: &[u16]) -> Rests
+        requires view { IsView self.now }
+        requires ends { AreEnds self.now.pieces.now self.now.chunks.now ends.now }
+        ensures { result
+            ≡ rests_of self.now.chunks.now.buffers ends.now.start ends.now.end (length text.now) }
+    {
+        let front = self.rest_before(&ends.start);
+        let back = if ends.start.offset == ends.end.offset {
+            None
+        } else {
+            self.rest_behind(&ends.end)
         };
+        if text.is_empty() && (front.is_none() || back.is_none()) {
+            return Rests {
+                front: None,
+                back: None,
+            };
+        }
+        Rests { front, back }
     }
-    Rests { front, back }
-}
 
-// What the piece at the place has before it, where that is little.
-fn rest_before(pieces: &PieceTree, chunks: &Chunks, spot: &Spot) -> Option<ChunkSpan>
-    requires text { IsText pieces.now chunks.now }
-    requires spot { IsSpot pieces.now chunks.now spot.now }
-    ensures { result ≡ rest_before chunks.now.buffers spot.now.found spot.now.offset }
-{
-    let found = spot.found?;
-    if_little(
-        chunks,
-        chunks.part(found.span, 0, spot.offset - found.before.units),
-    )
-}
-
-// What the piece that the place stands inside has from there on, where that is little.
-fn rest_behind(pieces: &PieceTree, chunks: &Chunks, spot: &Spot) -> Option<ChunkSpan>
-    requires text { IsText pieces.now chunks.now }
-    requires spot { IsSpot pieces.now chunks.now spot.now }
-    ensures { result ≡ rest_behind chunks.now.buffers spot.now.found spot.now.offset }
-{
-    let found = spot.found?;
-    if spot.offset == found.before.units {
-        return None;
+    // What the piece at the place has before it, where that is little.
+    fn rest_before(&self, spot: &Spot) -> Option<ChunkSpan>
+        requires view { IsView self.now }
+        requires spot { IsSpot self.now.pieces.now self.now.chunks.now spot.now }
+        ensures { result ≡ rest_before self.now.chunks.now.buffers spot.now.found spot.now.offset }
+    {
+        let found = spot.found?;
+        let own = spot.offset - found.before.units;
+        if_little(self.chunks, self.part_in(&found, 0, own))
     }
-    let own = spot.offset - found.before.units;
-    if_little(
-        chunks,
-        chunks.part(found.span, own, found.span.units as u64),
-    )
+
+    // What the piece that the place stands inside has from there on, where that is little.
+    fn rest_behind(&self, spot: &Spot) -> Option<ChunkSpan>
+        requires view { IsView self.now }
+        requires spot { IsSpot self.now.pieces.now self.now.chunks.now spot.now }
+        ensures { result ≡ rest_behind self.now.chunks.now.buffers spot.now.found spot.now.offset }
+    {
+        let found = spot.found?;
+        if spot.offset == found.before.units {
+            return None;
+        }
+        let own = spot.offset - found.before.units;
+        let end = found.span.units as u64;
+        if_little(self.chunks, self.part_in(&found, own, end))
+    }
+
+    /// The piece that has the unit so many units before the place, which are taken along. Where it is the one before the place's, no
+    /// search is made.
+    pub(crate) fn found_before(&self, spot: &Spot, along: u64) -> Option<Found>
+        requires view { IsView self.now }
+        requires spot { IsSpot self.now.pieces.now self.now.chunks.now spot.now }
+        requires there { along ≤ spot.now.offset }
+        ensures { StandsAt self.now.pieces.now.entries result (spot.now.offset - along) }
+    {
+        if along == 0 {
+            return spot.found;
+        }
+        Some(self.piece_at(&spot.found, spot.offset - along))
+    }
 }
 
 fn if_little(chunks: &Chunks, span: ChunkSpan) -> Option<ChunkSpan>
@@ -116,21 +123,4 @@ pub(crate) fn units_along(
         units.push(unit);
     }
     units
-}
-
-/// The piece that has the unit so many units before the place, which are taken along. Where it is the one before the place's, no search is made.
-pub(crate) fn found_before(pieces: &PieceTree, spot: &Spot, along: u64) -> Option<Found>
-    requires found { StandsAt pieces.now.entries spot.now.found spot.now.offset }
-    requires within { spot.now.offset ≤ unit_count (pieces_of pieces.now.entries) }
-    requires there { along ≤ spot.now.offset }
-    ensures { StandsAt pieces.now.entries result (spot.now.offset - along) }
-{
-    if along == 0 {
-        return spot.found;
-    }
-    let from = spot.offset - along;
-    match spot.found {
-        Some(found) if found.before.units <= from => Some(found),
-        _ => Some(piece_near(pieces, &spot.found, from)),
-    }
 }

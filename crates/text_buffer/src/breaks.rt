@@ -6,6 +6,7 @@ ghost use Rattle.text_buffer.specs.Text.{ends_with_pair};
 use unit_text::{CARRIAGE_RETURN, LINE_FEED};
 
 /// Whether the units end with CR LF.
+#[tactic(auto, using(crate::proofs::Contents::pair_ends))]
 pub(crate) fn ends_with_pair(units: &[u16]) -> bool
     ensures { result ≡ ends_with_pair units.now }
 {
@@ -18,6 +19,7 @@ pub(crate) fn ends_with_pair(units: &[u16]) -> bool
 }
 
 /// The units of a line but its break, which is CR LF or one unit.
+#[tactic(auto, using(crate::proofs::Contents::pair_ends))]
 pub(crate) fn without_break(line: &[u16]) -> &[u16]
     requires { 0 < length line.now }
     ensures { result.now

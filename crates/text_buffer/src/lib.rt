@@ -3,15 +3,19 @@
 
 mod beside;
 mod breaks;
+mod cursor;
+mod edit;
 mod lines;
 mod look_up;
-mod place;
 mod queries;
 mod remembered;
+mod room;
+mod runs;
 mod seeking;
-mod spot;
 mod text;
-mod walk;
+mod view;
 
 pub use lines::LineReader;
+pub use room::Need;
+pub use runs::Runs;
 pub use text::TextBuffer;

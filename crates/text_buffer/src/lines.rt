@@ -2,12 +2,12 @@
 
 ghost use Rattle.std.specs.Prelude.{◌≡◌, ◌+◌, ◌<◌, ◌≤◌, ◌++◌, Some, [], length, MatchOption, OnOk, OnErr, IfSome};
 ghost use Rattle.text_rules.specs.Lines.{Line, lines_of, line_at};
-ghost use Rattle.text_buffer.specs.Text.{text_of, IsText};
+ghost use Rattle.text_buffer.specs.Text.{text_of};
+ghost use Rattle.text_buffer.specs.Views.{IsView};
 ghost use Rattle.text_buffer.specs.Places.{StartsAt};
 
-use crate::place::{Place, push_line, start_of_line};
-use chunk_buffers::Chunks;
-use piece_tree::PieceTree;
+use crate::cursor::Cursor;
+use crate::view::View;
 use std::alloc::AllocError;
 use std::marker::Model;
 
@@ -15,35 +15,34 @@ use std::marker::Model;
 /// search.
 #[derive(Drop)]
 pub struct LineReader<'t> {
-    pieces: &'t PieceTree,
-    chunks: &'t Chunks,
+    view: View<'t>,
     // How many lines come before the place, where there is one.
     before: u64,
-    next: Option<Place>,
+    next: Option<Cursor>,
 }
 
 impl<'t> Model for LineReader<'t> {
     ghost use Rattle.std.specs.Prelude.{ℕ, List, ◌+◌, IfSome};
-    ghost use Rattle.text_buffer.specs.Text.{text_of, IsText};
+    ghost use Rattle.text_buffer.specs.Text.{text_of};
+    ghost use Rattle.text_buffer.specs.Views.{IsView};
     ghost use Rattle.text_buffer.specs.Places.{StartsAt};
 
     ghost Value = { List ℕ };
 
-    ghost view = { λ r. (text_of r.pieces.now r.chunks.now).units };
+    ghost view = { λ r. (text_of r.view.pieces.now r.view.chunks.now).units };
 
-    ghost invariant = { λ r. IsText r.pieces.now r.chunks.now
-        × IfSome r.next (StartsAt r.pieces.now r.chunks.now (r.before + 1)) };
+    ghost invariant = { λ r. IsView r.view
+        × IfSome r.next (StartsAt r.view.pieces.now r.view.chunks.now (r.before + 1)) };
 }
 
 impl<'t> LineReader<'t> {
-    // A reader of the text of these pieces.
-    pub(crate) fn new(pieces: &'t PieceTree, chunks: &'t Chunks) -> LineReader<'t>
-        requires { IsText pieces.now chunks.now }
-        ensures { result ≡ (text_of pieces.now chunks.now).units }
+    // A reader of the text.
+    pub(crate) fn new(view: &View<'t>) -> LineReader<'t>
+        requires { IsView view.now }
+        ensures { result ≡ (text_of view.now.pieces.now view.now.chunks.now).units }
     {
         LineReader {
-            pieces,
-            chunks,
+            view: *view,
             before: 0,
             next: None,
         }
@@ -58,11 +57,11 @@ impl<'t> LineReader<'t> {
         ensures err { OnErr result (out.new.items ≡ out.old.items) }
         ensures same { self.new ≡ self.old }
     {
-        let Some(start) = start_from(self.pieces, self.chunks, self.before, self.next, n) else {
+        let Some(start) = start_from(&self.view, self.before, self.next, n) else {
             return Ok(());
         };
         let kept = out.len();
-        match push_line(self.pieces, self.chunks, start, out) {
+        match self.view.push_line(start, out) {
             Ok(next) => {
                 self.before = n;
                 self.next = next;
@@ -77,21 +76,16 @@ impl<'t> LineReader<'t> {
 }
 
 // Where line `n` starts, from where the line after so many starts, if that is known. None where the text has no piece.
-fn start_from(
-    pieces: &PieceTree,
-    chunks: &Chunks,
-    before: u64,
-    next: Option<Place>,
-    n: u64,
-) -> Option<Place>
-    requires text { IsText pieces.now chunks.now }
-    requires next { IfSome next (StartsAt pieces.now chunks.now (before + 1)) }
+fn start_from(view: &View<'_>, before: u64, next: Option<Cursor>, n: u64) -> Option<Cursor>
+    requires view { IsView view.now }
+    requires next { IfSome next (StartsAt view.now.pieces.now view.now.chunks.now (before + 1)) }
     requires first { 0 < n }
-    requires there { n ≤ length (lines_of (text_of pieces.now chunks.now).units) }
-    ensures { MatchOption result (pieces.now.entries ≡ []) (StartsAt pieces.now chunks.now n) }
+    requires there { n ≤ length (lines_of (text_of view.now.pieces.now view.now.chunks.now).units) }
+    ensures { MatchOption result
+        (view.now.pieces.now.entries ≡ []) (StartsAt view.now.pieces.now view.now.chunks.now n) }
 {
     match next {
-        Some(place) if before == n - 1 => Some(place),
-        _ => start_of_line(pieces, chunks, n),
+        Some(start) if before == n - 1 => Some(start),
+        _ => view.start_of_line(n),
     }
 }

@@ -3,9 +3,9 @@
 ghost use Rattle.std.specs.Prelude.{◌≡◌, ◌-◌, ◌<◌, ◌≤◌, nat_lt, List, [], length, slice_index_or, IfSome, IsTrue};
 ghost use Rattle.std.specs.List.{All};
 ghost use Rattle.piece_tree.specs.Pieces.{Entry, IsFound, HasUnit};
-ghost use Rattle.text_buffer.specs.Remembering.{end_of};
+ghost use Rattle.text_buffer.specs.Remembering.{end_of, HasBreak};
 
-use crate::look_up::has_unit;
+use crate::look_up::{has_break, has_unit};
 use piece_tree::Found;
 use std::alloc::{AllocError, Global};
 use std::marker::Model;
@@ -61,16 +61,30 @@ impl Remembered {
     }
 
     /// That of them that has the unit at this offset, if there is one.
-    pub(crate) fn at(&self, offset: u64) -> Option<&Found>
+    pub(crate) fn at(&self, offset: u64) -> Option<Found>
         ensures { (entries : List Entry) → All (IsFound entries) self.now
-            → IfSome result (λ found. HasUnit entries found.now offset) }
+            → IfSome result (λ found. HasUnit entries found offset) }
     {
         let starting = self
             .pieces
             .partition_point(|piece| piece.before.units <= offset);
         let found = self.pieces.get(starting.checked_sub(1)?)?;
         if has_unit(found, offset) {
-            Some(found)
+            Some(*found)
+        } else {
+            None
+        }
+    }
+
+    /// That of them that has the `n`-th break, if there is one. Breaks count from 1.
+    pub(crate) fn with_break(&self, n: u64) -> Option<Found>
+        ensures { (entries : List Entry) → All (IsFound entries) self.now
+            → IfSome result (λ found. HasBreak entries found n) }
+    {
+        let starting = self.pieces.partition_point(|piece| piece.before.breaks < n);
+        let found = self.pieces.get(starting.checked_sub(1)?)?;
+        if has_break(found, n) {
+            Some(*found)
         } else {
             None
         }

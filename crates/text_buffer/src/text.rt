@@ -2,9 +2,11 @@
 
 ghost use Rattle.std.specs.Prelude.{◌≡◌, ℕ, ◌+◌, ◌-◌, ◌*◌, ◌<◌, ◌≤◌, ◌^◌, ◌&&◌, ◌++◌, ◌∷◌, List, [], true, false, if◌then◌else◌, length, map, take, drop, slice_index, slice_index_or, OnOk, OnErr, IfOk, IfSome};
 ghost use Rattle.std.specs.List.{All, flat_map};
+ghost use Rattle.std.specs.Option.{ForSome};
 ghost use Rattle.chunk_buffers.specs.Chunks.{units_at, unit_count, LiesIn, Extends, EndsLast};
 ghost use Rattle.line_starts.specs.Starts.{break_count};
 ghost use Rattle.piece_tree.specs.Costs.{WithinLookUps};
+ghost use Rattle.piece_tree.specs.Pieces.{IsPieceOf, span_of};
 ghost use Rattle.unit_text.specs.Units.{is_place};
 ghost use Rattle.text_rules.specs.Positions.{position_of, is_position, offset_of};
 ghost use Rattle.text_rules.specs.Edits.{edited};
@@ -12,19 +14,19 @@ ghost use Rattle.text_rules.specs.Dirty.{dirty_lines, replaced};
 ghost use Rattle.text_rules.specs.Lines.{Line, lines_of, line_at, line_start, line_feed, carriage_return, begins_with};
 ghost use Rattle.text_rules.specs.Breaks.{ends_with, joins_pair, count_to, break_ends};
 ghost use Rattle.text_buffer.specs.Along.{LeavesLittle};
-ghost use Rattle.text_buffer.specs.Text.{units_beside_text, breaks_beside_text, IsAdded, GrowsAt};
+ghost use Rattle.text_buffer.specs.Room.{IsEnough, KeepsRoom, HasSpent, need_of_edit, units_beside_text};
+ghost use Rattle.text_buffer.specs.Text.{text_of, IsAdded, GrowsAt};
+ghost use Rattle.text_buffer.specs.Views.{IsView};
 
-use crate::beside::{MOST_ALONG, MOST_BREAKS_ALONG, found_before, rests_of, units_along};
+use crate::beside::units_along;
 use crate::lines::LineReader;
-use crate::look_up::{cuts_pair_beside, piece_at, piece_near};
-use crate::place::{push_line, start_of_line};
-use crate::queries::{offset_in, position_in};
 use crate::remembered::Remembered;
+use crate::room::Need;
+use crate::runs::Runs;
 use crate::seeking::look_up_all;
-use crate::spot::{dirty_between, joins_back, joins_front, spot_at, spot_behind};
-use crate::walk::push_span;
+use crate::view::View;
 use chunk_buffers::{ChunkSpan, Chunks};
-use piece_tree::PieceTree;
+use piece_tree::{Piece, PieceTree};
 use std::alloc::{AllocError, Global};
 use std::marker::{Brand, Model};
 use std::sync::ledger::{Blank, Ledger};
@@ -32,12 +34,6 @@ use steps::Steps;
 use text_lengths::{Dirty, Position, Span};
 use text_rules::Op;
 use unit_text::{CARRIAGE_RETURN, Flat, LINE_FEED};
-
-/// What an edit may append beside its text: what it takes along on both sides, and a unit that keeps buffers apart.
-pub(crate) const UNITS_AN_EDIT: u64 = 2 * MOST_ALONG as u64 + 1;
-
-/// What breaks an edit may append beside those of its text: those of what it takes along.
-pub(crate) const BREAKS_AN_EDIT: u64 = 2 * MOST_BREAKS_ALONG;
 
 /// One text. Contracts see its units, and the spans that spell them.
 ///
@@ -83,8 +79,8 @@ impl TextBuffer {
         let mut pieces = PieceTree::new(alloc);
         let mut chunks = Chunks::new(alloc);
         pieces.reserve(1)?;
-        let span = chunks.append_whole(units)?;
-        pieces.splice(None, 0, 0, Some(span), &chunks);
+        let (span, breaks) = chunks.append_whole(units)?;
+        pieces.splice(None, 0, 0, Some(Piece { span, breaks }), &chunks);
         Ok(TextBuffer {
             pieces,
             chunks,
@@ -92,24 +88,19 @@ impl TextBuffer {
         })
     }
 
-    /// Makes room for that many edits whose texts have that many units and breaks together. It fails where memory is short, and where
-    /// these are 2^32 units or more. An error leaves the text as it was.
-    pub fn reserve(&mut self, edits: u64, units: u64, breaks: u64) -> Result<(), AllocError>
-        ensures edits { OnOk result (edits ≤ self.new.spare_edits) }
-        ensures room { OnOk result (units + units_beside_text * edits ≤ self.new.spare_units) }
-        ensures breaks { OnOk result (breaks + breaks_beside_text * edits ≤ self.new.spare_breaks) }
-        ensures kept_edits { self.old.spare_edits ≤ self.new.spare_edits }
-        ensures kept_room { self.old.spare_units ≤ self.new.spare_units }
-        ensures kept_breaks { self.old.spare_breaks ≤ self.new.spare_breaks }
+    /// Makes room for the edits. It fails where memory is short, and where these have 2^32 units or more. An error leaves the text as it
+    /// was.
+    pub fn reserve(&mut self, need: Need) -> Result<(), AllocError>
+        ensures room { OnOk result (IsEnough self.new.room need) }
+        ensures kept { KeepsRoom self.old.room self.new.room }
         ensures same { self.new.units ≡ self.old.units }
         ensures spans { self.new.spans ≡ self.old.spans }
         ensures grown { Extends self.old.buffers self.new.buffers }
         ensures appended { unit_count self.new.buffers ≡ unit_count self.old.buffers }
     {
-        let units = with_edits(units, edits, UNITS_AN_EDIT)?;
-        let breaks = with_edits(breaks, edits, BREAKS_AN_EDIT)?;
-        self.chunks.reserve(0, units, breaks)?;
-        self.pieces.reserve(edits)
+        self.chunks
+            .reserve(need.most_units()?, need.most_breaks()?)?;
+        self.pieces.reserve(need.edits)
     }
 
     /// How many units the text has.
@@ -117,14 +108,14 @@ impl TextBuffer {
         ensures units { result ≡ length self.now.units }
         ensures small { result < 2 ^ 62 }
     {
-        self.pieces.len()
+        self.view().len()
     }
 
     /// How many lines the text has.
     pub fn line_count(&self) -> u64
         ensures { result ≡ length (lines_of self.now.units) }
     {
-        self.pieces.breaks() + 1
+        self.view().line_count()
     }
 
     /// The buffers in which the text lies.
@@ -158,9 +149,7 @@ impl TextBuffer {
     pub fn replace(&mut self, span: Span, text: &[u16]) -> Dirty
         requires ordered { span.start ≤ span.end }
         requires within { span.end ≤ length self.old.units }
-        requires edits { 0 < self.old.spare_edits }
-        requires room { length text.now + units_beside_text ≤ self.old.spare_units }
-        requires breaks { break_count text.now + breaks_beside_text ≤ self.old.spare_breaks }
+        requires room { IsEnough self.old.room (need_of_edit text.now) }
         requires small { length (edited self.old.units
             (record { span = span; text = text.now; force = false })) < 2 ^ 62 }
         ensures units { self.new.units
@@ -178,29 +167,27 @@ impl TextBuffer {
         ensures eight { unit_count self.new.buffers
             ≤ unit_count self.old.buffers + length text.now + 8 }
         ensures grown { Extends self.old.buffers self.new.buffers }
-        ensures spare_edits { self.new.spare_edits + 1 ≡ self.old.spare_edits }
-        ensures spare_units { self.old.spare_units
-            ≤ self.new.spare_units + length text.now + units_beside_text }
-        ensures spare_breaks { self.old.spare_breaks
-            ≤ self.new.spare_breaks + break_count text.now + breaks_beside_text }
+        ensures spent { HasSpent (need_of_edit text.now) self.old.room self.new.room }
         ensures dirty { result ≡ dirty_lines self.old.units span text.now }
         ensures before { take (result.first - 1) (lines_of self.new.units)
             ≡ take (result.first - 1) (lines_of self.old.units) }
         ensures after { drop (result.first - 1 + result.new) (lines_of self.new.units)
             ≡ drop (result.first - 1 + result.old) (lines_of self.old.units) }
     {
-        let known = &self.remembered;
-        let start = spot_at(&self.pieces, &self.chunks, known, &None, span.start);
-        let end = spot_behind(&self.pieces, &self.chunks, known, &start, span.end);
-        let dirty = dirty_between(&self.pieces, &self.chunks, &start, &end, text);
-        let rests = rests_of(&self.pieces, &self.chunks, &start, &end, text);
-        let front_joins = joins_front(&start, &end, text);
-        let back_joins = joins_back(&start, &end, text);
-        let front = units_along(&self.chunks, rests.front, front_joins, CARRIAGE_RETURN);
-        let back = units_along(&self.chunks, rests.back, back_joins, LINE_FEED);
+        let view = View {
+            pieces: &self.pieces,
+            chunks: &self.chunks,
+            remembered: &self.remembered,
+        };
+        let ends = view.ends_of(span);
+        let joins = view.joins_of(&ends, text);
+        let dirty = view.dirty_between(&ends, joins, text);
+        let rests = view.rests_of(&ends, text);
+        let front = units_along(&self.chunks, rests.front, joins.front, CARRIAGE_RETURN);
+        let back = units_along(&self.chunks, rests.back, joins.back, LINE_FEED);
         let before = front.as_slice();
         let after = back.as_slice();
-        let at = found_before(&self.pieces, &start, before.len() as u64);
+        let at = view.found_before(&ends.start, before.len() as u64);
         let from = span.start - before.len() as u64;
         let to = span.end + after.len() as u64;
         let added = append_some(&mut self.chunks, before, text, after);
@@ -213,7 +200,7 @@ impl TextBuffer {
     pub fn lines(&self) -> LineReader<'_>
         ensures { result ≡ self.now.units }
     {
-        LineReader::new(&self.pieces, &self.chunks)
+        LineReader::new(&self.view())
     }
 
     /// Appends the content of the line of this number, counted from 1. An error leaves `out` as it was.
@@ -224,17 +211,7 @@ impl TextBuffer {
             → OnOk result (out.new.items ≡ out.old.items ++ line.content) }
         ensures err { OnErr result (out.new.items ≡ out.old.items) }
     {
-        let Some(start) = start_of_line(&self.pieces, &self.chunks, n) else {
-            return Ok(());
-        };
-        let before = out.len();
-        match push_line(&self.pieces, &self.chunks, start, out) {
-            Ok(_) => Ok(()),
-            Err(fault) => {
-                out.truncate(before);
-                Err(fault)
-            }
-        }
+        self.lines().line(n, out)
     }
 
     /// The position of the offset; None where the offset is no place of the text. Each node that is visited is a step.
@@ -243,7 +220,7 @@ impl TextBuffer {
             then Some (position_of self.now.units offset) else None) }
         ensures cost { WithinLookUps 3 (length self.now.spans) (steps.new - steps.old) }
     {
-        position_in(&self.pieces, &self.chunks, offset, steps)
+        self.view().position_at(offset, steps)
     }
 
     /// The offset of the position; None where it is no position of the text. Each node that is visited is a step.
@@ -252,7 +229,7 @@ impl TextBuffer {
             then Some (offset_of self.now.units position) else None) }
         ensures cost { WithinLookUps 4 (length self.now.spans) (steps.new - steps.old) }
     {
-        offset_in(&self.pieces, &self.chunks, position, steps)
+        self.view().offset_at(position, steps)
     }
 
     /// `position_at`, with steps that nobody counts.
@@ -260,18 +237,7 @@ impl TextBuffer {
         ensures { result ≡ (if is_place self.now.units offset
             then Some (position_of self.now.units offset) else None) }
     {
-        self.position_for::<Brand>(offset, Blank::new(1))
-    }
-
-    fn position_for<L: Ledger>(&self, offset: u64, blank: Blank) -> Option<Position>
-        requires name { blank.name ≡ L.name }
-        requires parts { blank.parts ≡ L.parts }
-        requires some { 0 < L.parts }
-        ensures { result ≡ (if is_place self.now.units offset
-            then Some (position_of self.now.units offset) else None) }
-    {
-        let mut steps = Steps::<L>::new(blank);
-        self.position_at(offset, &mut steps)
+        self.view().position_for::<Brand>(offset, Blank::new(1))
     }
 
     /// `offset_at`, with steps that nobody counts.
@@ -279,18 +245,19 @@ impl TextBuffer {
         ensures { result ≡ (if is_position self.now.units position
             then Some (offset_of self.now.units position) else None) }
     {
-        self.offset_for::<Brand>(position, Blank::new(1))
+        self.view().offset_for::<Brand>(position, Blank::new(1))
     }
 
-    fn offset_for<L: Ledger>(&self, position: Position, blank: Blank) -> Option<u64>
-        requires name { blank.name ≡ L.name }
-        requires parts { blank.parts ≡ L.parts }
-        requires some { 0 < L.parts }
-        ensures { result ≡ (if is_position self.now.units position
-            then Some (offset_of self.now.units position) else None) }
+    /// Where the content of the line of this number stands, counted from 1.
+    pub fn line_span(&self, n: u64) -> Span
+        requires first { 0 < n }
+        requires there { n ≤ length (lines_of self.now.units) }
+        ensures start { result.start ≡ line_start self.now.units n }
+        ensures content { (line : Line) → line_at self.now.units n ≡ Some line
+            → result.end ≡ result.start + length line.content }
+        ensures within { result.end ≤ length self.now.units }
     {
-        let mut steps = Steps::<L>::new(blank);
-        self.offset_at(position, &mut steps)
+        self.view().line_span_for::<Brand>(n, Blank::new(1))
     }
 
     /// Which lines of the text an edit touches that puts these units in the place of the span, and
@@ -305,45 +272,9 @@ impl TextBuffer {
             drop (result.first - 1 + result.new) lines
             ≡ drop (result.first - 1 + result.old) (lines_of self.now.units) }
     {
-        let known = &self.remembered;
-        let start = spot_at(&self.pieces, &self.chunks, known, &None, span.start);
-        let end = spot_behind(&self.pieces, &self.chunks, known, &start, span.end);
-        dirty_between(&self.pieces, &self.chunks, &start, &end, text)
-    }
-
-    // Whether the offsets are places, by steps that nobody counts.
-    fn has_places(&self, start: u64, end: u64) -> bool
-        requires { start ≤ end }
-        ensures { result ≡ (is_place self.now.units start && is_place self.now.units end) }
-    {
-        self.has_places_for::<Brand>(start, end, Blank::new(1))
-    }
-
-    // The second is looked for where the first was found.
-    fn has_places_for<L: Ledger>(&self, start: u64, end: u64, blank: Blank) -> bool
-        requires ordered { start ≤ end }
-        requires name { blank.name ≡ L.name }
-        requires parts { blank.parts ≡ L.parts }
-        requires some { 0 < L.parts }
-        ensures { result ≡ (is_place self.now.units start && is_place self.now.units end) }
-    {
-        let mut steps = Steps::<L>::new(blank);
-        if start >= self.len() {
-            return end == self.len();
-        }
-        let first = piece_at(&self.pieces, &self.remembered, &None, start);
-        if cuts_pair_beside(&self.pieces, &self.chunks, &None, &first, start, &mut steps) {
-            return false;
-        }
-        if end == start {
-            return true;
-        }
-        if end >= self.len() {
-            return end == self.len();
-        }
-        let near = Some(first);
-        let last = piece_at(&self.pieces, &self.remembered, &near, end);
-        !cuts_pair_beside(&self.pieces, &self.chunks, &near, &last, end, &mut steps)
+        let view = self.view();
+        let ends = view.ends_of(span);
+        view.dirty_between(&ends, view.joins_of(&ends, text), text)
     }
 
     /// Appends the units of the span. An error leaves `out` as it was.
@@ -355,20 +286,27 @@ impl TextBuffer {
         ensures err { OnErr result (out.new.items ≡ out.old.items) }
     {
         out.reserve((span.end - span.start) as usize)?;
-        push_span(&self.pieces, &self.chunks, &self.remembered, span, out);
+        self.view().push_span(span, out);
         Ok(())
     }
 
-    // The units from a place on, up to the end of their piece.
-    fn run_at(&self, at: u64) -> &[u16]
-        requires { at < length self.now.units }
-        ensures some { 0 < length result.now }
-        ensures front { result.now ≡ take (length result.now) (drop at self.now.units) }
+    /// A reader of its units from the offset on, run by run.
+    pub fn runs_from(&self, offset: u64) -> Runs<'_>
+        requires { offset ≤ length self.now.units }
+        ensures { result ≡ drop offset self.now.units }
     {
-        let found = piece_near(&self.pieces, &None, at);
-        let units = self.chunks.units(found.span);
-        let (_, run) = units.split_at((at - found.before.units) as usize);
-        run
+        Runs::new(&self.view(), offset)
+    }
+
+    fn view(&self) -> View<'_>
+        ensures text { text_of result.pieces.now result.chunks.now ≡ self.now }
+        ensures view { IsView result }
+    {
+        View {
+            pieces: &self.pieces,
+            chunks: &self.chunks,
+            remembered: &self.remembered,
+        }
     }
 }
 
@@ -380,15 +318,16 @@ impl Flat for TextBuffer {
     }
 
     fn is_place(&self, offset: u64) -> bool {
-        self.has_places(offset, offset)
+        self.are_places(offset, offset)
     }
 
     fn are_places(&self, start: u64, end: u64) -> bool {
-        self.has_places(start, end)
+        self.view()
+            .has_places_for::<Brand>(start, end, Blank::new(1))
     }
 
     fn run(&self, at: u64) -> &[u16] {
-        self.run_at(at)
+        self.view().run_at(at)
     }
 
     fn copy(&self, start: u64, end: u64, out: &mut Vec<u16>) -> Result<(), AllocError> {
@@ -396,27 +335,14 @@ impl Flat for TextBuffer {
     }
 }
 
-// This many, and so many more for each edit.
-fn with_edits(own: u64, edits: u64, each: u64) -> Result<u64, AllocError>
-    ensures { IfOk result (λ all. all ≡ own + each * edits) }
-{
-    edits
-        .checked_mul(each)
-        .and_then(|more| own.checked_add(more))
-        .ok_or(AllocError)
-}
-
-// Appends the three texts as one, if they have any unit.
-fn append_some(
-    chunks: &mut Chunks,
-    before: &[u16],
-    text: &[u16],
-    after: &[u16],
-) -> Option<ChunkSpan>
+// Appends the three texts as one, if they have any unit, and answers their piece.
+fn append_some(chunks: &mut Chunks, before: &[u16], text: &[u16], after: &[u16]) -> Option<Piece>
     requires room { length (before.now ++ text.now ++ after.now) < chunks.old.spare }
     requires breaks { break_count (before.now ++ text.now ++ after.now)
         ≤ chunks.old.spare_breaks }
-    ensures added { IsAdded chunks.new.buffers result (before.now ++ text.now ++ after.now) }
+    ensures added { IsAdded chunks.new.buffers (span_of result)
+        (before.now ++ text.now ++ after.now) }
+    ensures counted { ForSome result (IsPieceOf chunks.new.buffers) }
     ensures grown { Extends chunks.old.buffers chunks.new.buffers }
     ensures units { unit_count chunks.new.buffers
         ≤ unit_count chunks.old.buffers + length (before.now ++ text.now ++ after.now) + 1 }
@@ -424,11 +350,12 @@ fn append_some(
         ≤ chunks.new.spare + length (before.now ++ text.now ++ after.now) + 1 }
     ensures spare_breaks { chunks.old.spare_breaks
         ≤ chunks.new.spare_breaks + break_count (before.now ++ text.now ++ after.now) }
-    ensures last { IfSome result (λ span.
+    ensures last { IfSome (span_of result) (λ span.
         EndsLast chunks.old.buffers chunks.new.buffers span (before.now ++ text.now ++ after.now)) }
 {
     if before.is_empty() && text.is_empty() && after.is_empty() {
         return None;
     }
-    Some(chunks.append_joined(before, text, after))
+    let (span, breaks) = chunks.append_joined(before, text, after);
+    Some(Piece { span, breaks })
 }

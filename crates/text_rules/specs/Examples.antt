@@ -60,7 +60,8 @@ no_position_inside_a_break : is_position (codes "a\r\nb") (record { line = 1; co
 no_position_inside_a_break = refl
 
 -- a pair of surrogates has a position before it and one behind it
-positions_beside_a_pair : map (λ column. is_position (0xD83D ∷ 0xDE00 ∷ []) (record { line = 1; column = column })) (1 ∷ 2 ∷ 3 ∷ []) ≡ true ∷ false ∷ true ∷ []
+positions_beside_a_pair : map (λ column. is_position (0xD83D ∷ 0xDE00 ∷ []) (record { line = 1; column = column })) (1 ∷ 2 ∷ 3 ∷ [])
+    ≡ true ∷ false ∷ true ∷ []
 positions_beside_a_pair = refl
 
 the_end_of_the_last_line : offset_of (codes "a\r\nb\rc\nd") (record { line = 4; column = 2 }) ≡ 8
@@ -79,7 +80,8 @@ abbrev dirty : ℕ → ℕ → ℕ → Dirty
 dirty first old new = record { first = first; old = old; new = new }
 
 -- in a line, over a break, and with two new breaks
-edits_of_lines : touched (codes "ab\ncd\nef") 4 5 (codes "X") ∷ touched (codes "ab\ncd\nef") 1 4 [] ∷ touched (codes "ab\ncd") 4 4 (codes "x\r\ny\r") ∷ []
+edits_of_lines : touched (codes "ab\ncd\nef") 4 5 (codes "X") ∷ touched (codes "ab\ncd\nef") 1 4 []
+    ∷ touched (codes "ab\ncd") 4 4 (codes "x\r\ny\r") ∷ []
     ≡ dirty 2 1 1 ∷ dirty 1 2 1 ∷ dirty 2 1 3 ∷ []
 edits_of_lines = refl
 

@@ -8,6 +8,9 @@ ghost use Rattle.text_rules.specs.Edits.{is_bad_span};
 use text_lengths::Span;
 use unit_text::{Flat, Units};
 
+/// The most units that a text may have.
+pub const MOST_TEXT_UNITS: u64 = 0x3FFF_FFFF;
+
 /// One edit: the text takes the place of the units in the span.
 #[derive(Drop, Debug)]
 pub struct Op {

@@ -2,14 +2,4 @@
 #![tactic(auto)]
 
 #[cfg(test)]
-mod cases;
-#[cfg(test)]
-mod each_fault;
-#[cfg(test)]
-mod every_command;
-#[cfg(test)]
-mod parts;
-#[cfg(test)]
-mod serving;
-#[cfg(test)]
-mod table;
+mod tests;

@@ -2,16 +2,4 @@
 #![tactic(auto)]
 
 #[cfg(test)]
-mod asked;
-#[cfg(test)]
-mod library;
-#[cfg(test)]
-mod playing;
-#[cfg(test)]
-mod prepared;
-#[cfg(test)]
-mod told;
-#[cfg(test)]
-mod transcripts;
-#[cfg(test)]
-mod usage;
+mod tests;

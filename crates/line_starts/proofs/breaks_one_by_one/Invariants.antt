@@ -1,9 +1,9 @@
-use Rattle.std.proofs.Common.{◌≡◌, ◌+◌, ◌≤◌, length, drop}
-use Rattle.text_rules.specs.Breaks.{break_ends}
+use Rattle.std.proofs.Common.{◌≡◌, ◌+◌, ◌≤◌}
+use Rattle.line_starts.specs.Starts.{breaks_from}
 use Rattle.line_starts.proofs.breaks_one_by_one.Given as goal
 
 abbrev pub invariant-loop-at : goal.invariant-loop-at
 invariant-loop-at l = record {
-  counted : l.breaks + length (break_ends 0 (drop l.at l.units)) ≡ length (break_ends 0 (drop l.from l.units));
+  counted : l.breaks + breaks_from l.units l.at ≡ breaks_from l.units l.from;
   few : l.breaks ≤ l.at;
 }

@@ -1,13 +1,11 @@
-use Rattle.std.proofs.Common.{◌≡◌, ◌+◌, ◌*◌, ◌-◌, ◌≤◌, length, drop}
-use Rattle.text_rules.specs.Breaks.{break_ends}
+use Rattle.std.proofs.Common.{◌≡◌, ◌+◌, ◌*◌, ◌-◌, ◌≤◌}
+use Rattle.line_starts.specs.Starts.{breaks_from, at_four}
 use Rattle.line_starts.proofs.count_breaks.Given as goal
 
 abbrev pub invariant-loop-at : goal.invariant-loop-at
 invariant-loop-at l = record {
-  counted : l.breaks + length (break_ends 0 (drop l.at l.units)) + length (break_ends 0 (drop (l.quarter + l.at) l.units))
-      + length (break_ends 0 (drop (l.quarter * 2 + l.at) l.units)) + length (break_ends 0 (drop (l.quarter * 3 + l.at) l.units))
-      ≡ length (break_ends 0 l.units) + length (break_ends 0 (drop l.quarter l.units))
-      + length (break_ends 0 (drop (l.quarter * 2) l.units)) + length (break_ends 0 (drop (l.quarter * 3) l.units));
+  counted : l.breaks + at_four (breaks_from l.units) l.at l.quarter
+      ≡ breaks_from l.units 0 + breaks_from l.units l.quarter + breaks_from l.units (l.quarter * 2) + breaks_from l.units (l.quarter * 3);
   within : l.at ≤ l.quarter;
 }
 

@@ -1,5 +1,5 @@
 use Rattle.std.proofs.Common.{◌≡◌, ◌+◌, ◌++◌}
-use Rattle.bracket_trees.specs.Tree.{all_items, all_weight}
+use Rattle.bracket_tree_rules.specs.Tree.{all_items, all_weight}
 use Rattle.bracket_nodes.specs.SharedLists.{shared_items, shared_weight}
 use Rattle.bracket_nodes.proofs.joiner.concat.Given as goal
 

@@ -1,6 +1,6 @@
 use Rattle.std.proofs.Common.{◌≡◌, ◌*◌, ◌<◌, ◌∙◌, refl, ap, arith}
 use Rattle.std.proofs.lemmas.List.Elements.{All-pop}
-use Rattle.bracket_trees.specs.Tree.{tree_entries}
+use Rattle.bracket_tree_rules.specs.Tree.{tree_entries}
 use Rattle.bracket_nodes.specs.Shapes.{tree_size}
 use Rattle.bracket_nodes.specs.Walks.{chosen}
 use Rattle.bracket_nodes.specs.Listing.{entries_left, steps_left, all_steps, HasRoomLeft}

@@ -1,6 +1,6 @@
 -- What was listed and what is left are the entries of the whole.
 use Rattle.std.proofs.Common.{◌≡◌, ◌++◌, All, length, take}
-use Rattle.bracket_trees.specs.Tree.{tree_entries}
+use Rattle.bracket_tree_rules.specs.Tree.{tree_entries}
 use Rattle.bracket_nodes.specs.Walks.{chosen}
 use Rattle.bracket_nodes.specs.Listing.{all_left, all_steps, HasRoomLeft}
 use Rattle.bracket_nodes.proofs.listing.push_entries.Given as goal

@@ -1,7 +1,7 @@
 use Rattle.std.proofs.Common.{rules, ◌≡◌, ◌+◌, ◌++◌, [], ◌∷◌, true, subst, arith}
 use Rattle.text_lengths.specs.Length.{length_plus}
 use Rattle.bracket_rules.specs.Parse.{bracket, spot, judged_opening}
-use Rattle.bracket_trees.specs.Tree.{Tree, pair, two, three, tree_length, tree_entries, inside_start, inside_end, closing_spot, closing_entries}
+use Rattle.bracket_tree_rules.specs.Tree.{Tree, pair, two, three, tree_length, tree_entries, inside_start, inside_end, closing_spot, closing_entries}
 use Rattle.bracket_nodes.specs.Walks.{chosen}
 use Rattle.bracket_nodes.specs.Listing.{all_left}
 use Rattle.bracket_nodes.proofs.ListedEntries.{some_size, listed_two, listed_three, listed_pair}
@@ -69,7 +69,7 @@ returns-in_ok-leave-in-Pair-clause-listed c =
     rw (← c.opening_entry.ensures (inside_end here.start m.opening i)) c.in_ok-push_if-in-Pair.ensures.ok in
     let one : all_left from to c.leave_closing.new.left.items
     ≡ chosen from to (closing_entries (inside_end here.start m.opening i) k c.args.level m.closing (spot here.start m.opening)) ++ all_left from to c.args.left.now.items =
-    search (rules, c.in_ok-leave_closing-in-Pair.ensures.entries from to (spot here.start m.opening)) in
+    search (rules, c.in_ok-leave_closing-in-Pair.ensures.entries (spot here.start m.opening) from to) in
     let both : all_left from to c.leave.new.left.items
     ≡ chosen from to (tree_entries (inside_start here.start m.opening) (c.args.level + 1) i) ++ all_left from to c.leave_closing.new.left.items =
     search (rules, c.in_ok-leave-in-Pair.ensures.entries from to) in

@@ -1,7 +1,7 @@
 use Rattle.std.proofs.Common.{rules, ◌≡◌, ◌≢◌, ℕ, Some, sym, subst}
 use Rattle.std.specs.Option.{option_map}
 use Rattle.bracket_rules.specs.Parse.{partner_at}
-use Rattle.bracket_trees.specs.Tree.{Tree, pair, inside_end, tree_entries, IsTree}
+use Rattle.bracket_tree_rules.specs.Tree.{Tree, pair, inside_end, tree_entries, IsTree}
 use Rattle.bracket_nodes.specs.Walks.{place_and_len}
 use Rattle.bracket_nodes.proofs.PartnerWalk.{partner_of_closing}
 use Rattle.bracket_nodes.proofs.lookups.partner_here.Goals as goal

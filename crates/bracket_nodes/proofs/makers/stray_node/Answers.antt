@@ -1,7 +1,7 @@
 use Rattle.std.proofs.Common.{refl, arith}
 use Rattle.text_lengths.proofs.Lengths.{same_length}
-use Rattle.bracket_trees.specs.Tree.{wide}
-use Rattle.bracket_trees.proofs.KindSets.{has_kind-one}
+use Rattle.bracket_tree_rules.specs.Tree.{wide}
+use Rattle.bracket_tree_rules.proofs.KindSets.{has_kind-one}
 use Rattle.bracket_nodes.proofs.makers.stray_node.Goals as goal
 
 pub invariant_of-shared : goal.invariant_of-shared

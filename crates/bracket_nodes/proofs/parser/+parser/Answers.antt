@@ -4,7 +4,7 @@ use Rattle.std.proofs.lemmas.Result.{IfOk-weaker}
 use Rattle.text_lengths.specs.declared.Length.{Length}
 use Rattle.bracket_rules.specs.declared.TheConstants.{MOST_OPEN}
 use Rattle.std.proofs.lemmas.List.{append-nil}
-use Rattle.bracket_trees.specs.Tree.{nothing}
+use Rattle.bracket_tree_rules.specs.Tree.{nothing}
 use Rattle.bracket_nodes.specs.SharedLists.{shared_items, shared_weight}
 use Rattle.bracket_nodes.specs.declared.parser.Taken.{Taken}
 use Rattle.bracket_nodes.specs.Source.{Ahead, Takes, closing_taken, pair_taken}

@@ -1,7 +1,7 @@
 use Rattle.std.proofs.Common.{ℕ, ◌<◌, ◌^◌, List, sum, sym, subst}
 use Rattle.std.specs.Prelude.{IfOk}
-use Rattle.bracket_trees.specs.Tree.{Tree}
-use Rattle.bracket_trees.specs.Weights.{tree_weights, AreCovered}
+use Rattle.bracket_tree_rules.specs.Tree.{Tree}
+use Rattle.bracket_tree_rules.specs.Weights.{tree_weights, AreCovered}
 use Rattle.bracket_nodes.specs.Source.{weight_ahead}
 use Rattle.bracket_nodes.proofs.ScannedSteps.{whole_weights}
 use Rattle.bracket_nodes.proofs.scanned.parse_lines.Goals as goal

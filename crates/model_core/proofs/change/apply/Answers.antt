@@ -26,9 +26,7 @@ loop-done-init c =
     record {
       units = sym (ap (edited_backwards c.args.text.now.units) none);
       pieces = omega arith;
-      edits = omega arith;
-      room = omega arith;
-      breaks = omega arith;
+      spent = record { edits = omega arith; units = omega arith; breaks = omega arith };
       carried = sym (ap (carried_with c.args.forces c.args.decorations.now) none ∙ carried_with-none c.args.forces c.args.decorations.now c.requires.inside.sound);
       inside = c.requires.inside;
       marks = sym (ap (λ o. marked_backwards c.args.text.now.units o c.args.last.now.marks) none);
@@ -59,18 +57,15 @@ pub replace-dirty-requires-clause-within : goal.replace-dirty-requires-clause-wi
 replace-dirty-requires-clause-within c =
     (turn c.args.text.now.units c.args.ops.now c.loop-done.done c.index-ops-ops.result _ c.requires.standing c.loop-done-test.true c.index-ops-ops.is c.loop-done.invariant.units).within
 
-pub replace-dirty-requires-clause-edits : goal.replace-dirty-requires-clause-edits
-replace-dirty-requires-clause-edits c = omega (arith, c.requires.edits, c.loop-done.invariant.edits, c.loop-done-test.true)
-
 pub replace-dirty-requires-clause-room : goal.replace-dirty-requires-clause-room
 replace-dirty-requires-clause-room c =
     let now = turn c.args.text.now.units c.args.ops.now c.loop-done.done c.index-ops-ops.result _ c.requires.standing c.loop-done-test.true c.index-ops-ops.is c.loop-done.invariant.units in
-    omega (arith, c.requires.room, c.loop-done.invariant.room, c.loop-done-test.true, now.units, now.left, ap length c.as_slice.ensures)
-
-pub replace-dirty-requires-clause-breaks : goal.replace-dirty-requires-clause-breaks
-replace-dirty-requires-clause-breaks c =
-    let now = turn c.args.text.now.units c.args.ops.now c.loop-done.done c.index-ops-ops.result _ c.requires.standing c.loop-done-test.true c.index-ops-ops.is c.loop-done.invariant.units in
-    omega (arith, c.requires.breaks, c.loop-done.invariant.breaks, c.loop-done-test.true, now.breaks, now.breaks_left, ap break_count c.as_slice.ensures)
+    let spent = c.loop-done.invariant.spent in
+    record {
+      edits = omega (arith, c.requires.room.edits, spent.edits, c.loop-done-test.true);
+      units = omega (arith, c.requires.room.units, spent.units, c.loop-done-test.true, now.units, now.left, ap length c.as_slice.ensures);
+      breaks = omega (arith, c.requires.room.breaks, spent.breaks, c.loop-done-test.true, now.breaks, now.breaks_left, ap break_count c.as_slice.ensures);
+    }
 
 pub replace-dirty-requires-clause-small : goal.replace-dirty-requires-clause-small
 replace-dirty-requires-clause-small c =
@@ -126,9 +121,11 @@ loop-done-preserved c =
     record {
       units = left ∙ sym now.leaves;
       pieces = omega (arith, c.loop-done.invariant.pieces, c.replace-dirty.ensures.pieces);
-      edits = omega (arith, c.loop-done.invariant.edits, c.replace-dirty.ensures.spare_edits);
-      room = omega (arith, c.loop-done.invariant.room, c.replace-dirty.ensures.spare_units, now.units, ap length c.as_slice.ensures);
-      breaks = omega (arith, c.loop-done.invariant.breaks, c.replace-dirty.ensures.spare_breaks, now.breaks, ap break_count c.as_slice.ensures);
+      spent = record {
+        edits = omega (arith, c.loop-done.invariant.spent.edits, c.replace-dirty.ensures.spent.edits);
+        units = omega (arith, c.loop-done.invariant.spent.units, c.replace-dirty.ensures.spent.units, now.units, ap length c.as_slice.ensures);
+        breaks = omega (arith, c.loop-done.invariant.spent.breaks, c.replace-dirty.ensures.spent.breaks, now.breaks, ap break_count c.as_slice.ensures);
+      };
       carried = set ∙ sym moved.leaves;
       inside = record { sound = c.accept.ensures.sound; inside = rw (left, set) moved.inside };
       marks = c.mark.ensures.marks ∙ marked c.loop-done.text.units c.index-ops-ops.result c.replace-dirty.result dirty c.loop-done.last.marks
@@ -156,20 +153,16 @@ returns-clause-decorations c =
 pub returns-clause-pieces : goal.returns-clause-pieces
 returns-clause-pieces c = omega (arith, c.loop-done.invariant.pieces)
 
-pub returns-clause-edits : goal.returns-clause-edits
-returns-clause-edits c = omega (arith, c.loop-done.invariant.edits)
-
-pub returns-clause-room : goal.returns-clause-room
-returns-clause-room c =
+pub returns-clause-spent : goal.returns-clause-spent
+returns-clause-spent c =
     let ops = c.args.ops.now in
     let all : length ops - c.loop-done.done ≡ 0 = omega arith in
-    omega (arith, c.loop-done.invariant.room, ap (λ (k : ℕ). text_units (drop k ops)) all)
-
-pub returns-clause-breaks : goal.returns-clause-breaks
-returns-clause-breaks c =
-    let ops = c.args.ops.now in
-    let all : length ops - c.loop-done.done ≡ 0 = omega arith in
-    omega (arith, c.loop-done.invariant.breaks, ap (λ (k : ℕ). text_breaks (drop k ops)) all)
+    let spent = c.loop-done.invariant.spent in
+    record {
+      edits = omega (arith, spent.edits);
+      units = omega (arith, spent.units, ap (λ (k : ℕ). text_units (drop k ops)) all);
+      breaks = omega (arith, spent.breaks, ap (λ (k : ℕ). text_breaks (drop k ops)) all);
+    }
 
 pub returns-clause-marks : goal.returns-clause-marks
 returns-clause-marks c =

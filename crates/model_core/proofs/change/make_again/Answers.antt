@@ -1,13 +1,14 @@
 use Rattle.std.proofs.Common.{false, ◌+◌, length, drop, ap, sym, ◌∙◌, subst, arith}
 use Rattle.std.proofs.lemmas.List.{drop_all}
 use Rattle.batch_rules.specs.Batches.{text_units, applied_from}
-use Rattle.model_core.specs.History.{text_on, changes_on, LeadOn, text_breaks}
+use Rattle.model_core.specs.History.{text_on, changes_on, LeadOn, text_breaks, ops_by}
 use Rattle.model_core.specs.Carrying.{carried_with, decorations_on}
 use Rattle.model_core.proofs.Carries.{decorations_on-cut}
 use Rattle.model_core.specs.LineMarks.{marked_backwards, marked_on}
 use Rattle.model_core.proofs.Staying.{marked_turn_on}
 use Rattle.model_core.proofs.Turns.{turn_on_at, IsTurnOnAt}
 use Rattle.chunk_buffers.proofs.Spans.{Extends-trans}
+use Rattle.model_core.specs.declared.change.Way.TheVariants.{On}
 use Rattle.model_core.proofs.change.make_again.Goals as goal
 
 turn_now : (g : goal.After-ops) → IsTurnOnAt g.args.changes.now g.loop-change.change-index g.change-item.result g.loop-change.text.units
@@ -17,15 +18,17 @@ pub apply-requires : goal.apply-requires
 apply-requires c =
     let now = turn_now c in
     let old = c.loop-change.invariant in
-    let ops = ap length c.ops.ensures.ops in
-    let units = ap text_units c.ops.ensures.ops in
-    let breaks = ap text_breaks c.ops.ensures.ops in
+    let ops = ap length c.ops.ensures in
+    let units = ap text_units c.ops.ensures in
+    let breaks = ap text_breaks c.ops.ensures in
     record {
-      standing = rw c.ops.ensures.ops now.fit.standing;
+      standing = rw c.ops.ensures now.fit.standing;
       small = omega (arith, now.fit.few, now.fit.units, units);
-      edits = omega (arith, old.edits, now.ops, ops);
-      room = omega (arith, old.room, now.ops, now.units, ops, units);
-      breaks = omega (arith, old.breaks, now.ops, now.breaks, ops, breaks);
+      room = record {
+        edits = omega (arith, old.room.edits, now.ops, ops);
+        units = omega (arith, old.room.units, now.ops, now.units, ops, units);
+        breaks = omega (arith, old.room.breaks, now.ops, now.breaks, ops, breaks);
+      };
       lines = old.lines;
       spare = omega (arith, old.spare, now.ops, ops);
       inside = old.inside;
@@ -34,23 +37,25 @@ apply-requires c =
 pub loop-change-preserved : goal.loop-change-preserved
 loop-change-preserved c =
     let now = turn_on_at c.args.changes.now c.loop-change.change-index c.change-item.result c.loop-change.text.units c.loop-change-test.true c.change-item.is c.loop-change.invariant.lead in
-    let text = c.apply.ensures.units ∙ ap (applied_from 0 c.loop-change.text.units) c.ops.ensures.ops in
-    let moved = c.apply.ensures.decorations ∙ ap (carried_with false c.loop-change.decorations) c.ops.ensures.ops in
+    let text = c.apply.ensures.units ∙ ap (applied_from 0 c.loop-change.text.units) c.ops.ensures in
+    let moved = c.apply.ensures.decorations ∙ ap (carried_with false c.loop-change.decorations) c.ops.ensures in
     let rest = drop (c.loop-change.change-index + 1) c.args.changes.now in
-    let after = applied_from 0 c.loop-change.text.units c.change-item.result.batch in
-    let marked = c.apply.ensures.marks ∙ ap (λ ops. marked_backwards c.loop-change.text.units ops c.loop-change.last.marks) c.ops.ensures.ops in
+    let after = applied_from 0 c.loop-change.text.units (ops_by On c.change-item.result) in
+    let marked = c.apply.ensures.marks ∙ ap (λ ops. marked_backwards c.loop-change.text.units ops c.loop-change.last.marks) c.ops.ensures in
     record {
       units = ap (λ t. text_on t (drop (c.loop-change.change-index + 1) c.args.changes.now)) text ∙ sym now.leaves ∙ c.loop-change.invariant.units;
       lead = subst (λ t. LeadOn t (drop (c.loop-change.change-index + 1) c.args.changes.now)) (sym text) now.lead;
-      pieces = omega (arith, c.loop-change.invariant.pieces, c.apply.ensures.pieces, now.ops, ap length c.ops.ensures.ops);
-      edits = omega (arith, c.loop-change.invariant.edits, c.apply.ensures.edits, now.ops, ap length c.ops.ensures.ops);
-      room = omega (arith, c.loop-change.invariant.room, c.apply.ensures.room, now.ops, now.units, ap length c.ops.ensures.ops, ap text_units c.ops.ensures.ops);
-      breaks = omega (arith, c.loop-change.invariant.breaks, c.apply.ensures.breaks, now.ops, now.breaks, ap length c.ops.ensures.ops, ap text_breaks c.ops.ensures.ops);
+      pieces = omega (arith, c.loop-change.invariant.pieces, c.apply.ensures.pieces, now.ops, ap length c.ops.ensures);
+      room = record {
+        edits = omega (arith, c.loop-change.invariant.room.edits, c.apply.ensures.spent.edits, now.ops, ap length c.ops.ensures);
+        units = omega (arith, c.loop-change.invariant.room.units, c.apply.ensures.spent.units, now.ops, now.units, ap length c.ops.ensures, ap text_units c.ops.ensures);
+        breaks = omega (arith, c.loop-change.invariant.room.breaks, c.apply.ensures.spent.breaks, now.ops, now.breaks, ap length c.ops.ensures, ap text_breaks c.ops.ensures);
+      };
       carried = ap (λ d. decorations_on d (drop (c.loop-change.change-index + 1) c.args.changes.now)) moved
           ∙ sym (decorations_on-cut c.loop-change.decorations c.args.changes.now c.loop-change.change-index c.change-item.result c.loop-change-test.true c.change-item.is) ∙ c.loop-change.invariant.carried;
       inside = c.apply.ensures.inside;
       lines = c.apply.ensures.lines;
-      spare = omega (arith, c.loop-change.invariant.spare, c.apply.ensures.spare, now.ops, ap length c.ops.ensures.ops);
+      spare = omega (arith, c.loop-change.invariant.spare, c.apply.ensures.spare, now.ops, ap length c.ops.ensures);
       parsed = c.apply.ensures.parsed ∙ c.loop-change.invariant.parsed;
       tree = c.apply.ensures.tree ∙ c.loop-change.invariant.tree;
       marks = ap (λ t. marked_on c.apply.new.last.marks (changes_on t rest)) text ∙ ap (λ ms. marked_on ms (changes_on after rest)) marked

@@ -2,7 +2,7 @@ use Rattle.std.proofs.Common.{◌≡◌, ℕ, suc, true, ◌+◌, ◌-◌, [], l
 use Rattle.std.proofs.lemmas.List.{drop_all}
 use Rattle.batch_rules.specs.Batches.{text_units, applied_from}
 use Rattle.model_core.specs.declared.change.Way.TheVariants.{Back}
-use Rattle.model_core.specs.History.{text_back, changes_back, op_count, text_breaks}
+use Rattle.model_core.specs.History.{text_back, changes_back, op_count, text_breaks, ops_by}
 use Rattle.model_core.specs.Carrying.{carried_with, decorations_back}
 use Rattle.model_core.proofs.Carries.{decorations_back-cut}
 use Rattle.model_core.specs.LineMarks.{marked_backwards, marked_back}
@@ -18,9 +18,11 @@ loop-done-init c =
     record {
       units = sym (ap (text_back c.args.text.now.units) none);
       pieces = omega arith;
-      edits = omega arith;
-      room = omega arith;
-      breaks = omega arith;
+      spent = record {
+        edits = omega (arith, ap (op_count Back) none);
+        units = omega arith;
+        breaks = omega arith;
+      };
       carried = sym (ap (decorations_back c.args.decorations.now) none);
       inside = c.requires.inside;
       marks = sym (ap (λ d. marked_back c.args.last.now.marks (changes_back c.args.text.now.units d)) none);
@@ -35,27 +37,23 @@ turn_now : (g : goal.After-ops) → IsTurnBack g.args.text.now.units g.args.chan
 turn_now c = turn_back c.args.text.now.units c.args.changes.now c.loop-done.done c.index-changes-changes.result c.loop-done.text.units c.requires.lead c.loop-done-test.true c.index-changes-changes.is c.loop-done.invariant.units
 
 pub apply-requires-clause-standing : goal.apply-requires-clause-standing
-apply-requires-clause-standing c = rw c.ops.ensures.ops (turn_now c).fit.standing
+apply-requires-clause-standing c = rw c.ops.ensures (turn_now c).fit.standing
 
 pub apply-requires-clause-small : goal.apply-requires-clause-small
 apply-requires-clause-small c =
     let now = turn_now c in
-    omega (arith, now.fit.few, now.fit.units, ap text_units c.ops.ensures.ops)
-
-pub apply-requires-clause-edits : goal.apply-requires-clause-edits
-apply-requires-clause-edits c =
-    let now = turn_now c in
-    omega (arith, c.requires.edits, c.loop-done.invariant.edits, now.ops, now.ops_left, ap length c.ops.ensures.ops)
+    omega (arith, now.fit.few, now.fit.units, ap text_units c.ops.ensures)
 
 pub apply-requires-clause-room : goal.apply-requires-clause-room
 apply-requires-clause-room c =
     let now = turn_now c in
-    omega (arith, c.requires.room, c.loop-done.invariant.room, now.ops, now.units, now.ops_left, now.units_left, ap length c.ops.ensures.ops, ap text_units c.ops.ensures.ops)
-
-pub apply-requires-clause-breaks : goal.apply-requires-clause-breaks
-apply-requires-clause-breaks c =
-    let now = turn_now c in
-    omega (arith, c.requires.breaks, c.loop-done.invariant.breaks, now.ops, now.breaks, now.ops_left, now.breaks_left, ap length c.ops.ensures.ops, ap text_breaks c.ops.ensures.ops)
+    let spent = c.loop-done.invariant.spent in
+    let ops = ap length c.ops.ensures in
+    record {
+      edits = omega (arith, c.requires.room.edits, spent.edits, now.ops, now.ops_left, ops);
+      units = omega (arith, c.requires.room.units, spent.units, now.ops, now.units, now.ops_left, now.units_left, ops, ap text_units c.ops.ensures);
+      breaks = omega (arith, c.requires.room.breaks, spent.breaks, now.ops, now.breaks, now.ops_left, now.breaks_left, ops, ap text_breaks c.ops.ensures);
+    }
 
 pub apply-requires-clause-lines : goal.apply-requires-clause-lines
 apply-requires-clause-lines c = c.loop-done.invariant.lines
@@ -63,7 +61,7 @@ apply-requires-clause-lines c = c.loop-done.invariant.lines
 pub apply-requires-clause-spare : goal.apply-requires-clause-spare
 apply-requires-clause-spare c =
     let now = turn_now c in
-    omega (arith, c.requires.spare, c.loop-done.invariant.spare, now.ops, now.ops_left, ap length c.ops.ensures.ops)
+    omega (arith, c.requires.spare, c.loop-done.invariant.spare, now.ops, now.ops_left, ap length c.ops.ensures)
 
 pub loop-done-preserved : goal.loop-done-preserved
 loop-done-preserved c =
@@ -75,18 +73,20 @@ loop-done-preserved c =
     let cut = ap (λ (k : ℕ). decorations_back c.args.decorations.now (drop k changes)) here
     ∙ decorations_back-cut c.args.decorations.now changes (length changes - 1 - c.loop-done.done) c.index-changes-changes.result (omega arith) c.index-changes-changes.is in
     record {
-      units = c.apply.ensures.units ∙ ap (applied_from 0 c.loop-done.text.units) c.ops.ensures.ops ∙ sym now.leaves;
-      pieces = omega (arith, c.loop-done.invariant.pieces, c.apply.ensures.pieces, now.ops, ap length c.ops.ensures.ops);
-      edits = omega (arith, c.loop-done.invariant.edits, c.apply.ensures.edits, now.ops, ap length c.ops.ensures.ops);
-      room = omega (arith, c.loop-done.invariant.room, c.apply.ensures.room, now.ops, now.units, ap length c.ops.ensures.ops, ap text_units c.ops.ensures.ops);
-      breaks = omega (arith, c.loop-done.invariant.breaks, c.apply.ensures.breaks, now.ops, now.breaks, ap length c.ops.ensures.ops, ap text_breaks c.ops.ensures.ops);
-      carried = c.apply.ensures.decorations ∙ ap (carried_with true c.loop-done.decorations) c.ops.ensures.ops ∙ ap (λ d. carried_with true d c.index-changes-changes.result.inverse) (c.loop-done.invariant.carried ∙ before) ∙ sym cut;
+      units = c.apply.ensures.units ∙ ap (applied_from 0 c.loop-done.text.units) c.ops.ensures ∙ sym now.leaves;
+      pieces = omega (arith, c.loop-done.invariant.pieces, c.apply.ensures.pieces, now.ops, ap length c.ops.ensures);
+      spent = record {
+        edits = omega (arith, c.loop-done.invariant.spent.edits, c.apply.ensures.spent.edits, now.ops, ap length c.ops.ensures);
+        units = omega (arith, c.loop-done.invariant.spent.units, c.apply.ensures.spent.units, now.ops, now.units, ap length c.ops.ensures, ap text_units c.ops.ensures);
+        breaks = omega (arith, c.loop-done.invariant.spent.breaks, c.apply.ensures.spent.breaks, now.ops, now.breaks, ap length c.ops.ensures, ap text_breaks c.ops.ensures);
+      };
+      carried = c.apply.ensures.decorations ∙ ap (carried_with true c.loop-done.decorations) c.ops.ensures ∙ ap (λ d. carried_with true d (ops_by Back c.index-changes-changes.result)) (c.loop-done.invariant.carried ∙ before) ∙ sym cut;
       inside = c.apply.ensures.inside;
-      marks = c.apply.ensures.marks ∙ ap (λ ops. marked_backwards c.loop-done.text.units ops c.loop-done.last.marks) c.ops.ensures.ops
+      marks = c.apply.ensures.marks ∙ ap (λ ops. marked_backwards c.loop-done.text.units ops c.loop-done.last.marks) c.ops.ensures
           ∙ marked_turn_back c.args.text.now.units changes c.args.last.now.marks c.loop-done.done c.index-changes-changes.result c.loop-done.text.units c.loop-done.last.marks
           c.requires.lead c.loop-done-test.true c.index-changes-changes.is c.loop-done.invariant.units c.loop-done.invariant.marks;
       lines = c.apply.ensures.lines;
-      spare = omega (arith, c.loop-done.invariant.spare, c.apply.ensures.spare, now.ops, ap length c.ops.ensures.ops);
+      spare = omega (arith, c.loop-done.invariant.spare, c.apply.ensures.spare, now.ops, ap length c.ops.ensures);
       parsed = c.apply.ensures.parsed ∙ c.loop-done.invariant.parsed;
       tree = c.apply.ensures.tree ∙ c.loop-done.invariant.tree;
       grown = Extends-trans c.args.text.now.buffers c.loop-done.text.buffers c.apply.new.text.buffers c.loop-done.invariant.grown c.apply.ensures.grown;

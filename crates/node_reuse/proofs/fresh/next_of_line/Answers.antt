@@ -4,7 +4,7 @@ use Rattle.text_lengths.specs.Length.{length_of}
 use Rattle.bracket_rules.specs.declared.Token.{Token}
 use Rattle.bracket_rules.specs.Table.{AreInLine}
 use Rattle.bracket_nodes.proofs.ScannedSteps.{at_token, token_fits}
-use Rattle.bracket_trees.specs.Tree.{text}
+use Rattle.bracket_tree_rules.specs.Tree.{text}
 use Rattle.bracket_nodes.specs.declared.parser.Next.TheVariants.{Ready}
 use Rattle.node_reuse.specs.declared.line.Line.{Line}
 use Rattle.node_reuse.specs.Reader.{tokens_left, ReadsOn}

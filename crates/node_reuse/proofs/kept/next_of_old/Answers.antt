@@ -2,7 +2,7 @@ use Rattle.std.proofs.Common.{◌≡◌, ℕ, ◌+◌, ◌∙◌, sym, subst, ar
 use Rattle.text_lengths.specs.declared.Length.{Length}
 use Rattle.text_lengths.specs.Length.{length_of}
 use Rattle.bracket_rules.specs.declared.Token.{Token}
-use Rattle.bracket_trees.specs.Tree.{Tree}
+use Rattle.bracket_tree_rules.specs.Tree.{Tree}
 use Rattle.bracket_nodes.specs.declared.parser.Next.TheVariants.{Bracket}
 use Rattle.bracket_nodes.specs.Paying.{PaysFor}
 use Rattle.node_reuse.specs.Paying.{paying_at}

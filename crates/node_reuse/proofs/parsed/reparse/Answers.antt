@@ -3,8 +3,7 @@ use Rattle.std.specs.Prelude.{OnErr}
 use Rattle.node_reuse.specs.Texts.{AsksFront, new_lines}
 use Rattle.node_reuse.specs.Reader.{Sight, sight, asked_so}
 use Rattle.node_reuse.proofs.WholeReader.{some_ahead, first_stands, start_fits, whole_tree, whole_tight, whole_light, none_asked}
-use Rattle.node_reuse.specs.Paying.{token_count}
-use Rattle.node_reuse.proofs.StepBound.{start_room, steps_within}
+use Rattle.node_reuse.proofs.StepBound.{few_steps}
 use Rattle.node_reuse.proofs.parsed.reparse.Goals as goal
 
 none_if : {A E : Type 0} (r : Result A E) (lines asked : List ℕ) → OnErr r (AsksFront lines asked asked)
@@ -48,19 +47,13 @@ returns-clause-light g c =
 pub returns-in_err-tree-clause-steps : goal.returns-in_err-tree-clause-steps
 returns-in_err-tree-clause-steps g c = λ old there paired one room.
     let s : Sight = sight c.args.table.now (g.Q.Lines.state c.args.lines.now).contents (g.O.Old.text c.args.old) c.args.hunks.now.marks in
-    let line = c.in_ok-line.line in
-    let steps = c.args.steps.now in
-    let within = steps_within s line steps old there paired c.requires.agrees one c.parse.new.source.steps.now
-    (token_count s.table s.contents (new_lines s.marks))
-    (c.parse.ensures.spends (start_room s line steps old there paired c.requires.agrees one room c.in_ok-line.ensures.scanned)) in
-    search (rules, within)
+    let few = few_steps s c.in_ok-line.line c.args.steps.now c.parse.new.source.steps.now c.requires.agrees c.in_ok-line.ensures.scanned
+    c.parse.ensures.spends old there paired one room in
+    search (rules, few)
 
 pub returns-clause-steps : goal.returns-clause-steps
 returns-clause-steps g c = λ old there paired one room.
     let s : Sight = sight c.args.table.now (g.Q.Lines.state c.args.lines.now).contents (g.O.Old.text c.args.old) c.args.hunks.now.marks in
-    let line = c.in_ok-line.line in
-    let steps = c.args.steps.now in
-    let within = steps_within s line steps old there paired c.requires.agrees one c.parse.new.source.steps.now
-    (token_count s.table s.contents (new_lines s.marks))
-    (c.parse.ensures.spends (start_room s line steps old there paired c.requires.agrees one room c.in_ok-line.ensures.scanned)) in
-    search (rules, within)
+    let few = few_steps s c.in_ok-line.line c.args.steps.now c.parse.new.source.steps.now c.requires.agrees c.in_ok-line.ensures.scanned
+    c.parse.ensures.spends old there paired one room in
+    search (rules, few)

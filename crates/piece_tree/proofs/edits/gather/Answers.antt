@@ -1,5 +1,5 @@
 use Rattle.std.proofs.Common.{ap, arith}
-use Rattle.rb_arena.specs.Value.{AtItem}
+use Rattle.rb_arena.specs.RbTree.{AtItem}
 use Rattle.piece_tree.specs.Runs.{HasTaken}
 use Rattle.piece_tree.proofs.Runs.{gathers_one, gathers_more, taken_named}
 use Rattle.piece_tree.proofs.edits.gather.Goals as goal

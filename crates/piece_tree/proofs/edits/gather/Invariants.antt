@@ -1,6 +1,6 @@
 use Rattle.std.proofs.Common.{◌<◌, ◌≤◌, ◌^◌, length}
 use Rattle.std.specs.List.{All}
-use Rattle.rb_arena.specs.Value.{AtItem, IsItem}
+use Rattle.rb_arena.specs.RbTree.{AtItem, IsItem}
 use Rattle.piece_tree.specs.Pieces.{unit_count}
 use Rattle.piece_tree.specs.Searches.{few_breaks}
 use Rattle.piece_tree.specs.Inside.{in_order}

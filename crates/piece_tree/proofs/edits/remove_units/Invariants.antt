@@ -1,5 +1,5 @@
 use Rattle.std.proofs.Common.{◌≡◌, ℕ, ◌<◌, ◌≤◌, ◌^◌, List, length}
-use Rattle.rb_arena.specs.Value.{AtItem, SplitsAt}
+use Rattle.rb_arena.specs.RbTree.{AtItem, SplitsAt}
 use Rattle.piece_tree.specs.declared.piece.Piece.{Piece}
 use Rattle.piece_tree.specs.Pieces.{back, unit_count}
 use Rattle.piece_tree.specs.Inside.{in_order, HasPiecesBehind}

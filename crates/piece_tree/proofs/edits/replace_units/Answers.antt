@@ -1,12 +1,17 @@
-use Rattle.std.proofs.Common.{◌+◌, ◌≤◌, ◌++◌, sym, subst, ◌∙◌, arith}
+use Rattle.std.proofs.Common.{◌+◌, ◌≤◌, ◌++◌, ap, sym, subst, ◌∙◌, arith}
 use Rattle.std.specs.Option.{IfSome}
-use Rattle.piece_tree.specs.Pieces.{IsFound, piece_list, followed_by}
+use Rattle.piece_tree.specs.Pieces.{IsFound, unit_count, listed, span_of, followed_by}
 use Rattle.piece_tree.specs.Inside.{entries_of, in_order}
-use Rattle.piece_tree.proofs.Cuts.{pieces_few}
+use Rattle.piece_tree.proofs.Cuts.{piece_few, pieces_few}
 use Rattle.piece_tree.proofs.Runs.{run_there, first_fits, spliced_put, room_put}
+use Rattle.piece_tree.proofs.Prolonged.{listed_is}
 use Rattle.piece_tree.proofs.Fronts.{keeps_before}
 use Rattle.piece_tree.proofs.Heads.{heads_found, heads_near, heads_none}
 use Rattle.piece_tree.proofs.edits.replace_units.Goals as goal
+
+pub put_only-requires-clause-few : goal.put_only-requires-clause-few
+put_only-requires-clause-few c =
+    let piece = c.in_ok-piece.field-0 in piece_few c.args.chunks.now.buffers piece (c.requires.counted piece c.in_ok-piece.was)
 
 pub gather-run-requires-clause-few : goal.gather-run-requires-clause-few
 gather-run-requires-clause-few c = pieces_few c.args.chunks.now.buffers (in_order c.args.tree.now.items) c.requires.pieces
@@ -14,14 +19,14 @@ gather-run-requires-clause-few c = pieces_few c.args.chunks.now.buffers (in_orde
 pub rest_behind-right-requires-clause-run : goal.rest_behind-right-requires-clause-run
 rest_behind-right-requires-clause-run c =
     let is = c.in-Some.ensures in let h = c.gather-run.ensures.run is.earlier is.piece is.later is.place in
-    run_there c.args.chunks.now.buffers c.args.offset (c.args.offset + c.args.deleted) c.args.span c.args.tree.now.items c.gather-run.new.tree.items c.in-Some.cut c.gather-run.result is h c.requires.pieces
+    run_there c.args.chunks.now.buffers c.args.offset (c.args.offset + c.args.deleted) (span_of c.args.piece) c.args.tree.now.items c.gather-run.new.tree.items c.in-Some.cut c.gather-run.result is h c.requires.pieces
 
 pub put-first-requires-clause-left : goal.put-first-requires-clause-left
 put-first-requires-clause-left c = λ left eq.
     let is = c.in-Some.ensures in let h = c.gather-run.ensures.run is.earlier is.piece is.later is.place in
     let r = c.rest_behind-right.ensures.left is.earlier h.whole h.later h.place in
     let more =
-    first_fits c.args.chunks.now.buffers c.args.offset (c.args.offset + c.args.deleted) c.args.span c.args.tree.now.items c.gather-run.new.tree.items c.in-Some.cut c.gather-run.result is h c.requires.pieces in
+    first_fits c.args.chunks.now.buffers c.args.offset (c.args.offset + c.args.deleted) (span_of c.args.piece) c.args.tree.now.items c.gather-run.new.tree.items c.in-Some.cut c.gather-run.result is h c.requires.pieces in
     (is.earlier, (h.whole, (r.later, r.place, omega (arith, more, is.within left eq))))
 
 pub put-first-requires-clause-fits : goal.put-first-requires-clause-fits
@@ -29,16 +34,16 @@ put-first-requires-clause-fits c =
     let is = c.in-Some.ensures in let h = c.gather-run.ensures.run is.earlier is.piece is.later is.place in
     let r = c.rest_behind-right.ensures.left is.earlier h.whole h.later h.place in
     let room =
-    room_put c.args.chunks.now.buffers c.args.offset (c.args.offset + c.args.deleted) c.args.span c.args.tree.now.items c.gather-run.new.tree.items c.in-Some.cut c.gather-run.result is h c.requires.pieces
+    room_put c.args.chunks.now.buffers c.args.offset (c.args.offset + c.args.deleted) (span_of c.args.piece) c.args.tree.now.items c.gather-run.new.tree.items c.in-Some.cut c.gather-run.result is h c.requires.pieces
     c.rest_behind-right.new.tree.items c.rest_behind-right.result r (omega (arith, c.requires.range)) in
-    (is.earlier, (h.whole, (r.later, r.place, omega (arith, room, c.requires.range, c.requires.fits))))
+    (is.earlier, (h.whole, (r.later, r.place, omega (arith, room, c.requires.range, c.requires.fits, ap unit_count (listed_is c.args.chunks.now.buffers c.args.piece c.requires.counted)))))
 
 pub returns-clause-spliced : goal.returns-clause-spliced
 returns-clause-spliced c =
     let is = c.in-Some.ensures in let h = c.gather-run.ensures.run is.earlier is.piece is.later is.place in
     let r = c.rest_behind-right.ensures.left is.earlier h.whole h.later h.place in
     c.put-first.ensures.items is.earlier h.whole r.later r.place
-    ∙ spliced_put c.args.chunks.now.buffers c.args.offset (c.args.offset + c.args.deleted) c.args.span c.args.tree.now.items c.gather-run.new.tree.items c.in-Some.cut c.gather-run.result is h c.requires.pieces
+    ∙ spliced_put c.args.chunks.now.buffers c.args.offset (c.args.offset + c.args.deleted) (span_of c.args.piece) c.args.tree.now.items c.gather-run.new.tree.items c.in-Some.cut c.gather-run.result is h c.requires.pieces
     c.rest_behind-right.new.tree.items c.rest_behind-right.result r
 
 pub returns-clause-front : goal.returns-clause-front
@@ -54,7 +59,7 @@ returns-clause-told c =
     let r = c.rest_behind-right.ensures.left is.earlier h.whole h.later h.place in
     let new = c.put-first.new.tree.items in let before = c.in-Some.cut.before in
     subst (λ o. IfSome o (IsFound (entries_of new))) (sym c.found_first.ensures)
-    (heads_found is.earlier (followed_by b (piece_list b c.in-Some.cut.left) c.args.span ++ piece_list b c.rest_behind-right.result) c.put-first.result new before is.before
+    (heads_found is.earlier (followed_by b (listed c.in-Some.cut.left) (span_of c.args.piece) ++ listed c.rest_behind-right.result) c.put-first.result new before is.before
     (c.put-first.ensures.first is.earlier h.whole r.later r.place))
 
 pub returns-clause-near : goal.returns-clause-near
@@ -64,7 +69,7 @@ returns-clause-near c =
     let r = c.rest_behind-right.ensures.left is.earlier h.whole h.later h.place in
     let new = c.put-first.new.tree.items in let before = c.in-Some.cut.before in
     subst (λ o. IfSome o (λ found. (found.before.units ≤ c.args.offset) × (c.args.offset ≤ found.before.units + found.span.units))) (sym c.found_first.ensures)
-    (heads_near b is.earlier (piece_list b c.rest_behind-right.result) new c.in-Some.cut.left c.args.span c.put-first.result before c.args.offset is.before is.begins
+    (heads_near b is.earlier (listed c.rest_behind-right.result) new c.in-Some.cut.left (span_of c.args.piece) c.put-first.result before c.args.offset is.before is.begins
     (c.put-first.ensures.first is.earlier h.whole r.later r.place))
 
 pub returns-clause-none : goal.returns-clause-none
@@ -72,5 +77,5 @@ returns-clause-none c = λ none.
     let b = c.args.chunks.now.buffers in
     let is = c.in-Some.ensures in let h = c.gather-run.ensures.run is.earlier is.piece is.later is.place in
     let r = c.rest_behind-right.ensures.left is.earlier h.whole h.later h.place in
-    heads_none b is.earlier (piece_list b c.rest_behind-right.result) c.put-first.new.tree.items c.in-Some.cut.left c.args.span c.put-first.result c.in-Some.cut.before
+    heads_none b is.earlier (listed c.rest_behind-right.result) c.put-first.new.tree.items c.in-Some.cut.left c.args.piece c.put-first.result c.in-Some.cut.before
     (sym c.found_first.ensures ∙ none) (c.put-first.ensures.first is.earlier h.whole r.later r.place)

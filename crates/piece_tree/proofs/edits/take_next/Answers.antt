@@ -1,5 +1,5 @@
 use Rattle.std.proofs.Common.{◌≤◌, ◌+◌, ◌^◌, ◌++◌, ◌∷◌, [], MatchOption, refl, ap, sym, subst, ◌∙◌, arith}
-use Rattle.rb_arena.specs.Value.{AtItem}
+use Rattle.rb_arena.specs.RbTree.{AtItem}
 use Rattle.piece_tree.specs.declared.edits.Run.{Run}
 use Rattle.piece_tree.specs.Searches.{few_breaks}
 use Rattle.piece_tree.specs.Runs.{HasBoth, HasTaken, TakesNone}

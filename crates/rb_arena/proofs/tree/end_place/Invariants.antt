@@ -1,6 +1,6 @@
 use Rattle.std.proofs.Common.{◌-◌}
 use Rattle.std.specs.Prelude.{IfSome}
-use Rattle.slot_arena.specs.Arena.{IsLive}
+use Rattle.raw_arena.specs.Arena.{IsLive}
 use Rattle.rb_arena.specs.Ends.{NearsEnd}
 use Rattle.rb_arena.proofs.tree.end_place.Given as goal
 

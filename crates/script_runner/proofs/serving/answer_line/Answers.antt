@@ -11,21 +11,14 @@ use Rattle.script_runner.specs.Script.{is_refused}
 use Rattle.script_runner.specs.Progress.{refusals, memory_refusals}
 use Rattle.script_runner.proofs.serving.answer_line.Goals as goal
 
-one_refusal : (r : Refusal) → refusals (refusal_reply r ∷ []) ≡ 1
-one_refusal Syntax = refl
-one_refusal Unknown = refl
-one_refusal Range = refl
-one_refusal Overlap = refl
-one_refusal Limit = refl
-one_refusal Memory = refl
-
-memory_refusal : (r : Refusal) → memory_refusals (refusal_reply r ∷ []) ≡ (if is_memory r then 1 else 0)
-memory_refusal Syntax = refl
-memory_refusal Unknown = refl
-memory_refusal Range = refl
-memory_refusal Overlap = refl
-memory_refusal Limit = refl
-memory_refusal Memory = refl
+-- the reply to a refusal is counted as one, and as one for want of memory where it is
+counted_refusal : (r : Refusal) → (refusals (refusal_reply r ∷ []) ≡ 1) × (memory_refusals (refusal_reply r ∷ []) ≡ (if is_memory r then 1 else 0))
+counted_refusal Syntax = (refl, refl)
+counted_refusal Unknown = (refl, refl)
+counted_refusal Range = (refl, refl)
+counted_refusal Overlap = (refl, refl)
+counted_refusal Limit = (refl, refl)
+counted_refusal Memory = (refl, refl)
 
 no_memory_refusal : (reply : List ℕ) → is_refused reply ≡ false → memory_refusals (reply ∷ []) ≡ 0
 no_memory_refusal [] other = refl
@@ -34,12 +27,12 @@ no_memory_refusal (byte ∷ bytes) other = rw (ne_eqb 33 byte (λ e. both_ways _
 refusals_of : (o : Result Reply Refused) → IfOk o (λ reply. is_refused (bytes_of reply) ≡ false)
     → refusals (bytes_of_outcome o ∷ []) ≡ (if is_err o then 1 else 0)
 refusals_of (Ok reply) accepted = rw accepted refl
-refusals_of (Err refused) accepted = one_refusal refused.0
+refusals_of (Err refused) accepted = (counted_refusal refused.0).0
 
 memory_refusals_of : (o : Result Reply Refused) → IfOk o (λ reply. is_refused (bytes_of reply) ≡ false)
     → memory_refusals (bytes_of_outcome o ∷ []) ≡ (if is_for_memory o then 1 else 0)
 memory_refusals_of (Ok reply) accepted = no_memory_refusal (bytes_of reply) accepted
-memory_refusals_of (Err refused) accepted = memory_refusal refused.0
+memory_refusals_of (Err refused) accepted = (counted_refusal refused.0).1
 
 pub returns : goal.returns
 returns g c = record {

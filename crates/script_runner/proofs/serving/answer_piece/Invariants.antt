@@ -4,7 +4,7 @@ use Rattle.script_runner.proofs.serving.answer_piece.Given as goal
 
 abbrev pub invariant-loop-line : goal.invariant-loop-line
 invariant-loop-line g l =
-    IsAnsweredTo l.fn.piece l.rest l.fn.model.document l.fn.progress l.model.document l.progress
+    IsAnsweredTo l.fn.piece l.rest l.fn.session l.fn.progress l.session l.progress
     (g.K.Sink.state l.fn.out) (g.K.Sink.state l.out)
 
 abbrev pub decreases-loop-line : goal.decreases-loop-line

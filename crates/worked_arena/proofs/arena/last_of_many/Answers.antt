@@ -1,6 +1,6 @@
 use Rattle.std.proofs.Common.{◌∙◌, ap}
 use Rattle.std.specs.FinMap as map
-use Rattle.slot_arena.proofs.Names.{get-insert_same}
+use Rattle.raw_arena.proofs.Names.{get-insert_same}
 use Rattle.worked_arena.proofs.arena.last_of_many.Goals as goal
 
 pub visit-last-requires : goal.visit-last-requires

@@ -3,7 +3,7 @@ use Rattle.std.specs.Ordering.{nat_cmp}
 use Rattle.std.specs.FinMap as map
 use Rattle.std.proofs.lemmas.Cmp.{nat_cmp_total}
 use Rattle.std.proofs.lemmas.Option.{none-some}
-use Rattle.slot_arena.proofs.Names.{get-insert_same, get-insert_other, get-remove_other}
+use Rattle.raw_arena.proofs.Names.{get-insert_same, get-insert_other, get-remove_other}
 use Rattle.worked_arena.proofs.arena.put_two_take_one.Goals as goal
 
 pub take-requires : goal.take-requires

@@ -1,6 +1,6 @@
 use Rattle.std.proofs.Common.{sym, ◌∙◌, ap}
 use Rattle.std.specs.Option.{unwrap_or}
-use Rattle.slot_arena.proofs.Names.{get-insert_same}
+use Rattle.raw_arena.proofs.Names.{get-insert_same}
 use Rattle.worked_arena.proofs.arena.what_is_left.Goals as goal
 
 pub visit-requires : goal.visit-requires

@@ -1,6 +1,6 @@
 use Rattle.std.proofs.Common.{◌≡◌, ◌+◌, [], ◌∷◌, ◌++◌, ap, sym, ◌∙◌, arith}
 use Rattle.std.proofs.lemmas.List.{append-nil}
-use Rattle.bracket_trees.specs.Tree.{Tree, weight, items}
+use Rattle.bracket_tree_rules.specs.Tree.{Tree, weight, items}
 use Rattle.bracket_nodes.specs.declared.joiner.Joiner.{Joiner}
 use Rattle.bracket_nodes.specs.SharedLists.{shared_items, shared_weight}
 use Rattle.bracket_nodes.proofs.Shares.{popped_items, popped_weight, Holds-joined}

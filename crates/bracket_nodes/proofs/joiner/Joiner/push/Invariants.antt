@@ -1,5 +1,5 @@
 use Rattle.std.proofs.Common.{◌≡◌, ◌+◌, ◌++◌, vec_len}
-use Rattle.bracket_trees.specs.Tree.{items, weight}
+use Rattle.bracket_tree_rules.specs.Tree.{items, weight}
 use Rattle.bracket_nodes.specs.SharedLists.{shared_items, shared_weight}
 use Rattle.bracket_nodes.proofs.joiner.Joiner.push.Given as goal
 

@@ -1,7 +1,7 @@
 use Rattle.std.proofs.Common.{◌≡◌, ℕ, ◌<◌, ◌^◌, false, eqb, ltb, ap, sym, ◌∙◌, arith}
 use Rattle.std.proofs.lemmas.Bool.Decides.{nat_tests}
 use Rattle.std.proofs.lemmas.Nat.Bits.{bit_at_above}
-use Rattle.bracket_trees.specs.Told.{has_kind}
+use Rattle.bracket_tree_rules.specs.Told.{has_kind}
 use Rattle.bracket_nodes.proofs.kinds.Kinds.has.Goals as goal
 
 pub returns-else-kind : goal.returns-else-kind

@@ -1,8 +1,8 @@
 use Rattle.std.proofs.Common.{◌≡◌, ℕ, ◌<◌, ◌^◌, ap, sym, ◌∙◌, arith}
 use Rattle.std.specs.Prelude.{bit_and}
 use Rattle.std.proofs.lemmas.Bool.{eqb-true, eq-eqb}
-use Rattle.bracket_trees.specs.Told.{has_kind}
-use Rattle.bracket_trees.proofs.KindSets.{kinds_apart, apart_kinds}
+use Rattle.bracket_tree_rules.specs.Told.{has_kind}
+use Rattle.bracket_tree_rules.proofs.KindSets.{kinds_apart, apart_kinds}
 use Rattle.bracket_nodes.proofs.kinds.Kinds.is_apart_from.Goals as goal
 
 pub returns : goal.returns

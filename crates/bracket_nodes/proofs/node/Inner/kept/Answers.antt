@@ -1,5 +1,5 @@
 use Rattle.std.proofs.Common.{◌≡◌, subst}
-use Rattle.bracket_trees.specs.Tree.{Tree, weight}
+use Rattle.bracket_tree_rules.specs.Tree.{Tree, weight}
 use Rattle.bracket_nodes.specs.Shapes.{tree_of}
 use Rattle.bracket_nodes.specs.Kept.{Keeps}
 use Rattle.bracket_nodes.specs.Bounds.{IsBounded}

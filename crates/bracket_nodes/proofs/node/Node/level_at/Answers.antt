@@ -1,5 +1,5 @@
 use Rattle.std.proofs.Common.{ap, sym, arith}
-use Rattle.bracket_trees.specs.Tree.{Tree, tree_level}
+use Rattle.bracket_tree_rules.specs.Tree.{Tree, tree_level}
 use Rattle.bracket_nodes.proofs.node.Node.level_at.Goals as goal
 
 pub loop-next-init : goal.loop-next-init

@@ -1,6 +1,6 @@
 -- The level at the node that was reached is the level in the whole.
 use Rattle.std.proofs.Common.{◌≡◌}
-use Rattle.bracket_trees.specs.Tree.{tree_level}
+use Rattle.bracket_tree_rules.specs.Tree.{tree_level}
 use Rattle.bracket_nodes.specs.Shapes.{tree_size}
 use Rattle.bracket_nodes.specs.Walks.{HasRoom}
 use Rattle.bracket_nodes.specs.LevelSteps.{level_told}

@@ -1,5 +1,5 @@
 use Rattle.std.proofs.Common.{◌∙◌, Some, None, sym, arith}
-use Rattle.bracket_trees.proofs.Parts.{part_within}
+use Rattle.bracket_tree_rules.proofs.Parts.{part_within}
 use Rattle.bracket_nodes.proofs.PartnerWalk.{partner_in_part, no_partner_here}
 use Rattle.bracket_nodes.proofs.node.Node.partner_of.Goals as goal
 

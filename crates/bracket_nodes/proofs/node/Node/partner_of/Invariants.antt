@@ -1,6 +1,6 @@
 -- The partner at the node that was reached is the partner in the whole.
 use Rattle.std.proofs.Common.{◌+◌, ◌<◌, ◌^◌}
-use Rattle.bracket_trees.specs.Tree.{weight}
+use Rattle.bracket_tree_rules.specs.Tree.{weight}
 use Rattle.bracket_nodes.specs.Shapes.{tree_size}
 use Rattle.bracket_nodes.specs.Walks.{ShowsPartner}
 use Rattle.bracket_nodes.proofs.node.Node.partner_of.Given as goal

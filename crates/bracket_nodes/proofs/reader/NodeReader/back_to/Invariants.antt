@@ -1,6 +1,6 @@
 -- What is left of the path still leads down from the root.
 use Rattle.std.proofs.Common.{◌≡◌, All, vec_len}
-use Rattle.bracket_trees.specs.Parts.{IsShown}
+use Rattle.bracket_tree_rules.specs.Parts.{IsShown}
 use Rattle.bracket_nodes.proofs.reader.NodeReader.back_to.Given as goal
 
 abbrev pub invariant-loop-last : goal.invariant-loop-last

@@ -1,6 +1,6 @@
 use Rattle.std.proofs.Common.{◌∙◌, Option, Some, None}
 use Rattle.std.specs.Prelude.{IfNone}
-use Rattle.bracket_trees.proofs.Parts.{part_shown, bracket_in_part, no_bracket_here}
+use Rattle.bracket_tree_rules.proofs.Parts.{part_shown, bracket_in_part, no_bracket_here}
 use Rattle.bracket_nodes.proofs.reader.NodeReader.bracket_at.Goals as goal
 
 if_none : {A : Type 0} (o : Option A) (P : Type 0) → P → IfNone o P

@@ -1,6 +1,6 @@
 -- What is found at the node that was reached is what is found in the whole.
 use Rattle.std.proofs.Common.{◌≡◌}
-use Rattle.bracket_trees.specs.Parts.{IsShown, ShowsBrackets}
+use Rattle.bracket_tree_rules.specs.Parts.{IsShown, ShowsBrackets}
 use Rattle.bracket_nodes.specs.Shapes.{tree_size}
 use Rattle.bracket_nodes.proofs.reader.NodeReader.bracket_at.Given as goal
 

@@ -1,7 +1,7 @@
 use Rattle.std.proofs.Common.{◌∙◌, Option, Some, None}
 use Rattle.std.specs.Prelude.{IfNone}
-use Rattle.bracket_trees.proofs.Longest.{longest_here}
-use Rattle.bracket_trees.proofs.Parts.{part_shown, node_in_part, no_node_here}
+use Rattle.bracket_tree_rules.proofs.Longest.{longest_here}
+use Rattle.bracket_tree_rules.proofs.Parts.{part_shown, node_in_part, no_node_here}
 use Rattle.bracket_nodes.proofs.reader.NodeReader.longest_at.Goals as goal
 
 if_none : {A : Type 0} (o : Option A) (P : Type 0) → P → IfNone o P

@@ -3,7 +3,7 @@ use Rattle.std.proofs.lemmas.List.{take_rest, nil_from_length}
 use Rattle.text_lengths.specs.Length.{length_of}
 use Rattle.bracket_rules.specs.declared.Token.{Token}
 use Rattle.bracket_rules.specs.Table.{token, AreInLine}
-use Rattle.bracket_trees.specs.Tree.{text}
+use Rattle.bracket_tree_rules.specs.Tree.{text}
 use Rattle.bracket_nodes.specs.declared.scanned.ScannedLine.{ScannedLine}
 use Rattle.bracket_nodes.specs.Source.{Ahead, GivesNode, GivesBracket}
 use Rattle.bracket_nodes.specs.ScannedLines.{ahead_of}

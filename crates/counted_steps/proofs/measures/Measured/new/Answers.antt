@@ -1,4 +1,4 @@
-use Rattle.bracket_trees.specs.Tree.{weight}
+use Rattle.bracket_tree_rules.specs.Tree.{weight}
 use Rattle.counted_steps.proofs.Heights.{low_list}
 use Rattle.counted_steps.proofs.measures.Measured.new.Goals as goal
 

@@ -1,19 +1,19 @@
-use Rattle.std.proofs.Common.{◌≡◌, ◌+◌, length, cond, is_ok, [], ◌∷◌, ◌++◌, refl, ap, sym, ◌∙◌, subst, arith}
+use Rattle.std.proofs.Common.{◌≡◌, ◌+◌, length, [], ◌∷◌, ◌++◌, refl, ap, sym, ◌∙◌, subst, arith}
+use Rattle.paged_list.specs.List.{Paged}
 use Rattle.line_hunks.specs.declared.stack.Stacked.{Stacked}
 use Rattle.line_hunks.specs.Run.{lines_in}
 use Rattle.line_hunks.specs.Stack.{Shown, AreStackedOn}
 use Rattle.line_hunks.proofs.Stacks.{top_of, length-runs_onto, lines_in-runs_onto, AreStackedOn-push, shown-push}
 use Rattle.line_hunks.proofs.stack.RunStack.push.Goals as goal
 
-pub unwrap-requires : goal.unwrap-requires
-unwrap-requires c = c.push.ensures.succeeds
-    (omega (arith, length-runs_onto [] c.self.inside.runs.items, ap (λ (s : Shown). length s.runs) c.self.view_is, ap (λ (s : Shown). s.room) c.self.view_is))
+pub push-requires : goal.push-requires
+push-requires c =
+    omega (arith, length-runs_onto [] c.self.inside.runs.items, ap (λ (s : Shown). length s.runs) c.self.view_is, ap (λ (s : Shown). s.room) c.self.view_is, c.requires.room)
 
 pub invariant_of-self : goal.invariant_of-self
 invariant_of-self c =
     let next : Stacked = record { run = c.args.run; height = c.lines.result + c.args.run.lines } in
-    let pushed : c.push.new.self.items ≡ c.self.inside.runs.items ++ next ∷ [] =
-    c.push.ensures.items ∙ ap (λ r. cond (is_ok r) (c.self.inside.runs.items ++ next ∷ []) c.self.inside.runs.items) c.unwrap.ensures in
+    let pushed : c.push.new.self.items ≡ c.self.inside.runs.items ++ next ∷ [] = ap (λ (p : Paged Stacked). p.items) c.push.ensures in
     let top : c.lines.result ≡ top_of 0 c.self.inside.runs.items =
     c.lines.ensures ∙ sym (ap (λ (s : Shown). lines_in s.runs) c.self.view_is) ∙ lines_in-runs_onto 0 [] c.self.inside.runs.items refl c.self.invariant in
     subst (AreStackedOn 0) (sym pushed)
@@ -22,6 +22,5 @@ invariant_of-self c =
 pub returns-clause-runs : goal.returns-clause-runs
 returns-clause-runs c =
     let next : Stacked = record { run = c.args.run; height = c.lines.result + c.args.run.lines } in
-    let pushed : c.push.new.self.items ≡ c.self.inside.runs.items ++ next ∷ [] =
-    c.push.ensures.items ∙ ap (λ r. cond (is_ok r) (c.self.inside.runs.items ++ next ∷ []) c.self.inside.runs.items) c.unwrap.ensures in
-    shown-push c.self.inside.runs.items c.push.new.self.items next c.args.self.now.runs pushed (ap (λ (s : Shown). s.runs) c.self.view_is)
+    shown-push c.self.inside.runs.items c.push.new.self.items next c.args.self.now.runs (ap (λ (p : Paged Stacked). p.items) c.push.ensures)
+    (ap (λ (s : Shown). s.runs) c.self.view_is)

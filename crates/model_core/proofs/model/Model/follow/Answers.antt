@@ -53,9 +53,11 @@ lead-requires c =
     sym step.breaks ∙ ap (λ (s : ModelState). next_break_count way (next_steps way s.document.history)) c.self.view_is in
     record {
       lead = rw c.changes.ensures step.lead;
-      edits = rw c.changes.ensures (omega (arith, edits, c.requires.room.edits, ap (λ (s : ModelState). s.room.edits) c.self.view_is));
-      room = rw c.changes.ensures (omega (arith, edits, units, c.requires.room.units, ap (λ (s : ModelState). s.room.units) c.self.view_is));
-      breaks = rw c.changes.ensures (omega (arith, edits, breaks, c.requires.room.breaks, ap (λ (s : ModelState). s.room.breaks) c.self.view_is));
+      room = rw c.changes.ensures (record {
+        edits = omega (arith, edits, c.requires.room.text.edits, ap (λ (s : ModelState). s.room.text.edits) c.self.view_is);
+        units = omega (arith, edits, units, c.requires.room.text.units, ap (λ (s : ModelState). s.room.text.units) c.self.view_is);
+        breaks = omega (arith, edits, breaks, c.requires.room.text.breaks, ap (λ (s : ModelState). s.room.text.breaks) c.self.view_is);
+      });
       lines = c.self.invariant.4.count;
       spare = rw c.changes.ensures (omega (arith, edits, c.requires.room.marks, ap (λ (s : ModelState). s.room.marks) c.self.view_is));
       inside = c.self.invariant.3;

@@ -69,10 +69,12 @@ returns-clause-ready c =
     edit_ready _ c.args.ops.items sorted c.in_ok-inverse.inverse c.making.result (rw text rule) (rw text inverse) c.making.ensures.action
     (omega (arith, next, c.making.ensures.version)) (omega (arith, next, last))
     (record {
-      edits = grind (arith, common_steps);
+      text = record {
+        edits = grind (arith, common_steps);
+        units = grind (arith, common_steps);
+        breaks = grind (arith, common_steps);
+      };
       marks = grind (arith, common_steps);
-      units = grind (arith, common_steps);
-      breaks = grind (arith, common_steps);
       changes = grind (arith, common_steps);
     })
 

@@ -1,11 +1,11 @@
-use Rattle.std.proofs.Common.{◌≡◌, ◌+◌, ◌*◌, ◌<◌, ◌≤◌, slice_get, Some, None, Err, refl, ap, sym, ◌∙◌, arith}
+use Rattle.std.proofs.Common.{◌≡◌, ◌+◌, ◌<◌, ◌≤◌, slice_get, Some, None, Err, refl, ap, sym, ◌∙◌, arith}
 use Rattle.std.proofs.lemmas.Grind.{common_steps}
 use Rattle.edit_stack.specs.Element.{step_of}
 use Rattle.document_rules.specs.Refusals.{limit}
 use Rattle.document_rules.specs.Document.{greatest_version}
 use Rattle.model_core.specs.State.{ModelState}
-use Rattle.text_buffer.specs.Text.{units_beside_text, breaks_beside_text}
-use Rattle.model_core.specs.History.{op_count, unit_count, breaks_along}
+use Rattle.text_buffer.specs.Room.{IsEnough}
+use Rattle.model_core.specs.History.{op_count, need_along}
 use Rattle.model_core.specs.Ways.{next_steps, flat_move}
 use Rattle.model_core.proofs.Stepping.{IsStep, step_on, no_next_on, few_by}
 use Rattle.model_core.proofs.Untouched.{parts_untouched, document_untouched}
@@ -76,16 +76,16 @@ returns-clause-ready c =
     let units = step.units in
     let breaks = step.breaks in
     let told : changes ≡ c.changes.result.now = sym c.changes.ensures in
-    let room : op_count way changes ≤ c.reserve_for.new.text.spare_edits = rw told (grind (arith, common_steps)) in
+    let room : IsEnough c.reserve_for.new.text.room (need_along way changes) = rw told (grind (arith, common_steps)) in
     let marks : op_count way changes ≤ c.reserve_for.new.last.spare = rw told (grind (arith, common_steps)) in
-    let more : unit_count way changes + units_beside_text * op_count way changes ≤ c.reserve_for.new.text.spare_units = rw told (grind (arith, common_steps)) in
-    let broken : breaks_along way changes + breaks_beside_text * op_count way changes ≤ c.reserve_for.new.text.spare_breaks = rw told (grind (arith, common_steps)) in
     move_ready way _ c.making.result c.making.ensures.action (omega (arith, next, c.making.ensures.version))
     (rw kept.units step.next)
     (record {
-      edits = rw kept.units (omega (arith, edits, room));
+      text = rw kept.units (record {
+        edits = omega (arith, edits, room.edits);
+        units = omega (arith, edits, units, room.units);
+        breaks = omega (arith, edits, breaks, room.breaks);
+      });
       marks = rw kept.units (omega (arith, edits, marks));
-      units = rw kept.units (omega (arith, edits, units, more));
-      breaks = rw kept.units (omega (arith, edits, breaks, broken));
       changes = omega arith;
     })

@@ -1,5 +1,5 @@
 use Rattle.std.proofs.Common.{◌≡◌, ℕ, ◌+◌, ◌-◌, ◌++◌, None, List, length, map}
-use Rattle.rb_arena.specs.Value.{first_or}
+use Rattle.rb_arena.specs.RbTree.{first_or}
 use Rattle.piece_tree.specs.declared.piece.Piece.{Piece}
 use Rattle.piece_tree.specs.Inside.{in_order}
 use Rattle.piece_tree.proofs.tree.PieceTree.spans.Given as goal

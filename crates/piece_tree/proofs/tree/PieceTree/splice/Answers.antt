@@ -1,11 +1,11 @@
 use Rattle.std.proofs.Common.{◌≡◌, ◌+◌, ap, sym, subst, ◌∙◌, arith}
 use Rattle.std.specs.List.{All}
-use Rattle.piece_tree.specs.Pieces.{Pieces, pieces_of, unit_count, IsPieceOf, IsFound, spliced}
+use Rattle.piece_tree.specs.Pieces.{Pieces, pieces_of, unit_count, IsPieceOf, IsFound, span_of, spliced}
 use Rattle.piece_tree.specs.Searches.{few_breaks}
 use Rattle.piece_tree.specs.Inside.{in_order}
 use Rattle.piece_tree.proofs.Sums.{sum_is}
 use Rattle.piece_tree.proofs.Cuts.{pieces_few}
-use Rattle.piece_tree.proofs.Prolonged.{units-spliced, pieces-spliced}
+use Rattle.piece_tree.proofs.Prolonged.{listed_is, inside_listed, units-spliced, pieces-spliced}
 use Rattle.piece_tree.proofs.Fronts.{found_still}
 use Rattle.piece_tree.proofs.tree.PieceTree.splice.Goals as goal
 
@@ -13,10 +13,10 @@ pub invariant_of-self : goal.invariant_of-self
 invariant_of-self c =
     let b = c.args.chunks.now.buffers in let ps = in_order c.self.inside.tree.items in let end = c.args.offset + c.args.deleted in
     let shown = ap (λ v. unit_count (pieces_of v.entries)) c.self.view_is in let all = subst (All (IsPieceOf b)) (sym (ap (λ v. pieces_of v.entries) c.self.view_is)) c.requires.pieces in
-    let order : in_order c.replace_units-first.new.tree.items ≡ spliced b c.args.offset end c.args.span ps = c.replace_units-first.ensures.spliced in record {
+    let order : in_order c.replace_units-first.new.tree.items ≡ spliced b c.args.offset end (span_of c.args.piece) ps = c.replace_units-first.ensures.spliced in record {
       sum = c.sum-self-inside.ensures ∙ sum_is c.replace_units-first.new.tree.items;
-      small = omega (arith, ap unit_count order, units-spliced b c.args.offset end c.args.span ps (omega (arith, shown, c.requires.range)), shown, c.requires.range, c.requires.small);
-      few = subst (All few_breaks) (sym order) (pieces_few b _ (pieces-spliced b c.args.offset end c.args.span ps c.requires.inside all));
+      small = omega (arith, ap unit_count order, units-spliced b c.args.offset end (span_of c.args.piece) ps (omega (arith, shown, c.requires.range)), ap unit_count (listed_is b c.args.piece c.requires.counted), shown, c.requires.range, c.requires.small);
+      few = subst (All few_breaks) (sym order) (pieces_few b _ (pieces-spliced b c.args.offset end (span_of c.args.piece) ps (inside_listed b c.args.piece c.requires.counted) all));
       room = omega (arith, c.self.invariant.room, c.replace_units-first.ensures.room);
     }
 
@@ -24,7 +24,7 @@ pub returns-clause-spliced : goal.returns-clause-spliced
 returns-clause-spliced c =
     let b = c.args.chunks.now.buffers in
     c.replace_units-first.ensures.spliced
-    ∙ ap (λ v. spliced b c.args.offset (c.args.offset + c.args.deleted) c.args.span (pieces_of v.entries)) c.self.view_is
+    ∙ ap (λ v. spliced b c.args.offset (c.args.offset + c.args.deleted) (span_of c.args.piece) (pieces_of v.entries)) c.self.view_is
 
 pub returns-clause-front : goal.returns-clause-front
 returns-clause-front c = λ found is less.

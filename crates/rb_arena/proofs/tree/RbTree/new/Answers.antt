@@ -1,6 +1,6 @@
 use Rattle.std.proofs.Common.{None, ◌∙◌}
 use Rattle.std.specs.FinMap as map
-use Rattle.rb_arena.specs.Value.{Kept, listed, items_in, loose_in, seen}
+use Rattle.rb_arena.specs.RbTree.{Kept, listed, items_in, loose_in, seen}
 use Rattle.rb_arena.proofs.Listing.{keeps_none, none_in, none_loose}
 use Rattle.rb_arena.proofs.tree.RbTree.new.Goals as goal
 

@@ -1,0 +1,28 @@
+-- What a call leaves that edits the text.
+use Rattle.std.specs.Prelude.{◌≡◌, ℕ, false, List, [], ◌∷◌, length, Result, ⊤}
+use Rattle.std.specs.List.{All}
+use Rattle.text_lengths.specs.declared.Span.{Span}
+use Rattle.unit_text.specs.Units.{IsPaired}
+use Rattle.text_rules.specs.declared.Op.{Op}
+use Rattle.batch_rules.specs.Batches.{sorted_ops}
+use Rattle.document_rules.specs.declared.ModelError.{ModelError}
+use Rattle.document_rules.specs.Document.{flat_edit}
+use Rattle.document_rules.specs.Outcomes.{Changes}
+use Rattle.document_rules.specs.Paired.{IsPairedState}
+use Rattle.model_core.specs.LineMarks.{marked_backwards}
+use Rattle.model_core.specs.State.{ModelState, LeftAfter, KeptAfter, GrownAfter}
+
+-- an edit of one span, which forces no decoration
+abbrev pub one_edit : Span → List ℕ → List Op
+one_edit span text = record { span = span; text = text; force = false } ∷ []
+
+-- what a call leaves that carries out these ops, or refuses them
+pub record HasEdited (ops : List Op) (result : Result ⊤ ModelError) (old new : ModelState) : Type 0 where
+  pub document : Changes result old.document new.document (flat_edit old.document ops)
+  pub paired : IsPaired old.document.units → All (λ (op : Op). IsPaired op.text) ops → IsPaired new.document.units
+  pub paired_state : All (λ (op : Op). IsPaired op.text) ops → IsPairedState old.document → IsPairedState new.document
+  pub parsed : new.parsed ≡ old.parsed
+  pub tree : new.tree ≡ old.tree
+  pub marks : LeftAfter result (marked_backwards old.document.units (sorted_ops ops) old.marks) old.marks new.marks
+  pub fresh : KeptAfter (length ops) result old.fresh new.fresh
+  pub pieces : GrownAfter (length ops) result old.pieces new.pieces

@@ -1,0 +1,155 @@
+//! Edits of a document: prepared, and carried out.
+
+ghost use Rattle.std.specs.Prelude.{◌≡◌, ◌+◌, ◌≤◌, [], length, IfOk};
+ghost use Rattle.std.specs.List.{All};
+ghost use Rattle.unit_text.specs.Units.{IsPaired};
+ghost use Rattle.document_rules.specs.Outcomes.{Changes};
+ghost use Rattle.document_rules.specs.Paired.{IsPairedState};
+ghost use Rattle.batch_rules.specs.Batches.{sorted_ops};
+ghost use Rattle.model_core.specs.LineMarks.{marked_backwards};
+ghost use Rattle.model_core.specs.Prepared.{need_of, Acts, ArePairedTexts, CanCommit, HasActed, IsChangeOf, IsEnough, PreparesEdit};
+ghost use Rattle.model_core.specs.State.{LeftAfter, KeptAfter, GrownAfter, KeepsParse};
+ghost use Rattle.document_rules.specs.Document.{greatest_version, flat_edit};
+ghost use Rattle.model_core.specs.Edited.{HasEdited, one_edit};
+
+use crate::change::{Change, Way, apply, make_room, text_breaks};
+use crate::errors::error_of;
+use crate::model::Model;
+use crate::ready::{Action, Ready};
+use document_rules::ModelError;
+use edit_batches::{Batch, sorted_ops};
+use std::alloc::{AllocError, Global};
+use text_buffer::Need;
+use text_lengths::{Span, raised};
+use text_rules::Op;
+use unit_text::Units;
+
+impl Model {
+    /// Carries out the edits at once, which makes the next version. `Range` where a span is none of the text; else
+    /// `Overlap` where two spans overlap; else `Limit` where the new text or the version would pass its limit. The edits
+    /// are kept with the texts that they came with; all other memory is taken before the first change. The tree of the
+    /// last parse stays, and each line that an edit touches is marked as new.
+    pub fn edit(&mut self, ops: Vec<Op>) -> Result<(), ModelError>
+        ensures document { Changes result self.old.document self.new.document
+            (flat_edit self.old.document ops.items) }
+        ensures paired { IsPaired self.old.document.units → All (λ op. IsPaired op.text) ops.items
+            → IsPaired self.new.document.units }
+        ensures paired_state { All (λ op. IsPaired op.text) ops.items
+            → IsPairedState self.old.document → IsPairedState self.new.document }
+        ensures parsed { self.new.parsed ≡ self.old.parsed }
+        ensures tree { self.new.tree ≡ self.old.tree }
+        ensures marks { LeftAfter result
+            (marked_backwards self.old.document.units (sorted_ops ops.items) self.old.marks)
+            self.old.marks self.new.marks }
+        ensures fresh { KeptAfter (length ops.items) result self.old.fresh self.new.fresh }
+        ensures pieces { GrownAfter (length ops.items) result self.old.pieces self.new.pieces }
+    {
+        let ready = self.prepare(ops)?;
+        self.commit(ready);
+        Ok(())
+    }
+
+    /// Puts these units in at the offset: an `edit` of one op, which forces no decoration.
+    pub fn insert(&mut self, at: u64, text: &[u16]) -> Result<(), ModelError>
+        ensures { HasEdited (one_edit (record { start = at; end = at }) text.now)
+            result self.old self.new }
+    {
+        self.replace(Span { start: at, end: at }, text)
+    }
+
+    /// Takes the units of the span out: an `edit` of one op, which forces no decoration.
+    pub fn remove(&mut self, span: Span) -> Result<(), ModelError>
+        ensures { HasEdited (one_edit span []) result self.old self.new }
+    {
+        self.replace(span, &[])
+    }
+
+    /// Puts these units in the place of the span: an `edit` of one op, which forces no decoration.
+    pub fn replace(&mut self, span: Span, text: &[u16]) -> Result<(), ModelError>
+        ensures { HasEdited (one_edit span text.now) result self.old self.new }
+    {
+        let ops = one_op(self.alloc, span, text).map_err(|_| ModelError::Memory)?;
+        self.edit(ops)
+    }
+
+    /// Prepares to carry out the edits, with the refusals of `edit`, and makes room for it. The document stays as it is.
+    pub fn prepare(&mut self, ops: Vec<Op>) -> Result<Ready, ModelError>
+        ensures document { self.new.document ≡ self.old.document }
+        ensures parse { KeepsParse self.old self.new }
+        ensures ready { PreparesEdit ops.items result self.new }
+    {
+        let ops = sorted_ops(ops).map_err(|_| ModelError::Memory)?;
+        self.text.seek(&ops);
+        let batch = Batch::checked(ops, &self.text).map_err(error_of)?;
+        let next = raised(self.version, 1).ok_or(ModelError::Limit)?;
+        let inverse = batch
+            .inverse(self.alloc, &self.text)
+            .map_err(|_| ModelError::Memory)?;
+        self.history.reserve().map_err(|_| ModelError::Memory)?;
+        make_room(
+            &mut self.text,
+            &mut self.last,
+            Need {
+                edits: batch.ops().len() as u64,
+                units: batch.text_units(),
+                breaks: text_breaks(batch.ops()),
+            },
+        )
+        .map_err(|_| ModelError::Memory)?;
+        Ok(Ready::making(next, Action::Edit(Change::Ops { batch, inverse })))
+    }
+
+    /// Carries out what was prepared, which makes the next version, in the room that was made. It takes no memory. The
+    /// version is the one that it was prepared on; for an edit the rule takes the batch as it stands, and its inverse is
+    /// the one that was prepared; for an undo or redo there is a step. The tree of the last parse stays, and each line that
+    /// is touched is marked as new.
+    pub fn commit(&mut self, ready: Ready)
+        requires can { CanCommit self.old ready }
+        ensures document { Acts ready.action self.old.document self.new.document }
+        ensures paired_state { ArePairedTexts ready.action
+            → IsPairedState self.old.document → IsPairedState self.new.document }
+        ensures parse { HasActed ready.action self.old self.new }
+    {
+        let (version, action) = ready.into_parts();
+        match action {
+            Action::Edit(change) => self.carry_out(change, version),
+            Action::Move(way) => self.follow(way, version),
+        }
+    }
+
+    // Carries out the batch, which makes this version.
+    fn carry_out(&mut self, change: Change, version: u64)
+        requires next { version ≡ self.old.document.version + 1 }
+        requires last { version ≤ greatest_version }
+        requires change { IsChangeOf self.old.document.units change }
+        requires room { IsEnough self.old.room
+            (need_of (Action.Edit change) self.old.document) }
+        ensures document { Acts (Action.Edit change) self.old.document self.new.document }
+        ensures parse { HasActed (Action.Edit change) self.old self.new }
+    {
+        apply(
+            &mut self.text,
+            &mut self.decorations,
+            &mut self.last,
+            change.ops(Way::On),
+            true,
+        );
+        self.history.push(change, self.alternative, version);
+        self.version = version;
+        self.alternative = version;
+    }
+}
+
+// The op that puts these units in the place of the span, and forces no decoration.
+fn one_op(alloc: Global, span: Span, text: &[u16]) -> Result<Vec<Op>, AllocError>
+    ensures { IfOk result (λ ops. ops.items ≡ one_edit span text.now) }
+{
+    let text = Units::copy_of(alloc, text)?;
+    let mut ops = Vec::with_capacity(alloc, 1)?;
+    ops.push(Op {
+        span,
+        text,
+        force: false,
+    })?;
+    Ok(ops)
+}

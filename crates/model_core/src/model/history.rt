@@ -1,0 +1,150 @@
+//! Undo and redo.
+
+ghost use Rattle.std.specs.Prelude.{◌≡◌, ◌+◌, ◌<◌, ◌≤◌, length, is_some, slice_get};
+ghost use Rattle.document_rules.specs.Outcomes.{Moves};
+ghost use Rattle.document_rules.specs.Paired.{IsPairedState};
+ghost use Rattle.model_core.specs.LineMarks.{undone_marks, redone_marks};
+ghost use Rattle.model_core.specs.Ways.{flat_move, next_steps, marked_step};
+ghost use Rattle.model_core.specs.Prepared.{need_of, Acts, HasActed, IsEnough, PreparesMove, next_op_count};
+ghost use Rattle.model_core.specs.State.{HasMoved, KeepsParse};
+ghost use Rattle.document_rules.specs.Document.{greatest_version, flat_stop, flat_undo, flat_redo};
+
+use crate::change::{Way, alternative_after, has_next, lead, next_step, pass_step, reserve_for};
+use crate::model::Model;
+use crate::ready::{Action, Ready};
+use document_rules::ModelError;
+use text_lengths::raised;
+
+impl Model {
+    /// Goes back to the text before the last step, as the next version, and answers whether there was one. `Limit`
+    /// where the version would pass its limit. All memory is taken before the first change.
+    pub fn undo(&mut self) -> Result<bool, ModelError>
+        ensures document { Moves result self.old.document self.new.document
+            (flat_undo self.old.document) }
+        ensures paired_state { IsPairedState self.old.document → IsPairedState self.new.document }
+        ensures parse { HasMoved (next_op_count self.old.document.history.undo)
+            (undone_marks self.old.marks self.old.document.history.undo)
+            result self.old self.new }
+    {
+        self.go(Way::Back)
+    }
+
+    /// Goes on to the text after the step that was undone last, as the next version, and answers whether there was one.
+    /// `Limit` where the version would pass its limit. All memory is taken before the first change.
+    pub fn redo(&mut self) -> Result<bool, ModelError>
+        ensures document { Moves result self.old.document self.new.document
+            (flat_redo self.old.document) }
+        ensures paired_state { IsPairedState self.old.document → IsPairedState self.new.document }
+        ensures parse { HasMoved (next_op_count self.old.document.history.redo)
+            (redone_marks self.old.marks self.old.document.history.redo)
+            result self.old self.new }
+    {
+        self.go(Way::On)
+    }
+
+    /// Whether there is a step to undo.
+    pub fn can_undo(&self) -> bool
+        ensures { result ≡ is_some (slice_get self.now.document.history.undo 0) }
+    {
+        self.can_go(Way::Back)
+    }
+
+    /// Whether there is a step to make again.
+    pub fn can_redo(&self) -> bool
+        ensures { result ≡ is_some (slice_get self.now.document.history.redo 0) }
+    {
+        self.can_go(Way::On)
+    }
+
+    #[tactic(auto, using(crate::proofs::Stepping::next_on))]
+    fn can_go(&self, way: Way) -> bool
+        ensures { result ≡ is_some (slice_get (next_steps way self.now.document.history) 0) }
+    {
+        has_next(&self.history, way)
+    }
+
+    // Goes one step along the way, as the next version, and answers whether there was one.
+    fn go(&mut self, way: Way) -> Result<bool, ModelError>
+        ensures document { Moves result self.old.document self.new.document
+            (flat_move way self.old.document) }
+        ensures paired_state { IsPairedState self.old.document → IsPairedState self.new.document }
+        ensures parse { HasMoved (next_op_count (next_steps way self.old.document.history))
+            (marked_step way self.old.marks (next_steps way self.old.document.history))
+            result self.old self.new }
+    {
+        let Some(ready) = self.prepare_move(way)? else {
+            return Ok(false);
+        };
+        self.commit(ready);
+        Ok(true)
+    }
+
+    /// Prepares to undo the last step, and makes room for it; None where there is no step. `Limit` where the version would
+    /// pass its limit. The document stays as it is.
+    pub fn prepare_undo(&mut self) -> Result<Option<Ready>, ModelError>
+        ensures document { self.new.document ≡ self.old.document }
+        ensures parse { KeepsParse self.old self.new }
+        ensures ready { PreparesMove Way.Back result self.new }
+    {
+        self.prepare_move(Way::Back)
+    }
+
+    /// Prepares to make the step again that was undone last, and makes room for it; None where there is no step. `Limit`
+    /// where the version would pass its limit. The document stays as it is.
+    pub fn prepare_redo(&mut self) -> Result<Option<Ready>, ModelError>
+        ensures document { self.new.document ≡ self.old.document }
+        ensures parse { KeepsParse self.old self.new }
+        ensures ready { PreparesMove Way.On result self.new }
+    {
+        self.prepare_move(Way::On)
+    }
+
+    fn prepare_move(&mut self, way: Way) -> Result<Option<Ready>, ModelError>
+        ensures document { self.new.document ≡ self.old.document }
+        ensures parse { KeepsParse self.old self.new }
+        ensures ready { PreparesMove way result self.new }
+    {
+        let Some(step) = next_step(&self.history, way) else {
+            return Ok(None);
+        };
+        let next = raised(self.version, 1).ok_or(ModelError::Limit)?;
+        reserve_for(&mut self.text, &mut self.last, step.changes(), way).map_err(
+            |_| ModelError::Memory,
+        )?;
+        Ok(Some(Ready::making(next, Action::Move(way))))
+    }
+
+    // Goes the step along the way that comes next, which makes this version.
+    pub(super) fn follow(&mut self, way: Way, version: u64)
+        requires next { version ≡ self.old.document.version + 1 }
+        requires last { version ≤ greatest_version }
+        requires some { 0 < length (next_steps way self.old.document.history) }
+        requires room { IsEnough self.old.room
+            (need_of (Action.Move way) self.old.document) }
+        ensures document { Acts (Action.Move way) self.old.document self.new.document }
+        ensures parse { HasActed (Action.Move way) self.old self.new }
+    {
+        let Some(step) = next_step(&self.history, way) else {
+            unreachable!()
+        };
+        lead(
+            &mut self.text,
+            &mut self.decorations,
+            &mut self.last,
+            step.changes(),
+            way,
+        );
+        self.version = version;
+        self.alternative = alternative_after(step, way);
+        pass_step(&mut self.history, way);
+    }
+
+    /// The next edit begins a step of undo.
+    pub fn stop(&mut self)
+        ensures document { self.new.document ≡ flat_stop self.old.document }
+        ensures paired_state { IsPairedState self.old.document → IsPairedState self.new.document }
+        ensures parse { KeepsParse self.old self.new }
+    {
+        self.history.stop();
+    }
+}

@@ -1,0 +1,109 @@
+//! What a document is asked.
+
+ghost use Rattle.std.specs.Prelude.{◌≡◌, ◌-◌, length};
+ghost use Rattle.unit_text.specs.Units.{is_place};
+ghost use Rattle.text_buffer.specs.Costs.{WithinLookUps};
+ghost use Rattle.document_rules.specs.Outcomes.{Appends};
+ghost use Rattle.document_rules.specs.Document.{flat_line, flat_value, flat_position, flat_offset, flat_line_count};
+ghost use Rattle.document_rules.specs.Stops.{flat_stops};
+
+use crate::model::Model;
+use document_rules::ModelError;
+use std::sync::ledger::Ledger;
+use steps::Steps;
+use stops::stops;
+use text_lengths::{Position, Span};
+use text_rules::is_bad_span;
+use unit_text::Flat;
+
+impl Model {
+    /// How many units the text has.
+    pub fn len(&self) -> u64
+        ensures { result ≡ length self.now.document.units }
+    {
+        self.text.len()
+    }
+
+    /// Whether the offset is a place of the text: none past its end, and none inside a pair of surrogates.
+    pub fn is_place(&self, offset: u64) -> bool
+        ensures { result ≡ is_place self.now.document.units offset }
+    {
+        self.text.is_place(offset)
+    }
+
+    /// How many lines the text has.
+    pub fn line_count(&self) -> u64
+        ensures { result ≡ flat_line_count self.now.document }
+    {
+        self.text.line_count()
+    }
+
+    /// Appends the content of the line of this number, counted from 1. `Range` where there is no such line; after an
+    /// error `out` is as it was.
+    pub fn line(&self, n: u64, out: &mut Vec<u16>) -> Result<(), ModelError>
+        ensures { Appends result out.old.items out.new.items (flat_line self.now.document n) }
+    {
+        if n == 0 || n > self.text.line_count() {
+            return Err(ModelError::Range);
+        }
+        self.text.line(n, out).map_err(|_| ModelError::Memory)
+    }
+
+    /// Appends the columns, counted from 1, at which a cursor may stop in the line of this number. `Range` where there is
+    /// no such line; after an error `out` is as it was.
+    pub fn stops(&self, n: u64, out: &mut Vec<u64>) -> Result<(), ModelError>
+        ensures { Appends result out.old.items out.new.items (flat_stops self.now.document n) }
+    {
+        let mut content = Vec::new(self.alloc);
+        self.line(n, &mut content)?;
+        stops(self.alloc, content.as_slice(), out).map_err(|_| ModelError::Memory)
+    }
+
+    /// Appends the units of the span. `Range` where it is none of the text; after an error `out` is as it was.
+    pub fn value(&self, span: Span, out: &mut Vec<u16>) -> Result<(), ModelError>
+        ensures { Appends result out.old.items out.new.items (flat_value self.now.document span) }
+    {
+        if is_bad_span(&self.text, span) {
+            return Err(ModelError::Range);
+        }
+        self.text.value(span, out).map_err(|_| ModelError::Memory)
+    }
+
+    /// The position of the offset, or None where it is no place of the text.
+    pub fn position(&self, offset: u64) -> Option<Position>
+        ensures { result ≡ flat_position self.now.document offset }
+    {
+        self.text.position(offset)
+    }
+
+    /// The offset of the position, or None where it is none of the text.
+    pub fn offset(&self, p: Position) -> Option<u64>
+        ensures { result ≡ flat_offset self.now.document p }
+    {
+        self.text.offset(p)
+    }
+
+    /// `position`, which counts: each node that a search visits is a step.
+    pub fn position_at<L: Ledger>(&self, offset: u64, steps: &mut Steps<L>) -> Option<Position>
+        ensures position { result ≡ flat_position self.now.document offset }
+        ensures cost { WithinLookUps 3 self.now.pieces (steps.new - steps.old) }
+    {
+        self.text.position_at(offset, steps)
+    }
+
+    /// `offset`, which counts: each node that a search visits is a step.
+    pub fn offset_at<L: Ledger>(&self, p: Position, steps: &mut Steps<L>) -> Option<u64>
+        ensures offset { result ≡ flat_offset self.now.document p }
+        ensures cost { WithinLookUps 4 self.now.pieces (steps.new - steps.old) }
+    {
+        self.text.offset_at(p, steps)
+    }
+
+    /// The version, and the version at which the text was last as it is now.
+    pub fn versions(&self) -> (u64, u64)
+        ensures version { result.0 ≡ self.now.document.version }
+        ensures alternative { result.1 ≡ self.now.document.alternative }
+    {
+        (self.version, self.alternative)
+    }
+}

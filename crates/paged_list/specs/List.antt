@@ -1,0 +1,32 @@
+-- What a contract sees of a list in pages, and how it lies in its slots.
+use Rattle.std.specs.Prelude.{◌≡◌, ℕ, ◌-◌, ◌^◌, ◌<◌, List, [], ◌∷◌, Option, Some, None, length, replicate, refl}
+use Rattle.std.specs.Coded.{Coded, code_by, coded×, coded_list, coded_ℕ}
+
+-- the items, and how many there is room for
+pub record Paged (X : Type 0) : Type 0 where
+  pub items : List X
+  pub capacity : ℕ
+
+module _ {X : Type 0} where
+  abbrev pub paged : List X → ℕ → Paged X
+  paged items capacity = record { items = items; capacity = capacity }
+
+  abbrev pub paged_code : Coded X → Coded (Paged X)
+  paged_code c = code_by (List X × ℕ) (coded× (coded_list c) coded_ℕ) (λ a. (a.items, a.capacity)) (λ p. paged p.0 p.1) (λ _. refl)
+
+  -- the values of the slots that hold one
+  abbrev pub values : List (Option X) → List X
+  values [] = []
+  values (None ∷ slots) = values slots
+  values (Some x ∷ slots) = x ∷ values slots
+
+  -- the items one after another from the first slot on, and then n empty slots
+  abbrev pub laid : List X → ℕ → List (Option X)
+  laid [] n = replicate n None
+  laid (x ∷ items) n = Some x ∷ laid items n
+
+  -- no empty slot lies in front of a value, and len of the slots hold one
+  pub record IsLaid (slots : List (Option X)) (len : ℕ) : Type 0 where
+    pub count : length (values slots) ≡ len
+    pub ordered : laid (values slots) (length slots - len) ≡ slots
+    pub few : length slots < 2 ^ 32

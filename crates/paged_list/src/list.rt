@@ -1,0 +1,128 @@
+//! A list in pages, as safe code over a row of slots.
+ghost use Rattle.std.specs.Prelude.{◌≡◌, ◌+◌, ◌^◌, ◌<◌, ◌≤◌, [], ◌∷◌, ◌++◌, ◌↔◌, Some, length, slice_set, IsSome, OnOk, OnErr};
+ghost use Rattle.std.specs.Borrow.{sem};
+ghost use Rattle.std.specs.List.{slice_get};
+ghost use Rattle.std.specs.Option.{option_to_list};
+ghost use Rattle.paged_list.specs.List.{paged};
+
+use crate::slots::Slots;
+use std::alloc::{AllocError, Global};
+use std::marker::Model;
+
+/// A list of fewer than 2^32 items in pages of raw memory, which go back to the allocator at its end. No item is ever
+/// moved: to make room is to ask the allocator for pages, whatever is there. Only `reserve` takes memory.
+///
+/// A contract sees the items, and how many there is room for.
+#[derive(Drop)]
+pub struct PagedList<T: Copy> {
+    slots: Slots<T>,
+    len: usize,
+}
+
+impl<T: Copy> Model for PagedList<T> {
+    ghost use Rattle.std.specs.Prelude.{length};
+    ghost use Rattle.paged_list.specs.List.{Paged, paged, paged_code, values, IsLaid};
+
+    ghost Value = { Paged T };
+
+    ghost coded = { paged_code T.code };
+
+    ghost view = { λ a. paged (values a.slots) (length a.slots) };
+
+    ghost invariant = { λ a. IsLaid a.slots a.len };
+}
+
+impl<T: Copy> PagedList<T> {
+    ghost use Rattle.paged_list.specs.ItemLends.{lends_item};
+
+    /// A list with no item and no room.
+    pub fn new(alloc: Global) -> PagedList<T>
+        ensures { result ≡ paged [] 0 }
+    {
+        PagedList {
+            slots: Slots::new(alloc),
+            len: 0,
+        }
+    }
+
+    pub fn len(&self) -> usize
+        ensures value { result ≡ length self.now.items }
+        ensures room { result ≤ self.now.capacity }
+    {
+        self.len
+    }
+
+    /// How many items there is room for, counted with those that are there.
+    pub fn capacity(&self) -> usize
+        ensures value { result ≡ self.now.capacity }
+        ensures few { result < 2 ^ 32 }
+    {
+        self.slots.len()
+    }
+
+    /// Makes room for `additional` items more. It fails where memory is short, or there would be room for 2^32 items.
+    pub fn reserve(&mut self, additional: usize) -> Result<(), AllocError>
+        ensures items { self.new.items ≡ self.old.items }
+        ensures room { OnOk result (length self.old.items + additional ≤ self.new.capacity) }
+        ensures kept { self.old.capacity ≤ self.new.capacity }
+    {
+        while self.capacity() - self.len() < additional {
+            self.grow()?;
+        }
+        Ok(())
+    }
+
+    /// One page more.
+    fn grow(&mut self) -> Result<(), AllocError>
+        ensures items { self.new.items ≡ self.old.items }
+        ensures room { OnOk result (self.old.capacity < self.new.capacity) }
+        ensures kept { OnErr result (self.new.capacity ≡ self.old.capacity) }
+    {
+        self.slots.grow()?;
+        Ok(())
+    }
+
+    /// Puts an item last.
+    pub fn push(&mut self, item: T)
+        requires { length self.old.items < self.old.capacity }
+        ensures { self.new ≡ paged (self.old.items ++ item ∷ []) self.old.capacity }
+    {
+        self.slots.fill(self.len, item);
+        self.len += 1;
+    }
+
+    /// Takes the last item out.
+    pub fn pop(&mut self) -> Option<T>
+        ensures items { self.old.items ≡ self.new.items ++ option_to_list result }
+        ensures variant { IsSome result ↔ (0 < length self.old.items) }
+        ensures capacity { self.new.capacity ≡ self.old.capacity }
+    {
+        if self.len == 0 {
+            return None;
+        }
+        self.len -= 1;
+        Some(self.slots.empty(self.len))
+    }
+
+    pub fn get(&self, index: usize) -> &T
+        requires { index < length self.now.items }
+        ensures { slice_get self.now.items index ≡ Some result.now }
+    {
+        self.slots.get(index)
+    }
+
+    pub fn get_mut(&mut self, index: usize) -> &mut T
+        requires { index < length self.old.items }
+        ensures* writes_back { sem 𝓛 (lends_item T.row self.entry index result) }
+        ensures value { slice_get self.old.items index ≡ Some result.now }
+    {
+        self.slots.get_mut(index)
+    }
+
+    pub fn set(&mut self, index: usize, item: T)
+        requires { index < length self.old.items }
+        ensures { self.new ≡ paged (slice_set self.old.items index item) self.old.capacity }
+    {
+        *self.get_mut(index) = item;
+    }
+}

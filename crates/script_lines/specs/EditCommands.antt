@@ -1,0 +1,59 @@
+-- The commands that change the text.
+use Rattle.std.specs.Prelude.{[], ◌∷◌, List, Option, Some, None, option_map, option_and_then, codes, if◌then◌else◌}
+use Rattle.serde_json.specs.Data.{Data, Items, no_items, item}
+use Rattle.serde_json.specs.Find.{get, as_array}
+use Rattle.script_lines.specs.declared.op.LineOp.{LineOp}
+use Rattle.script_lines.specs.declared.op.Place.{Place}
+use Rattle.script_lines.specs.declared.op.Place.TheVariants.{At, InRange}
+use Rattle.script_lines.specs.Reading.{◌>>=◌}
+use Rattle.script_lines.specs.Fields.{has_only, has_fields, all_of, text_at, span_from, positions_at, flag_at}
+use Rattle.script_lines.specs.Brackets.{optional_table_at}
+use Rattle.script_lines.specs.Rows.{Row, row, bare}
+use Rattle.script_lines.specs.declared.command.Command.{Command}
+use Rattle.script_lines.specs.declared.command.Command.TheVariants.{Open, Edit, Undo, Redo, Stop}
+
+abbrev pub open_of : Data → Option Command
+open_of d = do
+  text ← text_at (codes "text") d
+  brackets ← optional_table_at (codes "brackets") d
+  Some (Open text brackets)
+
+-- `{"cmd":"open","text":TEXT}`, with `"brackets":[[OPENING,CLOSING],..]` if the brackets are not those of the standard table
+abbrev pub open_in : Data → Option Command
+open_in d = if has_fields (codes "text" ∷ codes "brackets" ∷ []) d then open_of d else None
+
+-- where an op stands, by its field `at` where it has one: at a span of offsets, or in a range of positions
+abbrev pub place_of : Option Data → Data → Option Place
+place_of (Some field) d = if has_only (codes "at" ∷ codes "text" ∷ codes "force" ∷ []) d then option_map At (span_from field) else None
+place_of None d = if has_only (codes "range" ∷ codes "text" ∷ codes "force" ∷ []) d
+    then option_map (λ p. InRange p.0 p.1) (positions_at (codes "range") d) else None
+
+abbrev pub place_in : Data → Option Place
+place_in d = place_of (get (codes "at") d) d
+
+-- `{"at":[START,END],"text":TEXT}` or `{"range":[LINE,COL,LINE,COL],"text":TEXT}`, with `"force":true` if it is on
+abbrev pub op_in : Data → Option LineOp
+op_in d = do
+  place ← place_in d
+  text ← text_at (codes "text") d
+  force ← flag_at (codes "force") d
+  Some (record { place = place; text = text; force = force })
+
+-- one op or more
+abbrev pub some_ops_in : Items → Option (List LineOp)
+some_ops_in no_items = None
+some_ops_in (item d ds) = all_of op_in (item d ds)
+
+-- `{"cmd":"edit","ops":[OP,..]}`
+abbrev pub edit_in : Data → Option Command
+edit_in d = if has_fields (codes "ops" ∷ []) d
+    then option_map Edit (option_and_then some_ops_in (option_and_then as_array (get (codes "ops") d))) else None
+
+abbrev pub edit_commands : List Row
+edit_commands =
+    row (codes "edit") edit_in
+    ∷ row (codes "undo") (bare Undo)
+    ∷ row (codes "redo") (bare Redo)
+    ∷ row (codes "stop") (bare Stop)
+    ∷ row (codes "open") open_in
+    ∷ []

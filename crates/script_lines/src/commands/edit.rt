@@ -1,0 +1,107 @@
+//! The commands that change the text.
+
+ghost use Rattle.std.specs.Prelude.{◌≡◌};
+ghost use Rattle.serde_json.specs.View.{view, items_view};
+ghost use Rattle.script_lines.specs.Reading.{Reads};
+ghost use Rattle.script_lines.specs.Rows.{named_in};
+ghost use Rattle.script_lines.specs.EditCommands.{edit_commands, open_in, place_in, op_in, some_ops_in, edit_in};
+
+use super::bare;
+use crate::bracket::optional_table_at;
+use crate::command::Command;
+use crate::fields::{
+    LineFault, expect_fields, expect_only, flag_at, positions_at, span_from, text_at,
+};
+use crate::items::{Item, all_of};
+use crate::op::{LineOp, LineOps, Place};
+use serde_json::Value;
+use std::alloc::Global;
+
+pub(super) fn named(alloc: Global, name: &str, value: &Value) -> Result<Option<Command>, LineFault>
+    ensures { Reads result (named_in edit_commands name.now (view value.now)) }
+{
+    if name == "edit" {
+        let command = edit_in(alloc, value)?;
+        return Ok(Some(command));
+    }
+    if name == "undo" {
+        let command = bare(value, Command::Undo)?;
+        return Ok(Some(command));
+    }
+    if name == "redo" {
+        let command = bare(value, Command::Redo)?;
+        return Ok(Some(command));
+    }
+    if name == "stop" {
+        let command = bare(value, Command::Stop)?;
+        return Ok(Some(command));
+    }
+    if name == "open" {
+        let command = open_in(alloc, value)?;
+        return Ok(Some(command));
+    }
+    Ok(None)
+}
+
+fn open_in(alloc: Global, value: &Value) -> Result<Command, LineFault>
+    ensures { Reads result (open_in (view value.now)) }
+{
+    expect_fields(value, &["text", "brackets"])?;
+    let text = text_at(alloc, value, "text")?;
+    let brackets = optional_table_at(alloc, value, "brackets")?;
+    Ok(Command::Open { text, brackets })
+}
+
+fn edit_in(alloc: Global, value: &Value) -> Result<Command, LineFault>
+    ensures { Reads result (edit_in (view value.now)) }
+{
+    expect_fields(value, &["ops"])?;
+    let field = value.get("ops").ok_or(LineFault::Syntax)?;
+    let ops = field.as_array().ok_or(LineFault::Syntax)?;
+    let ops = some_ops_in(alloc, ops.as_slice())?;
+    Ok(Command::Edit { ops })
+}
+
+fn some_ops_in(alloc: Global, values: &[Value]) -> Result<LineOps, LineFault>
+    ensures { Reads result (some_ops_in (items_view values.now)) }
+{
+    if values.is_empty() {
+        return Err(LineFault::Syntax);
+    }
+    all_of(alloc, values)
+}
+
+impl Item for LineOp {
+    ghost reads = { op_in };
+
+    fn item_in(alloc: Global, value: &Value) -> Result<LineOp, LineFault> {
+        op_in(alloc, value)
+    }
+}
+
+fn op_in(alloc: Global, value: &Value) -> Result<LineOp, LineFault>
+    ensures { Reads result (op_in (view value.now)) }
+{
+    let place = place_in(value)?;
+    let text = text_at(alloc, value, "text")?;
+    let force = flag_at(value, "force")?;
+    Ok(LineOp { place, text, force })
+}
+
+/// Where an op stands. Which of two fields tells it decides which others it may have.
+fn place_in(value: &Value) -> Result<Place, LineFault>
+    ensures { Reads result (place_in (view value.now)) }
+{
+    match value.get("at") {
+        Some(field) => {
+            expect_only(value, &["at", "text", "force"])?;
+            let span = span_from(field)?;
+            Ok(Place::At(span))
+        }
+        None => {
+            expect_only(value, &["range", "text", "force"])?;
+            let (start, end) = positions_at(value, "range")?;
+            Ok(Place::InRange(start, end))
+        }
+    }
+}

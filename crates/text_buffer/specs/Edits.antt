@@ -1,0 +1,39 @@
+-- What an edit meets at the two ends of its span.
+use Rattle.std.specs.Prelude.{ℕ, ◌≡◌, ◌+◌, ◌<◌, ◌≤◌, ◌^◌, ◌++◌, List, length, take, drop}
+use Rattle.chunk_buffers.specs.Chunks.{Shown}
+use Rattle.piece_tree.specs.Pieces.{Pieces, StandsAt}
+use Rattle.text_lengths.specs.declared.Span.{Span}
+use Rattle.text_rules.specs.Lines.{line_feed, carriage_return, begins_with}
+use Rattle.text_rules.specs.Breaks.{ends_with, joins_pair}
+use Rattle.text_buffer.specs.declared.edit.Spot.{Spot}
+use Rattle.text_buffer.specs.declared.edit.Ends.{Ends}
+use Rattle.text_buffer.specs.declared.edit.Joins.{Joins}
+use Rattle.text_buffer.specs.Text.{text_of, one_if}
+
+-- what the place says of the text is so
+pub record IsSpot (tree : Pieces) (chunks : Shown) (spot : Spot) : Type 0 where
+  pub found : StandsAt tree.entries spot.found spot.offset
+  pub after_return : spot.after_return ≡ ends_with carriage_return (take spot.offset (text_of tree chunks).units)
+  pub before_feed : spot.before_feed ≡ begins_with line_feed (drop spot.offset (text_of tree chunks).units)
+  -- what is counted in the text fits
+  pub small : length (text_of tree chunks).units < 2 ^ 62
+
+pub record AreEnds (tree : Pieces) (chunks : Shown) (ends : Ends) : Type 0 where
+  pub start : IsSpot tree chunks ends.start
+  pub end : IsSpot tree chunks ends.end
+  pub ordered : ends.start.offset ≤ ends.end.offset
+
+abbrev pub span_between : Ends → Span
+span_between ends = record { start = ends.start.offset; end = ends.end.offset }
+
+-- where a CR and an LF meet, once the text stands in the place of the span
+abbrev pub joins_of : List ℕ → Span → List ℕ → Joins
+joins_of units span text = record {
+  front = joins_pair (take span.start units) (text ++ drop span.end units);
+  back = joins_pair (take span.start units ++ text) (drop span.end units);
+}
+
+-- how many pairs that makes with the units of the text
+abbrev pub pairs_of : List ℕ → Span → List ℕ → ℕ
+pairs_of units span text =
+    one_if (joins_pair (take span.start units) (text ++ drop span.end units)) + one_if (joins_pair text (drop span.end units))

@@ -1,0 +1,227 @@
+//! What an edit meets at the two ends of its span, each looked up by one search at most, and which lines it touches.
+
+ghost use Rattle.std.specs.Prelude.{◌≡◌, ℕ, ◌+◌, ◌<◌, ◌≤◌, ◌^◌, ◌++◌, ◌&&◌, not, List, length, take, drop, IfSome};
+ghost use Rattle.piece_tree.specs.Pieces.{pieces_of, unit_count, IsFound};
+ghost use Rattle.text_rules.specs.Lines.{line_feed, carriage_return, begins_with};
+ghost use Rattle.text_rules.specs.Breaks.{ends_with, joins_pair, count_to, break_ends};
+ghost use Rattle.text_rules.specs.Dirty.{dirty_lines};
+ghost use Rattle.text_buffer.specs.Text.{text_of, one_if};
+ghost use Rattle.text_buffer.specs.Views.{IsView};
+ghost use Rattle.text_buffer.specs.Edits.{IsSpot, AreEnds, span_between, joins_of, pairs_of};
+
+use crate::view::View;
+use line_starts::count_breaks;
+use piece_tree::Found;
+use text_lengths::{Dirty, Span};
+use unit_text::{CARRIAGE_RETURN, LINE_FEED};
+
+/// A place of the text, with what stands on both sides of it.
+#[derive(Clone, Copy)]
+pub(crate) struct Spot {
+    pub offset: u64,
+    /// The piece that has the unit at the place; None at the end.
+    pub found: Option<Found>,
+    /// Whether a CR stands right before the place.
+    pub after_return: bool,
+    /// Whether an LF stands right at the place.
+    pub before_feed: bool,
+}
+
+/// Where the span of an edit starts and ends.
+#[derive(Clone, Copy)]
+pub(crate) struct Ends {
+    pub start: Spot,
+    pub end: Spot,
+}
+
+/// Whether a CR and an LF meet where the text of an edit comes to stand: at its start, and at its end.
+#[derive(Clone, Copy)]
+pub(crate) struct Joins {
+    pub front: bool,
+    pub back: bool,
+}
+
+impl View<'_> {
+    /// The ends of the span.
+    pub(crate) fn ends_of(&self, span: Span) -> Ends
+        requires view { IsView self.now }
+        requires ordered { span.start ≤ span.end }
+        requires within { span.end ≤ length (text_of self.now.pieces.now self.now.chunks.now).units }
+        ensures ends { AreEnds self.now.pieces.now self.now.chunks.now result }
+        ensures span { span_between result ≡ span }
+    {
+        let start = self.spot_at(&None, span.start);
+        if span.end == span.start {
+            return Ends { start, end: start };
+        }
+        let end = self.spot_at(&start.found, span.end);
+        Ends { start, end }
+    }
+
+    // The place of this offset. It makes one search at most, and none where a piece that is remembered, the piece nearby or the one beside
+    // that has its unit, or at the end.
+    fn spot_at(&self, near: &Option<Found>, offset: u64) -> Spot
+        requires view { IsView self.now }
+        requires near { IfSome near.now (IsFound self.now.pieces.now.entries) }
+        requires within { offset ≤ length (text_of self.now.pieces.now self.now.chunks.now).units }
+        ensures spot { IsSpot self.now.pieces.now self.now.chunks.now result }
+        ensures offset { result.offset ≡ offset }
+    {
+        if offset == self.len() {
+            return Spot {
+                offset,
+                found: None,
+                after_return: self.is_after_return(near, offset),
+                before_feed: false,
+            };
+        }
+        let found = self.piece_at(near, offset);
+        Spot {
+            offset,
+            found: Some(found),
+            after_return: self.is_after_return(&Some(found), offset),
+            before_feed: self.unit_in(&found, offset) == LINE_FEED,
+        }
+    }
+
+    // Whether a CR stands right before the offset.
+    #[tactic(auto, using(crate::proofs::Lasts::last_units))]
+    fn is_after_return(&self, near: &Option<Found>, offset: u64) -> bool
+        requires view { IsView self.now }
+        requires near { IfSome near.now (IsFound self.now.pieces.now.entries) }
+        requires within { offset ≤ unit_count (pieces_of self.now.pieces.now.entries) }
+        ensures { result ≡ ends_with carriage_return
+            (take offset (text_of self.now.pieces.now self.now.chunks.now).units) }
+    {
+        if offset == 0 {
+            return false;
+        }
+        let found = self.piece_at(near, offset - 1);
+        self.unit_in(&found, offset - 1) == CARRIAGE_RETURN
+    }
+
+    /// Where a CR and an LF meet, once the text stands between the two places.
+    pub(crate) fn joins_of(&self, ends: &Ends, text: &[u16]) -> Joins
+        requires view { IsView self.now }
+        requires ends { AreEnds self.now.pieces.now self.now.chunks.now ends.now }
+        ensures { result ≡ joins_of
+            (text_of self.now.pieces.now self.now.chunks.now).units (span_between ends.now) text.now }
+    {
+        Joins {
+            front: self.joins_front(ends, text),
+            back: self.joins_back(ends, text),
+        }
+    }
+
+    // Whether a CR before the first place and an LF at the start of what comes after it make a pair.
+    fn joins_front(&self, ends: &Ends, text: &[u16]) -> bool
+        requires view { IsView self.now }
+        requires ends { AreEnds self.now.pieces.now self.now.chunks.now ends.now }
+        ensures { let units = (text_of self.now.pieces.now self.now.chunks.now).units in
+            result ≡ joins_pair (take ends.now.start.offset units)
+            (text.now ++ drop ends.now.end.offset units) }
+    {
+        if !ends.start.after_return {
+            return false;
+        }
+        if text.is_empty() {
+            return ends.end.before_feed;
+        }
+        text[0] == LINE_FEED
+    }
+
+    // Whether a CR at the end of what comes before the second place and an LF after it make a pair.
+    #[tactic(auto, using(crate::proofs::Lasts::joins_pair_after))]
+    fn joins_back(&self, ends: &Ends, text: &[u16]) -> bool
+        requires view { IsView self.now }
+        requires ends { AreEnds self.now.pieces.now self.now.chunks.now ends.now }
+        ensures { let units = (text_of self.now.pieces.now self.now.chunks.now).units in
+            result ≡ joins_pair (take ends.now.start.offset units ++ text.now)
+            (drop ends.now.end.offset units) }
+    {
+        if !ends.end.before_feed {
+            return false;
+        }
+        if text.is_empty() {
+            return ends.start.after_return;
+        }
+        text[text.len() - 1] == CARRIAGE_RETURN
+    }
+
+    /// Which lines an edit touches that puts these units between the two places, and how many lines stand in their place after it.
+    pub(crate) fn dirty_between(&self, ends: &Ends, joins: Joins, text: &[u16]) -> Dirty
+        requires view { IsView self.now }
+        requires ends { AreEnds self.now.pieces.now self.now.chunks.now ends.now }
+        requires joins { joins ≡ joins_of
+            (text_of self.now.pieces.now self.now.chunks.now).units (span_between ends.now) text.now }
+        ensures { result ≡ dirty_lines
+            (text_of self.now.pieces.now self.now.chunks.now).units (span_between ends.now) text.now }
+    {
+        let counted = self.breaks_before(&ends.start);
+        let own = one_if(ends_line(&ends.start));
+        let first = counted - own + 1;
+        let last = self.breaks_behind(ends, counted) + 1;
+        let lines = count_breaks(text) + 1 + one_if(ends.start.after_return);
+        Dirty {
+            first,
+            old: last + 1 - first,
+            new: lines - pairs_made(joins, text),
+        }
+    }
+
+    // How many breaks end at the place or before it.
+    fn breaks_before(&self, spot: &Spot) -> u64
+        requires view { IsView self.now }
+        requires spot { IsSpot self.now.pieces.now self.now.chunks.now spot.now }
+        ensures count { result ≡ count_to spot.now.offset
+            (break_ends 0 (text_of self.now.pieces.now self.now.chunks.now).units) }
+        ensures few { result < 2 ^ 62 }
+    {
+        match &spot.found {
+            Some(found) => self.breaks_to(found, spot.offset),
+            None => self.breaks(),
+        }
+    }
+
+    // The same of the second end, where those of the first were counted.
+    fn breaks_behind(&self, ends: &Ends, counted: u64) -> u64
+        requires view { IsView self.now }
+        requires ends { AreEnds self.now.pieces.now self.now.chunks.now ends.now }
+        requires counted { counted ≡ count_to ends.now.start.offset
+            (break_ends 0 (text_of self.now.pieces.now self.now.chunks.now).units) }
+        requires few { counted < 2 ^ 62 }
+        ensures count { result ≡ count_to ends.now.end.offset
+            (break_ends 0 (text_of self.now.pieces.now self.now.chunks.now).units) }
+        ensures few { result < 2 ^ 62 }
+    {
+        if ends.end.offset == ends.start.offset {
+            return counted;
+        }
+        self.breaks_before(&ends.end)
+    }
+}
+
+// Whether a CR right before the place ends a line: the break of a CR LF ends behind the LF.
+fn ends_line(spot: &Spot) -> bool
+    ensures { result ≡ (spot.now.after_return && not spot.now.before_feed) }
+{
+    spot.after_return && !spot.before_feed
+}
+
+// How many pairs an edit makes at the ends of its text, which is one where it has none.
+fn pairs_made(joins: Joins, text: &[u16]) -> u64
+    ensures { (units : List ℕ) (span : Span) → joins ≡ joins_of units span text.now
+        → result ≡ pairs_of units span text.now }
+{
+    if text.is_empty() {
+        return one_if(joins.front);
+    }
+    one_if(joins.front) + one_if(joins.back)
+}
+
+/// One where the test holds, else zero.
+pub(crate) fn one_if(test: bool) -> u64
+    ensures { result ≡ one_if test }
+{
+    if test { 1 } else { 0 }
+}

@@ -1,0 +1,7 @@
+mod breaks;
+mod columns;
+mod lines;
+mod nodes;
+mod parts;
+mod reads;
+mod texts;

@@ -1,0 +1,58 @@
+//! The spans of an edited text, the lines that an edit touches, and a text in a buffer with just the room for it.
+
+use chunk_buffers::Chunks;
+use std::test::Fail;
+use text_buffer::{Need, TextBuffer};
+use text_lengths::{Dirty, Span};
+
+const A: u16 = 0x61;
+
+const B: u16 = 0x62;
+
+const X: u16 = 0x58;
+
+/// An edit brings a CR and an LF together.
+#[test]
+fn spans_of_an_edited_text(rt: HostRuntime) -> Result<(), Fail> {
+    let mut text = TextBuffer::of_units(rt.alloc(), &[A, 13, X, 10, B])?;
+    text.reserve(Need {
+        edits: 1,
+        units: 0,
+        breaks: 0,
+    })?;
+    text.replace(Span { start: 2, end: 3 }, &[]);
+    let mut spans = Vec::new(rt.alloc());
+    text.spans(&mut spans)?;
+    let mut units = Vec::new(rt.alloc());
+    for span in spans.iter() {
+        units.extend_from_slice(text.chunks().units(*span))?;
+    }
+    assert_eq!(rt; units.as_slice(), [A, 13, 10, B].as_slice());
+    Ok(())
+}
+
+/// An LF comes behind a CR that was a break alone.
+#[test]
+fn lines_that_an_edit_touches(rt: HostRuntime) -> Result<(), Fail> {
+    let text = TextBuffer::of_units(rt.alloc(), &[A, 13, B])?;
+    let dirty = text.dirty_lines(Span { start: 2, end: 2 }, &[10]);
+    let touched = Dirty {
+        first: 1,
+        old: 2,
+        new: 2,
+    };
+    assert_eq!(rt; dirty, touched);
+    Ok(())
+}
+
+/// A CR, and a CR LF behind it.
+#[test]
+fn text_with_just_the_room_for_its_breaks(rt: HostRuntime) -> Result<(), Fail> {
+    let mut chunks = Chunks::new(rt.alloc());
+    chunks.reserve(4, 2)?;
+    let (span, breaks) = chunks.append_joined(&[13], &[13, 10], &[]);
+    assert_eq!(rt; breaks, 2);
+    assert_eq!(rt; chunks.breaks(span), 2);
+    assert_eq!(rt; chunks.units(span), [13, 13, 10].as_slice());
+    Ok(())
+}

@@ -1,0 +1,247 @@
+//! A flat document: one list of units that each edit copies, and that each question about brackets parses whole.
+use super::bracket_replies::{push_brackets, push_level, push_partner};
+use super::flat_lines::{line_content, line_count, line_starts};
+use super::whole_parse::whole_parse;
+use bracket_nodes::Node;
+use bracket_scan::BracketTable;
+use script_lines::{
+    Command, LineOps, Place, Refusal, Short, command_of, long_begin, long_end, long_number,
+    long_text, refusal,
+};
+use std::alloc::{AllocError, Global};
+use std::mem::{replace, swap};
+use text_lengths::{Position, Span};
+use text_rules::is_bad_span;
+use unit_text::{Flat, Units};
+
+/// A document whose text is one list. It keeps one step of undo.
+#[derive(Drop)]
+pub struct OneList {
+    alloc: Global,
+    text: Units,
+    /// Its brackets.
+    table: BracketTable,
+    version: u64,
+    /// The text on the other side of the last step: before it, or after it once it was undone.
+    other: Option<Units>,
+    is_undone: bool,
+    /// Whether the next edit joins the last step.
+    is_open: bool,
+    was_refused: bool,
+}
+
+impl OneList {
+    pub fn new(alloc: Global) -> OneList {
+        OneList {
+            alloc,
+            text: Units::from_vec(Vec::new(alloc)),
+            table: BracketTable::standard(),
+            version: 1,
+            other: None,
+            is_undone: false,
+            is_open: false,
+            was_refused: false,
+        }
+    }
+
+    pub fn len(&self) -> u64 {
+        self.text.len()
+    }
+
+    pub fn line_count(&self) -> u64 {
+        line_count(self.text.as_slice())
+    }
+
+    pub fn was_refused(&self) -> bool {
+        self.was_refused
+    }
+
+    /// Carries out the line's command and appends its reply.
+    pub fn answer(&mut self, line: &[u8], out: &mut Vec<u8>) -> Result<(), AllocError> {
+        match command_of(self.alloc, line) {
+            Ok(Command::Open { text, brackets }) => {
+                self.text = text;
+                self.table = brackets.unwrap_or(BracketTable::standard());
+                self.version = 1;
+                self.show_change(out)
+            }
+            Ok(Command::Edit { ops }) => self.edit(ops, out),
+            Ok(Command::Undo) => self.step(true, out),
+            Ok(Command::Redo) => self.step(false, out),
+            Ok(query) => self.tell(query, out),
+            Err(_) => self.refuse(Refusal::Syntax, out),
+        }
+    }
+
+    fn tell(&mut self, query: Command, out: &mut Vec<u8>) -> Result<(), AllocError> {
+        match query {
+            Command::Line { n } => self.line(n, out),
+            Command::Value { at } => self.value(at, out),
+            Command::Position { offset } => self.position(offset, out),
+            Command::Offset { p } => self.offset(p, out),
+            Command::Size => self.numbers(&[self.len(), self.line_count()], out),
+            Command::Brackets { from, to } => self.brackets(from, to, out),
+            Command::Match { p } => self.partner(p, out),
+            Command::Level { p } => self.level(p, out),
+            _ => self.refuse(Refusal::Syntax, out),
+        }
+    }
+
+    /// The ops stand in the order of the text and do not overlap.
+    fn edit(&mut self, ops: LineOps, out: &mut Vec<u8>) -> Result<(), AllocError> {
+        let mut text = Units::copy_of(self.alloc, self.text.as_slice())?;
+        for op in ops.into_vec().iter().rev() {
+            let Place::At(span) = op.place else {
+                return self.refuse(Refusal::Syntax, out);
+            };
+            if is_bad_span(&self.text, span) {
+                return self.refuse(Refusal::Range, out);
+            }
+            text = edited(self.alloc, text.as_slice(), span, op.text.as_slice())?;
+        }
+        let before = replace(&mut self.text, text);
+        if !self.is_open {
+            self.other = Some(before);
+            self.is_undone = false;
+        }
+        self.is_open = true;
+        self.after_change(out)
+    }
+
+    /// Goes back over the last step, or on over it again.
+    fn step(&mut self, is_undo: bool, out: &mut Vec<u8>) -> Result<(), AllocError> {
+        match &mut self.other {
+            Some(other) if self.is_undone != is_undo => {
+                swap(&mut self.text, other);
+                self.is_undone = is_undo;
+                self.is_open = false;
+                self.after_change(out)
+            }
+            _ => out.extend_from_slice(Short::none().as_slice()),
+        }
+    }
+
+    fn after_change(&mut self, out: &mut Vec<u8>) -> Result<(), AllocError> {
+        self.version = self.version.saturating_add(1);
+        self.show_change(out)
+    }
+
+    fn show_change(&self, out: &mut Vec<u8>) -> Result<(), AllocError> {
+        self.numbers(&[self.version, self.len(), self.line_count()], out)
+    }
+
+    fn numbers(&self, numbers: &[u64], out: &mut Vec<u8>) -> Result<(), AllocError> {
+        long_begin(out)?;
+        for number in numbers {
+            long_number(*number, out)?;
+        }
+        long_end(out)
+    }
+
+    fn text_of(&self, units: &[u16], out: &mut Vec<u8>) -> Result<(), AllocError> {
+        long_begin(out)?;
+        long_text(units, out)?;
+        long_end(out)
+    }
+
+    fn line(&mut self, number: u64, out: &mut Vec<u8>) -> Result<(), AllocError> {
+        match line_content(self.text.as_slice(), number) {
+            None => self.refuse(Refusal::Range, out),
+            Some(content) => self.text_of(content, out),
+        }
+    }
+
+    fn value(&mut self, span: Span, out: &mut Vec<u8>) -> Result<(), AllocError> {
+        if is_bad_span(&self.text, span) {
+            return self.refuse(Refusal::Range, out);
+        }
+        let units = &self.text.as_slice()[span.start as usize..span.end as usize];
+        self.text_of(units, out)
+    }
+
+    fn position(&mut self, offset: u64, out: &mut Vec<u8>) -> Result<(), AllocError> {
+        if !self.text.is_place(offset) {
+            return self.refuse(Refusal::Range, out);
+        }
+        let (mut line, mut start) = (1_u64, 0);
+        for next in line_starts(self.alloc, self.text.as_slice())?
+            .iter()
+            .copied()
+        {
+            if next <= offset {
+                line = line.saturating_add(1);
+                start = next;
+            }
+        }
+        let column = offset.saturating_sub(start).saturating_add(1);
+        self.numbers(&[line, column], out)
+    }
+
+    fn offset(&mut self, position: Position, out: &mut Vec<u8>) -> Result<(), AllocError> {
+        match self.offset_of(position)? {
+            None => self.refuse(Refusal::Range, out),
+            Some(offset) => self.numbers(&[offset], out),
+        }
+    }
+
+    /// The offset of the position, where it is one of the text.
+    fn offset_of(&self, position: Position) -> Result<Option<u64>, AllocError> {
+        let starts = line_starts(self.alloc, self.text.as_slice())?;
+        let Some(content) = line_content(self.text.as_slice(), position.line) else {
+            return Ok(None);
+        };
+        let line = position.line.saturating_sub(2) as usize;
+        let start = if position.line < 2 {
+            0
+        } else {
+            starts.get(line).copied().unwrap_or(0)
+        };
+        let offset = start.saturating_add(position.column).saturating_sub(1);
+        let is_column = position.column > 0 && position.column - 1 <= content.len() as u64;
+        let is_place = is_column && self.text.is_place(offset);
+        Ok(is_place.then_some(offset))
+    }
+
+    fn brackets(&mut self, from: u64, to: u64, out: &mut Vec<u8>) -> Result<(), AllocError> {
+        if from == 0 || to < from || self.line_count() < to {
+            return self.refuse(Refusal::Range, out);
+        }
+        push_brackets(self.alloc, &self.parse()?, from, to, out)
+    }
+
+    fn partner(&mut self, position: Position, out: &mut Vec<u8>) -> Result<(), AllocError> {
+        match self.offset_of(position)? {
+            None => self.refuse(Refusal::Range, out),
+            Some(_) => push_partner(&self.parse()?, position, out),
+        }
+    }
+
+    fn level(&mut self, position: Position, out: &mut Vec<u8>) -> Result<(), AllocError> {
+        match self.offset_of(position)? {
+            None => self.refuse(Refusal::Range, out),
+            Some(_) => push_level(&self.parse()?, position, out),
+        }
+    }
+
+    fn parse(&self) -> Result<Node, AllocError> {
+        whole_parse(self.alloc, &self.table, self.text.as_slice())
+    }
+
+    fn refuse(&mut self, reason: Refusal, out: &mut Vec<u8>) -> Result<(), AllocError> {
+        self.was_refused = true;
+        out.extend_from_slice(refusal(reason).as_slice())
+    }
+}
+
+/// The text with the new one in the place of the span.
+fn edited(alloc: Global, units: &[u16], span: Span, new: &[u16]) -> Result<Units, AllocError> {
+    let mut text = Vec::new(alloc);
+    for unit in units.iter().take(span.start as usize) {
+        text.push(*unit)?;
+    }
+    text.extend_from_slice(new)?;
+    for unit in units.iter().skip(span.end as usize) {
+        text.push(*unit)?;
+    }
+    Ok(Units::from_vec(text))
+}

@@ -1,0 +1,188 @@
+//! Generated scripts, which a flat document answers as the program does.
+
+use super::draws::Draws;
+use super::flat_document::OneList;
+use script_checks::{plain_difference, push_times};
+use std::alloc::{AllocError, Global};
+use std::process::Abort;
+use std::test::Fail;
+
+/// A kind of script. Its texts stand as a script spells them.
+struct Kind {
+    name: &'static str,
+    /// The text that the document is opened with: each of these, so many times.
+    parts: &'static [(&'static str, u64)],
+    /// The member of `open` that names the pairs, if they are not the standard ones.
+    pairs: &'static str,
+    /// What edits put in.
+    texts: [&'static str; 8],
+    /// How many scripts there are, and how many rounds each has.
+    scripts: u64,
+    rounds: u64,
+}
+
+/// Two units, and one character.
+const EMOJI: &str = "\u{1F600}";
+
+const KINDS: &[Kind] = &[
+    Kind {
+        name: "breaks",
+        parts: &[("a\\r\\nb", 1)],
+        pairs: "",
+        texts: ["a", "\\n", "\\r", "\\r\\n", "", EMOJI, "b\\nc", "\\n\\r"],
+        scripts: 4,
+        rounds: 60,
+    },
+    Kind {
+        name: "standard brackets",
+        parts: &[("f(x) { a[0] }\\n", 12)],
+        pairs: "",
+        texts: ["(", ")", "[", "}", "", "{\\n", "()", "]\\r\\n("],
+        scripts: 3,
+        rounds: 40,
+    },
+    // Some texts are the front of another, so that an edit of one unit parts or joins them.
+    Kind {
+        name: "brackets of several units",
+        parts: &[("begin ((a)) do\\r\\nod end\\n", 8)],
+        pairs: ",\"brackets\":[[\"begin\",\"end\"],[\"do\",\"od\"],[\"(\",\")\"],[\"((\",\"))\"]]",
+        texts: ["begin", "end", "do", "o", "(", "))", "", "d\\n"],
+        scripts: 3,
+        rounds: 40,
+    },
+    // At the end more brackets are open than a parse keeps open, so that edits make text of the last ones and brackets again.
+    Kind {
+        name: "more brackets than are kept open",
+        parts: &[("([{([{([{\\n", 32), ("[({[({[({[({[()]})]})]})]})]\\n", 6)],
+        pairs: "",
+        texts: ["([", "[{(", "{(", "(", "(\\n", "{\\r\\n[", "", "}"],
+        scripts: 2,
+        rounds: 30,
+    },
+];
+
+/// A script that grows, with the flat document's replies to it.
+#[derive(Drop)]
+struct Growing {
+    alloc: Global,
+    draws: Draws,
+    document: OneList,
+    script: String,
+    replies: Vec<u8>,
+}
+
+impl Growing {
+    fn new(alloc: Global, seed: u64) -> Growing {
+        Growing {
+            alloc,
+            draws: Draws::new(seed),
+            document: OneList::new(alloc),
+            script: String::new(alloc),
+            replies: Vec::new(alloc),
+        }
+    }
+
+    /// Adds the lines to the script.
+    fn put(&mut self, lines: &str) -> Result<(), AllocError> {
+        for line in lines.lines() {
+            self.document.answer(line.as_bytes(), &mut self.replies)?;
+        }
+        self.script.push_str(lines)
+    }
+
+    fn open(&mut self, kind: &Kind) -> Result<(), AllocError> {
+        let mut line = String::from_str(self.alloc, "{\"cmd\":\"open\",\"text\":\"")?;
+        for (part, times) in kind.parts {
+            push_times(part, *times, &mut line)?;
+        }
+        line.push('"')?;
+        line.push_str(kind.pairs)?;
+        line.push_str("}\n")?;
+        self.put(line.as_str())
+    }
+
+    /// An edit, then questions; and now and then back to the text before the step and on again.
+    fn go_on(&mut self, kind: &Kind, round: u64) -> Result<(), AllocError> {
+        self.edit(kind)?;
+        self.ask()?;
+        if round % 5 == 4 {
+            self.put("{\"cmd\":\"undo\"}\n")?;
+            self.ask()?;
+            self.put("{\"cmd\":\"redo\"}\n")?;
+            self.ask()?;
+        }
+        Ok(())
+    }
+
+    /// An edit with a `z` at the end in the same batch. Its span is now and then beyond the text or upside down.
+    fn edit(&mut self, kind: &Kind) -> Result<(), AllocError> {
+        let len = self.document.len();
+        let start = self.draws.below(len.saturating_add(2));
+        let end = start.saturating_add(self.draws.below(5)).saturating_sub(1);
+        let text = kind.texts[self.draws.below(8) as usize % 8];
+        let edit = format!(in self.alloc;
+            "{{\"cmd\":\"edit\",\"ops\":[{{\"at\":[{start},{end}],\"text\":\"{text}\"}},\
+            {{\"at\":[{len},{len}],\"text\":\"z\"}}]}}\n"
+        )?;
+        self.put(edit.as_str())
+    }
+
+    fn ask(&mut self) -> Result<(), AllocError> {
+        self.ask_for_text()?;
+        self.ask_for_brackets()
+    }
+
+    fn ask_for_text(&mut self) -> Result<(), AllocError> {
+        let (len, lines) = (self.document.len(), self.document.line_count());
+        let line = self.draws.below(lines.saturating_add(3));
+        let column = self.draws.below(4);
+        let from = self.draws.below(len.saturating_add(2));
+        let to = self.draws.below(len.saturating_add(3));
+        let questions = format!(in self.alloc;
+            "{{\"cmd\":\"line\",\"n\":{line}}}\n{{\"cmd\":\"size\"}}\n\
+            {{\"cmd\":\"value\",\"at\":[{from},{to}]}}\n{{\"cmd\":\"position\",\"offset\":{from}}}\n\
+            {{\"cmd\":\"offset\",\"line\":{line},\"col\":{column}}}\n"
+        )?;
+        self.put(questions.as_str())
+    }
+
+    fn ask_for_brackets(&mut self) -> Result<(), AllocError> {
+        let lines = self.document.line_count();
+        let from = self.draws.below(lines.saturating_add(1));
+        let more = self
+            .draws
+            .below(lines.saturating_sub(from).saturating_add(2));
+        let to = from.saturating_add(more);
+        let line = self.draws.below(lines).saturating_add(1);
+        let column = self.draws.below(14);
+        let questions = format!(in self.alloc;
+            "{{\"cmd\":\"level\",\"line\":{line},\"col\":{column}}}\n\
+            {{\"cmd\":\"match\",\"line\":{line},\"col\":{column}}}\n\
+            {{\"cmd\":\"brackets\",\"from\":{from},\"to\":{to}}}\n"
+        )?;
+        self.put(questions.as_str())
+    }
+}
+
+#[test]
+fn the_flat_document_answers_the_same(rt: HostRuntime) -> Result<(), Fail> {
+    for kind in KINDS {
+        for seed in 0..kind.scripts {
+            expect_same(&rt, kind, seed)?;
+        }
+    }
+    Ok(())
+}
+
+fn expect_same<R: AllocGlobal + Abort>(rt: &R, kind: &Kind, seed: u64) -> Result<(), AllocError> {
+    let mut growing = Growing::new(rt.alloc(), seed);
+    growing.open(kind)?;
+    for round in 0..kind.rounds {
+        growing.go_on(kind, round)?;
+    }
+    let status = if growing.document.was_refused() { 1 } else { 0 };
+    let (script, replies) = (growing.script.as_bytes(), growing.replies.as_slice());
+    let found = plain_difference(rt.alloc(), kind.name, script, replies, status)?;
+    assert!(rt; found.is_none(), "{found:?}");
+    Ok(())
+}

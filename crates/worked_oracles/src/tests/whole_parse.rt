@@ -1,0 +1,44 @@
+//! The document's first parse: each line of the text is scanned, and nothing is taken over.
+ghost use Rattle.std.specs.Prelude.{◌≡◌, ◌<◌, ◌^◌, length, sum, IfOk};
+ghost use Rattle.bracket_rules.specs.Table.{AreInLine};
+ghost use Rattle.bracket_nodes.specs.ScannedLines.{AreLines, scanned_weights};
+
+use super::flat_lines::first_line;
+use bracket_nodes::{Node, ScannedLine, parse_lines};
+use bracket_scan::BracketTable;
+use std::alloc::{AllocError, Global};
+
+/// The bracket tree of the text.
+pub fn whole_parse(alloc: Global, table: &BracketTable, text: &[u16]) -> Result<Node, AllocError> {
+    let scans = scans(alloc, table, text)?;
+    parse_lines(alloc, scans.as_slice())
+}
+
+#[tactic(auto, using(crate::proofs::ScannedLines::one_more))]
+fn scans(alloc: Global, table: &BracketTable, text: &[u16]) -> Result<Vec<ScannedLine>, AllocError>
+    ensures some { IfOk result (λ scans. 0 < length scans.items) }
+    ensures lines { IfOk result (λ scans. AreLines scans.items) }
+    ensures fits { IfOk result (λ scans. sum (scanned_weights scans.items) < 2 ^ 64) }
+{
+    let mut scans = Vec::new(alloc);
+    let mut rest = text;
+    while let (content, Some(after)) = first_line(rest) {
+        scans.push(scan(alloc, table, content)?)?;
+        rest = after;
+    }
+    scans.push(scan(alloc, table, rest)?)?;
+    Ok(scans)
+}
+
+#[tactic(auto, using(crate::proofs::ScannedLines::scan_in_line))]
+fn scan(alloc: Global, table: &BracketTable, content: &[u16]) -> Result<ScannedLine, AllocError>
+    ensures columns { IfOk result (λ scan. scan.columns ≡ length content.now) }
+    ensures in_line { IfOk result (λ scan. AreInLine 0 scan.columns scan.tokens.items) }
+{
+    let mut tokens = Vec::new(alloc);
+    table.scan(content, &mut tokens)?;
+    Ok(ScannedLine {
+        tokens,
+        columns: content.len() as u64,
+    })
+}

@@ -1,0 +1,7 @@
+mod asked;
+mod library;
+mod playing;
+mod prepared;
+mod told;
+mod transcripts;
+mod usage;

@@ -1,0 +1,57 @@
+//! Scripts with their replies.
+
+mod batches;
+mod decorated;
+mod kept;
+mod limits;
+mod nested;
+mod texts;
+
+use batches::BATCHES;
+use decorated::{DECORATED, EACH_MODE, FOUR_MODES};
+use kept::KEPT;
+use limits::LIMITS;
+use nested::NESTED;
+use script_checks::{plain_difference, script_and_replies};
+use std::alloc::AllocError;
+use std::process::Abort;
+use std::test::Fail;
+use texts::TEXTS;
+
+/// The rows with which each script of a table begins, and the table. A blank line stands between two transcripts: a
+/// name, and a row for each line of the script, which has the reply behind `=>`.
+const TABLES: [(&str, &str); 7] = [
+    ("", TEXTS),
+    ("", BATCHES),
+    (FOUR_MODES, EACH_MODE),
+    ("", DECORATED),
+    ("", NESTED),
+    ("", KEPT),
+    ("", LIMITS),
+];
+
+#[test]
+fn transcripts(rt: HostRuntime) -> Result<(), Fail> {
+    for (first_rows, table) in TABLES {
+        for transcript in table.trim().split("\n\n") {
+            let (name, rows) = transcript.split_once('\n').unwrap_or(("", transcript));
+            expect_replies(&rt, name, first_rows, rows)?;
+        }
+    }
+    Ok(())
+}
+
+fn expect_replies<R: AllocGlobal + Abort>(
+    rt: &R,
+    name: &str,
+    first_rows: &str,
+    rows: &str,
+) -> Result<(), AllocError> {
+    let (script, replies) = script_and_replies(rt.alloc(), first_rows, rows)?;
+    let (script, replies) = (script.as_str(), replies.as_str());
+    let status = u8::from(replies.lines().any(|reply| reply.starts_with('!')));
+    let (script, written) = (script.as_bytes(), replies.as_bytes());
+    let found = plain_difference(rt.alloc(), name, script, written, status)?;
+    assert!(rt; found.is_none(), "{found:?}");
+    Ok(())
+}
