@@ -54,6 +54,11 @@ def op(start: int, end: int, text: str) -> str:
     return f'{{"at":[{start},{end}],"text":"{text}"}}'
 
 
+def op_in_line(line: int, start: int, end: int, text: str) -> str:
+    """The same of a span between two columns of a line."""
+    return f'{{"range":[{line},{start},{line},{end}],"text":"{text}"}}'
+
+
 def edit(*ops: str) -> str:
     """A line that edits."""
     return f'{{"cmd":"edit","ops":[{",".join(ops)}]}}'
@@ -115,6 +120,20 @@ def edits(units: int, count: int) -> Pair:
     return lines, refused
 
 
+def in_lines(by_position: bool, units: int, count: int) -> Pair:
+    """Edits within random lines, whose lengths they leave, told by positions or by offsets."""
+    draw, lines, refused = random.Random(8), [], []
+    for _ in range(count):
+        length, text = draw.choice([(1, "q"), (2, ".."), (3, "xyz")])
+        line, start = draw.randrange(units // len(LINE)), draw.randrange(len(LINE) - 1 - length)
+        for kept, (first, last) in ((lines, (start, start + length)), (refused, (start + length, start))):
+            if by_position:
+                kept.append(edit(op_in_line(line + 1, first + 1, last + 1, text)))
+            else:
+                kept.append(edit(op(line * len(LINE) + first, line * len(LINE) + last, text)))
+    return lines, refused
+
+
 def typed(places: int, units: int, count: int) -> Pair:
     """A unit typed at each of so many places in turn, behind what was typed there, and the same with bad spans."""
     lines, refused = [], []
@@ -152,6 +171,8 @@ def text_cases(scale: Scale) -> Iterator[Case]:
     """Edits of plain texts, and questions about their lines and places."""
     rows = (
         ("edit at a random place", plain, edits),
+        ("edit within a line, by offsets", plain, partial(in_lines, False)),
+        ("edit within a line, by positions", plain, partial(in_lines, True)),
         ("type at one place", plain, partial(typed, 1)),
         ("type at fifty places in turn", plain, partial(typed, 50)),
         ("position of a random offset", in_pieces, positions),

@@ -109,6 +109,15 @@ static bool line_start(const Units *text, Number line, size_t *start) {
     return line > 0;
 }
 
+/* Reads a line and a column, with this between them, and looks for the offset, which is NOWHERE where there is none. */
+static bool offset_of(const Units *text, const char **at, const char *between, size_t *offset) {
+    Number line, col;
+    if (!number(at, &line) || !word(at, between) || !number(at, &col)) return false;
+    bool is_there = line_start(text, line, offset) && col > 0 && col <= line_end(text, *offset) - *offset + 1;
+    *offset = is_there ? *offset + col - 1 : NOWHERE;
+    return true;
+}
+
 /* ---- decorations */
 
 static bool is_before(size_t offset, size_t place, bool stays) {
@@ -229,14 +238,20 @@ static bool open_text(Document *document, const char **at) {
     return next_version(document);
 }
 
+/* A span as offsets or as positions. */
+static bool span_or_range(const Units *text, const char **at, size_t *start, size_t *end) {
+    if (!word(at, "\"range\":[")) return span(at, start, end);
+    return offset_of(text, at, ",", start) && word(at, ",") && offset_of(text, at, ",", end) && word(at, "]");
+}
+
 /* The ops of an edit, each of which has room in `all`. */
-static bool read_ops(const char **at, Op **all, size_t *count) {
+static bool read_ops(const Units *text_of_now, const char **at, Op **all, size_t *count) {
     size_t room = 0;
     do {
         *all = grown(*all, *count, &room, sizeof(Op));
         Op *op = &(*all)[(*count)++];
-        if (!word(at, "{") || !span(at, &op->start, &op->end) || !word(at, ",\"text\":")) return false;
-        if (!text(at, &op->text) || !word(at, "}")) return false;
+        if (!word(at, "{") || !span_or_range(text_of_now, at, &op->start, &op->end)) return false;
+        if (!word(at, ",\"text\":") || !text(at, &op->text) || !word(at, "}")) return false;
     } while (word(at, ","));
     return word(at, "]") && closes(at);
 }
@@ -244,7 +259,7 @@ static bool read_ops(const char **at, Op **all, size_t *count) {
 static bool edit(Document *document, const char **at) {
     Op *all = NULL;
     size_t count = 0;
-    if (!read_ops(at, &all, &count)) return false;
+    if (!read_ops(&document->text, at, &all, &count)) return false;
     for (size_t i = 0; i < count; i++) {
         if (all[i].start > all[i].end || all[i].end > document->text.length) return refuse_range();
         if (i > 0 && all[i].start < all[i - 1].end) fail("the ops of an edit do not rise");
@@ -304,14 +319,9 @@ static bool position(Document *document, const char **at) {
     return printf("ok %zu %zu", lines, offset - start + 1) > 0;
 }
 
-/* Reads a position, and looks for its offset, which is NOWHERE where the text has no such position. */
+/* A position as the fields of a question. */
 static bool place(const Document *document, const char **at, size_t *offset) {
-    Number line, col;
-    if (!number(at, &line) || !word(at, ",\"col\":") || !number(at, &col) || !closes(at)) return false;
-    bool is_there = line_start(&document->text, line, offset) && col > 0 &&
-                    col <= line_end(&document->text, *offset) - *offset + 1;
-    *offset = is_there ? *offset + col - 1 : NOWHERE;
-    return true;
+    return offset_of(&document->text, at, ",\"col\":", offset) && closes(at);
 }
 
 static bool offset(Document *document, const char **at) {

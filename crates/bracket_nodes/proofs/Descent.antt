@@ -1,5 +1,6 @@
--- Each part of a tree has fewer nodes than the tree.
-use Rattle.std.proofs.Common.{◌<◌, ap, arith, inl, inr}
+-- The walk down a tree: each part has fewer nodes than the tree, and what holds where nothing was found.
+use Rattle.std.proofs.Common.{◌<◌, Option, Some, None, ap, arith, inl, inr}
+use Rattle.std.specs.Prelude.{IfNone}
 use Rattle.text_lengths.specs.declared.Length.{Length}
 use Rattle.bracket_tree_rules.specs.Tree.{Tree, text, pair, stray, capped, nothing, two, three}
 use Rattle.bracket_tree_rules.specs.Parts.{IsPart}
@@ -16,3 +17,7 @@ part_smaller p (two a b) r part (inr is) = omega (arith, ap tree_size is.node)
 part_smaller p (three a b c) r part (inl is) = omega (arith, ap tree_size is.node)
 part_smaller p (three a b c) r part (inr (inl is)) = omega (arith, ap tree_size is.node)
 part_smaller p (three a b c) r part (inr (inr is)) = omega (arith, ap tree_size is.node)
+
+pub if_none : {A : Type 0} (o : Option A) (P : Type 0) → P → IfNone o P
+if_none None P h = h
+if_none (Some x) P h = tt

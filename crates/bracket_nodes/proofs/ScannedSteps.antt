@@ -12,7 +12,7 @@ use Rattle.bracket_tree_rules.proofs.Glue.{empty_glue}
 use Rattle.bracket_tree_rules.proofs.LineWeights.{AreCovered-same}
 use Rattle.bracket_nodes.specs.declared.scanned.ScannedLine.{ScannedLine}
 use Rattle.bracket_nodes.specs.Source.{GivesNode, GivesBracket}
-use Rattle.bracket_nodes.specs.ScannedLines.{moved_back, rows_left, with_break, scanned_weights, ahead_of}
+use Rattle.bracket_nodes.specs.ScannedLines.{moved_back, rows_before, rows_of, with_break, scanned_weights, ahead_of}
 
 -- ---- lines
 
@@ -39,24 +39,38 @@ shifted-moved_back c d n (t ∷ ts) h k =
     shifted-moved_back c d n ts h (AreInLine-from d (t.at + t.len) n ts later k.3) in
     cc
 
-pub HasRow-rows_left : (column : ℕ) (ts : List Token) (columns : ℕ) (lines : List ScannedLine) → HasRow (rows_left column ts columns lines)
-HasRow-rows_left column ts columns [] = tt
-HasRow-rows_left column ts columns (l ∷ lines) = tt
+pub HasRow-before : (c : ℕ) (ts : List Token) (n : ℕ) (rest : List Row) → HasRow (rows_before c ts n rest)
+HasRow-before c ts n [] = tt
+HasRow-before c ts n (r ∷ rest) = tt
 
-pub same_row : (x y : List Token) (m n : ℕ) → x ≡ y → m ≡ n → row x m ≡ row y n
+-- a line with a line behind it ends with its last bracket
+pub before_more : (c : ℕ) (ts : List Token) (n : ℕ) (rest : List Row) → HasRow rest → rows_before c ts n rest ≡ row (moved_back c ts) 0 ∷ rest
+before_more c ts n [] h = elim h [ ]
+before_more c ts n (r ∷ rest) h = refl
+
+pub break_rows : (c n : ℕ) (rest : List Row) → HasRow rest → rows_before c [] n rest ≡ glue (empty_row ∷ empty_row ∷ []) rest
+break_rows c n [] h = elim h [ ]
+break_rows c n (r ∷ rest) h = ap (λ (y : List Row). empty_row ∷ y) (sym (empty_glue (r ∷ rest) tt))
+
+same_row : (x y : List Token) (m n : ℕ) → x ≡ y → m ≡ n → row x m ≡ row y n
 same_row x y m n p q = ap (λ (z : List Token). row z m) p ∙ ap (row y) q
 
 -- the rows from column c on are some brackets up to column d, and the rows from there
-cut : (c d n : ℕ) (front ts all : List Token) (lines : List ScannedLine) → c ≤ d → d ≤ n
+pub cut : (c d n : ℕ) (front ts all : List Token) (rest : List Row) → c ≤ d → d ≤ n
     → moved_back c all ≡ front ++ shifted (d - c) (moved_back d ts)
-    → rows_left c all n lines ≡ glue (row front (d - c) ∷ []) (rows_left d ts n lines)
+    → rows_before c all n rest ≡ glue (row front (d - c) ∷ []) (rows_before d ts n rest)
 cut c d n front ts all [] h k e =
     let columns : n - c ≡ (d - c) + (n - d) = omega arith in
     ap (λ (r : Row). r ∷ []) (same_row (moved_back c all) (front ++ shifted (d - c) (moved_back d ts)) (n - c) ((d - c) + (n - d)) e columns)
-cut c d n front ts all (l ∷ []) h k e =
-    ap (λ (x : List Token). row x 0 ∷ rows_left 0 l.tokens.items l.columns []) e
-cut c d n front ts all (l ∷ m ∷ lines) h k e =
-    ap (λ (x : List Token). row x 0 ∷ rows_left 0 l.tokens.items l.columns (m ∷ lines)) e
+cut c d n front ts all (r ∷ rest) h k e = ap (λ (x : List Token). row x 0 ∷ r ∷ rest) e
+
+-- the token that starts at column c, and those behind it
+pub token_parts : (c n : ℕ) (t : Token) (ts : List Token) → t.at ≡ c → AreInLine (c + t.len) n ts
+    → moved_back c (t ∷ ts) ≡ token 0 t.len t.kind t.opening ∷ shifted ((c + t.len) - c) (moved_back (c + t.len) ts)
+token_parts c n t ts e k =
+    let start : t.at - c ≡ 0 = omega arith in
+    ap (λ (m : ℕ). token m t.len t.kind t.opening ∷ moved_back c ts) start
+    ∙ ap (λ (x : List Token). token 0 t.len t.kind t.opening ∷ x) (sym (shifted-moved_back c (c + t.len) n ts (omega arith) k))
 
 -- ---- what the source gives
 
@@ -86,9 +100,9 @@ gives_gap c d n kinds level ts lines room h k =
       tree = inl (refl, omega arith);
       some = refl;
       fits = fits_text kinds level 0 (d - c) room;
-      spells = cut c d n [] ts ts lines below within (sym (shifted-moved_back c d n ts below k));
+      spells = cut c d n [] ts ts (rows_of lines) below within (sym (shifted-moved_back c d n ts below k));
       weighs = (omega arith, AreCovered-same (scanned_weights lines));
-      rest = HasRow-rows_left d ts n lines;
+      rest = HasRow-before d ts n (rows_of lines);
     }
 
 pub gives_bracket : (c n : ℕ) (t : Token) (ts : List Token) (lines : List ScannedLine) → t.at ≤ c → AreInLine c n (t ∷ ts)
@@ -100,30 +114,30 @@ gives_bracket c n t ts lines h k =
     let within = line_end (c + t.len) n ts line in
     let below : c ≤ c + t.len = omega arith in
     let width : (c + t.len) - c ≡ t.len = omega arith in
-    let start : t.at - c ≡ 0 = omega arith in
     let weight = weight_cut c (c + t.len) n lines below within in
     record {
       has_kind = k.2;
       wide = k.1;
       spells =
-          cut c (c + t.len) n (token 0 t.len t.kind t.opening ∷ []) ts (t ∷ ts) lines below within
-          (ap (λ (m : ℕ). token m t.len t.kind t.opening ∷ moved_back c ts) start
-          ∙ ap (λ (x : List Token). token 0 t.len t.kind t.opening ∷ x) (sym (shifted-moved_back c (c + t.len) n ts below line)))
-          ∙ ap (λ (m : ℕ). glue (row (token 0 t.len t.kind t.opening ∷ []) m ∷ []) (rows_left (c + t.len) ts n lines)) width;
+          cut c (c + t.len) n (token 0 t.len t.kind t.opening ∷ []) ts (t ∷ ts) (rows_of lines) below within (token_parts c n t ts here line)
+          ∙ ap (λ (m : ℕ). glue (row (token 0 t.len t.kind t.opening ∷ []) m ∷ []) (rows_before (c + t.len) ts n (rows_of lines))) width;
       weighs = (omega arith, AreCovered-same (scanned_weights lines));
-      rest = HasRow-rows_left (c + t.len) ts n lines;
+      rest = HasRow-before (c + t.len) ts n (rows_of lines);
     }
 
 pub gives_break : (c n kinds level : ℕ) (l : ScannedLine) (lines : List ScannedLine) → level ≤ MOST_OPEN
     → GivesNode (ahead_of c [] n (l ∷ lines)) (ahead_of 0 l.tokens.items l.columns lines) kinds level (text (length_of 1 0))
-gives_break c n kinds level l lines room = record {
-  tree = inr (refl, refl);
-  some = refl;
-  fits = fits_text kinds level 1 0 room;
-  spells = ap (λ (x : List Row). empty_row ∷ x) (sym (empty_glue (rows_left 0 l.tokens.items l.columns lines) (HasRow-rows_left 0 l.tokens.items l.columns lines)));
-  weighs = (omega arith, (omega (arith, weight_start l.columns lines), AreCovered-same (scanned_weights lines)));
-  rest = HasRow-rows_left 0 l.tokens.items l.columns lines;
-}
+gives_break c n kinds level l lines room =
+    let rest : List Row = rows_of (l ∷ lines) in
+    let some : HasRow rest = HasRow-before 0 l.tokens.items l.columns (rows_of lines) in
+    record {
+      tree = inr (refl, refl);
+      some = refl;
+      fits = fits_text kinds level 1 0 room;
+      spells = break_rows c n rest some;
+      weighs = (omega arith, (omega (arith, weight_start l.columns lines), AreCovered-same (scanned_weights lines)));
+      rest = some;
+    }
 
 -- ---- the next token, and the lines after the next
 

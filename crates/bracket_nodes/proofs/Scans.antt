@@ -5,7 +5,8 @@ use Rattle.bracket_rules.specs.Table.{Table, is_table, token, tokens_of, AreInLi
 use Rattle.bracket_rules.specs.Rows.{Row, row, text_rows}
 use Rattle.bracket_rules.proofs.Tokens.{tokens_of-in_line}
 use Rattle.bracket_nodes.specs.declared.scanned.ScannedLine.{ScannedLine}
-use Rattle.bracket_nodes.specs.ScannedLines.{AreLines, AreScans, moved_back, rows_left, scanned_rows}
+use Rattle.bracket_nodes.specs.ScannedLines.{AreLines, AreScans, moved_back, rows_of, scanned_rows}
+use Rattle.bracket_nodes.proofs.ScannedSteps.{HasRow-before, before_more}
 
 pub moved_back-zero : (ts : List Token) → moved_back 0 ts ≡ ts
 moved_back-zero [] = refl
@@ -15,24 +16,25 @@ moved_back-zero (t ∷ ts) =
     let rest : moved_back 0 ts ≡ ts = moved_back-zero ts in
     cc
 
-rows_left-text : (table : Table) (x : List ℕ) (xs : List (List ℕ)) (l : ScannedLine) (lines : List ScannedLine) → AreScans table (x ∷ xs) (l ∷ lines)
-    → rows_left 0 l.tokens.items l.columns lines ≡ text_rows table (x ∷ xs)
-rows_left-text table x [] l [] h =
+rows_of-text : (table : Table) (x : List ℕ) (xs : List (List ℕ)) (l : ScannedLine) (lines : List ScannedLine) → AreScans table (x ∷ xs) (l ∷ lines)
+    → rows_of (l ∷ lines) ≡ text_rows table (x ∷ xs)
+rows_of-text table x [] l [] h =
     let tokens : moved_back 0 l.tokens.items ≡ tokens_of table x = moved_back-zero l.tokens.items ∙ h.0 in
     let columns : l.columns - 0 ≡ length x = let same : l.columns ≡ length x = h.1 in omega arith in
     ap (λ (ts : List Token). row ts (l.columns - 0) ∷ []) tokens ∙ ap (λ (n : ℕ). row (tokens_of table x) n ∷ []) columns
-rows_left-text table x [] l (m ∷ lines) h = elim h.2 [ ]
-rows_left-text table x (y ∷ xs) l [] h = elim h.2 [ ]
-rows_left-text table x (y ∷ xs) l (m ∷ lines) h =
+rows_of-text table x [] l (m ∷ lines) h = elim h.2 [ ]
+rows_of-text table x (y ∷ xs) l [] h = elim h.2 [ ]
+rows_of-text table x (y ∷ xs) l (m ∷ lines) h =
     let tokens : moved_back 0 l.tokens.items ≡ tokens_of table x = moved_back-zero l.tokens.items ∙ h.0 in
-    ap (λ (ts : List Token). row ts 0 ∷ rows_left 0 m.tokens.items m.columns lines) tokens
-    ∙ ap (λ (rows : List Row). row (tokens_of table x) 0 ∷ rows) (rows_left-text table y xs m lines h.2)
+    before_more 0 l.tokens.items l.columns (rows_of (m ∷ lines)) (HasRow-before 0 m.tokens.items m.columns (rows_of lines))
+    ∙ ap (λ (ts : List Token). row ts 0 ∷ rows_of (m ∷ lines)) tokens
+    ∙ ap (λ (rows : List Row). row (tokens_of table x) 0 ∷ rows) (rows_of-text table y xs m lines h.2)
 
 pub scanned_rows-text : (table : Table) (xs : List (List ℕ)) (lines : List ScannedLine) → 0 < length xs → AreScans table xs lines
     → scanned_rows lines ≡ text_rows table xs
 scanned_rows-text table [] lines some h = absurd (omega arith)
 scanned_rows-text table (x ∷ xs) [] some h = elim h [ ]
-scanned_rows-text table (x ∷ xs) (l ∷ lines) some h = rows_left-text table x xs l lines h
+scanned_rows-text table (x ∷ xs) (l ∷ lines) some h = rows_of-text table x xs l lines h
 
 pub AreLines-from_scans : (table : Table) (xs : List (List ℕ)) (lines : List ScannedLine) → is_table table ≡ true → AreScans table xs lines → AreLines lines
 AreLines-from_scans table [] [] t h = tt

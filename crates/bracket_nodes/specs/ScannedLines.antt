@@ -23,19 +23,24 @@ abbrev pub moved_back : ℕ → List Token → List Token
 moved_back column [] = []
 moved_back column (t ∷ ts) = token (t.at - column) t.len t.kind t.opening ∷ moved_back column ts
 
-abbrev pub rows_left : ℕ → List Token → ℕ → List ScannedLine → List Row
-rows_left column tokens columns [] = row (moved_back column tokens) (columns - column) ∷ []
-rows_left column tokens columns (l ∷ lines) = row (moved_back column tokens) 0 ∷ rows_left 0 l.tokens.items l.columns lines
+-- the rows from a column of a line of so many columns on, where these tokens of it are left, and those rows follow
+abbrev pub rows_before : ℕ → List Token → ℕ → List Row → List Row
+rows_before column tokens columns [] = row (moved_back column tokens) (columns - column) ∷ []
+rows_before column tokens columns (r ∷ rows) = row (moved_back column tokens) 0 ∷ r ∷ rows
+
+abbrev pub rows_of : List ScannedLine → List Row
+rows_of [] = []
+rows_of (l ∷ lines) = rows_before 0 l.tokens.items l.columns (rows_of lines)
 
 -- what so many columns of a line weigh, with the break that ends it where more lines follow
 abbrev pub with_break : ℕ → List ScannedLine → ℕ
 with_break columns [] = columns
 with_break columns (l ∷ lines) = columns + 1
 
--- the rows of all lines
+-- the rows of a text of these lines: without any it is empty
 abbrev pub scanned_rows : List ScannedLine → List Row
 scanned_rows [] = empty_row ∷ []
-scanned_rows (l ∷ lines) = rows_left 0 l.tokens.items l.columns lines
+scanned_rows (l ∷ lines) = rows_of (l ∷ lines)
 
 -- what each line weighs
 abbrev pub scanned_weights : List ScannedLine → List ℕ
@@ -44,7 +49,7 @@ scanned_weights (l ∷ lines) = with_break l.columns lines ∷ scanned_weights l
 
 abbrev pub ahead_of : ℕ → List Token → ℕ → List ScannedLine → Ahead
 ahead_of column tokens columns lines = record {
-  rows = rows_left column tokens columns lines;
+  rows = rows_before column tokens columns (rows_of lines);
   line = with_break (columns - column) lines;
   later = scanned_weights lines;
   asking = asks_nothing;

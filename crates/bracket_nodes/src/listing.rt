@@ -21,6 +21,15 @@ struct LineRange {
     to: u64,
 }
 
+impl LineRange {
+    // Whether the entry starts in one of these lines.
+    fn has(self, entry: &Entry) -> bool
+        ensures { result ≡ is_between self.from self.to entry.now }
+    {
+        self.from <= entry.place.lines && entry.place.lines <= self.to
+    }
+}
+
 impl Node {
     /// Appends the entries that start in the lines `from` to `to` of the tree, both counted from 0
     /// and both included, in the order of the text. On want of memory `out` is unchanged.
@@ -187,7 +196,7 @@ fn push_if(lines: LineRange, entry: Entry, out: &mut Vec<Entry>) -> Result<(), A
         ≡ out.old.items ++ entry_if (is_between lines.from lines.to entry) entry) }
     ensures err { OnErr result (take (length out.old.items) out.new.items ≡ out.old.items) }
 {
-    if lines.from <= entry.place.lines && entry.place.lines <= lines.to {
+    if lines.has(&entry) {
         out.push(entry)?;
     }
     Ok(())

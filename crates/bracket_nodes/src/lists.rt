@@ -1,8 +1,7 @@
 // Lists as (2,3)-trees, and how two of them are joined.
 ghost use Rattle.std.specs.Prelude.{◌≡◌, ◌+◌, ◌<◌, ◌≤◌, ◌^◌, ◌++◌, false, IfOk, suc};
 ghost use Rattle.bracket_tree_rules.specs.Tree.{two, three, height, weight, is_nothing, IsEven, items};
-ghost use Rattle.bracket_nodes.specs.Lists.{AreListsOf, grown_items, grown_weight, Grows, Joins};
-ghost use Rattle.bracket_nodes.specs.Lists.{Grows, Joins};
+ghost use Rattle.bracket_nodes.specs.Lists.{AreListsOf, sibling_height, sibling_items, sibling_weight, Joins};
 
 use crate::kept::both;
 use crate::node::{Inner, Shape};
@@ -11,9 +10,9 @@ use std::rc::Rc;
 
 pub(crate) type Shared = Rc<Inner>;
 
-// A list that took in another: one list of its height, or two.
+// One list, or two of one height, side by side.
 #[derive(Drop)]
-pub(crate) enum Grown {
+pub(crate) enum Siblings {
     One(Shared),
     Two(Shared, Shared),
 }
@@ -43,125 +42,85 @@ pub(crate) fn three_of(alloc: Global, a: Shared, b: Shared, c: Shared) -> Result
     Ok(Rc::new(alloc, Inner { shape, kept })?)
 }
 
+// The lists a step higher that have the lists of both as their parts, in order.
+fn grouped(alloc: Global, first: Siblings, second: Siblings) -> Result<Siblings, AllocError>
+    requires first { AreListsOf (sibling_height first) first }
+    requires second { AreListsOf (sibling_height first) second }
+    requires fits { sibling_weight first + sibling_weight second < 2 ^ 64 }
+    ensures level { IfOk result (AreListsOf (suc (sibling_height first))) }
+    ensures in_order { IfOk result (λ lists.
+        sibling_items lists ≡ sibling_items first ++ sibling_items second) }
+    ensures weighs { IfOk result (λ lists.
+        sibling_weight lists ≡ sibling_weight first + sibling_weight second) }
+{
+    match (first, second) {
+        (Siblings::One(a), Siblings::One(b)) => Ok(Siblings::One(two_of(alloc, a, b)?)),
+        (Siblings::One(a), Siblings::Two(b, c)) | (Siblings::Two(a, b), Siblings::One(c)) => {
+            Ok(Siblings::One(three_of(alloc, a, b, c)?))
+        }
+        (Siblings::Two(a, b), Siblings::Two(c, d)) => {
+            let first = two_of(alloc, a, b)?;
+            let second = two_of(alloc, c, d)?;
+            Ok(Siblings::Two(first, second))
+        }
+    }
+}
+
 // The list with the nodes of `last`, which is no higher, after its own.
-fn append(alloc: Global, list: &Shared, last: Shared) -> Result<Grown, AllocError>
+fn append(alloc: Global, list: &Shared, last: Shared) -> Result<Siblings, AllocError>
     requires lower { height last.value ≤ height list.now.value }
     requires some { is_nothing list.now.value ≡ false }
     requires last_some { is_nothing last.value ≡ false }
     requires fits { weight list.now.value + weight last.value < 2 ^ 64 }
-    ensures { IfOk result (Grows (height list.now.value)
-        (items list.now.value ++ items last.value)
-        (weight list.now.value + weight last.value)) }
+    ensures level { IfOk result (AreListsOf (height list.now.value)) }
+    ensures in_order { IfOk result (λ lists.
+        sibling_items lists ≡ items list.now.value ++ items last.value) }
+    ensures weighs { IfOk result (λ lists.
+        sibling_weight lists ≡ weight list.now.value + weight last.value) }
 {
     let inner: &Inner = list;
     if inner.kept().height == last.kept().height {
-        return Ok(Grown::Two(list.clone()?, last));
+        return Ok(Siblings::Two(list.clone()?, last));
     }
     match &inner.shape {
         Shape::Two(a, b) => {
             let grown = append(alloc, b, last)?;
-            after_one(alloc, a.clone()?, grown)
+            grouped(alloc, Siblings::One(a.clone()?), grown)
         }
         Shape::Three(a, b, c) => {
             let grown = append(alloc, c, last)?;
-            after_two(alloc, a.clone()?, b.clone()?, grown)
+            grouped(alloc, Siblings::Two(a.clone()?, b.clone()?), grown)
         }
         _ => unreachable!(),
-    }
-}
-
-// A list of `a` and what grew after it.
-fn after_one(alloc: Global, a: Shared, grown: Grown) -> Result<Grown, AllocError>
-    requires some { is_nothing a.value ≡ false }
-    requires grown { AreListsOf (height a.value) grown }
-    requires fits { weight a.value + grown_weight grown < 2 ^ 64 }
-    ensures { IfOk result (Grows (suc (height a.value))
-        (items a.value ++ grown_items grown)
-        (weight a.value + grown_weight grown)) }
-{
-    match grown {
-        Grown::One(b) => Ok(Grown::One(two_of(alloc, a, b)?)),
-        Grown::Two(b, c) => Ok(Grown::One(three_of(alloc, a, b, c)?)),
-    }
-}
-
-// A list of `a`, `b` and what grew after them.
-fn after_two(alloc: Global, a: Shared, b: Shared, grown: Grown) -> Result<Grown, AllocError>
-    requires even { IsEven a.value b.value }
-    requires grown { AreListsOf (height a.value) grown }
-    requires fits { weight a.value + (weight b.value + grown_weight grown) < 2 ^ 64 }
-    ensures { IfOk result (Grows (suc (height a.value))
-        (items a.value ++ (items b.value ++ grown_items grown)) (weight a.value +
-        (weight b.value + grown_weight grown))) }
-{
-    match grown {
-        Grown::One(c) => Ok(Grown::One(three_of(alloc, a, b, c)?)),
-        Grown::Two(c, d) => {
-            let first = two_of(alloc, a, b)?;
-            let second = two_of(alloc, c, d)?;
-            Ok(Grown::Two(first, second))
-        }
     }
 }
 
 // The list with the nodes of `first`, which is no higher, before its own.
-fn prepend(alloc: Global, first: Shared, list: &Shared) -> Result<Grown, AllocError>
+fn prepend(alloc: Global, first: Shared, list: &Shared) -> Result<Siblings, AllocError>
     requires lower { height first.value ≤ height list.now.value }
     requires first_some { is_nothing first.value ≡ false }
     requires some { is_nothing list.now.value ≡ false }
     requires fits { weight first.value + weight list.now.value < 2 ^ 64 }
-    ensures { IfOk result (Grows (height list.now.value)
-        (items first.value ++ items list.now.value)
-        (weight first.value + weight list.now.value)) }
+    ensures level { IfOk result (AreListsOf (height list.now.value)) }
+    ensures in_order { IfOk result (λ lists.
+        sibling_items lists ≡ items first.value ++ items list.now.value) }
+    ensures weighs { IfOk result (λ lists.
+        sibling_weight lists ≡ weight first.value + weight list.now.value) }
 {
     let inner: &Inner = list;
     if inner.kept().height == first.kept().height {
-        return Ok(Grown::Two(first, list.clone()?));
+        return Ok(Siblings::Two(first, list.clone()?));
     }
     match &inner.shape {
         Shape::Two(a, b) => {
             let grown = prepend(alloc, first, a)?;
-            before_one(alloc, grown, b.clone()?)
+            grouped(alloc, grown, Siblings::One(b.clone()?))
         }
         Shape::Three(a, b, c) => {
             let grown = prepend(alloc, first, a)?;
-            before_two(alloc, grown, b.clone()?, c.clone()?)
+            grouped(alloc, grown, Siblings::Two(b.clone()?, c.clone()?))
         }
         _ => unreachable!(),
-    }
-}
-
-// A list of what grew before `c`, and `c`.
-fn before_one(alloc: Global, grown: Grown, c: Shared) -> Result<Grown, AllocError>
-    requires some { is_nothing c.value ≡ false }
-    requires grown { AreListsOf (height c.value) grown }
-    requires fits { grown_weight grown + weight c.value < 2 ^ 64 }
-    ensures { IfOk result (Grows (suc (height c.value))
-        (grown_items grown ++ items c.value)
-        (grown_weight grown + weight c.value)) }
-{
-    match grown {
-        Grown::One(b) => Ok(Grown::One(two_of(alloc, b, c)?)),
-        Grown::Two(a, b) => Ok(Grown::One(three_of(alloc, a, b, c)?)),
-    }
-}
-
-// A list of what grew before `c` and `d`, and these.
-fn before_two(alloc: Global, grown: Grown, c: Shared, d: Shared) -> Result<Grown, AllocError>
-    requires even { IsEven c.value d.value }
-    requires grown { AreListsOf (height c.value) grown }
-    requires fits { grown_weight grown + (weight c.value + weight d.value) < 2 ^ 64 }
-    ensures { IfOk result (Grows (suc (height c.value)) (grown_items grown ++
-        (items c.value ++ items d.value)) (grown_weight grown +
-        (weight c.value + weight d.value))) }
-{
-    match grown {
-        Grown::One(b) => Ok(Grown::One(three_of(alloc, b, c, d)?)),
-        Grown::Two(a, b) => {
-            let first = two_of(alloc, a, b)?;
-            let second = two_of(alloc, c, d)?;
-            Ok(Grown::Two(first, second))
-        }
     }
 }
 
@@ -189,7 +148,7 @@ pub(crate) fn join(alloc: Global, first: Shared, second: Shared) -> Result<Share
         prepend(alloc, first, &second)?
     };
     match grown {
-        Grown::One(list) => Ok(list),
-        Grown::Two(a, b) => two_of(alloc, a, b),
+        Siblings::One(list) => Ok(list),
+        Siblings::Two(a, b) => two_of(alloc, a, b),
     }
 }

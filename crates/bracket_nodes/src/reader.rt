@@ -127,11 +127,11 @@ impl<'a> NodeReader<'a> {
         ensures brackets { ShowsBrackets self.old result.start result.node.now.value place.now }
         ensures same { self.new ≡ self.old }
     {
-        while let Some(last) = self.path.pop() {
+        while let Some(&last) = self.path.last() {
             if last.holds(place) {
-                let _ = self.path.push(last);
                 return last;
             }
+            self.path.pop();
         }
         Placed::whole(self.root)
     }

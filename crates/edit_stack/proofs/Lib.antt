@@ -1,1 +1,2 @@
 mod Cursors
+mod InRows

@@ -1,3 +1,4 @@
 pub mod Element
+pub mod Rows
 pub mod Shown
 pub mod Lists

@@ -1,6 +1,5 @@
 -- What contracts see of a stack, and what its fields keep.
 use Rattle.std.specs.Prelude.{◌≡◌, ℕ, ◌+◌, ◌≤◌, ◌&&◌, Bool, true, nat_lt, if◌then◌else◌, List, [], ◌∷◌, ◌++◌, map, take, drop, reverse, length, Option, Some, None, is_some}
-use Rattle.std.specs.Vec.{vec_len, vec_capacity}
 use Rattle.edit_stack.specs.declared.element.Element.{Element}
 use Rattle.edit_stack.specs.declared.stack.EditStack.TheInside.{Inside}
 use Rattle.edit_stack.specs.Element.{step_of}
@@ -23,10 +22,10 @@ module _ {C : Type 0} where
   -- whether the open element has room for one change more
   abbrev pub may_join : Option (Element C) → Bool
   may_join None = true
-  may_join (Some e) = nat_lt (vec_len e.changes) (vec_capacity e.changes)
+  may_join (Some e) = nat_lt (length e.more.items) e.more.capacity
 
   abbrev pub is_ready : Inside C → Bool
-  is_ready s = nat_lt (element_count s) (vec_capacity s.elements) && nat_lt 0 (vec_capacity s.room) && may_join s.open_element
+  is_ready s = nat_lt (element_count s) s.elements.capacity && may_join s.open_element
 
   abbrev pub shown : Inside C → Shown C
   shown s = record {
@@ -41,8 +40,7 @@ module _ {C : Type 0} where
   -- there is room for all elements
   pub record HasRoom (s : Inside C) : Type 0 where
     pub done : s.done ≤ s.kept
-    pub kept : s.kept ≤ vec_len s.elements
-    pub elements : element_count s ≤ vec_capacity s.elements
-    pub room : s.room.items ≡ []
+    pub kept : s.kept ≤ length s.elements.items
+    pub elements : element_count s ≤ s.elements.capacity
     -- while an element is open there is nothing to redo
     pub apart : is_some s.open_element ≡ true → s.kept ≡ s.done

@@ -13,7 +13,8 @@ step_code {C} code = code_by (List C × (ℕ × ℕ)) (coded× (coded_list code)
     (λ s. (s.changes, (s.alt_before, s.alt_after))) (λ p. record { changes = p.0; alt_before = p.1.0; alt_after = p.1.1 }) (λ _. refl)
 
 abbrev pub stack_code : {C : Type 0} → Coded C → Coded (Stack C)
-stack_code {C} code = code_by (List (Step C) × (List (Step C) × Bool)) (coded× (coded_list (step_code code)) (coded× (coded_list (step_code code)) coded_bool))
+stack_code {C} code =
+    let steps = coded_list (step_code code) in code_by (List (Step C) × (List (Step C) × Bool)) (coded× steps (coded× steps coded_bool))
     (λ s. (s.undo, (s.redo, s.is_open))) (λ p. record { undo = p.0; redo = p.1.0; is_open = p.1.1 }) (λ _. refl)
 
 abbrev pub shown_code : {C : Type 0} → Coded C → Coded (Shown C)

@@ -1,22 +1,37 @@
 //! One step of undo.
 
-ghost use Rattle.std.specs.Prelude.{◌≡◌};
+ghost use Rattle.std.specs.Prelude.{◌≡◌, ◌<◌, Some, length, slice_get};
 ghost use Rattle.edit_stack.specs.Element.{step_of};
 
-/// The changes that one undo takes back, and the alternative versions before and after them.
+use crate::rows::RowList;
+
+/// The changes that one undo takes back, at least one, and the alternative versions before and after them.
 #[derive(Drop)]
 pub struct Element<C> {
-    pub(crate) changes: Vec<C>,
+    pub(crate) first: C,
+    /// The changes behind the first.
+    pub(crate) more: RowList<C>,
     pub(crate) alt_before: u64,
     pub(crate) alt_after: u64,
 }
 
 impl<C> Element<C> {
-    /// The changes, in the order in which they were made.
-    pub fn changes(&self) -> &[C]
-        ensures { result.now ≡ (step_of self.now).changes }
+    /// How many changes there are.
+    pub fn len(&self) -> usize
+        ensures { result ≡ length (step_of self.now).changes }
     {
-        self.changes.as_slice()
+        1 + self.more.len()
+    }
+
+    /// A change, by its number in the order in which they were made, from 0 on.
+    pub fn change(&self, at: usize) -> &C
+        requires { at < length (step_of self.now).changes }
+        ensures { slice_get (step_of self.now).changes at ≡ Some result.now }
+    {
+        if at == 0 {
+            return &self.first;
+        }
+        self.more.get(at - 1)
     }
 
     /// What the alternative version was before the first of them.

@@ -2,6 +2,7 @@
 #![tactic(auto)]
 
 mod element;
+mod rows;
 mod stack;
 
 pub use element::Element;

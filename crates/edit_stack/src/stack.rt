@@ -1,14 +1,14 @@
 //! The two lists.
 
-ghost use Rattle.std.specs.Prelude.{◌≡◌, ◌+◌, ◌<◌, ◌≤◌, ◌++◌, ◌∷◌, [], length, take, slice_get, OnOk, option_map, vec_len, vec_capacity};
+ghost use Rattle.std.specs.Prelude.{◌≡◌, ◌+◌, ◌^◌, ◌<◌, ◌≤◌, ◌++◌, ◌∷◌, [], length, take, slice_get, OnOk, option_map};
 ghost use Rattle.std.specs.Option.{option_copied};
 ghost use Rattle.edit_stack.specs.Element.{step_of};
 ghost use Rattle.undo_rules.specs.Stack.{empty_stack, pushed, stopped, undone, redone};
 
 use crate::element::Element;
+use crate::rows::RowList;
 use std::alloc::{AllocError, Global};
 use std::marker::Model;
-use std::mem;
 
 /// What can be undone and redone. Only `reserve` takes memory.
 ///
@@ -19,14 +19,12 @@ use std::mem;
 pub struct EditStack<C> {
     alloc: Global,
     /// The closed elements, in the order in which they were made, and those that can be had no more.
-    elements: Vec<Element<C>>,
+    elements: RowList<Element<C>>,
     /// So many of the elements are done. The next to undo is the last of these.
     done: usize,
     /// So many are done or can be redone. The next to redo is the first that is not done.
     kept: usize,
     open_element: Option<Element<C>>,
-    /// For the first change of the next element.
-    room: Vec<C>,
 }
 
 impl<C> Model for EditStack<C> {
@@ -49,11 +47,10 @@ impl<C: Drop> EditStack<C> {
     {
         EditStack {
             alloc,
-            elements: Vec::new(alloc),
+            elements: RowList::new(alloc),
             done: 0,
             kept: 0,
             open_element: None,
-            room: Vec::new(alloc),
         }
     }
 
@@ -64,9 +61,8 @@ impl<C: Drop> EditStack<C> {
         ensures kept { self.old.spare ≤ self.new.spare }
     {
         self.elements.reserve(2)?;
-        self.room.reserve(1)?;
         if let Some(open) = &mut self.open_element {
-            open.changes.reserve(1)?;
+            open.more.reserve(1)?;
         }
         Ok(())
     }
@@ -81,14 +77,13 @@ impl<C: Drop> EditStack<C> {
         let_one_go(&mut self.elements, self.kept);
         match &mut self.open_element {
             Some(open) => {
-                open.changes.push(change).unwrap();
+                open.more.push(change);
                 open.alt_after = alt_after;
             }
             None => {
-                let mut changes = mem::replace(&mut self.room, Vec::new(self.alloc));
-                changes.push(change).unwrap();
                 self.open_element = Some(Element {
-                    changes,
+                    first: change,
+                    more: RowList::new(self.alloc),
                     alt_before,
                     alt_after,
                 });
@@ -114,7 +109,7 @@ impl<C: Drop> EditStack<C> {
     {
         match &self.open_element {
             Some(open) => Some(open),
-            None if self.done > 0 => Some(&self.elements[self.done - 1]),
+            None if self.done > 0 => Some(self.elements.get(self.done - 1)),
             None => None,
         }
     }
@@ -126,7 +121,7 @@ impl<C: Drop> EditStack<C> {
         if self.done == self.kept {
             return None;
         }
-        Some(&self.elements[self.done])
+        Some(self.elements.get(self.done))
     }
 
     /// The element that was the next to undo is the next to redo now.
@@ -155,28 +150,29 @@ impl<C: Drop> EditStack<C> {
 }
 
 /// Puts the element behind the first `at`. What stood there goes.
-fn put_at<C: Drop>(elements: &mut Vec<Element<C>>, at: usize, element: Element<C>)
-    requires place { at ≤ vec_len elements.old }
-    requires room { at < vec_capacity elements.old }
+fn put_at<C: Drop>(elements: &mut RowList<Element<C>>, at: usize, element: Element<C>)
+    requires place { at ≤ length elements.old.items }
+    requires room { at < elements.old.capacity }
     ensures items { take (at + 1) elements.new.items ≡ take at elements.old.items ++ element ∷ [] }
-    ensures len { at < vec_len elements.new }
-    ensures capacity { vec_capacity elements.old ≤ vec_capacity elements.new }
+    ensures len { at < length elements.new.items }
+    ensures capacity { elements.new.capacity ≡ elements.old.capacity }
+    ensures few { at + 1 < 2 ^ 32 }
 {
     if at < elements.len() {
-        elements[at] = element;
+        elements.set(at, element);
     } else {
-        elements.push(element).unwrap();
+        elements.push(element);
     }
 }
 
 /// Lets one go that is not among the first `kept`.
-fn let_one_go<C: Drop>(elements: &mut Vec<Element<C>>, kept: usize)
-    requires { kept ≤ vec_len elements.old }
+fn let_one_go<C: Drop>(elements: &mut RowList<Element<C>>, kept: usize)
+    requires { kept ≤ length elements.old.items }
     ensures items { take kept elements.new.items ≡ take kept elements.old.items }
-    ensures len { kept ≤ vec_len elements.new }
-    ensures capacity { vec_capacity elements.old ≤ vec_capacity elements.new }
+    ensures len { kept ≤ length elements.new.items }
+    ensures capacity { elements.new.capacity ≡ elements.old.capacity }
 {
     if kept < elements.len() {
-        elements.truncate(elements.len() - 1);
+        elements.drop_last();
     }
 }

@@ -9,3 +9,4 @@ mod Untouched
 mod Landing
 mod Trees
 mod Touching
+mod Entries

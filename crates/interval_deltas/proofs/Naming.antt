@@ -1,14 +1,9 @@
 -- What an id names once the entries change.
-use Rattle.std.proofs.Common.{◌≡◌, ℕ, ◌+◌, ◌<◌, ◌≤◌, zero, suc, true, false, cond, ltb, eqb, inl, inr, List, [], ◌∷◌, length, get_or, set, take, drop, Option, None, Some, Result, Ok, Err, refl, sym, ◌∙◌, ap, subst, arith}
+use Rattle.std.proofs.Common.{◌≡◌, ℕ, ◌+◌, ◌<◌, ◌≤◌, zero, suc, true, false, cond, ltb, eqb, inl, inr, List, [], ◌∷◌, length, get_or, set, take, drop, Option, None, Some, refl, sym, ◌∙◌, ap, subst, arith}
 use Rattle.std.specs.Prelude.{is_some, IsSome}
 use Rattle.std.specs.List.{count_by, All, AllWithin, insert, filter}
-use Rattle.std.specs.Prelude.{MatchResult}
-use Rattle.std.specs.List.Sorted.{IsNonDecreasingBy, IsSearchInRange, IsBinarySearchResult}
-use Rattle.std.proofs.lemmas.Cmp.{ranked}
-use Rattle.std.specs.Ordering.{nat_cmp, ordering_index}
 use Rattle.std.proofs.lemmas.Bool.{false≢true, cond-true, cond-false, ne_eqb, eq-eqb, eqb-true, ltb-true, ltb-false, cases_Bool, both_ways}
 use Rattle.std.proofs.lemmas.List.{length-set, get_or-set_same, get_or-set_other}
-use Rattle.std.proofs.lemmas.Bool.Decides.{nat_tests}
 use Rattle.std.proofs.lemmas.List.Kept.{AllPairs-cons}
 use Rattle.std.proofs.lemmas.List.Elements.{All-append, All-cons, All-drop, All-take}
 use Rattle.std.proofs.lemmas.List.Sums.{sum_by-cons, sum_by-set, sum_by-insert}
@@ -100,22 +95,6 @@ node-named (x ∷ xs) id by_id = elim (cases_Bool (is_named x)) [
         | inr away ↦ sym (cond-false (eqb id x.id) x.node (node_of xs id) away)
       ]
 ]
-
--- the order that a search by id asks for
-pub rising : (es : List Entry) (id : ℕ) → IsById es → IsNonDecreasingBy (λ e. ordering_index (nat_cmp e.id id)) es
-rising es id by_id i j d le below = elim (cases_Bool (eqb i j)) [
-  | inl same ↦ subst (λ n. ordering_index (nat_cmp (get_or es i d).id id) ≤ ordering_index (nat_cmp (get_or es n d).id id)) (eqb-true i j same) (omega arith)
-  | inr apart ↦ rises (get_or es i d).id (get_or es j d).id id (by_id i j d (omega (arith, λ (is : i ≡ j). both_ways (eqb i j) apart (eq-eqb i j is))) below)
-]
-  where
-    rises : (a b c : ℕ) → a < b → ordering_index (nat_cmp a c) ≤ ordering_index (nat_cmp b c)
-    rises a b c lt = grind (arith, nat_tests)
-
-pub searched : (es : List Entry) (id : ℕ) → IsById es → (r : Result ℕ ℕ) → IsSearchInRange r (length es) → IsBinarySearchResult (λ e. nat_cmp e.id id) es r
-    → MatchResult r (StandsAt es id) (BelongsAt es id)
-searched es id by_id (Ok at) in_range equal = (in_range, λ d. ranked _ id _ (sym (equal d)))
-searched es id by_id (Err at) in_range parted =
-    let parts = parted (rising es id by_id) in (in_range, λ k d low high. ranked _ id _ (sym (parts.0 k d low high)), λ k d low high. ranked _ id _ (sym (parts.1 k d low high)))
 
 -- no entry has the id
 pub none_belongs : (es : List Entry) (id at : ℕ) → BelongsAt es id at → node_of es id ≡ None

@@ -37,7 +37,11 @@ place_of m = record { start = m.start; end = m.end; id = m.label.id }
 
 -- a decoration that stands at the place
 abbrev pub mark_at : Place → Mark
-mark_at p = as_mark (record { start = p.start; end = p.end; label = record { id = p.id; owner = 0; sticky = AlwaysGrows; collapse = false } })
+mark_at p = as_mark (record {
+  start = p.start;
+  end = p.end;
+  label = record { id = p.id; owner = 0; sticky = AlwaysGrows; collapse = false };
+})
 
 abbrev pub IsPlace : Place → Type 0
 IsPlace p = (pos 0 ≤ℤ p.start) × (pos 0 ≤ℤ p.end)

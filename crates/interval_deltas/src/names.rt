@@ -1,9 +1,12 @@
 //! The nodes of decorations, by their ids.
-ghost use Rattle.std.specs.Prelude.{◌≡◌, [], ◌+◌, ◌<◌, ◌≤◌, Some, None, OnOk, IsSome, MatchResult, count_by, length, insert, filter, vec_len, vec_capacity};
+ghost use Rattle.std.specs.Prelude.{◌≡◌, [], ◌+◌, ◌<◌, ◌≤◌, Some, None, OnOk, IsSome, MatchResult, count_by, length, take, insert, filter};
 ghost use Rattle.interval_deltas.specs.Names.{node_of, HasNode, IsById, StandsAt, BelongsAt, is_named};
+ghost use Rattle.paged_list.specs.List.{paged};
 
+use paged_list::PagedList;
 use raw_arena::NodeId;
 use std::alloc::{AllocError, Global};
+use std::cmp::Ordering;
 use std::marker::Model;
 
 /// The node of a decoration; none where it was taken out.
@@ -13,29 +16,30 @@ pub(crate) struct Entry {
     node: Option<NodeId>,
 }
 
-/// From an id to its node. What is taken out leaves an entry without a node, until these outnumber the others: so a removal
-/// moves nothing, and only a new id that is not above all others does.
+/// From an id to its node. An id above all others is put last and moves no entry, nor does a removal, which leaves an entry
+/// without a node. Once these are as many as the others, a removal sweeps them out: it goes over the whole list, which is
+/// some four steps for each removal since the last sweep, but all of them in this one.
 #[derive(Drop)]
 pub(crate) struct Names {
     /// By id.
-    entries: Vec<Entry>,
+    entries: PagedList<Entry>,
     /// How many have no node.
     dead: usize,
 }
 
 impl Model for Names {
-    ghost use Rattle.std.specs.Prelude.{◌≡◌, ◌+◌, ◌-◌, vec_len, vec_capacity, count_by};
+    ghost use Rattle.std.specs.Prelude.{◌≡◌, ◌+◌, ◌-◌, length, count_by};
     ghost use Rattle.interval_deltas.specs.Names.{Named, IsById, is_named};
 
     ghost Value = { Named };
 
     ghost view = { λ n. record {
       entries = n.entries.items;
-      spare = vec_capacity n.entries - vec_len n.entries;
+      spare = n.entries.capacity - length n.entries.items;
     } };
 
     ghost invariant = { λ n. IsById n.entries.items
-        × (n.dead + count_by is_named n.entries.items ≡ vec_len n.entries) };
+        × (n.dead + count_by is_named n.entries.items ≡ length n.entries.items) };
 }
 
 impl Names {
@@ -43,7 +47,7 @@ impl Names {
         ensures { result.entries ≡ [] }
     {
         Names {
-            entries: Vec::new(alloc),
+            entries: PagedList::new(alloc),
             dead: 0,
         }
     }
@@ -68,8 +72,8 @@ impl Names {
     pub(crate) fn find(&self, id: u64) -> Option<NodeId>
         ensures { result ≡ node_of self.now.entries id }
     {
-        match search(self.entries.as_slice(), id) {
-            Ok(at) => self.entries[at].node,
+        match search(&self.entries, id) {
+            Ok(at) => self.entries.get(at).node,
             Err(_) => None,
         }
     }
@@ -87,9 +91,9 @@ impl Names {
             id,
             node: Some(node),
         };
-        match search(self.entries.as_slice(), id) {
+        match search(&self.entries, id) {
             Ok(at) => {
-                self.entries[at] = entry;
+                self.entries.set(at, entry);
                 self.dead -= 1;
             }
             Err(at) => insert_at(&mut self.entries, at, entry),
@@ -104,12 +108,13 @@ impl Names {
             ≡ count_by is_named self.old.entries }
         ensures room { self.old.spare ≤ self.new.spare }
     {
-        let Ok(at) = search(self.entries.as_slice(), id) else {
+        let Ok(at) = search(&self.entries, id) else {
             return;
         };
-        self.entries[at] = Entry { id, node: None };
-        self.dead += 1;
-        if self.dead > self.entries.len() / 2 {
+        self.entries.set(at, Entry { id, node: None });
+        if self.dead < self.entries.len() / 2 {
+            self.dead += 1;
+        } else {
             sweep(&mut self.entries);
             self.dead = 0;
         }
@@ -117,31 +122,63 @@ impl Names {
 }
 
 /// Where the entry of an id stands, or where it would.
-fn search(entries: &[Entry], id: u64) -> Result<usize, usize>
-    requires { IsById entries.now }
-    ensures { MatchResult result (StandsAt entries.now id) (BelongsAt entries.now id) }
+fn search(entries: &PagedList<Entry>, id: u64) -> Result<usize, usize>
+    requires { IsById entries.now.items }
+    ensures { MatchResult result
+        (StandsAt entries.now.items id) (BelongsAt entries.now.items id) }
 {
-    entries.binary_search_by_key(&id, |entry| entry.id)
+    let mut low = 0;
+    let mut high = entries.len();
+    while low < high {
+        let middle = low + (high - low) / 2;
+        match entries.get(middle).id.cmp(&id) {
+            Ordering::Less => low = middle + 1,
+            Ordering::Equal => return Ok(middle),
+            Ordering::Greater => high = middle,
+        }
+    }
+    Err(low)
 }
 
-// There is room for it.
-fn insert_at<T: Copy>(list: &mut Vec<T>, at: usize, item: T)
-    requires place { at ≤ vec_len list.old }
-    requires room { vec_len list.old < vec_capacity list.old }
-    ensures items { list.new.items ≡ insert list.old.items at item }
-    ensures len { vec_len list.new ≡ vec_len list.old + 1 }
-    ensures capacity { vec_capacity list.old ≤ vec_capacity list.new }
+/// Puts an entry before those from `at` on, which move up by one.
+fn insert_at(entries: &mut PagedList<Entry>, at: usize, entry: Entry)
+    requires place { at ≤ length entries.old.items }
+    requires room { length entries.old.items < entries.old.capacity }
+    ensures { entries.new ≡ paged (insert entries.old.items at entry) entries.old.capacity }
 {
-    if list.insert(at, item).is_err() {
-        unreachable!();
+    let mut moved = entry;
+    for place in at..entries.len() {
+        let stood = *entries.get(place);
+        entries.set(place, moved);
+        moved = stood;
     }
+    entries.push(moved);
 }
 
 /// Takes those out that have no node.
-fn sweep(entries: &mut Vec<Entry>)
-    ensures items { entries.new.items ≡ filter is_named entries.old.items }
-    ensures len { vec_len entries.new ≡ length entries.new.items }
-    ensures capacity { vec_capacity entries.new ≡ vec_capacity entries.old }
+fn sweep(entries: &mut PagedList<Entry>)
+    ensures { entries.new ≡ paged (filter is_named entries.old.items) entries.old.capacity }
 {
-    entries.retain(|entry| entry.node.is_some());
+    let kept = gather(entries);
+    while kept < entries.len() {
+        entries.pop();
+    }
+}
+
+/// Moves those that have a node to the front, in their order, and tells how many there are.
+fn gather(entries: &mut PagedList<Entry>) -> usize
+    ensures items { take result entries.new.items ≡ filter is_named entries.old.items }
+    ensures count { result ≤ length entries.new.items }
+    ensures capacity { entries.new.capacity ≡ entries.old.capacity }
+{
+    let mut kept = 0;
+    for at in 0..entries.len() {
+        let entry = *entries.get(at);
+        if entry.node.is_none() {
+            continue;
+        }
+        entries.set(kept, entry);
+        kept += 1;
+    }
+    kept
 }

@@ -4,6 +4,7 @@ use Rattle.std.specs.Prelude.{replicate}
 use Rattle.std.proofs.lemmas.List.{append_assoc, length-append, length-replicate, replicate-append-replicate, take_at, drop_at, drop-drop}
 use Rattle.mark_rules.specs.declared.Mark.{Mark}
 use Rattle.mark_rules.specs.declared.Mark.TheVariants.{Kept, New}
+use Rattle.mark_rules.specs.Marks.{edited_marks}
 use Rattle.mark_rules.proofs.MarkLaws.{length-kept_marks, kept_marks-add}
 use Rattle.line_hunks.specs.declared.run.Run.{Run}
 use Rattle.line_hunks.specs.declared.runs.Runs.{Runs}
@@ -154,6 +155,12 @@ with_joined front back a b new =
     ∙ ap (λ ms. replicate a New ++ ms) (sym (replicate-append-replicate new b New)) in
     ap (λ ms. marks_up front ++ (ms ++ marks_down back)) parts ∙ simp append_assoc
 
+-- the line behind so many is the first that is edited
+edited_behind : (before old new : ℕ) (marks : List Mark) → take before marks ++ (replicate new New ++ drop (before + old) marks) ≡ edited_marks (before + 1) old new marks
+edited_behind before old new marks =
+    let same : before + 1 - 1 ≡ before = omega arith in
+    rw same (sym (append_assoc (take before marks) (replicate new New) (drop (before + old) marks)))
+
 pub replaced-marks : (front : List Run) (gap : Run) (back : List Run) (before old new : ℕ) (head tail : List Mark) (a b : ℕ) (front' back' : List Run)
     → before ≤ gap.lines
     → head ≡ marks_from gap.first before
@@ -161,8 +168,7 @@ pub replaced-marks : (front : List Run) (gap : Run) (back : List Run) (before ol
     → marks_up front' ++ replicate a New ≡ marks_up front ++ head
     → replicate b New ++ marks_down back' ≡ tail
     → marks_up front' ++ (replicate (a + b + new) New ++ marks_down back')
-    ≡ take (lines_in front + before) (marks_around front gap back)
-    ++ (replicate new New ++ drop (lines_in front + before + old) (marks_around front gap back))
+    ≡ edited_marks (lines_in front + before + 1) old new (marks_around front gap back)
 replaced-marks front gap back before old new head tail a b front' back' within head_is tail_is up down =
     let all = marks_around front gap back in
     let start = marks_up front ++ marks_from gap.first before in
@@ -177,6 +183,7 @@ replaced-marks front gap back before old new head tail a b front' back' within h
     with_joined front' back' a b new
     ∙ ap (λ ms. ms ++ (replicate new New ++ (replicate b New ++ marks_down back'))) (up ∙ ap (λ ms. marks_up front ++ ms) head_is ∙ sym taken)
     ∙ ap (λ ms. take (lines_in front + before) all ++ (replicate new New ++ ms)) (down ∙ tail_is ∙ sym dropped)
+    ∙ edited_behind (lines_in front + before) old new all
 
 pub line_count-marks : (r : Runs) (marks : List Mark) → all_marks r ≡ marks → line_count r ≡ length marks
 line_count-marks r marks is = sym (length-marks_around r.front.runs r.gap r.back.runs) ∙ ap length is

@@ -1,6 +1,6 @@
 //! The runs of a text, with a gap where it was edited last.
 
-ghost use Rattle.std.specs.Prelude.{◌≡◌, ◌+◌, ◌-◌, ◌*◌, ◌^◌, ◌<◌, ◌≤◌, ◌++◌, ◌∷◌, [], length, take, drop, replicate, IfOk, OnOk};
+ghost use Rattle.std.specs.Prelude.{◌≡◌, ◌+◌, ◌-◌, ◌*◌, ◌^◌, ◌<◌, ◌≤◌, ◌∷◌, [], length, IfOk, OnOk};
 ghost use Rattle.mark_rules.specs.declared.Mark.TheVariants.{New};
 ghost use Rattle.mark_rules.specs.Marks.{clean_marks, edited_marks};
 ghost use Rattle.line_hunks.specs.Run.{lines_in};
@@ -136,9 +136,7 @@ impl Runs {
         requires fits { line_count self.old - old + new < 2 ^ 62 }
         ensures whole { IsWhole self.new }
         ensures marks { all_marks self.new
-            ≡ take (lines_in self.old.front.runs + before) (all_marks self.old)
-            ++ (replicate new New
-            ++ drop (lines_in self.old.front.runs + before + old) (all_marks self.old)) }
+            ≡ edited_marks (lines_in self.old.front.runs + before + 1) old new (all_marks self.old) }
         ensures count { run_count self.new ≤ run_count self.old + 2 }
         ensures room { room_of self.old ≤ room_of self.new }
     {

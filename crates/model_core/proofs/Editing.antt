@@ -11,13 +11,14 @@ use Rattle.batch_rules.proofs.Order.{All-sorted_ops}
 use Rattle.undo_rules.specs.Stack.{Stack, pushed}
 use Rattle.snapshot_rules.specs.Snapshots.{FlatShelf}
 use Rattle.document_rules.specs.Document.{flat_edit, greatest_version}
-use Rattle.model_core.specs.declared.change.Change.{Change}
-use Rattle.model_core.specs.History.{ops_by, history_of, Leads, IsHistory}
+use Rattle.model_page.specs.declared.change.Change.{Change}
+use Rattle.model_page.specs.Changes.{ops_by, Leads}
+use Rattle.model_core.specs.History.{history_of, IsHistory}
 use Rattle.bracket_rules.specs.Table.{Table}
 use Rattle.decoration_rules.specs.Decorations.{Decorations}
-use Rattle.model_core.specs.Carrying.{carried_with}
+use Rattle.model_page.specs.Carrying.{carried_with}
 use Rattle.model_core.proofs.Histories.{history-pushed, IsHistory-pushed}
-use Rattle.model_core.specs.declared.change.Way.TheVariants.{Back, On}
+use Rattle.model_page.specs.declared.change.Way.TheVariants.{Back, On}
 
 module _ (x : List ℕ) (ops : List Op) (change : Change) (rule : checked_batch x ops ≡ Ok (ops_by On change)) (fits : length x ≤ most_units)
     (inverse : ops_by Back change ≡ inverse_from 0 0 x (ops_by On change)) where

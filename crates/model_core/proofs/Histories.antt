@@ -1,25 +1,15 @@
 -- The texts that kept batches lead to, when one is pushed, undone or redone.
 use Rattle.std.proofs.Common.{◌≡◌, ℕ, Bool, true, false, List, [], ◌∷◌, ◌++◌, refl, ap, sym, subst, ◌∙◌}
 use Rattle.batch_rules.specs.Batches.{applied_from}
-use Rattle.batch_rules.proofs.Inverses.{inverse_gives_back}
 use Rattle.undo_rules.specs.Stack.{Step, Stack, joined, pushed, undone_lists, redone_lists}
 use Rattle.document_rules.specs.Document.{text_before, text_after}
-use Rattle.model_core.specs.declared.change.Change.{Change}
-use Rattle.model_core.specs.History.{text_back, text_on, changes_back, changes_on, undo_steps, redo_steps, history_of, Leads, LeadBack, LeadOn, StepsLeadBack, StepsLeadOn, IsHistory, ops_by}
-use Rattle.model_core.specs.declared.change.Way.TheVariants.{Back, On}
+use Rattle.model_page.specs.declared.change.Change.{Change}
+use Rattle.model_page.specs.Changes.{ops_by, text_back, text_on, changes_back, changes_on, Leads, LeadBack, LeadOn}
+use Rattle.model_page.proofs.Turns.{text_back-more, changes_back-more, leads_back}
+use Rattle.model_core.specs.History.{undo_steps, redo_steps, history_of, StepsLeadBack, StepsLeadOn, IsHistory}
+use Rattle.model_page.specs.declared.change.Way.TheVariants.{Back, On}
 
 -- A step and one change more.
-
-pub text_back-more : (cs : List Change) (c : Change) (after : List ℕ) → text_back after (cs ++ c ∷ []) ≡ text_back (applied_from 0 after (ops_by Back c)) cs
-text_back-more [] c after = refl
-text_back-more (d ∷ cs) c after = ap (λ x. applied_from 0 x (ops_by Back d)) (text_back-more cs c after)
-
-pub changes_back-more : (cs : List Change) (c : Change) (before after : List ℕ) → applied_from 0 after (ops_by Back c) ≡ before
-    → changes_back after (cs ++ c ∷ []) ≡ changes_back before cs ++ record { before = before; ops = ops_by On c; after = after } ∷ []
-changes_back-more [] c before after led = ap (λ x. record { before = x; ops = ops_by On c; after = after } ∷ []) led
-changes_back-more (d ∷ cs) c before after led =
-    let back : text_back after (cs ++ c ∷ []) ≡ text_back before cs = text_back-more cs c after ∙ ap (λ x. text_back x cs) led in
-    rw (changes_back-more cs c before after led, back) refl
 
 pub LeadBack-more : (cs : List Change) (c : Change) (before after : List ℕ) → applied_from 0 after (ops_by Back c) ≡ before → Leads before c after → LeadBack before cs
     → LeadBack after (cs ++ c ∷ [])
@@ -27,12 +17,6 @@ LeadBack-more [] c before after led leads old = (subst (λ x. Leads x c after) (
 LeadBack-more (d ∷ cs) c before after led leads old =
     let back : text_back after (cs ++ c ∷ []) ≡ text_back before cs = text_back-more cs c after ∙ ap (λ x. text_back x cs) led in
     (subst (λ x. Leads (applied_from 0 x (ops_by Back d)) d x) (sym back) old.0, LeadBack-more cs c before after led leads old.1)
-
--- A change that leads from one text to the other.
-
-pub leads_back : (before after : List ℕ) (c : Change) → Leads before c after → applied_from 0 after (ops_by Back c) ≡ before
-leads_back before after c leads =
-    rw (leads.on, leads.inverse) (inverse_gives_back before (ops_by On c) leads.standing)
 
 -- A step that is undone can be made again from the text before it.
 

@@ -1,16 +1,9 @@
 pub mod LineLemmas
 pub mod Histories
-pub mod Turns
 pub mod Editing
 pub mod Stepping
-pub mod Carries
 pub mod Inside
 pub mod Kept
-pub mod TextLines
-pub mod DirtyEdits
-pub mod EditedMarks
-pub mod Marking
-pub mod Staying
 pub mod Shelving
 pub mod Untouched
 pub mod Preparing

@@ -6,7 +6,7 @@ use Rattle.std.proofs.lemmas.List.Elements.{All-head, All-tail}
 use Rattle.unit_text.specs.Units.{IsPaired}
 use Rattle.text_rules.specs.declared.Op.{Op}
 use Rattle.batch_rules.specs.Refusals.{BatchRefusal}
-use Rattle.batch_rules.specs.Batches.{checked_batch, sorted_ops, has_bad_span, overlap, inverse_from, applied_from, text_units, StandFrom}
+use Rattle.batch_rules.specs.Batches.{checked_batch, sorted_ops, has_bad_span, overlap, inverse_from, applied_from, StandFrom}
 use Rattle.batch_rules.specs.declared.BatchError.{BatchError}
 use Rattle.batch_rules.proofs.Answers.{accepted_in_order, checked_batch-sorted_ops}
 use Rattle.edit_batches.specs.Outcomes.{Checks}
@@ -18,19 +18,22 @@ use Rattle.document_rules.specs.Refusals.{FlatRefusal}
 use Rattle.document_rules.specs.Document.{FlatChange, FlatState, greatest_version, after_batch, edited_by, flat_edit}
 use Rattle.document_rules.specs.Paired.{IsPairedState}
 use Rattle.document_rules.proofs.PairedStates.{IsPairedState-edit}
-use Rattle.model_core.specs.declared.change.Way.{Way}
-use Rattle.model_core.specs.declared.change.Way.TheVariants.{Back, On}
+use Rattle.model_page.specs.declared.change.Way.{Way}
+use Rattle.model_page.specs.declared.change.Way.TheVariants.{Back, On}
 use Rattle.model_core.specs.declared.ready.Action.{Action}
 use Rattle.model_core.specs.declared.ready.Action.TheVariants.{Edit, Move}
-use Rattle.model_core.specs.State.{ModelState, KeepsRoom, KeptBy, GrownBy, KeepsParse}
+use Rattle.model_core.specs.State.{ModelState, KeepsRoom, KeepsParse}
+use Rattle.model_page.specs.Staying.{KeptBy}
+use Rattle.model_page.specs.State.{GrownBy}
 use Rattle.model_core.specs.Ways.{next_steps}
 use Rattle.text_buffer.specs.Room as text_room
 use Rattle.text_buffer.specs.declared.room.Need as text_need
-use Rattle.model_core.specs.History.{ops_by, need_of_ops}
+use Rattle.model_page.specs.Changes.{ops_by}
+use Rattle.model_page.specs.Needs.{need_of_ops}
 use Rattle.model_core.specs.Prepared.{Prepared, IsEnough, need_of, next_op_count, next_unit_count, next_break_count, IsChangeOf, CanAct, CanCommit, Acts, HasActed, ArePairedTexts, IsEditReady, IsMoveReady}
 use Rattle.model_core.proofs.Editing.{edited_paired}
 use Rattle.model_core.proofs.Stepping.{IsPairedState-by}
-use Rattle.model_core.specs.declared.change.Change.TheVariants.{Ops}
+use Rattle.model_page.specs.declared.change.Change.TheVariants.{Ops}
 
 -- ---- a batch in its order
 

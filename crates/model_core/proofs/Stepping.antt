@@ -1,31 +1,34 @@
 -- A step that is undone or redone: what it leaves, and what the flat document has then.
-use Rattle.std.proofs.Common.{◌≡◌, ℕ, ◌+◌, ◌<◌, ◌≤◌, Bool, List, [], ◌∷◌, length, slice_get, Option, Result, Some, None, Ok, Err, is_some, refl, ap, sym, subst, arith}
-use Rattle.std.specs.List.{All}
+use Rattle.std.proofs.Common.{◌≡◌, ℕ, ◌+◌, ◌<◌, ◌≤◌, Bool, List, [], ◌∷◌, length, slice_get, Option, Result, Some, None, Ok, Err, is_some, refl, ap, sym, subst, ◌∙◌, arith}
+use Rattle.std.specs.Prelude.{sum_by}
+use Rattle.std.proofs.lemmas.List.Sums.{sum_by-cons}
 use Rattle.std.specs.Option.{option_map}
 use Rattle.std.proofs.lemmas.Bool.{lt-leb, le-leb}
-use Rattle.batch_rules.specs.Batches.{most_units, applied_from, text_units}
+use Rattle.text_rules.specs.declared.Op.{Op}
+use Rattle.batch_rules.specs.Batches.{applied_from, text_units}
+use Rattle.batch_rules.proofs.Inverses.{length-inverse_from}
 use Rattle.undo_rules.specs.Stack.{Step, Stack}
-use Rattle.bracket_tree_rules.specs.Tree.{Tree}
 use Rattle.document_rules.specs.declared.ModelError.{ModelError}
 use Rattle.document_rules.specs.Outcomes.{Moves}
 use Rattle.document_rules.specs.Paired.{IsPairedState}
 use Rattle.document_rules.proofs.PairedStates.{IsPairedState-undo, IsPairedState-redo}
 use Rattle.document_rules.specs.Refusals.{limit}
 use Rattle.snapshot_rules.specs.Snapshots.{FlatShelf}
-use Rattle.document_rules.specs.Document.{FlatState, greatest_version}
-use Rattle.model_core.specs.declared.change.Change.{Change}
-use Rattle.model_core.specs.declared.change.Way.{Way}
-use Rattle.model_core.specs.declared.change.Way.TheVariants.{Back, On}
-use Rattle.model_core.specs.Ways.{text_by, changes_by, LeadBy, decorations_by, marked_along, marked_step, next_steps, passed, alternative_after, flat_move}
-use Rattle.model_core.specs.Staying.{StaysWith}
-use Rattle.model_core.specs.Prepared.{next_op_count, next_unit_count, next_break_count}
-use Rattle.model_core.specs.History.{text_back, text_on, op_count, unit_count, text_breaks, breaks_along, ops_by, undo_steps, redo_steps, history_of, LeadBack, LeadOn, IsHistory}
+use Rattle.document_rules.specs.Document.{FlatChange, FlatState, greatest_version}
+use Rattle.model_page.specs.declared.change.Change.{Change}
+use Rattle.model_page.specs.declared.change.Way.{Way}
+use Rattle.model_page.specs.declared.change.Way.TheVariants.{Back, On}
+use Rattle.model_core.specs.Ways.{next_steps, passed, alternative_after, flat_move}
+use Rattle.model_page.specs.Ways.{text_by, changes_by, LeadBy, decorations_by, marked_along, marked_step}
+use Rattle.model_core.specs.Prepared.{ops_along, next_op_count, next_unit_count, next_break_count}
+use Rattle.model_page.specs.Changes.{ops_by, text_back, changes_back, changes_on, LeadBack}
+use Rattle.model_page.specs.Counts.{text_breaks, op_count, unit_count, breaks_along}
+use Rattle.model_core.specs.History.{undo_steps, redo_steps, history_of, IsHistory}
 use Rattle.bracket_rules.specs.Table.{Table}
 use Rattle.decoration_rules.specs.Decorations.{Decorations}
 use Rattle.mark_rules.specs.declared.Mark.{Mark}
-use Rattle.model_core.proofs.Turns.{ops_back, measured_back, measured_on, few_back, few_on}
-use Rattle.model_core.proofs.Staying.{MarkedBy, stays_back, stays_on, marked_step_back, marked_step_on}
-use Rattle.model_core.proofs.Carries.{carried_back-kept, carried_on-kept}
+use Rattle.model_page.proofs.Turns.{op_count-cons}
+use Rattle.model_page.proofs.Carries.{carried_back-kept, carried_on-kept}
 use Rattle.model_core.proofs.Histories.{text_before-back, text_after-on, history-undone, IsHistory-undone, history-redone, IsHistory-redone}
 
 -- the flat document of a text and the kept batches
@@ -43,13 +46,30 @@ none_of : {A : Type 0} (xs : List A) → slice_get xs 0 ≡ None → xs ≡ []
 none_of [] is = refl
 none_of (y ∷ xs) is = absurd cc
 
-fits_back : (now : List ℕ) (cs : List Change) → length now ≤ most_units → LeadBack now cs → length (text_back now cs) ≤ most_units
-fits_back now [] fits lead = fits
-fits_back now (c ∷ cs) fits lead = lead.0.fits_before
+-- a step has as many ops on the way back as its batches have
+ops_back : (after : List ℕ) (cs : List Change) → LeadBack after cs → sum_by (λ (change : FlatChange). length change.ops) (changes_back after cs) ≡ op_count Back cs
+ops_back after [] lead = refl
+ops_back after (c ∷ cs) lead =
+    let first : FlatChange = record { before = text_back after (c ∷ cs); ops = ops_by On c; after = text_back after cs } in
+    let same : length (ops_by Back c) ≡ length (ops_by On c) = ap length lead.0.inverse ∙ length-inverse_from 0 0 (text_back after (c ∷ cs)) (ops_by On c) in
+    omega (arith, sum_by-cons {X = FlatChange} (λ change. length change.ops) first (changes_back after cs), op_count-cons Back c cs, same, ops_back after cs lead.1)
 
-fits_on : (now : List ℕ) (cs : List Change) → length now ≤ most_units → LeadOn now cs → length (text_on now cs) ≤ most_units
-fits_on now [] fits lead = fits
-fits_on now (c ∷ cs) fits lead = fits_on (applied_from 0 now (ops_by On c)) cs lead.0.fits_after lead.1
+-- a measure of the ops on a way, such as the units of their texts, is that of the kept ones
+measured_back : (measure : List Op → ℕ) (after : List ℕ) (cs : List Change) → LeadBack after cs
+    → sum_by (λ (change : FlatChange). measure (ops_along Back change)) (changes_back after cs) ≡ sum_by (λ (c : Change). measure (ops_by Back c)) cs
+measured_back measure after [] lead = refl
+measured_back measure after (c ∷ cs) lead =
+    let first : FlatChange = record { before = text_back after (c ∷ cs); ops = ops_by On c; after = text_back after cs } in
+    let same : measure (ops_by Back c) ≡ measure (ops_along Back first) = ap measure lead.0.inverse in
+    omega (arith, sum_by-cons {X = FlatChange} (λ change. measure (ops_along Back change)) first (changes_back after cs), sum_by-cons {X = Change} (λ d. measure (ops_by Back d)) c cs, same, measured_back measure after cs lead.1)
+
+measured_on : (measure : List Op → ℕ) (before : List ℕ) (cs : List Change)
+    → sum_by (λ (change : FlatChange). measure (ops_along On change)) (changes_on before cs) ≡ sum_by (λ (c : Change). measure (ops_by On c)) cs
+measured_on measure before [] = refl
+measured_on measure before (c ∷ cs) =
+    let after = applied_from 0 before (ops_by On c) in
+    let first : FlatChange = record { before = before; ops = ops_by On c; after = after } in
+    omega (arith, sum_by-cons {X = FlatChange} (λ change. measure (ops_along On change)) first (changes_on after cs), sum_by-cons {X = Change} (λ d. measure (ops_by On d)) c cs, measured_on measure after cs)
 
 -- what a step does that comes next on the way
 pub record IsStep (way : Way) (now : List ℕ) (version alternative : ℕ) (d : Decorations) (table : Table) (shelf : FlatShelf) (s : Stack Change) (step : Step Change) : Type 0 where
@@ -135,25 +155,6 @@ next_on On now s = next_of_redo now s.redo
 pub mapped_twice : {A B C : Type 0} (f : B → C) (g : A → B) (o : Option A) → is_some (option_map f (option_map g o)) ≡ is_some o
 mapped_twice f g None = refl
 mapped_twice f g (Some x) = refl
-
--- ---- what holds on either way
-
-pub fits_by : (way : Way) (now : List ℕ) (cs : List Change) → length now ≤ most_units → LeadBy way now cs → length (text_by way now cs) ≤ most_units
-fits_by Back now cs fits lead = fits_back now cs fits lead
-fits_by On now cs fits lead = fits_on now cs fits lead
-
-pub few_by : (way : Way) (now : List ℕ) (cs : List Change) → LeadBy way now cs → All (λ c. text_units (ops_by way c) ≤ most_units) cs
-few_by Back now cs lead = few_back now cs lead
-few_by On now cs lead = few_on now cs lead
-
-pub stays_by : (way : Way) (tree : Option Tree) (marks : List Mark) (table : Table) (now : List ℕ) (cs : List Change) → LeadBy way now cs → StaysWith tree marks table now
-    → StaysWith tree (marked_along way marks (changes_by way now cs)) table (text_by way now cs)
-stays_by Back tree marks table now cs lead stays = stays_back tree marks table now cs lead stays
-stays_by On tree marks table now cs lead stays = stays_on tree marks table now cs lead stays
-
-pub marked_by_way : (way : Way) (marks : List Mark) (now : List ℕ) (cs : List Change) → LeadBy way now cs → MarkedBy (op_count way cs) marks (marked_along way marks (changes_by way now cs))
-marked_by_way Back marks now cs lead = marked_step_back marks now cs lead
-marked_by_way On marks now cs lead = marked_step_on marks now cs lead
 
 pub IsPairedState-by : (way : Way) (result : Result Bool ModelError) (old new : FlatState) → Moves result old new (flat_move way old) → IsPairedState old → IsPairedState new
 IsPairedState-by Back result old new done paired = IsPairedState-undo result old new done paired

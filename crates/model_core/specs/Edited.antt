@@ -9,7 +9,7 @@ use Rattle.document_rules.specs.declared.ModelError.{ModelError}
 use Rattle.document_rules.specs.Document.{flat_edit}
 use Rattle.document_rules.specs.Outcomes.{Changes}
 use Rattle.document_rules.specs.Paired.{IsPairedState}
-use Rattle.model_core.specs.LineMarks.{marked_backwards}
+use Rattle.model_page.specs.LineMarks.{marked_backwards}
 use Rattle.model_core.specs.State.{ModelState, LeftAfter, KeptAfter, GrownAfter}
 
 -- an edit of one span, which forces no decoration

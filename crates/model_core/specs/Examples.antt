@@ -2,19 +2,16 @@
 use Rattle.std.specs.Prelude.{◌≡◌, ℕ, List, [], ◌∷◌, None, codes, false, refl}
 use Rattle.std.proofs.Common.{arith}
 use Rattle.text_rules.specs.declared.Op.{Op}
-use Rattle.mark_rules.specs.declared.Mark.TheVariants.{Kept, New}
-use Rattle.mark_rules.specs.Marks.{clean_marks}
+use Rattle.mark_rules.specs.declared.Mark.TheVariants.{New}
 use Rattle.undo_rules.specs.Stack.{Step}
 use Rattle.bracket_rules.specs.Table.{standard_table}
 use Rattle.document_rules.specs.Document.{FlatChange, new_document}
-use Rattle.model_core.specs.declared.change.Change.{Change}
-use Rattle.model_core.specs.declared.change.Way.TheVariants.{Back, On}
+use Rattle.model_page.specs.declared.change.Change.{Change}
+use Rattle.model_page.specs.declared.change.Way.TheVariants.{Back, On}
 use Rattle.model_core.specs.declared.ready.Action.TheVariants.{Edit}
 use Rattle.model_core.specs.State.{Room, ModelState}
-use Rattle.model_core.specs.History.{text_breaks}
 use Rattle.model_core.specs.Prepared.{Need, CanCommit, IsEnough, next_op_count, next_unit_count, next_break_count}
-use Rattle.model_core.specs.LineMarks.{marked_by, marked_backwards, marked_back}
-use Rattle.model_core.specs.declared.change.Change.TheVariants.{Ops}
+use Rattle.model_page.specs.declared.change.Change.TheVariants.{Ops}
 
 abbrev insert : ℕ → Op
 insert at = record { span = record { start = at; end = at }; text = codes "x"; force = false }
@@ -43,37 +40,6 @@ their_texts_on_the_way_on = refl
 no_text_takes_inserts_back : next_unit_count Back (two_batches ∷ one_batch ∷ []) ≡ 0
 no_text_takes_inserts_back = refl
 
--- a CR and an LF in the texts of two ops
-abbrev two_halves_of_a_pair : List Op
-two_halves_of_a_pair =
-    record { span = record { start = 0; end = 0 }; text = codes "\r"; force = false }
-    ∷ record { span = record { start = 0; end = 0 }; text = codes "\n"; force = false } ∷ []
-
-each_text_counts_alone : text_breaks two_halves_of_a_pair ≡ 2
-each_text_counts_alone = refl
-
--- `a`, a break, `b`, a break and `c`
-abbrev three_lines : List ℕ
-three_lines = 97 ∷ 10 ∷ 98 ∷ 10 ∷ 99 ∷ []
-
--- line 2 becomes two lines, and line 1 another one
-abbrev two_lines_touched : List Op
-two_lines_touched = insert 0 ∷ record { span = record { start = 2; end = 2 }; text = 10 ∷ []; force = false } ∷ []
-
-the_last_op_marks_first : marked_backwards three_lines two_lines_touched (clean_marks 3) ≡ New ∷ New ∷ New ∷ Kept 3 ∷ []
-the_last_op_marks_first = refl
-
--- `a`, a CR and `b`
-a_cr_before_an_insert_is_touched : marked_by (97 ∷ 13 ∷ 98 ∷ []) (insert 2) (clean_marks 2) ≡ New ∷ New ∷ []
-a_cr_before_an_insert_is_touched = refl
-
--- an undo brings the text back, and the lines that it touches stay new
-abbrev typed_in_line_two : FlatChange
-typed_in_line_two = record { before = three_lines; ops = insert 2 ∷ []; after = 97 ∷ 10 ∷ 120 ∷ 98 ∷ 10 ∷ 99 ∷ [] }
-
-undone_lines_are_new : marked_back (clean_marks 3) (typed_in_line_two ∷ []) ≡ Kept 1 ∷ New ∷ Kept 3 ∷ []
-undone_lines_are_new = refl
-
 abbrev replace : ℕ → ℕ → List ℕ → Op
 replace start end text = record { span = record { start = start; end = end }; text = text; force = false }
 
@@ -101,7 +67,11 @@ abbrev room_with : ℕ → Room
 room_with breaks = record { text = record { edits = 2; units = 135; breaks = breaks }; marks = 2; changes = 1 }
 
 five_breaks_are_enough : IsEnough (room_with 5) two_edits
-five_breaks_are_enough = record { text = record { edits = omega arith; units = omega arith; breaks = omega arith }; marks = omega arith; changes = omega arith }
+five_breaks_are_enough = record {
+  text = record { edits = omega arith; units = omega arith; breaks = omega arith };
+  marks = omega arith;
+  changes = omega arith;
+}
 
 four_breaks_are_one_too_few : IsEnough (room_with 4) two_edits → ⊥
 four_breaks_are_one_too_few enough = omega (arith, enough.text.breaks)
@@ -126,5 +96,9 @@ two_units_make_way_for_one : CanCommit six_letters (record { version = 1; action
 two_units_make_way_for_one = record {
   version = refl;
   action = record { accepted = refl; inverse = refl };
-  room = record { text = record { edits = omega arith; units = omega arith; breaks = omega arith }; marks = omega arith; changes = omega arith };
+  room = record {
+    text = record { edits = omega arith; units = omega arith; breaks = omega arith };
+    marks = omega arith;
+    changes = omega arith;
+  };
 }

@@ -8,18 +8,23 @@ use Rattle.undo_rules.specs.Stack.{Step}
 use Rattle.document_rules.specs.declared.ModelError.{ModelError}
 use Rattle.document_rules.specs.Outcomes.{RefusedFor}
 use Rattle.document_rules.specs.Document.{FlatChange, FlatState, after_batch, flat_edit}
-use Rattle.model_core.specs.declared.change.Change.{Change}
-use Rattle.model_core.specs.declared.change.Way.{Way}
-use Rattle.model_core.specs.declared.change.Way.TheVariants.{Back, On}
+use Rattle.model_page.specs.declared.change.Change.{Change}
+use Rattle.model_page.specs.declared.change.Way.{Way}
+use Rattle.model_page.specs.declared.change.Way.TheVariants.{Back, On}
 use Rattle.model_core.specs.declared.ready.Action.{Action}
 use Rattle.model_core.specs.declared.ready.Action.TheVariants.{Edit, Move}
-use Rattle.model_core.specs.State.{Room, ModelState, KeptBy, GrownBy}
+use Rattle.model_core.specs.State.{Room, ModelState}
 use Rattle.text_buffer.specs.Room as text_room
 use Rattle.text_buffer.specs.declared.room.Need as text_need
-use Rattle.model_core.specs.LineMarks.{marked_backwards}
-use Rattle.model_core.specs.History.{text_breaks, ops_by, need_of_ops}
-use Rattle.model_core.specs.Ways.{next_steps, flat_move, marked_step}
-use Rattle.model_core.specs.declared.change.Change.TheVariants.{Ops}
+use Rattle.model_core.specs.Ways.{next_steps, flat_move}
+use Rattle.model_page.specs.declared.change.Change.TheVariants.{Ops}
+use Rattle.model_page.specs.Changes.{ops_by}
+use Rattle.model_page.specs.Counts.{text_breaks}
+use Rattle.model_page.specs.LineMarks.{marked_backwards}
+use Rattle.model_page.specs.Needs.{need_of_ops}
+use Rattle.model_page.specs.State.{GrownBy}
+use Rattle.model_page.specs.Staying.{KeptBy}
+use Rattle.model_page.specs.Ways.{marked_step}
 
 -- what contracts see of one
 pub record Prepared : Type 0 where

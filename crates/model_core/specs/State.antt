@@ -1,17 +1,15 @@
 -- What contracts see of a model.
-use Rattle.std.specs.Prelude.{◌≡◌, ℕ, zero, suc, ◌+◌, ◌*◌, ◌<◌, ◌≤◌, Bool, true, false, if◌then◌else◌, List, length, Option, Some, None, Result, Ok, Err, OnOk, OnErr, ⊤}
+use Rattle.std.specs.Prelude.{◌≡◌, ℕ, ◌<◌, ◌≤◌, Bool, true, false, List, length, Option, Result, Ok, Err, OnOk, OnErr, ⊤}
 use Rattle.text_buffer.specs.Room as text_room
-use Rattle.bracket_rules.specs.Table.{Table, is_table}
 use Rattle.bracket_tree_rules.specs.Tree.{Tree}
-use Rattle.bracket_rules.specs.Rows.{text_rows}
-use Rattle.bracket_tree_rules.specs.Told.{IsTreeOf}
 use Rattle.mark_rules.specs.declared.Mark.{Mark}
-use Rattle.mark_rules.specs.Marks.{has_new, clean_marks}
+use Rattle.mark_rules.specs.Marks.{clean_marks}
 use Rattle.node_reuse.specs.Texts.{new_lines}
 use Rattle.node_reuse.specs.ParsedTree.{ParsedTree}
 use Rattle.document_rules.specs.declared.ModelError.{ModelError}
 use Rattle.document_rules.specs.Document.{FlatState}
-use Rattle.document_rules.specs.Brackets.{line_contents}
+use Rattle.model_page.specs.Staying.{HasAsked, KeptBy}
+use Rattle.model_page.specs.State.{GrownBy}
 
 -- the room that was made for changes
 pub record Room : Type 0 where
@@ -43,30 +41,6 @@ pub record ModelState : Type 0 where
   -- what can be changed without taking memory
   pub room : Room
 
--- the tree of a parse, where there was one
-abbrev pub parsed_tree : Option ParsedTree → Option Tree
-parsed_tree None = None
-parsed_tree (Some parsed) = Some parsed.tree
-
--- there is a parse, and it asked for so many lines
-abbrev pub HasAsked : Option ParsedTree → ℕ → Type 0
-HasAsked None lines = ⊥
-HasAsked (Some parsed) lines = parsed.asked ≡ lines
-
--- the tree of the last parse, where no line is new
-abbrev pub fresh_tree : Option Tree → List Mark → Option Tree
-fresh_tree tree marks = if has_new marks then None else tree
-
--- a tree of the text of now
-abbrev pub IsKept : Option Tree → Table → List ℕ → Type 0
-IsKept None table x = ⊤
-IsKept (Some tree) table x = (is_table table ≡ true) × IsTreeOf (text_rows table (line_contents x)) tree
-
--- so many ops leave no tree of the text of now; none leaves what was there
-abbrev pub KeptBy : ℕ → Bool → Bool → Type 0
-KeptBy zero old new = new ≡ old
-KeptBy (suc ops) old new = new ≡ false
-
 -- Whether the tree is that of the text of now after a call of so many ops: what changes nothing leaves it so.
 abbrev pub KeptAfter : ℕ → Result ⊤ ModelError → Bool → Bool → Type 0
 KeptAfter ops (Ok x) old new = KeptBy ops old new
@@ -76,10 +50,6 @@ KeptAfter ops (Err e) old new = new ≡ old
 abbrev pub LeftAfter : {X : Type 0} → Result ⊤ ModelError → X → X → X → Type 0
 LeftAfter (Ok x) accepted old new = new ≡ accepted
 LeftAfter (Err e) accepted old new = new ≡ old
-
--- so many ops add two pieces each at most
-abbrev pub GrownBy : ℕ → ℕ → ℕ → Type 0
-GrownBy ops old new = new ≤ old + 2 * ops
 
 -- In how many pieces the text lies after a call of so many ops: what changes nothing leaves them.
 abbrev pub GrownAfter : ℕ → Result ⊤ ModelError → ℕ → ℕ → Type 0

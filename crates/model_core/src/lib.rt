@@ -1,14 +1,11 @@
 //! The document: a text that is changed by edits, its versions, its decorations, and what can be undone.
 #![tactic(auto)]
 
-mod brackets;
-mod change;
 mod errors;
-mod last_parse;
 mod model;
 mod places;
 mod ready;
-mod text_lines;
+mod walk;
 
 pub use bracket_nodes::{Entry, Node, Status};
 pub use bracket_scan::{BracketTable, TableError};

@@ -8,39 +8,30 @@ mod open;
 mod queries;
 mod snapshot;
 
-use crate::change::Change;
-use crate::last_parse::LastParse;
-use bracket_scan::BracketTable;
-use decorations::DecoSet;
 use edit_stack::EditStack;
+use model_page::{Change, Page};
 use snapshots::Shelf;
 use std::alloc::Global;
-use text_buffer::TextBuffer;
 
-/// A document: its text, which version of it that is, what can be undone and redone, and texts of earlier moments.
+/// A document: its page, which version of it that is, what can be undone and redone, and texts of earlier moments.
 #[derive(Drop)]
 pub struct Model {
     alloc: Global,
-    text: TextBuffer,
+    page: Page,
     version: u64,
     alternative: u64,
-    decorations: DecoSet,
-    table: BracketTable,
-    last: LastParse,
     history: EditStack<Change>,
     shelf: Shelf,
 }
 
 impl std::marker::Model for Model {
-    ghost use Rattle.std.specs.Prelude.{◌≤◌, length, is_some};
-    ghost use Rattle.batch_rules.specs.Batches.{most_units};
+    ghost use Rattle.std.specs.Prelude.{◌≤◌, length};
     ghost use Rattle.document_rules.specs.Document.{greatest_version};
     ghost use Rattle.std.specs.Coded.{codes};
     ghost use Rattle.bracket_tree_rules.specs.TreeCode.{tree_code};
     ghost use Rattle.node_reuse.specs.ParsedTree.{parsed_tree_code};
-    ghost use Rattle.model_core.specs.State.{ModelState, fresh_tree};
-    ghost use Rattle.model_core.specs.Staying.{StaysWith};
-    ghost use Rattle.model_core.specs.Carrying.{AreIn};
+    ghost use Rattle.model_page.specs.State.{is_fresh};
+    ghost use Rattle.model_core.specs.State.{ModelState};
     ghost use Rattle.snapshots.specs.Shown.{shown};
     ghost use Rattle.model_core.specs.Shelving.{IsShelf};
     ghost use Rattle.model_core.specs.History.{history_of, IsHistory};
@@ -51,28 +42,27 @@ impl std::marker::Model for Model {
 
     ghost view = { λ m. record {
       document = record {
-        units = m.text.units;
+        units = m.page.text.units;
         version = m.version;
         alternative = m.alternative;
-        decorations = m.decorations;
-        table = m.table;
-        history = history_of m.text.units m.history.stack;
-        shelf = shown m.text.buffers m.shelf;
+        decorations = m.page.decorations;
+        table = m.page.table;
+        history = history_of m.page.text.units m.history.stack;
+        shelf = shown m.page.text.buffers m.shelf;
       };
-      parsed = m.last.parsed;
-      tree = m.last.tree;
-      marks = m.last.marks;
-      fresh = is_some (fresh_tree m.last.tree m.last.marks);
-      pieces = length m.text.spans;
+      parsed = m.page.parsed;
+      tree = m.page.tree;
+      marks = m.page.marks;
+      fresh = is_fresh m.page;
+      pieces = length m.page.text.spans;
       room = record {
-        text = m.text.room;
-        marks = m.last.spare;
+        text = m.page.text.room;
+        marks = m.page.spare;
         changes = m.history.spare;
       };
     } };
 
-    ghost invariant = { λ m. (length m.text.units ≤ most_units) × (m.version ≤ greatest_version)
-        × IsHistory m.text.units m.history.stack × AreIn (length m.text.units) m.decorations
-        × StaysWith m.last.tree m.last.marks m.table m.text.units
-        × IsShelf m.text.buffers m.shelf };
+    ghost invariant = { λ m. (m.version ≤ greatest_version)
+        × IsHistory m.page.text.units m.history.stack
+        × IsShelf m.page.text.buffers m.shelf };
 }

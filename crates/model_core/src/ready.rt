@@ -3,7 +3,7 @@
 ghost use Rattle.std.specs.Prelude.{◌≡◌, ◌+◌, ◌<◌, ◌≤◌};
 ghost use Rattle.document_rules.specs.Document.{greatest_version};
 
-use crate::change::{Change, Way};
+use model_page::{Change, Way};
 use std::marker::Model;
 
 /// What a prepared change does.

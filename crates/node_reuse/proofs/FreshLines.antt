@@ -12,15 +12,14 @@ use Rattle.bracket_rules.proofs.Tokens.{tokens_of-in_line}
 use Rattle.bracket_tree_rules.specs.Tree.{text}
 use Rattle.bracket_tree_rules.specs.Weights.{glue_weights, AreCovered}
 use Rattle.bracket_tree_rules.specs.Places.{rows_from}
-use Rattle.bracket_tree_rules.proofs.Glue.{empty_glue}
 use Rattle.bracket_tree_rules.proofs.LineWeights.{AreCovered-same}
 use Rattle.bracket_nodes.specs.Source.{GivesNode, IsOver}
-use Rattle.bracket_nodes.specs.ScannedLines.{moved_back}
+use Rattle.bracket_nodes.specs.ScannedLines.{moved_back, rows_before}
 use Rattle.reuse_rules.specs.Following.{Reached}
 use Rattle.reuse_rules.proofs.Followings.{Reached-rows, Reached-line}
 use Rattle.node_reuse.specs.Texts.{brackets_end, row_weights}
-use Rattle.node_reuse.specs.Ahead.{ahead_at, fresh_left, weight_before, rows_before, IsFresh}
-use Rattle.bracket_nodes.proofs.ScannedSteps.{fits_text}
+use Rattle.node_reuse.specs.Ahead.{ahead_at, fresh_left, weight_before, IsFresh}
+use Rattle.bracket_nodes.proofs.ScannedSteps.{before_more, break_rows, fits_text}
 use Rattle.bracket_nodes.proofs.Scans.{moved_back-zero}
 use Rattle.node_reuse.proofs.FreshSteps.{rows_at, break_next}
 
@@ -34,10 +33,6 @@ some_row (r ∷ rows) h = tt
 some_break : (c n : ℕ) (ts : List Token) (rows : List Row) → 0 < length rows → weight_before c ts n rows ≡ brackets_end c ts + 1
 some_break c n ts [] h = absurd (omega arith)
 some_break c n ts (r ∷ rows) h = refl
-
-break_rows : (c n : ℕ) (rest : List Row) → 0 < length rest → rows_before c [] n rest ≡ glue (empty_row ∷ empty_row ∷ []) rest
-break_rows c n [] h = absurd (omega arith)
-break_rows c n (x ∷ rest) h = ap (λ (y : List Row). empty_row ∷ y) (sym (empty_glue (x ∷ rest) tt))
 
 covered_break : (weights : List ℕ) (i left : ℕ) → suc i < length weights → 1 ≤ left
     → AreCovered (glue_weights (1 ∷ 0 ∷ []) ((slice_index weights (suc i) - 0) ∷ drop (suc (suc i)) weights)) (left ∷ drop (suc i) weights)
@@ -61,7 +56,7 @@ break_given now weights p n kinds level room f same more =
       some = refl;
       fits = fits_text kinds level 1 0 room;
       spells =
-          rows_at now weights p [] n f ∙ break_rows p.columns n rest some ∙ ap (glue (empty_row ∷ empty_row ∷ [])) (sym after);
+          rows_at now weights p [] n f ∙ break_rows p.columns n rest (some_row rest some) ∙ ap (glue (empty_row ∷ empty_row ∷ [])) (sym after);
       weighs = covered_break weights p.lines (slice_index weights p.lines - p.columns) (omega arith) left;
       rest = subst HasRow (sym after) (some_row rest some);
     }
@@ -88,10 +83,6 @@ length-text_rows table [] = refl
 length-text_rows table (x ∷ []) = refl
 length-text_rows table (x ∷ y ∷ xs) = ap suc (length-text_rows table (y ∷ xs))
 
-before_more : (c : ℕ) (ts : List Token) (n : ℕ) (rest : List Row) → 0 < length rest → rows_before c ts n rest ≡ row (moved_back c ts) 0 ∷ rest
-before_more c ts n [] h = absurd (omega arith)
-before_more c ts n (r ∷ rest) h = refl
-
 -- the row of a line, and those that follow it
 text_row : (table : Table) (xs : List (List ℕ)) (i : ℕ) → i < length xs
     → drop i (text_rows table xs)
@@ -104,7 +95,7 @@ text_row table (x ∷ []) zero h =
 text_row table (x ∷ []) (suc i) h = absurd (omega arith)
 text_row table (x ∷ y ∷ xs) zero h =
     ap (λ (ts : List Token). row ts 0 ∷ text_rows table (y ∷ xs)) (sym (moved_back-zero (tokens_of table x)))
-    ∙ sym (before_more 0 (tokens_of table x) (length x) (text_rows table (y ∷ xs)) (omega (arith, length-text_rows table (y ∷ xs))))
+    ∙ sym (before_more 0 (tokens_of table x) (length x) (text_rows table (y ∷ xs)) (some_row (text_rows table (y ∷ xs)) (omega (arith, length-text_rows table (y ∷ xs)))))
 text_row table (x ∷ y ∷ xs) (suc i) h = text_row table (y ∷ xs) i (omega arith)
 
 weight-more : (r : Row) (rows : List Row) → 0 < length rows → slice_index (row_weights (r ∷ rows)) 0 ≡ brackets_end 0 r.brackets + 1

@@ -113,10 +113,7 @@ module _ (s : Sight) (p : Length) (line : Line) (h : StandsAt s p line) (e : lin
 
   column_stands : StandsAt s (length_of p.lines c) to
   column_stands = record {
-    table = h.table;
-    same_marks = h.same_marks;
-    counted = h.counted;
-    stays = h.stays;
+    sound = h.sound;
     reached =
         subst (Reached (sight_rows s) (length_of p.lines c)) (sym (Reached-rows (sight_rows s) (length_of p.lines c) _ f.reached)) f.reached;
     in_line =
@@ -194,14 +191,11 @@ pub start_stands : (s : Sight) (p q : Length) (line to : Line) → StandsAt s p 
     → Reached (sight_rows s) q (rows_from q (sight_rows s)) → to.scanned ≡ false → to.asked ≡ line.asked
     → unasked s.marks q to.scanned ≡ unasked s.marks p line.scanned → StandsAt s q to
 start_stands s p q line to h start r scanned counted left = record {
-  table = h.table;
-  same_marks = h.same_marks;
-  counted = h.counted;
-  stays = h.stays;
+  sound = h.sound;
   reached = r;
   in_line =
       subst (λ (b : Bool). IsInLine (mark_of s q) s.old.tree s.marks (sight_rows s) (sight_weights s) q b (tokens_left to) to.columns) (sym scanned)
-      (line_starts s.old.tree s.marks (sight_rows s) (sight_weights s) q (tokens_left to) to.columns h.stays (same_count s) start r);
+      (line_starts s.old.tree s.marks (sight_rows s) (sight_weights s) q (tokens_left to) to.columns h.sound.stays (same_count s) start r);
   is_new = λ k. let clash : true ≡ false = sym k ∙ scanned in cc;
   asked = ap (λ (n : ℕ). n + length (unasked s.marks q to.scanned)) counted ∙ ap (λ (x : List ℕ). line.asked + length x) left ∙ h.asked;
 }
@@ -215,7 +209,7 @@ node_seen_at_start s asked p q from to kinds level l t line h start e g =
     let left = left_at s.old.tree s.marks (sight_weights s) q in
     node_seen s asked p q from to kinds level l left t e refl
     (lighter (ahead_at (sight_rows s) (sight_weights s) p l) (ahead_at (sight_rows s) (sight_weights s) q (fresh_left (sight_weights s) q)) kinds level t left
-    (start_is_light s.old.tree s.marks (sight_rows s) (sight_weights s) q h.stays start) g)
+    (start_is_light s.old.tree s.marks (sight_rows s) (sight_weights s) q h.sound.stays start) g)
 
 pub fresh_break : (s : Sight) (p : Length) (line to : Line) (kinds level : ℕ) → level ≤ MOST_OPEN → StandsAt s p line → line.scanned ≡ true
     → tokens_left line ≡ [] → suc p.lines < length s.contents → to.scanned ≡ false → to.asked ≡ line.asked
@@ -249,7 +243,7 @@ fresh_end s p line kinds level h e none last end =
     subst (λ (ts : List Token). IsFresh rows weights p ts line.columns) none (fresh_line s p line h e) in
     let over : IsOver (ahead_at rows weights p 0) =
     fresh_over rows weights p line.columns 0 here (same_count s) (omega (arith, length-text_rows s.table s.contents)) end in
-    let count = h.counted in
+    let count = h.sound.counted in
     let asked_all : unasked s.marks p line.scanned ≡ [] = unasked_scanned s p line.scanned e ∙ none_unasked s.marks (suc p.lines) (omega arith) in
     record {
       comes = λ asked. record { over = record { empty = over.empty; last = over.last; asked = asked_all }; rows = refl; weights = refl };

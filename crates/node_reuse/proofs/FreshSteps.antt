@@ -14,27 +14,12 @@ use Rattle.bracket_tree_rules.specs.Places.{IsBounded, rows_from}
 use Rattle.bracket_tree_rules.proofs.Glue.{empty_glue}
 use Rattle.bracket_tree_rules.proofs.LineWeights.{AreCovered-same}
 use Rattle.bracket_nodes.specs.Source.{GivesNode, GivesBracket}
-use Rattle.bracket_nodes.specs.ScannedLines.{moved_back}
-use Rattle.bracket_nodes.proofs.ScannedSteps.{line_end, shifted-moved_back, same_row, fits_text}
+use Rattle.bracket_nodes.specs.ScannedLines.{moved_back, rows_before}
+use Rattle.bracket_nodes.proofs.ScannedSteps.{line_end, shifted-moved_back, HasRow-before, cut, token_parts, fits_text}
 use Rattle.reuse_rules.specs.Following.{Reached}
 use Rattle.reuse_rules.proofs.Followings.{Reached-next, Reached-rows}
 use Rattle.node_reuse.specs.Texts.{brackets_end}
-use Rattle.node_reuse.specs.Ahead.{ahead_at, fresh_left, weight_before, rows_before, IsFresh}
-
--- ---- rows
-
-HasRow-before : (c : ℕ) (ts : List Token) (n : ℕ) (rest : List Row) → HasRow (rows_before c ts n rest)
-HasRow-before c ts n [] = tt
-HasRow-before c ts n (r ∷ rest) = tt
-
--- the rows from column c on are some brackets up to column d, and the rows from there
-cut : (c d n : ℕ) (front ts all : List Token) (rest : List Row) → c ≤ d → d ≤ n
-    → moved_back c all ≡ front ++ shifted (d - c) (moved_back d ts)
-    → rows_before c all n rest ≡ glue (row front (d - c) ∷ []) (rows_before d ts n rest)
-cut c d n front ts all [] h k e =
-    let columns : n - c ≡ (d - c) + (n - d) = omega arith in
-    ap (λ (r : Row). r ∷ []) (same_row (moved_back c all) (front ++ shifted (d - c) (moved_back d ts)) (n - c) ((d - c) + (n - d)) e columns)
-cut c d n front ts all (r ∷ rest) h k e = ap (λ (x : List Token). row x 0 ∷ r ∷ rest) e
+use Rattle.node_reuse.specs.Ahead.{ahead_at, fresh_left, weight_before, IsFresh}
 
 -- ---- steps within the line
 
@@ -122,13 +107,6 @@ gap_given now weights p d n kinds level ts room f h k more =
       weighs = (weight, AreCovered-same (drop (suc p.lines) weights));
       rest = subst HasRow (sym after) (HasRow-before d ts n rest);
     }
-
-token_parts : (c n : ℕ) (t : Token) (ts : List Token) → t.at ≡ c → AreInLine (c + t.len) n ts
-    → moved_back c (t ∷ ts) ≡ token 0 t.len t.kind t.opening ∷ shifted ((c + t.len) - c) (moved_back (c + t.len) ts)
-token_parts c n t ts e k =
-    let start : t.at - c ≡ 0 = omega arith in
-    ap (λ (m : ℕ). token m t.len t.kind t.opening ∷ moved_back c ts) start
-    ∙ ap (λ (x : List Token). token 0 t.len t.kind t.opening ∷ x) (sym (shifted-moved_back c (c + t.len) n ts (omega arith) k))
 
 pub bracket_next : (now : List Row) (weights : List ℕ) (p : Length) (n : ℕ) (t : Token) (ts : List Token) → IsFresh now weights p (t ∷ ts) n → t.at ≤ p.columns
     → IsFresh now weights (length_of p.lines (p.columns + t.len)) ts n

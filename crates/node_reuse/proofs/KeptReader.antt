@@ -45,7 +45,7 @@ module _ (s : Sight) (p : Length) (line : Line) (h : StandsAt s p line) (kept : 
   at_tree (Some t) e f = record {
     tree = t;
     line = kept.0 - 1;
-    whole = seen s.old s.old.tree s.old.marks t refl e ∙ ap (old_text (Some t)) h.same_marks;
+    whole = seen s.old s.old.tree s.old.marks t refl e ∙ ap (old_text (Some t)) h.sound.same_marks;
     follows = f;
   }
 
@@ -72,10 +72,7 @@ run_left s p q b k scanned lines within =
 kept_stands : (s : Sight) (p q : Length) (line : Line) (t : Tree) (m : ℕ) → StandsAt s p line → line.scanned ≡ false → s.old ≡ old_text (Some t) s.marks
     → IsFollowing t s.marks (sight_rows s) (sight_weights s) q m → unasked s.marks q line.scanned ≡ unasked s.marks p line.scanned → StandsAt s q line
 kept_stands s p q line t m h scanned whole f left = record {
-  table = h.table;
-  same_marks = h.same_marks;
-  counted = h.counted;
-  stays = h.stays;
+  sound = h.sound;
   reached = f.reached;
   in_line =
       subst (λ (o : OldText). IsInLine (mark_of s q) o.tree s.marks (sight_rows s) (sight_weights s) q line.scanned (tokens_left line) line.columns) (sym whole)
@@ -202,7 +199,7 @@ kept_end s p line kinds level room h kept scanned none no_bracket =
     kept_over old.tree s.marks (sight_rows s) (sight_weights s) p old.line kinds level 0 old.follows room
     (subst (λ (o : OldText). NoneReusable o p kinds level) old.whole none) (subst (λ (o : OldText). NoOldBracket o p) old.whole no_bracket) in
     let none_later : length (drop (suc p.lines) (sight_weights s)) ≡ 0 = ap length over.last in
-    let count = h.counted in
+    let count = h.sound.counted in
     let texts = old.follows.count in
     let last : length s.marks ≡ suc p.lines =
     omega (

@@ -73,7 +73,7 @@ entered_in_line s p line to h unscanned new tokens columns =
     subst (λ (x : Length). Reached (sight_rows s) x (rows_from x (sight_rows s))) place h.reached in
     let content : content_at (p.lines + 1) s.contents ≡ get_or s.contents p.lines [] = ap (λ (i : ℕ). get_or s.contents i []) (omega arith) in
     let fresh : IsFresh (sight_rows s) (sight_weights s) (length_of p.lines 0) (tokens_of s.table (get_or s.contents p.lines [])) (length (get_or s.contents p.lines [])) =
-    fresh_start s.table s.contents p.lines h.table (lines_within s p line h) reached in
+    fresh_start s.table s.contents p.lines h.sound.table (lines_within s p line h) reached in
     subst (λ (x : Length). IsFresh (sight_rows s) (sight_weights s) x (tokens_left to) to.columns) (sym place)
     (subst (λ (n : ℕ). IsFresh (sight_rows s) (sight_weights s) (length_of p.lines 0) (tokens_left to) n) (sym (columns ∙ ap length content))
     (subst (λ (ts : List Token). IsFresh (sight_rows s) (sight_weights s) (length_of p.lines 0) ts (length (get_or s.contents p.lines [])))
@@ -83,7 +83,7 @@ entered_stands : (s : Sight) (p : Length) (line to : Line) → StandsAt s p line
     → tokens_left to ≡ tokens_of s.table (content_at (p.lines + 1) s.contents) → to.columns ≡ length (content_at (p.lines + 1) s.contents)
     → to.scanned ≡ true → to.asked ≡ line.asked + 1 → StandsAt s p to
 entered_stands s p line to h unscanned new tokens columns scanned counted =
-    let count = h.counted in
+    let count = h.sound.counted in
     let within : p.lines < length s.marks = omega (arith, lines_within s p line h) in
     let before : unasked s.marks p line.scanned ≡ suc p.lines ∷ new_lines_at (suc p.lines) s.marks =
     unasked_unscanned s p line.scanned unscanned ∙ new_unasked s.marks p.lines within new in
@@ -91,10 +91,7 @@ entered_stands s p line to h unscanned new tokens columns scanned counted =
     let after : length (unasked s.marks p to.scanned) ≡ length (new_lines_at (suc p.lines) s.marks) = ap (λ (b : Bool). length (unasked s.marks p b)) scanned in
     let was = h.asked in
     record {
-      table = h.table;
-      same_marks = h.same_marks;
-      counted = h.counted;
-      stays = h.stays;
+      sound = h.sound;
       reached = h.reached;
       in_line =
           subst (λ (m : Mark). IsInLine m s.old.tree s.marks (sight_rows s) (sight_weights s) p to.scanned (tokens_left to) to.columns) (sym new)
@@ -128,7 +125,7 @@ entered_asks s p n line to old new borrows number h unscanned new_mark e f = rec
 
     first : new_lines_at p.lines s.marks ≡ suc p.lines ∷ new_lines_at (suc p.lines) s.marks
     first =
-        let count = h.counted in
+        let count = h.sound.counted in
         let within : p.lines < length s.marks = omega (arith, lines_within s p line h) in
         new_unasked s.marks p.lines within new_mark
 
@@ -148,35 +145,30 @@ entered_asks s p n line to old new borrows number h unscanned new_mark e f = rec
 
 -- ---- a call in a new line, whose lines have the same contents afterwards
 
-module _ {E : Type 0} (r : Result Next E) (table : Table) (before after : List (List ℕ)) (old : OldText) (marks : List Mark) (same : after ≡ before)
-    (asked told borrows : List ℕ) (p q : Length) (start from to : Line) (kinds level : ℕ)
-    (reads : IfOk r (ReadsOn (sight table before old marks) p from q to kinds level)) where
-  pub new_comes : IfOk r (Comes (seen_at (sight table before old marks) (asked_so asked borrows) p start)
-      (seen_at (sight table after old marks) (asked_so told borrows) q to) kinds level)
-  new_comes =
-      let s = sight table before old marks in
-      subst (λ (x : List (List ℕ)). IfOk r (Comes (seen_at s (asked_so asked borrows) p start)
-      (seen_at (sight table x old marks) (asked_so told borrows) q to) kinds level)) (sym same)
-      (comes_from_if r s (asked_so told borrows) (asked_so asked borrows) p from start (seen_at s (asked_so told borrows) q to) kinds level
-      (reads_comes r s (asked_so told borrows) p q from to kinds level reads))
+-- what came next, from this line on, which was entered, to that one
+pub record NextInNew {E : Type 0} (r : Result Next E) (before after : Sight) (asked told : Asked) (p q : Length) (start to : Line) (kinds level : ℕ) : Type 0 where
+  pub comes : IfOk r (Comes (seen_at before asked p start) (seen_at after told q to) kinds level)
+  pub stands : OnOk r (StandsAt after q to)
+  pub asks : AsksOn (asking_at before asked p start) (asking_at after told q to)
 
-  pub new_stands : OnOk r (StandsAt (sight table after old marks) q to)
-  new_stands =
-      subst (λ (x : List (List ℕ)). OnOk r (StandsAt (sight table x old marks) q to)) (sym same)
-      (reads_stands r (sight table before old marks) p q from to kinds level reads)
-
-  pub new_asks : OnErr r (q ≡ p) → OnErr r (to ≡ from)
-      → AsksOn (asking_at (sight table before old marks) (asked_so asked borrows) p start)
-      (asking_at (sight table before old marks) (asked_so told borrows) p from)
-      → AsksOn (asking_at (sight table before old marks) (asked_so asked borrows) p start)
-      (asking_at (sight table after old marks) (asked_so told borrows) q to)
-  new_asks place line asks =
-      let s = sight table before old marks in
-      subst (λ (x : List (List ℕ)). AsksOn (asking_at s (asked_so asked borrows) p start)
-      (asking_at (sight table x old marks) (asked_so told borrows) q to)) (sym same)
-      (AsksOn-then (asking_at s (asked_so asked borrows) p start) (asking_at s (asked_so told borrows) p from)
-      (asking_at s (asked_so told borrows) q to) asks
-      (reads_asks r s (asked_so told borrows) p q from to kinds level reads place line))
+pub new_call : {E : Type 0} (r : Result Next E) (table : Table) (before after : List (List ℕ)) (old : OldText) (marks : List Mark) → after ≡ before
+    → (asked told borrows : List ℕ) (p q : Length) (start from to : Line) (kinds level : ℕ)
+    → IfOk r (ReadsOn (sight table before old marks) p from q to kinds level) → OnErr r (q ≡ p) → OnErr r (to ≡ from)
+    → AsksOn (asking_at (sight table before old marks) (asked_so asked borrows) p start)
+    (asking_at (sight table before old marks) (asked_so told borrows) p from)
+    → NextInNew r (sight table before old marks) (sight table after old marks) (asked_so asked borrows) (asked_so told borrows) p q start to kinds level
+new_call r table before after old marks same asked told borrows p q start from to kinds level reads place line entered =
+    let s = sight table before old marks in
+    let was = asked_so asked borrows in
+    let now = asked_so told borrows in
+    subst (λ (x : List (List ℕ)). NextInNew r s (sight table x old marks) was now p q start to kinds level) (sym same)
+    (record {
+      comes = comes_from_if r s now was p from start (seen_at s now q to) kinds level (reads_comes r s now p q from to kinds level reads);
+      stands = reads_stands r s p q from to kinds level reads;
+      asks =
+          AsksOn-then (asking_at s was p start) (asking_at s now p from) (asking_at s now q to) entered
+          (reads_asks r s now p q from to kinds level reads place line);
+    })
 
 -- a line that was not entered, whatever was asked for
 pub failed_asks : (table : Table) (before after : List (List ℕ)) (old : OldText) (marks : List Mark) → after ≡ before → (asked told : Asked) (p : Length) (from to : Line)
@@ -214,8 +206,8 @@ pub record HasNumbers (s : Sight) (p : Length) (line : Line) : Type 0 where
   pub within : p.lines < length s.marks
   pub asked : line.asked ≤ length s.marks
 
-pub has_numbers : (s : Sight) (p : Length) (line : Line) → StandsAt s p line → HasNumbers s p line
-has_numbers s p line h =
-    let count = h.counted in
+pub has_numbers : {s : Sight} {p : Length} {line : Line} → StandsAt s p line → HasNumbers s p line
+has_numbers {s} {p} {line} h =
+    let count = h.sound.counted in
     let told = h.asked in
     record { within = omega (arith, lines_within s p line h); asked = omega (arith, new_count s.marks) }

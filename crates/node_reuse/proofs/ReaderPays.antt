@@ -37,7 +37,7 @@ use Rattle.node_reuse.proofs.FreshReader.{lines_within}
 use Rattle.node_reuse.proofs.Unasked.{new_unasked}
 
 inside_marks : (s : Sight) (p : Length) (line : Line) → StandsAt s p line → p.lines < length s.marks
-inside_marks s p line h = omega (arith, h.counted, lines_within s p line h)
+inside_marks s p line h = omega (arith, h.sound.counted, lines_within s p line h)
 
 -- ---- brackets
 
@@ -212,7 +212,7 @@ break_way c (Some old) marks p rises inside e = starts (drop (suc p.lines) marks
 
 kept_rise : (s : Sight) (p : Length) (line : Line) → StandsAt s p line → (old : Tree) → s.old.tree ≡ Some old → RisesFrom 1 s.marks
 kept_rise s p line h old e =
-    (subst (λ (o : Option Tree). StaysIfThere o s.marks (sight_rows s) (sight_weights s)) e h.stays).agrees.rises
+    (subst (λ (o : Option Tree). StaysIfThere o s.marks (sight_rows s) (sight_weights s)) e h.sound.stays).agrees.rises
 
 pub fresh_break_pays : (s : Sight) (p : Length) (line to : Line) (steps : ℕ) → StandsAt s p line → line.scanned ≡ true → to.scanned ≡ false
     → tokens_left line ≡ [] → PaysOn (paying_at s steps p line) (paying_at s steps (length_of (suc p.lines) 0) to)

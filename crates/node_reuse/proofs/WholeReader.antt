@@ -51,10 +51,7 @@ first_stands s line some table marks counted agrees scanned none =
     let reached : Reached (sight_rows s) no_length (rows_from no_length (sight_rows s)) =
     subst (Reached (sight_rows s) no_length) (sym (all_rows s.table s.contents some)) (Reached-start (sight_rows s) (some_row s.table s.contents some)) in
     record {
-      table = table;
-      same_marks = marks;
-      counted = counted;
-      stays = stays;
+      sound = record { table = table; same_marks = marks; counted = counted; stays = stays };
       reached = reached;
       in_line =
           subst (λ (b : Bool). IsInLine (mark_of s no_length) s.old.tree s.marks (sight_rows s) (sight_weights s) no_length b (tokens_left line) line.columns)

@@ -2,10 +2,10 @@
 use Rattle.std.specs.Prelude.{◌≡◌, ℕ, suc, ◌+◌, ◌-◌, List, [], ◌∷◌, drop, slice_index}
 use Rattle.text_lengths.specs.declared.Length.{Length}
 use Rattle.bracket_rules.specs.declared.Token.{Token}
-use Rattle.bracket_rules.specs.Rows.{Row, row}
+use Rattle.bracket_rules.specs.Rows.{Row}
 use Rattle.bracket_rules.specs.Table.{AreInLine}
 use Rattle.bracket_tree_rules.specs.Places.{rows_from}
-use Rattle.bracket_nodes.specs.ScannedLines.{moved_back}
+use Rattle.bracket_nodes.specs.ScannedLines.{rows_before}
 use Rattle.bracket_nodes.specs.Source.{Ahead, asks_nothing}
 use Rattle.reuse_rules.specs.Following.{Reached}
 use Rattle.node_reuse.specs.Texts.{brackets_end}
@@ -31,11 +31,6 @@ fresh_left weights p = slice_index weights p.lines - p.columns
 abbrev pub weight_before : ℕ → List Token → ℕ → List Row → ℕ
 weight_before column tokens columns [] = columns
 weight_before column tokens columns (r ∷ rows) = brackets_end column tokens + 1
-
--- the rows from a column of a line on, where these tokens of its columns are left, and those rows follow
-abbrev pub rows_before : ℕ → List Token → ℕ → List Row → List Row
-rows_before column tokens columns [] = row (moved_back column tokens) (columns - column) ∷ []
-rows_before column tokens columns (r ∷ rows) = row (moved_back column tokens) 0 ∷ r ∷ rows
 
 -- the reader stands at place p of a line of so many columns, and those tokens of the line are left
 pub record IsFresh (now : List Row) (weights : List ℕ) (p : Length) (tokens : List Token) (columns : ℕ) : Type 0 where

@@ -1,5 +1,6 @@
 -- A reader of the text of now: what it sees, what it keeps true from call to call, and which lines it has yet to ask for.
 use Rattle.std.specs.Prelude.{◌≡◌, ℕ, suc, ◌+◌, ◌<◌, Bool, true, false, List, [], ◌∷◌, length, drop}
+use Rattle.std.specs.Borrow.{MutBor}
 use Rattle.text_lengths.specs.declared.Length.{Length}
 use Rattle.bracket_rules.specs.declared.Token.{Token}
 use Rattle.bracket_rules.specs.Rows.{Row, text_rows}
@@ -64,6 +65,10 @@ pub record Asked : Type 0 where
 abbrev pub asked_so : List ℕ → List ℕ → Asked
 asked_so lines borrows = record { lines = lines; borrows = borrows }
 
+-- the names of the borrows by which a reader reads
+abbrev pub names_of : {O Q S L : Type 0} → MutBor O → MutBor Q → MutBor S → MutBor L → List ℕ
+names_of text lines steps line = text.ghost_name ∷ lines.ghost_name ∷ steps.ghost_name ∷ line.ghost_name ∷ []
+
 abbrev pub asking_at : Sight → Asked → Length → Line → Asking
 asking_at s asked p line = record {
   contents = s.contents;
@@ -86,12 +91,16 @@ seen_at s asked p line = record {
 abbrev pub tokens_left : Line → List Token
 tokens_left line = drop line.next line.tokens.items
 
--- the reader stands at place p, and this is what it knows of its line
-pub record StandsAt (s : Sight) (p : Length) (line : Line) : Type 0 where
+-- what is read belongs together: the marks are those of the old text, and tell of each line, and its tree agrees under them
+pub record IsSound (s : Sight) : Type 0 where
   pub table : is_table s.table ≡ true
   pub same_marks : s.old.marks ≡ s.marks
   pub counted : length s.marks ≡ length s.contents
   pub stays : StaysIfThere s.old.tree s.marks (sight_rows s) (sight_weights s)
+
+-- the reader stands at place p, and this is what it knows of its line
+pub record StandsAt (s : Sight) (p : Length) (line : Line) : Type 0 where
+  pub sound : IsSound s
   pub reached : Reached (sight_rows s) p (rows_from p (sight_rows s))
   pub in_line : IsInLine (mark_of s p) s.old.tree s.marks (sight_rows s) (sight_weights s) p line.scanned (tokens_left line) line.columns
   pub is_new : line.scanned ≡ true → mark_of s p ≡ New

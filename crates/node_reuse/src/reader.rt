@@ -32,14 +32,12 @@ pub(crate) struct Reader<'o, 'h, 't, 'q, 's, 'l, O, Q, L: Ledger> {
 }
 
 impl<O: Old, Q: Lines, L: Ledger> Source for Reader<'_, '_, '_, '_, '_, '_, O, Q, L> {
-    ghost use Rattle.std.specs.Prelude.{[], ◌∷◌};
-    ghost use Rattle.node_reuse.specs.Reader.{sight, asked_so, seen_at, StandsAt};
+    ghost use Rattle.node_reuse.specs.Reader.{sight, asked_so, names_of, seen_at, StandsAt};
     ghost use Rattle.node_reuse.specs.Paying.{paying_at};
 
     ghost ahead = { λ r. seen_at
         (sight r.table.now (Q.state r.lines.now).contents (O.text r.text.now) r.hunks.now.marks)
-        (asked_so (Q.state r.lines.now).asked
-        (r.text.ghost_name ∷ r.lines.ghost_name ∷ r.steps.ghost_name ∷ r.line.ghost_name ∷ []))
+        (asked_so (Q.state r.lines.now).asked (names_of r.text r.lines r.steps r.line))
         r.place r.line.now };
 
     ghost paying = { λ r. paying_at

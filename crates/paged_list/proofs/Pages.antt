@@ -1,5 +1,5 @@
 -- Pages of which each has twice as many slots as the one before it, and their slots in a row.
-use Rattle.std.proofs.Common.{◌≡◌, ℕ, zero, suc, ◌+◌, ◌-◌, ◌*◌, ◌%◌, ◌/◌, ◌^◌, ◌<◌, ◌≤◌, List, [], ◌∷◌, ◌++◌, Option, None, length, get_or, replicate, set, sym, ap, ◌∙◌, arith, inl, inr, lit<}
+use Rattle.std.proofs.Common.{◌≡◌, ℕ, zero, suc, ◌+◌, ◌-◌, ◌*◌, ◌%◌, ◌/◌, ◌^◌, ◌<◌, ◌≤◌, List, [], ◌∷◌, ◌++◌, Option, Some, None, length, get_or, replicate, set, sym, ap, ◌∙◌, arith, inl, inr, lit<}
 use Rattle.std.specs.Int.{bit_at}
 use Rattle.std.specs.Int.Bits.{bit_or, bit_xor, or_zero_r, xor_add_and}
 use Rattle.std.proofs.lemmas.Bool.{cases_lt}
@@ -12,6 +12,8 @@ use Rattle.std.proofs.Math.Pow.{high}
 use Rattle.std.proofs.Math.Seq.{get_or-append_seam}
 use Rattle.std.proofs.Math.Nat.{pow-le-pow_right, mul-le-mul_left, pow-suc}
 use Rattle.paged_list.specs.Pages.{row, AllDouble, ArePages, IsSpot}
+use Rattle.paged_list.specs.Slots.{IsFilled}
+use Rattle.paged_list.proofs.Rows.{within}
 
 -- a number with its lowest bit set has the same highest bit
 pub same_top : (n top : ℕ) → 0 < n → 2 ^ top ≤ bit_or n 1 → 2 ^ top ≤ n
@@ -179,3 +181,29 @@ module _ {X : Type 0} where
   row_longer pages h slots is count many =
       let long = length-row pages h.double in let same = ap length is in let all : count ≡ length slots + 1 = omega (arith, long, same, many) in
       row-grown pages count ∙ ap (λ s. s ++ replicate count None) is ∙ ap (λ k. slots ++ replicate k None) all
+
+-- the same of a slot that holds a value
+module _ {X : Type 0} (pages : List (List (Option X))) (h : ArePages pages) (slots : List (Option X)) (is : row pages ≡ slots) (n : ℕ) (filled : IsFilled slots n) where
+  pub filled_within : n < length slots
+  filled_within = within slots n filled.0 filled.1
+
+  pub filled_fits : n + 1 < 2 ^ 32
+  filled_fits = number_fits pages h slots is n filled_within
+
+  module _ (page place : ℕ) (at : IsSpot n page place) where
+    pub filled_page : page < length pages
+    filled_page = page_at pages h slots is n filled_within page place at
+
+    module _ (lent : List (Option X)) (e : lent ≡ get_or pages page lent) where
+      pub filled_at : IsFilled lent place
+      filled_at = (filled.0, slot_at pages h slots is n filled_within page place at lent e ∙ filled.1)
+
+      pub filled_is : (x : X) → get_or lent place None ≡ Some x → get_or slots n None ≡ Some x
+      filled_is x read = sym (slot_at pages h slots is n filled_within page place at lent e) ∙ read
+
+      pub filled_written : (new : List (Option X)) (c : Option X) → new ≡ set lent place c → row (set pages page new) ≡ set slots n c
+      filled_written new c wrote = row_written pages h slots is n filled_within page place at lent e new c wrote
+
+pub ruleset filling = (number_fits, slot_at, pages_written, row_written)
+
+pub ruleset reading = (filled_is, pages_written, filled_written)

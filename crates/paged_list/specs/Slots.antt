@@ -42,7 +42,8 @@ module _ (R : RattleType) where
   abbrev pub block_owned : (Ty → Ptr → Fml) → Ptr → List (Option R.Denot) → Fml
   block_owned frees null_ptr cs = ffalse
   block_owned frees (block_ptr b n) cs =
-      fsep (in_a_row (type_size R) (slot_owned b) cs n) (fsep (few_bytes cs) (frees (raw (ty_array (lone R.mir) (length cs))) (block_ptr b n)))
+      fsep (in_a_row (type_size R) (slot_owned b) cs n)
+      (fsep (few_bytes cs) (frees (raw (ty_array (lone R.mir) (length cs))) (block_ptr b n)))
 
   abbrev pub block_seen : Ptr → List (Option R.Denot) → Lft → Fml
   block_seen null_ptr cs = said ffalse

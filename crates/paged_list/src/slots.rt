@@ -88,6 +88,7 @@ impl<T: Copy> Slots<T> {
         Ok(())
     }
 
+    #[tactic(auto, using(crate::proofs::Pages::filling))]
     pub(crate) fn fill(&mut self, index: usize, item: T)
         requires within { index < length self.old }
         requires empty { get_or self.old index None ≡ None }
@@ -98,6 +99,7 @@ impl<T: Copy> Slots<T> {
         pages[spot.page].fill(spot.place, item);
     }
 
+    #[tactic(auto, using(crate::proofs::Pages::reading))]
     pub(crate) fn empty(&mut self, index: usize) -> T
         requires { IsFilled self.old index }
         ensures value { get_or self.old index None ≡ Some result }
@@ -108,6 +110,7 @@ impl<T: Copy> Slots<T> {
         pages[spot.page].empty(spot.place)
     }
 
+    #[tactic(auto, using(crate::proofs::Pages::reading))]
     pub(crate) fn get(&self, index: usize) -> &T
         requires { IsFilled self.now index }
         ensures { get_or self.now index None ≡ Some result.now }
@@ -117,6 +120,7 @@ impl<T: Copy> Slots<T> {
         pages[spot.page].get(spot.place)
     }
 
+    #[tactic(auto, using(crate::proofs::Pages::reading))]
     pub(crate) fn get_mut(&mut self, index: usize) -> &mut T
         requires { IsFilled self.old index }
         ensures* writes_back { sem 𝓛 (row_lends T.row self.entry index result) }

@@ -8,10 +8,10 @@ use Rattle.piece_tree.specs.declared.piece.Found.{Found}
 use Rattle.piece_tree.specs.declared.piece.PieceSum.{PieceSum}
 use Rattle.piece_tree.specs.Pieces.{Entry, IsAmong, IsFound, AreNeighbours, pieces_of, unit_count, break_count_of, sum_of}
 use Rattle.piece_tree.specs.Searches.{few_breaks}
-use Rattle.rb_arena.specs.RbTree.{SplitsAt, first_or, last_or}
+use Rattle.rb_arena.specs.RbTree.{IsItem, AtItem, SplitsAt, first_or, last_or}
 use Rattle.piece_tree.specs.Inside.{entry_of, entries_of}
 use Rattle.piece_tree.proofs.Sums.{units-cons, breaks-cons, breaks_few, entries-append}
-use Rattle.piece_tree.proofs.Places.{piece_found, split_entries, item_after, last_there}
+use Rattle.piece_tree.proofs.Places.{piece_found, split_entries, named_entry, item_after, before_place, first_none, last_there, last_none}
 
 counted : (f : Piece → ℕ) (es fs : List Entry) → sum_by f (pieces_of (es ++ fs)) ≡ sum_by f (pieces_of es) + sum_by f (pieces_of fs)
 counted f es fs = ap (sum_by f) (map-append (λ (e : Entry). e.piece) es fs) ∙ sum_by-append f (pieces_of es) (pieces_of fs)
@@ -95,27 +95,34 @@ module _ (entries : List Entry) (near : Found) (is : IsFound entries near) where
         before = λ i. record { units = all_units i; breaks = all_breaks i };
       }
 
+  module _ (items : List (ℕ × Piece)) (shown : entries_of items ≡ entries) where
+    pub near_item : IsItem items near.id
+    near_item = named_entry items entries near.id shown among
+
+    -- it is the last or the first where the tree names none beside it
+    pub none_behind : (r : Option ℕ) → r ≡ None → AtItem items near.id (λ us x vs. r ≡ first_or None vs) → is.later ≡ []
+    none_behind r none told =
+        let (us, (vs, e, before, after)) = split_entries items is.earlier is.later near.id (piece_found near) (shown ∙ is.place) in
+        sym after ∙ ap entries_of (first_none vs (sym none ∙ told us (piece_found near) vs e))
+
+    pub none_before : (r : Option ℕ) → r ≡ None → AtItem items near.id (λ us x vs. r ≡ last_or None us) → is.earlier ≡ []
+    none_before r none told =
+        let (us, (vs, e, before, after)) = split_entries items is.earlier is.later near.id (piece_found near) (shown ∙ is.place) in
+        sym before ∙ ap entries_of (last_none us (sym none ∙ told us (piece_found near) vs e))
+
   module _ (items : List (ℕ × Piece)) (shown : entries_of items ≡ entries) (other : ℕ) (r : Option ℕ) (some : r ≡ Some other) where
     -- the item before it in the tree
-    pub item_before : ((us : List (ℕ × Piece)) (x : Piece) (vs : List (ℕ × Piece)) → SplitsAt items near.id us x vs → r ≡ last_or None us)
+    pub item_before : AtItem items near.id (λ us x vs. r ≡ last_or None us)
         → (ws : List (ℕ × Piece)) × ((x : Piece) × ((vs : List (ℕ × Piece)) × SplitsAt items other ws x vs × (is.earlier ≡ entries_of ws ++ entry_of (other, x) ∷ [])))
     item_before told =
         let own : ℕ × Piece = (near.id, piece_found near) in
         let (us, (vs, e, before, after)) = split_entries items is.earlier is.later near.id (piece_found near) (shown ∙ is.place) in
-        let (ws, (x, last)) = last_there us other (sym some ∙ told us (piece_found near) vs e) in (
-          ws,
-          (
-            x,
-            (
-              own ∷ vs,
-              e ∙ ap (λ l. l ++ own ∷ vs) last ∙ append_assoc ws ((other, x) ∷ []) (own ∷ vs),
-              sym before ∙ ap entries_of last ∙ entries-append ws ((other, x) ∷ []),
-            ),
-          ),
-        )
+        let (ws, (x, last)) = last_there us other (sym some ∙ told us (piece_found near) vs e) in
+        let shown_before = sym before ∙ ap entries_of last ∙ entries-append ws ((other, x) ∷ []) in
+        (ws, (x, (own ∷ vs, before_place items us ws (own ∷ vs) other x e last, shown_before)))
 
     -- the item after it
-    pub item_behind : ((us : List (ℕ × Piece)) (x : Piece) (vs : List (ℕ × Piece)) → SplitsAt items near.id us x vs → r ≡ first_or None vs)
+    pub item_behind : AtItem items near.id (λ us x vs. r ≡ first_or None vs)
         → (us : List (ℕ × Piece)) × ((y : Piece) × ((ws : List (ℕ × Piece)) × SplitsAt items other us y ws × (is.later ≡ entry_of (other, y) ∷ entries_of ws)))
     item_behind told =
         let own : ℕ × Piece = (near.id, piece_found near) in

@@ -2,13 +2,14 @@
 use Rattle.std.proofs.Common.{◌≡◌, ℕ, ◌-◌, ◌<◌, ◌≤◌, Option, Some, None, List, [], ◌∷◌, ◌++◌, length, refl, ap, sym, subst, ◌∙◌, append_assoc, arith}
 use Rattle.std.proofs.lemmas.List.{length-append}
 use Rattle.std.proofs.lemmas.Option.{none-some}
-use Rattle.std.specs.Option.{unwrap_or}
+use Rattle.std.specs.Option.{unwrap_or, ForSome}
+use Rattle.chunk_buffers.specs.declared.span.ChunkSpan.{ChunkSpan}
 use Rattle.chunk_buffers.specs.Chunks.{part_of}
 use Rattle.rb_arena.specs.RbTree.{IsItem, SplitsAt, EndsWith, first_or, last_or}
 use Rattle.piece_tree.specs.declared.piece.Piece.{Piece}
 use Rattle.piece_tree.specs.declared.piece.Found.{Found}
-use Rattle.piece_tree.specs.Pieces.{Entry, IsAmong, IsFound, last_of, pieces_of, sum_of, piece_of, back}
-use Rattle.piece_tree.specs.Inside.{entry_of, entries_of, in_order}
+use Rattle.piece_tree.specs.Pieces.{Entry, IsAmong, IsFound, first_of, last_of, pieces_of, sum_of, piece_of, back}
+use Rattle.piece_tree.specs.Inside.{TellsSpan, entry_of, entries_of, in_order}
 use Rattle.piece_tree.proofs.Sums.{entries-append, units_in, units-split, units-append}
 use Rattle.piece_tree.proofs.Cuts.{back_past, back_none, back_part}
 
@@ -102,3 +103,30 @@ pub item_after : (items us : List (ℕ × Piece)) (id : ℕ) (x : Piece) (vs : L
 item_after items us id x vs other r e some first =
     let (y, (ws, is)) = first_there vs other (sym some ∙ first) in
     (y, (ws, e ∙ ap (λ l. us ++ (id, x) ∷ l) is ∙ sym (append_assoc us ((id, x) ∷ []) ((other, y) ∷ ws)), is))
+
+-- the item before another, and what then stands behind it
+pub before_place : (items us ws later : List (ℕ × Piece)) (other : ℕ) (y : Piece) → items ≡ us ++ later → us ≡ ws ++ (other, y) ∷ [] → SplitsAt items other ws y later
+before_place items us ws later other y e last = e ∙ ap (λ l. l ++ later) last ∙ append_assoc ws ((other, y) ∷ []) later
+
+-- the name of the first of the items behind another, and what is told of it
+pub first_named : (items us : List (ℕ × Piece)) (id : ℕ) (x : Piece) (vs : List (ℕ × Piece)) (r : Option ℕ) → SplitsAt items id us x vs → r ≡ first_or None vs → ForSome r (IsItem items)
+first_named items us id x vs r e is = λ other some.
+    let (y, (ws, at, split)) = item_after items us id x vs other r e some is in (us ++ (id, x) ∷ [], (y, (ws, at)))
+
+pub first_told : (items us : List (ℕ × Piece)) (id : ℕ) (x : Piece) (vs : List (ℕ × Piece)) (r : Option ℕ) (told : Option (ℕ × ChunkSpan)) → SplitsAt items id us x vs → r ≡ first_or None vs
+    → TellsSpan items r told → told ≡ first_of (entries_of vs)
+first_told items us id x [] r told e is tells = subst (λ o. TellsSpan items o told) is tells
+first_told items us id x (v ∷ ws) r told e is tells =
+    let at : TellsSpan items (Some v.0) told = subst (λ o. TellsSpan items o told) is tells in
+    at (us ++ (id, x) ∷ []) v.1 ws (e ∙ sym (append_assoc us ((id, x) ∷ []) (v ∷ ws)))
+
+-- the name of the last of the items at the front, and what is told of it
+pub last_named : (items us later : List (ℕ × Piece)) (r : Option ℕ) → items ≡ us ++ later → r ≡ last_or None us → ForSome r (IsItem items)
+last_named items us later r e is = λ other some.
+    let (ws, (y, last)) = last_there us other (sym some ∙ is) in (ws, (y, (later, before_place items us ws later other y e last)))
+
+pub last_told : (items us later : List (ℕ × Piece)) (r : Option ℕ) (told : Option (ℕ × ChunkSpan)) → items ≡ us ++ later → r ≡ last_or None us → TellsSpan items r told
+    → told ≡ last_of (entries_of us)
+last_told items us later None told e is tells = tells ∙ ap (λ l. last_of (entries_of l)) (sym (last_none us is))
+last_told items us later (Some other) told e is tells =
+    let (ws, (y, last)) = last_there us other is in tells ws y later (before_place items us ws later other y e last) ∙ sym (last_shown us ws other y last)

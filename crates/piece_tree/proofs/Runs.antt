@@ -8,19 +8,19 @@ use Rattle.std.proofs.lemmas.List.Elements.{All-append, All-cons, All-head, All-
 use Rattle.std.proofs.lemmas.List.Sums.{sum_by-append}
 use Rattle.chunk_buffers.specs.declared.span.ChunkSpan.{ChunkSpan}
 use Rattle.chunk_buffers.specs.Chunks.{LiesIn, part_of}
-use Rattle.rb_arena.specs.RbTree.{IsItem, AtItem, LeavesOut, SplitsAt, first_or}
+use Rattle.rb_arena.specs.RbTree.{IsItem, AtItem, LeavesOut, SplitsAt, EndsWith, first_or, last_or}
 use Rattle.piece_tree.specs.declared.piece.Piece.{Piece}
 use Rattle.piece_tree.specs.declared.piece.PieceSum.{PieceSum}
-use Rattle.piece_tree.specs.declared.edits.Cut.{Cut}
-use Rattle.piece_tree.specs.declared.edits.Run.{Run}
+use Rattle.piece_tree.specs.declared.cut.Cut.{Cut}
+use Rattle.piece_tree.specs.declared.run.Run.{Run}
 use Rattle.piece_tree.specs.Pieces.{unit_count, break_count_of, sum_of, piece_of, listed, piece_list, IsPieceOf, goes_on, goes_on_from, followed_by, front, back, spliced}
 use Rattle.piece_tree.specs.Searches.{few_breaks}
 use Rattle.piece_tree.specs.Inside.{in_order}
 use Rattle.rb_arena.specs.Pairs.{AtPair, HasMerged}
-use Rattle.piece_tree.specs.Runs.{HasBoth, IsJoint, IsCut, HasTaken, Gathers, IsRun, LeavesRest}
+use Rattle.piece_tree.specs.Runs.{HasBoth, IsJoint, IsCut, HasTaken, Gathers, IsRun, LeavesRest, joined}
 use Rattle.piece_tree.proofs.Sums.{All-parts, in_order-append, units-cons, breaks-cons, units_in, units-split, units-append}
 use Rattle.piece_tree.proofs.Cuts.{front-append, back-append, front_past, front_none, front_part}
-use Rattle.piece_tree.proofs.Places.{item_after}
+use Rattle.piece_tree.proofs.Places.{item_after, last_there, before_place}
 use Rattle.piece_tree.proofs.Prolonged.{followed-last, followed_new, goes_on_from-last, units-followed_by, units-spliced}
 
 -- what holds of all pieces holds of those before one, of it, and of those behind it
@@ -40,14 +40,17 @@ pub own_piece : (b : List (List ℕ)) (p : Piece) → IsPieceOf b p → p ≡ pi
 own_piece b p is = λ i. record { span = p.span; breaks = is.breaks i }
 
 -- the span goes on from the pieces as it does from the last
-pub from_last : (us ws : List (ℕ × Piece)) (id : ℕ) (x : Piece) (span : ChunkSpan) → us ≡ ws ++ (id, x) ∷ [] → goes_on_from (in_order us) span ≡ goes_on x.span span
+from_last : (us ws : List (ℕ × Piece)) (id : ℕ) (x : Piece) (span : ChunkSpan) → us ≡ ws ++ (id, x) ∷ [] → goes_on_from (in_order us) span ≡ goes_on x.span span
 from_last us ws id x span last =
     ap (λ ps. goes_on_from ps span) (ap in_order last ∙ in_order-append ws ((id, x) ∷ [])) ∙ goes_on_from-last (in_order ws) x span
 
--- the item before another, and what then stands behind it
-pub before_place : (items us ws : List (ℕ × Piece)) (id other : ℕ) (x y : Piece) (vs : List (ℕ × Piece)) → SplitsAt items id us x vs → us ≡ ws ++ (other, y) ∷ []
-    → SplitsAt items other ws y ((id, x) ∷ vs)
-before_place items us ws id other x y vs e last = e ∙ ap (λ l. l ++ (id, x) ∷ vs) last ∙ append_assoc ws ((other, y) ∷ []) ((id, x) ∷ vs)
+-- it does so as from the piece that was read right before an item
+pub from_before : (items us : List (ℕ × Piece)) (id before : ℕ) (x read : Piece) (vs : List (ℕ × Piece)) (r : Option ℕ) (span : ChunkSpan) → SplitsAt items id us x vs → r ≡ Some before → r ≡ last_or None us
+    → AtItem items before (λ ws y zs. read ≡ y) → EndsWith us (Some before) × (goes_on_from (in_order us) span ≡ goes_on read.span span)
+from_before items us id before x read vs r span e some is got =
+    let (ws, (y, last)) = last_there us before (sym some ∙ is) in
+    let same = got ws y ((id, x) ∷ vs) (before_place items us ws ((id, x) ∷ vs) before y e last) in
+    ((ws, (y, last)), from_last us ws before y span last ∙ ap (λ p. goes_on p.span span) (sym same))
 
 -- the piece before one from which a span goes on
 pub joint_ends : (us : List (ℕ × Piece)) (span : Option ChunkSpan) (name : Option ℕ) (id : ℕ) → name ≡ Some id → IsJoint us span name → (ws : List (ℕ × Piece)) × ((x : Piece) × (us ≡ ws ++ (id, x) ∷ []))
@@ -313,15 +316,20 @@ module _ (b : List (List ℕ)) (start end : ℕ) (span : Option ChunkSpan) (item
   first_fits = gathered_first cut.end is.earlier is.piece is.later middle run h
 
   module _ (new : List (ℕ × Piece)) (rest : Option Piece) (r : LeavesRest b cut.end is.earlier h.whole h.later new run rest) where
+    abbrev front_pieces : List Piece
+    front_pieces = followed_by b (listed cut.left) span
+
     abbrev before : List Piece
-    before = in_order is.earlier ++ followed_by b (listed cut.left) span
+    before = in_order is.earlier ++ front_pieces
 
     spliced_rest : before ++ (listed rest ++ in_order r.later) ≡ spliced b start end span (in_order items)
     spliced_rest =
         ap (λ ps. before ++ ps) (r.left ∙ sym (gathered_back cut.end is.earlier is.piece is.later middle run h b from_cut)) ∙ sym is.spliced
 
-    pub spliced_put : before ++ listed rest ++ in_order r.later ≡ spliced b start end span (in_order items)
-    spliced_put = append_assoc before (listed rest) (in_order r.later) ∙ spliced_rest
+    pub spliced_put : in_order is.earlier ++ joined b cut.left span rest ++ in_order r.later ≡ spliced b start end span (in_order items)
+    spliced_put =
+        ap (λ ps. ps ++ in_order r.later) (sym (append_assoc (in_order is.earlier) front_pieces (listed rest)))
+        ∙ append_assoc before (listed rest) (in_order r.later) ∙ spliced_rest
 
     -- in the place of the run they fit
     pub room_put : start ≤ units_in items → units_in is.earlier + (unit_count (listed cut.left) + unit_count (piece_list b span) + unit_count (listed rest)) + units_in r.later

@@ -1,7 +1,8 @@
 -- How the list of pieces lies in a tree.
-use Rattle.std.specs.Prelude.{ℕ, ◌≡◌, ◌+◌, ◌*◌, ◌<◌, ◌≤◌, ◌^◌, List, map}
+use Rattle.std.specs.Prelude.{ℕ, ◌≡◌, ◌+◌, ◌*◌, ◌<◌, ◌≤◌, ◌^◌, List, Option, Some, None, map}
 use Rattle.std.specs.List.{All}
-use Rattle.rb_arena.specs.RbTree.{SplitsAt}
+use Rattle.chunk_buffers.specs.declared.span.ChunkSpan.{ChunkSpan}
+use Rattle.rb_arena.specs.RbTree.{SplitsAt, AtItem}
 use Rattle.piece_tree.specs.declared.piece.Piece.{Piece}
 use Rattle.piece_tree.specs.declared.piece.PieceSum.{PieceSum}
 use Rattle.piece_tree.specs.declared.piece.Found.{Found}
@@ -28,6 +29,11 @@ pub record IsTree (pieces : List Piece) (whole : PieceSum) (free spare : ℕ) : 
   pub small : unit_count pieces < 2 ^ 62
   pub few : All few_breaks pieces
   pub room : 2 * spare ≤ free
+
+-- that name is told with the span of its piece, or nothing where there is none
+abbrev pub TellsSpan : List (ℕ × Piece) → Option ℕ → Option (ℕ × ChunkSpan) → Type 0
+TellsSpan items None told = told ≡ None
+TellsSpan items (Some id) told = AtItem items id (λ us x vs. told ≡ Some (id, x.span))
 
 -- the piece of that name has at least n units
 abbrev pub HasUnits : List (ℕ × Piece) → ℕ → ℕ → Type 0

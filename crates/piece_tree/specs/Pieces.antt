@@ -128,6 +128,11 @@ pub record IsAmong (entries : List Entry) (id : ℕ) : Type 0 where
   pub piece : Piece
   pub place : entries ≡ earlier ++ record { id = id; piece = piece } ∷ later
 
+-- where the entry of that name stands in the list, this holds of those before it and of those behind it
+abbrev pub AtEntry : List Entry → ℕ → (List Entry → List Entry → Type 0) → Type 0
+AtEntry entries id P =
+    (earlier later : List Entry) (piece : Piece) → entries ≡ earlier ++ record { id = id; piece = piece } ∷ later → P earlier later
+
 -- the name and the span of the first of these
 abbrev pub first_of : List Entry → Option (ℕ × ChunkSpan)
 first_of [] = None

@@ -6,8 +6,9 @@ use Rattle.chunk_buffers.specs.declared.span.ChunkSpan.{ChunkSpan}
 use Rattle.chunk_buffers.specs.Chunks.{LiesIn}
 use Rattle.rb_arena.specs.RbTree.{SplitsAt, EndsWith}
 use Rattle.piece_tree.specs.declared.piece.Piece.{Piece}
-use Rattle.piece_tree.specs.declared.edits.Cut.{Cut}
-use Rattle.piece_tree.specs.declared.edits.Run.{Run}
+use Rattle.piece_tree.specs.declared.piece.PieceSum.{PieceSum}
+use Rattle.piece_tree.specs.declared.cut.Cut.{Cut}
+use Rattle.piece_tree.specs.declared.run.Run.{Run}
 use Rattle.piece_tree.specs.Pieces.{unit_count, break_count_of, sum_of, piece_of, listed, IsPieceOf, goes_on_from, followed_by, back, spliced}
 use Rattle.piece_tree.specs.Inside.{in_order}
 
@@ -38,8 +39,17 @@ pub record IsCut (b : List (List ℕ)) (start end : ℕ) (span : Option ChunkSpa
   pub spliced : spliced b start end span (in_order items)
       ≡ in_order earlier ++ followed_by b (listed cut.left) span ++ back b cut.end (piece ∷ in_order later)
 
+-- the cut right behind a piece, where so many units go: all of the piece stays, and the sum is that of the pieces up to it
+abbrev pub cut_behind : ℕ → Piece → PieceSum → ℕ → Cut
+cut_behind id piece sum deleted = record {
+  id = id;
+  left = Some piece;
+  end = piece.span.units + deleted;
+  before = record { units = sum.units - piece.span.units; breaks = sum.breaks - piece.breaks };
+}
+
 -- the piece x and the one right behind it are now one under the run's name
-pub record HasTaken (us : List (ℕ × Piece)) (x : Piece) (vs : List (ℕ × Piece)) (new : List (ℕ × Piece)) (run : Run) : Type 0 where
+pub record HasTaken (us : List (ℕ × Piece)) (x : Piece) (vs new : List (ℕ × Piece)) (run : Run) : Type 0 where
   pub next : ℕ × Piece
   pub later : List (ℕ × Piece)
   pub whole : Piece
@@ -54,7 +64,7 @@ TakesNone x [] = Unit {0}
 TakesNone x (next ∷ vs) = 2 ^ 32 ≤ x.span.units + next.1.span.units
 
 -- the piece x and some behind it are now one under the run's name, and those of them before the final one have at most so many units
-pub record Gathers (end : ℕ) (us : List (ℕ × Piece)) (x : Piece) (vs : List (ℕ × Piece)) (new : List (ℕ × Piece)) (run : Run) : Type 0 where
+pub record Gathers (end : ℕ) (us : List (ℕ × Piece)) (x : Piece) (vs new : List (ℕ × Piece)) (run : Run) : Type 0 where
   pub merged : List (ℕ × Piece)
   pub later : List (ℕ × Piece)
   pub whole : Piece
@@ -80,17 +90,26 @@ pub record IsRun (b : List (List ℕ)) (end : ℕ) (items : List (ℕ × Piece))
   pub pieces : All (IsPieceOf b) (in_order later)
 
 -- the item x stands where it stood, and behind it what is left of the pieces there without the first n units
-pub record LosesBehind (b : List (List ℕ)) (n : ℕ) (id : ℕ) (us : List (ℕ × Piece)) (x : Piece) (vs : List (ℕ × Piece)) (new : List (ℕ × Piece)) : Type 0 where
+pub record LosesBehind (b : List (List ℕ)) (n id : ℕ) (us : List (ℕ × Piece)) (x : Piece) (vs new : List (ℕ × Piece)) : Type 0 where
   pub later : List (ℕ × Piece)
   pub place : SplitsAt new id us x later
   pub left : in_order later ≡ back b n (in_order vs)
 
 -- the run stands where it stood, and its rest and the pieces behind it are what is left of its last part and of those that stood there
-pub record LeavesRest (b : List (List ℕ)) (end : ℕ) (us : List (ℕ × Piece)) (x : Piece) (vs : List (ℕ × Piece)) (new : List (ℕ × Piece)) (run : Run) (rest : Option Piece) : Type 0 where
+pub record LeavesRest (b : List (List ℕ)) (end : ℕ) (us : List (ℕ × Piece)) (x : Piece) (vs new : List (ℕ × Piece))
+    (run : Run) (rest : Option Piece) : Type 0 where
   pub later : List (ℕ × Piece)
   pub place : SplitsAt new run.id us x later
   pub left : listed rest ++ in_order later
       ≡ back b (end + run.last.units - x.span.units) (piece_of b run.last ∷ in_order vs)
+
+-- what stays of the pieces on both sides and a span between them, which prolongs the left one where it goes on from it
+abbrev pub joined : List (List ℕ) → Option Piece → Option ChunkSpan → Option Piece → List Piece
+joined b left span right = followed_by b (listed left) span ++ listed right
+
+-- these pieces stand between those of the items before and those of the items behind
+abbrev pub HasBetween : List (ℕ × Piece) → List Piece → List (ℕ × Piece) → List (ℕ × Piece) → Type 0
+HasBetween us pieces vs new = in_order new ≡ in_order us ++ pieces ++ in_order vs
 
 -- these items stand at the front, each under its name
 abbrev pub KeepsFront : List (ℕ × Piece) → List (ℕ × Piece) → Type 0

@@ -1,8 +1,11 @@
 //! A text as a tree of pieces of buffers.
 #![tactic(auto)]
 
+mod cut;
 mod edits;
 mod piece;
+mod put;
+mod run;
 mod tree;
 mod weave;
 

@@ -1,9 +1,11 @@
 //! The tree of pieces, with look-ups by units and by breaks.
 
-ghost use Rattle.std.specs.Prelude.{◌≡◌, ℕ, ◌+◌, ◌-◌, ◌*◌, ◌<◌, ◌≤◌, ◌^◌, ◌++◌, ◌∷◌, List, [], length, map, Option, None, MatchOption, IfSome, OnOk, OnErr};
+ghost use Rattle.std.specs.Prelude.{◌≡◌, ◌+◌, ◌-◌, ◌<◌, ◌≤◌, ◌^◌, ◌++◌, [], length, map, None, MatchOption, IfSome, OnOk, OnErr};
 ghost use Rattle.std.specs.List.{All};
 ghost use Rattle.std.specs.Option.{ForSome, ForNone};
-ghost use Rattle.piece_tree.specs.Pieces.{pieces_of, unit_count, break_count_of, listed, span_of, IsPieceOf, spliced, IsFound, AreNeighbours, IsAmong, StandsAt, Entry, first_of, last_of};
+ghost use Rattle.rb_arena.specs.RbTree.{IsItem};
+ghost use Rattle.piece_tree.specs.Inside.{TellsSpan};
+ghost use Rattle.piece_tree.specs.Pieces.{pieces_of, unit_count, break_count_of, listed, span_of, IsPieceOf, spliced, IsFound, AreNeighbours, IsAmong, AtEntry, StandsAt, first_of, last_of};
 ghost use Rattle.piece_tree.specs.Costs.{WithinLookUps};
 
 use crate::edits::replace_units;
@@ -38,6 +40,15 @@ impl Model for PieceTree {
     ghost view = { λ t. record { entries = entries_of t.tree.items; spare = t.spare } };
 
     ghost invariant = { λ t. IsTree (in_order t.tree.items) t.whole t.tree.spare t.spare };
+}
+
+/// A name, if there is one, with the span of its piece.
+fn with_span(tree: &RbTree<PieceWeave>, id: Option<PieceId>) -> Option<(PieceId, ChunkSpan)>
+    requires { ForSome id (IsItem tree.now.items) }
+    ensures { TellsSpan tree.now.items id result }
+{
+    let id = id?;
+    Some((id, tree.get(id).span))
 }
 
 impl PieceTree {
@@ -120,31 +131,24 @@ impl PieceTree {
     /// The piece after the one of this name.
     pub fn next(&self, id: PieceId) -> Option<(PieceId, ChunkSpan)>
         requires { IsAmong self.now.entries id }
-        ensures { (earlier later : List Entry) (piece : Piece)
-            → self.now.entries ≡ earlier ++ record { id = id; piece = piece } ∷ later
-            → result ≡ first_of later }
+        ensures { AtEntry self.now.entries id (λ earlier later. result ≡ first_of later) }
     {
-        let next = self.tree.next(id)?;
-        Some((next, self.tree.get(next).span))
+        with_span(&self.tree, self.tree.next(id))
     }
 
     /// The last piece; None where there is none.
     pub fn last(&self) -> Option<(PieceId, ChunkSpan)>
         ensures { result ≡ last_of self.now.entries }
     {
-        let last = self.tree.last()?;
-        Some((last, self.tree.get(last).span))
+        with_span(&self.tree, self.tree.last())
     }
 
     /// The piece before the one of this name.
     pub fn prev(&self, id: PieceId) -> Option<(PieceId, ChunkSpan)>
         requires { IsAmong self.now.entries id }
-        ensures { (earlier later : List Entry) (piece : Piece)
-            → self.now.entries ≡ earlier ++ record { id = id; piece = piece } ∷ later
-            → result ≡ last_of earlier }
+        ensures { AtEntry self.now.entries id (λ earlier later. result ≡ last_of earlier) }
     {
-        let prev = self.tree.prev(id)?;
-        Some((prev, self.tree.get(prev).span))
+        with_span(&self.tree, self.tree.prev(id))
     }
 
     /// The piece after a looked-up one, as a look-up tells it. It makes no search.

@@ -14,7 +14,8 @@ module _ {X : Type 0} where
   nodes live spare = record { live = live; spare = spare }
 
   abbrev pub nodes_code : Coded X → Coded (Nodes X)
-  nodes_code c = code_by (map.FinMap nat_cmp X × ℕ) (coded× (map.code coded_ℕ c) coded_ℕ) (λ a. (a.live, a.spare)) (λ p. nodes p.0 p.1) (λ _. refl)
+  nodes_code c =
+      code_by (map.FinMap nat_cmp X × ℕ) (coded× (map.code coded_ℕ c) coded_ℕ) (λ a. (a.live, a.spare)) (λ p. nodes p.0 p.1) (λ _. refl)
 
   -- the value of that name, if it is live
   abbrev pub node : Nodes X → ℕ → Option X

@@ -35,7 +35,7 @@ use Rattle.rb_arena.specs.Placing.{StartsAt, above_place, IsThere}
 use Rattle.rb_arena.specs.Relative.{LawsOf}
 use Rattle.rb_arena.specs.RbTree.{first_hole, with_item}
 use Rattle.rb_arena.proofs.Growing.{depth_height, first-plug, first-lefts, first-rights}
-use Rattle.rb_arena.proofs.Leaving.{Spotted, spotted, childless_spot, valued_without, fit_leaf, none_of, stored_there, leaf_lives}
+use Rattle.rb_arena.proofs.Leaving.{Spotted, spotted, childless_spot, valued_without, fit_leaf, none_of, stored_there, leaf_stays}
 use Rattle.rb_arena.proofs.Locating.{cut, after_list, lying}
 use Rattle.rb_arena.proofs.Paths.{above-place}
 
@@ -470,6 +470,6 @@ module _ {W X S B K : Type 0} (w : Ghosts W X S B K) (old : Links (Data X S B)) 
               rw (m_same, root_same) (gap_unlinked q mid.nodes.live mid.root at (there l reach beside us x y vs st) e1 er own (own_is l reach beside us x y vs st) new.nodes.live new.root (made_new l reach beside us x y vs st)
               st gap at_gap red red_is)
 
-pub ruleset cutting = (heir_place, upper_there, leaf_lives)
+pub ruleset cutting = (heir_place, upper_there, leaf_stays)
 
 pub ruleset inheriting = (heir_valued, upper_woven, heir_value, heir_lives, heir_hangs, heir_inherits)

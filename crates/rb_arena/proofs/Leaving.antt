@@ -10,7 +10,7 @@ use Rattle.rb_rules.specs.declared.slot.Data.{Data}
 use Rattle.rb_rules.specs.declared.slot.Side.{Side}
 use Rattle.rb_rules.specs.declared.slot.Side.TheVariants.{Left, Right}
 use Rattle.rb_rules.specs.declared.slot.Slot.{Slot}
-use Rattle.rb_rules.specs.Tree.{Tree, tip, fork, Hole, top, on, other, forked, plug, root_of, above, depth, height}
+use Rattle.rb_rules.specs.Tree.{Tree, tip, fork, Hole, top, on, other, forked, plug, root_of, above, depth, height, count}
 use Rattle.rb_rules.specs.Colours.{Rb, Fits, Balanced}
 use Rattle.rb_rules.specs.Memory.{Made, Spot, here, below, child, turned, AtSpot, place_of, hung, root_hung}
 use Rattle.rb_rules.specs.Shape.{each}
@@ -27,7 +27,7 @@ use Rattle.rb_rules.proofs.Spots.{upper_is, at_place}
 use Rattle.rb_rules.proofs.Unshaping as U
 use Rattle.rb_rules.proofs.Weaves.{sum-append, woven_at, near_of, entries-plug}
 use Rattle.rb_arena.specs.Closing.{Closing}
-use Rattle.rb_arena.specs.Leaving.{leaf_height, Emptied, Unlinked, Unlinks, NoChild, OneChild, StillLists, Stores, StoresItem}
+use Rattle.rb_arena.specs.Leaving.{LeafHangsNoMore, leaf_height, Emptied, Unlinked, Unlinks, NoChild, OneChild, StillLists, Stores, StoresItem}
 use Rattle.rb_arena.specs.Nodes.{Lives, LivesAt}
 use Rattle.rb_arena.specs.Placing.{IsThere}
 use Rattle.rb_arena.specs.Relative.{CanTurnNode, Turns}
@@ -155,27 +155,23 @@ module _ {X S B : Type 0} (w : Weaving X S B) (L : Lawful w) (is_near : B → Ty
           })
 
   -- a leaf goes from a red-black tree
-  module _ (beside : Tree (Data X S B)) (m : map.FinMap nat_cmp (Slot (Data X S B))) (root : Option ℕ) (k : Hole (Data X S B)) (c : Bool) (id : ℕ) (d : Data X S B)
-      (made : Made beside m root (plug k (fork c id d tip tip))) (wv : Woven w is_near w.still (plug k (fork c id d tip tip))) (bal : Balanced (plug k (fork c id d tip tip)))
+  module _ (k : Hole (Data X S B)) (c : Bool) (id : ℕ) (d : Data X S B) (wv : Woven w is_near w.still (plug k (fork c id d tip tip))) (bal : Balanced (plug k (fork c id d tip tip)))
       (v : Valued w is_item is_value (lefts w k ++ rights w k)) (le : depth k ≤ 128) where
     leaf_fits : Fits c (leaf_height c) k
     leaf_fits = let (n, (b, r, f)) = C.unplugged k (fork c id d tip tip) bal in fit_leaf c b n id d k r f
 
-    left_empty : Emptied w is_near is_item is_value beside (hung m (place_of k) None) (root_hung root (place_of k) None) (place_of k) c k
-    left_empty =
+    left_empty : (beside : Tree (Data X S B)) (m : map.FinMap nat_cmp (Slot (Data X S B))) (root : Option ℕ) (at : Option (ℕ × Side)) → at ≡ place_of k → Made beside m root (plug k tip)
+        → Emptied w is_near is_item is_value beside m root at c k
+    left_empty beside m root at place made =
         let leaf = fork c id d tip tip in (
-          refl,
-          spliced m root k Left c id d tip made,
+          place,
+          made,
           near_of w L is_near (shift_at w k) leaf (woven_at w L is_near k leaf wv),
           slack_of w L is_near is_item is_sum is_value sums parts k leaf wv,
           v,
           le,
           leaf_fits,
         )
-
-    pub left_unlinked : (es : List (ℕ × X)) → lefts w k ++ rights w k ≡ es
-        → Unlinked w is_near is_item is_value beside (hung m (place_of k) None) (root_hung root (place_of k) None) (place_of k) c id es
-    left_unlinked es e = (k, e, left_empty, gone m root k Left c id d tip made)
 
   -- a node with no child, by its item's place in the list
   module _ (beside : Tree (Data X S B)) (m : map.FinMap nat_cmp (Slot (Data X S B))) (root : Option ℕ) (id : ℕ) (us : List (ℕ × X)) (x : X) (vs : List (ℕ × X)) where
@@ -213,25 +209,23 @@ module _ {X S B : Type 0} (w : Weaving X S B) (L : Lawful w) (is_near : B → Ty
     childless_spot s made (n, found, none, none2) =
         let up = upper_is m root (lying beside s) id made Left n found in (no_root s.left (sym (ap (λ o. o.left) up) ∙ none), no_root s.right (sym (ap (λ o. o.right) up) ∙ none2))
 
-    pub leaf_gone : NoChild m id → Stores w is_near is_item is_value beside m root (us ++ (id, x) ∷ vs) → (n : Slot (Data X S B)) → map.get m id ≡ Some n
-        → (at copy : Option (ℕ × Side)) → AtSpot m root id (λ s. at ≡ place_of s.hole) → copy ≡ at
-        → (m1 : map.FinMap nat_cmp (Slot (Data X S B))) (root1 : Option ℕ) → m1 ≡ hung m copy None → root1 ≡ root_hung root copy None
-        → Unlinked w is_near is_item is_value beside m1 root1 at n.red id (us ++ vs)
-    leaf_gone nc st n found at copy there same m1 root1 e1 er =
+    pub leaf_gone : NoChild m id → Stores w is_near is_item is_value beside m root (us ++ (id, x) ∷ vs)
+        → (at : Option (ℕ × Side)) (red : Bool) (m1 : map.FinMap nat_cmp (Slot (Data X S B))) (root1 : Option ℕ)
+        → ((k : Hole (Data X S B)) (c : Bool) (d : Data X S B) → Made beside m root (plug k (fork c id d tip tip))
+        → (at ≡ place_of k) × (red ≡ c) × Made beside m1 root1 (plug k tip) × (count id (plug k tip) + count id beside ≡ 0))
+        → Unlinked w is_near is_item is_value beside m1 root1 at red id (us ++ vs)
+    leaf_gone nc st at red m1 root1 cut =
         let at_ = spotted st in let s = at_.spot in let low = at_.low in let (tl, tr) = childless_spot s at_.made nc in
         let leaf : here s id ≡ fork s.red id s.datum tip tip = λ i. fork s.red id s.datum (tl i) (tr i) in
-        let place = there (lying beside s) at_.made in let k = s.hole in
+        let k = s.hole in
         let us_is : us ≡ lefts w k = at_.before ∙ ap (λ q. lefts w k ++ entries w (shift_at w k) q) tl ∙ append-nil (lefts w k) in
         let vs_is : vs ≡ rights w k = at_.after ∙ ap (λ q. entries w (w.plus (shift_at w k) s.datum.delta) q ++ rights w k) tr in
         let list : lefts w k ++ rights w k ≡ us ++ vs = λ i. sym us_is i ++ sym vs_is i in
         let v = subst (Valued w is_item is_value) (sym list) (valued_without us (id, x) vs st.1) in
-        let unlinked = left_unlinked beside m root k s.red id s.datum (subst (λ t. Made beside m root (plug k t)) leaf at_.made) (subst (λ t. Woven w is_near w.still (plug k t)) leaf at_.woven)
-        (subst (λ t. Balanced (plug k t)) leaf at_.balanced) v (omega (arith, low)) (us ++ vs) list in
-        let red : s.red ≡ n.red = ap (λ o. o.red) (sym (upper_is m root (lying beside s) id at_.made Left n found)) in
-        let mem : m1 ≡ hung m (place_of k) None = e1 ∙ ap (λ o. hung m o None) (same ∙ place) in
-        let top_ : root1 ≡ root_hung root (place_of k) None = er ∙ ap (λ o. root_hung root o None) (same ∙ place) in
-        subst {A = map.FinMap nat_cmp (Slot (Data X S B)) × Option ℕ × Option (ℕ × Side) × Bool} (λ q. Unlinked w is_near is_item is_value beside q.0 q.1 q.2 q.3 id (us ++ vs))
-        (λ i. (sym mem i, sym top_ i, sym place i, red i)) unlinked
+        let (place, colour, made, apart) = cut k s.red s.datum (subst (λ t. Made beside m root (plug k t)) leaf at_.made) in
+        let empty = left_empty k s.red id s.datum (subst (λ t. Woven w is_near w.still (plug k t)) leaf at_.woven) (subst (λ t. Balanced (plug k t)) leaf at_.balanced) v (omega (arith, low))
+        beside m1 root1 at place made in
+        (k, list, subst (λ c. Emptied w is_near is_item is_value beside m1 root1 at c k) (sym colour) empty, apart)
 
     -- a turn towards its one child's side makes a leaf of a node
     module _ (at : Spotted) (side : Side) (j : ℕ) (is : root_of (below side at.spot) ≡ Some j) where
@@ -355,23 +349,28 @@ stored_there w tree id (l, (reach, (beside, (us, (x, (vs, st)))))) =
     let found = spotted w.weaving l.laws (w.within reach) w.is_item w.is_sum w.is_value l.sums l.parts l.thins beside m root id us x vs st in
     (lying beside found.spot, found.made)
 
--- the node above its place is live
-pub lives_above : {W X S B K : Type 0} (w : Ghosts W X S B K) (tree : Links (Data X S B)) (id : ℕ) (at : Option (ℕ × Side)) → StoresItem w tree id → AtSpot tree.nodes.live tree.root id (λ s. at ≡ place_of s.hole) → LivesAt tree.nodes at
-unfolding IsThere LivesAt
-lives_above w tree id at stored placed = let (s, made) = stored_there w tree id stored in rw (placed s made) (at_place tree.nodes.live tree.root s id made)
-
 -- a leaf hangs there no more
-pub leaf_unlinks : {W X S B K : Type 0} (w : Ghosts W X S B K) (old new : Links (Data X S B)) (id : ℕ) (at : Option (ℕ × Side)) (slot : Slot (Data X S B)) (red : Bool) → StoresItem w old id → NoChild old.nodes.live id
-    → map.get old.nodes.live id ≡ Some slot → red ≡ slot.red → AtSpot old.nodes.live old.root id (λ s. at ≡ place_of s.hole) → new.nodes.live ≡ hung old.nodes.live at None → new.root ≡ root_hung old.root at None
-    → Unlinks w old new id at red
-unfolding StoresItem Unlinks
-leaf_unlinks w old new id at slot red (l, some) none found is placed live_ top_ = λ reach beside us x vs st.
-    rw is (leaf_gone w.weaving l.laws (w.within reach) w.is_item w.is_sum w.is_value l.sums l.parts l.thins beside old.nodes.live old.root id us x vs none st slot found
-    at at placed refl new.nodes.live new.root live_ top_)
+module _ {D : Type 0} where
+  pub place_stands : (tree : Links D) (id : ℕ) (at : Option (ℕ × Side)) → IsThere tree id → AtSpot tree.nodes.live tree.root id (λ s. at ≡ place_of s.hole) → LivesAt tree.nodes at
+  unfolding IsThere LivesAt
+  place_stands tree id at (s, made) placed = rw (placed s made) (at_place tree.nodes.live tree.root s id made)
 
--- and its node is still live
-pub leaf_lives : {X S B : Type 0} (old new : Links (Data X S B)) (id : ℕ) (at : Option (ℕ × Side)) → NoChild old.nodes.live id → new.nodes.live ≡ hung old.nodes.live at None → Lives new.nodes id
-unfolding NoChild Lives
-leaf_lives old new id at (n, found, none, none2) live_ = rw live_ (live_hung old.nodes.live at None id (n, found))
+  pub leaf_cut : (old new : Links D) (id : ℕ) (at : Option (ℕ × Side)) (slot : Slot D) (red : Bool) → map.get old.nodes.live id ≡ Some slot → red ≡ slot.red
+      → AtSpot old.nodes.live old.root id (λ s. at ≡ place_of s.hole) → new.nodes.live ≡ hung old.nodes.live at None → new.root ≡ root_hung old.root at None → LeafHangsNoMore old new id at red
+  unfolding LeafHangsNoMore
+  leaf_cut old new id at slot red read is placed e1 er = λ beside k c d made.
+      let s : Spot D = record { beside = beside; hole = k; red = c; datum = d; left = tip; right = tip } in
+      let place = placed s made in let colour = is ∙ ap (λ n. n.red) (upper_is old.nodes.live old.root s id made Left slot read) in
+      (place, colour, rw (e1, er, place) (spliced old.nodes.live old.root k Left c id d tip made), gone old.nodes.live old.root k Left c id d tip made)
 
-pub ruleset leaf_out = (leaf_unlinks, leaf_lives)
+  pub leaf_stays : (old new : Links D) (id : ℕ) (at : Option (ℕ × Side)) → NoChild old.nodes.live id → new.nodes.live ≡ hung old.nodes.live at None → Lives new.nodes id
+  unfolding NoChild Lives
+  leaf_stays old new id at (n, found, none, none2) live_ = rw live_ (live_hung old.nodes.live at None id (n, found))
+
+pub ruleset cutting_leaf = (place_stands, leaf_cut, leaf_stays)
+
+pub leaf_unlinks : {W X S B K : Type 0} (w : Ghosts W X S B K) (old new : Links (Data X S B)) (id : ℕ) (at : Option (ℕ × Side)) (red : Bool) → StoresItem w old id → NoChild old.nodes.live id
+    → LeafHangsNoMore old new id at red → Unlinks w old new id at red
+unfolding StoresItem Unlinks LeafHangsNoMore
+leaf_unlinks w old new id at red (l, some) none cut = λ reach beside us x vs st.
+    leaf_gone w.weaving l.laws (w.within reach) w.is_item w.is_sum w.is_value l.sums l.parts l.thins beside old.nodes.live old.root id us x vs none st at red new.nodes.live new.root (cut beside)

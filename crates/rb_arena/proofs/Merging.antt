@@ -10,23 +10,23 @@ use Rattle.rb_rules.specs.declared.slot.Slot.{Slot}
 use Rattle.rb_rules.specs.declared.weave.Weave.{Ghosts}
 use Rattle.rb_rules.specs.Tree.{Tree, tip, fork, Hole, plug, count_round, depth, height}
 use Rattle.rb_rules.specs.Colours.{Balanced}
-use Rattle.rb_rules.specs.Memory.{Made, Spot, here, AtSpot, place_of, hung, root_hung}
+use Rattle.rb_rules.specs.Memory.{Made, Spot, here}
 use Rattle.rb_rules.specs.Weaving.{Weaving}
 use Rattle.rb_rules.specs.Woven.{entries, sum_of, Woven, AllItems, Valued, lefts, rights, shift_at}
 use Rattle.rb_rules.proofs.Climbs.{slack_of}
 use Rattle.rb_rules.proofs.Colouring as C
-use Rattle.rb_rules.proofs.Detaching.{spliced, gone, forgotten}
+use Rattle.rb_rules.proofs.Detaching.{forgotten}
 use Rattle.rb_rules.proofs.Holes.{count-plug}
-use Rattle.rb_rules.proofs.Live.{slot_here, live_hung}
-use Rattle.rb_rules.proofs.Spots.{upper_is, at_place}
+use Rattle.rb_rules.proofs.Live.{slot_here}
+use Rattle.rb_rules.proofs.Spots.{upper_is}
 use Rattle.rb_rules.proofs.Weaves.{woven_at, near_of, entries-plug, sum-append}
 use Rattle.rb_rules.proofs.Wider.{woven_wider}
 use Rattle.rb_arena.specs.declared.links.Links.{Links}
 use Rattle.rb_arena.specs.Closing.{IsClosing, ClosesFrom}
 use Rattle.rb_arena.specs.Ends.{IsEnd, IsAboveOn, StandsLow}
-use Rattle.rb_arena.specs.Leaving.{leaf_height, NoChild, StoresBeside, StoresItem, StillLists, IsKept, StandsWoven, WovenSpot}
-use Rattle.rb_arena.specs.Merging.{fore, aft, LeafHangsNoMore, LeafGoes, EmptiedBelow, IsEmptiedBelow, SettlesBelow, CanMergeInto, MergesInto, CanMerge, Merges}
-use Rattle.rb_arena.specs.Nodes.{Lives, LivesAt, Rewritten}
+use Rattle.rb_arena.specs.Leaving.{LeafHangsNoMore, leaf_height, NoChild, StoresBeside, StoresItem, StillLists, IsKept, StandsWoven, WovenSpot}
+use Rattle.rb_arena.specs.Merging.{fore, aft, LeafGoes, EmptiedBelow, IsEmptiedBelow, SettlesBelow, CanMergeInto, MergesInto, CanMerge, Merges}
+use Rattle.rb_arena.specs.Nodes.{Rewritten}
 use Rattle.rb_arena.specs.Placing.{IsThere, above_place}
 use Rattle.rb_arena.specs.Relative.{LawsOf}
 use Rattle.rb_arena.specs.Rising.{MendedBeside}
@@ -43,29 +43,11 @@ use Rattle.rb_arena.proofs.TakingOut.{len_taken}
 
 -- a leaf goes
 module _ {D : Type 0} where
-  pub place_stands : (tree : Links D) (id : ℕ) (at : Option (ℕ × Side)) → IsThere tree id → AtSpot tree.nodes.live tree.root id (λ s. at ≡ place_of s.hole) → LivesAt tree.nodes at
-  unfolding IsThere LivesAt
-  place_stands tree id at (s, made) placed = rw (placed s made) (at_place tree.nodes.live tree.root s id made)
-
-  pub leaf_cut : (old new : Links D) (id : ℕ) (at : Option (ℕ × Side)) (slot : Slot D) (red : Bool) → map.get old.nodes.live id ≡ Some slot → red ≡ slot.red
-      → AtSpot old.nodes.live old.root id (λ s. at ≡ place_of s.hole) → new.nodes.live ≡ hung old.nodes.live at None → new.root ≡ root_hung old.root at None → LeafHangsNoMore old new id at red
-  unfolding LeafHangsNoMore
-  leaf_cut old new id at slot red read is placed e1 er = λ beside k c d made.
-      let s : Spot D = record { beside = beside; hole = k; red = c; datum = d; left = tip; right = tip } in
-      let place = placed s made in let colour = is ∙ ap (λ n. n.red) (upper_is old.nodes.live old.root s id made Left slot read) in
-      (place, colour, rw (e1, er, place) (spliced old.nodes.live old.root k Left c id d tip made), gone old.nodes.live old.root k Left c id d tip made)
-
-  pub leaf_stays : (old new : Links D) (id : ℕ) (at : Option (ℕ × Side)) → NoChild old.nodes.live id → new.nodes.live ≡ hung old.nodes.live at None → Lives new.nodes id
-  unfolding NoChild Lives
-  leaf_stays old new id at (n, found, none, none2) live_ = rw live_ (live_hung old.nodes.live at None id (n, found))
-
   pub leaf_goes : (old mid new : Links D) (id : ℕ) (at : Option (ℕ × Side)) (red : Bool) → LeafHangsNoMore old mid id at red → new.nodes.live ≡ map.remove mid.nodes.live id → new.root ≡ mid.root
       → LeafGoes old new id at red
   unfolding LeafHangsNoMore LeafGoes
   leaf_goes old mid new id at red cut e er = λ beside k c d made.
       let (place, colour, left, apart) = cut beside k c d made in (place, colour, rw (e, er) (forgotten mid.nodes.live id mid.root (plug k tip) apart left))
-
-pub ruleset cutting_leaf = (place_stands, leaf_cut, leaf_stays)
 
 pub ruleset taking_leaf = (leaf_goes, len_taken)
 

@@ -55,4 +55,5 @@ module _ {D : Type 0} (tree : Links D) where
   unfoldable pub NearsAbove : ℕ → Side → Option (ℕ × Side) → ℕ → Type 0
   NearsAbove id side at n =
       (s : Spot D) → LowAt id s
-      → (k : Hole D) × ((t : Tree D) × (at ≡ place_of k) × Made s.beside tree.nodes.live tree.root (plug k t) × (up_on side k ≡ up_on side s.hole) × (depth k ≤ n))
+      → (k : Hole D) × ((t : Tree D) × (at ≡ place_of k) × Made s.beside tree.nodes.live tree.root (plug k t)
+      × (up_on side k ≡ up_on side s.hole) × (depth k ≤ n))

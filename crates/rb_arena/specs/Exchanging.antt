@@ -27,7 +27,8 @@ exchanged_data Right d part whole = record d { whole = whole }
 abbrev pub change_at : {X S B : Type 0} → Slot (Data X S B) → ℕ → S → Change S
 change_at slot id sum = record { above = slot.parent; id = id; kept = slot.«data».whole; sum = sum }
 
-module _ {X S B : Type 0} (w : Weaving X S B) (is_near : B → Type 0) (is_item : X → Type 0) (is_value : S → Type 0) (beside : Tree (Data X S B)) (m : map.FinMap nat_cmp (Slot (Data X S B))) (root : Option ℕ) where
+module _ {X S B : Type 0} (w : Weaving X S B) (is_near : B → Type 0) (is_item : X → Type 0) (is_value : S → Type 0)
+    (beside : Tree (Data X S B)) (m : map.FinMap nat_cmp (Slot (Data X S B))) (root : Option ℕ) where
   -- The tree lies in the memory, right but for the nodes above one whose sum has changed; no more than n of these. Round that node
   -- all is right for the sum that it kept.
   pub record Changed (change : Change S) (n : ℕ) (whole : Tree (Data X S B)) : Type 0 where
@@ -46,7 +47,8 @@ module _ {X S B : Type 0} (w : Weaving X S B) (is_near : B → Type 0) (is_item 
 module _ {W X S B K : Type 0} (w : Ghosts W X S B K) where
   -- where there is only one shift, the changed sum may be exchanged in the data of the node above
   unfoldable pub CanExchangeStill : Data X S B → Change S → Type 0
-  CanExchangeStill datum below = (only : B) → ((by : B) → by ≡ only) → CanExchange w.weaving w.is_near w.is_sum w.is_value datum.whole below.kept below.sum
+  CanExchangeStill datum below =
+      (only : B) → ((by : B) → by ≡ only) → CanExchange w.weaving w.is_near w.is_sum w.is_value datum.whole below.kept below.sum
 
   -- there is only one shift, and that is the sum of the node above then
   unfoldable pub ExchangesStill : Data X S B → Change S → S → Type 0
@@ -59,7 +61,8 @@ module _ {W X S B K : Type 0} (w : Ghosts W X S B K) where
 
   -- some tree is changed so
   unfoldable pub IsChanged : Links (Data X S B) → Change S → Type 0
-  IsChanged tree change = LawsOf w × ((reach : B) × ((beside : Tree (Data X S B)) × ((t : Tree (Data X S B)) × ChangedIn tree change 128 reach beside t)))
+  IsChanged tree change =
+      LawsOf w × ((reach : B) × ((beside : Tree (Data X S B)) × ((t : Tree (Data X S B)) × ChangedIn tree change 128 reach beside t)))
 
   -- some tree is changed so, and the node of that name stands above the changed one
   unfoldable pub CanPass : Links (Data X S B) → Change S → ℕ → Type 0
@@ -84,7 +87,8 @@ module _ {W X S B K : Type 0} (w : Ghosts W X S B K) where
   unfoldable pub PassesUp : Links (Data X S B) → Links (Data X S B) → Change S → Option ℕ → Type 0
   PassesUp old new from next =
       (reach : B) (beside t : Tree (Data X S B)) → ChangedIn old from 128 reach beside t
-      → (u : Tree (Data X S B)) × IsSlack w.weaving (w.within reach) w.is_item w.is_value beside new.nodes.live new.root next 128 u × (shape u ≡ shape t)
+      → (u : Tree (Data X S B)) × IsSlack w.weaving (w.within reach) w.is_item w.is_value beside new.nodes.live new.root next 128 u
+      × (shape u ≡ shape t)
 
   -- the tree is right, or but for the nodes above one whose sum has changed
   abbrev pub RightBut : Links (Data X S B) → Option (Change S) → B → Tree (Data X S B) → Tree (Data X S B) → Type 0

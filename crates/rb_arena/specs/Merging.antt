@@ -1,10 +1,10 @@
 -- Two nodes of a tree in memory that stand side by side and become one.
-use Rattle.std.specs.Prelude.{◌≡◌, ℕ, ◌+◌, Bool, List, [], ◌∷◌, ◌++◌, Option}
+use Rattle.std.specs.Prelude.{◌≡◌, ℕ, Bool, List, [], ◌∷◌, ◌++◌, Option}
 use Rattle.rb_rules.specs.declared.slot.Data.{Data}
 use Rattle.rb_rules.specs.declared.slot.Side.{Side}
 use Rattle.rb_rules.specs.declared.slot.Side.TheVariants.{Left, Right}
 use Rattle.rb_rules.specs.declared.weave.Weave.{Ghosts}
-use Rattle.rb_rules.specs.Tree.{Tree, tip, fork, Hole, plug, count}
+use Rattle.rb_rules.specs.Tree.{Tree, tip, fork, Hole, plug}
 use Rattle.rb_rules.specs.Memory.{Made, place_of}
 use Rattle.rb_rules.specs.Woven.{sum_of, lefts, rights}
 use Rattle.rb_arena.specs.declared.links.Links.{Links}
@@ -24,13 +24,7 @@ module _ {X : Type 0} where
   aft Right e vs = vs
 
 module _ {D : Type 0} (old new : Links D) (id : ℕ) (at : Option (ℕ × Side)) (red : Bool) where
-  -- wherever the node was a leaf, that is its place and its colour, and it is in neither tree any more
-  unfoldable pub LeafHangsNoMore : Type 0
-  LeafHangsNoMore =
-      (beside : Tree D) (k : Hole D) (c : Bool) (d : D) → Made beside old.nodes.live old.root (plug k (fork c id d tip tip))
-      → (at ≡ place_of k) × (red ≡ c) × Made beside new.nodes.live new.root (plug k tip) × (count id (plug k tip) + count id beside ≡ 0)
-
-  -- the same, and it may be gone from the memory
+  -- wherever the node was a leaf, that is its place and its colour, it is in neither tree any more, and it may be gone from the memory
   unfoldable pub LeafGoes : Type 0
   LeafGoes =
       (beside : Tree D) (k : Hole D) (c : Bool) (d : D) → Made beside old.nodes.live old.root (plug k (fork c id d tip tip))

@@ -1,5 +1,5 @@
 -- What becomes of the nodes of a tree, whatever data they have.
-use Rattle.std.specs.Prelude.{◌≡◌, ℕ, ◌+◌, Bool, false, Option, Some, None, IfSome, IsSome}
+use Rattle.std.specs.Prelude.{◌≡◌, ℕ, ◌+◌, ◌<◌, ◌^◌, Bool, false, Option, Some, None, IfSome, IsSome}
 use Rattle.std.specs.Ordering.{nat_cmp}
 use Rattle.std.specs.FinMap as map
 use Rattle.raw_arena.specs.Arena.{Nodes, node, IsLive}
@@ -30,6 +30,22 @@ module _ {D : Type 0} where
   -- each node that was live still is
   unfoldable pub KeepLive : Nodes (Slot D) → Nodes (Slot D) → Type 0
   KeepLive old new = (id : ℕ) → IsLive old id → IsLive new id
+
+  -- as many nodes are live as before, and there is room for as many more
+  pub record KeepsCount (old new : Nodes (Slot D)) : Type 0 where
+    pub spare : new.spare ≡ old.spare
+    pub as_many : map.len new.live ≡ map.len old.live
+
+  -- one node more is live, and there is room for one fewer; those that may be live have names
+  pub record GainsOne (old new : Nodes (Slot D)) : Type 0 where
+    pub spare : new.spare + 1 ≡ old.spare
+    pub as_many : map.len new.live ≡ map.len old.live + 1
+    pub few : map.len new.live + new.spare < 2 ^ 63
+
+  -- one node fewer is live, and there is room for one more
+  pub record LosesOne (old new : Nodes (Slot D)) : Type 0 where
+    pub spare : new.spare ≡ old.spare + 1
+    pub as_many : map.len new.live + 1 ≡ map.len old.live
 
   -- the node is live, and so is the one on its right, if any
   unfoldable pub HeadsChain : Nodes (Slot D) → ℕ → Type 0

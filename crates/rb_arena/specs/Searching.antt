@@ -103,37 +103,52 @@ module _ {W X S B K : Type 0} (w : Ghosts W X S B K) (tree : Links (Data X S B))
   WhereWoven n P =
       (beside t : Tree (Data X S B)) → Made beside tree.nodes.live tree.root t → KeepsSums t → height t ≤ n → P t
 
+  module _ (n : ℕ) (Stands : Tree (Data X S B) → List (ℕ × X) → Type 0) where
+    -- a search among some values stands so, in a tree with the right sums
+    abbrev pub IsSearched : Type 0
+    IsSearched =
+        (beside : Tree (Data X S B)) × ((t : Tree (Data X S B)) × ((items : List (ℕ × X)) × Made beside tree.nodes.live tree.root t
+        × KeepsSums t × Valued w.weaving w.is_item w.is_value items × (height t ≤ n) × Stands t items))
+
+    -- in whatever tree and among whatever items it does, this holds of them
+    abbrev pub WhereSearched : (Tree (Data X S B) → List (ℕ × X) → Type 0) → Type 0
+    WhereSearched P = WhereWoven n (λ t. (items : List (ℕ × X)) → Stands t items → P t items)
+
+  -- the answer is right for the items
+  abbrev pub IsAnswer : K → Option (ℕ × X × S) → Tree (Data X S B) → List (ℕ × X) → Type 0
+  IsAnswer key found t items = Found w.weaving w.turn key items found
+
+  -- so many steps are no more than nodes on the longest path
+  abbrev pub IsOnPath : ℕ → Tree (Data X S B) → List (ℕ × X) → Type 0
+  IsOnPath steps t items = steps ≤ height t
+
+  -- of a search that goes down from there
   module _ (n : ℕ) (key : K) (from : Standing X S B) where
-    -- a search among some values stands there, in a tree with the right sums
+    abbrev GoesDown : Tree (Data X S B) → List (ℕ × X) → Type 0
+    GoesDown t items = StandsIn w.weaving w.turn key t items from
+
     unfoldable pub CanGoDown : Type 0
-    CanGoDown =
-        (beside : Tree (Data X S B)) × ((t : Tree (Data X S B)) × ((items : List (ℕ × X)) × Made beside tree.nodes.live tree.root t
-        × KeepsSums t × Valued w.weaving w.is_item w.is_value items × (height t ≤ n) × StandsIn w.weaving w.turn key t items from))
+    CanGoDown = IsSearched n GoesDown
 
-    -- in whatever tree it stands, the answer is right for the items
     unfoldable pub FindsBelow : Option (ℕ × X × S) → Type 0
-    FindsBelow found =
-        WhereWoven n (λ t. (items : List (ℕ × X)) → StandsIn w.weaving w.turn key t items from → Found w.weaving w.turn key items found)
+    FindsBelow found = WhereSearched n GoesDown (IsAnswer key found)
 
-    -- and so many steps are no more than nodes on the longest path
     unfoldable pub StepsBelow : ℕ → Type 0
-    StepsBelow steps = WhereWoven n (λ t. (items : List (ℕ × X)) → StandsIn w.weaving w.turn key t items from → steps ≤ height t)
+    StepsBelow steps = WhereSearched n GoesDown (IsOnPath steps)
 
+  -- of one that goes on so
   module _ (n : ℕ) (key : K) (next : Next X S B) where
-    -- a search among some values goes on so, in a tree with the right sums
+    abbrev GoesNext : Tree (Data X S B) → List (ℕ × X) → Type 0
+    GoesNext t items = StandsNext w.weaving w.turn key t items next
+
     unfoldable pub CanGoOn : Type 0
-    CanGoOn =
-        (beside : Tree (Data X S B)) × ((t : Tree (Data X S B)) × ((items : List (ℕ × X)) × Made beside tree.nodes.live tree.root t
-        × KeepsSums t × Valued w.weaving w.is_item w.is_value items × (height t ≤ n) × StandsNext w.weaving w.turn key t items next))
+    CanGoOn = IsSearched n GoesNext
 
-    -- in whatever tree it does so, the answer is right for the items
     unfoldable pub FindsOn : Option (ℕ × X × S) → Type 0
-    FindsOn found =
-        WhereWoven n (λ t. (items : List (ℕ × X)) → StandsNext w.weaving w.turn key t items next → Found w.weaving w.turn key items found)
+    FindsOn found = WhereSearched n GoesNext (IsAnswer key found)
 
-    -- and so many steps are no more than nodes on the longest path
     unfoldable pub StepsOn : ℕ → Type 0
-    StepsOn steps = WhereWoven n (λ t. (items : List (ℕ × X)) → StandsNext w.weaving w.turn key t items next → steps ≤ height t)
+    StepsOn steps = WhereSearched n GoesNext (IsOnPath steps)
 
   module _ (n id : ℕ) where
     -- the tree in which the node stands there

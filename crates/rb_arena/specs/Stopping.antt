@@ -28,18 +28,20 @@ module _ {X S B : Type 0} (w : Weaving X S B) where
     -- round the hole all is right for a subtree with that sum
     abbrev pub RightRound : Hole (Data X S B) → S → Type 0
     RightRound k sum =
-        (t : Tree (Data X S B)) × Woven w is_near w.still (plug k t) × (sum_of w (entries w (shift_at w k) t) ≡ w.shift_sum (shift_at w k) sum)
+        (t : Tree (Data X S B)) × Woven w is_near w.still (plug k t)
+        × (sum_of w (entries w (shift_at w k) t) ≡ w.shift_sum (shift_at w k) sum)
 
     -- above the node of that name all is right for the sum that it keeps
     abbrev pub RightAbove : ℕ → Hole (Data X S B) → Type 0
     RightAbove id k = RightRound (hole_of id k) (kept_sum id k)
 
-    module _ (is_item : X → Type 0) (is_value : S → Type 0) (beside : Tree (Data X S B)) (m : map.FinMap nat_cmp (Slot (Data X S B))) (root : Option ℕ) where
+    module _ (is_item : X → Type 0) (is_value : S → Type 0)
+        (beside : Tree (Data X S B)) (m : map.FinMap nat_cmp (Slot (Data X S B))) (root : Option ℕ) where
       -- the tree lies in the memory, right but for the nodes above that hole, the first of which is named at; no more than n of these
       abbrev pub SlackRound : Option ℕ → ℕ → Tree (Data X S B) → Hole (Data X S B) → Type 0
       SlackRound at n whole k =
-          (t : Tree (Data X S B)) × (whole ≡ plug k t) × Made beside m root (plug k t) × (at ≡ above k) × Woven w is_near (shift_at w k) t × Slack w is_near k
-          × Valued w is_item is_value (entries w w.still (plug k t)) × (depth k ≤ n)
+          (t : Tree (Data X S B)) × (whole ≡ plug k t) × Made beside m root (plug k t) × (at ≡ above k)
+          × Woven w is_near (shift_at w k) t × Slack w is_near k × Valued w is_item is_value (entries w w.still (plug k t)) × (depth k ≤ n)
 
       -- The tree lies in the memory, right but for the nodes above one, whose name is at; no more than n of these. Above the node named
       -- id all is right for the sum that it keeps.
@@ -72,7 +74,8 @@ module _ {W X S B K : Type 0} (w : Ghosts W X S B K) where
 
   -- some tree is slack so
   unfoldable pub IsSlackTo : Links (Data X S B) → Option ℕ → ℕ → Type 0
-  IsSlackTo tree from id = LawsOf w × ((reach : B) × ((beside : Tree (Data X S B)) × ((t : Tree (Data X S B)) × SlackIn tree from id reach beside t)))
+  IsSlackTo tree from id =
+      LawsOf w × ((reach : B) × ((beside : Tree (Data X S B)) × ((t : Tree (Data X S B)) × SlackIn tree from id reach beside t)))
 
   -- whatever tree it was, it is right now, and alike but for the sums
   unfoldable pub RenewsOver : Links (Data X S B) → Links (Data X S B) → Option ℕ → ℕ → Type 0

@@ -1,6 +1,6 @@
 //! Walks from a node to the top.
 ghost use Rattle.std.specs.Prelude.{◌≡◌, ◌<◌, ◌≤◌, ◌+◌, Some, None, IfSome};
-ghost use Rattle.std.specs.FinMap as map;
+ghost use Rattle.rb_arena.specs.Nodes.{KeepsCount};
 ghost use Rattle.rb_arena.specs.Exchanging.{CanExchangeStill, ExchangesStill, CanPass, IsChanged};
 ghost use Rattle.rb_arena.specs.Exchanging.{Passes, PassesUp, RenewsTo, change_at, exchanged_data};
 ghost use Rattle.rb_arena.specs.Relative.{CanRenewNode, IsSlackFrom, Renews, RenewsFrom};
@@ -30,8 +30,7 @@ fn renew<W: Weave>(tree: &mut Links<Data<W::Item, W::Sum, W::By>>, id: NodeId) -
     requires { CanRenewNode W.Weave tree.old id }
     ensures made { Renews W.Weave tree.old tree.new id }
     ensures sum { GivesSum W.Weave tree.old id result }
-    ensures spare { tree.new.nodes.spare ≡ tree.old.nodes.spare }
-    ensures as_many { map.len tree.new.nodes.live ≡ map.len tree.old.nodes.live }
+    ensures count { KeepsCount tree.old.nodes tree.new.nodes }
 {
     let slot = node_of(tree, id);
     let left = whole::<W>(&tree.nodes, slot.left);
@@ -48,8 +47,7 @@ pub(crate) fn renew_up<W: Weave>(
 )
     requires { IsSlackFrom W.Weave tree.old from 128 }
     ensures made { RenewsFrom W.Weave tree.old tree.new from 128 }
-    ensures spare { tree.new.nodes.spare ≡ tree.old.nodes.spare }
-    ensures as_many { map.len tree.new.nodes.live ≡ map.len tree.old.nodes.live }
+    ensures count { KeepsCount tree.old.nodes tree.new.nodes }
 {
     let mut at = from;
     for _turn in 0..LONGEST {
@@ -96,8 +94,7 @@ fn renew_to<W: Weave>(
 ) -> Option<Change<W::Sum>>
     requires { IsSlackTo W.Weave tree.old from last }
     ensures made { RenewsTo W.Weave tree.old tree.new from last result }
-    ensures spare { tree.new.nodes.spare ≡ tree.old.nodes.spare }
-    ensures as_many { map.len tree.new.nodes.live ≡ map.len tree.old.nodes.live }
+    ensures count { KeepsCount tree.old.nodes tree.new.nodes }
 {
     let mut at = from;
     for _turn in 0..LONGEST {
@@ -159,8 +156,7 @@ fn exchange<W: Weave>(
 ) -> Option<Change<W::Sum>>
     requires { CanPass W.Weave tree.old below.now id }
     ensures made { Passes W.Weave tree.old tree.new below.now result }
-    ensures spare { tree.new.nodes.spare ≡ tree.old.nodes.spare }
-    ensures as_many { map.len tree.new.nodes.live ≡ map.len tree.old.nodes.live }
+    ensures count { KeepsCount tree.old.nodes tree.new.nodes }
 {
     let slot = node_of(tree, id);
     let sum = exchanged::<W>(&slot.data, below)?;
@@ -177,8 +173,7 @@ fn exchange_up<W: Weave>(
 ) -> Option<NodeId>
     requires { IsChanged W.Weave tree.old from }
     ensures made { PassesUp W.Weave tree.old tree.new from result }
-    ensures spare { tree.new.nodes.spare ≡ tree.old.nodes.spare }
-    ensures as_many { map.len tree.new.nodes.live ≡ map.len tree.old.nodes.live }
+    ensures count { KeepsCount tree.old.nodes tree.new.nodes }
 {
     let mut below = from;
     for _turn in 0..LONGEST {
@@ -202,8 +197,7 @@ pub(crate) fn renew_over<W: Weave>(
 )
     requires { IsSlackTo W.Weave tree.old from last }
     ensures made { RenewsOver W.Weave tree.old tree.new from last }
-    ensures spare { tree.new.nodes.spare ≡ tree.old.nodes.spare }
-    ensures as_many { map.len tree.new.nodes.live ≡ map.len tree.old.nodes.live }
+    ensures count { KeepsCount tree.old.nodes tree.new.nodes }
 {
     let Some(change) = renew_to::<W>(tree, from, last) else {
         return;
@@ -221,8 +215,7 @@ pub(crate) fn renew_under<W: Weave>(
 )
     requires { IsSlackUnder W.Weave tree.old from last }
     ensures made { RenewsUnder W.Weave tree.old tree.new from last }
-    ensures spare { tree.new.nodes.spare ≡ tree.old.nodes.spare }
-    ensures as_many { map.len tree.new.nodes.live ≡ map.len tree.old.nodes.live }
+    ensures count { KeepsCount tree.old.nodes tree.new.nodes }
 {
     match last {
         None => renew_up::<W>(tree, from),

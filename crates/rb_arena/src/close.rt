@@ -1,6 +1,5 @@
 //! After a removal: at one place the tree may have one black node too few on each path.
-ghost use Rattle.std.specs.Prelude.{◌≡◌};
-ghost use Rattle.std.specs.FinMap as map;
+ghost use Rattle.rb_arena.specs.Nodes.{KeepsCount};
 ghost use Rattle.rb_arena.specs.Closing.{IsShort, IsClosing, ClosesTo, ClosesFrom};
 
 use crate::links::{Links, Place, place, read};
@@ -21,8 +20,7 @@ fn step<W: Weave>(
 ) -> Place
     requires { IsShort W.Weave tree.old (parent, side) }
     ensures closing { ClosesTo W.Weave tree.old tree.new (parent, side) result }
-    ensures spare { tree.new.nodes.spare ≡ tree.old.nodes.spare }
-    ensures as_many { map.len tree.new.nodes.live ≡ map.len tree.old.nodes.live }
+    ensures count { KeepsCount tree.old.nodes tree.new.nodes }
 {
     let away = side.other();
     let Some(brother) = read(&tree.nodes, parent).child(away) else {
@@ -56,8 +54,7 @@ fn step<W: Weave>(
 pub(crate) fn close<W: Weave>(tree: &mut Links<Data<W::Item, W::Sum, W::By>>, from: Place)
     requires { IsClosing W.Weave tree.old from 129 }
     ensures mended { ClosesFrom W.Weave tree.old tree.new from 129 }
-    ensures spare { tree.new.nodes.spare ≡ tree.old.nodes.spare }
-    ensures as_many { map.len tree.new.nodes.live ≡ map.len tree.old.nodes.live }
+    ensures count { KeepsCount tree.old.nodes tree.new.nodes }
 {
     let mut at = from;
     for _turn in 0..MOST_STEPS {

@@ -1,7 +1,6 @@
 //! A new item at a place of the tree.
 ghost use Rattle.std.specs.Prelude.{◌≡◌, ◌+◌, ◌-◌, ◌<◌, ◌≤◌, ◌^◌};
-ghost use Rattle.std.specs.FinMap as map;
-ghost use Rattle.rb_arena.specs.Nodes.{Lives};
+ghost use Rattle.rb_arena.specs.Nodes.{GainsOne, KeepsCount, Lives};
 ghost use Rattle.rb_arena.specs.Placing as placing;
 ghost use Rattle.rb_arena.specs.Placing.{above_place, passed, IsWovenPlace, IsShiftTo};
 ghost use Rattle.rb_arena.specs.Placing.{CanPass, StepsTo};
@@ -149,8 +148,7 @@ fn hang_leaf<W: Weave>(
 )
     requires { TakesLeaf W.Weave tree.old at id last }
     ensures mended { ListsLeafAt W.Weave tree.old tree.new at id last }
-    ensures spare { tree.new.nodes.spare ≡ tree.old.nodes.spare }
-    ensures as_many { map.len tree.new.nodes.live ≡ map.len tree.old.nodes.live }
+    ensures count { KeepsCount tree.old.nodes tree.new.nodes }
 {
     let parent = parent_at(&at);
     hang(tree, at, Some(id));
@@ -169,9 +167,7 @@ pub(crate) fn hang_new<W: Weave>(
     requires room { 0 < tree.old.nodes.spare }
     requires leaf { TakesSlot W.Weave tree.old at leaf last }
     ensures mended { ListsSlotAt W.Weave tree.old tree.new at result leaf last }
-    ensures spare { tree.new.nodes.spare + 1 ≡ tree.old.nodes.spare }
-    ensures as_many { map.len tree.new.nodes.live ≡ map.len tree.old.nodes.live + 1 }
-    ensures few { map.len tree.new.nodes.live + tree.new.nodes.spare < 2 ^ 63 }
+    ensures count { GainsOne tree.old.nodes tree.new.nodes }
 {
     let id = tree.nodes.put(Packed::of(&leaf));
     hang_leaf::<W>(tree, at, id, last);
@@ -188,9 +184,7 @@ pub(crate) fn insert_at<W: Weave>(
     requires room { 0 < tree.old.nodes.spare }
     requires hole { Takes W.Weave tree.old at item }
     ensures mended { ListsAt W.Weave tree.old tree.new at result item }
-    ensures spare { tree.new.nodes.spare + 1 ≡ tree.old.nodes.spare }
-    ensures as_many { map.len tree.new.nodes.live ≡ map.len tree.old.nodes.live + 1 }
-    ensures few { map.len tree.new.nodes.live + tree.new.nodes.spare < 2 ^ 63 }
+    ensures count { GainsOne tree.old.nodes tree.new.nodes }
 {
     let leaf = leaf_at::<W>(tree, &at, item);
     hang_new::<W>(tree, at, leaf, None)
@@ -207,8 +201,7 @@ pub(crate) fn land_at<W: Weave>(
     requires live { Lives tree.old.nodes id }
     requires hole { TakesNode W.Weave tree.old at id item }
     ensures mended { ListsNodeAt W.Weave tree.old tree.new at id item }
-    ensures spare { tree.new.nodes.spare ≡ tree.old.nodes.spare }
-    ensures as_many { map.len tree.new.nodes.live ≡ map.len tree.old.nodes.live }
+    ensures count { KeepsCount tree.old.nodes tree.new.nodes }
 {
     let leaf = leaf_at::<W>(tree, &at, item);
     write(&mut tree.nodes, id, leaf);

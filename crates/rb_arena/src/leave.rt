@@ -1,10 +1,9 @@
 //! A node leaves the tree.
 ghost use Rattle.std.specs.Prelude.{◌≡◌, ◌+◌, None};
 ghost use Rattle.rb_rules.specs.Memory.{hung, root_hung, place_of, AtSpot};
-ghost use Rattle.std.specs.FinMap as map;
-ghost use Rattle.rb_arena.specs.Nodes.{Lives};
+ghost use Rattle.rb_arena.specs.Nodes.{KeepsCount, Lives, LosesOne};
 ghost use Rattle.rb_arena.specs.Placing.{IsThere};
-ghost use Rattle.rb_arena.specs.Leaving.{NoChild, OneChild, IsEmptied};
+ghost use Rattle.rb_arena.specs.Leaving.{NoChild, OneChild, IsEmptied, LeafHangsNoMore};
 ghost use Rattle.rb_arena.specs.Leaving.{StoresItem, StoresItemBeside, StoresBoth};
 ghost use Rattle.rb_arena.specs.Leaving.{StandsWoven, StandsValued, IsShown, IsKept};
 ghost use Rattle.rb_arena.specs.Leaving.{Settles, StillLists, Leaves, Loosens};
@@ -15,7 +14,7 @@ use crate::close::close;
 use crate::insert::{copy_of, kept_below, parent_at, path_shift};
 use crate::links::{Links, Place, hang, node_of, place, read, replace, string};
 use crate::sums::turn_node;
-use crate::tree::end_place;
+use crate::walk::end_place;
 use raw_arena::NodeId;
 use rb_rules::{Data, Side, Weave};
 
@@ -30,8 +29,7 @@ pub(crate) struct Vacancy {
 fn settle<W: Weave>(tree: &mut Links<Data<W::Item, W::Sum, W::By>>, at: Place, red: bool)
     requires { IsEmptied W.Weave tree.old at red }
     ensures mended { Settles W.Weave tree.old tree.new at red }
-    ensures spare { tree.new.nodes.spare ≡ tree.old.nodes.spare }
-    ensures as_many { map.len tree.new.nodes.live ≡ map.len tree.old.nodes.live }
+    ensures count { KeepsCount tree.old.nodes tree.new.nodes }
 {
     renew_up::<W>(tree, parent_at(&at));
     if red {
@@ -40,25 +38,35 @@ fn settle<W: Weave>(tree: &mut Links<Data<W::Item, W::Sum, W::By>>, at: Place, r
     close::<W>(tree, at);
 }
 
-/// A leaf leaves the tree, and keeps its slot.
-#[tactic(auto, using(crate::proofs::Leaving::leaf_out))]
-fn unlink_leaf<W: Weave>(tree: &mut Links<Data<W::Item, W::Sum, W::By>>, id: NodeId) -> Vacancy
+/// A leaf hangs in the tree no more, and keeps its slot. The tree's sums may be wrong.
+#[tactic(auto, using(crate::proofs::Leaving::cutting_leaf))]
+pub(crate) fn cut_leaf<D: Copy>(tree: &mut Links<D>, id: NodeId) -> Vacancy
     requires stands { IsThere tree.old id }
     requires leaf { NoChild tree.old.nodes.live id }
-    requires item { StoresItem W.Weave tree.old id }
-    ensures unlinked { Unlinks W.Weave tree.old tree.new id result.at result.red }
+    ensures gone { LeafHangsNoMore tree.old tree.new id result.at result.red }
     ensures live { Lives tree.new.nodes id }
-    ensures spare { tree.new.nodes.spare ≡ tree.old.nodes.spare }
-    ensures as_many { map.len tree.new.nodes.live ≡ map.len tree.old.nodes.live }
+    ensures count { KeepsCount tree.old.nodes tree.new.nodes }
 {
     #[tactic(auto, unfolding(crate::specs::Placing::IsThere))]
     let red = node_of(tree, id).red;
     #[tactic(auto, unfolding(crate::specs::Placing::IsThere))]
     let at = place(tree, id);
     let gap = copy_of(&at);
-    #[tactic(auto, using(crate::proofs::Leaving::lives_above))]
     hang(tree, at, None);
     Vacancy { at: gap, red }
+}
+
+/// The same, by the items that are left.
+#[tactic(auto, using(crate::proofs::Leaving::leaf_unlinks))]
+fn unlink_leaf<W: Weave>(tree: &mut Links<Data<W::Item, W::Sum, W::By>>, id: NodeId) -> Vacancy
+    requires stands { IsThere tree.old id }
+    requires leaf { NoChild tree.old.nodes.live id }
+    requires item { StoresItem W.Weave tree.old id }
+    ensures unlinked { Unlinks W.Weave tree.old tree.new id result.at result.red }
+    ensures live { Lives tree.new.nodes id }
+    ensures count { KeepsCount tree.old.nodes tree.new.nodes }
+{
+    cut_leaf(tree, id)
 }
 
 /// Makes a leaf of a node with one child at most.
@@ -68,8 +76,7 @@ pub(crate) fn to_leaf<W: Weave>(tree: &mut Links<Data<W::Item, W::Sum, W::By>>, 
     requires item { StoresItem W.Weave tree.old id }
     ensures leaf { NoChild tree.new.nodes.live id }
     ensures mended { StillLists W.Weave tree.old tree.new id }
-    ensures spare { tree.new.nodes.spare ≡ tree.old.nodes.spare }
-    ensures as_many { map.len tree.new.nodes.live ≡ map.len tree.old.nodes.live }
+    ensures count { KeepsCount tree.old.nodes tree.new.nodes }
 {
     #[tactic(auto, unfolding(crate::specs::Leaving::OneChild, crate::specs::Nodes::Lives))]
     let slot = read(&tree.nodes, id);
@@ -121,8 +128,7 @@ fn cut<W: Weave>(tree: &mut Links<Data<W::Item, W::Sum, W::By>>, id: NodeId, hei
     ensures root { tree.new.root ≡ root_hung tree.old.root result None }
     ensures there { IsThere tree.new id }
     ensures heir { Lives tree.new.nodes heir }
-    ensures spare { tree.new.nodes.spare ≡ tree.old.nodes.spare }
-    ensures as_many { map.len tree.new.nodes.live ≡ map.len tree.old.nodes.live }
+    ensures count { KeepsCount tree.old.nodes tree.new.nodes }
 {
     #[tactic(auto, unfolding(crate::specs::Leaving::StoresBoth))]
     let at = place(tree, heir);
@@ -142,8 +148,7 @@ fn inherit<W: Weave>(
     requires items { StoresBoth W.Weave tree.old id heir }
     ensures unlinked { UnlinksBefore W.Weave tree.old tree.new heir id result.at result.red }
     ensures live { Lives tree.new.nodes id }
-    ensures spare { tree.new.nodes.spare ≡ tree.old.nodes.spare }
-    ensures as_many { map.len tree.new.nodes.live ≡ map.len tree.old.nodes.live }
+    ensures count { KeepsCount tree.old.nodes tree.new.nodes }
 {
     #[tactic(auto, unfolding(crate::specs::Leaving::StoresBoth))]
     let red = node_of(tree, heir).red;
@@ -172,8 +177,7 @@ fn unlink<W: Weave>(tree: &mut Links<Data<W::Item, W::Sum, W::By>>, id: NodeId) 
     requires item { StoresItem W.Weave tree.old id }
     ensures unlinked { Unlinks W.Weave tree.old tree.new id result.at result.red }
     ensures live { Lives tree.new.nodes id }
-    ensures spare { tree.new.nodes.spare ≡ tree.old.nodes.spare }
-    ensures as_many { map.len tree.new.nodes.live ≡ map.len tree.old.nodes.live }
+    ensures count { KeepsCount tree.old.nodes tree.new.nodes }
 {
     #[tactic(auto, unfolding(crate::specs::Placing::IsThere))]
     let right = node_of(tree, id).right;
@@ -193,8 +197,7 @@ fn unlink<W: Weave>(tree: &mut Links<Data<W::Item, W::Sum, W::By>>, id: NodeId) 
 pub(crate) fn leave<W: Weave>(tree: &mut Links<Data<W::Item, W::Sum, W::By>>, id: NodeId)
     requires { StoresItem W.Weave tree.old id }
     ensures mended { Leaves W.Weave tree.old tree.new id }
-    ensures spare { tree.new.nodes.spare ≡ tree.old.nodes.spare + 1 }
-    ensures as_many { map.len tree.new.nodes.live + 1 ≡ map.len tree.old.nodes.live }
+    ensures count { LosesOne tree.old.nodes tree.new.nodes }
 {
     let Vacancy { at, red } = unlink::<W>(tree, id);
     #[tactic(auto, unfolding(crate::specs::Nodes::Lives))]
@@ -211,8 +214,7 @@ pub(crate) fn loosen<W: Weave>(
 )
     requires { StoresItemBeside W.Weave tree.old id front }
     ensures mended { Loosens W.Weave tree.old tree.new id front }
-    ensures spare { tree.new.nodes.spare ≡ tree.old.nodes.spare }
-    ensures as_many { map.len tree.new.nodes.live ≡ map.len tree.old.nodes.live }
+    ensures count { KeepsCount tree.old.nodes tree.new.nodes }
 {
     let datum = Data {
         item: item_at::<W>(tree, id),

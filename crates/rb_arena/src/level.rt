@@ -1,7 +1,7 @@
 //! The shifts in a tree are applied, and none is left in it.
 ghost use Rattle.std.specs.Prelude.{◌≡◌};
-ghost use Rattle.std.specs.FinMap as map;
 ghost use Rattle.rb_rules.specs.Shifts as shifts;
+ghost use Rattle.rb_arena.specs.Nodes.{KeepsCount};
 ghost use Rattle.rb_arena.specs.Relative.{RelativeItem, RelativeSum};
 ghost use Rattle.rb_arena.specs.Shifting.{CanLevelAt, Levels};
 
@@ -37,8 +37,7 @@ pub(crate) fn level<W: Weave>(
 )
     requires { CanLevelAt W.Weave tree.old at by levels }
     ensures made { Levels W.Weave tree.old tree.new at by levels }
-    ensures spare { tree.new.nodes.spare ≡ tree.old.nodes.spare }
-    ensures as_many { map.len tree.new.nodes.live ≡ map.len tree.old.nodes.live }
+    ensures count { KeepsCount tree.old.nodes tree.new.nodes }
 {
     let Some(id) = at else {
         return;

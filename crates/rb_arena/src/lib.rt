@@ -13,5 +13,6 @@ mod merge;
 mod shift;
 mod sums;
 mod tree;
+mod walk;
 
 pub use tree::RbTree;

@@ -5,7 +5,7 @@ ghost use Rattle.raw_arena.specs.Arena.{node, IsLive};
 ghost use Rattle.rb_rules.specs.declared.slot.Slot.{Slot};
 ghost use Rattle.rb_rules.specs.Memory.{place_of, adopted, hung, root_hung};
 ghost use Rattle.rb_rules.specs.Memory.{Stands, AtSpot};
-ghost use Rattle.rb_arena.specs.Nodes.{HasChildAt, HeadsChain, Inherits, KeepLive, LosesFirst};
+ghost use Rattle.rb_arena.specs.Nodes.{HasChildAt, HeadsChain, Inherits, KeepLive, KeepsCount, LosesFirst};
 ghost use Rattle.rb_arena.specs.Nodes.{Lives, LivesAt, LivesIf, Rewrites, TurnsAt, slot_of, strung};
 
 use raw_arena::{Arena, NodeId};
@@ -70,8 +70,7 @@ fn overwritten<D: Copy, L: Ledger>(
     requires some { 0 < L.parts }
     ensures live { nodes.new.live ≡ map.insert nodes.old.live id slot }
     ensures kept { KeepLive nodes.old nodes.new }
-    ensures spare { nodes.new.spare ≡ nodes.old.spare }
-    ensures as_many { map.len nodes.new.live ≡ map.len nodes.old.live }
+    ensures count { KeepsCount nodes.old nodes.new }
 {
     let mut steps = Steps::<L>::new(blank);
     *nodes.visit_mut(id, &mut steps) = Packed::of(&slot);
@@ -83,8 +82,7 @@ pub(crate) fn write<D: Copy>(nodes: &mut Arena<Packed<D>>, id: NodeId, slot: Slo
     requires { Lives nodes.old id }
     ensures live { nodes.new.live ≡ map.insert nodes.old.live id slot }
     ensures kept { KeepLive nodes.old nodes.new }
-    ensures spare { nodes.new.spare ≡ nodes.old.spare }
-    ensures as_many { map.len nodes.new.live ≡ map.len nodes.old.live }
+    ensures count { KeepsCount nodes.old nodes.new }
 {
     overwritten::<D, Brand>(nodes, id, slot, Blank::new(1))
 }
@@ -120,8 +118,7 @@ fn adopt<D: Copy>(nodes: &mut Arena<Packed<D>>, id: Option<NodeId>, parent: Opti
     requires { LivesIf nodes.old id }
     ensures live { nodes.new.live ≡ adopted nodes.old.live id parent }
     ensures kept { KeepLive nodes.old nodes.new }
-    ensures spare { nodes.new.spare ≡ nodes.old.spare }
-    ensures as_many { map.len nodes.new.live ≡ map.len nodes.old.live }
+    ensures count { KeepsCount nodes.old nodes.new }
 {
     if let Some(id) = id {
         let mut slot = read(nodes, id);
@@ -137,8 +134,7 @@ pub(crate) fn hang<D: Copy>(tree: &mut Links<D>, place: Place, child: Option<Nod
     ensures live { tree.new.nodes.live ≡ hung tree.old.nodes.live place child }
     ensures root { tree.new.root ≡ root_hung tree.old.root place child }
     ensures kept { KeepLive tree.old.nodes tree.new.nodes }
-    ensures spare { tree.new.nodes.spare ≡ tree.old.nodes.spare }
-    ensures as_many { map.len tree.new.nodes.live ≡ map.len tree.old.nodes.live }
+    ensures count { KeepsCount tree.old.nodes tree.new.nodes }
 {
     match place {
         None => tree.root = child,
@@ -154,8 +150,7 @@ pub(crate) fn hang<D: Copy>(tree: &mut Links<D>, place: Place, child: Option<Nod
 pub(crate) fn rewrite<D: Copy>(tree: &mut Links<D>, id: NodeId, red: bool, datum: D)
     requires { Stands tree.old.nodes.live tree.old.root id }
     ensures made { Rewrites tree.old tree.new id red datum }
-    ensures spare { tree.new.nodes.spare ≡ tree.old.nodes.spare }
-    ensures as_many { map.len tree.new.nodes.live ≡ map.len tree.old.nodes.live }
+    ensures count { KeepsCount tree.old.nodes tree.new.nodes }
 {
     let mut slot = node_of(tree, id);
     slot.red = red;
@@ -168,8 +163,7 @@ pub(crate) fn rewrite<D: Copy>(tree: &mut Links<D>, id: NodeId, red: bool, datum
 pub(crate) fn turn<D: Copy>(tree: &mut Links<D>, id: NodeId, side: Side, low: D, high: D)
     requires { HasChildAt tree.old id side }
     ensures made { TurnsAt tree.old tree.new id side low high }
-    ensures spare { tree.new.nodes.spare ≡ tree.old.nodes.spare }
-    ensures as_many { map.len tree.new.nodes.live ≡ map.len tree.old.nodes.live }
+    ensures count { KeepsCount tree.old.nodes tree.new.nodes }
 {
     let at = place(tree, id);
     let upper = node_of(tree, id);
@@ -194,8 +188,7 @@ pub(crate) fn replace<D: Copy>(tree: &mut Links<D>, id: NodeId, heir: NodeId, da
     requires heir { Lives tree.old.nodes heir }
     ensures made { Inherits tree.old tree.new id heir datum }
     ensures left { Lives tree.new.nodes id }
-    ensures spare { tree.new.nodes.spare ≡ tree.old.nodes.spare }
-    ensures as_many { map.len tree.new.nodes.live ≡ map.len tree.old.nodes.live }
+    ensures count { KeepsCount tree.old.nodes tree.new.nodes }
 {
     let at = place(tree, id);
     let old = node_of(tree, id);

@@ -1,9 +1,8 @@
 //! After an insertion: the new node is red, and its parent may be red too.
 ghost use Rattle.std.specs.Prelude.{◌≡◌};
-ghost use Rattle.std.specs.FinMap as map;
 ghost use Rattle.rb_rules.specs.Tree.{fork};
 ghost use Rattle.rb_rules.specs.Memory.{AtSpot, Stands};
-ghost use Rattle.rb_arena.specs.Nodes.{Becomes};
+ghost use Rattle.rb_arena.specs.Nodes.{Becomes, KeepsCount};
 ghost use Rattle.rb_arena.specs.Rising.{IsRising, IsRisingFrom, IsRisen, RisesTo, MendsFrom, MendsUp};
 ghost use Rattle.rb_arena.specs.Mending.{case_of, bent, HasChild, red_child_in};
 
@@ -35,8 +34,7 @@ pub enum Case {
 pub(crate) fn paint<D: Copy>(tree: &mut Links<D>, id: NodeId, red: bool)
     requires { Stands tree.old.nodes.live tree.old.root id }
     ensures made { Becomes tree.old tree.new id (λ s. fork red id s.datum s.left s.right) }
-    ensures spare { tree.new.nodes.spare ≡ tree.old.nodes.spare }
-    ensures as_many { map.len tree.new.nodes.live ≡ map.len tree.old.nodes.live }
+    ensures count { KeepsCount tree.old.nodes tree.new.nodes }
 {
     let datum = node_of(tree, id).data;
     rewrite(tree, id, red, datum);
@@ -96,8 +94,7 @@ fn find_case<D: Copy>(tree: &Links<D>, id: NodeId) -> Case
 fn step<W: Weave>(tree: &mut Links<Data<W::Item, W::Sum, W::By>>, id: NodeId) -> Option<NodeId>
     requires { IsRising W.Weave tree.old id }
     ensures risen { RisesTo W.Weave tree.old tree.new id result }
-    ensures spare { tree.new.nodes.spare ≡ tree.old.nodes.spare }
-    ensures as_many { map.len tree.new.nodes.live ≡ map.len tree.old.nodes.live }
+    ensures count { KeepsCount tree.old.nodes tree.new.nodes }
 {
     match find_case(tree, id) {
         Case::Settled => None,
@@ -127,8 +124,7 @@ fn step<W: Weave>(tree: &mut Links<Data<W::Item, W::Sum, W::By>>, id: NodeId) ->
 fn mend_up<W: Weave>(tree: &mut Links<Data<W::Item, W::Sum, W::By>>, from: Option<NodeId>)
     requires { IsRisen W.Weave tree.old from 128 }
     ensures mended { MendsUp W.Weave tree.old tree.new from 128 }
-    ensures spare { tree.new.nodes.spare ≡ tree.old.nodes.spare }
-    ensures as_many { map.len tree.new.nodes.live ≡ map.len tree.old.nodes.live }
+    ensures count { KeepsCount tree.old.nodes tree.new.nodes }
 {
     let mut at = from;
     for _turn in 0..MOST_STEPS {
@@ -144,8 +140,7 @@ fn mend_up<W: Weave>(tree: &mut Links<Data<W::Item, W::Sum, W::By>>, from: Optio
 pub(crate) fn mend<W: Weave>(tree: &mut Links<Data<W::Item, W::Sum, W::By>>, id: NodeId)
     requires { IsRisingFrom W.Weave tree.old id 128 }
     ensures mended { MendsFrom W.Weave tree.old tree.new id 128 }
-    ensures spare { tree.new.nodes.spare ≡ tree.old.nodes.spare }
-    ensures as_many { map.len tree.new.nodes.live ≡ map.len tree.old.nodes.live }
+    ensures count { KeepsCount tree.old.nodes tree.new.nodes }
 {
     mend_up::<W>(tree, Some(id));
 }

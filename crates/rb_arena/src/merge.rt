@@ -1,41 +1,20 @@
 //! Two items that stand side by side become one, at the higher of their nodes.
-ghost use Rattle.std.specs.Prelude.{◌≡◌, ◌+◌};
-ghost use Rattle.std.specs.FinMap as map;
 ghost use Rattle.rb_arena.specs.Ends.{StandsLow};
 ghost use Rattle.rb_arena.specs.Leaving.{NoChild, OneChild};
-ghost use Rattle.rb_arena.specs.Merging.{LeafHangsNoMore, LeafGoes, IsEmptiedBelow, SettlesBelow};
+ghost use Rattle.rb_arena.specs.Merging.{LeafGoes, IsEmptiedBelow, SettlesBelow};
 ghost use Rattle.rb_arena.specs.Merging.{CanMergeInto, MergesInto, CanMerge, Merges};
-ghost use Rattle.rb_arena.specs.Nodes.{Lives};
+ghost use Rattle.rb_arena.specs.Nodes.{KeepsCount, Lives, LosesOne};
 ghost use Rattle.rb_arena.specs.Placing.{IsThere};
 
 use crate::climb::renew_over;
 use crate::close::close;
-use crate::insert::{copy_of, parent_at};
-use crate::leave::{Vacancy, item_for, to_leaf};
-use crate::links::{Links, Place, hang, node_of, place};
+use crate::insert::parent_at;
+use crate::leave::{Vacancy, cut_leaf, item_for, to_leaf};
+use crate::links::{Links, Place, node_of};
 use crate::sums::replace_item;
-use crate::tree::{above_on, end_place};
+use crate::walk::{above_on, end_place};
 use raw_arena::NodeId;
 use rb_rules::{Data, Side, Weave};
-
-/// A leaf hangs in the tree no more, and keeps its slot. The tree's sums may be wrong.
-#[tactic(auto, using(crate::proofs::Merging::cutting_leaf))]
-fn cut_leaf<D: Copy>(tree: &mut Links<D>, id: NodeId) -> Vacancy
-    requires stands { IsThere tree.old id }
-    requires leaf { NoChild tree.old.nodes.live id }
-    ensures gone { LeafHangsNoMore tree.old tree.new id result.at result.red }
-    ensures live { Lives tree.new.nodes id }
-    ensures spare { tree.new.nodes.spare ≡ tree.old.nodes.spare }
-    ensures as_many { map.len tree.new.nodes.live ≡ map.len tree.old.nodes.live }
-{
-    #[tactic(auto, unfolding(crate::specs::Placing::IsThere))]
-    let red = node_of(tree, id).red;
-    #[tactic(auto, unfolding(crate::specs::Placing::IsThere))]
-    let at = place(tree, id);
-    let gap = copy_of(&at);
-    hang(tree, at, None);
-    Vacancy { at: gap, red }
-}
 
 /// A leaf goes from the tree, and its slot goes back to the arena. The tree's sums may be wrong.
 #[tactic(auto, using(crate::proofs::Merging::taking_leaf))]
@@ -43,8 +22,7 @@ fn take_leaf<D: Copy>(tree: &mut Links<D>, id: NodeId) -> Vacancy
     requires stands { IsThere tree.old id }
     requires leaf { NoChild tree.old.nodes.live id }
     ensures gone { LeafGoes tree.old tree.new id result.at result.red }
-    ensures spare { tree.new.nodes.spare ≡ tree.old.nodes.spare + 1 }
-    ensures as_many { map.len tree.new.nodes.live + 1 ≡ map.len tree.old.nodes.live }
+    ensures count { LosesOne tree.old.nodes tree.new.nodes }
 {
     let vacancy = cut_leaf(tree, id);
     #[tactic(auto, unfolding(crate::specs::Nodes::Lives))]
@@ -63,8 +41,7 @@ fn settle_below<W: Weave>(
 )
     requires { IsEmptiedBelow W.Weave tree.old at red stays }
     ensures mended { SettlesBelow W.Weave tree.old tree.new at red stays }
-    ensures spare { tree.new.nodes.spare ≡ tree.old.nodes.spare }
-    ensures as_many { map.len tree.new.nodes.live ≡ map.len tree.old.nodes.live }
+    ensures count { KeepsCount tree.old.nodes tree.new.nodes }
 {
     renew_over::<W>(tree, parent_at(&at), stays);
     if red {
@@ -84,8 +61,7 @@ fn merge_into<W: Weave>(
     requires child { OneChild tree.old.nodes.live goes }
     requires pair { CanMergeInto W.Weave tree.old goes stays item }
     ensures merged { MergesInto W.Weave tree.old tree.new goes stays item }
-    ensures spare { tree.new.nodes.spare ≡ tree.old.nodes.spare + 1 }
-    ensures as_many { map.len tree.new.nodes.live + 1 ≡ map.len tree.old.nodes.live }
+    ensures count { LosesOne tree.old.nodes tree.new.nodes }
 {
     to_leaf::<W>(tree, goes);
     let own = item_for::<W>(tree, stays, item);
@@ -105,8 +81,7 @@ pub(crate) fn merge<W: Weave>(
     requires stands { StandsLow tree.old id }
     requires pair { CanMerge W.Weave tree.old id item }
     ensures merged { Merges W.Weave tree.old tree.new id item result }
-    ensures spare { tree.new.nodes.spare ≡ tree.old.nodes.spare + 1 }
-    ensures as_many { map.len tree.new.nodes.live + 1 ≡ map.len tree.old.nodes.live }
+    ensures count { LosesOne tree.old.nodes tree.new.nodes }
 {
     #[tactic(auto, unfolding(crate::specs::Ends::StandsLow))]
     let right = node_of(tree, id).right;

@@ -1,9 +1,7 @@
 //! The items after a place move.
-ghost use Rattle.std.specs.Prelude.{◌≡◌};
-ghost use Rattle.std.specs.FinMap as map;
 ghost use Rattle.rb_rules.specs.Shifts.{moved_datum};
 ghost use Rattle.rb_arena.specs.Leaving.{StoresWithin};
-ghost use Rattle.rb_arena.specs.Nodes.{Rewritten};
+ghost use Rattle.rb_arena.specs.Nodes.{KeepsCount, Rewritten};
 ghost use Rattle.rb_arena.specs.Shifting.{CanMove, CanShiftUp, CanShiftAll};
 ghost use Rattle.rb_arena.specs.Shifting.{ShiftsUp, ShiftsAll, FindsReach};
 
@@ -19,8 +17,7 @@ use rb_rules::{Data, Side, Weave};
 fn move_node<W: Weave>(tree: &mut Links<Data<W::Item, W::Sum, W::By>>, id: NodeId, by: W::By)
     requires { CanMove W.weaving W.is_near W.is_item tree.old.nodes.live tree.old.root by id }
     ensures made { Rewritten tree.old tree.new id (λ s. moved_datum W.weaving by s.datum) }
-    ensures spare { tree.new.nodes.spare ≡ tree.old.nodes.spare }
-    ensures as_many { map.len tree.new.nodes.live ≡ map.len tree.old.nodes.live }
+    ensures count { KeepsCount tree.old.nodes tree.new.nodes }
 {
     let slot = node_of(tree, id);
     let datum = Data {
@@ -37,8 +34,7 @@ fn move_node<W: Weave>(tree: &mut Links<Data<W::Item, W::Sum, W::By>>, id: NodeI
 fn shift_up<W: Weave>(tree: &mut Links<Data<W::Item, W::Sum, W::By>>, from: Place, by: W::By)
     requires { CanShiftUp W.Weave tree.old from by }
     ensures made { ShiftsUp W.Weave tree.old tree.new from by }
-    ensures spare { tree.new.nodes.spare ≡ tree.old.nodes.spare }
-    ensures as_many { map.len tree.new.nodes.live ≡ map.len tree.old.nodes.live }
+    ensures count { KeepsCount tree.old.nodes tree.new.nodes }
 {
     let mut at = from;
     for _turn in 0..LONGEST {
@@ -64,8 +60,7 @@ pub(crate) fn shift_from<W: Weave>(
 )
     requires { CanShiftAll W.Weave tree.old at by }
     ensures mended { ShiftsAll W.Weave tree.old tree.new at by }
-    ensures spare { tree.new.nodes.spare ≡ tree.old.nodes.spare }
-    ensures as_many { map.len tree.new.nodes.live ≡ map.len tree.old.nodes.live }
+    ensures count { KeepsCount tree.old.nodes tree.new.nodes }
 {
     let parent = parent_at(&at);
     shift_up::<W>(tree, at, by);
@@ -81,8 +76,7 @@ pub(crate) fn reach_for<W: Weave>(
 ) -> Option<W::By>
     requires { StoresWithin W.Weave tree.old reach }
     ensures reaches { FindsReach W.Weave tree.old tree.new reach by result }
-    ensures spare { tree.new.nodes.spare ≡ tree.old.nodes.spare }
-    ensures as_many { map.len tree.new.nodes.live ≡ map.len tree.old.nodes.live }
+    ensures count { KeepsCount tree.old.nodes tree.new.nodes }
 {
     if let Some(wide) = W::widen(reach, by) {
         return Some(wide);

@@ -1,8 +1,7 @@
 //! A node's data: its sums, and what a turn makes of them.
 ghost use Rattle.std.specs.Prelude.{◌≡◌};
-ghost use Rattle.std.specs.FinMap as map;
 ghost use Rattle.rb_arena.specs.Ends.{StandsLow};
-ghost use Rattle.rb_arena.specs.Nodes.{LivesIf, Rewritten};
+ghost use Rattle.rb_arena.specs.Nodes.{KeepsCount, LivesIf, Rewritten};
 ghost use Rattle.rb_arena.specs.Relative.{CanSumOver, CanTurnOver, CanTurnNode, Turns};
 ghost use Rattle.rb_arena.specs.Relative.{IsLowered, IsRaised, IsSummed};
 ghost use Rattle.rb_arena.specs.RbTree.{with_item};
@@ -95,8 +94,7 @@ pub(crate) fn turn_node<W: Weave>(
 )
     requires { CanTurnNode W.Weave tree.old id side }
     ensures turned { Turns W.Weave tree.old tree.new id side }
-    ensures spare { tree.new.nodes.spare ≡ tree.old.nodes.spare }
-    ensures as_many { map.len tree.new.nodes.live ≡ map.len tree.old.nodes.live }
+    ensures count { KeepsCount tree.old.nodes tree.new.nodes }
 {
     let upper = node_of(tree, id);
     let Some(child) = upper.child(side) else {
@@ -118,8 +116,7 @@ pub(crate) fn replace_item<W: Weave>(
 )
     requires { StandsLow tree.old id }
     ensures made { Rewritten tree.old tree.new id (λ s. with_item s.datum item) }
-    ensures spare { tree.new.nodes.spare ≡ tree.old.nodes.spare }
-    ensures as_many { map.len tree.new.nodes.live ≡ map.len tree.old.nodes.live }
+    ensures count { KeepsCount tree.old.nodes tree.new.nodes }
 {
     let slot = node_of(tree, id);
     let datum = Data {

@@ -4,7 +4,16 @@ use Rattle.rb_rules.specs.Weaving.{Weaving, Exchanges}
 
 -- numbers, with addition and no shifts
 abbrev adding : Weaving ℕ ℕ (Unit {0})
-adding = record { none = 0; one = λ x. x; join = λ a b. a + b; still = tt; plus = λ a b. tt; minus = λ a b. tt; shift = λ b x. x; shift_sum = λ b s. s }
+adding = record {
+  none = 0;
+  one = λ x. x;
+  join = λ a b. a + b;
+  still = tt;
+  plus = λ a b. tt;
+  minus = λ a b. tt;
+  shift = λ b x. x;
+  shift_sum = λ b s. s;
+}
 
 three_in_the_place_of_two : Exchanges adding 10 2 3 11
 three_in_the_place_of_two l r e = omega (arith, e)

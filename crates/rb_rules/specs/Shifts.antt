@@ -22,7 +22,12 @@ module _ {X S B : Type 0} (w : Weaving X S B) where
 
   -- a node with the shift of its path applied to its numbers, and with none for its right subtree
   abbrev pub level_datum : B → Data X S B → Data X S B
-  level_datum acc d = record { item = w.shift acc d.item; delta = w.still; before = w.shift_sum acc d.before; whole = w.shift_sum acc d.whole }
+  level_datum acc d = record {
+    item = w.shift acc d.item;
+    delta = w.still;
+    before = w.shift_sum acc d.before;
+    whole = w.shift_sum acc d.whole;
+  }
 
   -- the tree with no shift left in it, below a path whose shifts come to acc
   abbrev pub levelled : B → Tree (Data X S B) → Tree (Data X S B)

@@ -32,7 +32,8 @@ module _ {X S B : Type 0} (w : Weaving X S B) (is_near : B → Type 0) where
   abbrev pub TurnedAt : map.FinMap nat_cmp (Slot (Data X S B)) → Option ℕ → ℕ → Side → Spot (Data X S B) → Type 0
   TurnedAt m root i side s =
       Woven w is_near w.still (plug s.hole (here s i)) → (low : Data X S B) × ((high : Data X S B)
-      × Made s.beside m root (plug s.hole (turned side low high (here s i))) × Lists (plug s.hole (turned side low high (here s i))) (entries w w.still (plug s.hole (here s i))))
+      × Made s.beside m root (plug s.hole (turned side low high (here s i)))
+      × Lists (plug s.hole (turned side low high (here s i))) (entries w w.still (plug s.hole (here s i))))
 
   -- The subtrees beside the path to a hole keep the right sums; the nodes on the path may not.
   abbrev pub Slack : Hole (Data X S B) → Type 0
@@ -43,14 +44,15 @@ module _ {X S B : Type 0} (w : Weaving X S B) (is_near : B → Type 0) where
   module _ (is_item : X → Type 0) (is_value : S → Type 0) where
     abbrev pub CanRenew : map.FinMap nat_cmp (Slot (Data X S B)) → Option ℕ → ℕ → Type 0
     CanRenew m root i =
-        (s : Spot (Data X S B)) × Made s.beside m root (plug s.hole (here s i)) × Woven w is_near (shift_at w s.hole) s.left × Woven w is_near (w.plus (shift_at w s.hole) s.datum.delta) s.right
+        (s : Spot (Data X S B)) × Made s.beside m root (plug s.hole (here s i))
+        × Woven w is_near (shift_at w s.hole) s.left × Woven w is_near (w.plus (shift_at w s.hole) s.datum.delta) s.right
         × Valued w is_item is_value (entries w (shift_at w s.hole) (here s i))
 
     -- the tree lies in the memory, right but for the nodes above one, whose name is at; no more than n of these
     abbrev pub IsSlack : Tree (Data X S B) → map.FinMap nat_cmp (Slot (Data X S B)) → Option ℕ → Option ℕ → ℕ → Tree (Data X S B) → Type 0
     IsSlack beside m root at n whole =
-        (k : Hole (Data X S B)) × ((t : Tree (Data X S B)) × (whole ≡ plug k t) × Made beside m root (plug k t) × (at ≡ above k) × Woven w is_near (shift_at w k) t × Slack k
-        × Valued w is_item is_value (entries w w.still (plug k t)) × (depth k ≤ n))
+        (k : Hole (Data X S B)) × ((t : Tree (Data X S B)) × (whole ≡ plug k t) × Made beside m root (plug k t) × (at ≡ above k)
+        × Woven w is_near (shift_at w k) t × Slack k × Valued w is_item is_value (entries w w.still (plug k t)) × (depth k ≤ n))
 
   -- a tree like that one but with the right sums lies in the memory
   abbrev pub RenewedFrom : Tree (Data X S B) → map.FinMap nat_cmp (Slot (Data X S B)) → Option ℕ → Tree (Data X S B) → Type 0

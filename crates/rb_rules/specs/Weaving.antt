@@ -45,7 +45,12 @@ module _ {X S B : Type 0} (w : Weaving X S B) where
 
   abbrev pub raised : Side → Data X S B → Data X S B → S → S → Data X S B
   raised Left n c mid far = record { item = c.item; delta = c.delta; before = c.before; whole = n.whole }
-  raised Right n c mid far = record { item = w.shift n.delta c.item; delta = w.plus n.delta c.delta; before = (lowered Right n c mid far).whole; whole = n.whole }
+  raised Right n c mid far = record {
+    item = w.shift n.delta c.item;
+    delta = w.plus n.delta c.delta;
+    before = (lowered Right n c mid far).whole;
+    whole = n.whole;
+  }
 
   -- whatever stands before and behind the part old of the whole, the sum is that with new in its place
   abbrev pub Exchanges : S → S → S → S → Type 0
@@ -78,7 +83,9 @@ pub record Sums {X S B : Type 0} (w : Weaving X S B) (is_item : X → Type 0) (i
 module _ {X S B : Type 0} (w : Weaving X S B) (is_near : B → Type 0) (is_item : X → Type 0) (is_sum is_value : S → Type 0) where
   -- each number on the way to `summed` is the relative form of a value
   abbrev pub CanSum : X → B → S → Type 0
-  CanSum item delta r = HeldSum w is_near is_sum is_value (w.shift_sum delta r) × HeldSum w is_near is_sum is_value (w.join (w.one item) (w.shift_sum delta r))
+  CanSum item delta r =
+      HeldSum w is_near is_sum is_value (w.shift_sum delta r)
+      × HeldSum w is_near is_sum is_value (w.join (w.one item) (w.shift_sum delta r))
 
   abbrev pub CanSumUp : X → B → S → S → Type 0
   CanSumUp item delta l r = CanSum item delta r × HeldSum w is_near is_sum is_value (w.join l (w.join (w.one item) (w.shift_sum delta r)))
@@ -86,11 +93,12 @@ module _ {X S B : Type 0} (w : Weaving X S B) (is_near : B → Type 0) (is_item 
   -- and to `lowered` and `raised`
   abbrev pub CanTurn : Side → Data X S B → Data X S B → S → S → Type 0
   CanTurn Left n c mid far =
-      HeldBy w is_near (w.minus w.still c.delta) × HeldItem w is_near is_item (w.shift (w.minus w.still c.delta) n.item) × HeldBy w is_near (w.minus n.delta c.delta)
-      × CanSumUp (w.shift (w.minus w.still c.delta) n.item) (w.minus n.delta c.delta) mid far
+      HeldBy w is_near (w.minus w.still c.delta) × HeldItem w is_near is_item (w.shift (w.minus w.still c.delta) n.item)
+      × HeldBy w is_near (w.minus n.delta c.delta) × CanSumUp (w.shift (w.minus w.still c.delta) n.item) (w.minus n.delta c.delta) mid far
   CanTurn Right n c mid far =
       CanSumUp n.item n.delta far mid × HeldItem w is_near is_item (w.shift n.delta c.item) × HeldBy w is_near (w.plus n.delta c.delta)
 
 -- a reach that a shift widens holds what the narrower one held, before the shift and after it
 abbrev pub Widens : {X S B : Type 0} → Weaving X S B → (B → B → Type 0) → (B → B → Option B) → Type 0
-Widens {X} {S} {B} w within widened = (reach by wider b : B) → widened reach by ≡ Some wider → within reach b → within wider b × within wider (w.plus by b)
+Widens {X} {S} {B} w within widened =
+    (reach by wider b : B) → widened reach by ≡ Some wider → within reach b → within wider b × within wider (w.plus by b)

@@ -226,25 +226,19 @@ unfolding times
 times-is zero x = omega arith
 times-is (suc n) x = omega (arith, times-is n x)
 
-pub calls_bound : (t : Tree) → way_bound calls (highest t) t ≤ 1 + (2 * highest t + nesting t * (2 * highest t + 4))
-calls_bound t =
-    let lists = times-mono (height t) (highest t) 2 (height_within t) in
-    let high = times-is (highest t) 2 in
-    let deep = times-is (nesting t) (pair_bound calls (highest t)) in
-    let each : pair_bound calls (highest t) ≡ 2 * highest t + 4 = omega arith in
-    let same : nesting t * pair_bound calls (highest t) ≡ nesting t * (2 * highest t + 4) = ap (λ (n : ℕ). nesting t * n) each in
+-- where a list of so many steps down costs `lists`, and a pair `each`
+bound_by : (c : Costs) (t : Tree) (lists each : ℕ) → highest t * (c.node + c.node) ≡ lists → lists + (c.opening + c.closing) ≡ each
+    → way_bound c (highest t) t ≤ c.node + (lists + nesting t * each)
+bound_by c t lists each e f =
+    let steps = times-mono (height t) (highest t) (c.node + c.node) (height_within t) in
+    let high = times-is (highest t) (c.node + c.node) in
+    let deep = times-is (nesting t) (pair_bound c (highest t)) in
+    let pair : pair_bound c (highest t) ≡ each = omega arith in
+    let pairs : nesting t * pair_bound c (highest t) ≡ nesting t * each = ap (λ (n : ℕ). nesting t * n) pair in
     omega arith
 
-none_times : (n : ℕ) → times n 0 ≡ 0
-unfolding times
-none_times zero = refl
-none_times (suc n) = omega (arith, none_times n)
+pub calls_bound : (t : Tree) → way_bound calls (highest t) t ≤ 1 + (2 * highest t + nesting t * (2 * highest t + 4))
+calls_bound t = bound_by calls t (2 * highest t) (2 * highest t + 4) (omega arith) (omega arith)
 
 pub openings_bound : (t : Tree) → way_bound openings (highest t) t ≤ nesting t
-openings_bound t =
-    let lists = none_times (height t) in
-    let none = none_times (highest t) in
-    let each : pair_bound openings (highest t) ≡ 1 = omega arith in
-    let deep = times-is (nesting t) (pair_bound openings (highest t)) in
-    let same : nesting t * pair_bound openings (highest t) ≡ nesting t * 1 = ap (λ (n : ℕ). nesting t * n) each in
-    omega arith
+openings_bound t = omega (arith, bound_by openings t 0 1 (omega arith) refl)

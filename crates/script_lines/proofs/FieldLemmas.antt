@@ -1,24 +1,19 @@
 -- The values of serde_json, and the definitions of fields.
-use Rattle.std.proofs.Common.{◌≡◌, ℕ, zero, suc, ◌+◌, ◌<◌, ◌≢◌, ◌&&◌, ◌||◌, List, [], ◌∷◌, ◌++◌, length, map, take, get_or, Option, Some, None, refl, ap, sym, ◌∙◌, arith, String, string_bytes}
+use Rattle.std.proofs.Common.{◌≡◌, ℕ, zero, suc, ◌+◌, ◌<◌, ◌≢◌, ◌&&◌, List, [], ◌∷◌, ◌++◌, length, map, take, get_or, Option, Some, None, refl, ap, sym, ◌∙◌, arith, String, string_bytes}
 use Rattle.std.specs.declared.alloc.Global.{Global}
-use Rattle.std.specs.List.{list_any, list_all}
-use Rattle.std.specs.Str.{bytes_eq}
-use Rattle.std.proofs.lemmas.List.Folds.{list_any-append}
+use Rattle.std.specs.List.{list_all}
 use Rattle.serde_json.specs.declared.value.Value.{Value}
 use Rattle.serde_json.specs.View.{view, items_view, members_view}
 use Rattle.serde_json.specs.Data.{Data, null, boolean, number, string, array, object, Members}
 use Rattle.serde_json.specs.Find.{as_object}
-use Rattle.script_lines.specs.Fields.{keys_among, has_only, all_of, two_of, positions_in}
+use Rattle.script_lines.specs.Fields.{is_name, keys_among, has_only, all_of, two_of, positions_in}
 use Rattle.script_lines.specs.Reading.{◌>>=◌}
 use Rattle.script_lines.specs.EditCommands.{op_in, some_ops_in}
 
-pub keys_among-members_view : (common names : List (List ℕ)) (es : List (String Global × Value))
-    → keys_among (common ++ names) (members_view es)
-    ≡ list_all (λ key. list_any (bytes_eq (string_bytes key)) common || list_any (bytes_eq (string_bytes key)) names) (map (λ e. e.0) es)
-keys_among-members_view common names [] = refl
-keys_among-members_view common names (e ∷ es) =
-    rw (list_any-append (bytes_eq (string_bytes e.0)) common names)
-    (ap (λ b. (list_any (bytes_eq (string_bytes e.0)) common || list_any (bytes_eq (string_bytes e.0)) names) && b) (keys_among-members_view common names es))
+pub keys_among-members_view : (names : List (List ℕ)) (es : List (String Global × Value))
+    → keys_among names (members_view es) ≡ list_all (λ key. is_name names (string_bytes key)) (map (λ e. e.0) es)
+keys_among-members_view names [] = refl
+keys_among-members_view names (e ∷ es) = ap (λ b. is_name names (string_bytes e.0) && b) (keys_among-members_view names es)
 
 -- what reads two items reads no other count of them
 pub two_of_other : {X : Type 0} (reads : Data → Data → Option X) (vs : List Value) → length vs ≢ 2 → two_of reads (items_view vs) ≡ None

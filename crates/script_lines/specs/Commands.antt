@@ -1,29 +1,44 @@
 -- The command that a line spells.
-use Rattle.std.specs.Prelude.{ℕ, List, ◌++◌, Option, None, option_and_then, codes, if◌then◌else◌}
+use Rattle.std.specs.Prelude.{ℕ, List, [], ◌∷◌, Option, None, option_and_then, codes, if◌then◌else◌}
 use Rattle.std.specs.Str.{is_utf8}
 use Rattle.serde_json.specs.Data.{Data}
 use Rattle.serde_json.specs.Read.{read}
-use Rattle.script_lines.specs.Reading.{◌>>=◌}
 use Rattle.script_lines.specs.Fields.{string_at}
-use Rattle.script_lines.specs.Rows.{Row, named_in}
-use Rattle.script_lines.specs.EditCommands.{edit_commands}
-use Rattle.script_lines.specs.TextCommands.{text_commands}
-use Rattle.script_lines.specs.DecorationCommands.{decoration_commands}
-use Rattle.script_lines.specs.BracketCommands.{bracket_commands}
-use Rattle.script_lines.specs.SnapshotCommands.{snapshot_commands}
+use Rattle.script_lines.specs.Rows.{Row, row, named_in, bare, of_number, of_two_numbers, of_span, of_position}
+use Rattle.script_lines.specs.EditCommands.{open_in, edit_in}
+use Rattle.script_lines.specs.DecorationCommands.{decorate_in, decos_in}
 use Rattle.script_lines.specs.declared.command.Command.{Command}
+use Rattle.script_lines.specs.declared.command.Command.TheVariants.{Undo, Redo, Stop, Size, Version, Line, Stops, Value, Offset, Position, Deco, Brackets, Match, Level, Snapshot, Read, Close}
 
 -- every command there is
 abbrev pub commands : List Row
-commands = edit_commands ++ (text_commands ++ (decoration_commands ++ (bracket_commands ++ snapshot_commands)))
-
--- the command of this name, where there is one and its fields are read
-abbrev pub command_named : List ℕ → Data → Option Command
-command_named name d = named_in commands name d >>= (λ found. found)
+commands =
+    row (codes "edit") edit_in
+    ∷ row (codes "undo") (bare Undo)
+    ∷ row (codes "redo") (bare Redo)
+    ∷ row (codes "stop") (bare Stop)
+    ∷ row (codes "open") open_in
+    ∷ row (codes "size") (bare Size)
+    ∷ row (codes "version") (bare Version)
+    ∷ row (codes "line") (of_number Line (codes "n"))
+    ∷ row (codes "stops") (of_number Stops (codes "n"))
+    ∷ row (codes "value") (of_span Value (codes "at"))
+    ∷ row (codes "offset") (of_position Offset)
+    ∷ row (codes "position") (of_number Position (codes "offset"))
+    ∷ row (codes "decorate") decorate_in
+    ∷ row (codes "deco") (of_number Deco (codes "id"))
+    ∷ row (codes "decos") decos_in
+    ∷ row (codes "brackets") (of_two_numbers Brackets (codes "from") (codes "to"))
+    ∷ row (codes "match") (of_position Match)
+    ∷ row (codes "level") (of_position Level)
+    ∷ row (codes "snapshot") (bare Snapshot)
+    ∷ row (codes "read") (of_two_numbers Read (codes "id") (codes "count"))
+    ∷ row (codes "close") (of_number Close (codes "id"))
+    ∷ []
 
 -- the field `cmd` names the command
 abbrev pub command_in : Data → Option Command
-command_in d = option_and_then (λ name. command_named name d) (string_at (codes "cmd") d)
+command_in d = option_and_then (λ name. named_in commands name d) (string_at (codes "cmd") d)
 
 -- a line is a command where it is JSON in UTF-8, and its value is that of a command
 unfoldable pub command_of : List ℕ → Option Command

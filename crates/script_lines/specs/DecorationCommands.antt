@@ -1,12 +1,11 @@
 -- The commands on decorations.
-use Rattle.std.specs.Prelude.{[], ◌∷◌, List, Option, Some, None, codes, if◌then◌else◌}
+use Rattle.std.specs.Prelude.{[], ◌∷◌, Option, Some, None, codes, if◌then◌else◌}
 use Rattle.serde_json.specs.Data.{Data}
 use Rattle.script_lines.specs.Reading.{◌>>=◌}
 use Rattle.script_lines.specs.Fields.{has_fields, whole_number, number_at, optional_number_at, list_at, span_at}
 use Rattle.script_lines.specs.Decorations.{new_deco_in}
-use Rattle.script_lines.specs.Rows.{Row, row, of_number}
 use Rattle.script_lines.specs.declared.command.Command.{Command}
-use Rattle.script_lines.specs.declared.command.Command.TheVariants.{Decorate, Deco, Decos}
+use Rattle.script_lines.specs.declared.command.Command.TheVariants.{Decorate, Decos}
 
 abbrev pub decorate_of : Data → Option Command
 decorate_of d = do
@@ -28,10 +27,3 @@ decos_of d = do
 -- `{"cmd":"decos","at":[START,END]}`, with `"owner":NUMBER` if only those of one owner are wanted
 abbrev pub decos_in : Data → Option Command
 decos_in d = if has_fields (codes "at" ∷ codes "owner" ∷ []) d then decos_of d else None
-
-abbrev pub decoration_commands : List Row
-decoration_commands =
-    row (codes "decorate") decorate_in
-    ∷ row (codes "deco") (of_number Deco (codes "id"))
-    ∷ row (codes "decos") decos_in
-    ∷ []

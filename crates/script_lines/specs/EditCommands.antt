@@ -8,9 +8,8 @@ use Rattle.script_lines.specs.declared.op.Place.TheVariants.{At, InRange}
 use Rattle.script_lines.specs.Reading.{◌>>=◌}
 use Rattle.script_lines.specs.Fields.{has_only, has_fields, all_of, text_at, span_from, positions_at, flag_at}
 use Rattle.script_lines.specs.Brackets.{optional_table_at}
-use Rattle.script_lines.specs.Rows.{Row, row, bare}
 use Rattle.script_lines.specs.declared.command.Command.{Command}
-use Rattle.script_lines.specs.declared.command.Command.TheVariants.{Open, Edit, Undo, Redo, Stop}
+use Rattle.script_lines.specs.declared.command.Command.TheVariants.{Open, Edit}
 
 abbrev pub open_of : Data → Option Command
 open_of d = do
@@ -48,12 +47,3 @@ some_ops_in (item d ds) = all_of op_in (item d ds)
 abbrev pub edit_in : Data → Option Command
 edit_in d = if has_fields (codes "ops" ∷ []) d
     then option_map Edit (option_and_then some_ops_in (option_and_then as_array (get (codes "ops") d))) else None
-
-abbrev pub edit_commands : List Row
-edit_commands =
-    row (codes "edit") edit_in
-    ∷ row (codes "undo") (bare Undo)
-    ∷ row (codes "redo") (bare Redo)
-    ∷ row (codes "stop") (bare Stop)
-    ∷ row (codes "open") open_in
-    ∷ []

@@ -1,5 +1,6 @@
 -- The fields of a JSON object, as serde_json reads it.
-use Rattle.std.specs.Prelude.{ℕ, Bool, true, false, ◌&&◌, List, [], ◌∷◌, ◌++◌, Option, Some, None, option_map, option_and_then, codes}
+use Rattle.std.specs.Prelude.{ℕ, Bool, true, false, ◌&&◌, List, [], ◌∷◌, ◌++◌, Option, Some, None, map, option_map, option_and_then, codes}
+use Rattle.std.specs.Borrow.{Bor}
 use Rattle.std.specs.List.{list_any}
 use Rattle.std.specs.Str.{bytes_eq}
 use Rattle.serde_json.specs.Data.{Data, null, boolean, number, string, array, object, Items, no_items, item, Members, no_members, member}
@@ -9,10 +10,17 @@ use Rattle.text_lengths.specs.declared.Span.{Span}
 use Rattle.unit_text.specs.Text.{units_of}
 use Rattle.script_lines.specs.Reading.{◌>>=◌}
 
+-- the names that a slice of texts tells
+abbrev pub names_of : List (Bor (List ℕ)) → List (List ℕ)
+names_of texts = map (λ text. text.now) texts
+
+abbrev pub is_name : List (List ℕ) → List ℕ → Bool
+is_name names key = list_any (bytes_eq key) names
+
 -- every key is one of the names
 abbrev pub keys_among : List (List ℕ) → Members → Bool
 keys_among names no_members = true
-keys_among names (member key d ms) = list_any (bytes_eq key) names && keys_among names ms
+keys_among names (member key d ms) = is_name names key && keys_among names ms
 
 -- the value is an object, and has no field beside those of the names
 abbrev pub has_only : List (List ℕ) → Data → Bool

@@ -4,10 +4,7 @@ pub mod Decorations
 pub mod Brackets
 pub mod Rows
 pub mod EditCommands
-pub mod TextCommands
 pub mod DecorationCommands
-pub mod BracketCommands
-pub mod SnapshotCommands
 pub mod Commands
 pub mod Replies
 mod Examples

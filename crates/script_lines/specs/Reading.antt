@@ -1,5 +1,5 @@
 -- What a reader's answer says, by the rule for what is read.
-use Rattle.std.specs.Prelude.{◌≡◌, Option, Some, None, Result, Ok, Err, option_and_then, ⊤}
+use Rattle.std.specs.Prelude.{◌≡◌, Bool, true, false, Option, Some, None, Result, Ok, Err, option_and_then, ⊤}
 use Rattle.script_lines.specs.declared.fields.LineFault.{LineFault}
 use Rattle.script_lines.specs.declared.fields.LineFault.TheVariants.{Syntax, Memory}
 
@@ -8,6 +8,11 @@ abbrev pub Reads : {X : Type 0} → Result X LineFault → Option X → Type 0
 Reads (Ok x) rule = rule ≡ Some x
 Reads (Err Syntax) rule = rule ≡ None
 Reads (Err Memory) rule = ⊤
+
+-- a line is refused as no command exactly where its test fails
+abbrev pub Passes : Result Unit LineFault → Bool → Type 0
+Passes (Ok done) test = test ≡ true
+Passes (Err fault) test = (test ≡ false) × (fault ≡ Syntax)
 
 infixl 10 ◌>>=◌
 -- the second reading, of what the first one gave

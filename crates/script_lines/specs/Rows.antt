@@ -3,8 +3,9 @@ use Rattle.std.specs.Prelude.{ℕ, List, [], ◌∷◌, Option, Some, None, opti
 use Rattle.std.specs.Str.{bytes_eq}
 use Rattle.serde_json.specs.Data.{Data}
 use Rattle.text_lengths.specs.declared.Position.{Position}
+use Rattle.text_lengths.specs.declared.Span.{Span}
 use Rattle.script_lines.specs.Reading.{◌>>=◌}
-use Rattle.script_lines.specs.Fields.{has_fields, number_at, position_in}
+use Rattle.script_lines.specs.Fields.{has_fields, number_at, span_at, position_in}
 use Rattle.script_lines.specs.declared.command.Command.{Command}
 
 -- the name of a command, and what reads its fields
@@ -15,10 +16,10 @@ pub record Row : Type 0 where
 abbrev pub row : List ℕ → (Data → Option Command) → Row
 row name reads = record { name = name; reads = reads }
 
--- what the row of this name reads; no command where there is no such row
-abbrev pub named_in : List Row → List ℕ → Data → Option (Option Command)
-named_in [] name d = Some None
-named_in (r ∷ rows) name d = if bytes_eq name r.name then option_map Some (r.reads d) else named_in rows name d
+-- what the row of this name reads; nothing where there is no such row
+abbrev pub named_in : List Row → List ℕ → Data → Option Command
+named_in [] name d = None
+named_in (r ∷ rows) name d = if bytes_eq name r.name then r.reads d else named_in rows name d
 
 -- ---- shapes of rows
 
@@ -40,6 +41,13 @@ two_numbers key other d = if has_fields (key ∷ other ∷ []) d
 -- `{"cmd":NAME,KEY:NUMBER,OTHER:NUMBER}`
 abbrev pub of_two_numbers : (ℕ → ℕ → Command) → List ℕ → List ℕ → Data → Option Command
 of_two_numbers command key other d = option_map (λ n. command n.0 n.1) (two_numbers key other d)
+
+abbrev pub sole_span : List ℕ → Data → Option Span
+sole_span key d = if has_fields (key ∷ []) d then span_at key d else None
+
+-- `{"cmd":NAME,KEY:[START,END]}`
+abbrev pub of_span : (Span → Command) → List ℕ → Data → Option Command
+of_span command key d = option_map command (sole_span key d)
 
 abbrev pub sole_position : Data → Option Position
 sole_position d = if has_fields (codes "line" ∷ codes "col" ∷ []) d then position_in d else None

@@ -1,75 +1,52 @@
-//! The table of commands: one module a group, and the shapes that many commands have.
+//! The table of commands.
 
 ghost use Rattle.std.specs.Prelude.{◌≡◌};
 ghost use Rattle.serde_json.specs.View.{view};
 ghost use Rattle.script_lines.specs.Reading.{Reads};
-ghost use Rattle.script_lines.specs.Rows.{bare, sole_number, two_numbers, sole_position};
-ghost use Rattle.script_lines.specs.Commands.{command_named};
+ghost use Rattle.script_lines.specs.Rows.{named_in};
+ghost use Rattle.script_lines.specs.Commands.{commands};
 
-mod brackets;
 mod decorations;
 mod edit;
-mod snapshots;
-mod text;
+mod shapes;
 
 use crate::command::Command;
-use crate::fields::{LineFault, expect_fields, number_at, position_in};
+use crate::fields::LineFault;
+use decorations::{decorate_in, decos_in};
+use edit::{edit_in, open_in};
 use serde_json::Value;
+use shapes::{bare, sole_number, sole_position, sole_span, two_numbers};
 use std::alloc::Global;
-use text_lengths::Position;
 
-/// The command of this name, of whichever group.
+/// The command of this name.
 pub(crate) fn command_named(alloc: Global, name: &str, value: &Value) -> Result<Command, LineFault>
-    ensures { Reads result (command_named name.now (view value.now)) }
+    ensures { Reads result (named_in commands name.now (view value.now)) }
 {
-    if let Some(command) = edit::named(alloc, name, value)? {
-        return Ok(command);
+    match name {
+        "edit" => edit_in(alloc, value),
+        "undo" => bare(value, Command::Undo),
+        "redo" => bare(value, Command::Redo),
+        "stop" => bare(value, Command::Stop),
+        "open" => open_in(alloc, value),
+        "size" => bare(value, Command::Size),
+        "version" => bare(value, Command::Version),
+        "line" => sole_number(value, "n").map(|n| Command::Line { n }),
+        "stops" => sole_number(value, "n").map(|n| Command::Stops { n }),
+        "value" => sole_span(value, "at").map(|at| Command::Value { at }),
+        "offset" => sole_position(value).map(|p| Command::Offset { p }),
+        "position" => sole_number(value, "offset").map(|offset| Command::Position { offset }),
+        "decorate" => decorate_in(alloc, value),
+        "deco" => sole_number(value, "id").map(|id| Command::Deco { id }),
+        "decos" => decos_in(value),
+        "brackets" => two_numbers(value, "from", "to").map(|(from, to)| Command::Brackets {
+            from,
+            to,
+        }),
+        "match" => sole_position(value).map(|p| Command::Match { p }),
+        "level" => sole_position(value).map(|p| Command::Level { p }),
+        "snapshot" => bare(value, Command::Snapshot),
+        "read" => two_numbers(value, "id", "count").map(|(id, count)| Command::Read { id, count }),
+        "close" => sole_number(value, "id").map(|id| Command::Close { id }),
+        _ => Err(LineFault::Syntax),
     }
-    if let Some(command) = text::named(name, value)? {
-        return Ok(command);
-    }
-    if let Some(command) = decorations::named(alloc, name, value)? {
-        return Ok(command);
-    }
-    if let Some(command) = brackets::named(name, value)? {
-        return Ok(command);
-    }
-    if let Some(command) = snapshots::named(name, value)? {
-        return Ok(command);
-    }
-    Err(LineFault::Syntax)
-}
-
-/// The command, which has no field of its own.
-fn bare(value: &Value, command: Command) -> Result<Command, LineFault>
-    ensures { Reads result (bare command (view value.now)) }
-{
-    expect_fields(value, &[])?;
-    Ok(command)
-}
-
-/// The number that a command's one field has.
-fn sole_number(value: &Value, key: &str) -> Result<u64, LineFault>
-    ensures { Reads result (sole_number key.now (view value.now)) }
-{
-    expect_fields(value, &[key])?;
-    number_at(value, key)
-}
-
-/// The numbers that a command's two fields have.
-fn two_numbers(value: &Value, key: &str, other: &str) -> Result<(u64, u64), LineFault>
-    ensures { Reads result (two_numbers key.now other.now (view value.now)) }
-{
-    expect_fields(value, &[key, other])?;
-    let first = number_at(value, key)?;
-    let second = number_at(value, other)?;
-    Ok((first, second))
-}
-
-/// The position that a command's fields name.
-fn sole_position(value: &Value) -> Result<Position, LineFault>
-    ensures { Reads result (sole_position (view value.now)) }
-{
-    expect_fields(value, &["line", "col"])?;
-    position_in(value)
 }

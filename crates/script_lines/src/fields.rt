@@ -1,12 +1,11 @@
 //! The fields of a JSON object.
 
-ghost use Rattle.std.specs.Prelude.{◌≡◌, ◌++◌, ◌||◌, true, false, map, string_bytes, OnOk, OnErr, IfErr};
+ghost use Rattle.std.specs.Prelude.{◌≡◌, ◌++◌, string_bytes};
 ghost use Rattle.std.specs.BTreeMap.{keys};
-ghost use Rattle.std.specs.List.{list_any, list_all};
-ghost use Rattle.std.specs.Str.{bytes_eq};
+ghost use Rattle.std.specs.List.{list_all};
 ghost use Rattle.serde_json.specs.View.{view, items_view};
-ghost use Rattle.script_lines.specs.Reading.{Reads};
-ghost use Rattle.script_lines.specs.Fields.{has_only, has_fields, whole_number, number_at, optional_number_at, text_of, text_at, span_in, span_from, span_at, position_of, positions_in, positions_at, position_in, flag_at};
+ghost use Rattle.script_lines.specs.Reading.{Reads, Passes};
+ghost use Rattle.script_lines.specs.Fields.{names_of, is_name, has_only, has_fields, whole_number, number_at, optional_number_at, text_of, text_at, span_in, span_from, span_at, position_of, positions_in, positions_at, position_in, flag_at};
 
 use crate::items::Item;
 use serde_json::{Map, Value};
@@ -28,28 +27,22 @@ pub enum LineFault {
 
 /// Refuses what is no object, or has a field beside those of the names.
 pub(crate) fn expect_only(value: &Value, names: &[&str]) -> Result<(), LineFault>
-    ensures only { OnOk result
-        (has_only (map (λ name. name.now) names.now) (view value.now) ≡ true) }
-    ensures other { OnErr result
-        (has_only (map (λ name. name.now) names.now) (view value.now) ≡ false) }
-    ensures syntax { IfErr result (λ fault. fault ≡ LineFault.Syntax) }
+    ensures { Passes result (has_only (names_of names.now) (view value.now)) }
 {
-    if has_only(value, &[], names) {
-        Ok(())
-    } else {
-        Err(LineFault::Syntax)
-    }
+    expect(has_only(value, &[], names))
 }
 
 /// Refuses what is no object, or has a field beside those that every command may have and those of the names.
 pub(crate) fn expect_fields(value: &Value, names: &[&str]) -> Result<(), LineFault>
-    ensures only { OnOk result
-        (has_fields (map (λ name. name.now) names.now) (view value.now) ≡ true) }
-    ensures other { OnErr result
-        (has_fields (map (λ name. name.now) names.now) (view value.now) ≡ false) }
-    ensures syntax { IfErr result (λ fault. fault ≡ LineFault.Syntax) }
+    ensures { Passes result (has_fields (names_of names.now) (view value.now)) }
 {
-    if has_only(value, &["cmd"], names) {
+    expect(has_only(value, &["cmd"], names))
+}
+
+fn expect(holds: bool) -> Result<(), LineFault>
+    ensures { Passes result holds }
+{
+    if holds {
         Ok(())
     } else {
         Err(LineFault::Syntax)
@@ -58,9 +51,7 @@ pub(crate) fn expect_fields(value: &Value, names: &[&str]) -> Result<(), LineFau
 
 /// Whether the value is an object with no field beside those of the two lists of names.
 fn has_only(value: &Value, common: &[&str], names: &[&str]) -> bool
-    ensures { result ≡ has_only
-        (map (λ name. name.now) common.now ++ map (λ name. name.now) names.now)
-        (view value.now) }
+    ensures { result ≡ has_only (names_of common.now ++ names_of names.now) (view value.now) }
 {
     match value.as_object() {
         Some(members) => are_names(members, common, names),
@@ -69,16 +60,23 @@ fn has_only(value: &Value, common: &[&str], names: &[&str]) -> bool
 }
 
 fn are_names(members: &Map<String, Value>, common: &[&str], names: &[&str]) -> bool
-    ensures { result ≡ list_all
-        (λ key. list_any (bytes_eq (string_bytes key)) (map (λ name. name.now) common.now)
-        || list_any (bytes_eq (string_bytes key)) (map (λ name. name.now) names.now))
+    ensures { result
+        ≡ list_all (λ key. is_name (names_of common.now ++ names_of names.now) (string_bytes key))
         (keys members.now) }
 {
-    members.keys().all(|key| is_one_of(key.as_str(), common) || is_one_of(key.as_str(), names))
+    members
+        .keys()
+        .all(|key| is_name(key.as_str(), common, names))
+}
+
+fn is_name(key: &str, common: &[&str], names: &[&str]) -> bool
+    ensures { result ≡ is_name (names_of common.now ++ names_of names.now) key.now }
+{
+    is_one_of(key, common) || is_one_of(key, names)
 }
 
 fn is_one_of(key: &str, names: &[&str]) -> bool
-    ensures { result ≡ list_any (bytes_eq key.now) (map (λ name. name.now) names.now) }
+    ensures { result ≡ is_name (names_of names.now) key.now }
 {
     for name in names {
         if key == *name {

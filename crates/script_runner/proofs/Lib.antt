@@ -2,6 +2,7 @@ pub mod CutLemmas
 pub mod LedLemmas
 pub mod ServeLemmas
 pub mod RunLemmas
+pub mod ObeyLemmas
 pub mod CommandLineLemmas
 pub mod PlayLemmas
 pub mod OpLemmas

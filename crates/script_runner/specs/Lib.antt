@@ -9,5 +9,6 @@ pub mod Words
 pub mod CommandLine
 pub mod Playing
 pub mod Runs
+pub mod Obeying
 mod Examples
 mod PlayExamples

@@ -9,9 +9,11 @@ use script_lines::{LineOp, LineOps, Place};
 use std::alloc::Global;
 use text_lengths::Span;
 
-/// The edits at their spans. `Range` where a position of theirs is none of the text.
-pub(crate) fn ops_at(alloc: Global, model: &Model, ops: LineOps) -> Result<Vec<Op>, ModelError>
-    ensures { AreFound result (ops_at model.now.document ops) }
+/// The edits at their spans. `Range` where a position of theirs is none of the text. What was looked up is remembered
+/// for the edit that comes next.
+pub(crate) fn ops_at(alloc: Global, model: &mut Model, ops: LineOps) -> Result<Vec<Op>, ModelError>
+    ensures found { AreFound result (ops_at model.old.document ops) }
+    ensures same { model.new ≡ model.old }
 {
     let ops = ops.into_vec();
     let mut found = Vec::with_capacity(alloc, ops.len()).map_err(|_| ModelError::Memory)?;
@@ -22,8 +24,9 @@ pub(crate) fn ops_at(alloc: Global, model: &Model, ops: LineOps) -> Result<Vec<O
     Ok(found)
 }
 
-fn op_at(model: &Model, op: LineOp) -> Option<Op>
-    ensures { result ≡ op_at model.now.document op }
+fn op_at(model: &mut Model, op: LineOp) -> Option<Op>
+    ensures found { result ≡ op_at model.old.document op }
+    ensures same { model.new ≡ model.old }
 {
     let span = span_of(model, op.place)?;
     Some(Op {
@@ -33,14 +36,15 @@ fn op_at(model: &Model, op: LineOp) -> Option<Op>
     })
 }
 
-fn span_of(model: &Model, place: Place) -> Option<Span>
-    ensures { result ≡ span_of model.now.document place }
+fn span_of(model: &mut Model, place: Place) -> Option<Span>
+    ensures found { result ≡ span_of model.old.document place }
+    ensures same { model.new ≡ model.old }
 {
     match place {
         Place::At(span) => Some(span),
         Place::InRange(start, end) => {
-            let start = model.offset(start)?;
-            let end = model.offset(end)?;
+            let start = model.locate(start)?;
+            let end = model.locate(end)?;
             Some(Span { start, end })
         }
     }

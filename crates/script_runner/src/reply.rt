@@ -111,7 +111,7 @@ fn table_of(brackets: Option<BracketTable>) -> BracketTable
 fn edit_reply(session: &mut Session, ops: LineOps) -> Outcome
     ensures { Tells session.old (Command.Edit ops) result session.new }
 {
-    let ops = ops_at(session.alloc, &session.model, ops)?;
+    let ops = ops_at(session.alloc, &mut session.model, ops)?;
     session.model.edit(ops)?;
     Ok(change_reply(&session.model))
 }

@@ -6,6 +6,7 @@ ghost use Rattle.script_runner.specs.Step.{memory_reply};
 ghost use Rattle.script_runner.specs.Script.{turn, Transcript, IsDecided};
 ghost use Rattle.script_runner.specs.Words.{words_command};
 ghost use Rattle.script_runner.specs.Playing.{Plays};
+ghost use Rattle.script_runner.specs.Obeying.{Obeys};
 ghost use Rattle.script_runner.specs.Runs.{most_script_bytes, number_of, status_after, EndsWith, ShowsUsage, Runs, IsAnswered, IsTold};
 
 use crate::playing::play;
@@ -48,7 +49,7 @@ pub(crate) enum Status {
 /// `run` answers the script of `src` on `out`. `play COUNT SEED` answers the script that the two numbers stand for, with
 /// at most [`MOST_LINES`](script_play::MOST_LINES) lines, and writes one line on `out` that sums the replies up; 3 also
 /// where a reply is `! memory`, and nothing is written then; never 4 nor 6.
-#[tactic(auto, using(crate::proofs::DecidedLemmas::decided, crate::proofs::DecidedLemmas::never_memory))]
+#[tactic(auto, using(crate::proofs::DecidedLemmas::decided, crate::proofs::DecidedLemmas::never_memory, crate::proofs::ObeyLemmas::for_run, crate::proofs::ObeyLemmas::for_play, crate::proofs::ObeyLemmas::for_none))]
 pub fn run_words<S: Source, K: Sink, E: Sink>(
     alloc: Global,
     words: &[String],
@@ -107,11 +108,25 @@ pub fn run_words<S: Source, K: Sink, E: Sink>(
         → words_command (map string_bytes words.now) ≡ Words.Play count seed
         → ((k : K) → (K.state k).faults ≡ 0) → (result ≤ 1) ⊎ (result ≡ 3) }
 {
+    number_of(obey(alloc, words, src, out, err))
+}
+
+/// Does what the words say, and leaves alone what is not theirs.
+fn obey<S: Source, K: Sink, E: Sink>(
+    alloc: Global,
+    words: &[String],
+    src: &mut S,
+    out: &mut K,
+    err: &mut E,
+) -> Status
+    ensures { Obeys S.state K.state E.state (words_command (map string_bytes words.now)) result
+        src.old src.new out.old out.new err.old err.new }
+{
     match words_of(alloc, words) {
-        Ok(Words::Run) => number_of(run(alloc, src, out)),
-        Ok(Words::Play { count, seed }) => number_of(play(alloc, count, seed, out)),
-        Ok(Words::NoCommand) => number_of(usage(err)),
-        Err(_) => number_of(Status::Memory),
+        Ok(Words::Run) => run(alloc, src, out),
+        Ok(Words::Play { count, seed }) => play(alloc, count, seed, out),
+        Ok(Words::NoCommand) => usage(err),
+        Err(_) => Status::Memory,
     }
 }
 

@@ -1,9 +1,11 @@
 -- What contracts see of a shelf, and the flat shelf that it shows.
-use Rattle.std.specs.Prelude.{ℕ, List, map}
+use Rattle.std.specs.Prelude.{ℕ, List, map, Result}
 use Rattle.std.specs.List.{All}
 use Rattle.chunk_buffers.specs.Chunks.{LiesIn}
-use Rattle.snapshot_rules.specs.Snapshots.{FlatShelf}
-use Rattle.snapshots.specs.Spans.{Spelled, snapshot_of}
+use Rattle.chunk_buffers.specs.declared.span.ChunkSpan.{ChunkSpan}
+use Rattle.snapshot_rules.specs.declared.ShelfError.{ShelfError}
+use Rattle.snapshot_rules.specs.Snapshots.{FlatShelf, flat_take, Takes}
+use Rattle.snapshots.specs.Spans.{Spelled, snapshot_of, spelled}
 
 pub record Shown : Type 0 where
   -- the open ones, in the order in which they were taken
@@ -21,3 +23,8 @@ Lies buffers s = All (LiesIn buffers) s.spans
 -- the spans of each open snapshot do
 abbrev pub LieIn : List (List ℕ) → Shown → Type 0
 LieIn buffers shelf = All (Lies buffers) shelf.snapshots
+
+-- whatever the buffers are, the flat shelf takes the text that the spans spell in them
+abbrev pub TakesText : Result ℕ ShelfError → Shown → Shown → List ChunkSpan → Type 0
+TakesText result old new spans = (buffers : List (List ℕ))
+    → Takes result (shown buffers old) (shown buffers new) (flat_take (shown buffers old) (spelled buffers spans))

@@ -4,9 +4,9 @@ ghost use Rattle.std.specs.Prelude.{◌≡◌, Err, ℕ, List, [], map, find, �
 ghost use Rattle.std.specs.List.{All, list_any};
 ghost use Rattle.std.specs.Option.{option_copied};
 ghost use Rattle.chunk_buffers.specs.Chunks.{LiesIn};
-ghost use Rattle.snapshot_rules.specs.Snapshots.{flat_take, flat_peek, flat_skip, flat_close, most_snapshots, greatest_snapshot, Takes, Peeks, Closes};
-ghost use Rattle.snapshots.specs.Spans.{IsSmall, spelled, spells, passed};
-ghost use Rattle.snapshots.specs.Shown.{shown, LieIn};
+ghost use Rattle.snapshot_rules.specs.Snapshots.{flat_peek, flat_skip, flat_close, most_snapshots, greatest_snapshot, Peeks, Closes};
+ghost use Rattle.snapshots.specs.Spans.{IsSmall, spells, passed};
+ghost use Rattle.snapshots.specs.Shown.{shown, LieIn, TakesText};
 
 use crate::kept::Kept;
 use crate::read::push_front;
@@ -49,9 +49,7 @@ impl Shelf {
     /// id would pass 2^63 - 1. An error leaves the shelf as it was.
     pub fn take(&mut self, spans: &[ChunkSpan]) -> Result<u64, ShelfError>
         requires { All IsSmall spans.now }
-        ensures change { (buffers : List (List ℕ))
-            → Takes result (shown buffers self.old) (shown buffers self.new)
-            (flat_take (shown buffers self.old) (spelled buffers spans.now)) }
+        ensures change { TakesText result self.old self.new spans.now }
         ensures inside { (buffers : List (List ℕ)) → LieIn buffers self.old
             → All (LiesIn buffers) spans.now → LieIn buffers self.new }
         ensures err { OnErr result (self.new ≡ self.old) }

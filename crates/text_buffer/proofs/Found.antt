@@ -324,3 +324,6 @@ place_small tree chunks text offset place =
     let x : List ℕ = spelled chunks.buffers (pieces_of tree.entries) in
     let within : offset ≤ length x = leb-true offset (length x) (and_parts (leb offset (length x)) (not (cuts_pair x offset)) place).0 in
     omega (arith, length-spelled chunks.buffers (pieces_of tree.entries) text.pieces, text.small)
+
+-- the units of a looked-up piece, in the piece and in the text
+pub ruleset units_of_piece = (found_unit, length-units_at)

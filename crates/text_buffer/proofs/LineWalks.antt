@@ -4,7 +4,6 @@ use Rattle.std.proofs.Common.{Result, Ok, Err}
 use Rattle.std.specs.Prelude.{OnErr}
 use Rattle.std.specs.List.{All}
 use Rattle.std.proofs.lemmas.List.{append-nil, length-append, length-drop, take_at, take_all, take-append-drop, drop-drop, drop-append-le}
-use Rattle.std.proofs.lemmas.List.Elements.{All-head}
 use Rattle.chunk_buffers.specs.declared.span.ChunkSpan.{ChunkSpan}
 use Rattle.chunk_buffers.specs.Chunks.{Shown, units_at, LiesIn}
 use Rattle.line_starts.specs.Starts.{break_count}
@@ -15,12 +14,12 @@ use Rattle.text_rules.specs.Lines.{Line, lines_of, line_length, line_start, line
 use Rattle.text_rules.specs.Breaks.{joins_pair}
 use Rattle.text_buffer.specs.declared.cursor.Cursor.{Cursor}
 use Rattle.text_buffer.specs.Text.{text_of, spelled, IsText, IsUnsplit}
-use Rattle.text_buffer.specs.Places.{IsPlace, text_from, IsAt, StartsAt}
+use Rattle.text_buffer.specs.Places.{IsPlace, text_from, StartsAt}
 use Rattle.text_buffer.proofs.Spelling.{length-units_at, length-spelled, drop-past}
 use Rattle.text_buffer.proofs.Borders.{ends_with-append}
 use Rattle.text_buffer.proofs.Contents.{line_at_is}
 use Rattle.text_buffer.proofs.Found.{found_text, found_start, found_size, found_inside, parts}
-use Rattle.text_buffer.proofs.Walks.{first_there, none_there, after_next, next_piece, next_place, next_has}
+use Rattle.text_buffer.proofs.Walks.{none_there, after_next, next_piece, next_place, next_has}
 use Rattle.text_buffer.proofs.FirstLines.{first_line, in_front, in_front_none, in_front-in_front, some_line, some_break, lines_after_no_break, first_line_of_both, lines_from, first_from, next_start, first_size, first_within}
 
 -- a text that makes no pair with what follows makes none with less of it

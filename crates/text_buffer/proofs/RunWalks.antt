@@ -73,3 +73,6 @@ pub has_run : (tree : Pieces) (chunks : Shown) (offset : ℕ) (next : Option Cur
     → MatchOption next (offset ≡ length (spelled chunks.buffers (pieces_of tree.entries))) (HasRun tree chunks offset) → HasRun tree chunks offset cursor
 has_run tree chunks offset next cursor e is =
     subst (λ o. MatchOption o (offset ≡ length (spelled chunks.buffers (pieces_of tree.entries))) (HasRun tree chunks offset)) e is
+
+-- the units from a place to the end of its piece
+pub ruleset run_fronts = (run_front, length-units_at)

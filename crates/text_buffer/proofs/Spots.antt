@@ -1,19 +1,15 @@
 -- What stands on both sides of a place of the text.
-use Rattle.std.proofs.Common.{◌≡◌, ℕ, ◌+◌, ◌-◌, ◌<◌, ◌≤◌, ◌&&◌, Bool, true, false, Option, Some, None, List, [], ◌∷◌, ◌++◌, length, take, drop, refl, ap, sym, ◌∙◌, append_assoc, arith}
-use Rattle.std.specs.Prelude.{IfSome, not}
-use Rattle.std.specs.List.{All}
+use Rattle.std.proofs.Common.{◌≡◌, ℕ, ◌+◌, ◌-◌, ◌≤◌, ◌&&◌, Bool, true, false, Option, Some, None, List, [], ◌∷◌, ◌++◌, length, take, drop, refl, ap, sym, ◌∙◌, append_assoc, arith}
+use Rattle.std.specs.Prelude.{not}
 use Rattle.std.proofs.lemmas.Bool.{le-leb}
-use Rattle.std.proofs.lemmas.List.{append-nil, length-take-le, take-take, take-append-drop}
-use Rattle.std.proofs.lemmas.List.Elements.{All-head, All-tail}
-use Rattle.chunk_buffers.specs.Chunks.{Shown, units_at, LiesIn}
-use Rattle.piece_tree.specs.declared.piece.Piece.{Piece}
+use Rattle.std.proofs.lemmas.List.{length-take-le, take-take, take-append-drop}
+use Rattle.chunk_buffers.specs.Chunks.{Shown}
 use Rattle.piece_tree.specs.declared.piece.Found.{Found}
-use Rattle.piece_tree.specs.Pieces.{Pieces, Entry, pieces_of, IsPieceOf, StandsAt, last_of}
+use Rattle.piece_tree.specs.Pieces.{Pieces, pieces_of, StandsAt}
 use Rattle.text_rules.specs.Lines.{line_feed, carriage_return, begins_with}
 use Rattle.text_rules.specs.Breaks.{ends_with, joins_pair, count_to, break_ends}
 use Rattle.text_rules.proofs.Breaks.{and_false, break_ends-append, count_to_all, count_to_none, count_to-append}
-use Rattle.text_buffer.specs.Text.{spelled, one_if, text_of, IsText}
-use Rattle.text_buffer.proofs.Borders.{ends_with-append, some_spelled}
+use Rattle.text_buffer.specs.Text.{one_if, text_of, IsText}
 use Rattle.text_buffer.proofs.Replacing.{ends_with_split, ends_with_some}
 use Rattle.text_buffer.proofs.Spelling.{length-spelled}
 use Rattle.text_buffer.proofs.Found.{found_reach}

@@ -1,9 +1,10 @@
 -- What an edit meets at the two ends of its span.
-use Rattle.std.specs.Prelude.{ℕ, ◌≡◌, ◌+◌, ◌<◌, ◌≤◌, ◌^◌, ◌++◌, List, length, take, drop}
+use Rattle.std.specs.Prelude.{ℕ, ◌≡◌, ◌+◌, ◌-◌, ◌<◌, ◌≤◌, ◌^◌, ◌++◌, List, length, take, drop}
 use Rattle.chunk_buffers.specs.Chunks.{Shown}
 use Rattle.piece_tree.specs.Pieces.{Pieces, StandsAt}
+use Rattle.text_lengths.specs.declared.Dirty.{Dirty}
 use Rattle.text_lengths.specs.declared.Span.{Span}
-use Rattle.text_rules.specs.Lines.{line_feed, carriage_return, begins_with}
+use Rattle.text_rules.specs.Lines.{lines_of, line_feed, carriage_return, begins_with}
 use Rattle.text_rules.specs.Breaks.{ends_with, joins_pair}
 use Rattle.text_buffer.specs.declared.edit.Spot.{Spot}
 use Rattle.text_buffer.specs.declared.edit.Ends.{Ends}
@@ -32,6 +33,19 @@ joins_of units span text = record {
   front = joins_pair (take span.start units) (text ++ drop span.end units);
   back = joins_pair (take span.start units ++ text) (drop span.end units);
 }
+
+-- the edit removes nothing, and puts some units in
+abbrev pub IsTyped : Span → List ℕ → Type 0
+IsTyped span text = (span.start ≡ span.end) × (0 < length text)
+
+-- the lines before those that an edit touched are the same in the old text and in the new one
+abbrev pub AreSameBefore : Dirty → List ℕ → List ℕ → Type 0
+AreSameBefore dirty old new = take (dirty.first - 1) (lines_of new) ≡ take (dirty.first - 1) (lines_of old)
+
+-- and so are the lines behind them
+abbrev pub AreSameBehind : Dirty → List ℕ → List ℕ → Type 0
+AreSameBehind dirty old new =
+    drop (dirty.first - 1 + dirty.new) (lines_of new) ≡ drop (dirty.first - 1 + dirty.old) (lines_of old)
 
 -- how many pairs that makes with the units of the text
 abbrev pub pairs_of : List ℕ → Span → List ℕ → ℕ

@@ -1,14 +1,22 @@
--- Places of a text that were looked up.
-use Rattle.std.specs.Prelude.{ℕ, ◌≡◌, true, IfSome}
-use Rattle.chunk_buffers.specs.Chunks.{Shown}
-use Rattle.piece_tree.specs.Pieces.{Pieces, IsFound}
-use Rattle.text_rules.specs.Breaks.{count_to, break_ends}
-use Rattle.unit_text.specs.Units.{is_place}
-use Rattle.text_buffer.specs.declared.queries.Counted.{Counted}
-use Rattle.text_buffer.specs.Text.{text_of}
+-- What is looked for among the pieces of a text.
+use Rattle.std.specs.Prelude.{ℕ, ◌+◌, ◌<◌, ◌≤◌, List}
+use Rattle.piece_tree.specs.declared.piece.Found.{Found}
+use Rattle.piece_tree.specs.Pieces.{Entry, pieces_of, unit_count, break_count_of, IsFound, HasUnit}
+use Rattle.text_buffer.specs.declared.look_up.Sought.{Sought}
+use Rattle.text_buffer.specs.declared.look_up.Sought.TheVariants.{Offset, Break}
 
--- the offset is a place, and what was looked up there is so
-pub record IsCounted (tree : Pieces) (chunks : Shown) (offset : ℕ) (at : Counted) : Type 0 where
-  pub place : is_place (text_of tree chunks).units offset ≡ true
-  pub found : IfSome at.found (IsFound tree.entries)
-  pub breaks : at.breaks ≡ count_to offset (break_ends 0 (text_of tree chunks).units)
+-- the looked-up piece has the break of this number, counted from 1
+pub record HasBreak (entries : List Entry) (found : Found) (n : ℕ) : Type 0 where
+  pub piece : IsFound entries found
+  pub start : found.before.breaks < n
+  pub end : n ≤ found.before.breaks + found.breaks
+
+-- the looked-up piece has what is sought
+abbrev pub Has : List Entry → Found → Sought → Type 0
+Has entries found (Offset offset) = HasUnit entries found offset
+Has entries found (Break n) = HasBreak entries found n
+
+-- one of the pieces has it
+abbrev pub IsThere : List Entry → Sought → Type 0
+IsThere entries (Offset offset) = offset < unit_count (pieces_of entries)
+IsThere entries (Break n) = (0 < n) × (n ≤ break_count_of (pieces_of entries))

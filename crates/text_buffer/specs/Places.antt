@@ -1,8 +1,8 @@
 -- Places in a text in pieces, from which a walk over the pieces goes on.
-use Rattle.std.specs.Prelude.{ℕ, ◌≡◌, ◌+◌, ◌<◌, ◌≤◌, Option, Some, None, List, ◌∷◌, ◌++◌, length, drop}
+use Rattle.std.specs.Prelude.{ℕ, ◌≡◌, ◌+◌, ◌<◌, ◌≤◌, Option, Some, None, List, ◌∷◌, ◌++◌, length, drop, MatchOption}
 use Rattle.chunk_buffers.specs.Chunks.{Shown, units_at, LiesIn}
 use Rattle.piece_tree.specs.declared.piece.Piece.{Piece}
-use Rattle.piece_tree.specs.Pieces.{Pieces, Entry, pieces_of}
+use Rattle.piece_tree.specs.Pieces.{Pieces, Entry, pieces_of, first_of}
 use Rattle.text_rules.specs.Lines.{lines_of, line_start}
 use Rattle.text_buffer.specs.declared.cursor.Cursor.{Cursor}
 use Rattle.text_buffer.specs.Text.{text_of, spelled}
@@ -17,6 +17,11 @@ pub record IsPlace (buffers : List (List ℕ)) (entries : List Entry) (place : C
   -- the units of the piece before the place
   pub before : List ℕ
   pub units : units_at buffers piece.span ≡ before ++ units_at buffers place.rest
+
+-- the place is the start of the first of these pieces; there is none where there is no piece
+abbrev pub IsFirstOf : List Entry → Option Cursor → Type 0
+IsFirstOf entries place =
+    MatchOption place (None ≡ first_of entries) (λ start. Some (start.id, start.rest) ≡ first_of entries)
 
 -- the units from the place on
 abbrev pub text_from : (buffers : List (List ℕ)) (entries : List Entry) (place : Cursor) → IsPlace buffers entries place → List ℕ

@@ -5,7 +5,7 @@ ghost use Rattle.chunk_buffers.specs.Chunks.{LiesIn};
 ghost use Rattle.piece_tree.specs.Pieces.{StandsAt};
 ghost use Rattle.text_buffer.specs.Edits.{IsSpot, AreEnds};
 ghost use Rattle.text_buffer.specs.Text.{most_along};
-ghost use Rattle.text_buffer.specs.Views.{IsView};
+ghost use Rattle.text_buffer.specs.Views.{IsView, entries_in, buffers_in};
 ghost use Rattle.text_buffer.specs.Along.{if_little, rest_before, rest_behind, rests_of, units_along};
 
 use crate::edit::{Ends, Spot};
@@ -33,7 +33,7 @@ impl View<'_> {
         requires view { IsView self.now }
         requires ends { AreEnds self.now.pieces.now self.now.chunks.now ends.now }
         ensures { result
-            ≡ rests_of self.now.chunks.now.buffers ends.now.start ends.now.end (length text.now) }
+            ≡ rests_of (buffers_in self.now) ends.now.start ends.now.end (length text.now) }
     {
         let front = self.rest_before(&ends.start);
         let back = if ends.start.offset == ends.end.offset {
@@ -54,7 +54,7 @@ impl View<'_> {
     fn rest_before(&self, spot: &Spot) -> Option<ChunkSpan>
         requires view { IsView self.now }
         requires spot { IsSpot self.now.pieces.now self.now.chunks.now spot.now }
-        ensures { result ≡ rest_before self.now.chunks.now.buffers spot.now.found spot.now.offset }
+        ensures { result ≡ rest_before (buffers_in self.now) spot.now.found spot.now.offset }
     {
         let found = spot.found?;
         let own = spot.offset - found.before.units;
@@ -65,7 +65,7 @@ impl View<'_> {
     fn rest_behind(&self, spot: &Spot) -> Option<ChunkSpan>
         requires view { IsView self.now }
         requires spot { IsSpot self.now.pieces.now self.now.chunks.now spot.now }
-        ensures { result ≡ rest_behind self.now.chunks.now.buffers spot.now.found spot.now.offset }
+        ensures { result ≡ rest_behind (buffers_in self.now) spot.now.found spot.now.offset }
     {
         let found = spot.found?;
         if spot.offset == found.before.units {
@@ -82,7 +82,7 @@ impl View<'_> {
         requires view { IsView self.now }
         requires spot { IsSpot self.now.pieces.now self.now.chunks.now spot.now }
         requires there { along ≤ spot.now.offset }
-        ensures { StandsAt self.now.pieces.now.entries result (spot.now.offset - along) }
+        ensures { StandsAt (entries_in self.now) result (spot.now.offset - along) }
     {
         if along == 0 {
             return spot.found;

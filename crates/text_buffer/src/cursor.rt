@@ -1,13 +1,12 @@
 //! A place in the text that goes on from piece to piece.
 
-ghost use Rattle.std.specs.Prelude.{◌≡◌, ℕ, ◌+◌, ◌-◌, ◌<◌, ◌≤◌, ◌++◌, Some, None, [], length, take, drop, MatchOption, OnOk, OnErr, IfOk};
+ghost use Rattle.std.specs.Prelude.{◌≡◌, ℕ, ◌+◌, ◌-◌, ◌<◌, ◌≤◌, ◌++◌, [], length, take, drop, MatchOption, OnOk, OnErr, IfOk};
 ghost use Rattle.chunk_buffers.specs.Chunks.{units_at};
-ghost use Rattle.piece_tree.specs.Pieces.{first_of, IsFound};
+ghost use Rattle.piece_tree.specs.Pieces.{IsFound};
 ghost use Rattle.steps.specs.Counting.{IsFor};
-ghost use Rattle.text_rules.specs.Lines.{Line, lines_of, line_at};
-ghost use Rattle.text_buffer.specs.Text.{text_of};
-ghost use Rattle.text_buffer.specs.Views.{IsView};
-ghost use Rattle.text_buffer.specs.Places.{IsPlace, IsAt, HasRun, StartsAt, NextStartsAt};
+ghost use Rattle.text_rules.specs.Lines.{Line, lines_of};
+ghost use Rattle.text_buffer.specs.Views.{IsView, units_in, entries_in, buffers_in, HasLine, IsPlaceIn, LineStarts};
+ghost use Rattle.text_buffer.specs.Places.{IsFirstOf, IsAt, HasRun, NextStartsAt};
 
 use crate::breaks::without_break;
 use crate::view::View;
@@ -30,7 +29,7 @@ impl<'t> View<'t> {
     #[tactic(auto, using(crate::proofs::Found::sizes))]
     pub(crate) fn cursor_at(&self, offset: u64) -> Cursor
         requires view { IsView self.now }
-        requires inside { offset < length (text_of self.now.pieces.now self.now.chunks.now).units }
+        requires inside { offset < length (units_in self.now) }
         ensures { HasRun self.now.pieces.now self.now.chunks.now offset result }
     {
         let found = self.piece_at(&None, offset);
@@ -40,7 +39,7 @@ impl<'t> View<'t> {
     // The place of this offset, which stands in the piece or at its end.
     fn cursor_in(&self, found: &Found, offset: u64) -> Cursor
         requires view { IsView self.now }
-        requires piece { IsFound self.now.pieces.now.entries found.now }
+        requires piece { IsFound (entries_in self.now) found.now }
         requires start { found.now.before.units ≤ offset }
         requires within { offset ≤ found.now.before.units + found.now.span.units }
         ensures at { IsAt self.now.pieces.now self.now.chunks.now offset result }
@@ -57,19 +56,20 @@ impl<'t> View<'t> {
     /// The units from the place to the end of its piece.
     pub(crate) fn run(&self, cursor: &Cursor) -> &'t [u16]
         requires view { IsView self.now }
-        requires place { IsPlace self.now.chunks.now.buffers self.now.pieces.now.entries cursor.now }
-        ensures { result.now ≡ units_at self.now.chunks.now.buffers cursor.now.rest }
+        requires place { IsPlaceIn self.now cursor.now }
+        ensures { result.now ≡ units_at (buffers_in self.now) cursor.now.rest }
     {
         self.chunks.units(cursor.rest)
     }
 
     /// The units from the offset to the end of their piece.
+    #[tactic(auto, using(crate::proofs::RunWalks::run_fronts))]
     pub(crate) fn run_at(&self, offset: u64) -> &'t [u16]
         requires view { IsView self.now }
-        requires inside { offset < length (text_of self.now.pieces.now self.now.chunks.now).units }
+        requires inside { offset < length (units_in self.now) }
         ensures some { 0 < length result.now }
         ensures front { result.now ≡ take (length result.now)
-            (drop offset (text_of self.now.pieces.now self.now.chunks.now).units) }
+            (drop offset (units_in self.now)) }
     {
         self.run(&self.cursor_at(offset))
     }
@@ -78,10 +78,8 @@ impl<'t> View<'t> {
     #[tactic(auto, using(crate::proofs::LineWalks::place_among))]
     pub(crate) fn next(&self, cursor: &Cursor) -> Option<Cursor>
         requires view { IsView self.now }
-        requires place { IsPlace self.now.chunks.now.buffers self.now.pieces.now.entries cursor.now }
-        ensures { (is : IsPlace self.now.chunks.now.buffers self.now.pieces.now.entries cursor.now)
-            → MatchOption result (None ≡ first_of is.later)
-            (λ next. Some (next.id, next.rest) ≡ first_of is.later) }
+        requires place { IsPlaceIn self.now cursor.now }
+        ensures { (is : IsPlaceIn self.now cursor.now) → IsFirstOf is.later result }
     {
         let (id, rest) = self.pieces.next(cursor.id)?;
         Some(Cursor { id, rest })
@@ -92,9 +90,9 @@ impl<'t> View<'t> {
     pub(crate) fn start_of_line(&self, n: u64) -> Option<Cursor>
         requires view { IsView self.now }
         requires first { 0 < n }
-        requires there { n ≤ length (lines_of (text_of self.now.pieces.now self.now.chunks.now).units) }
+        requires there { n ≤ length (lines_of (units_in self.now)) }
         ensures { MatchOption result
-            (self.now.pieces.now.entries ≡ []) (StartsAt self.now.pieces.now self.now.chunks.now n) }
+            (entries_in self.now ≡ []) (LineStarts self.now n) }
     {
         self.start_of_line_for::<Brand>(n, Blank::new(1))
     }
@@ -102,10 +100,10 @@ impl<'t> View<'t> {
     fn start_of_line_for<L: Ledger>(&self, n: u64, blank: Blank) -> Option<Cursor>
         requires view { IsView self.now }
         requires first { 0 < n }
-        requires there { n ≤ length (lines_of (text_of self.now.pieces.now self.now.chunks.now).units) }
+        requires there { n ≤ length (lines_of (units_in self.now)) }
         requires blank { IsFor L.Ledger blank }
         ensures { MatchOption result
-            (self.now.pieces.now.entries ≡ []) (StartsAt self.now.pieces.now self.now.chunks.now n) }
+            (entries_in self.now ≡ []) (LineStarts self.now n) }
     {
         let mut steps = Steps::<L>::new(blank);
         if self.len() == 0 {
@@ -127,11 +125,11 @@ impl<'t> View<'t> {
         out: &mut Vec<u16>,
     ) -> Result<Option<Cursor>, AllocError>
         requires view { IsView self.now }
-        requires place { IsPlace self.now.chunks.now.buffers self.now.pieces.now.entries start }
-        ensures content { (n : ℕ) (line : Line) → StartsAt self.now.pieces.now self.now.chunks.now n start
-            → line_at (text_of self.now.pieces.now self.now.chunks.now).units n ≡ Some line
+        requires place { IsPlaceIn self.now start }
+        ensures content { (n : ℕ) (line : Line) → LineStarts self.now n start
+            → HasLine self.now n line
             → OnOk result (out.new.items ≡ out.old.items ++ line.content) }
-        ensures next { (n : ℕ) → StartsAt self.now.pieces.now self.now.chunks.now n start
+        ensures next { (n : ℕ) → LineStarts self.now n start
             → IfOk result (NextStartsAt self.now.pieces.now self.now.chunks.now n) }
         ensures err { OnErr result (take (length out.old.items) out.new.items ≡ out.old.items) }
     {

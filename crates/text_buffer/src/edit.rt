@@ -1,12 +1,12 @@
 //! What an edit meets at the two ends of its span, each looked up by one search at most, and which lines it touches.
 
-ghost use Rattle.std.specs.Prelude.{◌≡◌, ℕ, ◌+◌, ◌<◌, ◌≤◌, ◌^◌, ◌++◌, ◌&&◌, not, List, length, take, drop, IfSome};
-ghost use Rattle.piece_tree.specs.Pieces.{pieces_of, unit_count, IsFound};
+ghost use Rattle.std.specs.Prelude.{◌≡◌, ℕ, ◌+◌, ◌<◌, ◌≤◌, ◌^◌, ◌&&◌, not, List, length, take, drop, IfSome};
+ghost use Rattle.piece_tree.specs.Pieces.{pieces_of, unit_count, IsFound, StandsAt};
 ghost use Rattle.text_rules.specs.Lines.{line_feed, carriage_return, begins_with};
-ghost use Rattle.text_rules.specs.Breaks.{ends_with, joins_pair, count_to, break_ends};
+ghost use Rattle.text_rules.specs.Breaks.{ends_with, count_to, break_ends};
 ghost use Rattle.text_rules.specs.Dirty.{dirty_lines};
-ghost use Rattle.text_buffer.specs.Text.{text_of, one_if};
-ghost use Rattle.text_buffer.specs.Views.{IsView};
+ghost use Rattle.text_buffer.specs.Text.{one_if};
+ghost use Rattle.text_buffer.specs.Views.{IsView, units_in, entries_in};
 ghost use Rattle.text_buffer.specs.Edits.{IsSpot, AreEnds, span_between, joins_of, pairs_of};
 
 use crate::view::View;
@@ -46,7 +46,7 @@ impl View<'_> {
     pub(crate) fn ends_of(&self, span: Span) -> Ends
         requires view { IsView self.now }
         requires ordered { span.start ≤ span.end }
-        requires within { span.end ≤ length (text_of self.now.pieces.now self.now.chunks.now).units }
+        requires within { span.end ≤ length (units_in self.now) }
         ensures ends { AreEnds self.now.pieces.now self.now.chunks.now result }
         ensures span { span_between result ≡ span }
     {
@@ -62,8 +62,8 @@ impl View<'_> {
     // that has its unit, or at the end.
     fn spot_at(&self, near: &Option<Found>, offset: u64) -> Spot
         requires view { IsView self.now }
-        requires near { IfSome near.now (IsFound self.now.pieces.now.entries) }
-        requires within { offset ≤ length (text_of self.now.pieces.now self.now.chunks.now).units }
+        requires near { IfSome near.now (IsFound (entries_in self.now)) }
+        requires within { offset ≤ length (units_in self.now) }
         ensures spot { IsSpot self.now.pieces.now self.now.chunks.now result }
         ensures offset { result.offset ≡ offset }
     {
@@ -88,10 +88,10 @@ impl View<'_> {
     #[tactic(auto, using(crate::proofs::Lasts::last_units))]
     fn is_after_return(&self, near: &Option<Found>, offset: u64) -> bool
         requires view { IsView self.now }
-        requires near { IfSome near.now (IsFound self.now.pieces.now.entries) }
-        requires within { offset ≤ unit_count (pieces_of self.now.pieces.now.entries) }
+        requires near { IfSome near.now (IsFound (entries_in self.now)) }
+        requires within { offset ≤ unit_count (pieces_of (entries_in self.now)) }
         ensures { result ≡ ends_with carriage_return
-            (take offset (text_of self.now.pieces.now self.now.chunks.now).units) }
+            (take offset (units_in self.now)) }
     {
         if offset == 0 {
             return false;
@@ -105,7 +105,7 @@ impl View<'_> {
         requires view { IsView self.now }
         requires ends { AreEnds self.now.pieces.now self.now.chunks.now ends.now }
         ensures { result ≡ joins_of
-            (text_of self.now.pieces.now self.now.chunks.now).units (span_between ends.now) text.now }
+            (units_in self.now) (span_between ends.now) text.now }
     {
         Joins {
             front: self.joins_front(ends, text),
@@ -117,9 +117,7 @@ impl View<'_> {
     fn joins_front(&self, ends: &Ends, text: &[u16]) -> bool
         requires view { IsView self.now }
         requires ends { AreEnds self.now.pieces.now self.now.chunks.now ends.now }
-        ensures { let units = (text_of self.now.pieces.now self.now.chunks.now).units in
-            result ≡ joins_pair (take ends.now.start.offset units)
-            (text.now ++ drop ends.now.end.offset units) }
+        ensures { result ≡ (joins_of (units_in self.now) (span_between ends.now) text.now).front }
     {
         if !ends.start.after_return {
             return false;
@@ -135,9 +133,7 @@ impl View<'_> {
     fn joins_back(&self, ends: &Ends, text: &[u16]) -> bool
         requires view { IsView self.now }
         requires ends { AreEnds self.now.pieces.now self.now.chunks.now ends.now }
-        ensures { let units = (text_of self.now.pieces.now self.now.chunks.now).units in
-            result ≡ joins_pair (take ends.now.start.offset units ++ text.now)
-            (drop ends.now.end.offset units) }
+        ensures { result ≡ (joins_of (units_in self.now) (span_between ends.now) text.now).back }
     {
         if !ends.end.before_feed {
             return false;
@@ -153,11 +149,11 @@ impl View<'_> {
         requires view { IsView self.now }
         requires ends { AreEnds self.now.pieces.now self.now.chunks.now ends.now }
         requires joins { joins ≡ joins_of
-            (text_of self.now.pieces.now self.now.chunks.now).units (span_between ends.now) text.now }
+            (units_in self.now) (span_between ends.now) text.now }
         ensures { result ≡ dirty_lines
-            (text_of self.now.pieces.now self.now.chunks.now).units (span_between ends.now) text.now }
+            (units_in self.now) (span_between ends.now) text.now }
     {
-        let counted = self.breaks_before(&ends.start);
+        let counted = self.breaks_before(&ends.start.found, ends.start.offset);
         let own = one_if(ends_line(&ends.start));
         let first = counted - own + 1;
         let last = self.breaks_behind(ends, counted) + 1;
@@ -169,16 +165,16 @@ impl View<'_> {
         }
     }
 
-    // How many breaks end at the place or before it.
-    fn breaks_before(&self, spot: &Spot) -> u64
+    /// How many breaks end at the offset or before it, where the piece has its unit, or there is none at the end.
+    #[tactic(auto, using(crate::proofs::Found::sizes))]
+    pub(crate) fn breaks_before(&self, at: &Option<Found>, offset: u64) -> u64
         requires view { IsView self.now }
-        requires spot { IsSpot self.now.pieces.now self.now.chunks.now spot.now }
-        ensures count { result ≡ count_to spot.now.offset
-            (break_ends 0 (text_of self.now.pieces.now self.now.chunks.now).units) }
+        requires place { StandsAt (entries_in self.now) at.now offset }
+        ensures count { result ≡ count_to offset (break_ends 0 (units_in self.now)) }
         ensures few { result < 2 ^ 62 }
     {
-        match &spot.found {
-            Some(found) => self.breaks_to(found, spot.offset),
+        match at {
+            Some(found) => self.breaks_to(found, offset),
             None => self.breaks(),
         }
     }
@@ -188,16 +184,16 @@ impl View<'_> {
         requires view { IsView self.now }
         requires ends { AreEnds self.now.pieces.now self.now.chunks.now ends.now }
         requires counted { counted ≡ count_to ends.now.start.offset
-            (break_ends 0 (text_of self.now.pieces.now self.now.chunks.now).units) }
+            (break_ends 0 (units_in self.now)) }
         requires few { counted < 2 ^ 62 }
         ensures count { result ≡ count_to ends.now.end.offset
-            (break_ends 0 (text_of self.now.pieces.now self.now.chunks.now).units) }
+            (break_ends 0 (units_in self.now)) }
         ensures few { result < 2 ^ 62 }
     {
         if ends.end.offset == ends.start.offset {
             return counted;
         }
-        self.breaks_before(&ends.end)
+        self.breaks_before(&ends.end.found, ends.end.offset)
     }
 }
 

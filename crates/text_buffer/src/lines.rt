@@ -2,9 +2,7 @@
 
 ghost use Rattle.std.specs.Prelude.{◌≡◌, ◌+◌, ◌<◌, ◌≤◌, ◌++◌, Some, [], length, MatchOption, OnOk, OnErr, IfSome};
 ghost use Rattle.text_rules.specs.Lines.{Line, lines_of, line_at};
-ghost use Rattle.text_buffer.specs.Text.{text_of};
-ghost use Rattle.text_buffer.specs.Views.{IsView};
-ghost use Rattle.text_buffer.specs.Places.{StartsAt};
+ghost use Rattle.text_buffer.specs.Views.{IsView, units_in, entries_in, LineStarts};
 
 use crate::cursor::Cursor;
 use crate::view::View;
@@ -23,23 +21,21 @@ pub struct LineReader<'t> {
 
 impl<'t> Model for LineReader<'t> {
     ghost use Rattle.std.specs.Prelude.{ℕ, List, ◌+◌, IfSome};
-    ghost use Rattle.text_buffer.specs.Text.{text_of};
-    ghost use Rattle.text_buffer.specs.Views.{IsView};
-    ghost use Rattle.text_buffer.specs.Places.{StartsAt};
+    ghost use Rattle.text_buffer.specs.Views.{IsView, units_in, LineStarts};
 
     ghost Value = { List ℕ };
 
-    ghost view = { λ r. (text_of r.view.pieces.now r.view.chunks.now).units };
+    ghost view = { λ r. units_in r.view };
 
     ghost invariant = { λ r. IsView r.view
-        × IfSome r.next (StartsAt r.view.pieces.now r.view.chunks.now (r.before + 1)) };
+        × IfSome r.next (LineStarts r.view (r.before + 1)) };
 }
 
 impl<'t> LineReader<'t> {
     // A reader of the text.
     pub(crate) fn new(view: &View<'t>) -> LineReader<'t>
         requires { IsView view.now }
-        ensures { result ≡ (text_of view.now.pieces.now view.now.chunks.now).units }
+        ensures { result ≡ units_in view.now }
     {
         LineReader {
             view: *view,
@@ -78,11 +74,11 @@ impl<'t> LineReader<'t> {
 // Where line `n` starts, from where the line after so many starts, if that is known. None where the text has no piece.
 fn start_from(view: &View<'_>, before: u64, next: Option<Cursor>, n: u64) -> Option<Cursor>
     requires view { IsView view.now }
-    requires next { IfSome next (StartsAt view.now.pieces.now view.now.chunks.now (before + 1)) }
+    requires next { IfSome next (LineStarts view.now (before + 1)) }
     requires first { 0 < n }
-    requires there { n ≤ length (lines_of (text_of view.now.pieces.now view.now.chunks.now).units) }
+    requires there { n ≤ length (lines_of (units_in view.now)) }
     ensures { MatchOption result
-        (view.now.pieces.now.entries ≡ []) (StartsAt view.now.pieces.now view.now.chunks.now n) }
+        (entries_in view.now ≡ []) (LineStarts view.now n) }
 {
     match next {
         Some(start) if before == n - 1 => Some(start),

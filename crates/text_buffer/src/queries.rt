@@ -9,13 +9,12 @@ ghost use Rattle.steps.specs.Counting.{IsFor};
 ghost use Rattle.unit_text.specs.Units.{is_place};
 ghost use Rattle.text_rules.specs.Lines.{Line, lines_of, line_start};
 ghost use Rattle.text_rules.specs.Positions.{position_of, is_position, offset_of};
-ghost use Rattle.text_buffer.specs.Text.{text_of, ends_with_pair};
-ghost use Rattle.text_buffer.specs.Views.{IsView};
-ghost use Rattle.text_buffer.specs.LookUps.{IsCounted};
+ghost use Rattle.text_buffer.specs.Text.{ends_with_pair};
+ghost use Rattle.text_buffer.specs.Views.{IsView, units_in, entries_in, IsPlaceAt};
 
 use crate::breaks::ends_with_pair;
 use crate::edit::one_if;
-use crate::look_up::nearer;
+use crate::look_up::{Sought, nearer};
 use crate::view::View;
 use chunk_buffers::Chunks;
 use piece_tree::Found;
@@ -24,20 +23,10 @@ use std::sync::ledger::{Blank, Ledger};
 use steps::Steps;
 use text_lengths::{Position, Span};
 
-/// A place of the text that was looked up.
+/// A place of the text, with a piece that was looked up there, if any: the next look-up beside it asks that piece first.
 #[derive(Drop)]
-pub(crate) struct Counted {
-    /// The piece that has the unit at the place; None at the end.
-    pub found: Option<Found>,
-    /// How many breaks end at the place or before it.
-    pub breaks: u64,
-}
-
-/// Where a line starts, or where its content ends.
-#[derive(Drop)]
-pub(crate) struct LineBound {
+pub(crate) struct Place {
     pub offset: u64,
-    /// The piece that has the break there; None at the start of the text and at its end.
     pub found: Option<Found>,
 }
 
@@ -49,16 +38,17 @@ impl View<'_> {
         steps: &mut Steps<L>,
     ) -> Option<Position>
         requires view { IsView self.now }
-        ensures position { let units = (text_of self.now.pieces.now self.now.chunks.now).units in
+        ensures position { let units = units_in self.now in
             result ≡ (if is_place units offset then Some (position_of units offset) else None) }
-        ensures cost { WithinLookUps 3 (length self.now.pieces.now.entries) (steps.new - steps.old) }
+        ensures cost { WithinLookUps 3 (length (entries_in self.now)) (steps.new - steps.old) }
     {
-        let Some(at) = self.breaks_at(offset, steps) else {
+        let Some(at) = self.place_at(&None, offset, steps) else {
             return None;
         };
-        let start = self.start_after(&at.found, at.breaks, steps);
+        let breaks = self.breaks_before(&at.found, offset);
+        let start = self.start_after(&at.found, breaks, steps);
         Some(Position {
-            line: at.breaks + 1,
+            line: breaks + 1,
             column: offset - start.offset + 1,
         })
     }
@@ -70,9 +60,9 @@ impl View<'_> {
         steps: &mut Steps<L>,
     ) -> Option<u64>
         requires view { IsView self.now }
-        ensures offset { let units = (text_of self.now.pieces.now self.now.chunks.now).units in
+        ensures offset { let units = units_in self.now in
             result ≡ (if is_position units position then Some (offset_of units position) else None) }
-        ensures cost { WithinLookUps 4 (length self.now.pieces.now.entries) (steps.new - steps.old) }
+        ensures cost { WithinLookUps 4 (length (entries_in self.now)) (steps.new - steps.old) }
     {
         if position.line == 0 {
             return None;
@@ -89,37 +79,43 @@ impl View<'_> {
             return None;
         }
         let offset = start.offset + (position.column - 1);
-        if self.is_place_in_line(&start, &end, offset, steps) {
-            Some(offset)
-        } else {
-            None
-        }
+        let near = nearer(&start.found, &end.found, offset);
+        let Some(at) = self.place_at(&near, offset, steps) else {
+            return None;
+        };
+        Some(at.offset)
     }
 
-    // The breaks up to the offset, with the piece that has its unit; None where the offset is no place of the text.
-    fn breaks_at<L: Ledger>(&self, offset: u64, steps: &mut Steps<L>) -> Option<Counted>
+    // The place of this offset, with the piece that has its unit, which is looked for near a piece; None where the offset is no place
+    // of the text.
+    fn place_at<L: Ledger>(
+        &self,
+        near: &Option<Found>,
+        offset: u64,
+        steps: &mut Steps<L>,
+    ) -> Option<Place>
         requires view { IsView self.now }
+        requires near { IfSome near.now (IsFound (entries_in self.now)) }
         ensures place { MatchOption result
-            (is_place (text_of self.now.pieces.now self.now.chunks.now).units offset ≡ false)
-            (IsCounted self.now.pieces.now self.now.chunks.now offset) }
-        ensures cost { WithinLookUps 2 (length self.now.pieces.now.entries) (steps.new - steps.old) }
+            (is_place (units_in self.now) offset ≡ false) (IsPlaceAt self.now offset) }
+        ensures cost { WithinLookUps 2 (length (entries_in self.now)) (steps.new - steps.old) }
     {
         if offset > self.len() {
             return None;
         }
         if offset == self.len() {
-            return Some(Counted {
+            return Some(Place {
+                offset,
                 found: None,
-                breaks: self.breaks(),
             });
         }
-        let found = self.unit_near(&None, offset, steps);
-        if self.cuts_pair_beside(&None, &found, offset, steps) {
+        let found = self.piece_with(near, Sought::Offset(offset), steps);
+        if self.cuts_pair_beside(near, &found, offset, steps) {
             return None;
         }
-        Some(Counted {
+        Some(Place {
+            offset,
             found: Some(found),
-            breaks: self.breaks_to(&found, offset),
         })
     }
 
@@ -129,50 +125,45 @@ impl View<'_> {
         near: &Option<Found>,
         breaks: u64,
         steps: &mut Steps<L>,
-    ) -> LineBound
+    ) -> Place
         requires view { IsView self.now }
-        requires near { IfSome near.now (IsFound self.now.pieces.now.entries) }
+        requires near { IfSome near.now (IsFound (entries_in self.now)) }
         requires there { breaks
-            < length (lines_of (text_of self.now.pieces.now self.now.chunks.now).units) }
+            < length (lines_of (units_in self.now)) }
         ensures start { result.offset
-            ≡ line_start (text_of self.now.pieces.now self.now.chunks.now).units (breaks + 1) }
-        ensures found { IfSome result.found (IsFound self.now.pieces.now.entries) }
-        ensures cost { WithinLookUps 1 (length self.now.pieces.now.entries) (steps.new - steps.old) }
+            ≡ line_start (units_in self.now) (breaks + 1) }
+        ensures found { IfSome result.found (IsFound (entries_in self.now)) }
+        ensures cost { WithinLookUps 1 (length (entries_in self.now)) (steps.new - steps.old) }
     {
         if breaks == 0 {
-            return LineBound {
+            return Place {
                 offset: 0,
                 found: None,
             };
         }
         let (found, own) = self.break_at(near, breaks, steps);
-        LineBound {
+        Place {
             offset: found.before.units + own,
             found: Some(found),
         }
     }
 
     // Where the content of the line ends that starts there. Its break is looked for in the piece that has the break before it.
-    fn content_end<L: Ledger>(
-        &self,
-        line: u64,
-        start: &LineBound,
-        steps: &mut Steps<L>,
-    ) -> LineBound
+    fn content_end<L: Ledger>(&self, line: u64, start: &Place, steps: &mut Steps<L>) -> Place
         requires view { IsView self.now }
-        requires near { IfSome start.now.found (IsFound self.now.pieces.now.entries) }
+        requires near { IfSome start.now.found (IsFound (entries_in self.now)) }
         requires first { 0 < line }
-        requires there { line ≤ length (lines_of (text_of self.now.pieces.now self.now.chunks.now).units) }
+        requires there { line ≤ length (lines_of (units_in self.now)) }
         requires start { start.now.offset
-            ≡ line_start (text_of self.now.pieces.now self.now.chunks.now).units line }
+            ≡ line_start (units_in self.now) line }
         ensures content { (d : Line) → result.offset ≡ start.now.offset + length (slice_index_or
-            (lines_of (text_of self.now.pieces.now self.now.chunks.now).units) (line - 1) d).content }
-        ensures within { result.offset ≤ length (text_of self.now.pieces.now self.now.chunks.now).units }
-        ensures found { IfSome result.found (IsFound self.now.pieces.now.entries) }
-        ensures cost { WithinLookUps 1 (length self.now.pieces.now.entries) (steps.new - steps.old) }
+            (lines_of (units_in self.now)) (line - 1) d).content }
+        ensures within { result.offset ≤ length (units_in self.now) }
+        ensures found { IfSome result.found (IsFound (entries_in self.now)) }
+        ensures cost { WithinLookUps 1 (length (entries_in self.now)) (steps.new - steps.old) }
     {
         if line == self.line_count() {
-            return LineBound {
+            return Place {
                 offset: self.len(),
                 found: None,
             };
@@ -180,39 +171,17 @@ impl View<'_> {
         let (found, own) = self.break_at(&start.found, line, steps);
         let end = found.before.units + own;
         let is_pair = ends_line_with_pair(self.chunks, &found, own, end - start.offset);
-        LineBound {
+        Place {
             offset: end - 1 - one_if(is_pair),
             found: Some(found),
         }
-    }
-
-    // Whether the offset is a place of the text, which is looked for in the pieces that have the breaks of its line.
-    fn is_place_in_line<L: Ledger>(
-        &self,
-        start: &LineBound,
-        end: &LineBound,
-        offset: u64,
-        steps: &mut Steps<L>,
-    ) -> bool
-        requires view { IsView self.now }
-        requires start { IfSome start.now.found (IsFound self.now.pieces.now.entries) }
-        requires end { IfSome end.now.found (IsFound self.now.pieces.now.entries) }
-        ensures place { result ≡ is_place (text_of self.now.pieces.now self.now.chunks.now).units offset }
-        ensures cost { WithinLookUps 2 (length self.now.pieces.now.entries) (steps.new - steps.old) }
-    {
-        if offset >= self.len() {
-            return offset == self.len();
-        }
-        let near = nearer(&start.found, &end.found, offset);
-        let found = self.unit_near(&near, offset, steps);
-        !self.cuts_pair_beside(&start.found, &found, offset, steps)
     }
 
     /// `position_at`, with steps that nobody counts.
     pub(crate) fn position_for<L: Ledger>(&self, offset: u64, blank: Blank) -> Option<Position>
         requires view { IsView self.now }
         requires blank { IsFor L.Ledger blank }
-        ensures { let units = (text_of self.now.pieces.now self.now.chunks.now).units in
+        ensures { let units = units_in self.now in
             result ≡ (if is_place units offset then Some (position_of units offset) else None) }
     {
         self.position_at(offset, &mut Steps::<L>::new(blank))
@@ -222,7 +191,7 @@ impl View<'_> {
     pub(crate) fn offset_for<L: Ledger>(&self, position: Position, blank: Blank) -> Option<u64>
         requires view { IsView self.now }
         requires blank { IsFor L.Ledger blank }
-        ensures { let units = (text_of self.now.pieces.now self.now.chunks.now).units in
+        ensures { let units = units_in self.now in
             result ≡ (if is_position units position then Some (offset_of units position) else None) }
     {
         self.offset_at(position, &mut Steps::<L>::new(blank))
@@ -232,13 +201,13 @@ impl View<'_> {
     pub(crate) fn line_span_for<L: Ledger>(&self, n: u64, blank: Blank) -> Span
         requires view { IsView self.now }
         requires first { 0 < n }
-        requires there { n ≤ length (lines_of (text_of self.now.pieces.now self.now.chunks.now).units) }
+        requires there { n ≤ length (lines_of (units_in self.now)) }
         requires blank { IsFor L.Ledger blank }
         ensures start { result.start
-            ≡ line_start (text_of self.now.pieces.now self.now.chunks.now).units n }
+            ≡ line_start (units_in self.now) n }
         ensures content { (d : Line) → result.end ≡ result.start + length (slice_index_or
-            (lines_of (text_of self.now.pieces.now self.now.chunks.now).units) (n - 1) d).content }
-        ensures within { result.end ≤ length (text_of self.now.pieces.now self.now.chunks.now).units }
+            (lines_of (units_in self.now)) (n - 1) d).content }
+        ensures within { result.end ≤ length (units_in self.now) }
     {
         let mut steps = Steps::<L>::new(blank);
         let start = self.start_after(&None, n - 1, &mut steps);
@@ -254,7 +223,7 @@ impl View<'_> {
         requires view { IsView self.now }
         requires ordered { start ≤ end }
         requires blank { IsFor L.Ledger blank }
-        ensures { let units = (text_of self.now.pieces.now self.now.chunks.now).units in
+        ensures { let units = units_in self.now in
             result ≡ (is_place units start && is_place units end) }
     {
         let mut steps = Steps::<L>::new(blank);

@@ -2,25 +2,37 @@
 
 ghost use Rattle.std.specs.Prelude.{◌≡◌, ◌-◌, ◌<◌, ◌≤◌, nat_lt, List, [], length, slice_index_or, IfSome, IsTrue};
 ghost use Rattle.std.specs.List.{All};
-ghost use Rattle.piece_tree.specs.Pieces.{Entry, IsFound, HasUnit};
-ghost use Rattle.text_buffer.specs.Remembering.{end_of, HasBreak};
+ghost use Rattle.piece_tree.specs.Pieces.{Entry, IsFound};
+ghost use Rattle.text_buffer.specs.LookUps.{Has};
+ghost use Rattle.text_buffer.specs.Remembering.{end_of, KeepsBefore};
 
-use crate::look_up::{has_break, has_unit};
+use crate::look_up::Sought;
 use piece_tree::Found;
 use std::alloc::{AllocError, Global};
 use std::marker::Model;
 
-/// Room for more pieces than that is given back when they are forgotten.
-const MOST_KEPT: usize = 1024;
+/// Where more pieces than that are left of earlier edits, they are forgotten before others are looked up.
+const MOST_LEFT: usize = 64;
 
-/// Looked-up pieces of one text, in its order: each starts where the one before it ends, or behind that.
+/// Room for more pieces than that is given back with them.
+const MOST_ROOM: usize = 1024;
+
+/// No more pieces than that are remembered.
+const MOST_KEPT: usize = 1 << 16;
+
+/// Of the pieces that have no order yet, so many of the last are asked.
+const MOST_ASKED: usize = 16;
+
+/// Looked-up pieces of one text. The settled ones come first, in the order of the text: each ends where the one before it ends, or
+/// behind that. Behind them stand those that came since, in the order in which they came.
 #[derive(Drop)]
 pub(crate) struct Remembered {
     pieces: Vec<Found>,
+    settled: usize,
 }
 
 impl Model for Remembered {
-    ghost use Rattle.std.specs.Prelude.{List};
+    ghost use Rattle.std.specs.Prelude.{List, ◌≤◌, length, take};
     ghost use Rattle.std.specs.List.Sorted.{IsNonDecreasingBy};
     ghost use Rattle.piece_tree.specs.declared.piece.Found.{Found};
     ghost use Rattle.text_buffer.specs.Remembering.{end_of};
@@ -29,7 +41,8 @@ impl Model for Remembered {
 
     ghost view = { λ r. r.pieces.items };
 
-    ghost invariant = { λ r. IsNonDecreasingBy end_of r.pieces.items };
+    ghost invariant = { λ r. (r.settled ≤ length r.pieces.items)
+        × IsNonDecreasingBy end_of (take r.settled r.pieces.items) };
 }
 
 impl Remembered {
@@ -38,18 +51,37 @@ impl Remembered {
     {
         Remembered {
             pieces: Vec::new(alloc),
+            settled: 0,
         }
     }
 
-    /// Forgets all, and makes room for that many pieces. It fails where memory is short.
-    pub(crate) fn restart(&mut self, count: usize) -> Result<(), AllocError>
+    /// Before others come: where none came since the last edit, and many are left of those before or much room, all are forgotten.
+    pub(crate) fn begin(&mut self)
+        ensures { (entries : List Entry) → All (IsFound entries) self.old
+            → All (IsFound entries) self.new }
+    {
+        let is_large = self.settled > MOST_LEFT || self.pieces.capacity() > MOST_ROOM;
+        if is_large && self.settled == self.pieces.len() {
+            self.clear();
+        }
+    }
+
+    /// Makes room for so many more. It fails where memory is short.
+    pub(crate) fn make_room(&mut self, count: usize) -> Result<(), AllocError>
+        ensures { self.new ≡ self.old }
+    {
+        self.pieces.reserve(count)
+    }
+
+    // Forgets all.
+    fn clear(&mut self)
         ensures { self.new ≡ [] }
     {
+        self.settled = 0;
         self.pieces.clear();
-        if self.pieces.capacity() > MOST_KEPT {
+        if self.pieces.capacity() > MOST_ROOM {
             self.pieces.shrink_to_fit();
         }
-        self.pieces.reserve(count)
     }
 
     /// The last of them.
@@ -60,70 +92,100 @@ impl Remembered {
         self.pieces.last().copied()
     }
 
-    /// That of them that has the unit at this offset, if there is one.
-    pub(crate) fn at(&self, offset: u64) -> Option<Found>
+    /// That of them that has what is sought, if one is found.
+    pub(crate) fn find(&self, sought: Sought) -> Option<Found>
         ensures { (entries : List Entry) → All (IsFound entries) self.now
-            → IfSome result (λ found. HasUnit entries found offset) }
+            → IfSome result (λ found. Has entries found sought) }
     {
-        let starting = self
-            .pieces
-            .partition_point(|piece| piece.before.units <= offset);
-        let found = self.pieces.get(starting.checked_sub(1)?)?;
-        if has_unit(found, offset) {
-            Some(*found)
-        } else {
-            None
+        let starting = self.pieces[..self.settled].partition_point(|piece| !sought.is_before(
+            piece,
+        ));
+        match self.pieces[..starting].last() {
+            Some(found) if sought.is_in(found) => Some(*found),
+            _ => one_with(self.latest(), sought),
         }
     }
 
-    /// That of them that has the `n`-th break, if there is one. Breaks count from 1.
-    pub(crate) fn with_break(&self, n: u64) -> Option<Found>
+    // The last of those that came since the others were settled.
+    fn latest(&self) -> &[Found]
         ensures { (entries : List Entry) → All (IsFound entries) self.now
-            → IfSome result (λ found. HasBreak entries found n) }
+            → All (IsFound entries) result.now }
     {
-        let starting = self.pieces.partition_point(|piece| piece.before.breaks < n);
-        let found = self.pieces.get(starting.checked_sub(1)?)?;
-        if has_break(found, n) {
-            Some(*found)
-        } else {
-            None
+        let from = self.pieces.len().saturating_sub(MOST_ASKED);
+        &self.pieces[self.settled.max(from)..]
+    }
+
+    /// Remembers a piece too, wherever it stands. Where memory is short, it does not.
+    pub(crate) fn add(&mut self, found: &Found)
+        ensures { (entries : List Entry) → All (IsFound entries) self.old
+            → IsFound entries found.now → All (IsFound entries) self.new }
+    {
+        if self.pieces.len() >= MOST_KEPT {
+            self.clear();
+        }
+        let _ = self.pieces.push(*found);
+    }
+
+    /// The same, unless it is remembered already.
+    pub(crate) fn note(&mut self, found: &Found)
+        ensures { (entries : List Entry) → All (IsFound entries) self.old
+            → IsFound entries found.now → All (IsFound entries) self.new }
+    {
+        if self.find(Sought::Offset(found.before.units)).is_none() {
+            self.add(found);
         }
     }
 
-    /// Remembers a piece too that stands behind the others, where there is room for it.
-    pub(crate) fn push(&mut self, found: Found)
+    /// Puts all in the order of the text.
+    pub(crate) fn settle(&mut self)
+        ensures { (entries : List Entry) → All (IsFound entries) self.old
+            → All (IsFound entries) self.new }
+    {
+        if self.settled < self.pieces.len() {
+            self.pieces.sort_unstable_by_key(|piece| end_of(piece));
+            self.settled = self.pieces.len();
+        }
+    }
+
+    /// Forgets those that do not end before the offset, from which on the text has changed, and those that have no order. It remembers
+    /// a piece that the text has there now.
+    pub(crate) fn change_from(&mut self, offset: u64, told: Option<Found>)
+        ensures { (old new : List Entry) → All (IsFound old) self.old → KeepsBefore old new offset
+            → IfSome told (IsFound new) → All (IsFound new) self.new }
+    {
+        self.settled = self.pieces[..self.settled].partition_point(|piece| end_of(piece)
+            < u128::from(offset));
+        self.pieces.truncate(self.settled);
+        if let Some(found) = told {
+            self.push_last(found);
+        }
+    }
+
+    // Remembers a piece that stands behind the others, where there is room for it and those have their order.
+    fn push_last(&mut self, found: Found)
         ensures { (entries : List Entry) → All (IsFound entries) self.old → IsFound entries found
             → All (IsFound entries) self.new }
     {
         let has_room = self.pieces.len() < self.pieces.capacity();
-        if has_room && end_by(&self.pieces, found.before.units) {
+        let is_settled = self.settled == self.pieces.len();
+        if has_room && is_settled && end_by(&self.pieces, found.before.units) {
             self.pieces.push_reserved(found);
+            self.settled += 1;
         }
     }
+}
 
-    /// Forgets those that do not end before the offset, from which on the text has changed, and remembers a piece that it has there now.
-    pub(crate) fn change_from(&mut self, offset: u64, told: Option<Found>)
-        ensures { (old new : List Entry) → All (IsFound old) self.old
-            → ((found : Found) → IsFound old found → end_of found < offset → IsFound new found)
-            → IfSome told (IsFound new) → All (IsFound new) self.new }
-    {
-        self.forget_from(offset);
-        if let Some(found) = told {
-            self.push(found);
+// One of the pieces that has what is sought, if there is one.
+fn one_with(pieces: &[Found], sought: Sought) -> Option<Found>
+    ensures { (entries : List Entry) → All (IsFound entries) pieces.now
+        → IfSome result (λ found. Has entries found sought) }
+{
+    for piece in pieces {
+        if sought.is_in(piece) {
+            return Some(*piece);
         }
     }
-
-    /// Forgets those that do not end before the offset.
-    fn forget_from(&mut self, offset: u64)
-        ensures { (old new : List Entry) → All (IsFound old) self.old
-            → ((found : Found) → IsFound old found → end_of found < offset → IsFound new found)
-            → All (IsFound new) self.new }
-    {
-        let ending = self
-            .pieces
-            .partition_point(|piece| ends_before(piece, offset));
-        self.pieces.truncate(ending);
-    }
+    None
 }
 
 // Whether the last of the pieces ends at the offset or before it.
@@ -134,11 +196,12 @@ fn end_by(pieces: &[Found], offset: u64) -> bool
     let Some(last) = pieces.last() else {
         return true;
     };
-    last.before.units <= offset && last.span.units as u64 <= offset - last.before.units
+    end_of(last) <= u128::from(offset)
 }
 
-fn ends_before(piece: &Found, offset: u64) -> bool
-    ensures { result ≡ nat_lt (end_of piece.now) offset }
+// Where the piece ends.
+fn end_of(piece: &Found) -> u128
+    ensures { result ≡ end_of piece.now }
 {
-    piece.before.units < offset && (piece.span.units as u64) < offset - piece.before.units
+    u128::from(piece.before.units) + u128::from(piece.span.units)
 }

@@ -2,8 +2,7 @@
 
 ghost use Rattle.std.specs.Prelude.{◌≡◌, ◌+◌, ◌-◌, ◌<◌, ◌≤◌, ◌++◌, [], length, take, drop, min, vec_len, vec_capacity, MatchOption, IfSome};
 ghost use Rattle.std.specs.Option.{ForNone};
-ghost use Rattle.text_buffer.specs.Text.{text_of};
-ghost use Rattle.text_buffer.specs.Views.{IsView};
+ghost use Rattle.text_buffer.specs.Views.{IsView, units_in};
 
 use crate::cursor::Cursor;
 use crate::view::View;
@@ -23,16 +22,15 @@ pub struct Runs<'t> {
 
 impl<'t> Model for Runs<'t> {
     ghost use Rattle.std.specs.Prelude.{ℕ, List, ◌≡◌, length, drop, MatchOption};
-    ghost use Rattle.text_buffer.specs.Text.{text_of};
-    ghost use Rattle.text_buffer.specs.Views.{IsView};
+    ghost use Rattle.text_buffer.specs.Views.{IsView, units_in};
     ghost use Rattle.text_buffer.specs.Places.{HasRun};
 
     ghost Value = { List ℕ };
 
-    ghost view = { λ r. drop r.before (text_of r.view.pieces.now r.view.chunks.now).units };
+    ghost view = { λ r. drop r.before (units_in r.view) };
 
     ghost invariant = { λ r. IsView r.view × MatchOption r.next
-        (r.before ≡ length (text_of r.view.pieces.now r.view.chunks.now).units)
+        (r.before ≡ length (units_in r.view))
         (HasRun r.view.pieces.now r.view.chunks.now r.before) };
 }
 
@@ -40,8 +38,8 @@ impl<'t> Runs<'t> {
     // A reader of the text from the offset on.
     pub(crate) fn new(view: &View<'t>, offset: u64) -> Runs<'t>
         requires view { IsView view.now }
-        requires within { offset ≤ length (text_of view.now.pieces.now view.now.chunks.now).units }
-        ensures { result ≡ drop offset (text_of view.now.pieces.now view.now.chunks.now).units }
+        requires within { offset ≤ length (units_in view.now) }
+        ensures { result ≡ drop offset (units_in view.now) }
     {
         if offset == view.len() {
             return Runs {
@@ -69,6 +67,21 @@ impl<'t> Runs<'t> {
         self.next = self.view.next(&cursor);
         Some(run)
     }
+
+    /// Reads the next units into `out`: as many as fit and are there. Answers how many.
+    pub(crate) fn read_into(&mut self, out: &mut [u16]) -> usize
+        ensures count { result ≡ min (length out.old) (length self.old) }
+        ensures units { out.new ≡ take result self.old ++ drop result out.old }
+    {
+        let mut done = 0;
+        while done < out.len() {
+            let Some(run) = self.next() else {
+                return done;
+            };
+            done += copy_at(run, done, out);
+        }
+        done
+    }
 }
 
 impl View<'_> {
@@ -76,10 +89,10 @@ impl View<'_> {
     pub(crate) fn push_span(&self, span: Span, out: &mut Vec<u16>)
         requires view { IsView self.now }
         requires ordered { span.start ≤ span.end }
-        requires within { span.end ≤ length (text_of self.now.pieces.now self.now.chunks.now).units }
+        requires within { span.end ≤ length (units_in self.now) }
         requires room { vec_len out.old + (span.end - span.start) ≤ vec_capacity out.old }
         ensures { out.new.items ≡ out.old.items ++ take (span.end - span.start)
-            (drop span.start (text_of self.now.pieces.now self.now.chunks.now).units) }
+            (drop span.start (units_in self.now)) }
     {
         if span.start == span.end {
             return;
@@ -104,5 +117,17 @@ fn push_first(units: &[u16], most: u64, out: &mut Vec<u16>) -> u64
 {
     let count = (units.len() as u64).min(most);
     let _ = out.extend_from_slice(&units[..count as usize]);
+    count
+}
+
+// Copies the first units to that place of `out`, as many as fit. Answers how many.
+fn copy_at(units: &[u16], at: usize, out: &mut [u16]) -> usize
+    requires { at ≤ length out.old }
+    ensures count { result ≡ min (length units.now) (length out.old - at) }
+    ensures units { out.new
+        ≡ take at out.old ++ (take result units.now ++ drop (at + result) out.old) }
+{
+    let count = units.len().min(out.len() - at);
+    out[at..at + count].copy_from_slice(&units[..count]);
     count
 }

@@ -1,90 +1,104 @@
-//! The pieces at the ends of ops, each looked up once.
+//! The pieces that edits will ask for, each looked up once.
 
-ghost use Rattle.std.specs.Prelude.{◌≡◌, [], IfSome};
 ghost use Rattle.std.specs.List.{All};
 ghost use Rattle.piece_tree.specs.Pieces.{IsFound};
+ghost use Rattle.text_buffer.specs.LookUps.{Has, IsThere};
 
-use crate::look_up::{has_unit, piece_near};
+use crate::look_up::{Sought, beside, piece_near};
 use crate::remembered::Remembered;
 use piece_tree::{Found, PieceTree};
 use text_lengths::Span;
 use text_rules::Op;
 
-/// Remembers the pieces that have the units at the ends of the ops' spans, and forgets all others. Where there is no memory for it, none
-/// is remembered.
+/// Through so many pieces a line is followed to its end; that of a longer one is searched for.
+const MOST_FOLLOWED: usize = 8;
+
+/// Remembers the pieces that have the units at the ends of the ops' spans, beside those that were located before. Where there is no
+/// memory for it, none of these is remembered.
 pub(crate) fn look_up_all(pieces: &PieceTree, ops: &[Op], remembered: &mut Remembered)
     requires { All (IsFound pieces.now.entries) remembered.old }
     ensures { All (IsFound pieces.now.entries) remembered.new }
 {
-    // The text may go on where it was changed last.
-    let near = remembered.last();
-    // Each op has two ends, and each end a piece and the one before that.
-    if remembered.restart(ops.len().saturating_mul(4)).is_err() {
+    remembered.begin();
+    if remembered.make_room(ops.len().saturating_mul(2)).is_err() {
         return;
     }
+    // What was located came in any order.
+    remembered.settle();
     for op in ops {
-        look_up_ends(pieces, &near, op.span, remembered);
+        look_up_ends(pieces, op.span, remembered);
     }
+    remembered.settle();
 }
 
 /// Looks up the pieces at both ends of a span, unless it is turned round.
-fn look_up_ends(pieces: &PieceTree, other: &Option<Found>, span: Span, remembered: &mut Remembered)
-    requires other { IfSome other.now (IsFound pieces.now.entries) }
-    requires remembered { All (IsFound pieces.now.entries) remembered.old }
+fn look_up_ends(pieces: &PieceTree, span: Span, remembered: &mut Remembered)
+    requires { All (IsFound pieces.now.entries) remembered.old }
     ensures { All (IsFound pieces.now.entries) remembered.new }
 {
     if span.start <= span.end {
-        look_up(pieces, other, span.start, remembered);
-        look_up(pieces, other, span.end, remembered);
+        look_up_unit(pieces, span.start, remembered);
+        look_up_unit(pieces, span.end, remembered);
     }
 }
 
-/// Looks up the piece that has the unit at this offset, near the last one that is remembered, or else near another. Where that unit is
-/// its first, the piece before it is remembered too: an edit asks whether a CR stands there.
-fn look_up(pieces: &PieceTree, other: &Option<Found>, offset: u64, remembered: &mut Remembered)
-    requires other { IfSome other.now (IsFound pieces.now.entries) }
+/// Remembers the piece that has the unit at this offset, if there is one.
+pub(crate) fn look_up_unit(pieces: &PieceTree, offset: u64, remembered: &mut Remembered)
+    requires { All (IsFound pieces.now.entries) remembered.old }
+    ensures { All (IsFound pieces.now.entries) remembered.new }
+{
+    if offset < pieces.len() {
+        look_up(pieces, Sought::Offset(offset), remembered);
+    }
+}
+
+/// Remembers the pieces of the line of this number, counted from 1, from that of the break before it to that of its own, if there is
+/// such a line and they are few.
+pub(crate) fn look_up_line(pieces: &PieceTree, line: u64, remembered: &mut Remembered)
+    requires { All (IsFound pieces.now.entries) remembered.old }
+    ensures { All (IsFound pieces.now.entries) remembered.new }
+{
+    remembered.begin();
+    if 1 < line && line - 1 <= pieces.breaks() {
+        let first = look_up(pieces, Sought::Break(line - 1), remembered);
+        follow_line(pieces, first, line, remembered);
+    } else if line == 1 && 0 < pieces.len() {
+        let first = look_up(pieces, Sought::Offset(0), remembered);
+        follow_line(pieces, first, line, remembered);
+    }
+}
+
+// Remembers the pieces behind this one, as far as the line goes on in them, if they are few.
+fn follow_line(pieces: &PieceTree, first: Found, line: u64, remembered: &mut Remembered)
+    requires first { IsFound pieces.now.entries first }
     requires remembered { All (IsFound pieces.now.entries) remembered.old }
     ensures { All (IsFound pieces.now.entries) remembered.new }
 {
-    if offset >= pieces.len() || remembered.at(offset).is_some() {
-        return;
+    let mut found = first;
+    for _ in 0..MOST_FOLLOWED {
+        let end = Sought::Break(line);
+        if end.is_in(&found) {
+            return;
+        }
+        let Some(next) = beside(pieces, &found, end) else {
+            return;
+        };
+        remembered.note(&next);
+        found = next;
     }
-    let near = remembered.last().or(*other);
-    let found = piece_near(pieces, &near, offset);
-    if found.before.units == offset {
-        remember_before(pieces, &near, &found, remembered);
-    }
-    remembered.push(found);
 }
 
-/// Remembers the piece before this one, if there is one.
-fn remember_before(
-    pieces: &PieceTree,
-    near: &Option<Found>,
-    found: &Found,
-    remembered: &mut Remembered,
-)
-    requires near { IfSome near.now (IsFound pieces.now.entries) }
-    requires found { IsFound pieces.now.entries found.now }
+// The piece that has what is sought. It is looked up near the one that came last, and is remembered.
+fn look_up(pieces: &PieceTree, sought: Sought, remembered: &mut Remembered) -> Found
+    requires there { IsThere pieces.now.entries sought }
     requires remembered { All (IsFound pieces.now.entries) remembered.old }
-    ensures { All (IsFound pieces.now.entries) remembered.new }
+    ensures found { Has pieces.now.entries result sought }
+    ensures remembered { All (IsFound pieces.now.entries) remembered.new }
 {
-    if let Some(before) = piece_before(pieces, near, found) {
-        remembered.push(before);
+    if let Some(found) = remembered.find(sought) {
+        return found;
     }
-}
-
-/// The piece before this one, if there is one. It may be the one nearby.
-fn piece_before(pieces: &PieceTree, near: &Option<Found>, found: &Found) -> Option<Found>
-    requires near { IfSome near.now (IsFound pieces.now.entries) }
-    requires found { IsFound pieces.now.entries found.now }
-    ensures { IfSome result (IsFound pieces.now.entries) }
-{
-    let before = found.before.units.checked_sub(1)?;
-    if let Some(piece) = near
-        && has_unit(piece, before)
-    {
-        return Some(*piece);
-    }
-    pieces.prev_found(found)
+    let found = piece_near(pieces, &remembered.last(), sought);
+    remembered.add(&found);
+    found
 }

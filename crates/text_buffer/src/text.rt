@@ -1,6 +1,6 @@
 //! The text, with its edits.
 
-ghost use Rattle.std.specs.Prelude.{◌≡◌, ℕ, ◌+◌, ◌-◌, ◌*◌, ◌<◌, ◌≤◌, ◌^◌, ◌&&◌, ◌++◌, ◌∷◌, List, [], true, false, if◌then◌else◌, length, map, take, drop, slice_index, slice_index_or, OnOk, OnErr, IfOk, IfSome};
+ghost use Rattle.std.specs.Prelude.{◌≡◌, ℕ, ◌+◌, ◌-◌, ◌*◌, ◌<◌, ◌≤◌, ◌^◌, ◌&&◌, ◌++◌, ◌∷◌, List, [], true, false, if◌then◌else◌, length, min, map, take, drop, slice_index, slice_index_or, OnOk, OnErr, IfOk, IfSome};
 ghost use Rattle.std.specs.List.{All, flat_map};
 ghost use Rattle.std.specs.Option.{ForSome};
 ghost use Rattle.chunk_buffers.specs.Chunks.{units_at, unit_count, LiesIn, Extends, EndsLast};
@@ -14,6 +14,7 @@ ghost use Rattle.text_rules.specs.Dirty.{dirty_lines, replaced};
 ghost use Rattle.text_rules.specs.Lines.{Line, lines_of, line_at, line_start, line_feed, carriage_return, begins_with};
 ghost use Rattle.text_rules.specs.Breaks.{ends_with, joins_pair, count_to, break_ends};
 ghost use Rattle.text_buffer.specs.Along.{LeavesLittle};
+ghost use Rattle.text_buffer.specs.Edits.{joins_of, IsTyped, AreSameBefore, AreSameBehind};
 ghost use Rattle.text_buffer.specs.Room.{IsEnough, KeepsRoom, HasSpent, need_of_edit, units_beside_text};
 ghost use Rattle.text_buffer.specs.Text.{text_of, IsAdded, GrowsAt};
 ghost use Rattle.text_buffer.specs.Views.{IsView};
@@ -23,7 +24,7 @@ use crate::lines::LineReader;
 use crate::remembered::Remembered;
 use crate::room::Need;
 use crate::runs::Runs;
-use crate::seeking::look_up_all;
+use crate::seeking::{look_up_all, look_up_line, look_up_unit};
 use crate::view::View;
 use chunk_buffers::{ChunkSpan, Chunks};
 use piece_tree::{Piece, PieceTree};
@@ -135,7 +136,20 @@ impl TextBuffer {
         self.pieces.spans(out)
     }
 
-    /// Looks up the pieces that have the units where the spans of the ops start and end, which come in the order of the text, and
+    /// The offset of the position; None where it is no position of the text. The pieces that it looks up are remembered, as
+    /// `seek` does, for the edit that comes next.
+    pub fn locate(&mut self, position: Position) -> Option<u64>
+        ensures offset { result ≡ (if is_position self.old.units position
+            then Some (offset_of self.old.units position) else None) }
+        ensures same { self.new ≡ self.old }
+    {
+        look_up_line(&self.pieces, position.line, &mut self.remembered);
+        let offset = self.offset(position)?;
+        look_up_unit(&self.pieces, offset, &mut self.remembered);
+        Some(offset)
+    }
+
+    /// Looks up the pieces that have the units where the spans of the ops start and end, beside those that were located before, and
     /// remembers each until the text is changed at it or before it: what is asked next at these places is answered without a search,
     /// and so the ops are carried out from the last to the first. Where memory is short it does nothing.
     pub fn seek(&mut self, ops: &[Op])
@@ -156,11 +170,10 @@ impl TextBuffer {
             ≡ edited self.old.units (record { span = span; text = text.now; force = false }) }
         ensures pieces { length self.new.spans ≤ length self.old.spans + 2 }
         ensures taken { LeavesLittle self.old span → length self.new.spans ≤ length self.old.spans }
-        ensures typed { let after = drop span.end self.old.units in GrowsAt self.old span.start
-            → joins_pair (take span.start self.old.units) (text.now ++ after) ≡ false
+        ensures typed { GrowsAt self.old span.start
+            → (joins_of self.old.units span text.now).front ≡ false
             → length self.new.spans ≤ length self.old.spans }
-        ensures grows { let after = drop span.end self.old.units in span.start ≡ span.end
-            → 0 < length text.now → joins_pair (take span.start self.old.units ++ text.now) after ≡ false
+        ensures grows { IsTyped span text.now → (joins_of self.old.units span text.now).back ≡ false
             → GrowsAt self.new (span.start + length text.now) }
         ensures appended { unit_count self.new.buffers
             ≤ unit_count self.old.buffers + length text.now + units_beside_text }
@@ -169,10 +182,8 @@ impl TextBuffer {
         ensures grown { Extends self.old.buffers self.new.buffers }
         ensures spent { HasSpent (need_of_edit text.now) self.old.room self.new.room }
         ensures dirty { result ≡ dirty_lines self.old.units span text.now }
-        ensures before { take (result.first - 1) (lines_of self.new.units)
-            ≡ take (result.first - 1) (lines_of self.old.units) }
-        ensures after { drop (result.first - 1 + result.new) (lines_of self.new.units)
-            ≡ drop (result.first - 1 + result.old) (lines_of self.old.units) }
+        ensures before { AreSameBefore result self.old.units self.new.units }
+        ensures after { AreSameBehind result self.old.units self.new.units }
     {
         let view = View {
             pieces: &self.pieces,
@@ -249,6 +260,7 @@ impl TextBuffer {
     }
 
     /// Where the content of the line of this number stands, counted from 1.
+    #[tactic(auto, using(crate::proofs::Contents::line_at_is))]
     pub fn line_span(&self, n: u64) -> Span
         requires first { 0 < n }
         requires there { n ≤ length (lines_of self.now.units) }
@@ -262,15 +274,13 @@ impl TextBuffer {
 
     /// Which lines of the text an edit touches that puts these units in the place of the span, and
     /// how many lines stand in their place after it. The other lines stay. It takes no memory.
+    #[tactic(auto, using(crate::proofs::Touched::before_dirty, crate::proofs::Touched::after_dirty))]
     pub fn dirty_lines(&self, span: Span, text: &[u16]) -> Dirty
         requires ordered { span.start ≤ span.end }
         requires within { span.end ≤ length self.now.units }
         ensures dirty { result ≡ dirty_lines self.now.units span text.now }
-        ensures before { let lines = lines_of (replaced self.now.units span text.now) in
-            take (result.first - 1) lines ≡ take (result.first - 1) (lines_of self.now.units) }
-        ensures after { let lines = lines_of (replaced self.now.units span text.now) in
-            drop (result.first - 1 + result.new) lines
-            ≡ drop (result.first - 1 + result.old) (lines_of self.now.units) }
+        ensures before { AreSameBefore result self.now.units (replaced self.now.units span text.now) }
+        ensures after { AreSameBehind result self.now.units (replaced self.now.units span text.now) }
     {
         let view = self.view();
         let ends = view.ends_of(span);
@@ -288,6 +298,15 @@ impl TextBuffer {
         out.reserve((span.end - span.start) as usize)?;
         self.view().push_span(span, out);
         Ok(())
+    }
+
+    /// Reads units from the offset on into `out`: as many as fit and are there. Answers how many.
+    pub fn read_into(&self, at: u64, out: &mut [u16]) -> usize
+        requires within { at ≤ length self.now.units }
+        ensures count { result ≡ min (length out.old) (length self.now.units - at) }
+        ensures units { out.new ≡ take result (drop at self.now.units) ++ drop result out.old }
+    {
+        self.runs_from(at).read_into(out)
     }
 
     /// A reader of its units from the offset on, run by run.

@@ -8,11 +8,10 @@ ghost use Rattle.piece_tree.specs.Costs.{WithinLookUps};
 ghost use Rattle.unit_text.specs.Units.{cuts_pair};
 ghost use Rattle.text_rules.specs.Lines.{lines_of, line_start};
 ghost use Rattle.text_rules.specs.Breaks.{count_to, break_ends};
-ghost use Rattle.text_buffer.specs.Text.{text_of, IsTextWith};
-ghost use Rattle.text_buffer.specs.Views.{IsView};
-ghost use Rattle.text_buffer.specs.Remembering.{HasBreak};
+ghost use Rattle.text_buffer.specs.Views.{IsView, units_in, entries_in, buffers_in};
+ghost use Rattle.text_buffer.specs.LookUps.{Has, IsThere};
 
-use crate::look_up::{has_break, has_unit, nearer, piece_near};
+use crate::look_up::{Sought, nearer, piece_near};
 use crate::remembered::Remembered;
 use chunk_buffers::{ChunkSpan, Chunks};
 use piece_tree::{Found, PieceTree};
@@ -33,8 +32,8 @@ impl View<'_> {
     #[tactic(auto, using(crate::proofs::Found::sizes))]
     pub(crate) fn len(&self) -> u64
         requires view { IsView self.now }
-        ensures units { result ≡ length (text_of self.now.pieces.now self.now.chunks.now).units }
-        ensures pieces { result ≡ unit_count (pieces_of self.now.pieces.now.entries) }
+        ensures units { result ≡ length (units_in self.now) }
+        ensures pieces { result ≡ unit_count (pieces_of (entries_in self.now)) }
         ensures small { result < 2 ^ 62 }
     {
         self.pieces.len()
@@ -44,8 +43,8 @@ impl View<'_> {
     #[tactic(auto, using(crate::proofs::Found::sizes))]
     pub(crate) fn line_count(&self) -> u64
         requires view { IsView self.now }
-        ensures lines { result ≡ length (lines_of (text_of self.now.pieces.now self.now.chunks.now).units) }
-        ensures pieces { result ≡ break_count_of (pieces_of self.now.pieces.now.entries) + 1 }
+        ensures lines { result ≡ length (lines_of (units_in self.now)) }
+        ensures pieces { result ≡ break_count_of (pieces_of (entries_in self.now)) + 1 }
     {
         self.pieces.breaks() + 1
     }
@@ -54,7 +53,7 @@ impl View<'_> {
     #[tactic(auto, using(crate::proofs::Found::sizes))]
     pub(crate) fn breaks(&self) -> u64
         requires view { IsView self.now }
-        ensures count { let units = (text_of self.now.pieces.now self.now.chunks.now).units in
+        ensures count { let units = units_in self.now in
             result ≡ count_to (length units) (break_ends 0 units) }
         ensures few { result < 2 ^ 62 }
     {
@@ -64,9 +63,9 @@ impl View<'_> {
     /// How many breaks end at the offset or before it, where the piece has the unit there.
     pub(crate) fn breaks_to(&self, found: &Found, offset: u64) -> u64
         requires view { IsView self.now }
-        requires unit { HasUnit self.now.pieces.now.entries found.now offset }
+        requires unit { HasUnit (entries_in self.now) found.now offset }
         ensures count { result
-            ≡ count_to offset (break_ends 0 (text_of self.now.pieces.now self.now.chunks.now).units) }
+            ≡ count_to offset (break_ends 0 (units_in self.now)) }
         ensures few { result < 2 ^ 62 }
     {
         let own = offset - found.before.units;
@@ -77,62 +76,80 @@ impl View<'_> {
     /// by a search that nobody counts.
     pub(crate) fn piece_at(&self, near: &Option<Found>, offset: u64) -> Found
         requires view { IsView self.now }
-        requires offset { offset < unit_count (pieces_of self.now.pieces.now.entries) }
-        requires near { IfSome near.now (IsFound self.now.pieces.now.entries) }
-        ensures { HasUnit self.now.pieces.now.entries result offset }
+        requires offset { offset < unit_count (pieces_of (entries_in self.now)) }
+        requires near { IfSome near.now (IsFound (entries_in self.now)) }
+        ensures { HasUnit (entries_in self.now) result offset }
     {
-        match near {
-            Some(found) if has_unit(found, offset) => *found,
-            _ => match self.remembered.at(offset) {
-                Some(found) => found,
-                None => piece_near(self.pieces, near, offset),
-            },
+        let sought = Sought::Offset(offset);
+        match self.at_hand(near, sought) {
+            Some(found) => found,
+            None => piece_near(self.pieces, near, sought),
         }
     }
 
-    /// The piece that has the unit at this offset: the piece at hand, one that is remembered, or else by a search.
-    pub(crate) fn unit_near<L: Ledger>(
+    /// The piece that has what is sought: the piece nearby, one that is remembered, or else by a search.
+    pub(crate) fn piece_with<L: Ledger>(
         &self,
         near: &Option<Found>,
-        offset: u64,
+        sought: Sought,
         steps: &mut Steps<L>,
     ) -> Found
         requires view { IsView self.now }
-        requires offset { offset < unit_count (pieces_of self.now.pieces.now.entries) }
-        requires near { IfSome near.now (IsFound self.now.pieces.now.entries) }
-        ensures unit { HasUnit self.now.pieces.now.entries result offset }
-        ensures cost { WithinLookUps 1 (length self.now.pieces.now.entries) (steps.new - steps.old) }
+        requires there { IsThere (entries_in self.now) sought }
+        requires near { IfSome near.now (IsFound (entries_in self.now)) }
+        ensures has { Has (entries_in self.now) result sought }
+        ensures cost { WithinLookUps 1 (length (entries_in self.now)) (steps.new - steps.old) }
+    {
+        match self.at_hand(near, sought) {
+            Some(found) => found,
+            None => sought.find(self.pieces, steps),
+        }
+    }
+
+    // The piece nearby or a remembered one, where it has what is sought.
+    fn at_hand(&self, near: &Option<Found>, sought: Sought) -> Option<Found>
+        requires view { IsView self.now }
+        requires near { IfSome near.now (IsFound (entries_in self.now)) }
+        ensures { IfSome result (λ found. Has (entries_in self.now) found sought) }
     {
         match near {
-            Some(found) if has_unit(found, offset) => *found,
-            _ => match self.remembered.at(offset) {
-                Some(found) => found,
-                None => self.pieces.find_offset(offset, steps),
-            },
+            Some(found) if sought.is_in(found) => Some(*found),
+            _ => self.remembered.find(sought),
         }
     }
 
     /// The unit at an offset that the piece has.
+    #[tactic(auto, using(crate::proofs::Found::units_of_piece))]
     pub(crate) fn unit_in(&self, found: &Found, offset: u64) -> u16
         requires view { IsView self.now }
-        requires unit { HasUnit self.now.pieces.now.entries found.now offset }
-        ensures { result ≡ slice_index (text_of self.now.pieces.now self.now.chunks.now).units offset }
+        requires unit { HasUnit (entries_in self.now) found.now offset }
+        ensures { result ≡ slice_index (units_in self.now) offset }
     {
-        self.chunks.units(found.span)[(offset - found.before.units) as usize]
+        self.chunks.units(self.span_in(found))[(offset - found.before.units) as usize]
+    }
+
+    // The span of a looked-up piece.
+    fn span_in(&self, found: &Found) -> ChunkSpan
+        requires view { IsView self.now }
+        requires piece { IsFound (entries_in self.now) found.now }
+        ensures same { result ≡ found.now.span }
+        ensures inside { LiesIn (buffers_in self.now) result }
+    {
+        found.span
     }
 
     /// The part of the piece between two places in it.
     pub(crate) fn part_in(&self, found: &Found, from: u64, to: u64) -> ChunkSpan
         requires view { IsView self.now }
-        requires piece { IsFound self.now.pieces.now.entries found.now }
+        requires piece { IsFound (entries_in self.now) found.now }
         requires ordered { from ≤ to }
         requires within { to ≤ found.now.span.units }
         ensures part { result ≡ part_of found.now.span from to }
-        ensures inside { LiesIn self.now.chunks.now.buffers result }
-        ensures shown { units_at self.now.chunks.now.buffers result
-            ≡ take (to - from) (drop from (units_at self.now.chunks.now.buffers found.now.span)) }
+        ensures inside { LiesIn (buffers_in self.now) result }
+        ensures shown { units_at (buffers_in self.now) result
+            ≡ take (to - from) (drop from (units_at (buffers_in self.now) found.now.span)) }
     {
-        self.chunks.part(found.span, from, to)
+        self.chunks.part(self.span_in(found), from, to)
     }
 
     /// Whether the offset, whose unit the piece has, stands inside a pair of surrogates. One search is made for the unit before it where
@@ -145,17 +162,17 @@ impl View<'_> {
         steps: &mut Steps<L>,
     ) -> bool
         requires view { IsView self.now }
-        requires near { IfSome near.now (IsFound self.now.pieces.now.entries) }
-        requires unit { HasUnit self.now.pieces.now.entries found.now offset }
-        ensures cuts { result ≡ cuts_pair (text_of self.now.pieces.now self.now.chunks.now).units offset }
-        ensures cost { WithinLookUps 1 (length self.now.pieces.now.entries) (steps.new - steps.old) }
+        requires near { IfSome near.now (IsFound (entries_in self.now)) }
+        requires unit { HasUnit (entries_in self.now) found.now offset }
+        ensures cuts { result ≡ cuts_pair (units_in self.now) offset }
+        ensures cost { WithinLookUps 1 (length (entries_in self.now)) (steps.new - steps.old) }
     {
         let unit = self.unit_in(found, offset);
         if offset == 0 || !is_low_surrogate(unit) {
             return false;
         }
         let nearest = nearer(&Some(*found), near, offset - 1);
-        let holder = self.unit_near(&nearest, offset - 1, steps);
+        let holder = self.piece_with(&nearest, Sought::Offset(offset - 1), steps);
         let before = self.unit_in(&holder, offset - 1);
         cuts_pair(&[before, unit], 1)
     }
@@ -169,37 +186,20 @@ impl View<'_> {
         steps: &mut Steps<L>,
     ) -> (Found, u64)
         requires view { IsView self.now }
-        requires near { IfSome near.now (IsFound self.now.pieces.now.entries) }
+        requires near { IfSome near.now (IsFound (entries_in self.now)) }
         requires first { 0 < n }
-        requires there { n < length (lines_of (text_of self.now.pieces.now self.now.chunks.now).units) }
-        ensures piece { IsFound self.now.pieces.now.entries result.0 }
+        requires there { n < length (lines_of (units_in self.now)) }
+        ensures piece { IsFound (entries_in self.now) result.0 }
         ensures line { result.0.before.units + result.1
-            ≡ line_start (text_of self.now.pieces.now self.now.chunks.now).units (n + 1) }
+            ≡ line_start (units_in self.now) (n + 1) }
         ensures some { 0 < result.1 }
         ensures within { result.1 ≤ result.0.span.units }
         ensures small { result.0.before.units + result.1 < 2 ^ 62 }
-        ensures cost { WithinLookUps 1 (length self.now.pieces.now.entries) (steps.new - steps.old) }
+        ensures cost { WithinLookUps 1 (length (entries_in self.now)) (steps.new - steps.old) }
     {
-        let found = self.break_near(near, n, steps);
+        let found = self.piece_with(near, Sought::Break(n), steps);
         let own = self.chunks.nth_break(found.span, n - found.before.breaks);
         (found, own)
-    }
-
-    fn break_near<L: Ledger>(&self, near: &Option<Found>, n: u64, steps: &mut Steps<L>) -> Found
-        requires view { IsView self.now }
-        requires near { IfSome near.now (IsFound self.now.pieces.now.entries) }
-        requires first { 0 < n }
-        requires there { n ≤ break_count_of (pieces_of self.now.pieces.now.entries) }
-        ensures found { HasBreak self.now.pieces.now.entries result n }
-        ensures cost { WithinLookUps 1 (length self.now.pieces.now.entries) (steps.new - steps.old) }
-    {
-        match near {
-            Some(found) if has_break(found, n) => *found,
-            _ => match self.remembered.with_break(n) {
-                Some(found) => found,
-                None => self.pieces.find_line(n, steps),
-            },
-        }
     }
 }
 

@@ -2,7 +2,8 @@
 use Rattle.std.specs.Prelude.{◌≡◌, [], ◌∷◌, ℕ, refl}
 use Rattle.undo_rules.specs.Stack.{empty_stack, pushed, stopped, undone, redone}
 
-two_changes_are_one_step : (pushed (pushed (empty_stack {C = ℕ}) 7 1 2) 8 2 3).undo ≡ record { changes = 7 ∷ 8 ∷ []; alt_before = 1; alt_after = 3 } ∷ []
+two_changes_are_one_step : (pushed (pushed (empty_stack {C = ℕ}) 7 1 2) 8 2 3).undo
+    ≡ record { changes = 7 ∷ 8 ∷ []; alt_before = 1; alt_after = 3 } ∷ []
 two_changes_are_one_step = refl
 
 a_stop_begins_a_step : (pushed (stopped (pushed (empty_stack {C = ℕ}) 7 1 2)) 8 2 3).undo

@@ -1,7 +1,11 @@
+mod asked;
 mod breaks;
 mod columns;
+mod documents;
+mod library;
 mod lines;
 mod nodes;
 mod parts;
+mod prepared;
 mod reads;
 mod texts;

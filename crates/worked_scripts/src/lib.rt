@@ -1,4 +1,4 @@
-//! Worked scripts with their replies, run through the program's call, and the document as a library.
+//! Worked scripts with their replies, run through the program's call, and lines that a session answers.
 #![tactic(auto)]
 
 #[cfg(test)]

@@ -1,7 +1,5 @@
-mod asked;
-mod library;
 mod playing;
-mod prepared;
+mod session;
 mod told;
 mod transcripts;
 mod usage;

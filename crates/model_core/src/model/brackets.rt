@@ -7,9 +7,8 @@ ghost use Rattle.document_rules.specs.Outcomes.{Appends, Gives};
 ghost use Rattle.document_rules.specs.Brackets.{flat_brackets, flat_match, flat_level, IsSmall};
 ghost use Rattle.model_core.specs.State.{Renews};
 ghost use Rattle.steps.specs.Counting.{IsFor};
-ghost use Rattle.model_core.specs.Counting.{TakesFewSteps};
+ghost use Rattle.model_page.specs.Counting.{TakesFewSteps};
 
-use crate::brackets::{parse_again, renew};
 use crate::model::Model;
 use crate::places::{is_position, place_of, told};
 use bracket_nodes::Entry;
@@ -26,14 +25,14 @@ impl Model {
     pub fn parsed(&self) -> Option<&Parsed>
         ensures { option_copied result ≡ self.now.parsed }
     {
-        self.last.parsed()
+        self.page.parsed()
     }
 
     /// Whether the tree of the last parse is that of the text of now: no line was touched since.
     pub fn is_fresh(&self) -> bool
         ensures { result ≡ self.now.fresh }
     {
-        self.last.fresh().is_some()
+        self.page.is_fresh()
     }
 
     /// Appends the brackets of the lines `from` to `to`, both counted from 1 and both included, in the order of the text.
@@ -93,29 +92,11 @@ impl Model {
             self.old.document.table self.old.document.units steps.old steps.new }
         ensures no_step { self.old.fresh ≡ true → steps.new ≡ steps.old }
     {
-        if from == 0 || to < from || self.text.line_count() < to {
+        if from == 0 || to < from || self.page.text().line_count() < to {
             return Err(ModelError::Range);
         }
-        match self.last.fresh() {
-            Some(tree) => tree
-                .entries(from - 1, to - 1, out)
-                .map_err(|_| ModelError::Memory),
-            None => {
-                let parsed = parse_again(
-                    self.alloc,
-                    &self.last,
-                    &self.table,
-                    &self.text,
-                    steps,
-                ).map_err(|_| ModelError::Memory)?;
-                parsed
-                    .tree()
-                    .entries(from - 1, to - 1, out)
-                    .map_err(|_| ModelError::Memory)?;
-                self.last.put(parsed);
-                Ok(())
-            }
-        }
+        let listed = self.page.brackets_in(from - 1, to - 1, out, steps);
+        listed.map_err(|_| ModelError::Memory)
     }
 
     /// Where the other bracket of a pair starts, and how many units it has, where one of the two starts at the position;
@@ -157,16 +138,11 @@ impl Model {
             self.old.document.table self.old.document.units steps.old steps.new }
         ensures no_step { self.old.fresh ≡ true → steps.new ≡ steps.old }
     {
-        if !is_position(&self.text, p) {
+        if !is_position(self.page.text(), p) {
             return Err(ModelError::Range);
         }
-        renew(self.alloc, &mut self.last, &self.table, &self.text, steps).map_err(
-            |_| ModelError::Memory,
-        )?;
-        match self.last.fresh() {
-            Some(tree) => Ok(told(tree.partner_of(place_of(p)))),
-            None => unreachable!(),
-        }
+        self.page.renew(steps).map_err(|_| ModelError::Memory)?;
+        Ok(told(self.page.tree().partner_of(place_of(p))))
     }
 
     /// How many brackets are open after those that start before the position. `Range` where it is none of the text. It
@@ -204,15 +180,10 @@ impl Model {
             self.old.document.table self.old.document.units steps.old steps.new }
         ensures no_step { self.old.fresh ≡ true → steps.new ≡ steps.old }
     {
-        if !is_position(&self.text, p) {
+        if !is_position(self.page.text(), p) {
             return Err(ModelError::Range);
         }
-        renew(self.alloc, &mut self.last, &self.table, &self.text, steps).map_err(
-            |_| ModelError::Memory,
-        )?;
-        match self.last.fresh() {
-            Some(tree) => Ok(tree.level_at(place_of(p))),
-            None => unreachable!(),
-        }
+        self.page.renew(steps).map_err(|_| ModelError::Memory)?;
+        Ok(self.page.tree().level_at(place_of(p)))
     }
 }

@@ -1,12 +1,12 @@
 //! The decorations of a document.
 
 ghost use Rattle.std.specs.Prelude.{◌≡◌, List, length, IfSome, Ok};
-ghost use Rattle.std.specs.List.{All};
 ghost use Rattle.decoration_rules.specs.Moves.{IsSpanIn};
-ghost use Rattle.document_rules.specs.Outcomes.{ChangesWith, Appends};
+ghost use Rattle.document_rules.specs.Outcomes.{Appends};
 ghost use Rattle.document_rules.specs.Paired.{IsPairedState};
+ghost use Rattle.model_core.specs.Decorating.{AreInText, HasDecorated};
 ghost use Rattle.model_core.specs.State.{KeepsParse};
-ghost use Rattle.document_rules.specs.Document.{flat_decorate, flat_deco, flat_decos};
+ghost use Rattle.document_rules.specs.Document.{flat_deco, flat_decos};
 
 use crate::errors::refusal_of;
 use crate::model::Model;
@@ -26,15 +26,12 @@ impl Model {
         remove: &[u64],
         add: &[NewDeco],
     ) -> Result<u64, ModelError>
-        ensures document { ChangesWith self.old.document.decorations.next_id result
-            self.old.document self.new.document
-            (flat_decorate self.old.document owner remove.now add.now) }
+        ensures document { HasDecorated owner remove.now add.now
+            result self.old.document self.new.document }
         ensures paired_state { IsPairedState self.old.document → IsPairedState self.new.document }
         ensures parse { KeepsParse self.old self.new }
     {
-        self.decorations
-            .delta(owner, remove, add, &self.text)
-            .map_err(refusal_of)
+        self.page.decorate(owner, remove, add).map_err(refusal_of)
     }
 
     /// The live decoration of this id. Its span lies in the text.
@@ -43,7 +40,7 @@ impl Model {
         ensures inside { IfSome result
             (λ deco. IsSpanIn deco.span (length self.now.document.units)) }
     {
-        self.decorations.get(id)
+        self.page.decorations().get(id)
     }
 
     /// Appends the decorations that share a unit with the span, or touch it: all of them, or those of one owner. Their
@@ -57,12 +54,13 @@ impl Model {
         ensures decos { Appends result out.old.items out.new.items
             (flat_decos self.now.document span owner) }
         ensures inside { (decos : List Deco) → flat_decos self.now.document span owner ≡ Ok decos
-            → All (λ deco. IsSpanIn deco.span (length self.now.document.units)) decos }
+            → AreInText self.now.document decos }
     {
-        if is_bad_span(&self.text, span) {
+        if is_bad_span(self.page.text(), span) {
             return Err(ModelError::Range);
         }
-        self.decorations
+        self.page
+            .decorations()
             .in_range(span, owner, out)
             .map_err(|_| ModelError::Memory)
     }

@@ -6,20 +6,19 @@ ghost use Rattle.unit_text.specs.Units.{IsPaired};
 ghost use Rattle.document_rules.specs.Outcomes.{Changes};
 ghost use Rattle.document_rules.specs.Paired.{IsPairedState};
 ghost use Rattle.batch_rules.specs.Batches.{sorted_ops};
-ghost use Rattle.model_core.specs.LineMarks.{marked_backwards};
+ghost use Rattle.model_page.specs.LineMarks.{marked_backwards};
 ghost use Rattle.model_core.specs.Prepared.{need_of, Acts, ArePairedTexts, CanCommit, HasActed, IsChangeOf, IsEnough, PreparesEdit};
 ghost use Rattle.model_core.specs.State.{LeftAfter, KeptAfter, GrownAfter, KeepsParse};
 ghost use Rattle.document_rules.specs.Document.{greatest_version, flat_edit};
 ghost use Rattle.model_core.specs.Edited.{HasEdited, one_edit};
 
-use crate::change::{Change, Way, apply, make_room, text_breaks};
 use crate::errors::error_of;
 use crate::model::Model;
 use crate::ready::{Action, Ready};
 use document_rules::ModelError;
 use edit_batches::{Batch, sorted_ops};
+use model_page::{Change, Way, need_of};
 use std::alloc::{AllocError, Global};
-use text_buffer::Need;
 use text_lengths::{Span, raised};
 use text_rules::Op;
 use unit_text::Units;
@@ -79,23 +78,16 @@ impl Model {
         ensures ready { PreparesEdit ops.items result self.new }
     {
         let ops = sorted_ops(ops).map_err(|_| ModelError::Memory)?;
-        self.text.seek(&ops);
-        let batch = Batch::checked(ops, &self.text).map_err(error_of)?;
+        self.page.seek(&ops);
+        let batch = Batch::checked(ops, self.page.text()).map_err(error_of)?;
         let next = raised(self.version, 1).ok_or(ModelError::Limit)?;
         let inverse = batch
-            .inverse(self.alloc, &self.text)
+            .inverse(self.alloc, self.page.text())
             .map_err(|_| ModelError::Memory)?;
         self.history.reserve().map_err(|_| ModelError::Memory)?;
-        make_room(
-            &mut self.text,
-            &mut self.last,
-            Need {
-                edits: batch.ops().len() as u64,
-                units: batch.text_units(),
-                breaks: text_breaks(batch.ops()),
-            },
-        )
-        .map_err(|_| ModelError::Memory)?;
+        self.page
+            .reserve(need_of(&batch))
+            .map_err(|_| ModelError::Memory)?;
         Ok(Ready::making(next, Action::Edit(Change::Ops { batch, inverse })))
     }
 
@@ -127,13 +119,9 @@ impl Model {
         ensures document { Acts (Action.Edit change) self.old.document self.new.document }
         ensures parse { HasActed (Action.Edit change) self.old self.new }
     {
-        apply(
-            &mut self.text,
-            &mut self.decorations,
-            &mut self.last,
-            change.ops(Way::On),
-            true,
-        );
+        // The text of before is within its limit, too.
+        let _text = self.page.text();
+        self.page.apply(change.ops(Way::On), true);
         self.history.push(change, self.alternative, version);
         self.version = version;
         self.alternative = version;

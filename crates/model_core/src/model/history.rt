@@ -3,16 +3,17 @@
 ghost use Rattle.std.specs.Prelude.{◌≡◌, ◌+◌, ◌<◌, ◌≤◌, length, is_some, slice_get};
 ghost use Rattle.document_rules.specs.Outcomes.{Moves};
 ghost use Rattle.document_rules.specs.Paired.{IsPairedState};
-ghost use Rattle.model_core.specs.LineMarks.{undone_marks, redone_marks};
-ghost use Rattle.model_core.specs.Ways.{flat_move, next_steps, marked_step};
-ghost use Rattle.model_core.specs.Prepared.{need_of, Acts, HasActed, IsEnough, PreparesMove, next_op_count};
-ghost use Rattle.model_core.specs.State.{HasMoved, KeepsParse};
+ghost use Rattle.model_core.specs.Ways.{flat_move, next_steps};
+ghost use Rattle.model_core.specs.Prepared.{need_of, Acts, HasActed, IsEnough, PreparesMove};
+ghost use Rattle.model_core.specs.Going.{HasGone};
+ghost use Rattle.model_core.specs.State.{KeepsParse};
 ghost use Rattle.document_rules.specs.Document.{greatest_version, flat_stop, flat_undo, flat_redo};
 
-use crate::change::{Way, alternative_after, has_next, lead, next_step, pass_step, reserve_for};
 use crate::model::Model;
 use crate::ready::{Action, Ready};
+use crate::walk::{alternative_after, has_next, next_step, pass_step};
 use document_rules::ModelError;
+use model_page::{Way, need_of_step};
 use text_lengths::raised;
 
 impl Model {
@@ -22,9 +23,7 @@ impl Model {
         ensures document { Moves result self.old.document self.new.document
             (flat_undo self.old.document) }
         ensures paired_state { IsPairedState self.old.document → IsPairedState self.new.document }
-        ensures parse { HasMoved (next_op_count self.old.document.history.undo)
-            (undone_marks self.old.marks self.old.document.history.undo)
-            result self.old self.new }
+        ensures parse { HasGone Way.Back result self.old self.new }
     {
         self.go(Way::Back)
     }
@@ -35,9 +34,7 @@ impl Model {
         ensures document { Moves result self.old.document self.new.document
             (flat_redo self.old.document) }
         ensures paired_state { IsPairedState self.old.document → IsPairedState self.new.document }
-        ensures parse { HasMoved (next_op_count self.old.document.history.redo)
-            (redone_marks self.old.marks self.old.document.history.redo)
-            result self.old self.new }
+        ensures parse { HasGone Way.On result self.old self.new }
     {
         self.go(Way::On)
     }
@@ -68,9 +65,7 @@ impl Model {
         ensures document { Moves result self.old.document self.new.document
             (flat_move way self.old.document) }
         ensures paired_state { IsPairedState self.old.document → IsPairedState self.new.document }
-        ensures parse { HasMoved (next_op_count (next_steps way self.old.document.history))
-            (marked_step way self.old.marks (next_steps way self.old.document.history))
-            result self.old self.new }
+        ensures parse { HasGone way result self.old self.new }
     {
         let Some(ready) = self.prepare_move(way)? else {
             return Ok(false);
@@ -108,9 +103,8 @@ impl Model {
             return Ok(None);
         };
         let next = raised(self.version, 1).ok_or(ModelError::Limit)?;
-        reserve_for(&mut self.text, &mut self.last, step.changes(), way).map_err(
-            |_| ModelError::Memory,
-        )?;
+        let need = need_of_step(step, way).map_err(|_| ModelError::Memory)?;
+        self.page.reserve(need).map_err(|_| ModelError::Memory)?;
         Ok(Some(Ready::making(next, Action::Move(way))))
     }
 
@@ -127,13 +121,7 @@ impl Model {
         let Some(step) = next_step(&self.history, way) else {
             unreachable!()
         };
-        lead(
-            &mut self.text,
-            &mut self.decorations,
-            &mut self.last,
-            step.changes(),
-            way,
-        );
+        self.page.lead(step, way);
         self.version = version;
         self.alternative = alternative_after(step, way);
         pass_step(&mut self.history, way);

@@ -10,16 +10,14 @@ ghost use Rattle.mark_rules.specs.declared.Mark.TheVariants.{New};
 ghost use Rattle.model_core.specs.State.{LeftAfter};
 ghost use Rattle.document_rules.specs.Document.{new_document, flat_open};
 
-use crate::last_parse::{LastParse, unparsed};
 use crate::model::Model;
 use bracket_scan::BracketTable;
-use decorations::DecoSet;
 use document_rules::ModelError;
 use edit_batches::MOST_TEXT_UNITS;
 use edit_stack::EditStack;
+use model_page::Page;
 use snapshots::Shelf;
 use std::alloc::Global;
-use text_buffer::TextBuffer;
 
 impl Model {
     /// An empty document, of version 1.
@@ -33,12 +31,9 @@ impl Model {
     {
         Model {
             alloc,
-            text: TextBuffer::new(alloc),
+            page: Page::new(alloc),
             version: 1,
             alternative: 1,
-            decorations: DecoSet::new(alloc),
-            table: BracketTable::standard(),
-            last: LastParse::none(alloc),
             history: EditStack::new(alloc),
             shelf: Shelf::new(alloc),
         }
@@ -62,15 +57,12 @@ impl Model {
         if text.len() as u64 > MOST_TEXT_UNITS {
             return Err(ModelError::Limit);
         }
-        let Ok((text, last)) = unparsed(self.alloc, text) else {
+        let Ok(page) = Page::open(self.alloc, text, table) else {
             return Err(ModelError::Memory);
         };
-        self.text = text;
+        self.page = page;
         self.version = 1;
         self.alternative = 1;
-        self.decorations = DecoSet::new(self.alloc);
-        self.table = table;
-        self.last = last;
         self.history = EditStack::new(self.alloc);
         self.shelf = Shelf::new(self.alloc);
         Ok(())

@@ -21,21 +21,21 @@ impl Model {
     pub fn len(&self) -> u64
         ensures { result ≡ length self.now.document.units }
     {
-        self.text.len()
+        self.page.text().len()
     }
 
     /// Whether the offset is a place of the text: none past its end, and none inside a pair of surrogates.
     pub fn is_place(&self, offset: u64) -> bool
         ensures { result ≡ is_place self.now.document.units offset }
     {
-        self.text.is_place(offset)
+        self.page.text().is_place(offset)
     }
 
     /// How many lines the text has.
     pub fn line_count(&self) -> u64
         ensures { result ≡ flat_line_count self.now.document }
     {
-        self.text.line_count()
+        self.page.text().line_count()
     }
 
     /// Appends the content of the line of this number, counted from 1. `Range` where there is no such line; after an
@@ -43,10 +43,11 @@ impl Model {
     pub fn line(&self, n: u64, out: &mut Vec<u16>) -> Result<(), ModelError>
         ensures { Appends result out.old.items out.new.items (flat_line self.now.document n) }
     {
-        if n == 0 || n > self.text.line_count() {
+        let text = self.page.text();
+        if n == 0 || n > text.line_count() {
             return Err(ModelError::Range);
         }
-        self.text.line(n, out).map_err(|_| ModelError::Memory)
+        text.line(n, out).map_err(|_| ModelError::Memory)
     }
 
     /// Appends the columns, counted from 1, at which a cursor may stop in the line of this number. `Range` where there is
@@ -63,24 +64,33 @@ impl Model {
     pub fn value(&self, span: Span, out: &mut Vec<u16>) -> Result<(), ModelError>
         ensures { Appends result out.old.items out.new.items (flat_value self.now.document span) }
     {
-        if is_bad_span(&self.text, span) {
+        let text = self.page.text();
+        if is_bad_span(text, span) {
             return Err(ModelError::Range);
         }
-        self.text.value(span, out).map_err(|_| ModelError::Memory)
+        text.value(span, out).map_err(|_| ModelError::Memory)
     }
 
     /// The position of the offset, or None where it is no place of the text.
     pub fn position(&self, offset: u64) -> Option<Position>
         ensures { result ≡ flat_position self.now.document offset }
     {
-        self.text.position(offset)
+        self.page.text().position(offset)
     }
 
     /// The offset of the position, or None where it is none of the text.
     pub fn offset(&self, p: Position) -> Option<u64>
         ensures { result ≡ flat_offset self.now.document p }
     {
-        self.text.offset(p)
+        self.page.text().offset(p)
+    }
+
+    /// As `offset`, and what it looks up is remembered for the edit that comes next.
+    pub fn locate(&mut self, p: Position) -> Option<u64>
+        ensures offset { result ≡ flat_offset self.old.document p }
+        ensures same { self.new ≡ self.old }
+    {
+        self.page.locate(p)
     }
 
     /// `position`, which counts: each node that a search visits is a step.
@@ -88,7 +98,7 @@ impl Model {
         ensures position { result ≡ flat_position self.now.document offset }
         ensures cost { WithinLookUps 3 self.now.pieces (steps.new - steps.old) }
     {
-        self.text.position_at(offset, steps)
+        self.page.text().position_at(offset, steps)
     }
 
     /// `offset`, which counts: each node that a search visits is a step.
@@ -96,7 +106,7 @@ impl Model {
         ensures offset { result ≡ flat_offset self.now.document p }
         ensures cost { WithinLookUps 4 self.now.pieces (steps.new - steps.old) }
     {
-        self.text.offset_at(p, steps)
+        self.page.text().offset_at(p, steps)
     }
 
     /// The version, and the version at which the text was last as it is now.

@@ -20,7 +20,10 @@ impl Model {
         ensures parse { KeepsParse self.old self.new }
     {
         let mut spans = Vec::new(self.alloc);
-        self.text.spans(&mut spans).map_err(|_| ModelError::Memory)?;
+        self.page
+            .text()
+            .spans(&mut spans)
+            .map_err(|_| ModelError::Memory)?;
         self.shelf.take(spans.as_slice()).map_err(shelf_error_of)
     }
 
@@ -31,7 +34,7 @@ impl Model {
         ensures { Appends result out.old.items out.new.items
             (flat_peek_of self.now.document id count) }
     {
-        let chunks = self.text.chunks();
+        let chunks = self.page.text().chunks();
         self.shelf
             .peek(id, count, chunks, out)
             .map_err(shelf_error_of)

@@ -3,10 +3,8 @@
 ghost use Rattle.std.specs.Prelude.{◌≡◌};
 ghost use Rattle.serde_json.specs.View.{view, items_view};
 ghost use Rattle.script_lines.specs.Reading.{Reads};
-ghost use Rattle.script_lines.specs.Rows.{named_in};
-ghost use Rattle.script_lines.specs.EditCommands.{edit_commands, open_in, place_in, op_in, some_ops_in, edit_in};
+ghost use Rattle.script_lines.specs.EditCommands.{open_in, place_in, op_in, some_ops_in, edit_in};
 
-use super::bare;
 use crate::bracket::optional_table_at;
 use crate::command::Command;
 use crate::fields::{
@@ -17,33 +15,7 @@ use crate::op::{LineOp, LineOps, Place};
 use serde_json::Value;
 use std::alloc::Global;
 
-pub(super) fn named(alloc: Global, name: &str, value: &Value) -> Result<Option<Command>, LineFault>
-    ensures { Reads result (named_in edit_commands name.now (view value.now)) }
-{
-    if name == "edit" {
-        let command = edit_in(alloc, value)?;
-        return Ok(Some(command));
-    }
-    if name == "undo" {
-        let command = bare(value, Command::Undo)?;
-        return Ok(Some(command));
-    }
-    if name == "redo" {
-        let command = bare(value, Command::Redo)?;
-        return Ok(Some(command));
-    }
-    if name == "stop" {
-        let command = bare(value, Command::Stop)?;
-        return Ok(Some(command));
-    }
-    if name == "open" {
-        let command = open_in(alloc, value)?;
-        return Ok(Some(command));
-    }
-    Ok(None)
-}
-
-fn open_in(alloc: Global, value: &Value) -> Result<Command, LineFault>
+pub(super) fn open_in(alloc: Global, value: &Value) -> Result<Command, LineFault>
     ensures { Reads result (open_in (view value.now)) }
 {
     expect_fields(value, &["text", "brackets"])?;
@@ -52,7 +24,7 @@ fn open_in(alloc: Global, value: &Value) -> Result<Command, LineFault>
     Ok(Command::Open { text, brackets })
 }
 
-fn edit_in(alloc: Global, value: &Value) -> Result<Command, LineFault>
+pub(super) fn edit_in(alloc: Global, value: &Value) -> Result<Command, LineFault>
     ensures { Reads result (edit_in (view value.now)) }
 {
     expect_fields(value, &["ops"])?;

@@ -1,4 +1,4 @@
-use Rattle.std.proofs.Common.{◌≡◌, ◌<◌, ap, sym, ◌∙◌, subst, add-zero, add-one, true, rules, Result, arith}
+use Rattle.std.proofs.Common.{◌≡◌, ◌<◌, ap, sym, subst, add-zero, add-one, true, rules, Result, arith}
 use Rattle.std.specs.Prelude.{IfOk}
 use Rattle.std.proofs.lemmas.Result.{IfOk-weaker}
 use Rattle.text_lengths.specs.declared.Length.{Length}
@@ -43,8 +43,8 @@ parse_list-returns-in-Last-clause-listed g t c =
     Listed-after (g.S.Source.ahead c.args.source.now) (g.S.Source.ahead c.loop-joiner.source) (g.S.Source.ahead c.take.new.source) c.args.opened c.args.level
     (shared_items c.loop-joiner.joiner.lists.items) (shared_weight c.loop-joiner.joiner.lists.items) c.in-Last.node c.in_ok-list-in-Last.list c.in-Last.stop
     c.loop-joiner.invariant.0 listed
-    ((c.in_ok-list-in-Last.ensures).in_order ∙ (c.in_ok-push-in-Last.ensures).in_order)
-    ((c.in_ok-list-in-Last.ensures).weighs ∙ (c.in_ok-push-in-Last.ensures).weighs)
+    (rw (c.in_ok-push-in-Last.ensures).in_order at (c.in_ok-list-in-Last.ensures).in_order)
+    (rw (c.in_ok-push-in-Last.ensures).weighs at (c.in_ok-list-in-Last.ensures).weighs)
 
 pub parse_list-returns-in-Nothing-clause-listed : goal.parse_list-returns-in-Nothing-clause-listed
 parse_list-returns-in-Nothing-clause-listed g t c =
@@ -52,8 +52,8 @@ parse_list-returns-in-Nothing-clause-listed g t c =
     Listed-after (g.S.Source.ahead c.args.source.now) (g.S.Source.ahead c.loop-joiner.source) (g.S.Source.ahead c.take.new.source) c.args.opened c.args.level
     (shared_items c.loop-joiner.joiner.lists.items) (shared_weight c.loop-joiner.joiner.lists.items) nothing c.in_ok-list-in-Nothing.list c.in-Nothing.stop
     c.loop-joiner.invariant.0 listed
-    ((c.in_ok-list-in-Nothing.ensures).in_order ∙ sym (append-nil (shared_items c.loop-joiner.joiner.lists.items)))
-    ((c.in_ok-list-in-Nothing.ensures).weighs ∙ sym (add-zero (shared_weight c.loop-joiner.joiner.lists.items)))
+    (rw (append-nil (shared_items c.loop-joiner.joiner.lists.items)) (c.in_ok-list-in-Nothing.ensures).in_order)
+    (rw (add-zero (shared_weight c.loop-joiner.joiner.lists.items)) (c.in_ok-list-in-Nothing.ensures).weighs)
 
 pub take-returns-in-End-clause-takes : goal.take-returns-in-End-clause-takes
 take-returns-in-End-clause-takes g t c =

@@ -1,4 +1,4 @@
-use Rattle.std.proofs.Common.{◌≡◌, ◌∷◌, ℤ, ◌<ℤ◌, ◌≤ℤ◌, sym, subst, arith}
+use Rattle.std.proofs.Common.{◌∷◌, ◌<ℤ◌, ◌≤ℤ◌, sym, subst, arith}
 use Rattle.std.proofs.lemmas.Int.{ints}
 use Rattle.rb_arena.specs.Searching.{Found}
 use Rattle.interval_deltas.specs.declared.weave.Sought.TheVariants as sought

@@ -1,7 +1,8 @@
-use Rattle.std.proofs.Common.{◌+◌, ◌≤◌, ◌++◌, ap, sym, subst, ◌∙◌, arith}
+use Rattle.std.proofs.Common.{◌+◌, ◌≤◌, ap, sym, subst, ◌∙◌, arith}
 use Rattle.std.specs.Option.{IfSome}
-use Rattle.piece_tree.specs.Pieces.{IsFound, unit_count, listed, span_of, followed_by}
+use Rattle.piece_tree.specs.Pieces.{IsFound, unit_count, listed, span_of}
 use Rattle.piece_tree.specs.Inside.{entries_of, in_order}
+use Rattle.piece_tree.specs.Runs.{joined}
 use Rattle.piece_tree.proofs.Cuts.{piece_few, pieces_few}
 use Rattle.piece_tree.proofs.Runs.{run_there, first_fits, spliced_put, room_put}
 use Rattle.piece_tree.proofs.Prolonged.{listed_is}
@@ -38,44 +39,20 @@ put-first-requires-clause-fits c =
     c.rest_behind-right.new.tree.items c.rest_behind-right.result r (omega (arith, c.requires.range)) in
     (is.earlier, (h.whole, (r.later, r.place, omega (arith, room, c.requires.range, c.requires.fits, ap unit_count (listed_is c.args.chunks.now.buffers c.args.piece c.requires.counted)))))
 
-pub returns-clause-spliced : goal.returns-clause-spliced
-returns-clause-spliced c =
+pub returns : goal.returns
+returns c =
+    let b = c.args.chunks.now.buffers in let start = c.args.offset in let end = c.args.offset + c.args.deleted in let span = span_of c.args.piece in
+    let old = c.args.tree.now.items in let new = c.put-first.new.tree.items in let cut = c.in-Some.cut in let right = c.rest_behind-right.result in
     let is = c.in-Some.ensures in let h = c.gather-run.ensures.run is.earlier is.piece is.later is.place in
     let r = c.rest_behind-right.ensures.left is.earlier h.whole h.later h.place in
-    c.put-first.ensures.items is.earlier h.whole r.later r.place
-    ∙ spliced_put c.args.chunks.now.buffers c.args.offset (c.args.offset + c.args.deleted) (span_of c.args.piece) c.args.tree.now.items c.gather-run.new.tree.items c.in-Some.cut c.gather-run.result is h c.requires.pieces
-    c.rest_behind-right.new.tree.items c.rest_behind-right.result r
-
-pub returns-clause-front : goal.returns-clause-front
-returns-clause-front c =
-    let is = c.in-Some.ensures in let h = c.gather-run.ensures.run is.earlier is.piece is.later is.place in
-    let r = c.rest_behind-right.ensures.left is.earlier h.whole h.later h.place in
-    keeps_before c.args.offset c.args.tree.now.items c.put-first.new.tree.items is.earlier c.in-Some.cut.id is.piece is.later is.place is.reach (c.put-first.ensures.front is.earlier h.whole r.later r.place)
-
-pub returns-clause-told : goal.returns-clause-told
-returns-clause-told c =
-    let b = c.args.chunks.now.buffers in
-    let is = c.in-Some.ensures in let h = c.gather-run.ensures.run is.earlier is.piece is.later is.place in
-    let r = c.rest_behind-right.ensures.left is.earlier h.whole h.later h.place in
-    let new = c.put-first.new.tree.items in let before = c.in-Some.cut.before in
-    subst (λ o. IfSome o (IsFound (entries_of new))) (sym c.found_first.ensures)
-    (heads_found is.earlier (followed_by b (listed c.in-Some.cut.left) (span_of c.args.piece) ++ listed c.rest_behind-right.result) c.put-first.result new before is.before
-    (c.put-first.ensures.first is.earlier h.whole r.later r.place))
-
-pub returns-clause-near : goal.returns-clause-near
-returns-clause-near c =
-    let b = c.args.chunks.now.buffers in
-    let is = c.in-Some.ensures in let h = c.gather-run.ensures.run is.earlier is.piece is.later is.place in
-    let r = c.rest_behind-right.ensures.left is.earlier h.whole h.later h.place in
-    let new = c.put-first.new.tree.items in let before = c.in-Some.cut.before in
-    subst (λ o. IfSome o (λ found. (found.before.units ≤ c.args.offset) × (c.args.offset ≤ found.before.units + found.span.units))) (sym c.found_first.ensures)
-    (heads_near b is.earlier (listed c.rest_behind-right.result) new c.in-Some.cut.left (span_of c.args.piece) c.put-first.result before c.args.offset is.before is.begins
-    (c.put-first.ensures.first is.earlier h.whole r.later r.place))
-
-pub returns-clause-none : goal.returns-clause-none
-returns-clause-none c = λ none.
-    let b = c.args.chunks.now.buffers in
-    let is = c.in-Some.ensures in let h = c.gather-run.ensures.run is.earlier is.piece is.later is.place in
-    let r = c.rest_behind-right.ensures.left is.earlier h.whole h.later h.place in
-    heads_none b is.earlier (listed c.rest_behind-right.result) c.put-first.new.tree.items c.in-Some.cut.left c.args.piece c.put-first.result c.in-Some.cut.before
-    (sym c.found_first.ensures ∙ none) (c.put-first.ensures.first is.earlier h.whole r.later r.place)
+    let heads = c.put-first.ensures.first is.earlier h.whole r.later r.place in record {
+      spliced = c.put-first.ensures.items is.earlier h.whole r.later r.place
+          ∙ spliced_put b start end span old c.gather-run.new.tree.items cut c.gather-run.result is h c.requires.pieces c.rest_behind-right.new.tree.items right r;
+      front = keeps_before start old new is.earlier cut.id is.piece is.later is.place is.reach (c.put-first.ensures.front is.earlier h.whole r.later r.place);
+      told = subst (λ o. IfSome o (IsFound (entries_of new))) (sym c.found_first.ensures)
+          (heads_found is.earlier (joined b cut.left span right) c.put-first.result new cut.before is.before heads);
+      near = subst (λ o. IfSome o (λ found. (found.before.units ≤ start) × (start ≤ found.before.units + found.span.units))) (sym c.found_first.ensures)
+          (heads_near b is.earlier (listed right) new cut.left span c.put-first.result cut.before start is.before is.begins heads);
+      none = λ none. heads_none b is.earlier (listed right) new cut.left c.args.piece c.put-first.result cut.before (sym c.found_first.ensures ∙ none) heads;
+      room = omega (arith, c.gather-run.ensures.room, c.rest_behind-right.ensures.room, c.put-first.ensures.room);
+    }

@@ -58,8 +58,7 @@ loop-turn-preserved g c =
           let (next, sl2, alike2) = passes t.weaving laws.laws (t.within reach) t.is_item t.is_sum t.is_value laws.sums laws.parts l.tree.nodes.live l.tree.root z.nodes.live z.root l.at c.args.last c.in-Some.id (128 - (l._turn + 1))
           c.node_of-slot.result.parent now (rw fewer at sl) c.in-Some.is (sym c.is.ensures ∙ c.if-is.false) c.renew-sum.ensures.made (λ s made. ap (λ n. n.parent) (c.node_of-slot.ensures.slot s made)) in
           (next, sl2, alike2 ∙ alike)),
-      c.renew-sum.ensures.spare ∙ l.invariant.1,
-      c.renew-sum.ensures.as_many ∙ l.invariant.2,
+      record { spare = c.renew-sum.ensures.count.spare ∙ l.invariant.1.spare; as_many = c.renew-sum.ensures.count.as_many ∙ l.invariant.1.as_many },
     )
 
 pub returns-clause-made : goal.returns-clause-made

@@ -11,7 +11,7 @@ the_laws g =
 
 pub loop-turn-init : goal.loop-turn-init
 unfolding IsSlackFrom RenewsFrom
-loop-turn-init g c = ((λ reach beside whole h. (whole, h, refl)), refl, refl)
+loop-turn-init g c = ((λ reach beside whole h. (whole, h, refl)), record { spare = refl; as_many = refl })
 
 pub returns-in_default-clause-made : goal.returns-in_default-clause-made
 unfolding IsSlackFrom RenewsFrom
@@ -48,8 +48,7 @@ loop-turn-preserved g c =
           let (next, sl2, alike2) = climbed t.weaving laws.laws (t.within reach) t.is_item t.is_sum t.is_value laws.sums laws.parts l.tree.nodes.live l.tree.root
           z.nodes.live z.root c.node_of-at.result.parent c.in-Some.id (128 - (l._turn + 1)) now (rw (c.in-Some.is, fewer) at sl) c.renew.ensures.made (λ s made. ap (λ n. n.parent) (c.node_of-at.ensures.slot s made)) in
           (next, sl2, alike2 ∙ alike)),
-      c.renew.ensures.spare ∙ l.invariant.1,
-      c.renew.ensures.as_many ∙ l.invariant.2,
+      record { spare = c.renew.ensures.count.spare ∙ l.invariant.1.spare; as_many = c.renew.ensures.count.as_many ∙ l.invariant.1.as_many },
     )
 
 pub returns-clause-made : goal.returns-clause-made

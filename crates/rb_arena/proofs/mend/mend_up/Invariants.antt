@@ -1,9 +1,9 @@
 use Rattle.std.proofs.Common.{ℕ, ◌≡◌, ◌-◌, List, None}
-use Rattle.std.specs.FinMap as map
 use Rattle.rb_rules.specs.declared.slot.Data.{Data}
 use Rattle.rb_rules.specs.Tree.{Tree}
 use Rattle.rb_rules.specs.Woven.{Valued}
 use Rattle.rb_arena.specs.Rising.{Risen}
+use Rattle.rb_arena.specs.Nodes.{KeepsCount}
 use Rattle.rb_arena.proofs.mend.mend_up.Given as goal
 
 abbrev pub invariant-loop-turn : goal.invariant-loop-turn
@@ -11,4 +11,4 @@ invariant-loop-turn g l =
     let t = g.W.Weave in
     ((reach : g.row.W-By.Denot) (beside : Tree (Data g.row.W-Item.Denot g.row.W-Sum.Denot g.row.W-By.Denot)) (es : List (ℕ × g.row.W-Item.Denot)) → Risen t.weaving (t.within reach) beside l.initial.tree.nodes.live l.initial.tree.root es l.initial.at 128 → Valued t.weaving t.is_item t.is_value es
     → Risen t.weaving (t.within reach) beside l.tree.nodes.live l.tree.root es l.at (128 - l._turn) × (l._turn ≡ 129 → l.at ≡ None))
-    × (l.tree.nodes.spare ≡ l.initial.tree.nodes.spare) × (map.len l.tree.nodes.live ≡ map.len l.initial.tree.nodes.live)
+    × KeepsCount l.initial.tree.nodes l.tree.nodes

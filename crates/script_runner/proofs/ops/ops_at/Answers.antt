@@ -15,10 +15,11 @@ loop-op-init c = record {
   all = c.into_iter-op-iterator.ensures.into_iter_gives.0 ∙ c.into_vec-ops.ensures;
   len = grind (arith, common_steps);
   found = grind (arith, common_steps);
+  same = refl;
 }
 
-pub returns-in_err-op : goal.returns-in_err-op
-returns-in_err-op c =
+pub returns-in_err-op-clause-found : goal.returns-in_err-op-clause-found
+returns-in_err-op-clause-found c =
     let f = c.args.model.now.document in
     let steps : into_iter_items c.loop-op.op-iterator ≡ c.in-Some.op ∷ into_iter_items c.next.new.self = c.in-Some.ensures.steps.0 in
     let none : op_at f c.in-Some.op ≡ None = grind (arith, common_steps) in
@@ -38,10 +39,11 @@ loop-op-preserved c =
       all = append_assoc c.loop-op.yielded (c.in-Some.op ∷ []) _ ∙ ap (λ rest. c.loop-op.yielded ++ rest) (sym steps) ∙ c.loop-op.invariant.all;
       len = omega (arith, c.loop-op.invariant.len, gone, short);
       found = ops_at-more f c.loop-op.yielded c.in-Some.op c.loop-op.found.items c.in_ok-op.op c.loop-op.invariant.found is ∙ ap Some (sym pushed);
+      same = grind (arith, common_steps);
     }
 
-pub returns : goal.returns
-returns c =
+pub returns-clause-found : goal.returns-clause-found
+returns-clause-found c =
     let f = c.args.model.now.document in
     let empty : into_iter_items c.loop-op.op-iterator ≡ [] = nothing_left _ (sym c.loop-op.invariant.len ∙ c.in-None.ensures.steps.0) in
     let all = sym (append-nil c.loop-op.yielded) ∙ ap (λ rest. c.loop-op.yielded ++ rest) (sym empty) ∙ c.loop-op.invariant.all in

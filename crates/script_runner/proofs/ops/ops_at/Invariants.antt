@@ -7,5 +7,6 @@ abbrev pub invariant-loop-op : goal.invariant-loop-op
 invariant-loop-op l = record {
   all : l.yielded ++ into_iter_items l.op-iterator ≡ l.fn.ops;
   len : into_iter_len l.op-iterator ≡ length (into_iter_items l.op-iterator);
-  found : ops_at l.model.document l.yielded ≡ Some l.found.items;
+  found : ops_at l.fn.model.document l.yielded ≡ Some l.found.items;
+  same : l.model ≡ l.fn.model;
 }

@@ -1,11 +1,7 @@
-use Rattle.std.proofs.Common.{◌∙◌, Option, Some, None}
-use Rattle.std.specs.Prelude.{IfNone}
+use Rattle.std.proofs.Common.{◌∙◌, Some, None}
 use Rattle.bracket_tree_rules.proofs.Parts.{part_shown, bracket_in_part, no_bracket_here}
+use Rattle.bracket_nodes.proofs.Descent.{if_none}
 use Rattle.bracket_nodes.proofs.reader.NodeReader.bracket_at.Goals as goal
-
-if_none : {A : Type 0} (o : Option A) (P : Type 0) → P → IfNone o P
-if_none None P h = h
-if_none (Some x) P h = tt
 
 pub returns-in-Some-clause-some : goal.returns-in-Some-clause-some
 returns-in-Some-clause-some c = c.loop-token.invariant.1.1 (Some c.in-Some.token) c.in-Some.ensures.some
@@ -17,11 +13,7 @@ returns-in_err-here-clause-none c =
     (no_bracket_here here.start here.node.now.value c.args.place c.part_at.ensures.tree c.in_err-here.ensures.none c.in_default.ensures.none))
 
 pub keep-requires : goal.keep-requires
-keep-requires c =
-    let here = c.loop-token.here in
-    let part = c.in_ok-here.here in
-    rw c.loop-token.invariant.0
-    (part_shown c.args.self.now here.start here.node.now.value part.start part.node.now.value c.part_at.ensures.tree c.loop-token.invariant.1.0 c.in_ok-here.ensures.part)
+keep-requires c = rw c.loop-token.invariant.0 (part_shown _ _ _ _ _ c.part_at.ensures.tree c.loop-token.invariant.1.0 c.in_ok-here.ensures.part)
 
 pub loop-token-preserved : goal.loop-token-preserved
 loop-token-preserved c =
@@ -29,7 +21,7 @@ loop-token-preserved c =
     let part = c.in_ok-here.here in (
       c.keep.ensures ∙ c.loop-token.invariant.0,
       (
-        part_shown c.args.self.now here.start here.node.now.value part.start part.node.now.value c.part_at.ensures.tree c.loop-token.invariant.1.0 c.in_ok-here.ensures.part,
+        part_shown _ _ _ _ _ c.part_at.ensures.tree c.loop-token.invariant.1.0 c.in_ok-here.ensures.part,
         λ found h. c.loop-token.invariant.1.1 found
             (bracket_in_part here.start here.node.now.value part.start part.node.now.value c.args.place found
             c.part_at.ensures.tree c.in_ok-here.ensures.part c.in_ok-here.ensures.holds h),

@@ -1,12 +1,8 @@
-use Rattle.std.proofs.Common.{◌∙◌, Option, Some, None}
-use Rattle.std.specs.Prelude.{IfNone}
+use Rattle.std.proofs.Common.{◌∙◌, Some, None}
 use Rattle.bracket_tree_rules.proofs.Longest.{longest_here}
 use Rattle.bracket_tree_rules.proofs.Parts.{part_shown, node_in_part, no_node_here}
+use Rattle.bracket_nodes.proofs.Descent.{if_none}
 use Rattle.bracket_nodes.proofs.reader.NodeReader.longest_at.Goals as goal
-
-if_none : {A : Type 0} (o : Option A) (P : Type 0) → P → IfNone o P
-if_none None P h = h
-if_none (Some x) P h = tt
 
 pub returns-then-is_taken_here-clause-some : goal.returns-then-is_taken_here-clause-some
 returns-then-is_taken_here-clause-some c =
@@ -22,11 +18,7 @@ returns-in_err-here-clause-none c =
     c.part_at.ensures.tree c.in_err-here.ensures.none (λ taken. let clash = c.is_taken_here.ensures.1 taken in cc)))
 
 pub keep-requires : goal.keep-requires
-keep-requires c =
-    let here = c.loop-place.here in
-    let part = c.in_ok-here.here in
-    rw c.loop-place.invariant.0
-    (part_shown c.args.self.now here.start here.node.now.value part.start part.node.now.value c.part_at.ensures.tree c.loop-place.invariant.1.0 c.in_ok-here.ensures.part)
+keep-requires c = rw c.loop-place.invariant.0 (part_shown _ _ _ _ _ c.part_at.ensures.tree c.loop-place.invariant.1.0 c.in_ok-here.ensures.part)
 
 pub loop-place-preserved : goal.loop-place-preserved
 loop-place-preserved c =
@@ -34,7 +26,7 @@ loop-place-preserved c =
     let part = c.in_ok-here.here in (
       c.keep.ensures ∙ c.loop-place.invariant.0,
       (
-        part_shown c.args.self.now here.start here.node.now.value part.start part.node.now.value c.part_at.ensures.tree c.loop-place.invariant.1.0 c.in_ok-here.ensures.part,
+        part_shown _ _ _ _ _ c.part_at.ensures.tree c.loop-place.invariant.1.0 c.in_ok-here.ensures.part,
         λ found h. c.loop-place.invariant.1.1 found
             (node_in_part here.start here.node.now.value part.start part.node.now.value c.args.place c.args.lines c.args.opened c.args.level found
             c.part_at.ensures.tree c.in_ok-here.ensures.part c.in_ok-here.ensures.holds (λ taken. let clash = c.is_taken_here.ensures.1 taken in cc) h),

@@ -8,12 +8,12 @@ pub invariant_of-self : goal.invariant_of-self
 invariant_of-self c =
     let m = c.self.inside in
     let old = c.self.invariant in
-    let shelf = IsShelf-closed m.text.buffers m.shelf c.close.new.self (c.close.ensures.inside m.text.buffers old.5.inside) old.5
-    c.close.result c.args.id (c.close.ensures.change m.text.buffers) in
-    (old.0, old.1, old.2, old.3, old.4, shelf)
+    let shelf = IsShelf-closed m.page.text.buffers m.shelf c.close.new.self (c.close.ensures.inside m.page.text.buffers old.2.inside) old.2
+    c.close.result c.args.id (c.close.ensures.change m.page.text.buffers) in
+    (old.0, old.1, shelf)
 
 pub returns-clause-paired_state : goal.returns-clause-paired_state
 returns-clause-paired_state c =
     λ paired.
     closed_paired _ _ (subst (λ (s : ModelState). IsPairedState s.document) (sym c.self.view_is) paired)
-    c.close.result c.args.id (c.close.ensures.change c.self.inside.text.buffers)
+    c.close.result c.args.id (c.close.ensures.change c.self.inside.page.text.buffers)

@@ -1,9 +1,15 @@
-use Rattle.model_core.proofs.Carries.{inside-decorated}
+use Rattle.std.proofs.Common.{ℕ, List, ap, sym, subst}
+use Rattle.model_page.specs.State.{PageState}
+use Rattle.model_core.specs.History.{IsHistory}
+use Rattle.model_core.specs.Shelving.{IsShelf}
 use Rattle.model_core.proofs.model.Model.decorate.Goals as goal
 
 pub invariant_of-self : goal.invariant_of-self
 invariant_of-self c =
     let m = c.self.inside in
     let old = c.self.invariant in
-    let inside = inside-decorated c.delta.result m.decorations c.delta.new.self c.args.owner c.args.remove.now c.args.add.now m.text.units c.delta.ensures.change old.3.inside in
-    (old.0, old.1, old.2, record { sound = c.delta.ensures.sound; inside = inside }, old.4, old.5)
+    let same = c.decorate.ensures.same in (
+      old.0,
+      subst (λ (x : List ℕ). IsHistory x m.history.stack) (sym (ap (λ (p : PageState). p.text.units) same)) old.1,
+      subst (λ (buffers : List (List ℕ)). IsShelf buffers m.shelf) (sym (ap (λ (p : PageState). p.text.buffers) same)) old.2,
+    )

@@ -7,5 +7,5 @@ use Rattle.model_core.proofs.model.Model.decos_in.Goals as goal
 pub returns-clause-inside : goal.returns-clause-inside
 returns-clause-inside c =
     decos_inside c.args.self.now.document
-    (subst (λ (s : ModelState). LieIn (length s.document.units) s.document.decorations.marks) c.self.view_is c.self.invariant.3.inside)
+    (subst (λ (s : ModelState). LieIn (length s.document.units) s.document.decorations.marks) c.self.view_is c.decorations.ensures.inside.inside)
     c.args.span c.args.owner

@@ -1,27 +1,11 @@
-use Rattle.std.proofs.Common.{[], length, None, refl, sym, subst, arith}
-use Rattle.std.specs.Prelude.{replicate}
-use Rattle.std.proofs.lemmas.List.Elements.{All-nil}
-use Rattle.mark_rules.specs.declared.Mark.TheVariants.{New}
-use Rattle.decoration_rules.specs.declared.Mark.{Mark}
-use Rattle.decoration_rules.specs.Decorations.{Decorations}
-use Rattle.decoration_rules.specs.Moves.{IsSpanIn, LieIn}
+use Rattle.std.proofs.Common.{sym, subst, arith}
 use Rattle.model_core.specs.History.{IsHistory}
 use Rattle.model_core.proofs.Shelving.{IsShelf-none}
-use Rattle.model_core.proofs.Staying.{stays_as, stays_unparsed}
 use Rattle.model_core.proofs.model.Model.new.Goals as goal
 
 pub invariant_of-result : goal.invariant_of-result
-invariant_of-result c =
-    let x = c.new.result.units in
-    let len = length x in (
-      rw c.new.ensures.units (omega arith),
-      omega arith,
-      subst (IsHistory x) (sym c.new-3.ensures) (record { back = tt; on = tt }),
-      record {
-        sound = c.new-2.ensures.sound;
-        inside = subst (λ (d : Decorations). LieIn len d.marks) (sym c.new-2.ensures.value) (All-nil (λ (mark : Mark). IsSpanIn mark.span len));
-      },
-      stays_as None c.none.result.tree (replicate 1 New) c.none.result.marks c.standard.result [] x c.none.ensures.tree c.none.ensures.marks c.new.ensures.units
-          (stays_unparsed c.standard.result [] 1 refl),
-      IsShelf-none c.new.result.buffers c.new-4.result c.new-4.ensures,
-    )
+invariant_of-result c = (
+  omega arith,
+  subst (IsHistory c.new.result.text.units) (sym c.new-2.ensures) (record { back = tt; on = tt }),
+  IsShelf-none c.new.result.text.buffers c.new-3.result c.new-3.ensures,
+)

@@ -1,36 +1,37 @@
-use Rattle.std.proofs.Common.{◌≡◌, ◌+◌, ◌<◌, ◌≤◌, slice_get, Some, None, Err, refl, ap, sym, ◌∙◌, arith}
+use Rattle.std.proofs.Common.{◌≡◌, ◌+◌, ◌<◌, slice_get, Some, None, Err, refl, ap, sym, subst, ◌∙◌, arith}
 use Rattle.std.proofs.lemmas.Grind.{common_steps}
 use Rattle.edit_stack.specs.Element.{step_of}
 use Rattle.document_rules.specs.Refusals.{limit}
 use Rattle.document_rules.specs.Document.{greatest_version}
 use Rattle.model_core.specs.State.{ModelState}
-use Rattle.text_buffer.specs.Room.{IsEnough}
-use Rattle.model_core.specs.History.{op_count, need_along}
+use Rattle.model_page.specs.Needs.{need_along}
+use Rattle.model_page.specs.State.{HasRoom}
+use Rattle.model_page.proofs.Turns.{few_by}
 use Rattle.model_core.specs.Ways.{next_steps, flat_move}
-use Rattle.model_core.proofs.Stepping.{IsStep, step_on, no_next_on, few_by}
-use Rattle.model_core.proofs.Untouched.{parts_untouched, document_untouched}
+use Rattle.model_core.proofs.Stepping.{IsStep, step_on, no_next_on}
+use Rattle.model_core.proofs.Untouched.{history_untouched, shelf_untouched, document_untouched}
 use Rattle.model_core.proofs.Preparing.{move_ready}
 use Rattle.snapshots.specs.Shown as shelves
 use Rattle.model_core.proofs.model.Model.prepare_move.Goals as goal
 use Rattle.model_core.proofs.model.Model.prepare_move.Goals.{In-Some}
 
 step_taken : (c : In-Some)
-    → IsStep c.args.way c.self.inside.text.units c.self.inside.version c.self.inside.alternative c.self.inside.decorations c.self.inside.table (shelves.shown c.self.inside.text.buffers c.self.inside.shelf)
-    c.self.inside.history.stack (step_of c.in-Some.step.now)
+    → IsStep c.args.way c.self.inside.page.text.units c.self.inside.version c.self.inside.alternative c.self.inside.page.decorations c.self.inside.page.table
+    (shelves.shown c.self.inside.page.text.buffers c.self.inside.shelf) c.self.inside.history.stack (step_of c.in-Some.step.now)
 step_taken c =
     let next : slice_get (next_steps c.args.way c.self.inside.history.stack) 0 ≡ Some (step_of c.in-Some.step.now) = grind (arith, common_steps) in
-    step_on c.args.way _ _ _ _ _ _ c.self.inside.history.stack _ next c.self.invariant.2
+    step_on c.args.way _ _ _ _ _ _ c.self.inside.history.stack _ next c.self.invariant.1
 
 pub returns-in_default-clause-ready : goal.returns-in_default-clause-ready
 returns-in_default-clause-ready c =
     let m = c.self.inside in
     let none : slice_get (next_steps c.args.way m.history.stack) 0 ≡ None = grind (arith, common_steps) in
-    sym (ap (λ (s : ModelState). next_steps c.args.way s.document.history) c.self.view_is) ∙ no_next_on c.args.way m.text.units m.history.stack none
+    sym (ap (λ (s : ModelState). next_steps c.args.way s.document.history) c.self.view_is) ∙ no_next_on c.args.way m.page.text.units m.history.stack none
 
-pub reserve_for-requires : goal.reserve_for-requires
-reserve_for-requires c =
-    let step = step_taken (goal.at.reserve_for-requires c).In-Some in
-    rw c.changes.ensures (few_by c.args.way c.self.inside.text.units (step_of c.in-Some.step.now).changes step.lead)
+pub need_of_step-requires : goal.need_of_step-requires
+need_of_step-requires c =
+    let step = step_taken (goal.at.need_of_step-requires c).In-Some in
+    few_by c.args.way c.self.inside.page.text.units (step_of c.in-Some.step.now).changes step.lead
 
 pub returns-in_err-next-clause-ready : goal.returns-in_err-next-clause-ready
 returns-in_err-next-clause-ready c =
@@ -43,49 +44,54 @@ returns-in_err-next-clause-ready c =
 pub invariant_of-self : goal.invariant_of-self
 invariant_of-self c =
     let m = c.self.inside in
-    parts_untouched m.text c.reserve_for.new.text m.last c.reserve_for.new.last c.reserve_for.ensures.kept m.history.stack m.history.stack refl
-    m.decorations m.table m.shelf m.version _ c.self.invariant.1 c.self.invariant
+    let same = c.reserve.ensures.same in (
+      c.self.invariant.0,
+      history_untouched m.page c.reserve.new.self same m.history.stack m.history.stack refl c.self.invariant.1,
+      shelf_untouched m.page c.reserve.new.self same m.shelf c.self.invariant.2,
+    )
 
 pub returns-in_err-map_err-clause-document : goal.returns-in_err-map_err-clause-document
 returns-in_err-map_err-clause-document c =
     let m = c.self.inside in
-    document_untouched m.text c.reserve_for.new.text m.last c.reserve_for.new.last c.reserve_for.ensures.kept m.history.stack m.history.stack refl
-    m.decorations m.table m.shelf m.version m.alternative _ c.self.invariant.5 (ap (λ (s : ModelState). s.document) c.self.view_is)
+    document_untouched m.page c.reserve.new.self c.reserve.ensures.same m.history.stack m.history.stack refl
+    m.shelf c.self.invariant.2 m.version m.alternative _ (ap (λ (s : ModelState). s.document) c.self.view_is)
 
 pub invariant_of-self-2 : goal.invariant_of-self-2
 invariant_of-self-2 c =
     let m = c.self.inside in
-    parts_untouched m.text c.reserve_for.new.text m.last c.reserve_for.new.last c.reserve_for.ensures.kept m.history.stack m.history.stack refl
-    m.decorations m.table m.shelf m.version _ c.self.invariant.1 c.self.invariant
+    let same = c.reserve.ensures.same in (
+      c.self.invariant.0,
+      history_untouched m.page c.reserve.new.self same m.history.stack m.history.stack refl c.self.invariant.1,
+      shelf_untouched m.page c.reserve.new.self same m.shelf c.self.invariant.2,
+    )
 
 pub returns-clause-document : goal.returns-clause-document
 returns-clause-document c =
     let m = c.self.inside in
-    document_untouched m.text c.reserve_for.new.text m.last c.reserve_for.new.last c.reserve_for.ensures.kept m.history.stack m.history.stack refl
-    m.decorations m.table m.shelf m.version m.alternative _ c.self.invariant.5 (ap (λ (s : ModelState). s.document) c.self.view_is)
+    document_untouched m.page c.reserve.new.self c.reserve.ensures.same m.history.stack m.history.stack refl
+    m.shelf c.self.invariant.2 m.version m.alternative _ (ap (λ (s : ModelState). s.document) c.self.view_is)
 
 pub returns-clause-ready : goal.returns-clause-ready
 returns-clause-ready c =
-    let m = c.self.inside in
     let way = c.args.way in
     let changes = (step_of c.in-Some.step.now).changes in
-    let kept = c.reserve_for.ensures.kept in
+    let same = c.reserve.ensures.same in
     let step = step_taken (goal.at.returns-clause-ready c).In-Some in
-    let next : c.in_ok-next.next ≡ m.version + 1 = grind (arith, common_steps) in
+    let next : c.in_ok-next.next ≡ c.self.inside.version + 1 = grind (arith, common_steps) in
+    let told : c.in_ok-need.need ≡ need_along way changes = grind (arith, common_steps) in
+    let enough : HasRoom c.reserve.new.self c.in_ok-need.need = grind (arith, common_steps) in
+    let room : HasRoom c.reserve.new.self (need_along way changes) = subst (HasRoom c.reserve.new.self) told enough in
     let edits = step.ops in
     let units = step.units in
     let breaks = step.breaks in
-    let told : changes ≡ c.changes.result.now = sym c.changes.ensures in
-    let room : IsEnough c.reserve_for.new.text.room (need_along way changes) = rw told (grind (arith, common_steps)) in
-    let marks : op_count way changes ≤ c.reserve_for.new.last.spare = rw told (grind (arith, common_steps)) in
     move_ready way _ c.making.result c.making.ensures.action (omega (arith, next, c.making.ensures.version))
-    (rw kept.units step.next)
+    (rw same.units step.next)
     (record {
-      text = rw kept.units (record {
-        edits = omega (arith, edits, room.edits);
-        units = omega (arith, edits, units, room.units);
-        breaks = omega (arith, edits, breaks, room.breaks);
+      text = rw same.units (record {
+        edits = omega (arith, edits, room.text.edits);
+        units = omega (arith, edits, units, room.text.units);
+        breaks = omega (arith, edits, breaks, room.text.breaks);
       });
-      marks = rw kept.units (omega (arith, edits, marks));
+      marks = rw same.units (omega (arith, edits, room.marks));
       changes = omega arith;
     })

@@ -9,14 +9,14 @@ pub invariant_of-self : goal.invariant_of-self
 invariant_of-self c =
     let m = c.self.inside in
     let old = c.self.invariant in
-    let shelf = IsShelf-skipped m.text.buffers m.shelf c.skip.new.self (c.skip.ensures.inside m.text.buffers old.5.inside) old.5
-    c.args.id c.args.n (c.skip.ensures.change m.text.buffers old.5.inside) in
-    (old.0, old.1, old.2, old.3, old.4, shelf)
+    let shelf = IsShelf-skipped m.page.text.buffers m.shelf c.skip.new.self (c.skip.ensures.inside m.page.text.buffers old.2.inside) old.2
+    c.args.id c.args.n (c.skip.ensures.change m.page.text.buffers old.2.inside) in
+    (old.0, old.1, shelf)
 
 pub returns-clause-paired_state : goal.returns-clause-paired_state
 returns-clause-paired_state c =
     λ whole paired.
-    let kept = c.self.invariant.5 in
+    let kept = c.self.invariant.2 in
     skipped_paired _ _ (subst (λ (s : ModelState). IsPairedState s.document) (sym c.self.view_is) paired) c.args.id c.args.n
-    kept.sound (c.skip.ensures.change c.self.inside.text.buffers kept.inside)
+    kept.sound (c.skip.ensures.change c.self.inside.page.text.buffers kept.inside)
     (subst (λ (s : ModelState). EndsBesidePairs s.document c.args.id c.args.n) (sym c.self.view_is) whole)

@@ -2,6 +2,7 @@ use Rattle.std.proofs.Common.{◌≡◌, ap, sym, subst, ◌∙◌, arith}
 use Rattle.std.specs.List.{All}
 use Rattle.std.proofs.lemmas.Grind.{common_steps}
 use Rattle.chunk_buffers.specs.Chunks.{LiesIn}
+use Rattle.text_buffer.specs.Text.{Text}
 use Rattle.document_rules.specs.Paired.{IsPairedState}
 use Rattle.snapshots.specs.Spans.{spelled}
 use Rattle.model_core.specs.State.{ModelState}
@@ -12,17 +13,20 @@ pub invariant_of-self : goal.invariant_of-self
 invariant_of-self c =
     let m = c.self.inside in
     let old = c.self.invariant in
-    let spans : c.as_slice.result.now ≡ m.text.spans = grind (arith, common_steps) in
-    let lie : All (LiesIn m.text.buffers) c.as_slice.result.now = subst (All (LiesIn m.text.buffers)) (sym spans) c.spans.ensures.inside in
-    let shelf = IsShelf-taken m.text.buffers m.shelf c.take.new.self (c.take.ensures.inside m.text.buffers old.5.inside lie) old.5
-    c.take.result (spelled m.text.buffers c.as_slice.result.now) (c.take.ensures.change m.text.buffers) in
-    (old.0, old.1, old.2, old.3, old.4, shelf)
+    let inside : All (LiesIn m.page.text.buffers) m.page.text.spans = subst (λ (t : Text). All (LiesIn t.buffers) t.spans) c.text.ensures.text c.spans.ensures.inside in
+    let spans : c.as_slice.result.now ≡ m.page.text.spans = grind (arith, common_steps) in
+    let lie : All (LiesIn m.page.text.buffers) c.as_slice.result.now = subst (All (LiesIn m.page.text.buffers)) (sym spans) inside in
+    let shelf = IsShelf-taken m.page.text.buffers m.shelf c.take.new.self (c.take.ensures.inside m.page.text.buffers old.2.inside lie) old.2
+    c.take.result (spelled m.page.text.buffers c.as_slice.result.now) (c.take.ensures.change m.page.text.buffers) in
+    (old.0, old.1, shelf)
 
 pub returns-clause-paired_state : goal.returns-clause-paired_state
 returns-clause-paired_state c =
     λ paired.
     let m = c.self.inside in
-    let spans : c.as_slice.result.now ≡ m.text.spans = grind (arith, common_steps) in
-    let units : spelled m.text.buffers c.as_slice.result.now ≡ m.text.units = ap (spelled m.text.buffers) spans ∙ sym c.spans.ensures.spelled in
+    let buffers = m.page.text.buffers in
+    let all : m.page.text.units ≡ spelled buffers m.page.text.spans = subst (λ (t : Text). t.units ≡ spelled t.buffers t.spans) c.text.ensures.text c.spans.ensures.spelled in
+    let spans : c.as_slice.result.now ≡ m.page.text.spans = grind (arith, common_steps) in
+    let units : spelled buffers c.as_slice.result.now ≡ m.page.text.units = ap (spelled buffers) spans ∙ sym all in
     taken_paired _ _ (subst (λ (s : ModelState). IsPairedState s.document) (sym c.self.view_is) paired)
-    c.take.result (spelled m.text.buffers c.as_slice.result.now) units (c.take.ensures.change m.text.buffers)
+    c.take.result (spelled buffers c.as_slice.result.now) units (c.take.ensures.change buffers)

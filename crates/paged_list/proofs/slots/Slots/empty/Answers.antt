@@ -1,49 +1,15 @@
-use Rattle.std.proofs.Common.{None, sym, ◌∙◌}
-use Rattle.paged_list.proofs.Pages.{number_fits, page_at, slot_at, pages_written, row_written}
-use Rattle.paged_list.proofs.Rows.{within}
+use Rattle.paged_list.proofs.Pages.{filled_fits, filled_page, filled_at}
 use Rattle.paged_list.proofs.slots.Slots.empty.Goals as goal
 
 pub spot_of-spot-requires : goal.spot_of-spot-requires
-spot_of-spot-requires g c =
-    let ps = c.self.inside.pages.items in let h = c.self.invariant in let slots = c.args.self.now in let is = c.self.view_is in let n = c.args.index in
-    let lt = within slots n c.requires.0 c.requires.1 in
-    number_fits ps h slots is n lt
+spot_of-spot-requires g c = filled_fits c.self.inside.pages.items c.self.invariant c.args.self.now c.self.view_is c.args.index c.requires
 
 pub index_mut-requires : goal.index_mut-requires
 index_mut-requires g c =
-    let ps = c.self.inside.pages.items in let h = c.self.invariant in let slots = c.args.self.now in let is = c.self.view_is in let n = c.args.index in
-    let lt = within slots n c.requires.0 c.requires.1 in
-    let page = c.spot_of-spot.result.page in let place = c.spot_of-spot.result.place in let at = c.spot_of-spot.ensures in
-    rw c.self.inside.pages.ok.0 (page_at ps h slots is n lt page place at)
+    let spot = c.spot_of-spot.result in
+    rw c.self.inside.pages.ok.0 (filled_page c.self.inside.pages.items c.self.invariant c.args.self.now c.self.view_is c.args.index c.requires spot.page spot.place c.spot_of-spot.ensures)
 
 pub empty-requires : goal.empty-requires
 empty-requires g c =
-    let ps = c.self.inside.pages.items in let h = c.self.invariant in let slots = c.args.self.now in let is = c.self.view_is in let n = c.args.index in
-    let lt = within slots n c.requires.0 c.requires.1 in
-    let page = c.spot_of-spot.result.page in let place = c.spot_of-spot.result.place in let at = c.spot_of-spot.ensures in
-    let lent = c.index_mut.result.now in let e = c.index_mut.ensures.value in
-    (c.requires.0, slot_at ps h slots is n lt page place at lent e ∙ c.requires.1)
-
-pub invariant_of-self : goal.invariant_of-self
-invariant_of-self g c =
-    let ps = c.self.inside.pages.items in let h = c.self.invariant in let slots = c.args.self.now in let is = c.self.view_is in let n = c.args.index in
-    let lt = within slots n c.requires.0 c.requires.1 in
-    let page = c.spot_of-spot.result.page in let place = c.spot_of-spot.result.place in let at = c.spot_of-spot.ensures in
-    let lent = c.index_mut.result.now in let e = c.index_mut.ensures.value in
-    pages_written ps h slots is n lt page place at lent e c.empty.new.self None c.empty.ensures.slots
-
-pub returns-clause-value : goal.returns-clause-value
-returns-clause-value g c =
-    let ps = c.self.inside.pages.items in let h = c.self.invariant in let slots = c.args.self.now in let is = c.self.view_is in let n = c.args.index in
-    let lt = within slots n c.requires.0 c.requires.1 in
-    let page = c.spot_of-spot.result.page in let place = c.spot_of-spot.result.place in let at = c.spot_of-spot.ensures in
-    let lent = c.index_mut.result.now in let e = c.index_mut.ensures.value in
-    sym (slot_at ps h slots is n lt page place at lent e) ∙ c.empty.ensures.value
-
-pub returns-clause-slots : goal.returns-clause-slots
-returns-clause-slots g c =
-    let ps = c.self.inside.pages.items in let h = c.self.invariant in let slots = c.args.self.now in let is = c.self.view_is in let n = c.args.index in
-    let lt = within slots n c.requires.0 c.requires.1 in
-    let page = c.spot_of-spot.result.page in let place = c.spot_of-spot.result.place in let at = c.spot_of-spot.ensures in
-    let lent = c.index_mut.result.now in let e = c.index_mut.ensures.value in
-    row_written ps h slots is n lt page place at lent e c.empty.new.self None c.empty.ensures.slots
+    let spot = c.spot_of-spot.result in
+    filled_at c.self.inside.pages.items c.self.invariant c.args.self.now c.self.view_is c.args.index c.requires spot.page spot.place c.spot_of-spot.ensures c.index_mut.result.now c.index_mut.ensures.value

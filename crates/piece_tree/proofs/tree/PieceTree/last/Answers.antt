@@ -1,20 +1,13 @@
-use Rattle.std.proofs.Common.{Some, ap, sym, ◌∙◌, []}
+use Rattle.std.proofs.Common.{ap, sym, ◌∙◌, []}
+use Rattle.std.proofs.lemmas.List.{append-nil}
 use Rattle.piece_tree.specs.Pieces.{last_of}
-use Rattle.piece_tree.specs.Inside.{entries_of}
-use Rattle.piece_tree.proofs.Places.{last_there, last_none, last_shown}
+use Rattle.piece_tree.proofs.Places.{last_named, last_told}
 use Rattle.piece_tree.proofs.tree.PieceTree.last.Goals as goal
 
-pub returns-in_err-last : goal.returns-in_err-last
-returns-in_err-last c =
-    let none = last_none c.self.inside.tree.items (sym c.in_err-last.was ∙ c.last.ensures) in
-    c.from_residual.ensures ∙ ap (λ l. last_of (entries_of l)) (sym none) ∙ ap (λ v. last_of v.entries) c.self.view_is
-
-pub get-requires : goal.get-requires
-get-requires c =
-    let (ws, (x, is)) = last_there c.self.inside.tree.items c.in_ok-last.last (sym c.in_ok-last.was ∙ c.last.ensures) in
-    (ws, (x, ([], is)))
+pub with_span-requires : goal.with_span-requires
+with_span-requires c = let items = c.self.inside.tree.items in last_named items items [] c.last.result (sym (append-nil items)) c.last.ensures
 
 pub returns : goal.returns
 returns c =
-    let (ws, (x, is)) = last_there c.self.inside.tree.items c.in_ok-last.last (sym c.in_ok-last.was ∙ c.last.ensures) in
-    ap (λ q. Some (c.in_ok-last.last, q.span)) (c.get.ensures ws x [] is) ∙ sym (last_shown c.self.inside.tree.items ws c.in_ok-last.last x is) ∙ ap (λ v. last_of v.entries) c.self.view_is
+    let items = c.self.inside.tree.items in
+    last_told items items [] c.last.result c.with_span.result (sym (append-nil items)) c.last.ensures c.with_span.ensures ∙ ap (λ v. last_of v.entries) c.self.view_is

@@ -1,21 +1,17 @@
-use Rattle.std.proofs.Common.{◌≡◌, ◌<◌, ◌^◌, List, ap, sym, subst, ◌∙◌, arith}
+use Rattle.std.proofs.Common.{◌≡◌, ◌<◌, ◌^◌, List, ap, subst, arith}
 use Rattle.std.specs.List.{All}
 use Rattle.piece_tree.specs.Pieces.{Entry, pieces_of, unit_count}
 use Rattle.piece_tree.specs.Inside.{entry_of, entries_of}
 use Rattle.piece_tree.specs.Searches.{few_breaks}
-use Rattle.piece_tree.proofs.Places.{piece_found, split_entries, named_entry, first_none}
-use Rattle.piece_tree.proofs.Neighbours.{among, small_reach, next_is, item_behind}
+use Rattle.piece_tree.proofs.Neighbours.{near_item, none_behind, small_reach, next_is, item_behind}
 use Rattle.piece_tree.proofs.tree.PieceTree.next_found.Goals as goal
 
 pub next-requires : goal.next-requires
-next-requires c =
-    named_entry c.self.inside.tree.items c.args.self.now.entries c.args.near.now.id (ap (λ v. v.entries) c.self.view_is) (among c.args.self.now.entries c.args.near.now c.requires)
+next-requires c = near_item c.args.self.now.entries c.args.near.now c.requires c.self.inside.tree.items (ap (λ v. v.entries) c.self.view_is)
 
 pub returns-in_err-next : goal.returns-in_err-next
 returns-in_err-next c = λ is.
-    let (us, (vs, e, before, after)) = split_entries c.self.inside.tree.items is.earlier is.later c.args.near.now.id (piece_found c.args.near.now) (ap (λ v. v.entries) c.self.view_is ∙ is.place) in
-    let none = first_none vs (sym (c.in_err-next.was) ∙ c.next.ensures us (piece_found c.args.near.now) vs e) in
-    rw c.from_residual.ensures (sym after ∙ ap entries_of none)
+    rw c.from_residual.ensures (none_behind c.args.self.now.entries c.args.near.now is c.self.inside.tree.items (ap (λ v. v.entries) c.self.view_is) c.next.result c.in_err-next.was c.next.ensures)
 
 pub overflow_add-before-2 : goal.overflow_add-before-2
 overflow_add-before-2 c =

@@ -1,20 +1,16 @@
-use Rattle.std.proofs.Common.{ap, sym, ◌∙◌, arith}
+use Rattle.std.proofs.Common.{ap, arith}
 use Rattle.piece_tree.specs.declared.piece.PieceSum.{PieceSum}
 use Rattle.piece_tree.specs.declared.piece.Piece.{Piece}
 use Rattle.piece_tree.specs.Inside.{entry_of, entries_of}
-use Rattle.piece_tree.proofs.Places.{piece_found, split_entries, named_entry, last_none}
-use Rattle.piece_tree.proofs.Neighbours.{among, prev_counted, prev_is, item_before}
+use Rattle.piece_tree.proofs.Neighbours.{near_item, none_before, prev_counted, prev_is, item_before}
 use Rattle.piece_tree.proofs.tree.PieceTree.prev_found.Goals as goal
 
 pub prev-requires : goal.prev-requires
-prev-requires c =
-    named_entry c.self.inside.tree.items c.args.self.now.entries c.args.near.now.id (ap (λ v. v.entries) c.self.view_is) (among c.args.self.now.entries c.args.near.now c.requires)
+prev-requires c = near_item c.args.self.now.entries c.args.near.now c.requires c.self.inside.tree.items (ap (λ v. v.entries) c.self.view_is)
 
 pub returns-in_err-prev : goal.returns-in_err-prev
 returns-in_err-prev c = λ is.
-    let (us, (vs, e, before, after)) = split_entries c.self.inside.tree.items is.earlier is.later c.args.near.now.id (piece_found c.args.near.now) (ap (λ v. v.entries) c.self.view_is ∙ is.place) in
-    let none = last_none us (sym c.in_err-prev.was ∙ c.prev.ensures us (piece_found c.args.near.now) vs e) in
-    rw c.from_residual.ensures (sym before ∙ ap entries_of none)
+    rw c.from_residual.ensures (none_before c.args.self.now.entries c.args.near.now is c.self.inside.tree.items (ap (λ v. v.entries) c.self.view_is) c.prev.result c.in_err-prev.was c.prev.ensures)
 
 pub get-piece-requires : goal.get-piece-requires
 get-piece-requires c =

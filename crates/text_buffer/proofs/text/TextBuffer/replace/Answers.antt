@@ -308,7 +308,7 @@ none_behind c rest same apart =
     ∙ none_along c.self.inside.chunks.buffers c.rests_of-rests.result.back c.joins_of-joins.result.back line_feed (λ part e. absurd (false≢true (sym (rest part e).0 ∙ eq-eqb start end one))) apart)
 
 pub returns-clause-grows : goal.returns-clause-grows
-returns-clause-grows c = λ same some none.
+returns-clause-grows c = λ (same, some) none.
     let to = goal.at.returns-clause-grows c in let at = to.After-rests_of-rests in
     let old = c.self.inside.chunks.buffers in
     let new = c.append_some-added.new.chunks.buffers in

@@ -1,4 +1,4 @@
-use Rattle.std.proofs.Common.{◌≡◌, ◌+◌, ◌<◌, ◌^◌, ℕ, leb, arith}
+use Rattle.std.proofs.Common.{◌≡◌, ◌+◌, ◌<◌, ◌^◌, arith}
 use Rattle.piece_tree.specs.Pieces.{pieces_of}
 use Rattle.text_rules.specs.Breaks.{count_to, break_ends}
 use Rattle.text_buffer.specs.Text.{spelled}

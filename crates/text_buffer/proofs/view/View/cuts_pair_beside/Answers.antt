@@ -24,8 +24,8 @@ returns-then-offset-eq0-clause-cuts g c =
           ∙ no_pair (nat_lt 0 c.args.offset) (is_high_surrogate (get_or x (c.args.offset - 1) 0)))
     ]
 
-pub unit_near-holder-requires-clause-near : goal.unit_near-holder-requires-clause-near
-unit_near-holder-requires-clause-near g c = c.nearer-nearest.ensures c.args.self.now.pieces.now.entries c.requires.unit.piece c.requires.near
+pub piece_with-holder-requires-clause-near : goal.piece_with-holder-requires-clause-near
+piece_with-holder-requires-clause-near g c = c.nearer-nearest.ensures c.args.self.now.pieces.now.entries c.requires.unit.piece c.requires.near
 
 pub returns-clause-cuts : goal.returns-clause-cuts
 returns-clause-cuts g c =

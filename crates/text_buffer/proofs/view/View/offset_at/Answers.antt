@@ -1,12 +1,12 @@
-use Rattle.std.proofs.Common.{◌≡◌, ◌+◌, ◌-◌, [], length, ap, sym, ◌∙◌, refl, arith}
+use Rattle.std.proofs.Common.{◌≡◌, Some, ◌+◌, ◌-◌, [], length, ap, ◌∙◌, refl, arith}
 use Rattle.text_rules.specs.Lines.{Line, line_start}
 use Rattle.piece_tree.specs.Costs.{WithinLookUps}
 use Rattle.piece_tree.proofs.Costs.{no_look_up, fewer_look_ups, look_ups-add}
 use Rattle.piece_tree.specs.Pieces.{pieces_of}
 use Rattle.text_buffer.specs.Text.{spelled}
-use Rattle.text_buffer.proofs.Positions.{no_such_line, past_column, at_place}
+use Rattle.text_buffer.proofs.Positions.{no_such_line, past_column, at_place, at_no_place}
 use Rattle.text_buffer.proofs.view.View.offset_at.Given.{Over}
-use Rattle.text_buffer.proofs.view.View.offset_at.Goals.{After-content_end-end, After-is_place_in_line}
+use Rattle.text_buffer.proofs.view.View.offset_at.Goals.{After-content_end-end, After-place_at}
 use Rattle.text_buffer.proofs.view.View.offset_at.Goals as goal
 
 pub start_after-start-requires-clause-there : goal.start_after-start-requires-clause-there
@@ -23,15 +23,26 @@ returns-then-position-end-clause-offset g c =
     let d : Line = record { content = []; break = [] } in
     past_column (spelled c.args.self.now.chunks.now.buffers (pieces_of c.args.self.now.pieces.now.entries)) c.args.position d (omega arith) (omega (arith, c.line_count.ensures.lines)) (omega arith) (omega (arith, c.content_end-end.ensures.content d))
 
-pub returns-then-is_place_in_line-clause-offset : goal.returns-then-is_place_in_line-clause-offset
-returns-then-is_place_in_line-clause-offset g c =
+pub returns-clause-offset : goal.returns-clause-offset
+returns-clause-offset g c =
     let d : Line = record { content = []; break = [] } in
     let x = (spelled c.args.self.now.chunks.now.buffers (pieces_of c.args.self.now.pieces.now.entries)) in
     let this : c.args.position.line - 1 + 1 ≡ c.args.position.line = omega arith in
     let start = c.start_after-start.ensures.start ∙ ap (line_start x) this in
-    at_place x c.args.position d (omega arith) (omega (arith, c.line_count.ensures.lines)) (c.start_after-start.result.offset + (c.args.position.column - 1)) (omega arith)
+    ap (λ n. Some n) c.in-Some.ensures.place.there
+    ∙ at_place x c.args.position d (omega arith) (omega (arith, c.line_count.ensures.lines)) (c.start_after-start.result.offset + (c.args.position.column - 1)) (omega arith)
     (omega (arith, c.content_end-end.ensures.content d)) (ap (λ n. n + (c.args.position.column - 1)) start)
-    (sym c.is_place_in_line.ensures.place ∙ c.if-is_place_in_line.true)
+    c.in-Some.ensures.place.place
+
+pub returns-in_default-clause-offset : goal.returns-in_default-clause-offset
+returns-in_default-clause-offset g c =
+    let d : Line = record { content = []; break = [] } in
+    let x = (spelled c.args.self.now.chunks.now.buffers (pieces_of c.args.self.now.pieces.now.entries)) in
+    let this : c.args.position.line - 1 + 1 ≡ c.args.position.line = omega arith in
+    let start = c.start_after-start.ensures.start ∙ ap (line_start x) this in
+    at_no_place x c.args.position d (omega arith) (omega (arith, c.line_count.ensures.lines)) (c.start_after-start.result.offset + (c.args.position.column - 1)) (omega arith)
+    (omega (arith, c.content_end-end.ensures.content d)) (ap (λ n. n + (c.args.position.column - 1)) start)
+    c.in_default.ensures.place
 
 pub returns-then-position-eq0-clause-cost : goal.returns-then-position-eq0-clause-cost
 returns-then-position-eq0-clause-cost g c = no_look_up 4 (length c.args.self.now.pieces.now.entries) c.args.steps.now c.args.steps.now refl
@@ -51,10 +62,10 @@ fewer_than_four : (g : Over) (c : After-content_end-end g) → WithinLookUps 4 (
 fewer_than_four g c =
     fewer_look_ups 2 4 (length c.args.self.now.pieces.now.entries) (c.content_end-end.new.steps - c.args.steps.now) (omega arith) (two_look_ups g c)
 
-four_look_ups : (g : Over) (c : After-is_place_in_line g) → WithinLookUps 2 (length c.args.self.now.pieces.now.entries) (c.content_end-end.new.steps - c.args.steps.now)
-    → WithinLookUps 4 (length c.args.self.now.pieces.now.entries) (c.is_place_in_line.new.steps - c.args.steps.now)
+four_look_ups : (g : Over) (c : After-place_at g) → WithinLookUps 2 (length c.args.self.now.pieces.now.entries) (c.content_end-end.new.steps - c.args.steps.now)
+    → WithinLookUps 4 (length c.args.self.now.pieces.now.entries) (c.place_at.new.steps - c.args.steps.now)
 four_look_ups g c two =
-    look_ups-add 2 2 (length c.args.self.now.pieces.now.entries) c.args.steps.now c.content_end-end.new.steps c.is_place_in_line.new.steps two c.is_place_in_line.ensures.cost
+    look_ups-add 2 2 (length c.args.self.now.pieces.now.entries) c.args.steps.now c.content_end-end.new.steps c.place_at.new.steps two c.place_at.ensures.cost
 
 pub returns-then-position-eq0-2-clause-cost : goal.returns-then-position-eq0-2-clause-cost
 returns-then-position-eq0-2-clause-cost g c = fewer_than_four g (goal.at.returns-then-position-eq0-2-clause-cost g c).After-content_end-end
@@ -62,12 +73,12 @@ returns-then-position-eq0-2-clause-cost g c = fewer_than_four g (goal.at.returns
 pub returns-then-position-end-clause-cost : goal.returns-then-position-end-clause-cost
 returns-then-position-end-clause-cost g c = fewer_than_four g (goal.at.returns-then-position-end-clause-cost g c).After-content_end-end
 
-pub returns-then-is_place_in_line-clause-cost : goal.returns-then-is_place_in_line-clause-cost
-returns-then-is_place_in_line-clause-cost g c =
-    let at = goal.at.returns-then-is_place_in_line-clause-cost g c in
-    four_look_ups g at.After-is_place_in_line (two_look_ups g at.After-content_end-end)
+pub returns-clause-cost : goal.returns-clause-cost
+returns-clause-cost g c =
+    let at = goal.at.returns-clause-cost g c in
+    four_look_ups g at.After-place_at (two_look_ups g at.After-content_end-end)
 
-pub returns-else-is_place_in_line-clause-cost : goal.returns-else-is_place_in_line-clause-cost
-returns-else-is_place_in_line-clause-cost g c =
-    let at = goal.at.returns-else-is_place_in_line-clause-cost g c in
-    four_look_ups g at.After-is_place_in_line (two_look_ups g at.After-content_end-end)
+pub returns-in_default-clause-cost : goal.returns-in_default-clause-cost
+returns-in_default-clause-cost g c =
+    let at = goal.at.returns-in_default-clause-cost g c in
+    four_look_ups g at.After-place_at (two_look_ups g at.After-content_end-end)

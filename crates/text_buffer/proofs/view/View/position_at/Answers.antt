@@ -12,19 +12,19 @@ use Rattle.text_buffer.proofs.view.View.position_at.Goals as goal
 
 pub returns-in_default-clause-cost : goal.returns-in_default-clause-cost
 returns-in_default-clause-cost g c =
-    fewer_look_ups 2 3 (length c.args.self.now.pieces.now.entries) (c.breaks_at.new.steps - c.args.steps.now) (omega arith) c.breaks_at.ensures.cost
+    fewer_look_ups 2 3 (length c.args.self.now.pieces.now.entries) (c.place_at.new.steps - c.args.steps.now) (omega arith) c.place_at.ensures.cost
 
 pub start_after-start-requires-clause-there : goal.start_after-start-requires-clause-there
 start_after-start-requires-clause-there g c =
-    omega (arith, c.in-Some.ensures.place.breaks, count_in_lines (spelled c.args.self.now.chunks.now.buffers (pieces_of c.args.self.now.pieces.now.entries)) c.args.offset)
+    omega (arith, c.breaks_before-breaks.ensures.count, count_in_lines (spelled c.args.self.now.chunks.now.buffers (pieces_of c.args.self.now.pieces.now.entries)) c.args.offset)
 
 pub overflow_add-result : goal.overflow_add-result
-overflow_add-result g c = omega (arith, c.in-Some.ensures.place.breaks, count_small c.args.self.now.pieces.now c.args.self.now.chunks.now c.requires.view.text c.args.offset)
+overflow_add-result g c = omega (arith, c.breaks_before-breaks.ensures.count, count_small c.args.self.now.pieces.now c.args.self.now.chunks.now c.requires.view.text c.args.offset)
 
 pub overflow_sub-result : goal.overflow_sub-result
 overflow_sub-result g c =
     let x = spelled c.args.self.now.chunks.now.buffers (pieces_of c.args.self.now.pieces.now.entries) in
-    omega (arith, line_start_before x c.args.offset, c.start_after-start.ensures.start ∙ ap (λ n. line_start x (n + 1)) c.in-Some.ensures.place.breaks)
+    omega (arith, line_start_before x c.args.offset, c.start_after-start.ensures.start ∙ ap (λ n. line_start x (n + 1)) c.breaks_before-breaks.ensures.count)
 
 pub overflow_add-result-2 : goal.overflow_add-result-2
 overflow_add-result-2 g c = omega (arith, place_small c.args.self.now.pieces.now c.args.self.now.chunks.now c.requires.view.text c.args.offset c.in-Some.ensures.place.place)
@@ -33,7 +33,7 @@ pub returns-clause-position : goal.returns-clause-position
 returns-clause-position g c =
     let x = spelled c.args.self.now.chunks.now.buffers (pieces_of c.args.self.now.pieces.now.entries) in
     let offset : ℕ = c.args.offset in
-    let told = c.in-Some.ensures.place.breaks in
+    let told = c.breaks_before-breaks.ensures.count in
     let start = c.start_after-start.ensures.start ∙ ap (λ n. line_start x (n + 1)) told in
     ap (λ (p : Position). Some p)
     (ap (λ (n : ℕ). record { line = n + 1; column = offset - c.start_after-start.result.offset + 1 }) told
@@ -43,5 +43,5 @@ returns-clause-position g c =
 
 pub returns-clause-cost : goal.returns-clause-cost
 returns-clause-cost g c =
-    look_ups-add 2 1 (length c.args.self.now.pieces.now.entries) c.args.steps.now c.breaks_at.new.steps c.start_after-start.new.steps
-    c.breaks_at.ensures.cost c.start_after-start.ensures.cost
+    look_ups-add 2 1 (length c.args.self.now.pieces.now.entries) c.args.steps.now c.place_at.new.steps c.start_after-start.new.steps
+    c.place_at.ensures.cost c.start_after-start.ensures.cost

@@ -1,5 +1,4 @@
-use Rattle.std.proofs.Common.{◌≡◌, ℕ, ◌-◌, ◌<◌, ◌++◌, None, List, [], min, length, take, drop, ap, sym, subst, ◌∙◌, arith}
-use Rattle.std.specs.Prelude.{Option, MatchOption}
+use Rattle.std.proofs.Common.{◌≡◌, ℕ, ◌-◌, ◌++◌, List, length, take, ap, sym, ◌∙◌, arith}
 use Rattle.std.proofs.lemmas.List.{append-nil, length-append, length-drop}
 use Rattle.piece_tree.specs.Pieces.{pieces_of}
 use Rattle.text_buffer.specs.Text.{spelled}

@@ -1,0 +1,49 @@
+//! The step of undo that comes next, on either way.
+
+ghost use Rattle.std.specs.Prelude.{◌≡◌, ◌<◌, length, slice_get, is_some, option_map};
+ghost use Rattle.std.specs.Option.{option_copied};
+ghost use Rattle.edit_stack.specs.Element.{step_of};
+ghost use Rattle.model_core.specs.Ways.{next_steps, passed, alternative_after};
+
+use edit_stack::{EditStack, Element};
+use model_page::{Change, Way};
+
+/// The step that comes next on the way.
+pub(crate) fn next_step(history: &EditStack<Change>, way: Way) -> Option<&Element<Change>>
+    ensures { option_map step_of (option_copied result)
+        ≡ slice_get (next_steps way history.now.stack) 0 }
+{
+    match way {
+        Way::Back => history.undo_next(),
+        Way::On => history.redo_next(),
+    }
+}
+
+/// Whether a step comes next on the way.
+#[tactic(auto, using(crate::proofs::Stepping::mapped_twice))]
+pub(crate) fn has_next(history: &EditStack<Change>, way: Way) -> bool
+    ensures { result ≡ is_some (slice_get (next_steps way history.now.stack) 0) }
+{
+    next_step(history, way).is_some()
+}
+
+/// The alternative version at the end of the step.
+pub(crate) fn alternative_after(step: &Element<Change>, way: Way) -> u64
+    ensures { result ≡ alternative_after way (step_of step.now) }
+{
+    match way {
+        Way::Back => step.alt_before(),
+        Way::On => step.alt_after(),
+    }
+}
+
+/// The step that came next was passed.
+pub(crate) fn pass_step(history: &mut EditStack<Change>, way: Way)
+    requires { 0 < length (next_steps way history.old.stack) }
+    ensures { history.new.stack ≡ passed way history.old.stack }
+{
+    match way {
+        Way::Back => history.undone(),
+        Way::On => history.redone(),
+    }
+}

@@ -1,0 +1,9 @@
+pub mod Turns
+pub mod Carries
+pub mod Texts
+pub mod TextLines
+pub mod DirtyEdits
+pub mod EditedMarks
+pub mod Marking
+pub mod Staying
+pub mod Pages

@@ -1,0 +1,222 @@
+-- A page along the ops of a batch, which are carried out from the last to the first, along the changes of a step, and where there is
+-- nothing to parse.
+use Rattle.std.proofs.Common.{◌≡◌, ℕ, ◌+◌, ◌-◌, ◌*◌, ◌≤◌, Bool, true, List, [], length, drop, Result, Ok, Err, refl, ap, sym, subst, ◌∙◌, arith}
+use Rattle.std.proofs.lemmas.List.{drop_all}
+use Rattle.text_rules.specs.declared.Op.{Op}
+use Rattle.text_rules.specs.Lines.{lines_of}
+use Rattle.batch_rules.specs.Batches.{applied_from}
+use Rattle.chunk_buffers.specs.Chunks.{Extends}
+use Rattle.chunk_buffers.proofs.Spans.{Extends-refl, Extends-trans}
+use Rattle.decoration_rules.specs.Decorations.{Decorations}
+use Rattle.mark_rules.specs.declared.Mark.{Mark}
+use Rattle.model_page.specs.declared.change.Change.{Change}
+use Rattle.model_page.specs.declared.change.Way.{Way}
+use Rattle.model_page.specs.declared.change.Way.TheVariants.{Back, On}
+use Rattle.model_page.specs.Carrying.{carried_with, AreIn}
+use Rattle.model_page.specs.Changes.{ops_by}
+use Rattle.model_page.specs.Counts.{op_count}
+use Rattle.model_page.specs.LineMarks.{marked_backwards}
+use Rattle.model_page.specs.Needs.{need_of_ops}
+use Rattle.model_page.specs.Staying.{StaysWith}
+use Rattle.model_page.specs.Ways.{forces, text_by, changes_by, LeadBy, decorations_by, marked_along}
+use Rattle.model_page.specs.State.{PageState, IsPage, CanApply, CanLead, HasGrown, HasSpent, KeepsParse, Renews, is_fresh}
+use Rattle.model_page.proofs.Carries.{carried_with-none}
+use Rattle.model_page.proofs.Staying.{stays_as, stays_applied, clean_where_fresh}
+use Rattle.model_page.proofs.Texts.{IsTextAfter, text_before, text_after}
+use Rattle.model_page.proofs.Turns.{IsNext}
+
+-- what so many of the ops leave
+pub record IsPageAfter (old : PageState) (forces : Bool) (ops : List Op) (done : ℕ) (now : PageState) : Type 0 where
+  pub text : IsTextAfter old.text ops done now.text
+  pub carried : now.decorations ≡ carried_with forces old.decorations (drop (length ops - done) ops)
+  pub inside : AreIn (length now.text.units) now.decorations
+  pub marks : now.marks ≡ marked_backwards old.text.units (drop (length ops - done) ops) old.marks
+  pub lines : length now.marks ≡ length (lines_of now.text.units)
+  pub spare : old.spare ≤ now.spare + done
+  pub parse : KeepsParse old now
+
+pub page_before : (page : PageState) (forces : Bool) (ops : List Op) → IsPage page → IsPageAfter page forces ops 0 page
+page_before page forces ops sound =
+    let none : drop (length ops - 0) ops ≡ [] = drop_all (length ops - 0) ops (omega arith) in
+    record {
+      text = text_before page.text ops;
+      carried = sym (ap (carried_with forces page.decorations) none ∙ carried_with-none forces page.decorations sound.inside.sound);
+      inside = sound.inside;
+      marks = sym (ap (λ o. marked_backwards page.text.units o page.marks) none);
+      lines = sound.stays.count;
+      spare = omega arith;
+      parse = record { table = refl; parsed = refl; tree = refl };
+    }
+
+-- what all of them leave
+pub record IsApplied (forces : Bool) (ops : List Op) (old new : PageState) : Type 0 where
+  pub units : new.text.units ≡ applied_from 0 old.text.units ops
+  pub decorations : new.decorations ≡ carried_with forces old.decorations ops
+  pub marks : new.marks ≡ marked_backwards old.text.units ops old.marks
+  pub parse : KeepsParse old new
+  pub grown : HasGrown (length ops) old.text new.text
+  pub spent : HasSpent (need_of_ops ops) old new
+
+module _ (old now : PageState) (forces : Bool) (ops : List Op) (done : ℕ) (can : CanApply old ops) (past : length ops ≤ done) (within : done ≤ length ops)
+    (after : IsPageAfter old forces ops done now) where
+  pub page_after : IsApplied forces ops old now
+  page_after =
+      let all : length ops - done ≡ 0 = omega arith in
+      let text = text_after old.text ops now.text done can.standing past within after.text in
+      record {
+        units = text.0;
+        decorations = after.carried ∙ ap (λ (k : ℕ). carried_with forces old.decorations (drop k ops)) all;
+        marks = after.marks ∙ ap (λ (k : ℕ). marked_backwards old.text.units (drop k ops) old.marks) all;
+        parse = after.parse;
+        grown = text.1;
+        spent = record { text = text.2; marks = omega (arith, after.spare) };
+      }
+
+  pub still_page : IsPage old → IsPage now
+  still_page sound =
+      let done = page_after in
+      record {
+        fits = rw done.units can.fits;
+        inside = after.inside;
+        stays = subst (λ table. StaysWith now.tree now.marks table now.text.units) (sym done.parse.table)
+            (stays_as old.tree now.tree (marked_backwards old.text.units ops old.marks) now.marks old.table (applied_from 0 old.text.units ops) now.text.units
+            done.parse.tree done.marks done.units (stays_applied old.tree old.marks old.table old.text.units ops can.standing sound.stays));
+      }
+
+-- ---- the changes of a step
+
+-- these are left of the changes on the way
+pub record IsOnWay (way : Way) (old : PageState) (cs : List Change) (left : List Change) (now : PageState) : Type 0 where
+  pub units : text_by way now.text.units left ≡ text_by way old.text.units cs
+  pub decorations : decorations_by way now.decorations left ≡ decorations_by way old.decorations cs
+  pub marks : marked_along way now.marks (changes_by way now.text.units left) ≡ marked_along way old.marks (changes_by way old.text.units cs)
+  pub parse : KeepsParse old now
+  pub pieces : length now.text.spans + 2 * op_count way left ≤ length old.text.spans + 2 * op_count way cs
+  pub buffers : Extends old.text.buffers now.text.buffers
+  pub can : CanLead way now left
+
+pub way_begins : (way : Way) (page : PageState) (cs left : List Change) → left ≡ cs → CanLead way page cs → IsOnWay way page cs left page
+way_begins way page cs left all can =
+    subst (λ l. IsOnWay way page cs l page) (sym all)
+    (record {
+      units = refl;
+      decorations = refl;
+      marks = refl;
+      parse = record { table = refl; parsed = refl; tree = refl };
+      pieces = omega arith;
+      buffers = Extends-refl page.text.buffers;
+      can = can;
+    })
+
+module _ (way : Way) (old now : PageState) (cs left : List Change) (c : Change) (rest : List Change) (before : IsOnWay way old cs left now) (next : IsNext way left c rest now.text.units) where
+  pub can_apply : CanApply now (ops_by way c)
+  can_apply =
+      let room = before.can.room in
+      record {
+        standing = next.fit.standing;
+        fits = next.fit.fits;
+        room = record {
+          text = record {
+            edits = omega (arith, room.text.edits, next.ops);
+            units = omega (arith, room.text.units, next.ops, next.units);
+            breaks = omega (arith, room.text.breaks, next.ops, next.breaks);
+          };
+          marks = omega (arith, room.marks, next.ops);
+        };
+      }
+
+  pub way_goes_on : (new : PageState) → IsApplied (forces way) (ops_by way c) now new → IsOnWay way old cs rest new
+  way_goes_on new done =
+      let room = before.can.room in
+      let spent = done.spent in
+      record {
+        units = ap (λ x. text_by way x rest) done.units ∙ sym next.text ∙ before.units;
+        decorations = ap (λ d. decorations_by way d rest) done.decorations ∙ sym (next.decorations now.decorations) ∙ before.decorations;
+        marks = ap (λ x. marked_along way new.marks (changes_by way x rest)) done.units
+            ∙ ap (λ ms. marked_along way ms (changes_by way (applied_from 0 now.text.units (ops_by way c)) rest)) done.marks
+            ∙ sym (next.marks now.marks) ∙ before.marks;
+        parse = record {
+          table = done.parse.table ∙ before.parse.table;
+          parsed = done.parse.parsed ∙ before.parse.parsed;
+          tree = done.parse.tree ∙ before.parse.tree;
+        };
+        pieces = omega (arith, before.pieces, done.grown.pieces, next.ops);
+        buffers = Extends-trans old.text.buffers now.text.buffers new.text.buffers before.buffers done.grown.buffers;
+        can = record {
+          lead = subst (λ x. LeadBy way x rest) (sym done.units) next.lead;
+          room = record {
+            text = record {
+              edits = omega (arith, room.text.edits, spent.text.edits, next.ops);
+              units = omega (arith, room.text.units, spent.text.units, next.ops, next.units);
+              breaks = omega (arith, room.text.breaks, spent.text.breaks, next.ops, next.breaks);
+            };
+            marks = omega (arith, room.marks, spent.marks, next.ops);
+          };
+        };
+      }
+
+text_none : (way : Way) (x : List ℕ) → text_by way x [] ≡ x
+text_none Back x = refl
+text_none On x = refl
+
+decorations_none : (way : Way) (d : Decorations) → decorations_by way d [] ≡ d
+decorations_none Back d = refl
+decorations_none On d = refl
+
+marks_none : (way : Way) (ms : List Mark) (x : List ℕ) → marked_along way ms (changes_by way x []) ≡ ms
+marks_none Back ms x = refl
+marks_none On ms x = refl
+
+-- what the changes leave
+pub record IsLed (way : Way) (cs : List Change) (old new : PageState) : Type 0 where
+  pub units : new.text.units ≡ text_by way old.text.units cs
+  pub decorations : new.decorations ≡ decorations_by way old.decorations cs
+  pub marks : new.marks ≡ marked_along way old.marks (changes_by way old.text.units cs)
+  pub parse : KeepsParse old new
+  pub grown : HasGrown (op_count way cs) old.text new.text
+
+pub way_ends : (way : Way) (old now : PageState) (cs left : List Change) → left ≡ [] → IsOnWay way old cs left now → IsLed way cs old now
+way_ends way old now cs left none before =
+    let at_end : IsOnWay way old cs [] now = subst (λ l. IsOnWay way old cs l now) none before in
+    record {
+      units = sym (text_none way now.text.units) ∙ at_end.units;
+      decorations = sym (decorations_none way now.decorations) ∙ at_end.decorations;
+      marks = sym (marks_none way now.marks now.text.units) ∙ at_end.marks;
+      parse = at_end.parse;
+      grown = record { pieces = omega (arith, at_end.pieces); buffers = at_end.buffers };
+    }
+
+-- ---- a parse
+
+-- where the tree is that of the text of now
+pub nothing_to_renew : {A E : Type 0} (result : Result A E) (page : PageState) → IsPage page → is_fresh page ≡ true → Renews result page page
+nothing_to_renew (Ok x) page sound fresh = record {
+  text = refl;
+  decorations = refl;
+  table = refl;
+  room = omega arith;
+  same = λ is. refl;
+  same_tree = λ is. refl;
+  same_marks = λ is. refl;
+  asked = λ stale. cc;
+  lines = clean_where_fresh page.tree page.marks page.table page.text.units fresh sound.stays;
+  fresh = fresh;
+  parsed = tt;
+  tree = tt;
+  marks = tt;
+}
+nothing_to_renew (Err e) page sound fresh = record {
+  text = refl;
+  decorations = refl;
+  table = refl;
+  room = omega arith;
+  same = λ is. refl;
+  same_tree = λ is. refl;
+  same_marks = λ is. refl;
+  asked = λ stale. tt;
+  lines = tt;
+  fresh = tt;
+  parsed = refl;
+  tree = refl;
+  marks = refl;
+}

@@ -1,0 +1,236 @@
+-- The tree of the last parse stays with the text: after edits, after steps back and on, and after a parse.
+use Rattle.std.proofs.Common.{◌≡◌, ℕ, zero, suc, ◌+◌, ◌-◌, ◌<◌, ◌≤◌, Bool, true, false, cond, List, [], ◌∷◌, length, drop, slice_index_or, Option, Some, None, is_some, refl, ap, sym, subst, ◌∙◌, arith}
+use Rattle.std.specs.Prelude.{replicate}
+use Rattle.std.proofs.Math.Seq.{drop-cons}
+use Rattle.std.proofs.lemmas.List.{length-map, length-replicate}
+use Rattle.text_rules.specs.declared.Op.{Op}
+use Rattle.text_rules.specs.Lines.{Line, lines_of}
+use Rattle.text_rules.specs.Dirty.{first_dirty, old_dirty, new_dirty}
+use Rattle.text_rules.specs.Edits.{edited}
+use Rattle.batch_rules.specs.Batches.{applied_from, StandFrom, edited_backwards}
+use Rattle.batch_rules.proofs.Backwards.{backwards_is_one_pass, backwards_step}
+use Rattle.bracket_rules.specs.Table.{Table, is_table}
+use Rattle.bracket_rules.specs.Rows.{Row, text_rows}
+use Rattle.bracket_tree_rules.specs.Told.{IsTreeOf}
+use Rattle.bracket_tree_rules.specs.Tree.{Tree, tree_rows, IsTree}
+use Rattle.mark_rules.specs.declared.Mark.{Mark}
+use Rattle.mark_rules.specs.declared.Mark.TheVariants.{New}
+use Rattle.mark_rules.specs.Marks.{clean_marks, has_new}
+use Rattle.mark_rules.proofs.MarkLaws.{length-kept_marks, has_new-kept_marks}
+use Rattle.reuse_rules.specs.Agreement.{Agrees}
+use Rattle.reuse_rules.specs.Edits.{IsEdited}
+use Rattle.reuse_rules.proofs.EditedLines.{Agrees-edited, Agrees-clean, length-text_rows}
+use Rattle.node_reuse.specs.Texts.{IsTight}
+use Rattle.node_reuse.specs.Reading.{AgreesIfThere}
+use Rattle.document_rules.specs.Brackets.{line_contents}
+use Rattle.model_page.specs.declared.change.Change.{Change}
+use Rattle.model_page.specs.declared.change.Way.{Way}
+use Rattle.model_page.specs.declared.change.Way.TheVariants.{Back, On}
+use Rattle.model_page.specs.Changes.{ops_by, text_back, changes_back, changes_on, LeadBack, LeadOn}
+use Rattle.model_page.specs.Counts.{op_count}
+use Rattle.model_page.specs.Ways.{changes_by, LeadBy, marked_along}
+use Rattle.model_page.specs.LineMarks.{marked_by, marked_backwards, marked_back, marked_on}
+use Rattle.model_page.specs.Staying.{fresh_tree, IsKept, KeptBy, StaysWith}
+use Rattle.model_page.proofs.DirtyEdits.{lines_edited, IsEdited-map, length-after}
+use Rattle.model_page.proofs.EditedMarks.{length-edited_marks, has_new-edited, AllNew-replicate, AllNew-edited, clean_where_kept}
+use Rattle.model_page.proofs.Turns.{fit_back, fit_on, op_count-cons}
+
+-- ---- trees of the text of now
+
+no_tree : (table : Table) (x : List ℕ) (tree : Option Tree) (b : Bool) → b ≡ true → IsKept (cond b None tree) table x
+no_tree table x tree true e = tt
+no_tree table x tree false e = absurd cc
+
+never_tree : (table : Table) (x : List ℕ) (b : Bool) → IsKept (cond b None None) table x
+never_tree table x true = tt
+never_tree table x false = tt
+
+the_tree : (table : Table) (x : List ℕ) (tree : Option Tree) (b : Bool) → b ≡ false → IsKept tree table x → IsKept (cond b None tree) table x
+the_tree table x tree true e kept = absurd cc
+the_tree table x tree false e kept = kept
+
+-- before any parse each line is new
+pub stays_unparsed : (table : Table) (x : List ℕ) (lines : ℕ) → lines ≡ length (lines_of x) → StaysWith None (replicate lines New) table x
+stays_unparsed table x lines count = record {
+  count = length-replicate lines New ∙ count;
+  agrees = AllNew-replicate lines;
+  kept = never_tree table x (has_new (replicate lines New));
+}
+
+-- of the same tree, marks and text
+pub stays_as : (old_tree tree : Option Tree) (old_marks marks : List Mark) (table : Table) (old_text x : List ℕ) → tree ≡ old_tree → marks ≡ old_marks → x ≡ old_text
+    → StaysWith old_tree old_marks table old_text → StaysWith tree marks table x
+stays_as old_tree tree old_marks marks table old_text x trees are texts stays =
+    subst (λ t. StaysWith t marks table x) (sym trees) (subst (λ ms. StaysWith old_tree ms table x) (sym are) (subst (StaysWith old_tree old_marks table) (sym texts) stays))
+
+-- ---- an op
+
+module _ (x : List ℕ) (op : Op) (ordered : op.span.start ≤ op.span.end) (within : op.span.end ≤ length x) where
+  first : ℕ
+  first = first_dirty x op.span
+
+  old : ℕ
+  old = old_dirty x op.span
+
+  new : ℕ
+  new = new_dirty x op.span op.text
+
+  lines : IsEdited first old new (lines_of x) (lines_of (edited x op))
+  unfolding first old new
+  lines = lines_edited x op.span op.text ordered within
+
+  contents : IsEdited first old new (line_contents x) (line_contents (edited x op))
+  contents = IsEdited-map (λ (line : Line). line.content) first old new (lines_of x) (lines_of (edited x op)) lines
+
+  -- there is a mark for each line
+  pub as_many : (marks : List Mark) → length marks ≡ length (lines_of x) → length (marked_by x op marks) ≡ length (lines_of (edited x op))
+  unfolding first old new
+  as_many marks count =
+      let inside = lines.within in
+      omega (arith, count, length-edited_marks first old new marks (omega (arith, count, inside)), length-after first old new (lines_of x) (lines_of (edited x op)) lines)
+
+  pub some_new : (marks : List Mark) → has_new (marked_by x op marks) ≡ true
+  unfolding first old new
+  some_new marks = has_new-edited first old new marks lines.more
+
+  agrees_if_there : (tree : Option Tree) (marks : List Mark) (table : Table) → AgreesIfThere tree marks (text_rows table (line_contents x))
+      → AgreesIfThere tree (marked_by x op marks) (text_rows table (line_contents (edited x op)))
+  unfolding first old new
+  agrees_if_there None marks table agrees = AllNew-edited first old new marks agrees
+  agrees_if_there (Some t) marks table agrees = record {
+    tree = agrees.tree;
+    tight = agrees.tight;
+    rows = Agrees-edited (tree_rows t) table first old new marks (line_contents x) (line_contents (edited x op)) contents agrees.rows;
+  }
+
+  pub stays_edited : (tree : Option Tree) (marks : List Mark) (table : Table) → StaysWith tree marks table x → StaysWith tree (marked_by x op marks) table (edited x op)
+  stays_edited tree marks table stays = record {
+    count = as_many marks stays.count;
+    agrees = agrees_if_there tree marks table stays.agrees;
+    kept = no_tree table (edited x op) tree (has_new (marked_by x op marks)) (some_new marks);
+  }
+
+-- ---- a batch
+
+op_within : (at : ℕ) (x : List ℕ) (op : Op) (ops : List Op) → StandFrom at x (op ∷ ops) → op.span.end ≤ length (edited_backwards x ops)
+op_within at x op ops standing = (backwards_step at x (op ∷ ops) 0 op standing (omega arith)).within
+
+stays_backwards : (tree : Option Tree) (marks : List Mark) (table : Table) (at : ℕ) (x : List ℕ) (ops : List Op) → StandFrom at x ops → StaysWith tree marks table x
+    → StaysWith tree (marked_backwards x ops marks) table (edited_backwards x ops)
+stays_backwards tree marks table at x [] standing stays = stays
+stays_backwards tree marks table at x (op ∷ ops) standing stays =
+    stays_edited (edited_backwards x ops) op standing.1 (op_within at x op ops standing) tree (marked_backwards x ops marks) table
+    (stays_backwards tree marks table op.span.end x ops standing.2 stays)
+
+pub stays_applied : (tree : Option Tree) (marks : List Mark) (table : Table) (x : List ℕ) (ops : List Op) → StandFrom 0 x ops → StaysWith tree marks table x
+    → StaysWith tree (marked_backwards x ops marks) table (applied_from 0 x ops)
+stays_applied tree marks table x ops standing stays =
+    subst (StaysWith tree (marked_backwards x ops marks) table) (backwards_is_one_pass x ops standing) (stays_backwards tree marks table 0 x ops standing stays)
+
+-- ---- a step
+
+marked_back-first : (marks : List Mark) (after : List ℕ) (c : Change) (cs : List Change) → LeadBack after (c ∷ cs)
+    → marked_back marks (changes_back after (c ∷ cs)) ≡ marked_backwards (text_back after cs) (ops_by Back c) (marked_back marks (changes_back after cs))
+marked_back-first marks after c cs lead = ap (λ ops. marked_backwards (text_back after cs) ops (marked_back marks (changes_back after cs))) (sym lead.0.inverse)
+
+-- the op whose turn it is, after so many others from the last on
+pub marked_turn : (x : List ℕ) (ops : List Op) (marks : List Mark) (done : ℕ) (op : Op) (now : List ℕ) (ms : List Mark) → done < length ops
+    → op ≡ slice_index_or ops (length ops - 1 - done) op → now ≡ edited_backwards x (drop (length ops - done) ops) → ms ≡ marked_backwards x (drop (length ops - done) ops) marks
+    → marked_by now op ms ≡ marked_backwards x (drop (length ops - (done + 1)) ops) marks
+marked_turn x ops marks done op now ms inside is text marked =
+    let i : ℕ = length ops - 1 - done in
+    let here : length ops - (done + 1) ≡ i = omega arith in
+    let next : length ops - done ≡ suc i = omega arith in
+    let cut : drop i ops ≡ op ∷ drop (suc i) ops = drop-cons ops i op (omega arith) ∙ ap (λ o. o ∷ drop (suc i) ops) (sym is) in
+    let now_is : now ≡ edited_backwards x (drop (suc i) ops) = text ∙ ap (λ (k : ℕ). edited_backwards x (drop k ops)) next in
+    let marks_are : ms ≡ marked_backwards x (drop (suc i) ops) marks = marked ∙ ap (λ (k : ℕ). marked_backwards x (drop k ops) marks) next in
+    ap (λ t. marked_by t op ms) now_is ∙ ap (marked_by (edited_backwards x (drop (suc i) ops)) op) marks_are
+    ∙ sym (ap (λ o. marked_backwards x o marks) (ap (λ (k : ℕ). drop k ops) here ∙ cut))
+
+-- ---- whether the tree is that of the text of now
+
+-- so many ops leave a new line; none leaves the marks
+pub MarkedBy : ℕ → List Mark → List Mark → Type 0
+MarkedBy zero before after = after ≡ before
+MarkedBy (suc ops) before after = has_new after ≡ true
+
+marked_more : (n a b : ℕ) (old mid new : List Mark) → n ≡ b + a → MarkedBy a old mid → MarkedBy b mid new → MarkedBy n old new
+unfolding MarkedBy
+marked_more zero zero zero old mid new sum first second = second ∙ first
+marked_more zero (suc a) b old mid new sum first second = absurd (omega arith)
+marked_more zero zero (suc b) old mid new sum first second = absurd (omega arith)
+marked_more (suc n) a (suc b) old mid new sum first second = second
+marked_more (suc n) (suc a) zero old mid new sum first second = ap has_new second ∙ first
+marked_more (suc n) zero zero old mid new sum first second = absurd (omega arith)
+
+pub marked_ops : (at : ℕ) (x : List ℕ) (ops : List Op) (marks : List Mark) → StandFrom at x ops → MarkedBy (length ops) marks (marked_backwards x ops marks)
+unfolding MarkedBy
+marked_ops at x [] marks standing = refl
+marked_ops at x (op ∷ ops) marks standing =
+    some_new (edited_backwards x ops) op standing.1 (op_within at x op ops standing) (marked_backwards x ops marks)
+
+marked_step_back : (marks : List Mark) (after : List ℕ) (cs : List Change) → LeadBack after cs → MarkedBy (op_count Back cs) marks (marked_back marks (changes_back after cs))
+unfolding MarkedBy
+marked_step_back marks after [] lead = refl
+marked_step_back marks after (c ∷ cs) lead =
+    let mid : List Mark = marked_back marks (changes_back after cs) in
+    subst (MarkedBy (op_count Back (c ∷ cs)) marks) (sym (marked_back-first marks after c cs lead))
+    (marked_more (op_count Back (c ∷ cs)) (op_count Back cs) (length (ops_by Back c)) marks mid (marked_backwards (text_back after cs) (ops_by Back c) mid) (op_count-cons Back c cs)
+    (marked_step_back marks after cs lead.1) (marked_ops 0 (text_back after cs) (ops_by Back c) mid (fit_back _ _ c lead.0).standing))
+
+marked_step_on : (marks : List Mark) (before : List ℕ) (cs : List Change) → LeadOn before cs → MarkedBy (op_count On cs) marks (marked_on marks (changes_on before cs))
+unfolding MarkedBy
+marked_step_on marks before [] lead = refl
+marked_step_on marks before (c ∷ cs) lead =
+    let after : List ℕ = applied_from 0 before (ops_by On c) in
+    let mid : List Mark = marked_backwards before (ops_by On c) marks in
+    marked_more (op_count On (c ∷ cs)) (length (ops_by On c)) (op_count On cs) marks mid (marked_on mid (changes_on after cs)) (omega (arith, op_count-cons On c cs))
+    (marked_ops 0 before (ops_by On c) marks (fit_on before after c lead.0).standing) (marked_step_on mid after cs lead.1)
+
+pub marked_by_way : (way : Way) (marks : List Mark) (now : List ℕ) (cs : List Change) → LeadBy way now cs
+    → MarkedBy (op_count way cs) marks (marked_along way marks (changes_by way now cs))
+marked_by_way Back marks now cs lead = marked_step_back marks now cs lead
+marked_by_way On marks now cs lead = marked_step_on marks now cs lead
+
+kept_by : (ops : ℕ) (tree : Option Tree) (before after : List Mark) → MarkedBy ops before after → KeptBy ops (is_some (fresh_tree tree before)) (is_some (fresh_tree tree after))
+unfolding MarkedBy
+kept_by zero tree before after marked = ap (λ marks. is_some (fresh_tree tree marks)) marked
+kept_by (suc ops) tree before after marked = rw marked refl
+
+-- of the same tree and marks
+pub kept_as : (n ops : ℕ) (old_tree tree : Option Tree) (before after marks : List Mark) (was : Bool) → n ≡ ops → tree ≡ old_tree → marks ≡ after
+    → is_some (fresh_tree old_tree before) ≡ was → MarkedBy n before after → KeptBy ops was (is_some (fresh_tree tree marks))
+kept_as n ops old_tree tree before after marks was count trees are old marked =
+    subst (λ k. KeptBy k was (is_some (fresh_tree tree marks))) count
+    (subst (λ b. KeptBy n b (is_some (fresh_tree tree marks))) old
+    (subst (λ t. KeptBy n (is_some (fresh_tree old_tree before)) (is_some (fresh_tree t marks))) (sym trees)
+    (subst (λ ms. KeptBy n (is_some (fresh_tree old_tree before)) (is_some (fresh_tree old_tree ms))) (sym are) (kept_by n old_tree before after marked))))
+
+-- ---- a parse
+
+pub stays_parsed : (t : Tree) (marks : List Mark) (table : Table) (x : List ℕ) → length marks ≡ length (lines_of x) → is_table table ≡ true → IsTree t
+    → IsTreeOf (text_rows table (line_contents x)) t → IsTight t → StaysWith (Some t) (clean_marks (length marks)) table x
+stays_parsed t marks table x count rule good tells tight =
+    let rows : List Row = text_rows table (line_contents x) in
+    let as_contents : length (line_contents x) ≡ length marks = length-map (lines_of x) (λ (line : Line). line.content) ∙ sym count in
+    let as_rows : length rows ≡ length marks = length-text_rows table (line_contents x) ∙ as_contents in
+    record {
+      count = length-kept_marks 1 (length marks) ∙ count;
+      agrees = record {
+        tree = good;
+        tight = tight;
+        rows = subst (λ old. Agrees old (clean_marks (length marks)) rows) (sym tells.spells) (subst (λ n. Agrees rows (clean_marks n) rows) as_rows (Agrees-clean rows));
+      };
+      kept = the_tree table x (Some t) (has_new (clean_marks (length marks))) (has_new-kept_marks 1 (length marks)) (rule, tells);
+    }
+
+clean_if : (tree : Option Tree) (marks : List Mark) (table : Table) (x : List ℕ) (b : Bool) → has_new marks ≡ b → is_some (cond b None tree) ≡ true → StaysWith tree marks table x
+    → marks ≡ clean_marks (length marks)
+clean_if tree marks table x true e some stays = absurd cc
+clean_if None marks table x false e some stays = absurd cc
+clean_if (Some t) marks table x false e some stays = clean_where_kept marks e stays.agrees.rows.rises stays.agrees.rows.begins
+
+-- where the tree is that of the text, each line is kept as itself
+pub clean_where_fresh : (tree : Option Tree) (marks : List Mark) (table : Table) (x : List ℕ) → is_some (fresh_tree tree marks) ≡ true → StaysWith tree marks table x
+    → marks ≡ clean_marks (length marks)
+clean_where_fresh tree marks table x some stays = clean_if tree marks table x (has_new marks) refl some stays

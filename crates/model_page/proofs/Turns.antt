@@ -1,0 +1,231 @@
+-- One turn of each walk: the ops of a batch from the last to the first, and the changes of a step on their way.
+use Rattle.std.proofs.Common.{◌≡◌, ℕ, suc, ◌+◌, ◌-◌, ◌<◌, ◌≤◌, true, List, [], ◌∷◌, ◌++◌, length, take, drop, get_or, slice_get, slice_index_or, Some, refl, ap, sym, subst, ◌∙◌, arith}
+use Rattle.std.proofs.Math.Seq.{take-suc, drop-cons}
+use Rattle.std.proofs.lemmas.List.{take_all, drop_all}
+use Rattle.std.proofs.lemmas.Option.{get_or_from_slice_get}
+use Rattle.std.specs.List.{All}
+use Rattle.std.specs.Prelude.{sum_by}
+use Rattle.std.proofs.lemmas.List.Elements.{All-nil, All-cons}
+use Rattle.std.proofs.lemmas.List.Sums.{sum_by-cons, sum_by-append, sum_by-drop_more, sum_by-take-drop}
+use Rattle.text_rules.specs.declared.Op.{Op}
+use Rattle.text_rules.specs.Edits.{edited}
+use Rattle.line_starts.specs.Starts.{break_count}
+use Rattle.batch_rules.specs.Batches.{most_units, applied_from, inverse_from, text_units, StandFrom, edited_backwards}
+use Rattle.batch_rules.proofs.Backwards.{backwards_step, backwards_few, IsStep}
+use Rattle.batch_rules.proofs.Standing.{text_units_applied, text_units_inverse}
+use Rattle.batch_rules.proofs.Inverses.{inverse_stands_from_start, inverse_gives_back}
+use Rattle.decoration_rules.specs.Decorations.{Decorations}
+use Rattle.document_rules.specs.Document.{FlatChange}
+use Rattle.mark_rules.specs.declared.Mark.{Mark}
+use Rattle.model_page.specs.declared.change.Change.{Change}
+use Rattle.model_page.specs.declared.change.Way.{Way}
+use Rattle.model_page.specs.declared.change.Way.TheVariants.{Back, On}
+use Rattle.model_page.specs.Changes.{ops_by, text_back, changes_back, Leads, LeadBack, LeadOn}
+use Rattle.model_page.specs.Counts.{text_breaks, op_count, unit_count, breaks_along}
+use Rattle.model_page.specs.Carrying.{carried_with, decorations_back}
+use Rattle.model_page.specs.LineMarks.{marked_backwards, marked_back}
+use Rattle.model_page.specs.Ways.{forces, text_by, changes_by, LeadBy, decorations_by, marked_along, place_at, rest_on}
+
+-- the op whose turn it is, after so many others, on the text of the moment
+pub record IsTurn (x : List ℕ) (ops : List Op) (done : ℕ) (op : Op) (now : List ℕ) : Type 0 where
+  pub ordered : op.span.start ≤ op.span.end
+  pub within : op.span.end ≤ length now
+  pub leaves : edited_backwards x (drop (length ops - (done + 1)) ops) ≡ edited now op
+  pub few : length (edited now op) ≤ length x + text_units ops
+  pub units : text_units (drop (length ops - (done + 1)) ops) ≡ length op.text + text_units (drop (length ops - done) ops)
+  pub left : text_units (drop (length ops - (done + 1)) ops) ≤ text_units ops
+  pub breaks : text_breaks (drop (length ops - (done + 1)) ops) ≡ break_count op.text + text_breaks (drop (length ops - done) ops)
+  pub breaks_left : text_breaks (drop (length ops - (done + 1)) ops) ≤ text_breaks ops
+
+-- a sum over the ops from a place on
+sum_from : (f : Op → ℕ) (ops : List Op) (i : ℕ) (op : Op) → i < length ops → op ≡ get_or ops i op → sum_by f (drop i ops) ≡ f op + sum_by f (drop (suc i) ops)
+sum_from f ops i op inside is =
+    let sum = sum_by-drop_more {X = Op} f ops i op inside in
+    let own : f (get_or ops i op) ≡ f op = ap f (sym is) in
+    let more : i + 1 ≡ suc i = omega arith in
+    let rest : sum_by f (drop (i + 1) ops) ≡ sum_by f (drop (suc i) ops) = ap (λ (k : ℕ). sum_by f (drop k ops)) more in
+    omega (arith, sum, own, rest)
+
+turn_at : (x : List ℕ) (ops : List Op) (i done : ℕ) (op : Op) (now : List ℕ) → StandFrom 0 x ops → i < length ops → length ops - (done + 1) ≡ i → length ops - done ≡ suc i
+    → op ≡ get_or ops i op → now ≡ edited_backwards x (drop (suc i) ops) → IsTurn x ops done op now
+turn_at x ops i done op now standing inside here next is text =
+    let step : IsStep x op now (edited_backwards x (drop i ops)) =
+    subst (λ t. IsStep x op t (edited_backwards x (drop i ops))) (sym text)
+    (subst (λ o. IsStep x o (edited_backwards x (drop (suc i) ops)) (edited_backwards x (drop i ops))) (sym is) (backwards_step 0 x ops i op standing inside)) in
+    let few : length (edited_backwards x (drop i ops)) ≤ length x + text_units ops = backwards_few 0 x ops i standing in
+    let units : text_units (drop i ops) ≡ length op.text + text_units (drop (suc i) ops) = sum_from (λ o. length o.text) ops i op inside is in
+    let breaks : text_breaks (drop i ops) ≡ break_count op.text + text_breaks (drop (suc i) ops) = sum_from (λ o. break_count o.text) ops i op inside is in
+    let all = sum_by-take-drop {X = Op} (λ o. length o.text) ops i in
+    let all_breaks = sum_by-take-drop {X = Op} (λ o. break_count o.text) ops i in
+    record {
+      ordered = step.ordered;
+      within = step.within;
+      leaves = rw here step.leaves;
+      few = subst (λ t. length t ≤ length x + text_units ops) step.leaves few;
+      units = rw (here, next) units;
+      left = rw here (omega (arith, all));
+      breaks = rw (here, next) breaks;
+      breaks_left = rw here (omega (arith, all_breaks));
+    }
+
+pub turn : (x : List ℕ) (ops : List Op) (done : ℕ) (op : Op) (now : List ℕ) → StandFrom 0 x ops → done < length ops
+    → op ≡ slice_index_or ops (length ops - 1 - done) op → now ≡ edited_backwards x (drop (length ops - done) ops) → IsTurn x ops done op now
+turn x ops done op now standing inside is text =
+    let next : length ops - done ≡ suc (length ops - 1 - done) = omega arith in
+    turn_at x ops (length ops - 1 - done) done op now standing (omega arith) (omega arith) next is (text ∙ ap (λ (k : ℕ). edited_backwards x (drop k ops)) next)
+
+pub op_count-cons : (way : Way) (c : Change) (cs : List Change) → op_count way (c ∷ cs) ≡ length (ops_by way c) + op_count way cs
+op_count-cons way c cs = sum_by-cons {X = Change} (λ d. length (ops_by way d)) c cs
+
+unit_count-cons : (way : Way) (c : Change) (cs : List Change) → unit_count way (c ∷ cs) ≡ text_units (ops_by way c) + unit_count way cs
+unit_count-cons way c cs = sum_by-cons {X = Change} (λ d. text_units (ops_by way d)) c cs
+
+breaks_along-cons : (way : Way) (c : Change) (cs : List Change) → breaks_along way (c ∷ cs) ≡ text_breaks (ops_by way c) + breaks_along way cs
+breaks_along-cons way c cs = sum_by-cons {X = Change} (λ d. text_breaks (ops_by way d)) c cs
+
+pub leads_back : (before after : List ℕ) (c : Change) → Leads before c after → applied_from 0 after (ops_by Back c) ≡ before
+leads_back before after c leads =
+    rw (leads.on, leads.inverse) (inverse_gives_back before (ops_by On c) leads.standing)
+
+-- a batch that may be carried out on the text of the moment, with the room that it takes
+pub record IsFit (way : Way) (c : Change) (now : List ℕ) : Type 0 where
+  pub standing : StandFrom 0 now (ops_by way c)
+  pub fits : length (applied_from 0 now (ops_by way c)) ≤ most_units
+  pub units : text_units (ops_by way c) ≤ most_units
+
+pub fit_back : (before after : List ℕ) (c : Change) → Leads before c after → IsFit Back c after
+fit_back before after c leads =
+    record {
+      standing = rw (leads.on, leads.inverse) (inverse_stands_from_start before (ops_by On c) leads.standing);
+      fits = omega (arith, ap length (leads_back before after c leads), leads.fits_before);
+      units = rw leads.inverse (omega (arith, text_units_inverse 0 0 before (ops_by On c) leads.standing, leads.fits_before));
+    }
+
+pub fit_on : (before after : List ℕ) (c : Change) → Leads before c after → IsFit On c before
+fit_on before after c leads =
+    record {
+      standing = leads.standing;
+      fits = omega (arith, ap length leads.on, leads.fits_after);
+      units = omega (arith, text_units_applied 0 before (ops_by On c) leads.standing, ap length leads.on, leads.fits_after);
+    }
+
+-- ---- the change that comes next on a way
+
+-- one change more at the end
+
+pub text_back-more : (cs : List Change) (c : Change) (after : List ℕ) → text_back after (cs ++ c ∷ []) ≡ text_back (applied_from 0 after (ops_by Back c)) cs
+text_back-more [] c after = refl
+text_back-more (d ∷ cs) c after = ap (λ x. applied_from 0 x (ops_by Back d)) (text_back-more cs c after)
+
+pub changes_back-more : (cs : List Change) (c : Change) (before after : List ℕ) → applied_from 0 after (ops_by Back c) ≡ before
+    → changes_back after (cs ++ c ∷ []) ≡ changes_back before cs ++ record { before = before; ops = ops_by On c; after = after } ∷ []
+changes_back-more [] c before after led = ap (λ x. record { before = x; ops = ops_by On c; after = after } ∷ []) led
+changes_back-more (d ∷ cs) c before after led =
+    let back : text_back after (cs ++ c ∷ []) ≡ text_back before cs = text_back-more cs c after ∙ ap (λ x. text_back x cs) led in
+    rw (changes_back-more cs c before after led, back) refl
+
+decorations_back-more : (cs : List Change) (c : Change) (d : Decorations)
+    → decorations_back d (cs ++ c ∷ []) ≡ decorations_back (carried_with true d (ops_by Back c)) cs
+decorations_back-more [] c d = refl
+decorations_back-more (e ∷ cs) c d = ap (λ (o : Decorations). carried_with true o (ops_by Back e)) (decorations_back-more cs c d)
+
+marked_back-more : (ms : List Mark) (changes : List FlatChange) (last : FlatChange)
+    → marked_back ms (changes ++ last ∷ []) ≡ marked_back (marked_backwards last.after (inverse_from 0 0 last.before last.ops) ms) changes
+marked_back-more ms [] last = refl
+marked_back-more ms (change ∷ changes) last =
+    ap (marked_backwards change.after (inverse_from 0 0 change.before change.ops)) (marked_back-more ms changes last)
+
+LeadBack-less : (cs : List Change) (c : Change) (after : List ℕ) → LeadBack after (cs ++ c ∷ [])
+    → Leads (applied_from 0 after (ops_by Back c)) c after × LeadBack (applied_from 0 after (ops_by Back c)) cs
+LeadBack-less [] c after lead = (lead.0, tt)
+LeadBack-less (d ∷ cs) c after lead =
+    let less = LeadBack-less cs c after lead.1 in
+    (less.0, (subst (λ x. Leads (applied_from 0 x (ops_by Back d)) d x) (text_back-more cs c after) lead.0, less.1))
+
+-- of the changes that are left, this one comes next on the text of the moment, and leaves the rest
+pub record IsNext (way : Way) (left : List Change) (c : Change) (rest : List Change) (now : List ℕ) : Type 0 where
+  pub fit : IsFit way c now
+  pub lead : LeadBy way (applied_from 0 now (ops_by way c)) rest
+  pub text : text_by way now left ≡ text_by way (applied_from 0 now (ops_by way c)) rest
+  pub decorations : (d : Decorations) → decorations_by way d left ≡ decorations_by way (carried_with (forces way) d (ops_by way c)) rest
+  pub marks : (ms : List Mark) → marked_along way ms (changes_by way now left)
+      ≡ marked_along way (marked_backwards now (ops_by way c) ms) (changes_by way (applied_from 0 now (ops_by way c)) rest)
+  pub ops : op_count way left ≡ length (ops_by way c) + op_count way rest
+  pub units : unit_count way left ≡ text_units (ops_by way c) + unit_count way rest
+  pub breaks : breaks_along way left ≡ text_breaks (ops_by way c) + breaks_along way rest
+
+next_back : (rest : List Change) (c : Change) (now : List ℕ) → LeadBack now (rest ++ c ∷ []) → IsNext Back (rest ++ c ∷ []) c rest now
+next_back rest c now lead =
+    let before : List ℕ = applied_from 0 now (ops_by Back c) in
+    let less = LeadBack-less rest c now lead in
+    let last : FlatChange = record { before = before; ops = ops_by On c; after = now } in
+    record {
+      fit = fit_back before now c less.0;
+      lead = less.1;
+      text = text_back-more rest c now;
+      decorations = decorations_back-more rest c;
+      marks = λ ms.
+          ap (marked_back ms) (changes_back-more rest c before now refl) ∙ marked_back-more ms (changes_back before rest) last
+          ∙ ap (λ (ops : List Op). marked_back (marked_backwards now ops ms) (changes_back before rest)) (sym less.0.inverse);
+      ops = omega (arith, sum_by-append {X = Change} (λ d. length (ops_by Back d)) rest (c ∷ []), op_count-cons Back c []);
+      units = omega (arith, sum_by-append {X = Change} (λ d. text_units (ops_by Back d)) rest (c ∷ []), unit_count-cons Back c []);
+      breaks = omega (arith, sum_by-append {X = Change} (λ d. text_breaks (ops_by Back d)) rest (c ∷ []), breaks_along-cons Back c []);
+    }
+
+next_on : (c : Change) (rest : List Change) (now : List ℕ) → LeadOn now (c ∷ rest) → IsNext On (c ∷ rest) c rest now
+next_on c rest now lead = record {
+  fit = fit_on now (applied_from 0 now (ops_by On c)) c lead.0;
+  lead = lead.1;
+  text = refl;
+  decorations = λ d. refl;
+  marks = λ ms. refl;
+  ops = op_count-cons On c rest;
+  units = unit_count-cons On c rest;
+  breaks = breaks_along-cons On c rest;
+}
+
+-- the change whose turn it is, after so many others
+pub turn_by : (way : Way) (cs : List Change) (done : ℕ) (c : Change) (now : List ℕ) → done < length cs
+    → slice_get cs (place_at way (length cs) done) ≡ Some c → LeadBy way now (rest_on way done cs)
+    → IsNext way (rest_on way done cs) c (rest_on way (done + 1) cs) now
+turn_by Back cs done c now inside is lead =
+    let at : ℕ = length cs - 1 - done in
+    let this : get_or cs at c ≡ c = get_or_from_slice_get cs at c c is in
+    let here : length cs - done ≡ suc at = omega arith in
+    let next : at ≡ length cs - (done + 1) = omega arith in
+    let cut : take (length cs - done) cs ≡ take (length cs - (done + 1)) cs ++ c ∷ [] =
+    ap (λ (k : ℕ). take k cs) here ∙ take-suc cs at c (omega arith)
+    ∙ ap (λ d. take at cs ++ d ∷ []) this ∙ ap (λ (k : ℕ). take k cs ++ c ∷ []) next in
+    subst (λ left. IsNext Back left c (take (length cs - (done + 1)) cs) now) (sym cut)
+    (next_back (take (length cs - (done + 1)) cs) c now (subst (LeadBack now) cut lead))
+turn_by On cs done c now inside is lead =
+    let this : c ≡ get_or cs done c = sym (get_or_from_slice_get cs done c c is) in
+    let next : suc done ≡ done + 1 = omega arith in
+    let cut : drop done cs ≡ c ∷ drop (done + 1) cs =
+    drop-cons cs done c inside ∙ ap (λ d. d ∷ drop (suc done) cs) (sym this) ∙ ap (λ (k : ℕ). c ∷ drop k cs) next in
+    subst (λ left. IsNext On left c (drop (done + 1) cs) now) (sym cut)
+    (next_on c (drop (done + 1) cs) now (subst (LeadOn now) cut lead))
+
+-- all are left at first, and none at last
+pub all_left : (way : Way) (cs : List Change) → rest_on way 0 cs ≡ cs
+all_left Back cs = take_all (length cs - 0) cs (omega arith)
+all_left On cs = refl
+
+pub none_left : (way : Way) (cs : List Change) (done : ℕ) → length cs ≤ done → rest_on way done cs ≡ []
+none_left Back cs done past =
+    let none : length cs - done ≡ 0 = omega arith in
+    ap (λ (k : ℕ). take k cs) none
+none_left On cs done past = drop_all done cs past
+
+-- each change of a step is fit for its way
+few_back : (after : List ℕ) (cs : List Change) → LeadBack after cs → All (λ c. text_units (ops_by Back c) ≤ most_units) cs
+few_back after [] lead = All-nil (λ c. text_units (ops_by Back c) ≤ most_units)
+few_back after (c ∷ cs) lead = All-cons (λ d. text_units (ops_by Back d) ≤ most_units) c cs (fit_back _ _ c lead.0).units (few_back after cs lead.1)
+
+few_on : (before : List ℕ) (cs : List Change) → LeadOn before cs → All (λ c. text_units (ops_by On c) ≤ most_units) cs
+few_on before [] lead = All-nil (λ c. text_units (ops_by On c) ≤ most_units)
+few_on before (c ∷ cs) lead = All-cons (λ d. text_units (ops_by On d) ≤ most_units) c cs (fit_on _ _ c lead.0).units (few_on (applied_from 0 before (ops_by On c)) cs lead.1)
+
+pub few_by : (way : Way) (now : List ℕ) (cs : List Change) → LeadBy way now cs → All (λ c. text_units (ops_by way c) ≤ most_units) cs
+few_by Back now cs lead = few_back now cs lead
+few_by On now cs lead = few_on now cs lead

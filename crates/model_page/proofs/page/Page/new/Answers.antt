@@ -1,0 +1,23 @@
+use Rattle.std.proofs.Common.{[], length, None, refl, sym, subst, arith}
+use Rattle.std.specs.Prelude.{replicate}
+use Rattle.std.proofs.lemmas.List.Elements.{All-nil}
+use Rattle.mark_rules.specs.declared.Mark.TheVariants.{New}
+use Rattle.decoration_rules.specs.declared.Mark.{Mark}
+use Rattle.decoration_rules.specs.Decorations.{Decorations}
+use Rattle.decoration_rules.specs.Moves.{IsSpanIn, LieIn}
+use Rattle.model_page.proofs.Staying.{stays_as, stays_unparsed}
+use Rattle.model_page.proofs.page.Page.new.Goals as goal
+
+pub invariant_of-result : goal.invariant_of-result
+invariant_of-result c =
+    let x = c.new.result.units in
+    let len = length x in
+    record {
+      fits = rw c.new.ensures.units (omega arith);
+      inside = record {
+        sound = c.new-2.ensures.sound;
+        inside = subst (λ (d : Decorations). LieIn len d.marks) (sym c.new-2.ensures.value) (All-nil (λ (mark : Mark). IsSpanIn mark.span len));
+      };
+      stays = stays_as None c.none.result.tree (replicate 1 New) c.none.result.marks c.standard.result [] x c.none.ensures.tree c.none.ensures.marks c.new.ensures.units
+          (stays_unparsed c.standard.result [] 1 refl);
+    }

@@ -1,0 +1,42 @@
+-- Worked examples of the definitions.
+use Rattle.std.specs.Prelude.{◌≡◌, ℕ, List, [], ◌∷◌, codes, false, refl}
+use Rattle.text_rules.specs.declared.Op.{Op}
+use Rattle.mark_rules.specs.declared.Mark.TheVariants.{Kept, New}
+use Rattle.mark_rules.specs.Marks.{clean_marks}
+use Rattle.document_rules.specs.Document.{FlatChange}
+use Rattle.model_page.specs.Counts.{text_breaks}
+use Rattle.model_page.specs.LineMarks.{marked_by, marked_backwards, marked_back}
+
+abbrev insert : ℕ → Op
+insert at = record { span = record { start = at; end = at }; text = codes "x"; force = false }
+
+-- a CR and an LF in the texts of two ops
+abbrev two_halves_of_a_pair : List Op
+two_halves_of_a_pair =
+    record { span = record { start = 0; end = 0 }; text = codes "\r"; force = false }
+    ∷ record { span = record { start = 0; end = 0 }; text = codes "\n"; force = false } ∷ []
+
+each_text_counts_alone : text_breaks two_halves_of_a_pair ≡ 2
+each_text_counts_alone = refl
+
+-- `a`, a break, `b`, a break and `c`
+abbrev three_lines : List ℕ
+three_lines = 97 ∷ 10 ∷ 98 ∷ 10 ∷ 99 ∷ []
+
+-- line 2 becomes two lines, and line 1 another one
+abbrev two_lines_touched : List Op
+two_lines_touched = insert 0 ∷ record { span = record { start = 2; end = 2 }; text = 10 ∷ []; force = false } ∷ []
+
+the_last_op_marks_first : marked_backwards three_lines two_lines_touched (clean_marks 3) ≡ New ∷ New ∷ New ∷ Kept 3 ∷ []
+the_last_op_marks_first = refl
+
+-- `a`, a CR and `b`
+a_cr_before_an_insert_is_touched : marked_by (97 ∷ 13 ∷ 98 ∷ []) (insert 2) (clean_marks 2) ≡ New ∷ New ∷ []
+a_cr_before_an_insert_is_touched = refl
+
+-- an undo brings the text back, and the lines that it touches stay new
+abbrev typed_in_line_two : FlatChange
+typed_in_line_two = record { before = three_lines; ops = insert 2 ∷ []; after = 97 ∷ 10 ∷ 120 ∷ 98 ∷ 10 ∷ 99 ∷ [] }
+
+undone_lines_are_new : marked_back (clean_marks 3) (typed_in_line_two ∷ []) ≡ Kept 1 ∷ New ∷ Kept 3 ∷ []
+undone_lines_are_new = refl

@@ -1,0 +1,13 @@
+pub mod Changes
+pub mod Counts
+pub mod Needs
+pub mod Carrying
+pub mod LineMarks
+pub mod Staying
+pub mod TextWeights
+pub mod Counting
+pub mod Ways
+pub mod State
+pub mod View
+pub mod Entries
+mod Examples

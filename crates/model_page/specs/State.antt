@@ -1,0 +1,131 @@
+-- What contracts see of a page, the text side of a document: what may be done with it, and what that leaves.
+use Rattle.std.specs.Prelude.{◌≡◌, ℕ, ◌+◌, ◌*◌, ◌≤◌, Bool, true, false, List, length, replicate, Option, None, is_some, Result, OnOk, OnErr}
+use Rattle.text_rules.specs.declared.Op.{Op}
+use Rattle.text_rules.specs.Lines.{lines_of}
+use Rattle.batch_rules.specs.Batches.{most_units, applied_from, StandFrom}
+use Rattle.bracket_rules.specs.Table.{Table}
+use Rattle.bracket_tree_rules.specs.Tree.{Tree}
+use Rattle.chunk_buffers.specs.Chunks.{Extends}
+use Rattle.decoration_rules.specs.Decorations.{Decorations, no_decorations}
+use Rattle.mark_rules.specs.declared.Mark.{Mark}
+use Rattle.mark_rules.specs.declared.Mark.TheVariants.{New}
+use Rattle.mark_rules.specs.Marks.{clean_marks}
+use Rattle.node_reuse.specs.ParsedTree.{ParsedTree}
+use Rattle.node_reuse.specs.Texts.{new_lines}
+use Rattle.text_buffer.specs.Text.{Text}
+use Rattle.text_buffer.specs.Room as text_room
+use Rattle.text_buffer.specs.declared.room.Need.{Need}
+use Rattle.model_page.specs.declared.change.Change.{Change}
+use Rattle.model_page.specs.declared.change.Way.{Way}
+use Rattle.model_page.specs.Carrying.{AreIn}
+use Rattle.model_page.specs.Needs.{need_of_ops, need_along}
+use Rattle.model_page.specs.Staying.{fresh_tree, HasAsked, StaysWith}
+use Rattle.model_page.specs.Ways.{LeadBy}
+
+pub record PageState : Type 0 where
+  pub text : Text
+  pub decorations : Decorations
+  pub table : Table
+  -- the last parse, be it of the text of now or of an earlier one: its tree, and how many lines it asked for
+  pub parsed : Option ParsedTree
+  -- its bracket tree
+  pub tree : Option Tree
+  -- what each line of the text of now is to that parse; new, where there was none
+  pub marks : List Mark
+  -- for how many edits of the marks there is room
+  pub spare : ℕ
+
+-- what holds of every page
+pub record IsPage (page : PageState) : Type 0 where
+  pub fits : length page.text.units ≤ most_units
+  pub inside : AreIn (length page.text.units) page.decorations
+  pub stays : StaysWith page.tree page.marks page.table page.text.units
+
+-- whether the tree of the last parse is that of the text of now
+abbrev pub is_fresh : PageState → Bool
+is_fresh page = is_some (fresh_tree page.tree page.marks)
+
+-- a page of these units and brackets, with no decoration, which was not parsed yet
+pub record IsNew (x : List ℕ) (brackets : Table) (page : PageState) : Type 0 where
+  pub units : page.text.units ≡ x
+  pub pieces : length page.text.spans ≤ 1
+  pub decorations : page.decorations ≡ no_decorations
+  pub table : page.table ≡ brackets
+  pub parsed : page.parsed ≡ None
+  pub tree : page.tree ≡ None
+  pub marks : page.marks ≡ replicate (length (lines_of x)) New
+
+-- ---- the room
+
+-- there is room for these edits of the text, and of the marks of its lines
+pub record HasRoom (page : PageState) (need : Need) : Type 0 where
+  pub text : text_room.IsEnough page.text.room need
+  pub marks : need.edits ≤ page.spare
+
+-- the old room is still there
+pub record KeepsRoom (old new : PageState) : Type 0 where
+  pub text : text_room.KeepsRoom old.text.room new.text.room
+  pub marks : old.spare ≤ new.spare
+
+-- these edits were taken from the room, and no more
+pub record HasSpent (need : Need) (old new : PageState) : Type 0 where
+  pub text : text_room.HasSpent need old.text.room new.text.room
+  pub marks : old.spare ≤ new.spare + need.edits
+
+-- ---- what a call leaves
+
+-- so many ops add two pieces each at most
+abbrev pub GrownBy : ℕ → ℕ → ℕ → Type 0
+GrownBy ops old new = new ≤ old + 2 * ops
+
+-- so many ops add two pieces each at most, and buffers are only appended to
+pub record HasGrown (ops : ℕ) (old new : Text) : Type 0 where
+  pub pieces : GrownBy ops (length old.spans) (length new.spans)
+  pub buffers : Extends old.buffers new.buffers
+
+-- the last parse, and the brackets that it went by
+pub record KeepsParse (old new : PageState) : Type 0 where
+  pub table : new.table ≡ old.table
+  pub parsed : new.parsed ≡ old.parsed
+  pub tree : new.tree ≡ old.tree
+
+-- the page is as it was, beside the room for edits
+pub record IsUntouched (old new : PageState) : Type 0 where
+  pub units : new.text.units ≡ old.text.units
+  pub spans : new.text.spans ≡ old.text.spans
+  pub buffers : Extends old.text.buffers new.text.buffers
+  pub decorations : new.decorations ≡ old.decorations
+  pub marks : new.marks ≡ old.marks
+  pub parse : KeepsParse old new
+
+-- ---- what is asked of a page
+
+-- the ops stand in the text in their order, the text that they make is not too long, and there is room for them
+pub record CanApply (page : PageState) (ops : List Op) : Type 0 where
+  pub standing : StandFrom 0 page.text.units ops
+  pub fits : length (applied_from 0 page.text.units ops) ≤ most_units
+  pub room : HasRoom page (need_of_ops ops)
+
+-- the changes lead the text this way, and there is room for them
+pub record CanLead (way : Way) (page : PageState) (cs : List Change) : Type 0 where
+  pub lead : LeadBy way page.text.units cs
+  pub room : HasRoom page (need_along way cs)
+
+-- ---- a parse
+
+-- The tree is that of the text of now, and each line is kept then. The text was parsed where the tree was not its own, and the
+-- new lines alone were asked for. An error comes only there, and leaves all as it was. Room that was there stays.
+pub record Renews {A E : Type 0} (result : Result A E) (old new : PageState) : Type 0 where
+  pub text : new.text ≡ old.text
+  pub decorations : new.decorations ≡ old.decorations
+  pub table : new.table ≡ old.table
+  pub room : old.spare ≤ new.spare
+  pub same : is_fresh old ≡ true → new.parsed ≡ old.parsed
+  pub same_tree : is_fresh old ≡ true → new.tree ≡ old.tree
+  pub same_marks : is_fresh old ≡ true → new.marks ≡ old.marks
+  pub asked : is_fresh old ≡ false → OnOk result (HasAsked new.parsed (length (new_lines old.marks)))
+  pub lines : OnOk result (new.marks ≡ clean_marks (length old.marks))
+  pub fresh : OnOk result (is_fresh new ≡ true)
+  pub parsed : OnErr result (new.parsed ≡ old.parsed)
+  pub tree : OnErr result (new.tree ≡ old.tree)
+  pub marks : OnErr result (new.marks ≡ old.marks)

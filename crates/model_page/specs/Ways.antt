@@ -1,0 +1,53 @@
+-- The two ways on which changes lead a page: an undo takes them back, a redo makes them again.
+use Rattle.std.specs.Prelude.{ℕ, ◌-◌, Bool, true, false, List, length, take, drop}
+use Rattle.decoration_rules.specs.Decorations.{Decorations}
+use Rattle.mark_rules.specs.declared.Mark.{Mark}
+use Rattle.undo_rules.specs.Stack.{Step}
+use Rattle.document_rules.specs.Document.{FlatChange}
+use Rattle.model_page.specs.declared.change.Change.{Change}
+use Rattle.model_page.specs.declared.change.Way.{Way}
+use Rattle.model_page.specs.declared.change.Way.TheVariants.{Back, On}
+use Rattle.model_page.specs.Changes.{text_back, text_on, changes_back, changes_on, LeadBack, LeadOn}
+use Rattle.model_page.specs.Carrying.{decorations_back, decorations_on}
+use Rattle.model_page.specs.LineMarks.{marked_back, marked_on, undone_marks, redone_marks}
+
+-- whether decorations that an op forces are moved so: on the way back only
+abbrev pub forces : Way → Bool
+forces Back = true
+forces On = false
+
+abbrev pub text_by : Way → List ℕ → List Change → List ℕ
+text_by Back now cs = text_back now cs
+text_by On now cs = text_on now cs
+
+abbrev pub changes_by : Way → List ℕ → List Change → List FlatChange
+changes_by Back now cs = changes_back now cs
+changes_by On now cs = changes_on now cs
+
+abbrev pub LeadBy : Way → List ℕ → List Change → Type 0
+LeadBy Back now cs = LeadBack now cs
+LeadBy On now cs = LeadOn now cs
+
+abbrev pub decorations_by : Way → Decorations → List Change → Decorations
+decorations_by Back d cs = decorations_back d cs
+decorations_by On d cs = decorations_on d cs
+
+-- the marks after the changes
+abbrev pub marked_along : Way → List Mark → List FlatChange → List Mark
+marked_along Back marks changes = marked_back marks changes
+marked_along On marks changes = marked_on marks changes
+
+-- the marks after the step that comes next, where there is one
+abbrev pub marked_step : Way → List Mark → List (Step FlatChange) → List Mark
+marked_step Back marks steps = undone_marks marks steps
+marked_step On marks steps = redone_marks marks steps
+
+-- the place of the change that comes next of so many, after others: the last one is taken back first, the first one made again first
+abbrev pub place_at : Way → ℕ → ℕ → ℕ
+place_at Back count done = count - 1 - done
+place_at On count done = done
+
+-- the changes that are left on the way after so many
+abbrev pub rest_on : Way → ℕ → List Change → List Change
+rest_on Back done cs = take (length cs - done) cs
+rest_on On done cs = drop done cs

@@ -1,0 +1,100 @@
+//! Ops and changes that are carried out.
+
+ghost use Rattle.std.specs.Prelude.{◌≡◌, ◌+◌, ◌<◌, ◌^◌, length};
+ghost use Rattle.batch_rules.specs.Batches.{applied_from, text_units, StandFrom};
+ghost use Rattle.edit_stack.specs.Element.{step_of};
+ghost use Rattle.text_buffer.specs.Room as text_room;
+ghost use Rattle.model_page.specs.Carrying.{edit_with, carried_with};
+ghost use Rattle.model_page.specs.Counts.{op_count};
+ghost use Rattle.model_page.specs.LineMarks.{marked_backwards};
+ghost use Rattle.model_page.specs.Needs.{need_of_ops};
+ghost use Rattle.model_page.specs.State.{CanApply, CanLead, HasGrown, HasSpent, KeepsParse};
+ghost use Rattle.model_page.specs.Ways.{text_by, changes_by, decorations_by, marked_along, place_at};
+
+use crate::change::{Change, Way};
+use crate::page::Page;
+use decorations::Edit;
+use edit_stack::Element;
+use text_buffer::TextBuffer;
+use text_rules::Op;
+use unit_text::Flat;
+
+impl Page {
+    /// Carries out the ops, for which there is room. Decorations move with them, forced ones only where they are wanted, and
+    /// the lines that they touch are marked. It takes no memory.
+    pub fn apply(&mut self, ops: &[Op], forces: bool)
+        requires { CanApply self.old ops.now }
+        ensures units { self.new.text.units ≡ applied_from 0 self.old.text.units ops.now }
+        ensures decorations { self.new.decorations
+            ≡ carried_with forces self.old.decorations ops.now }
+        ensures marks { self.new.marks
+            ≡ marked_backwards self.old.text.units ops.now self.old.marks }
+        ensures parse { KeepsParse self.old self.new }
+        ensures grown { HasGrown (length ops.now) self.old.text self.new.text }
+        ensures spent { HasSpent (need_of_ops ops.now) self.old self.new }
+    {
+        for done in 0..ops.len() {
+            let op = &ops[ops.len() - 1 - done];
+            self.decorations.accept(&edit_with(op, forces));
+            let dirty = self.text.replace(op.span, op.text.as_slice());
+            self.last.mark(dirty);
+        }
+    }
+
+    /// Leads the page along the changes of the step this way, for which there is room. It takes no memory.
+    pub fn lead(&mut self, step: &Element<Change>, way: Way)
+        requires { CanLead way self.old (step_of step.now).changes }
+        ensures units { self.new.text.units
+            ≡ text_by way self.old.text.units (step_of step.now).changes }
+        ensures decorations { self.new.decorations
+            ≡ decorations_by way self.old.decorations (step_of step.now).changes }
+        ensures marks { let changes = changes_by way self.old.text.units (step_of step.now).changes in
+            self.new.marks ≡ marked_along way self.old.marks changes }
+        ensures parse { KeepsParse self.old self.new }
+        ensures grown { HasGrown (op_count way (step_of step.now).changes)
+            self.old.text self.new.text }
+    {
+        for done in 0..step.len() {
+            let at = place_at(way, step.len(), done);
+            self.apply(step.change(at).ops(way), way.forces());
+        }
+    }
+}
+
+// The place of the change that comes next, after so many others: the last change is taken back first, and the first one made
+// again first.
+fn place_at(way: Way, count: usize, done: usize) -> usize
+    requires { done < count }
+    ensures { result ≡ place_at way count done }
+{
+    match way {
+        Way::Back => count - 1 - done,
+        Way::On => done,
+    }
+}
+
+fn edit_with(op: &Op, forces: bool) -> Edit
+    ensures { result ≡ edit_with forces op.now }
+{
+    Edit {
+        start: op.span.start,
+        end: op.span.end,
+        units: op.text.len(),
+        force: forces && op.force,
+    }
+}
+
+/// Carries out the ops on a text by itself, which has room for them. It takes no memory.
+pub fn apply_to_text(text: &mut TextBuffer, ops: &[Op])
+    requires standing { StandFrom 0 text.old.units ops.now }
+    requires small { length text.old.units + text_units ops.now < 2 ^ 62 }
+    requires room { text_room.IsEnough text.old.room (need_of_ops ops.now) }
+    ensures units { text.new.units ≡ applied_from 0 text.old.units ops.now }
+    ensures grown { HasGrown (length ops.now) text.old text.new }
+    ensures spent { text_room.HasSpent (need_of_ops ops.now) text.old.room text.new.room }
+{
+    for done in 0..ops.len() {
+        let op = &ops[ops.len() - 1 - done];
+        text.replace(op.span, op.text.as_slice());
+    }
+}

@@ -1,0 +1,116 @@
+//! Batches that were carried out, and the room that a text is led along them in.
+
+ghost use Rattle.std.specs.Prelude.{◌≡◌, ◌+◌, ◌≤◌, ◌<◌, ◌^◌, IfOk, IfSome};
+ghost use Rattle.std.specs.List.{All};
+ghost use Rattle.edit_stack.specs.Element.{step_of};
+ghost use Rattle.batch_rules.specs.Batches.{most_units, text_units};
+ghost use Rattle.model_page.specs.Changes.{ops_by};
+ghost use Rattle.model_page.specs.Counts.{text_breaks};
+ghost use Rattle.model_page.specs.Needs.{need_of_ops, need_along};
+ghost use Rattle.model_page.specs.Ways.{forces};
+
+use edit_batches::Batch;
+use edit_stack::Element;
+use line_starts::count_breaks;
+use std::alloc::AllocError;
+use text_buffer::Need;
+use text_rules::Op;
+
+/// Which way a page is led along changes.
+#[derive(Clone, Copy)]
+pub enum Way {
+    /// The changes are taken back.
+    Back,
+    /// The changes are made again.
+    On,
+}
+
+impl Way {
+    /// Whether decorations that an op forces are moved so.
+    pub(crate) fn forces(self) -> bool
+        ensures { result ≡ forces self }
+    {
+        matches!(self, Way::Back)
+    }
+}
+
+/// A change that was carried out.
+#[derive(Drop)]
+pub enum Change {
+    /// A batch, and the one that takes it back.
+    Ops { batch: Batch, inverse: Batch },
+}
+
+impl Change {
+    /// The ops that lead a text along it this way.
+    pub fn ops(&self, way: Way) -> &[Op]
+        ensures { result.now ≡ ops_by way self.now }
+    {
+        self.batch_for(way).ops()
+    }
+
+    fn batch_for(&self, way: Way) -> &Batch
+        ensures { result.now ≡ ops_by way self.now }
+    {
+        match self {
+            Change::Ops { batch, inverse } => match way {
+                Way::Back => inverse,
+                Way::On => batch,
+            },
+        }
+    }
+}
+
+/// What the ops of the batch ask for.
+pub fn need_of(batch: &Batch) -> Need
+    requires { text_units batch.now ≤ most_units }
+    ensures { result ≡ need_of_ops batch.now }
+{
+    Need {
+        edits: batch.ops().len() as u64,
+        units: batch.text_units(),
+        breaks: text_breaks(batch.ops()),
+    }
+}
+
+/// What the changes of the step ask for this way. An error where that is more than there may be room for.
+pub fn need_of_step(step: &Element<Change>, way: Way) -> Result<Need, AllocError>
+    requires { All (λ c. text_units (ops_by way c) ≤ most_units) (step_of step.now).changes }
+    ensures { IfOk result (λ need. need ≡ need_along way (step_of step.now).changes) }
+{
+    let mut all = Need {
+        edits: 0,
+        units: 0,
+        breaks: 0,
+    };
+    for at in 0..step.len() {
+        let need = need_of(step.change(at).batch_for(way));
+        all = joined(all, need).ok_or(AllocError)?;
+    }
+    Ok(all)
+}
+
+// What both ask for together.
+fn joined(a: Need, b: Need) -> Option<Need>
+    ensures edits { IfSome result (λ need. need.edits ≡ a.edits + b.edits) }
+    ensures units { IfSome result (λ need. need.units ≡ a.units + b.units) }
+    ensures breaks { IfSome result (λ need. need.breaks ≡ a.breaks + b.breaks) }
+{
+    Some(Need {
+        edits: a.edits.checked_add(b.edits)?,
+        units: a.units.checked_add(b.units)?,
+        breaks: a.breaks.checked_add(b.breaks)?,
+    })
+}
+
+// How many breaks the texts of the ops have together.
+fn text_breaks(ops: &[Op]) -> u64
+    requires { text_units ops.now < 2 ^ 64 }
+    ensures { result ≡ text_breaks ops.now }
+{
+    let mut breaks = 0;
+    for op in ops {
+        breaks += count_breaks(op.text.as_slice());
+    }
+    breaks
+}

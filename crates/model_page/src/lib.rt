@@ -1,0 +1,14 @@
+//! The text side of a document: a text, the decorations that stand at it, and the last parse of its brackets, which edits
+//! change together.
+#![tactic(auto)]
+
+mod apply;
+mod brackets;
+mod change;
+mod last_parse;
+mod page;
+mod text_lines;
+
+pub use apply::apply_to_text;
+pub use change::{Change, Way, need_of, need_of_step};
+pub use page::Page;

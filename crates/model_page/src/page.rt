@@ -1,0 +1,137 @@
+//! A page: what a document has beside its versions and its history.
+
+ghost use Rattle.std.specs.Prelude.{◌≡◌, ◌≤◌, ◌&&◌, [], None, Some, length, if◌then◌else◌, IfOk, OnOk};
+ghost use Rattle.batch_rules.specs.Batches.{most_units};
+ghost use Rattle.bracket_rules.specs.Table.{standard_table};
+ghost use Rattle.decoration_rules.specs.Decorations.{Decorates, decorated};
+ghost use Rattle.text_rules.specs.Positions.{is_position, offset_of};
+ghost use Rattle.model_page.specs.Carrying.{AreIn};
+ghost use Rattle.model_page.specs.State.{HasRoom, IsNew, IsUntouched, KeepsRoom};
+
+use crate::last_parse::{LastParse, unparsed};
+use bracket_scan::BracketTable;
+use decorations::{DecoError, DecoSet, NewDeco};
+use std::alloc::{AllocError, Global};
+use std::marker::Model;
+use text_buffer::{Need, TextBuffer};
+use text_lengths::Position;
+use text_rules::Op;
+
+/// A text, the decorations that stand at it, and the last parse of its brackets.
+///
+/// It has no more units than a text may have, its decorations lie in it, and the tree of the last parse is that of each
+/// line that no edit touched since.
+#[derive(Drop)]
+pub struct Page {
+    pub(crate) alloc: Global,
+    pub(crate) text: TextBuffer,
+    pub(crate) decorations: DecoSet,
+    pub(crate) table: BracketTable,
+    pub(crate) last: LastParse,
+}
+
+impl Model for Page {
+    ghost use Rattle.std.specs.Coded.{codes};
+    ghost use Rattle.bracket_tree_rules.specs.TreeCode.{tree_code};
+    ghost use Rattle.node_reuse.specs.ParsedTree.{parsed_tree_code};
+    ghost use Rattle.model_page.specs.State.{PageState, IsPage};
+
+    ghost Value = { PageState };
+
+    ghost coded = { Prim.hlevel (codes, tree_code, parsed_tree_code) };
+
+    ghost use Rattle.model_page.specs.View.{page_of};
+
+    ghost view = { page_of };
+
+    ghost invariant = { λ p. IsPage (page_of p) };
+}
+
+impl Page {
+    /// An empty text, with the standard brackets.
+    pub fn new(alloc: Global) -> Page
+        ensures page { IsNew [] standard_table result }
+        ensures pieces { length result.text.spans ≡ 0 }
+    {
+        Page {
+            alloc,
+            text: TextBuffer::new(alloc),
+            decorations: DecoSet::new(alloc),
+            table: BracketTable::standard(),
+            last: LastParse::none(alloc),
+        }
+    }
+
+    /// The text of these units, with these brackets.
+    pub fn open(alloc: Global, units: &[u16], table: BracketTable) -> Result<Page, AllocError>
+        requires { length units.now ≤ most_units }
+        ensures { IfOk result (IsNew units.now table) }
+    {
+        let (text, last) = unparsed(alloc, units)?;
+        Ok(Page {
+            alloc,
+            text,
+            decorations: DecoSet::new(alloc),
+            table,
+            last,
+        })
+    }
+
+    /// The text.
+    pub fn text(&self) -> &TextBuffer
+        ensures text { result.now ≡ self.now.text }
+        ensures fits { length self.now.text.units ≤ most_units }
+    {
+        &self.text
+    }
+
+    /// The decorations. They lie in the text.
+    pub fn decorations(&self) -> &DecoSet
+        ensures decorations { result.now ≡ self.now.decorations }
+        ensures inside { AreIn (length self.now.text.units) self.now.decorations }
+    {
+        &self.decorations
+    }
+
+    /// Takes decorations of an owner out and puts new ones in, as `DecoSet::delta` does.
+    pub fn decorate(
+        &mut self,
+        owner: u64,
+        remove: &[u64],
+        add: &[NewDeco],
+    ) -> Result<u64, DecoError>
+        ensures change { Decorates result self.old.decorations self.new.decorations
+            (decorated self.old.decorations owner remove.now add.now self.old.text.units) }
+        ensures same { self.new ≡ record self.old { decorations = self.new.decorations } }
+    {
+        self.decorations.delta(owner, remove, add, &self.text)
+    }
+
+    /// Makes room for edits. An error leaves the page as it was, and room that was there stays.
+    pub fn reserve(&mut self, need: Need) -> Result<(), AllocError>
+        ensures room { OnOk result (HasRoom self.new need) }
+        ensures kept { KeepsRoom self.old self.new }
+        ensures same { IsUntouched self.old self.new }
+    {
+        self.text.reserve(need)?;
+        self.last.reserve(need.edits)
+    }
+
+    /// Looks up where the ops start and end, so that they are carried out without a search. Where memory is short it does
+    /// nothing.
+    pub fn seek(&mut self, ops: &[Op])
+        ensures { self.new ≡ self.old }
+    {
+        self.text.seek(ops);
+    }
+
+    /// The offset of the position, or None where it is none of the text. What is looked up is remembered for the edit that
+    /// comes next.
+    pub fn locate(&mut self, position: Position) -> Option<u64>
+        ensures offset { result ≡ (if is_position self.old.text.units position
+            then Some (offset_of self.old.text.units position) else None) }
+        ensures same { self.new ≡ self.old }
+    {
+        self.text.locate(position)
+    }
+}

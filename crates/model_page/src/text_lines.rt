@@ -1,0 +1,49 @@
+//! The text's lines, as a parse asks for them.
+
+ghost use Rattle.std.specs.Prelude.{◌≡◌, ◌<◌, ◌^◌, [], length};
+
+use node_reuse::Lines;
+use std::alloc::AllocError;
+use steps::Trail;
+use text_buffer::{LineReader, TextBuffer};
+
+/// The lines of a text, and the numbers of those that were asked for, which only proofs read.
+#[derive(Drop)]
+pub(crate) struct TextLines<'t> {
+    lines: LineReader<'t>,
+    asked: Trail,
+    ghost small: { length lines < 2 ^ 62 },
+}
+
+impl<'t> TextLines<'t> {
+    /// The lines of the text, of which none was asked for.
+    pub(crate) fn new(text: &'t TextBuffer) -> TextLines<'t>
+        ensures units { result.lines ≡ text.now.units }
+        ensures asked { result.asked.numbers ≡ [] }
+    {
+        // No text has 2^62 units.
+        let _units = text.len();
+        TextLines {
+            lines: text.lines(),
+            asked: Trail::new(),
+        }
+    }
+}
+
+impl Lines for TextLines<'_> {
+    ghost use Rattle.document_rules.specs.Brackets.{line_contents};
+    ghost use Rattle.model_page.specs.TextWeights.{weights_fit};
+
+    ghost state = { λ lines. record {
+      contents = line_contents lines.lines;
+      asked = lines.asked.numbers;
+    } };
+
+    ghost fits = { λ lines. weights_fit lines.lines lines.small };
+
+    fn line(&mut self, n: u64, out: &mut Vec<u16>) -> Result<(), AllocError> {
+        self.lines.line(n, out)?;
+        self.asked = self.asked.and(&n);
+        Ok(())
+    }
+}

@@ -1,0 +1,139 @@
+//! Items come, go and move.
+ghost use Rattle.std.specs.Prelude.{◌≡◌, ◌+◌, ◌<◌, ◌∷◌};
+ghost use Rattle.rb_rules.specs.Woven.{sum_of};
+ghost use Rattle.rb_arena.specs.RbTree.{IsItem, PlaceAfter, HasInstead, HasPut, HasAfter, HasInsteadAndAfter, LeavesOut};
+ghost use Rattle.rb_arena.specs.RbTree.{SumsWith, SumsPut, SumsTo, SumsWithAndTo};
+ghost use Rattle.rb_arena.specs.RbTree.{CanMoveAfter, SumsMoved, HasMoved};
+ghost use Rattle.rb_arena.specs.Pairs.{HasNext, SumsMerged, HasMerged};
+
+use crate::climb::renew_over;
+use crate::insert::{hang_new, insert_at, leaf_at};
+use crate::leave::{item_for, leave};
+use crate::merge::merge;
+use crate::shift::{reach_for, shift_from};
+use crate::sums::replace_item;
+use crate::tree::RbTree;
+use crate::walk::place_after;
+use raw_arena::NodeId;
+use rb_rules::Weave;
+
+impl<W: Weave> RbTree<W> {
+    /// Puts another item in the place of that one, under its name. Where its sum is the same, no other node is renewed.
+    #[tactic(auto, using(crate::proofs::Seeing::setting))]
+    pub fn set(&mut self, id: NodeId, item: W::Item)
+        requires named { IsItem self.old.items id }
+        requires value { W.is_item item }
+        requires sum { SumsWith W.weaving W.is_value self.old.items id item }
+        ensures items { HasInstead self.old.items self.new.items id item }
+        ensures loose { self.new.loose ≡ self.old.loose }
+        ensures spare { self.new.spare ≡ self.old.spare }
+    {
+        let own = item_for::<W>(&self.links, id, item);
+        replace_item::<W>(&mut self.links, id, own);
+        renew_over::<W>(&mut self.links, Some(id), id);
+    }
+
+    /// Puts an item right after that one, or before all others.
+    #[tactic(auto, using(crate::proofs::Seeing::putting))]
+    fn put_after(&mut self, id: Option<NodeId>, item: W::Item) -> NodeId
+        requires room { 0 < self.old.spare }
+        requires named { PlaceAfter self.old.items id }
+        requires value { W.is_item item }
+        requires sum { SumsPut W.weaving W.is_value self.old.items id item }
+        ensures items { HasPut self.old.items self.new.items id (result, item) }
+        ensures loose { self.new.loose ≡ self.old.loose }
+        ensures spare { self.new.spare + 1 ≡ self.old.spare }
+    {
+        let at = place_after(&self.links, id);
+        insert_at::<W>(&mut self.links, at, item)
+    }
+
+    /// Puts an item right after that one.
+    pub fn insert_after(&mut self, id: NodeId, item: W::Item) -> NodeId
+        requires room { 0 < self.old.spare }
+        requires named { IsItem self.old.items id }
+        requires value { W.is_item item }
+        requires sum { SumsTo W.weaving W.is_value self.old.items id item }
+        ensures items { HasAfter self.old.items self.new.items id (result, item) }
+        ensures loose { self.new.loose ≡ self.old.loose }
+        ensures spare { self.new.spare + 1 ≡ self.old.spare }
+    {
+        self.put_after(Some(id), item)
+    }
+
+    /// Puts another item in the place of that one, under its name, and a new item right after it. The sums are renewed in one walk up,
+    /// which ends at the node of that name where the two have the sum that it had.
+    #[tactic(auto, using(crate::proofs::Seeing::setting_and_inserting))]
+    pub fn set_and_insert_after(&mut self, id: NodeId, own: W::Item, item: W::Item) -> NodeId
+        requires room { 0 < self.old.spare }
+        requires named { IsItem self.old.items id }
+        requires own { W.is_item own }
+        requires value { W.is_item item }
+        requires sum { SumsWithAndTo W.weaving W.is_value self.old.items id own item }
+        ensures items { HasInsteadAndAfter self.old.items self.new.items id own (result, item) }
+        ensures loose { self.new.loose ≡ self.old.loose }
+        ensures spare { self.new.spare + 1 ≡ self.old.spare }
+    {
+        let at = place_after(&self.links, Some(id));
+        // The leaf is made while all sums are right.
+        let own = item_for::<W>(&self.links, id, own);
+        let leaf = leaf_at::<W>(&self.links, &at, item);
+        replace_item::<W>(&mut self.links, id, own);
+        hang_new::<W>(&mut self.links, at, leaf, Some(id))
+    }
+
+    /// Puts an item before all others.
+    pub fn insert_first(&mut self, item: W::Item) -> NodeId
+        requires room { 0 < self.old.spare }
+        requires value { W.is_item item }
+        requires sum { W.is_value (sum_of W.weaving ((0, item) ∷ self.old.items)) }
+        ensures items { self.new.items ≡ (result, item) ∷ self.old.items }
+        ensures loose { self.new.loose ≡ self.old.loose }
+        ensures spare { self.new.spare + 1 ≡ self.old.spare }
+    {
+        self.put_after(None, item)
+    }
+
+    /// Takes the item of that name out. Its name is free again.
+    #[tactic(auto, using(crate::proofs::Seeing::removing))]
+    pub fn remove(&mut self, id: NodeId)
+        requires { IsItem self.old.items id }
+        ensures items { LeavesOut self.old.items self.new.items id }
+        ensures loose { self.new.loose ≡ self.old.loose }
+        ensures spare { self.new.spare ≡ self.old.spare + 1 }
+    {
+        leave::<W>(&mut self.links, id);
+    }
+
+    /// Puts one item in the place of that one and of the one right behind it, and tells under which of their names it stands. Where the
+    /// sum of the two stays, the walk up ends at the higher of their nodes.
+    #[tactic(auto, using(crate::proofs::Seeing::spare_seen))]
+    pub fn merge_next(&mut self, id: NodeId, item: W::Item) -> NodeId
+        requires pair { HasNext self.old.items id }
+        requires value { W.is_item item }
+        requires sum { SumsMerged W.weaving W.is_value self.old.items id item }
+        ensures items { HasMerged self.old.items self.new.items id (result, item) }
+        ensures loose { self.new.loose ≡ self.old.loose }
+        ensures spare { self.new.spare ≡ self.old.spare + 1 }
+    {
+        merge::<W>(&mut self.links, id, item)
+    }
+
+    /// Moves each item after that one, or every item where none is named.
+    #[tactic(auto, using(crate::proofs::Seeing::moving))]
+    pub fn shift_after(&mut self, id: Option<NodeId>, by: W::By)
+        requires named { PlaceAfter self.old.items id }
+        requires values { CanMoveAfter W.Weave self.old.items id by }
+        requires sum { SumsMoved W.Weave self.old.items id by }
+        ensures items { HasMoved W.Weave self.old.items id self.new.items by }
+        ensures loose { self.new.loose ≡ self.old.loose }
+        ensures spare { self.new.spare ≡ self.old.spare }
+    {
+        let Some(reach) = reach_for::<W>(&mut self.links, self.reach, by) else {
+            return;
+        };
+        let at = place_after(&self.links, id);
+        shift_from::<W>(&mut self.links, at, by);
+        self.reach = reach;
+    }
+}

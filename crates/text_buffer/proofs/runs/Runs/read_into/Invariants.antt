@@ -1,0 +1,14 @@
+use Rattle.std.proofs.Common.{◌≡◌, ◌-◌, ◌<◌, ◌≤◌, ◌++◌, length, take, drop}
+use Rattle.text_buffer.proofs.runs.Runs.read_into.Given as goal
+
+abbrev pub invariant-loop-done : goal.invariant-loop-done
+invariant-loop-done l = record {
+  size : length l.out ≡ length l.fn.out;
+  within : l.done ≤ length l.fn.out;
+  there : l.done ≤ length l.fn.self;
+  read : l.out ≡ take l.done l.fn.self ++ drop l.done l.fn.out;
+  rest : l.done < length l.fn.out → l.self ≡ drop l.done l.fn.self;
+}
+
+abbrev pub decreases-loop-done : goal.decreases-loop-done
+decreases-loop-done l = length l.initial.out - l.done

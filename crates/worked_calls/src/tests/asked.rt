@@ -1,0 +1,50 @@
+//! How many lines a question about brackets asks for.
+
+use super::documents::open;
+use model_core::Model;
+use std::alloc::{AllocError, Global};
+use std::test::Fail;
+use text_lengths::Position;
+use unit_text::units_of;
+
+const LINES: u64 = 1000;
+
+/// Inside the pair of a line in the middle.
+const MIDDLE: u64 = 1501;
+
+#[test]
+fn an_edited_line_is_the_only_one_asked_for(rt: HostRuntime) -> Result<(), Fail> {
+    let counts = asked_in_turn(rt.alloc())?;
+    assert_eq!(rt; counts, (LINES, 1));
+    Ok(())
+}
+
+/// How many lines the first question asked for, and how many the one after an edit.
+fn asked_in_turn(alloc: Global) -> Result<(u64, u64), Fail> {
+    let mut model = Model::new(alloc);
+    ask_edit_and_ask(alloc, &mut model)
+}
+
+fn ask_edit_and_ask(alloc: Global, model: &mut Model) -> Result<(u64, u64), Fail> {
+    let text = pairs(alloc)?;
+    open(model, &text)?;
+    let first = asked(model)?;
+    model.insert(MIDDLE, &[0x28, 0x29])?;
+    Ok((first, asked(model)?))
+}
+
+/// So many lines `()`.
+fn pairs(alloc: Global) -> Result<Vec<u16>, AllocError> {
+    let mut text = Vec::new(alloc);
+    units_of("()", &mut text)?;
+    for _ in 1..LINES {
+        units_of("\n()", &mut text)?;
+    }
+    Ok(text)
+}
+
+/// How many lines the parse for a question asked for.
+fn asked(model: &mut Model) -> Result<u64, Fail> {
+    model.level_at(Position { line: 1, column: 1 })?;
+    Ok(model.parsed().map_or(0, |parsed| parsed.asked()))
+}

@@ -1,0 +1,81 @@
+//! Changes that are prepared and then committed.
+
+use super::documents::open;
+use model_core::{Model, Op};
+use std::alloc::{AllocError, Global};
+use std::test::Fail;
+use text_lengths::Span;
+use unit_text::Units;
+
+/// What is seen of a document: how many units, its version, and whether there is something to undo or redo.
+#[derive(Clone, Copy)]
+struct Seen {
+    units: u64,
+    version: u64,
+    can_undo: bool,
+    can_redo: bool,
+}
+
+#[test]
+fn a_change_is_prepared_and_then_committed(rt: HostRuntime) -> Result<(), Fail> {
+    let (prepared, edited, undone) = seen_in_turn(rt.alloc())?;
+    assert_eq!(rt; prepared, (6, 1));
+    assert_eq!(rt; (edited.units, edited.version), (5, 2));
+    assert_eq!(rt; (edited.can_undo, edited.can_redo), (true, false));
+    assert_eq!(rt; (undone.units, undone.version), (6, 3));
+    assert_eq!(rt; (undone.can_undo, undone.can_redo), (false, true));
+    Ok(())
+}
+
+/// The units and the version when an edit is prepared; and what is seen when it is committed, and when it is undone.
+fn seen_in_turn(alloc: Global) -> Result<((u64, u64), Seen, Seen), Fail> {
+    let mut model = Model::new(alloc);
+    edit_and_undo(alloc, &mut model)
+}
+
+fn edit_and_undo(alloc: Global, model: &mut Model) -> Result<((u64, u64), Seen, Seen), Fail> {
+    open(model, &[0x61, 0x62, 0x63, 0x64, 0x65, 0x66])?;
+    let prepared = edit_later(alloc, model)?;
+    let edited = look_at(model)?;
+    undo_later(model)?;
+    let undone = look_at(model)?;
+    Ok((prepared, edited, undone))
+}
+
+/// Puts X in the place of two units. Tells how many there were, and the version, when all was prepared.
+fn edit_later(alloc: Global, model: &mut Model) -> Result<(u64, u64), Fail> {
+    let ops = x_for_two(alloc)?;
+    let ready = model.prepare(ops)?;
+    let (version, _) = model.versions();
+    let prepared = (model.len(), version);
+    model.commit(ready);
+    Ok(prepared)
+}
+
+fn x_for_two(alloc: Global) -> Result<Vec<Op>, AllocError> {
+    let op = Op {
+        span: Span { start: 1, end: 3 },
+        text: Units::copy_of(alloc, &[0x58])?,
+        force: false,
+    };
+    Ok(vec![in alloc; op]?)
+}
+
+fn undo_later(model: &mut Model) -> Result<(), Fail> {
+    if let Some(ready) = model.prepare_undo()? {
+        model.commit(ready);
+    }
+    Ok(())
+}
+
+fn look_at(model: &mut Model) -> Result<Seen, Fail> {
+    let can_undo = model.prepare_undo()?.is_some();
+    let can_redo = model.prepare_redo()?.is_some();
+    let (version, _) = model.versions();
+    Ok(Seen {
+        units: model.len(),
+        version,
+        can_undo,
+        can_redo,
+    })
+}
