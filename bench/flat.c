@@ -1,21 +1,15 @@
 /* A flat text model: what the program is measured beside, and its replies compared with.
  *
  * The text is one array of UTF-16 units that each edit moves. Lines are found by scanning it from its beginning, and
- * each question about brackets folds all of it. It reads the lines that bench/run writes and those alone: fields in one
- * order without blanks, texts of ASCII with `\n` as their one escape and break, the ops of an edit in rising order. Any
- * other line is answered `! syntax`. What an `open` or an edit lets go of is not freed. */
-#include <stdbool.h>
-#include <stdint.h>
-#include <stdio.h>
-#include <stdlib.h>
-#include <string.h>
+ * each question about brackets folds all of it; a snapshot copies all of it. It reads the lines that bench/run writes and
+ * those alone: fields in one order without blanks, texts of ASCII with `\n` and `\r` as their escapes, the ops of an edit
+ * in rising order. Any other line is answered `! syntax`. What an `open` or an edit lets go of is not freed. */
+#include "flat_fields.h"
 
-enum { MOST_OPEN = 300, BUFFER_BYTES = 1 << 16 };
+enum { MOST_OPEN = 300, MOST_SNAPSHOTS = 64, BUFFER_BYTES = 1 << 16 };
 
 static const size_t NOWHERE = SIZE_MAX;
 
-typedef uint64_t Number;
-typedef struct { uint16_t *at; size_t length, room; } Units;
 typedef struct { size_t start, end; Units text; } Op;
 /* A replacement that was made, with both texts; `begins` where it is the first of its step. */
 typedef struct { size_t start; Units removed, added; bool begins; } Change;
@@ -31,83 +25,13 @@ typedef struct {
     size_t mark_count, mark_room;
     Bracket *brackets;
     size_t bracket_count, bracket_room;
+    uint16_t *snapshots[MOST_SNAPSHOTS];  /* by id, the first of which is 1 */
+    Number next_snapshot;
 } Document;
-
-static void fail(const char *why) {
-    fprintf(stderr, "flat: %s\n", why);
-    exit(3);
-}
-
-/* Room for more than `count` values; the array may move. */
-static void *grown(void *at, size_t count, size_t *room, size_t bytes) {
-    if (count < *room) return at;
-    *room = count + count / 2 + 8;
-    at = realloc(at, *room * bytes);
-    if (!at) fail("no memory");
-    return at;
-}
 
 static bool refuse_range(void) { return printf("! range") > 0; }
 
-/* ---- reading a line: each of these goes past what it reads, or tells that it is not there */
-
-static bool word(const char **at, const char *expected) {
-    size_t length = strlen(expected);
-    if (strncmp(*at, expected, length) != 0) return false;
-    *at += length;
-    return true;
-}
-
-static bool number(const char **at, Number *value) {
-    if (**at < '0' || **at > '9') return false;
-    char *end;
-    *value = strtoull(*at, &end, 10);
-    *at = end;
-    return true;
-}
-
-static bool span(const char **at, size_t *start, size_t *end) {
-    return word(at, "\"at\":[") && number(at, start) && word(at, ",") && number(at, end) && word(at, "]");
-}
-
-static bool text(const char **at, Units *units) {
-    *units = (Units){0};
-    if (!word(at, "\"")) return false;
-    for (; **at && **at != '"'; ++*at) {
-        bool is_break = **at == '\\' && (*at)[1] == 'n';
-        if (is_break) ++*at;
-        else if (**at < ' ' || **at == '\\') fail("a text has more than ASCII and line feeds");
-        units->at = grown(units->at, units->length, &units->room, sizeof *units->at);
-        units->at[units->length++] = is_break ? '\n' : (uint16_t)**at;
-    }
-    return word(at, "\"");
-}
-
-static bool closes(const char **at) { return word(at, "}") && (**at == '\n' || **at == 0); }
-
-/* ---- lines and places */
-
-static size_t line_count(const Units *text) {
-    size_t lines = 1;
-    for (size_t at = 0; at < text->length; at++) lines += text->at[at] == '\n';
-    return lines;
-}
-
-static size_t line_end(const Units *text, size_t start) {
-    while (start < text->length && text->at[start] != '\n') start++;
-    return start;
-}
-
-/* Where this line starts, counted from 1. */
-static bool line_start(const Units *text, Number line, size_t *start) {
-    *start = 0;
-    if (line > text->length + 1) return false;
-    for (Number now = 1; now < line; now++) {
-        *start = line_end(text, *start) + 1;
-        if (*start > text->length) return false;
-    }
-    return line > 0;
-}
+/* ---- positions */
 
 /* Reads a line and a column, with this between them, and looks for the offset, which is NOWHERE where there is none. */
 static bool offset_of(const Units *text, const char **at, const char *between, size_t *offset) {
@@ -203,6 +127,30 @@ static bool deco(Document *document, const char **at) {
     return printf("ok %zu %zu %lu %lu", mark->start, mark->end, mark->stick, mark->owner) > 0;
 }
 
+/* By start, then end, then id. */
+static int by_place(const void *one, const void *other) {
+    const Mark *a = one, *b = other;
+    if (a->start != b->start) return a->start < b->start ? -1 : 1;
+    if (a->end != b->end) return a->end < b->end ? -1 : 1;
+    return a->id < b->id ? -1 : a->id > b->id;
+}
+
+/* The marks that share a unit with the span or touch it. */
+static bool decos(Document *document, const char **at) {
+    size_t start, end, count = 0;
+    if (!span(at, &start, &end) || !closes(at)) return false;
+    if (start > end || end > document->text.length) return refuse_range();
+    Mark *met = malloc((document->mark_count + 1) * sizeof *met);
+    if (!met) fail("no memory");
+    for (const Mark *m = document->marks; m < document->marks + document->mark_count; m++)
+        if (m->start <= end && m->end >= start) met[count++] = *m;
+    qsort(met, count, sizeof *met, by_place);
+    printf("ok");
+    for (size_t i = 0; i < count; i++) printf(" %lu %zu %zu", met[i].id, met[i].start, met[i].end);
+    free(met);
+    return true;
+}
+
 /* ---- the text and its history */
 
 static void replace(Document *document, const Op *op) {
@@ -212,6 +160,7 @@ static void replace(Document *document, const Op *op) {
     if (behind != op->end) memmove(text->at + behind, text->at + op->end, 2 * (text->length - op->end));
     if (op->text.length) memcpy(text->at + op->start, op->text.at, 2 * op->text.length);
     text->length = length;
+    text->has_returns |= op->text.has_returns;
     move_marks(document, op);
 }
 
@@ -234,7 +183,7 @@ static bool next_version(Document *document) {
 static bool open_text(Document *document, const char **at) {
     Units units;
     if (!text(at, &units) || !closes(at)) return false;
-    *document = (Document){.text = units, .next_id = 1, .begins = true};
+    *document = (Document){.text = units, .next_id = 1, .next_snapshot = 1, .begins = true};
     return next_version(document);
 }
 
@@ -297,7 +246,34 @@ static bool stop(Document *document, const char **at) {
     return printf("ok") > 0;
 }
 
+/* ---- snapshots: none is read */
+
+static bool snapshot(Document *document, const char **at) {
+    if (!closes(at)) return false;
+    Number id = document->next_snapshot++;
+    if (id > MOST_SNAPSHOTS) fail("a script has more snapshots than the table");
+    size_t bytes = 2 * document->text.length;
+    uint16_t *kept = malloc(bytes + 1);
+    if (!kept) fail("no memory");
+    document->snapshots[id - 1] = memcpy(kept, document->text.at, bytes);
+    return printf("ok %lu", id) > 0;
+}
+
+static bool close_snapshot(Document *document, const char **at) {
+    Number id;
+    if (!number(at, &id) || !closes(at)) return false;
+    if (id == 0 || id >= document->next_snapshot || !document->snapshots[id - 1]) return printf("! unknown") > 0;
+    free(document->snapshots[id - 1]);
+    document->snapshots[id - 1] = NULL;
+    return printf("ok") > 0;
+}
+
 /* ---- questions about places */
+
+static bool size(Document *document, const char **at) {
+    if (!closes(at)) return false;
+    return printf("ok %zu %zu", document->text.length, line_count(&document->text)) > 0;
+}
 
 static bool line(Document *document, const char **at) {
     Number n;
@@ -315,7 +291,7 @@ static bool position(Document *document, const char **at) {
     if (offset > document->text.length) return refuse_range();
     size_t lines = 1, start = 0;
     for (size_t i = 0; i < offset; i++)
-        if (document->text.at[i] == '\n') lines++, start = i + 1;
+        if (ends_break(&document->text, i)) lines++, start = i + 1;
     return printf("ok %zu %zu", lines, offset - start + 1) > 0;
 }
 
@@ -351,7 +327,7 @@ static void fold(Document *document) {
     size_t stack[MOST_OPEN], open = 0, line = 1, start = 0, here = 0;
     for (size_t at = 0; at < document->text.length; at++) {
         uint16_t unit = document->text.at[at];
-        if (unit == '\n') line++, start = at + 1;
+        if (ends_break(&document->text, at)) line++, start = at + 1;
         int code = unit < sizeof CODES ? CODES[unit] : 0;
         bool opens = code % 2 == 1;
         if (code == 0 || (opens && open == MOST_OPEN)) continue;
@@ -410,7 +386,9 @@ static const struct { const char *head; bool (*answer)(Document *, const char **
     {"{\"cmd\":\"level\",\"line\":", level},      {"{\"cmd\":\"decorate\",\"owner\":", decorate},
     {"{\"cmd\":\"deco\",\"id\":", deco},          {"{\"cmd\":\"open\",\"text\":", open_text},
     {"{\"cmd\":\"undo\"", undo},                  {"{\"cmd\":\"redo\"", redo},
-    {"{\"cmd\":\"stop\"", stop},
+    {"{\"cmd\":\"stop\"", stop},                  {"{\"cmd\":\"size\"", size},
+    {"{\"cmd\":\"decos\",", decos},              {"{\"cmd\":\"snapshot\"", snapshot},
+    {"{\"cmd\":\"close\",\"id\":", close_snapshot},
 };
 
 static bool answer(Document *document, const char *line) {
@@ -422,7 +400,7 @@ static bool answer(Document *document, const char *line) {
 }
 
 int main(void) {
-    Document document = {.version = 1, .next_id = 1, .begins = true};
+    Document document = {.version = 1, .next_id = 1, .next_snapshot = 1, .begins = true};
     char *line = NULL;
     size_t room = 0;
     setvbuf(stdin, NULL, _IOFBF, BUFFER_BYTES);

@@ -30,8 +30,16 @@ class Running:
 
     def peak_kib(self) -> int:
         """The most memory that was resident so far."""
+        return self.told_kib("VmHWM")
+
+    def resident_kib(self) -> int:
+        """The memory that is resident now."""
+        return self.told_kib("VmRSS")
+
+    def told_kib(self, name: str) -> int:
+        """What Linux tells of the process under this name."""
         status = Path(f"/proc/{self.process.pid}/status").read_text()
-        return int(status.split("VmHWM:")[1].split()[0])
+        return int(status.split(f"{name}:")[1].split()[0])
 
     def end(self) -> None:
         """Lets it read the script's end, and waits for its own."""

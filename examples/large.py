@@ -1,10 +1,14 @@
 #!/usr/bin/env -S python3 -B
-"""Scripts with lines as long as they may be, and longer, and with many decorations.
+"""Scripts with lines as long as they may be, and longer, with many decorations, and nested as deeply as may be.
 
-examples/large.py [PROGRAM]     the one that ./build and .ci/run leave, where none is named
+examples/large.py [PROGRAM]                  the one that ./build and .ci/run leave, where none is named
+examples/large.py --least-stack [PROGRAM]    tells how small a stack they can be answered on
 """
+import argparse
+import resource
 import subprocess
 import sys
+from functools import partial
 from pathlib import Path
 from typing import NamedTuple
 
@@ -12,6 +16,8 @@ PROVED = Path(__file__).resolve().parent.parent / "bin" / "textmodel"
 SECONDS = 60.0
 MOST_BYTES = 1 << 24
 MANY = 100_000
+MOST_OPEN, MOST_NESTED = 300, 127
+LEAST_STACK, MOST_STACK, STACK_STEP = 16, 8192, 4  # KiB
 SIZE = b'{"cmd":"size"}'
 
 
@@ -45,6 +51,19 @@ def hundred_and_an_edit() -> bytes:
     )
 
 
+def nested_brackets() -> bytes:
+    """As many brackets inside one another as may be open, and questions before and after an edit in their middle."""
+    text = b"([{" * (MOST_OPEN // 3) + b"\\n" + b"}])" * (MOST_OPEN // 3)
+    asked = b'{"cmd":"level","line":2,"col":1}\n{"cmd":"match","line":1,"col":1}\n'
+    edited = b'{"cmd":"edit","ops":[{"at":[%d,%d],"text":"()"}]}\n' % (MOST_OPEN, MOST_OPEN)
+    return b'{"cmd":"open","text":"%s"}\n%s%s%s' % (text, asked, edited, asked)
+
+
+def nested_line() -> bytes:
+    """A line of arrays, which is no command, as deep as a line may be."""
+    return b"[" * MOST_NESTED + b"]" * MOST_NESTED + b"\n"
+
+
 def mixed(count: int) -> list[int]:
     """The numbers from 1 on, so many, in mixed order."""
     return [number * 61_803 % count + 1 for number in range(count)]
@@ -60,6 +79,13 @@ CASES = [
         0,
     ),
     Case(
+        "brackets as deep as may be",
+        nested_brackets(),
+        b"ok 1 601 2\nok 300\nok 2 300 1\nok 2 603 2\nok 297\nok 2 297 1\n",
+        0,
+    ),
+    Case("a line as deep as may be", nested_line() + SIZE + b"\n", b"! syntax\nok 0 1\n", 1),
+    Case(
         "many decorations in one line, and all of them out again in another",
         b'{"cmd":"open","text":"123456789"}\n' + decorate([], MANY) + decorate(mixed(MANY), 1) + b'{"cmd":"decos","at":[0,9]}\n',
         b"ok 1 9 1\nok 1 %d\nok %d 1\nok %d 0 9\n" % (MANY, MANY + 1, MANY + 1),
@@ -68,16 +94,48 @@ CASES = [
 ]
 
 
-def main() -> None:
-    """Runs all cases; the status is 1 where one is answered otherwise."""
-    program = sys.argv[1] if len(sys.argv) > 1 else str(PROVED)
+def answered(program: Path, case: Case, stack: int | None = None) -> tuple[bytes, int]:
+    """What the program writes for the case, and its status: on a stack of so many KiB, if that is told."""
+    limit = stack and partial(resource.setrlimit, resource.RLIMIT_STACK, (stack * 1024, stack * 1024))
+    how = {"stdout": subprocess.PIPE, "timeout": SECONDS, "check": False, "preexec_fn": limit}
+    ran = subprocess.run([program, "run"], input=case.script, **how)
+    return ran.stdout, ran.returncode
+
+
+def failures(program: Path) -> int:
+    """How many cases are answered otherwise, each of which is told."""
     failed = 0
     for case in CASES:
-        ran = subprocess.run([program, "run"], input=case.script, stdout=subprocess.PIPE, timeout=SECONDS, check=False)
-        if (ran.stdout, ran.returncode) != (case.written, case.status):
-            print(f"large: {case.name}: status {ran.returncode}, {ran.stdout[:100]!r}", file=sys.stderr)
+        written, status = answered(program, case)
+        if (written, status) != (case.written, case.status):
+            print(f"large: {case.name}: status {status}, {written[:100]!r}", file=sys.stderr)
             failed += 1
-    sys.exit(1 if failed else 0)
+    return failed
+
+
+def least_stack(program: Path, case: Case) -> int:
+    """The least stack on which the case is answered, in KiB and to within a page; more where the most is too little."""
+    too_little, enough = LEAST_STACK, MOST_STACK + STACK_STEP
+    while enough - too_little > STACK_STEP:
+        tried = (too_little + enough) // (2 * STACK_STEP) * STACK_STEP
+        if answered(program, case, tried) == (case.written, case.status):
+            enough = tried
+        else:
+            too_little = tried
+    return enough
+
+
+def main() -> None:
+    """Runs all cases; the status is 1 where one is answered otherwise."""
+    words = argparse.ArgumentParser(description=__doc__.splitlines()[0])
+    words.add_argument("program", nargs="?", type=Path, default=PROVED, help="the program, by default the proved build")
+    words.add_argument("--least-stack", action="store_true", help="tell the least stack for each case")
+    given = words.parse_args()
+    program = given.program.resolve()
+    if failures(program):
+        sys.exit(1)
+    for case in CASES if given.least_stack else []:
+        print(f"{least_stack(program, case):>5} KiB: {case.name}")
 
 
 if __name__ == "__main__":

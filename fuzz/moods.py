@@ -29,11 +29,19 @@ class Mood(NamedTuple):
     alphabets: list[list[str]]
     with_brackets: int  # how often a bracket stands among the characters
     depth: int = 0  # how many brackets a new text opens in its first line, or some fewer
+    ragged: int = 0  # how often what leaves brackets open, or closes none, stands among the characters
+    marks: int = 24  # how many decorations there are before more are taken out than put in
+    heap: int = 0  # how many decorations may be put in at once, at one place or wide, while there are fewer than that
+    ops: int = 40  # the most ops of an edit
+    run: int = 0  # how many an undo and a redo may be in turn, or undos and then as many redos
+    is_apart: bool = False  # edits keep to the front, and questions to the end
 
 
 def more(**weights: int) -> dict[str, int]:
     return WEIGHTS | weights
 
+
+FAR = {name: 1 for name in WEIGHTS} | {"edit": 150, "undo": 4, "redo": 4, "decos": 2}  # long runs without a question
 
 MOODS = {
     "mixed": (10, Mood(40, WEIGHTS, [LETTERS, BREAKS, PAIRED, JOINED, QUOTED], 4)),
@@ -47,6 +55,13 @@ MOODS = {
     "clusters": (3, Mood(25, more(stops=40, line=5), [JOINED, JOINED, JOINED, BREAKS], 1)),
     "hostile": (3, Mood(20, more(hostile=60), [LETTERS, BREAKS, PAIRED], 1)),
     "deep": (2, Mood(60, more(brackets=4, match=15, level=25, open=2), [BREAKS, LETTERS], 4, MOST_OPEN)),
+    "heaps": (0.3, Mood(60, more(edit=50, decorate=12, decos=2, undo=4), [LETTERS, BREAKS], 1, marks=700, heap=700)),
+    "piles": (1, Mood(20, more(edit=40, decorate=12, decos=4, stop=8), [LETTERS, PAIRED], 1, marks=90, heap=90, ops=9)),
+    "ragged": (2, Mood(400, more(brackets=4, match=15, level=25), [BREAKS, LETTERS], 2, ragged=9, is_apart=True)),
+    "capped": (1, Mood(300, more(brackets=2, match=15, level=25), [BREAKS, LETTERS], 0, MOST_OPEN, 9, is_apart=True)),
+    "far": (1, Mood(600, FAR, [BREAKS, LETTERS], 3, ragged=1, ops=150)),
+    "swings": (1, Mood(60, more(undo=15, redo=15, stop=15, level=10), [LETTERS, BREAKS, PAIRED], 3, run=60)),
+    "pieces": (1, Mood(1500, more(edit=60, snapshot=15, read=30, close=12), [PAIRED, LETTERS, BREAKS], 1, ops=150)),
     "large": (1, Mood(4000, more(brackets=4, open=2, stops=1, hostile=1), [LETTERS, LETTERS, BREAKS, PAIRED], 2)),
 }
 
@@ -81,13 +96,21 @@ def drawn_alphabet(draw: Random, mood: Mood, table: Pairs) -> list[str]:
         alphabet += draw.choices(group, k=draw.randint(1, 4))
     texts = [text for pair in draw.choices(table, k=2) for text in pair]
     nests = [nest(draw, table) for _ in range(mood.with_brackets // 2)]
-    return alphabet + draw.choices(texts, k=mood.with_brackets) + nests
+    torn = draw.choices([rag(draw, table) for _ in range(2)], k=mood.ragged)
+    return alphabet + draw.choices(texts, k=mood.with_brackets) + nests + torn
 
 
 def nest(draw: Random, table: Pairs) -> str:
     """Some pairs inside one another."""
     pairs = draw.choices(table, k=draw.randint(1, 4))
     return "".join(opening for opening, _ in pairs) + "".join(closing for _, closing in reversed(pairs))
+
+
+def rag(draw: Random, table: Pairs) -> str:
+    """Brackets of which not each is one of a pair."""
+    (opening, closing), (other, its_closing) = draw.choices(table, k=2)
+    torn = [opening, closing, opening * 3, opening + other + closing, opening + its_closing, closing + opening]
+    return draw.choice(torn)
 
 
 def opened_brackets(draw: Random, mood: Mood, table: Pairs) -> str:

@@ -12,7 +12,6 @@ from moods import Mood, drawn_alphabet, drawn_mood, drawn_table, opened_brackets
 from texts import cuts_pair
 
 ODD_NUMBERS = [0, 1, 2, 2**31, 2**32, 2**53 + 1, 2**63 - 1, 2**63, 2**64 - 1, 2**64]
-MANY_DECORATIONS = 24
 NO_TABLES = [
     [], [["a", "a"]], [["", "b"]], [["a"]], [["a", "b", "c"]], [["a\r", "b"]], [["a", "\nb"]], [["x" * 33, "y"]],
     [["a", "b"], ["b", "c"]], [[chr(64 + n), chr(128 + n)] for n in range(33)], [["\U0001f600" * 17, "y"]], "()", [1],
@@ -43,6 +42,7 @@ class Writer:
         self.flat = Flat()
         self.table = drawn_table(self.draw)
         self.place = 0  # where something happened last
+        self.coming: list[str] = []  # the commands that come next
         self.set_mood(drawn_mood(self.draw))
 
     @property
@@ -72,10 +72,19 @@ class Writer:
 
     def name(self) -> str:
         """A command. Edits drop what could be redone, so a `redo` comes more often where it can do something."""
+        if self.coming:
+            return self.coming.pop()
         if self.document.redo_steps and self.chance(0.12):
             return "redo"
         name = self.draw.choices(self.names, cum_weights=self.sums)[0]
+        if name == "undo" and self.mood.run and self.chance(0.2):
+            self.coming = self.undone_and_redone()
         return "undo" if name == "redo" and not self.document.redo_steps and self.chance(0.6) else name
+
+    def undone_and_redone(self) -> list[str]:
+        """Undos and redos behind an undo, the next one last."""
+        often = self.draw.randint(1, self.mood.run)
+        return ["undo", "redo"] * often if self.chance(0.5) else ["redo"] * often + ["undo"] * (often - 1)
 
     def line(self) -> bytes:
         name = self.name()
@@ -126,11 +135,16 @@ class Writer:
             end = self.offset()
         return (start, end) if self.chance(0.02) else (min(start, end), max(start, end))
 
+    def span_in_front(self) -> tuple[int, int]:
+        """A span of the first few places."""
+        places = [self.whole(self.few()) for _ in range(2)]
+        return min(places), max(places)
+
     def line_number(self) -> int:
         lines = len(self.document.text.starts)
         if self.chance(0.04):
             return self.draw.choice([0, lines + 1, *ODD_NUMBERS])
-        return self.draw.randint(1, lines)
+        return self.draw.randint(max(1, lines - 3) if self.is_apart() else 1, lines)
 
     def position(self) -> tuple[int, int]:
         """Often that of a bracket. One between a CR and its LF is none."""
@@ -138,9 +152,14 @@ class Writer:
             return self.draw.choice([(0, 1), (1, 0), (self.line_number(), self.draw.choice(ODD_NUMBERS))])
         entries = self.document.parsed().entries
         if entries and self.chance(0.5):
-            return self.document.position_of(self.draw.choice(entries).at + self.chance(0.2))
+            entry = self.draw.choice(entries[-9:] if self.is_apart() else entries)
+            return self.document.position_of(entry.at + self.chance(0.2))
         offset = self.offset()
         return self.document.position_of(offset) if offset <= len(self.document.text.units) else (1, offset)
+
+    def is_apart(self) -> bool:
+        """Whether an edit keeps to the front here, and a question to the end."""
+        return self.mood.is_apart and self.chance(0.7)
 
     def known_decoration(self) -> int:
         return self.draw.choice(list(self.document.decorations))
@@ -170,8 +189,9 @@ class Writer:
         return f'{{"cmd":"open","text":{text},"brackets":{json.dumps(table, ensure_ascii=self.chance(0.5))}}}'
 
     def edit(self) -> str:
-        count = 1 if self.chance(0.7) else self.draw.randint(2, 40 if self.chance(0.03) else 5)
-        spans = [self.span() for _ in range(count)]
+        many = self.mood.ops if self.chance(0.03) else min(self.mood.ops, 5)
+        count = 1 if self.chance(0.7) else self.draw.randint(2, many)
+        spans = [self.span_in_front() if self.is_apart() else self.span() for _ in range(count)]
         if count > 1 and self.chance(0.8):
             spans = apart(spans)
             self.draw.shuffle(spans)
@@ -193,17 +213,36 @@ class Writer:
     def decorate(self) -> str:
         owner = self.draw.choice([1, 1, 1, 2, 2, 3, *ODD_NUMBERS[:-1]]) if self.chance(0.2) else self.draw.randint(1, 2)
         mine = [id for id, it in self.document.decorations.items() if it.owner == owner]
-        is_full = len(self.document.decorations) > MANY_DECORATIONS
+        is_full = len(self.document.decorations) > self.mood.marks
         fewer = self.few() * (4 if is_full else 1) if self.chance(0.6) else 0
         remove = self.draw.sample(mine, k=min(len(mine), fewer))
         if self.chance(0.04):
             remove.append(self.decoration())
         add = [self.new_decoration() for _ in range(60 if self.chance(0.005) else self.few())]
+        if len(self.document.decorations) < self.mood.heap and self.chance(0.4):
+            add = self.heaped()
         return f'{{"cmd":"decorate","owner":{owner},"remove":{json.dumps(remove)},"add":[{",".join(add)}]}}'
 
-    def new_decoration(self) -> str:
+    def heaped(self) -> list[str]:
+        """Many decorations of one place, of one span, or of most of the text."""
+        count, units = self.draw.randint(self.mood.heap // 2, self.mood.heap), len(self.document.text.units)
         start, end = self.span()
+        edges = [(start, start if self.chance(0.5) else end)] * count
+        if self.chance(0.3):
+            edges = [(self.whole(self.few()), self.whole(units - self.few())) for _ in edges]
+        return [self.spelled_decoration(min(edge), max(edge), self.draw.randint(0, 3)) for edge in edges]
+
+    def whole(self, place: int) -> int:
+        """The nearest place of the text that is no later."""
+        units = self.document.text.units
+        place = min(max(place, 0), len(units))
+        return place - cuts_pair(units, place)
+
+    def new_decoration(self) -> str:
         stick = self.draw.choice([4, *ODD_NUMBERS]) if self.chance(0.01) else self.draw.randint(0, 3)
+        return self.spelled_decoration(*self.span(), stick)
+
+    def spelled_decoration(self, start: int, end: int, stick: int) -> str:
         collapse = self.draw.choice(["", "", ',"collapse":true', ',"collapse":false'])
         return f'{{"at":[{start},{end}],"stick":{stick}{collapse}}}'
 
@@ -238,7 +277,8 @@ class Writer:
         return f'{{"cmd":"brackets","from":{first},"to":{last}}}'
 
     def read(self) -> str:
-        count = self.draw.choice([0, 1, 9, 30, *ODD_NUMBERS]) if self.chance(0.2) else self.draw.randint(2, 6)
+        most = 6 if self.mood.units < 1000 else 300
+        count = self.draw.choice([0, 1, 9, 30, *ODD_NUMBERS]) if self.chance(0.2) else self.draw.randint(2, most)
         return f'{{"cmd":"read","id":{self.snapshot()},"count":{count}}}'
 
     def close(self) -> str:

@@ -3,13 +3,13 @@ use Rattle.std.proofs.Common.{◌≡◌, ℕ, ◌+◌, ◌≤◌, ◌<◌, ◌^�
 use Rattle.std.proofs.lemmas.Bool.{cases_lt}
 use Rattle.std.proofs.lemmas.Nat.{pow_below}
 use Rattle.std.specs.Prelude.{unwrap_or, bit_or}
-use Rattle.bracket_tree_rules.specs.Tree.{Tree, text, pair, stray, capped, nothing, two, three, tree_length, is_missing, nesting, height, highest, weight, IsEven, IsTree}
+use Rattle.bracket_tree_rules.specs.Tree.{Tree, text, pair, stray, capped, nothing, two, three, tree_length, is_missing, nesting, height, highest, wide, weight, IsEven, IsLone, IsTree}
 use Rattle.text_lengths.proofs.Lengths.{length_plus_assoc}
 use Rattle.bracket_tree_rules.specs.Told.{has_kind}
-use Rattle.bracket_tree_rules.proofs.KindSets.{has_kind-union}
+use Rattle.bracket_tree_rules.proofs.KindSets.{has_kind-one, has_kind-union}
 use Rattle.bracket_tree_rules.proofs.Weights.{units_of, length_within, nesting_within, height_within, highest_doubles}
 use Rattle.bracket_nodes.specs.declared.kept.Kept.{Kept}
-use Rattle.bracket_nodes.specs.Kept.{later, last_level, Keeps, both_of}
+use Rattle.bracket_nodes.specs.Kept.{later, last_level, Keeps, leaf_kept, both_of}
 use Rattle.bracket_nodes.specs.Bounds.{IsBounded}
 
 later_within : (a b : Option ℕ) → unwrap_or (later a b) 0 ≤ max (unwrap_or a 0) (unwrap_or b 0)
@@ -56,6 +56,20 @@ IsBounded-from_Keeps t kept h = record {
       let same : kept.nesting ≡ nesting t = h.nesting in
       let level : unwrap_or kept.last_level 0 ≡ unwrap_or (last_level t) 0 = ap (λ (o : Option ℕ). unwrap_or o 0) h.last in
       omega arith;
+}
+
+pub Keeps-stray : (k w : ℕ) → IsLone k w → w < 2 ^ 64 → Keeps (stray k w) (leaf_kept (wide w) (2 ^ k) (Some 0))
+Keeps-stray k w lone light = record {
+  tree = lone;
+  light = light;
+  length = refl;
+  missing = λ j. has_kind-one k j;
+  closed = refl;
+  capped = refl;
+  height = refl;
+  highest = refl;
+  nesting = refl;
+  last = refl;
 }
 
 -- ---- lists

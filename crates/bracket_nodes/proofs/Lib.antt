@@ -1,5 +1,6 @@
 pub mod KeptLemmas
-pub mod Shares
+pub mod Runs
+pub mod Joined
 pub mod EntryPlaces
 pub mod LevelWalk
 pub mod PartnerWalk
@@ -9,5 +10,6 @@ pub mod ScannedSteps
 pub mod Scans
 pub mod JoinedLists
 pub mod Descent
+pub mod Paths
 pub mod ListedEntries
 pub mod Payments

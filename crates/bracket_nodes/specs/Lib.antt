@@ -1,10 +1,12 @@
+pub mod Forms
 pub mod Shapes
+pub mod Seen
 pub mod Kept
 pub mod Falls
 pub mod Bounds
 pub mod Bracket
 pub mod Lists
-pub mod SharedLists
+pub mod Joining
 pub mod Walks
 pub mod Source
 pub mod Paying
@@ -13,3 +15,4 @@ pub mod Borrowed
 pub mod LevelSteps
 pub mod Listing
 pub mod Parts
+pub mod Paths

@@ -3,6 +3,7 @@ use Rattle.std.specs.Prelude.{◌≡◌, ℕ, ◌+◌, ◌*◌, List, [], ◌∷
 use Rattle.bracket_rules.specs.declared.Entry.{Entry}
 use Rattle.bracket_rules.specs.Parse.{Judged, is_between}
 use Rattle.bracket_nodes.specs.Shapes.{tree_size}
+use Rattle.bracket_nodes.specs.Seen.{seen_tree}
 use Rattle.bracket_nodes.specs.Walks.{HasRoom, chosen, entry_if}
 use Rattle.bracket_nodes.specs.Parts.{entries_at}
 use Rattle.bracket_nodes.specs.declared.listing.LineRange.{LineRange}
@@ -29,12 +30,12 @@ ListsFirst lines js listed left listed' left' =
     listed' ++ all_left lines.from lines.to left' ≡ (listed ++ chosen lines.from lines.to js) ++ all_left lines.from lines.to left
 
 abbrev pub HasRoomLeft : Left → Type 0
-HasRoomLeft (Part here level) = HasRoom here.start level here.node.now.value
+HasRoomLeft (Part here level) = HasRoom here.start level (seen_tree here.node)
 HasRoomLeft (One entry) = ⊤
 
 -- how many steps the list takes at most
 abbrev pub steps_left : Left → ℕ
-steps_left (Part here level) = 2 * tree_size here.node.now.value
+steps_left (Part here level) = 2 * tree_size (seen_tree here.node)
 steps_left (One entry) = 1
 
 abbrev pub all_steps : List Left → ℕ

@@ -1,17 +1,23 @@
 -- What a node is as a tree.
 use Rattle.std.specs.Prelude.{ℕ, ◌+◌}
 use Rattle.bracket_tree_rules.specs.Tree.{Tree, text, pair, stray, capped, nothing, two, three}
+use Rattle.bracket_nodes.specs.declared.node.Link.{Link}
+use Rattle.bracket_nodes.specs.declared.node.Link.TheVariants.{Here, Shared}
 use Rattle.bracket_nodes.specs.declared.node.Shape.{Shape}
-use Rattle.bracket_nodes.specs.declared.node.Shape.TheVariants.{Text, Pair, Stray, Capped, Nothing, Two, Three}
+use Rattle.bracket_nodes.specs.declared.node.Shape.TheVariants.{Text, Pair, Stray, Capped, Two, Three}
+use Rattle.bracket_nodes.specs.Forms.{form_tree}
+
+abbrev pub link_tree : Link → Tree
+link_tree (Here leaf) = form_tree leaf
+link_tree (Shared inner) = inner.value
 
 abbrev pub tree_of : Shape → Tree
 tree_of (Text l) = text l
-tree_of (Pair kind open_width inside close_width) = pair kind open_width inside.value close_width
+tree_of (Pair kind open_width inside close_width) = pair kind open_width (link_tree inside) close_width
 tree_of (Stray kind width) = stray kind width
 tree_of (Capped kind width) = capped kind width
-tree_of Nothing = nothing
-tree_of (Two a b) = two a.value b.value
-tree_of (Three a b c) = three a.value b.value c.value
+tree_of (Two a b) = two (link_tree a) (link_tree b)
+tree_of (Three a b c) = three (link_tree a) (link_tree b) (link_tree c)
 
 -- how many nodes a tree has
 abbrev pub tree_size : Tree → ℕ

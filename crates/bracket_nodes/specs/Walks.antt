@@ -4,7 +4,7 @@ use Rattle.text_lengths.specs.declared.Length.{Length}
 use Rattle.bracket_rules.specs.declared.Entry.{Entry}
 use Rattle.std.specs.Option.{option_map}
 use Rattle.bracket_rules.specs.Parse.{Spot, Judged, entries_of, entries_between, partner_at}
-use Rattle.bracket_tree_rules.specs.Tree.{Tree, text, pair, stray, capped, nothing, two, three, weight, nesting, inside_end, tree_entries, tree_partner}
+use Rattle.bracket_tree_rules.specs.Tree.{Tree, text, pair, stray, capped, nothing, two, three, weight, nesting, inside_end, tree_entries, tree_partner, IsTree}
 
 -- the level after entries that end at this one, counted from the level of their tree, or the level before them
 abbrev pub level_from : ℕ → ℕ → Option ℕ → ℕ
@@ -16,6 +16,7 @@ place_and_len s = (s.place, s.len)
 
 -- the places and levels of a tree that starts here, at this level, fit 64 bits
 pub record HasRoom (start : Length) (level : ℕ) (t : Tree) : Type 0 where
+  pub tree : IsTree t
   pub places : start.lines + start.columns + weight t < 2 ^ 64
   pub levels : level + nesting t < 2 ^ 64
 

@@ -1,17 +1,19 @@
 // What a reader asks of a node of an old tree: whether it may be taken, and whether a bracket of it starts here.
 ghost use Rattle.std.specs.Prelude.{◌≡◌, ◌≢◌, ◌+◌, ◌<◌, ◌≤◌, ◌^◌, ◌⊎◌, ◌↔◌, Some, None, IsTrue, IfOk, IfSome, IfNone};
-ghost use Rattle.bracket_tree_rules.specs.Tree.{tree_length};
+ghost use Rattle.bracket_tree_rules.specs.Tree.{tree_length, IsTree};
 ghost use Rattle.bracket_tree_rules.specs.Told.{Fits};
 ghost use Rattle.bracket_tree_rules.specs.Places.{touched, MayBeTaken};
 ghost use Rattle.bracket_tree_rules.specs.Found.{token_at, IsTakenHere, IsTokenAt};
 ghost use Rattle.bracket_tree_rules.specs.Parts.{NoOwnBracketAt};
 ghost use Rattle.bracket_nodes.specs.Borrowed.{node_of};
 ghost use Rattle.bracket_nodes.specs.Parts.{reach};
+ghost use Rattle.bracket_nodes.specs.Forms.{IsSound};
+ghost use Rattle.bracket_nodes.specs.Seen.{seen_tree};
 
+use crate::kept::wide;
 use crate::kinds::Kinds;
-use crate::lists::{Shared, is_nothing};
-use crate::makers::wide;
-use crate::node::{Inner, Node, Shape};
+use crate::link::{Seen, Shown};
+use crate::node::Node;
 use crate::placed::Placed;
 use bracket_rules::{MOST_OPEN, Token};
 use std::alloc::AllocError;
@@ -20,7 +22,7 @@ use text_lengths::Length;
 /// A node of a tree, borrowed.
 #[derive(Drop)]
 pub struct NodeRef<'a> {
-    pub(crate) inner: &'a Shared,
+    pub(crate) seen: Seen<'a>,
 }
 
 impl<'a> NodeRef<'a> {
@@ -28,15 +30,15 @@ impl<'a> NodeRef<'a> {
     pub fn share(&self) -> Result<Node, AllocError>
         ensures { IfOk result (λ node. node ≡ node_of self.now) }
     {
-        let inner = self.inner.clone()?;
-        Ok(Node { inner })
+        let link = self.seen.share_checked()?;
+        Ok(Node { link })
     }
 
     /// The node's length.
     pub fn length(&self) -> Length
         ensures { result ≡ tree_length (node_of self.now) }
     {
-        self.inner.kept().length
+        self.seen.length()
     }
 }
 
@@ -51,17 +53,19 @@ pub(crate) struct Room {
 
 // Whether the node starts at the place, and may be taken there.
 pub(crate) fn is_taken_here(here: &Placed, place: &Length, room: &Room) -> bool
-    ensures { IsTrue result ↔ IsTakenHere here.now.start here.now.node.now.value place.now
+    requires { IsSound (seen_tree here.now.node) }
+    ensures { IsTrue result ↔ IsTakenHere here.now.start (seen_tree here.now.node) place.now
         room.now.lines room.now.opened room.now.level }
 {
-    here.start == *place && may_be_taken(here.node, room)
+    here.start == *place && may_be_taken(&here.node, room)
 }
 
-fn may_be_taken(inner: &Shared, room: &Room) -> bool
+fn may_be_taken(node: &Seen, room: &Room) -> bool
+    requires { IsSound (seen_tree node.now) }
     ensures { IsTrue result
-        ↔ MayBeTaken room.now.lines room.now.opened room.now.level inner.now.value }
+        ↔ MayBeTaken room.now.lines room.now.opened room.now.level (seen_tree node.now) }
 {
-    !is_nothing(inner) && is_within(&inner.kept().length, room.lines) && fits(inner, room)
+    !node.is_nothing() && is_within(&node.kept().length, room.lines) && fits(node, room)
 }
 
 // Whether a text of this length touches no more lines.
@@ -75,10 +79,11 @@ fn is_within(length: &Length, lines: u64) -> bool
     }
 }
 
-fn fits(inner: &Inner, room: &Room) -> bool
-    ensures { IsTrue result ↔ Fits room.now.opened room.now.level inner.now }
+fn fits(node: &Seen, room: &Room) -> bool
+    requires { IsSound (seen_tree node.now) }
+    ensures { IsTrue result ↔ Fits room.now.opened room.now.level (seen_tree node.now) }
 {
-    let kept = inner.kept();
+    let kept = node.kept();
     kept.closed
         && !kept.capped
         && kept.missing.is_apart_from(room.opened)
@@ -95,25 +100,26 @@ fn has_room(level: u64, nesting: u64) -> bool
 #[tactic(auto, using(bracket_tree_rules::proofs::BracketAt::own_brackets))]
 // The bracket at the place that stands in the node and in no part of it.
 pub(crate) fn bracket_here(here: &Placed, place: &Length) -> Option<Token>
-    requires { reach here.now < 2 ^ 64 }
-    ensures some { IfSome result (IsTokenAt here.now.start here.now.node.now.value place.now) }
-    ensures none { IfNone result (NoOwnBracketAt here.now.start here.now.node.now.value place.now) }
+    requires tree { IsTree (seen_tree here.now.node) }
+    requires fits { reach here.now < 2 ^ 64 }
+    ensures some { IfSome result (IsTokenAt here.now.start (seen_tree here.now.node) place.now) }
+    ensures none { IfNone result (NoOwnBracketAt here.now.start (seen_tree here.now.node) place.now) }
 {
     let node = here.node;
-    match &node.shape {
-        Shape::Pair(kind, opening, inside, closing) => {
+    match node.shown() {
+        Shown::Pair(kind, opening, inside, closing) => {
             if here.start == *place {
-                return Some(token_at(place, *opening, *kind, true));
+                return Some(token_at(place, opening, kind, true));
             }
-            let ends = inside.end(&here.start.plus(&wide(*opening)));
-            let width = closing_at(*closing, &ends, place)?;
-            Some(token_at(place, width, *kind, false))
+            let ends = inside.end(&here.start.plus(&wide(opening)));
+            let width = closing_at(closing, &ends, place)?;
+            Some(token_at(place, width, kind, false))
         }
-        Shape::Stray(kind, width) if here.start == *place => {
-            Some(token_at(place, *width, *kind, false))
+        Shown::Stray(kind, width) if here.start == *place => {
+            Some(token_at(place, width, kind, false))
         }
-        Shape::Capped(kind, width) if here.start == *place => {
-            Some(token_at(place, *width, *kind, true))
+        Shown::Capped(kind, width) if here.start == *place => {
+            Some(token_at(place, width, kind, true))
         }
         _ => None,
     }

@@ -1,6 +1,7 @@
 // What a node keeps of its subtree.
 ghost use Rattle.std.specs.Prelude.{◌≡◌, ◌+◌, ◌<◌, ◌^◌};
-ghost use Rattle.bracket_nodes.specs.Kept.{later, both_of};
+ghost use Rattle.bracket_tree_rules.specs.Tree.{wide};
+ghost use Rattle.bracket_nodes.specs.Kept.{later, both_of, leaf_kept};
 
 use crate::kinds::Kinds;
 use text_lengths::Length;
@@ -17,6 +18,22 @@ pub(crate) struct Kept {
     pub nesting: u64,
     // The level after the last entry, counted from the level of the node.
     pub last_level: Option<u64>,
+}
+
+// What is kept of a leaf whose level after its last entry is this one.
+pub(crate) fn leaf_kept(length: Length, missing: Kinds, last_level: Option<u64>) -> Kept
+    ensures { result ≡ leaf_kept length missing last_level }
+{
+    Kept {
+        length,
+        missing,
+        closed: true,
+        capped: false,
+        height: 0,
+        highest: 0,
+        nesting: 0,
+        last_level,
+    }
 }
 
 // What is kept of a list of this height with these two parts.
@@ -40,4 +57,11 @@ fn later(first: Option<u64>, second: Option<u64>) -> Option<u64>
     ensures { result ≡ later first second }
 {
     second.or(first)
+}
+
+/// Some columns of a line.
+pub(crate) fn wide(columns: u64) -> Length
+    ensures { result ≡ wide columns }
+{
+    Length { lines: 0, columns }
 }

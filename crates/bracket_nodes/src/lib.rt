@@ -6,6 +6,8 @@ mod find;
 mod joiner;
 mod kept;
 mod kinds;
+mod leaf;
+mod link;
 mod listing;
 mod lists;
 mod lookups;

@@ -5,10 +5,12 @@ ghost use Rattle.bracket_tree_rules.specs.Tree.{tree_story, closing_entries, clo
 ghost use Rattle.bracket_nodes.specs.Shapes.{tree_size};
 ghost use Rattle.bracket_nodes.specs.Listing.{all_steps, HasRoomLeft, LeavesFirst, ListsFirst};
 ghost use Rattle.bracket_nodes.specs.Parts.{entries_at};
+ghost use Rattle.bracket_nodes.specs.Seen.{seen_tree};
 ghost use Rattle.bracket_nodes.specs.Walks.{HasRoom, chosen, entry_if};
 
-use crate::makers::wide;
-use crate::node::{Node, Shape};
+use crate::kept::wide;
+use crate::link::Shown;
+use crate::node::Node;
 use crate::placed::Placed;
 use bracket_rules::{Entry, Status};
 use std::alloc::AllocError;
@@ -39,7 +41,7 @@ impl Node {
         ensures err { OnErr result (out.new.items ≡ out.old.items) }
     {
         let count = out.len();
-        let pushed = push_entries(Placed::whole(&self.inner), LineRange { from, to }, out);
+        let pushed = push_entries(Placed::whole(self.link.seen()), LineRange { from, to }, out);
         if pushed.is_err() {
             out.truncate(count);
         }
@@ -56,7 +58,7 @@ enum Left<'a> {
 
 // Appends the entries of a whole tree; on want of memory only some.
 fn push_entries(whole: Placed<'_>, lines: LineRange, out: &mut Vec<Entry>) -> Result<(), AllocError>
-    requires { HasRoom whole.start 0 whole.node.now.value }
+    requires { HasRoom whole.start 0 (seen_tree whole.node) }
     ensures ok { OnOk result (out.new.items
         ≡ out.old.items ++ chosen lines.from lines.to (entries_at whole.entry 0)) }
     ensures err { OnErr result (take (length out.old.items) out.new.items ≡ out.old.items) }
@@ -82,12 +84,12 @@ fn push_first<'a>(
     left: &mut Vec<Left<'a>>,
     out: &mut Vec<Entry>,
 ) -> Result<(), AllocError>
-    requires { HasRoom here.start level here.node.now.value }
+    requires { HasRoom here.start level (seen_tree here.node) }
     ensures listed { OnOk result (ListsFirst lines (entries_at here.entry level)
         out.old.items left.old.items out.new.items left.new.items) }
     ensures room { OnOk result (All HasRoomLeft left.old.items → All HasRoomLeft left.new.items) }
     ensures fewer { OnOk result (all_steps left.new.items
-        < all_steps left.old.items + 2 * tree_size here.entry.node.now.value) }
+        < all_steps left.old.items + 2 * tree_size (seen_tree here.entry.node)) }
     ensures front { take (length out.old.items) out.new.items ≡ out.old.items }
 {
     let node = here.node;
@@ -95,31 +97,31 @@ fn push_first<'a>(
     if end.lines < lines.from || lines.to < here.start.lines {
         return Ok(());
     }
-    match &node.shape {
-        Shape::Pair(kind, opening, inside, closing) => {
-            let start = here.start.plus(&wide(*opening));
+    match node.shown() {
+        Shown::Pair(kind, opening, inside, closing) => {
+            let start = here.start.plus(&wide(opening));
             push_if(
                 lines,
-                opening_entry(here.start, *opening, *kind, level, *closing),
+                opening_entry(here.start, opening, kind, level, closing),
                 out,
             )?;
-            leave_closing(left, inside.end(&start), *kind, level, *closing)?;
+            leave_closing(left, inside.end(&start), kind, level, closing)?;
             let inside = Placed {
                 start,
                 node: inside,
             };
             leave(left, inside, level + 1)?;
         }
-        Shape::Stray(kind, width) => {
-            let entry = entry(here.start, *width, *kind, Status::Unexpected, level);
+        Shown::Stray(kind, width) => {
+            let entry = entry(here.start, width, kind, Status::Unexpected, level);
             push_if(lines, entry, out)?;
         }
-        Shape::Two(a, b) => {
+        Shown::Two(a, b) => {
             let first = here.first(a);
             leave(left, first.next(b), level)?;
             leave(left, first, level)?;
         }
-        Shape::Three(a, b, c) => {
+        Shown::Three(a, b, c) => {
             let first = here.first(a);
             let second = first.next(b);
             leave(left, second.next(c), level)?;
@@ -134,12 +136,12 @@ fn push_first<'a>(
 #[tactic(auto, using(crate::proofs::ListedEntries::pushes))]
 // Leaves a part for later, before all that was left.
 fn leave<'a>(left: &mut Vec<Left<'a>>, here: Placed<'a>, level: u64) -> Result<(), AllocError>
-    requires { HasRoom here.start level here.node.now.value }
+    requires { HasRoom here.start level (seen_tree here.node) }
     ensures entries { OnOk result
         (LeavesFirst (entries_at here.entry level) left.old.items left.new.items) }
     ensures room { OnOk result (All HasRoomLeft left.old.items → All HasRoomLeft left.new.items) }
     ensures steps { OnOk result (all_steps left.new.items
-        ≡ 2 * tree_size here.entry.node.now.value + all_steps left.old.items) }
+        ≡ 2 * tree_size (seen_tree here.entry.node) + all_steps left.old.items) }
 {
     left.push(Left::Part(here, level))?;
     Ok(())

@@ -1,45 +1,51 @@
 // Lists as (2,3)-trees, and how two of them are joined.
-ghost use Rattle.std.specs.Prelude.{◌≡◌, ◌+◌, ◌<◌, ◌≤◌, ◌^◌, ◌++◌, false, IfOk, suc};
-ghost use Rattle.bracket_tree_rules.specs.Tree.{two, three, height, weight, is_nothing, IsEven, items};
-ghost use Rattle.bracket_nodes.specs.Lists.{AreListsOf, sibling_height, sibling_items, sibling_weight, Joins};
+ghost use Rattle.std.specs.Prelude.{◌≡◌, ◌+◌, ◌<◌, ◌≤◌, ◌^◌, ◌++◌, false, IfOk, IsTrue, suc};
+ghost use Rattle.bracket_tree_rules.specs.Tree.{two, three, height, weight, is_nothing, IsEven, IsTree, items};
+ghost use Rattle.bracket_nodes.specs.Shapes.{link_tree};
+ghost use Rattle.bracket_nodes.specs.Seen.{seen_tree};
+ghost use Rattle.bracket_nodes.specs.Lists.{AreListsOf, sibling_height, sibling_items, sibling_weight, Joins, JoinsThree};
 
 use crate::kept::both;
-use crate::node::{Inner, Shape};
+use crate::link::{Seen, Shown};
+use crate::node::{Inner, Link, Shape};
 use std::alloc::{AllocError, Global};
 use std::rc::Rc;
-
-pub(crate) type Shared = Rc<Inner>;
 
 // One list, or two of one height, side by side.
 #[derive(Drop)]
 pub(crate) enum Siblings {
-    One(Shared),
-    Two(Shared, Shared),
+    One(Link),
+    Two(Link, Link),
 }
 
-pub(crate) fn two_of(alloc: Global, a: Shared, b: Shared) -> Result<Shared, AllocError>
-    requires even { IsEven a.value b.value }
-    requires fits { weight a.value + weight b.value < 2 ^ 64 }
-    ensures { IfOk result (λ list. list.value ≡ two a.value b.value) }
+pub(crate) fn two_of(alloc: Global, a: Link, b: Link) -> Result<Link, AllocError>
+    requires even { IsEven (link_tree a) (link_tree b) }
+    requires fits { weight (link_tree a) + weight (link_tree b) < 2 ^ 64 }
+    ensures { IfOk result (λ list. (link_tree list) ≡ two (link_tree a) (link_tree b)) }
 {
+    if let (Link::Here(first), Link::Here(second)) = (&a, &b) {
+        if let Some(leaf) = first.two(*second) {
+            return Ok(Link::Here(leaf));
+        }
+    }
     let first = a.kept();
     let second = b.kept();
     let kept = both(first, second, first.height + 1);
     let shape = Shape::Two(a, b);
-    Ok(Rc::new(alloc, Inner { shape, kept })?)
+    Ok(Link::Shared(Rc::new(alloc, Inner { shape, kept })?))
 }
 
-pub(crate) fn three_of(alloc: Global, a: Shared, b: Shared, c: Shared) -> Result<Shared, AllocError>
-    requires first { IsEven a.value b.value }
-    requires second { IsEven b.value c.value }
-    requires fits { weight a.value + (weight b.value + weight c.value) < 2 ^ 64 }
-    ensures { IfOk result (λ list. list.value ≡ three a.value b.value c.value) }
+pub(crate) fn three_of(alloc: Global, a: Link, b: Link, c: Link) -> Result<Link, AllocError>
+    requires first { IsEven (link_tree a) (link_tree b) }
+    requires second { IsEven (link_tree b) (link_tree c) }
+    requires fits { weight (link_tree a) + (weight (link_tree b) + weight (link_tree c)) < 2 ^ 64 }
+    ensures { IfOk result (λ list. (link_tree list) ≡ three (link_tree a) (link_tree b) (link_tree c)) }
 {
     let first = a.kept();
     let rest = both(b.kept(), c.kept(), first.height);
     let kept = both(first, rest, first.height + 1);
     let shape = Shape::Three(a, b, c);
-    Ok(Rc::new(alloc, Inner { shape, kept })?)
+    Ok(Link::Shared(Rc::new(alloc, Inner { shape, kept })?))
 }
 
 // The lists a step higher that have the lists of both as their parts, in order.
@@ -67,88 +73,115 @@ fn grouped(alloc: Global, first: Siblings, second: Siblings) -> Result<Siblings,
 }
 
 // The list with the nodes of `last`, which is no higher, after its own.
-fn append(alloc: Global, list: &Shared, last: Shared) -> Result<Siblings, AllocError>
-    requires lower { height last.value ≤ height list.now.value }
-    requires some { is_nothing list.now.value ≡ false }
-    requires last_some { is_nothing last.value ≡ false }
-    requires fits { weight list.now.value + weight last.value < 2 ^ 64 }
-    ensures level { IfOk result (AreListsOf (height list.now.value)) }
+fn append(alloc: Global, list: &Seen, last: Link) -> Result<Siblings, AllocError>
+    requires lower { height (link_tree last) ≤ height (seen_tree list.now) }
+    requires tree { IsTree (seen_tree list.now) }
+    requires some { is_nothing (seen_tree list.now) ≡ false }
+    requires last_some { is_nothing (link_tree last) ≡ false }
+    requires fits { weight (seen_tree list.now) + weight (link_tree last) < 2 ^ 64 }
+    ensures level { IfOk result (AreListsOf (height (seen_tree list.now))) }
     ensures in_order { IfOk result (λ lists.
-        sibling_items lists ≡ items list.now.value ++ items last.value) }
+        sibling_items lists ≡ items (seen_tree list.now) ++ items (link_tree last)) }
     ensures weighs { IfOk result (λ lists.
-        sibling_weight lists ≡ weight list.now.value + weight last.value) }
+        sibling_weight lists ≡ weight (seen_tree list.now) + weight (link_tree last)) }
 {
-    let inner: &Inner = list;
-    if inner.kept().height == last.kept().height {
-        return Ok(Siblings::Two(list.clone()?, last));
+    if list.kept().height == last.kept().height {
+        return Ok(Siblings::Two(list.share()?, last));
     }
-    match &inner.shape {
-        Shape::Two(a, b) => {
-            let grown = append(alloc, b, last)?;
-            grouped(alloc, Siblings::One(a.clone()?), grown)
+    match list.shown() {
+        Shown::Two(a, b) => {
+            let grown = append(alloc, &b, last)?;
+            grouped(alloc, Siblings::One(a.share()?), grown)
         }
-        Shape::Three(a, b, c) => {
-            let grown = append(alloc, c, last)?;
-            grouped(alloc, Siblings::Two(a.clone()?, b.clone()?), grown)
+        Shown::Three(a, b, c) => {
+            let grown = append(alloc, &c, last)?;
+            grouped(alloc, Siblings::Two(a.share()?, b.share()?), grown)
         }
         _ => unreachable!(),
     }
 }
 
 // The list with the nodes of `first`, which is no higher, before its own.
-fn prepend(alloc: Global, first: Shared, list: &Shared) -> Result<Siblings, AllocError>
-    requires lower { height first.value ≤ height list.now.value }
-    requires first_some { is_nothing first.value ≡ false }
-    requires some { is_nothing list.now.value ≡ false }
-    requires fits { weight first.value + weight list.now.value < 2 ^ 64 }
-    ensures level { IfOk result (AreListsOf (height list.now.value)) }
+fn prepend(alloc: Global, first: Link, list: &Seen) -> Result<Siblings, AllocError>
+    requires lower { height (link_tree first) ≤ height (seen_tree list.now) }
+    requires first_some { is_nothing (link_tree first) ≡ false }
+    requires tree { IsTree (seen_tree list.now) }
+    requires some { is_nothing (seen_tree list.now) ≡ false }
+    requires fits { weight (link_tree first) + weight (seen_tree list.now) < 2 ^ 64 }
+    ensures level { IfOk result (AreListsOf (height (seen_tree list.now))) }
     ensures in_order { IfOk result (λ lists.
-        sibling_items lists ≡ items first.value ++ items list.now.value) }
+        sibling_items lists ≡ items (link_tree first) ++ items (seen_tree list.now)) }
     ensures weighs { IfOk result (λ lists.
-        sibling_weight lists ≡ weight first.value + weight list.now.value) }
+        sibling_weight lists ≡ weight (link_tree first) + weight (seen_tree list.now)) }
 {
-    let inner: &Inner = list;
-    if inner.kept().height == first.kept().height {
-        return Ok(Siblings::Two(first, list.clone()?));
+    if list.kept().height == first.kept().height {
+        return Ok(Siblings::Two(first, list.share()?));
     }
-    match &inner.shape {
-        Shape::Two(a, b) => {
-            let grown = prepend(alloc, first, a)?;
-            grouped(alloc, grown, Siblings::One(b.clone()?))
+    match list.shown() {
+        Shown::Two(a, b) => {
+            let grown = prepend(alloc, first, &a)?;
+            grouped(alloc, grown, Siblings::One(b.share()?))
         }
-        Shape::Three(a, b, c) => {
-            let grown = prepend(alloc, first, a)?;
-            grouped(alloc, grown, Siblings::Two(b.clone()?, c.clone()?))
+        Shown::Three(a, b, c) => {
+            let grown = prepend(alloc, first, &a)?;
+            grouped(alloc, grown, Siblings::Two(b.share()?, c.share()?))
         }
         _ => unreachable!(),
     }
 }
 
-pub(crate) fn is_nothing(list: &Shared) -> bool
-    ensures { result ≡ is_nothing list.now.value }
-{
-    let inner: &Inner = list;
-    matches!(inner.shape, Shape::Nothing)
-}
-
 /// The list of the nodes of both, in order.
-pub(crate) fn join(alloc: Global, first: Shared, second: Shared) -> Result<Shared, AllocError>
-    requires fits { weight first.value + weight second.value < 2 ^ 64 }
-    ensures { IfOk result (λ list. Joins first.value second.value list.value) }
+pub(crate) fn join(alloc: Global, first: Link, second: Link) -> Result<Link, AllocError>
+    requires fits { weight (link_tree first) + weight (link_tree second) < 2 ^ 64 }
+    ensures { IfOk result (λ list. Joins (link_tree first) (link_tree second) (link_tree list)) }
 {
-    if is_nothing(&first) {
+    if first.is_nothing() {
         return Ok(second);
     }
-    if is_nothing(&second) {
+    if second.is_nothing() {
         return Ok(first);
     }
     let grown = if second.kept().height <= first.kept().height {
-        append(alloc, &first, second)?
+        append(alloc, &first.seen(), second)?
     } else {
-        prepend(alloc, first, &second)?
+        prepend(alloc, first, &second.seen())?
     };
     match grown {
         Siblings::One(list) => Ok(list),
         Siblings::Two(a, b) => two_of(alloc, a, b),
+    }
+}
+
+/// The list of the nodes of all three, in order.
+pub(crate) fn join_three(
+    alloc: Global,
+    first: Link,
+    second: Link,
+    third: Link,
+) -> Result<Link, AllocError>
+    requires fits { weight (link_tree first)
+        + (weight (link_tree second) + weight (link_tree third)) < 2 ^ 64 }
+    ensures { IfOk result (λ list.
+        JoinsThree (link_tree first) (link_tree second) (link_tree third) (link_tree list)) }
+{
+    if are_even(&first, &second) && are_even(&second, &third) {
+        return three_of(alloc, first, second, third);
+    }
+    let rest = join(alloc, second, third)?;
+    join(alloc, first, rest)
+}
+
+// Whether the two may stand side by side in a list.
+fn are_even(a: &Link, b: &Link) -> bool
+    ensures { IsTrue result → IsEven (link_tree a.now) (link_tree b.now) }
+{
+    a.kept().height == b.kept().height && !a.is_nothing() && !b.is_nothing()
+}
+
+/// Whether both are line breaks of one height, whose list takes no memory.
+pub(crate) fn are_breaks(a: &Link, b: &Link) -> bool {
+    match (a, b) {
+        (Link::Here(first), Link::Here(second)) => first.goes_with(*second),
+        _ => false,
     }
 }

@@ -3,15 +3,16 @@ ghost use Rattle.std.specs.Prelude.{◌≡◌, ◌+◌, ◌<◌, ◌≤◌, ◌^
 ghost use Rattle.std.specs.Option.{option_map};
 ghost use Rattle.text_lengths.specs.Length.{length_plus, is_before};
 ghost use Rattle.bracket_rules.specs.Parse.{partner_at};
-ghost use Rattle.bracket_tree_rules.specs.Tree.{tree_length, is_some_width, tree_level, tree_partner};
+ghost use Rattle.bracket_tree_rules.specs.Tree.{tree_length, is_some_width, tree_level, tree_partner, IsTree};
 ghost use Rattle.bracket_nodes.specs.Kept.{last_level};
 ghost use Rattle.bracket_nodes.specs.LevelSteps.{IsLevelStep};
 ghost use Rattle.bracket_nodes.specs.Parts.{entries_at, reach};
+ghost use Rattle.bracket_nodes.specs.Seen.{seen_tree};
 ghost use Rattle.bracket_nodes.specs.Walks.{HasRoom, level_from, place_and_len, NoOwnPartnerAt};
 
-use crate::lists::Shared;
-use crate::makers::wide;
-use crate::node::{Node, Shape};
+use crate::kept::wide;
+use crate::link::{Seen, Shown};
+use crate::node::Node;
 use crate::placed::Placed;
 use text_lengths::Length;
 
@@ -22,7 +23,7 @@ impl Node {
         ensures { result ≡ tree_level self.now place }
     {
         let mut walk = LevelWalk {
-            here: Placed::whole(&self.inner),
+            here: Placed::whole(self.link.seen()),
             level: 0,
             before: 0,
         };
@@ -39,7 +40,7 @@ impl Node {
     pub fn partner_of(&self, place: Length) -> Option<(Length, u64)>
         ensures { result ≡ option_map place_and_len (tree_partner self.now place) }
     {
-        let mut here = Placed::whole(&self.inner);
+        let mut here = Placed::whole(self.link.seen());
         loop {
             if let Some(found) = partner_here(&here, &place) {
                 return Some(found);
@@ -68,27 +69,27 @@ impl<'a> LevelWalk<'a> {
     #[tactic(auto, using(crate::proofs::LevelWalk::level_steps))]
     // On to the part that tells the level at the place.
     fn step(&self, place: &Length) -> LevelStep<'a>
-        requires { HasRoom self.now.here.start self.now.level self.now.here.node.now.value }
+        requires { HasRoom self.now.here.start self.now.level (seen_tree self.now.here.node) }
         ensures { IsLevelStep self.now place.now result }
     {
         let node = self.here.node;
-        match &node.shape {
-            Shape::Text(_) | Shape::Capped(_, _) | Shape::Nothing => LevelStep::At(self.before),
-            Shape::Stray(_, _) => {
+        match node.shown() {
+            Shown::Text(_) | Shown::Capped(_, _) | Shown::Nothing => LevelStep::At(self.before),
+            Shown::Stray(_, _) => {
                 let is_past = self.here.start.before(place);
                 LevelStep::At(if is_past { self.level } else { self.before })
             }
-            Shape::Pair(_, opening, inside, closing) => {
+            Shown::Pair(_, opening, inside, closing) => {
                 if !self.here.start.before(place) {
                     return LevelStep::At(self.before);
                 }
-                let inside = self.here.inside(*opening, inside);
-                if closes_before(*closing, &inside.node.end(&inside.start), place) {
+                let inside = self.here.inside(opening, inside);
+                if closes_before(closing, &inside.node.end(&inside.start), place) {
                     return LevelStep::At(self.level);
                 }
                 LevelStep::On(within(inside, self.level + 1, self.level + 1))
             }
-            Shape::Two(a, b) => {
+            Shown::Two(a, b) => {
                 let first = within(self.here.first(a), self.level, self.before);
                 let second = first.past(b);
                 if !second.here.start.before(place) {
@@ -96,7 +97,7 @@ impl<'a> LevelWalk<'a> {
                 }
                 LevelStep::On(second)
             }
-            Shape::Three(a, b, c) => {
+            Shown::Three(a, b, c) => {
                 let first = within(self.here.first(a), self.level, self.before);
                 let second = first.past(b);
                 if !second.here.start.before(place) {
@@ -112,15 +113,15 @@ impl<'a> LevelWalk<'a> {
     }
 
     // On to the node that stands after this one in a list.
-    fn past(&self, node: &'a Shared) -> LevelWalk<'a>
-        requires { HasRoom self.now.here.start self.now.level self.now.here.node.now.value }
+    fn past(&self, node: Seen<'a>) -> LevelWalk<'a>
+        requires { HasRoom self.now.here.start self.now.level (seen_tree self.now.here.node) }
         ensures start { result.here.start
-            ≡ length_plus self.now.here.start (tree_length self.now.here.node.now.value) }
+            ≡ length_plus self.now.here.start (tree_length (seen_tree self.now.here.node)) }
         ensures fits { result.here.start.lines + result.here.start.columns ≤ reach self.now.here }
-        ensures node { result.here.node.now.value ≡ node.now.value }
+        ensures node { seen_tree result.here.node ≡ seen_tree node.entry }
         ensures level { result.level ≡ self.now.level }
         ensures before { result.before
-            ≡ level_from self.now.level self.now.before (last_level self.now.here.node.now.value) }
+            ≡ level_from self.now.level self.now.before (last_level (seen_tree self.now.here.node)) }
     {
         let last = self.here.node.kept().last_level;
         let before = level_from(self.level, self.before, last);
@@ -130,7 +131,7 @@ impl<'a> LevelWalk<'a> {
 
 fn within<'a>(here: Placed<'a>, level: u64, before: u64) -> LevelWalk<'a>
     ensures start { result.here.start ≡ here.entry.start }
-    ensures node { result.here.node.now.value ≡ here.entry.node.now.value }
+    ensures node { (seen_tree result.here.node) ≡ (seen_tree here.entry.node) }
     ensures level { result.level ≡ level }
     ensures before { result.before ≡ before }
 {
@@ -161,21 +162,22 @@ fn level_from(level: u64, before: u64, last: Option<u64>) -> u64
 #[tactic(auto, using(crate::proofs::PartnerWalk::own_partners))]
 // The partner of a bracket at the place that stands in the node and in no part of it.
 fn partner_here(here: &Placed, place: &Length) -> Option<(Length, u64)>
-    requires { reach here.now < 2 ^ 64 }
+    requires tree { IsTree (seen_tree here.now.node) }
+    requires fits { reach here.now < 2 ^ 64 }
     ensures some { IfSome result (λ found. (level : ℕ) →
         option_map place_and_len (partner_at place.now (entries_at here.now level)) ≡ Some found) }
-    ensures none { IfNone result (NoOwnPartnerAt here.now.start here.now.node.now.value place.now) }
+    ensures none { IfNone result (NoOwnPartnerAt here.now.start (seen_tree here.now.node) place.now) }
 {
     let node = here.node;
-    let Shape::Pair(_, opening, inside, Some(closing)) = &node.shape else {
+    let Shown::Pair(_, opening, inside, Some(closing)) = node.shown() else {
         return None;
     };
-    let ends = inside.end(&here.start.plus(&wide(*opening)));
+    let ends = inside.end(&here.start.plus(&wide(opening)));
     if here.start == *place {
-        return Some((ends, *closing));
+        return Some((ends, closing));
     }
     if ends == *place {
-        return Some((here.start, *opening));
+        return Some((here.start, opening));
     }
     None
 }

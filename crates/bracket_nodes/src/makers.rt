@@ -1,34 +1,21 @@
 // The makers of nodes, each with what the node keeps of its subtree.
-ghost use Rattle.std.specs.Prelude.{◌≡◌, ◌+◌, ◌-◌, ◌<◌, ◌^◌, false, IfOk, unwrap_or, Some, None};
+ghost use Rattle.std.specs.Prelude.{◌≡◌, ◌+◌, ◌-◌, ◌<◌, ◌^◌, false, IfOk, IfSome, unwrap_or, Some, None};
 ghost use Rattle.std.specs.Option.{ForSome};
 ghost use Rattle.text_lengths.specs.Length.{length_plus};
-ghost use Rattle.bracket_tree_rules.specs.Tree.{text, pair, stray, capped, nothing, two, three, wide, width_of, is_missing, weight, IsGap, IsPair, IsLone, IsEven};
+ghost use Rattle.bracket_tree_rules.specs.Tree.{text, pair, stray, capped, wide, width_of, is_missing, weight, IsGap, IsPair};
 ghost use Rattle.bracket_nodes.specs.Bracket.{IsBracketLength, columns_of};
-ghost use Rattle.bracket_nodes.specs.Kept.{leaf_kept, later, inside_level};
+ghost use Rattle.bracket_nodes.specs.Forms.{form_tree};
+ghost use Rattle.bracket_nodes.specs.Kept.{inside_level};
+ghost use Rattle.bracket_nodes.specs.Shapes.{link_tree};
 
-use crate::kept::Kept;
+use crate::kept::{Kept, leaf_kept, wide};
 use crate::kinds::Kinds;
-use crate::node::{Inner, Node, Shape};
+use crate::leaf::Leaf;
+use crate::node::{Inner, Link, Node, Shape};
 use bracket_rules::MOST_PAIRS;
 use std::alloc::{AllocError, Global};
 use std::rc::Rc;
 use text_lengths::Length;
-
-// A leaf whose level after its last entry is this one.
-fn leaf(length: Length, missing: Kinds, last_level: Option<u64>) -> Kept
-    ensures { result ≡ leaf_kept length missing last_level }
-{
-    Kept {
-        length,
-        missing,
-        closed: true,
-        capped: false,
-        height: 0,
-        highest: 0,
-        nesting: 0,
-        last_level,
-    }
-}
 
 /// Units without brackets: some columns of a line, or the break that ends a line with what stands
 /// before it.
@@ -36,7 +23,10 @@ pub fn text_node(alloc: Global, length: Length) -> Result<Node, AllocError>
     requires { IsGap length }
     ensures { IfOk result (λ node. node ≡ text length) }
 {
-    let kept = leaf(length, Kinds::none(), None);
+    if let Some(leaf) = Leaf::text(length) {
+        return Ok(of_leaf(leaf));
+    }
+    let kept = leaf_kept(length, Kinds::none(), None);
     let shape = Shape::Text(length);
     shared(alloc, Inner { shape, kept })
 }
@@ -57,7 +47,10 @@ pub fn pair_node(
     ensures { IfOk result (λ node. node ≡ pair kind opening.columns inside (columns_of closing)) }
 {
     let closing = closing.map(|length| length.columns);
-    shared(alloc, pair(kind, opening.columns, inside.inner, closing))
+    if let Some(leaf) = short_pair(kind, opening.columns, &inside.link, closing) {
+        return Ok(of_leaf(leaf));
+    }
+    shared(alloc, pair(kind, opening.columns, inside.link, closing))
 }
 
 /// A closing bracket of this kind that closes none.
@@ -66,50 +59,63 @@ pub fn stray_node(alloc: Global, kind: u64, bracket: Length) -> Result<Node, All
     requires bracket { IsBracketLength bracket }
     ensures { IfOk result (λ node. node ≡ stray kind bracket.columns) }
 {
-    let kept = leaf(bracket, Kinds::one(kind), Some(0));
+    if let Some(leaf) = Leaf::stray(kind, bracket.columns) {
+        return Ok(of_leaf(leaf));
+    }
+    let kept = leaf_kept(bracket, Kinds::one(kind), Some(0));
     let shape = Shape::Stray(kind, bracket.columns);
     shared(alloc, Inner { shape, kept })
 }
 
 /// An opening bracket of this kind beyond the most that may be open.
+#[inline(never)]
 pub fn capped_node(alloc: Global, kind: u64, bracket: Length) -> Result<Node, AllocError>
     requires has_kind { kind < MOST_PAIRS }
     requires bracket { IsBracketLength bracket }
     ensures { IfOk result (λ node. node ≡ capped kind bracket.columns) }
 {
-    let mut kept = leaf(bracket, Kinds::none(), None);
-    kept.capped = true;
+    if let Some(leaf) = Leaf::capped(kind, bracket.columns) {
+        return Ok(of_leaf(leaf));
+    }
+    let kept = Kept {
+        capped: true,
+        ..leaf_kept(bracket, Kinds::none(), None)
+    };
     let shape = Shape::Capped(kind, bracket.columns);
     shared(alloc, Inner { shape, kept })
 }
 
-/// The list of no nodes.
-pub(crate) fn nothing() -> Inner
-    ensures { result ≡ nothing }
+fn of_leaf(leaf: Leaf) -> Node
+    ensures { result ≡ form_tree leaf }
 {
-    let kept = leaf(
-        Length {
-            lines: 0,
-            columns: 0,
-        },
-        Kinds::none(),
-        None,
-    );
-    let shape = Shape::Nothing;
-    Inner { shape, kept }
+    Node {
+        link: Link::Here(leaf),
+    }
 }
 
 fn shared(alloc: Global, inner: Inner) -> Result<Node, AllocError>
     ensures { IfOk result (λ node. node ≡ inner) }
 {
-    let inner = Rc::new(alloc, inner)?;
-    Ok(Node { inner })
+    let link = Link::Shared(Rc::new(alloc, inner)?);
+    Ok(Node { link })
 }
 
-fn pair(kind: u64, opening: u64, inside: Rc<Inner>, closing: Option<u64>) -> Inner
-    requires pair { IsPair kind opening inside.value closing }
-    requires fits { opening + (weight inside.value + width_of closing) < 2 ^ 64 }
-    ensures { result ≡ pair kind opening inside.value closing }
+// The pair, where it takes no memory of its own.
+fn short_pair(kind: u64, opening: u64, inside: &Link, closing: Option<u64>) -> Option<Leaf>
+    requires { IsPair kind opening (link_tree inside.now) closing }
+    ensures { IfSome result (λ leaf. form_tree leaf
+        ≡ pair kind opening (link_tree inside.now) closing) }
+{
+    match inside {
+        Link::Here(leaf) => leaf.pair(kind, opening, closing),
+        Link::Shared(_) => None,
+    }
+}
+
+fn pair(kind: u64, opening: u64, inside: Link, closing: Option<u64>) -> Inner
+    requires pair { IsPair kind opening (link_tree inside) closing }
+    requires fits { opening + (weight (link_tree inside) + width_of closing) < 2 ^ 64 }
+    ensures { result ≡ pair kind opening (link_tree inside) closing }
 {
     let part = inside.kept();
     let kept = Kept {
@@ -131,12 +137,6 @@ fn pair_length(opening: u64, inside: Length, closing: u64) -> Length
     ensures { result ≡ length_plus (length_plus (wide opening) inside) (wide closing) }
 {
     wide(opening).plus(&inside).plus(&wide(closing))
-}
-
-pub(crate) fn wide(columns: u64) -> Length
-    ensures { result ≡ wide columns }
-{
-    Length { lines: 0, columns }
 }
 
 fn inside_level(level: Option<u64>, closing: Option<u64>) -> Option<u64>

@@ -1,14 +1,14 @@
 // The nodes of a bracket tree.
 ghost use Rattle.std.specs.Prelude.{◌≡◌, ◌+◌, ◌<◌, ◌≤◌, ◌^◌, ℕ, IfOk};
-ghost use Rattle.text_lengths.specs.Length.{length_plus};
 ghost use Rattle.bracket_tree_rules.specs.Told.{has_kind};
 ghost use Rattle.bracket_tree_rules.specs.Tree.{tree_length, is_missing, is_closed, is_capped, nesting, height, highest, weight, IsTree};
 ghost use Rattle.bracket_nodes.specs.Kept.{Keeps};
-ghost use Rattle.bracket_nodes.specs.Shapes.{tree_size};
+ghost use Rattle.bracket_nodes.specs.Shapes.{link_tree, tree_size};
 ghost use Rattle.bracket_nodes.specs.Bounds.{IsBounded};
 
 use crate::kept::Kept;
 use crate::kinds::Kinds;
+use crate::leaf::Leaf;
 use std::alloc::AllocError;
 use std::marker::Model;
 use std::rc::Rc;
@@ -17,7 +17,7 @@ use text_lengths::Length;
 /// A node of a bracket tree. It is immutable, and its parts may belong to other trees too.
 #[derive(Drop)]
 pub struct Node {
-    pub(crate) inner: Rc<Inner>,
+    pub(crate) link: Link,
 }
 
 impl Model for Node {
@@ -28,7 +28,9 @@ impl Model for Node {
 
     ghost coded = { tree_code };
 
-    ghost view = { λ node. node.inner.value };
+    ghost use Rattle.bracket_nodes.specs.Shapes.{link_tree};
+
+    ghost view = { λ node. link_tree node.link };
 }
 
 impl Node {
@@ -36,8 +38,8 @@ impl Node {
     pub fn share(&self) -> Result<Node, AllocError>
         ensures { IfOk result (λ node. node ≡ self.now) }
     {
-        let inner = self.inner.clone()?;
-        Ok(Node { inner })
+        let link = self.link.seen().share()?;
+        Ok(Node { link })
     }
 
     /// The tree's length. Every tree meets the rules of nodes, and its leaves together fit 64 bits.
@@ -46,42 +48,42 @@ impl Node {
         ensures tree { IsTree self.now }
         ensures light { weight self.now < 2 ^ 64 }
     {
-        self.inner.kept().length
+        self.link.kept().length
     }
 
     /// The kinds of the unexpected closing brackets.
     pub fn missing(&self) -> Kinds
         ensures { (k : ℕ) → has_kind result k ≡ is_missing k self.now }
     {
-        self.inner.kept().missing
+        self.link.kept().missing
     }
 
     /// Whether each pair has its closing bracket.
     pub fn closed(&self) -> bool
         ensures { result ≡ is_closed self.now }
     {
-        self.inner.kept().closed
+        self.link.kept().closed
     }
 
     /// Whether there is a bracket beyond the most that may be open.
     pub fn capped(&self) -> bool
         ensures { result ≡ is_capped self.now }
     {
-        self.inner.kept().capped
+        self.link.kept().capped
     }
 
     /// The greatest number of pairs inside one another.
     pub fn nesting(&self) -> u64
         ensures { result ≡ nesting self.now }
     {
-        self.inner.kept().nesting
+        self.link.kept().nesting
     }
 
     /// The height of a list of several nodes, and else 0.
     pub fn height(&self) -> u64
         ensures { result ≡ height self.now }
     {
-        u64::from(self.inner.kept().height)
+        u64::from(self.link.kept().height)
     }
 
     /// The greatest height of a list in the tree, itself and those inside pairs among them.
@@ -89,8 +91,16 @@ impl Node {
         ensures highest { result ≡ highest self.now }
         ensures low { 2 ^ result ≤ weight self.now + 1 }
     {
-        u64::from(self.inner.kept().highest)
+        u64::from(self.link.kept().highest)
     }
+}
+
+// What leads to a node: the node itself, if it takes no memory of its own.
+#[cycle(inner)]
+#[derive(Drop)]
+pub(crate) enum Link {
+    Here(Leaf),
+    Shared(Rc<Inner>),
 }
 
 // A node with what it keeps of its subtree.
@@ -100,18 +110,17 @@ pub(crate) struct Inner {
     pub kept: Kept,
 }
 
-// What a node is.
+// What a node with memory of its own is.
 #[cycle(inner)]
 #[derive(Drop)]
 pub(crate) enum Shape {
     Text(Length),
     // The kind, the width of the opening bracket, what is inside, the width of the closing bracket.
-    Pair(u64, u64, Rc<Inner>, Option<u64>),
+    Pair(u64, u64, Link, Option<u64>),
     Stray(u64, u64),
     Capped(u64, u64),
-    Nothing,
-    Two(Rc<Inner>, Rc<Inner>),
-    Three(Rc<Inner>, Rc<Inner>, Rc<Inner>),
+    Two(Link, Link),
+    Three(Link, Link, Link),
 }
 
 impl Model for Inner {
@@ -144,17 +153,6 @@ impl Inner {
     {
         self.kept
     }
-
-    /// Where the node ends, where it starts here.
-    pub fn end(&self, start: &Length) -> Length
-        requires { start.now.lines + start.now.columns + weight self.now < 2 ^ 64 }
-        ensures end { result ≡ length_plus start.now (tree_length self.now) }
-        ensures fits { result.lines + result.columns
-            ≤ start.now.lines + start.now.columns + weight self.now }
-        ensures tree { IsTree self.now }
-    {
-        start.plus(&self.kept().length)
-    }
 }
 
 // A loop goes on with the longest part. So a call inside another drops a part of at most half its lines or, within a line,
@@ -173,6 +171,9 @@ impl Drop for Inner {
                 }
                 _ => return,
             };
+            let Link::Shared(longest) = longest else {
+                return;
+            };
             match Rc::into_inner(longest) {
                 Some(inner) => self = inner,
                 None => return,
@@ -182,11 +183,11 @@ impl Drop for Inner {
 }
 
 // The two, and first the longer one.
-fn longer_first(a: Rc<Inner>, b: Rc<Inner>) -> (Rc<Inner>, Rc<Inner>)
-    ensures { tree_size result.0.value + tree_size result.1.value
-        ≡ tree_size a.value + tree_size b.value }
+fn longer_first(a: Link, b: Link) -> (Link, Link)
+    ensures { tree_size (link_tree result.0) + tree_size (link_tree result.1)
+        ≡ tree_size (link_tree a) + tree_size (link_tree b) }
 {
-    if a.kept.length.before(&b.kept.length) {
+    if a.kept().length.before(&b.kept().length) {
         (b, a)
     } else {
         (a, b)

@@ -8,8 +8,9 @@ ghost use Rattle.bracket_nodes.specs.Source.{AsksOn, Listed, Takes, HasWidth, we
 ghost use Rattle.bracket_nodes.specs.Paying.{HasRoom, Spends, PaysUpTo, PaysTaken};
 
 use crate::joiner::Joiner;
+use crate::kept::wide;
 use crate::kinds::Kinds;
-use crate::makers::{capped_node, pair_node, stray_node, wide};
+use crate::makers::{capped_node, pair_node, stray_node};
 use crate::node::Node;
 use bracket_rules::MOST_OPEN;
 use std::alloc::{AllocError, Global};
@@ -167,7 +168,9 @@ fn take<S: Source>(
     }
 }
 
-// A closing bracket stops the list, or closes no bracket.
+// A closing bracket stops the list, or closes no bracket. Out of line, as what else makes nodes: so the frame of a list,
+// of which there is one for each open bracket, has no room for them.
+#[inline(never)]
 fn closing(alloc: Global, opened: Kinds, kind: u64, width: u64) -> Result<Taken, AllocError>
     requires { IsLone kind width }
     ensures { IfOk result (λ taken. taken ≡ closing_taken opened kind width) }
@@ -179,6 +182,7 @@ fn closing(alloc: Global, opened: Kinds, kind: u64, width: u64) -> Result<Taken,
 }
 
 // The pair of an opening bracket and what stands after it, unclosed where that stopped otherwise.
+#[inline(never)]
 fn paired(alloc: Global, kind: u64, width: u64, part: Part) -> Result<Taken, AllocError>
     requires opening { IsLone kind width }
     requires not_missing { is_missing kind part.list ≡ false }

@@ -4,12 +4,14 @@ ghost use Rattle.text_lengths.specs.Length.{no_length, is_before};
 ghost use Rattle.bracket_tree_rules.specs.Tree.{tree_length, weight, IsTree};
 ghost use Rattle.bracket_tree_rules.specs.Places.{IsLongest, NoneMayBeTaken};
 ghost use Rattle.bracket_tree_rules.specs.Found.{IsTokenAt, NoBracketAt};
-ghost use Rattle.bracket_tree_rules.specs.Parts.{IsShown, ShowsNodes, ShowsBrackets};
+ghost use Rattle.bracket_tree_rules.specs.Parts.{ShowsNodes, ShowsBrackets};
 ghost use Rattle.bracket_nodes.specs.Borrowed.{node_of};
+ghost use Rattle.bracket_nodes.specs.Paths.{IsOnPath};
+ghost use Rattle.bracket_nodes.specs.Seen.{seen_tree};
 
 use crate::find::{NodeRef, Room, bracket_here, is_taken_here};
 use crate::kinds::Kinds;
-use crate::lists::Shared;
+use crate::link::Seen;
 use crate::node::Node;
 use crate::placed::Placed;
 use bracket_rules::Token;
@@ -21,7 +23,7 @@ use text_lengths::Length;
 /// and at rising ones it goes on where it stood. No call fails for want of memory.
 #[derive(Drop)]
 pub struct NodeReader<'a> {
-    root: &'a Shared,
+    root: Seen<'a>,
     // Nodes that lead to where it stood, inside one another. They only save walks: any may be missing.
     path: Vec<Placed<'a>>,
 }
@@ -30,15 +32,18 @@ impl<'a> Model for NodeReader<'a> {
     ghost use Rattle.std.specs.Prelude.{All};
     ghost use Rattle.bracket_tree_rules.specs.Tree.{Tree};
     ghost use Rattle.bracket_tree_rules.specs.TreeCode.{tree_code};
-    ghost use Rattle.bracket_tree_rules.specs.Parts.{IsShown};
+    ghost use Rattle.bracket_nodes.specs.Forms.{IsSound};
+    ghost use Rattle.bracket_nodes.specs.Paths.{IsOnPath};
+    ghost use Rattle.bracket_nodes.specs.Seen.{seen_tree};
 
     ghost Value = { Tree };
 
     ghost coded = { tree_code };
 
-    ghost view = { λ r. r.root.now.value };
+    ghost view = { λ r. seen_tree r.root };
 
-    ghost invariant = { λ r. All (λ at. IsShown r.root.now.value at.start at.node.now.value) r.path.items };
+    ghost invariant = { λ r. IsSound (seen_tree r.root)
+        × All (IsOnPath (seen_tree r.root)) r.path.items };
 }
 
 impl<'a> NodeReader<'a> {
@@ -46,7 +51,7 @@ impl<'a> NodeReader<'a> {
         ensures { result ≡ tree.now }
     {
         NodeReader {
-            root: &tree.inner,
+            root: tree.link.seen(),
             path: Vec::new(alloc),
         }
     }
@@ -82,7 +87,7 @@ impl<'a> NodeReader<'a> {
         let mut here = self.back_before(&place);
         loop {
             if is_taken_here(&here, &place, &room) {
-                return Some(NodeRef { inner: here.node });
+                return Some(NodeRef { seen: here.node });
             }
             here = here.part_at(&place)?;
             self.keep(here);
@@ -107,8 +112,8 @@ impl<'a> NodeReader<'a> {
 
     // The last node of the path that starts before the place and ends after it, or the whole tree.
     fn back_before(&mut self, place: &Length) -> Placed<'a>
-        ensures shown { IsShown self.old result.start result.node.now.value }
-        ensures nodes { ShowsNodes self.old result.start result.node.now.value place.now }
+        ensures shown { IsOnPath self.old result }
+        ensures nodes { ShowsNodes self.old result.start (seen_tree result.node) place.now }
         ensures same { self.new ≡ self.old }
     {
         let last = self.back_to(place);
@@ -121,10 +126,10 @@ impl<'a> NodeReader<'a> {
 
     // The last node of the path that holds the place, or the whole tree. What lies beyond it is left.
     fn back_to(&mut self, place: &Length) -> Placed<'a>
-        ensures shown { IsShown self.old result.start result.node.now.value }
+        ensures shown { IsOnPath self.old result }
         ensures nodes { is_before result.start place.now ≡ true
-            → ShowsNodes self.old result.start result.node.now.value place.now }
-        ensures brackets { ShowsBrackets self.old result.start result.node.now.value place.now }
+            → ShowsNodes self.old result.start (seen_tree result.node) place.now }
+        ensures brackets { ShowsBrackets self.old result.start (seen_tree result.node) place.now }
         ensures same { self.new ≡ self.old }
     {
         while let Some(&last) = self.path.last() {
@@ -138,7 +143,7 @@ impl<'a> NodeReader<'a> {
 
     // Puts a node at the end of the path, if there is memory for it.
     fn keep(&mut self, here: Placed<'a>)
-        requires { IsShown self.old here.start here.node.now.value }
+        requires { IsOnPath self.old here }
         ensures { self.new ≡ self.old }
     {
         let _ = self.path.push(here);

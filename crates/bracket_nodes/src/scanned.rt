@@ -4,8 +4,10 @@ ghost use Rattle.bracket_tree_rules.specs.Told.{IsTreeOf};
 ghost use Rattle.bracket_tree_rules.specs.Weights.{tree_weights, AreCovered};
 ghost use Rattle.bracket_nodes.specs.ScannedLines.{AreLines, scanned_rows, scanned_weights};
 
+use crate::kept::wide;
 use crate::kinds::Kinds;
-use crate::makers::{text_node, wide};
+use crate::leaf::LINE_BREAK;
+use crate::makers::text_node;
 use crate::node::Node;
 use crate::parser::{Next, Source, parse};
 use bracket_rules::Token;
@@ -19,11 +21,6 @@ pub struct ScannedLine {
     pub tokens: Vec<Token>,
     pub columns: u64,
 }
-
-const LINE_BREAK: Length = Length {
-    lines: 1,
-    columns: 0,
-};
 
 // What is left of a text.
 #[derive(Drop)]

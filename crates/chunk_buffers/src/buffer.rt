@@ -18,7 +18,7 @@ const PADDING: u16 = 0x5F;
 const NEAR: usize = 64;
 
 /// A buffer holds no more units, so that a place in it is a number of 32 bits.
-const MOST_UNITS: usize = u32::MAX as usize;
+pub(crate) const MOST_UNITS: usize = u32::MAX as usize;
 
 /// A buffer that texts are appended to. Contracts see its units, and how many more units and breaks fit without memory.
 #[derive(Drop)]

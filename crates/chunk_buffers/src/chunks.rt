@@ -1,12 +1,12 @@
 //! The buffers together.
 
-ghost use Rattle.std.specs.Prelude.{◌≡◌, ◌+◌, ◌-◌, ◌<◌, ◌≤◌, ◌^◌, ◌++◌, [], length, take, drop, IfOk, OnOk, OnErr};
+ghost use Rattle.std.specs.Prelude.{◌≡◌, ◌+◌, ◌-◌, ◌<◌, ◌≤◌, ◌^◌, ◌++◌, [], length, take, drop, IfOk, OnOk, OnErr, IsTrue};
 ghost use Rattle.chunk_buffers.specs.Buffer.{breaks_to};
 ghost use Rattle.chunk_buffers.specs.Chunks.{units_at, LiesIn, Extends, EndsLast, unit_count, part_of};
 ghost use Rattle.line_starts.specs.Starts.{break_count};
 ghost use Rattle.text_rules.specs.Lines.{line_start};
 
-use crate::buffer::Buffer;
+use crate::buffer::{Buffer, MOST_UNITS};
 use crate::span::ChunkSpan;
 use std::alloc::{AllocError, Global};
 use std::marker::Model;
@@ -194,6 +194,17 @@ impl Chunks {
             units: text.len() as u32,
         };
         Ok((span, breaks as u32))
+    }
+
+    /// Whether the span lies in the buffers.
+    pub fn has(&self, span: ChunkSpan) -> bool
+        ensures { IsTrue result → LiesIn self.now.buffers span }
+    {
+        let Some(buffer) = self.buffers.get(span.buffer as usize) else {
+            return false;
+        };
+        let end = span.start as usize + span.units as usize;
+        end <= buffer.units().len() && end <= MOST_UNITS
     }
 
     /// The units that the span shows.

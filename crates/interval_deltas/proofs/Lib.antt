@@ -10,3 +10,7 @@ mod Landing
 mod Trees
 mod Touching
 mod Entries
+mod Crossing
+mod Touched
+mod Carrying
+mod MovedAll

@@ -63,7 +63,7 @@ span_past span sticky collapse edit up order past =
 
 -- One that ends before the edit.
 
-offset_still : (sticks : Bool) (offset : ℕ) (edit : Edit) → offset < edit.start → moved_offset sticks offset edit ≡ offset
+pub offset_still : (sticks : Bool) (offset : ℕ) (edit : Edit) → offset < edit.start → moved_offset sticks offset edit ≡ offset
 offset_still sticks offset edit low =
     cond-true (stays_before (at_start edit) sticks offset edit.start) offset _ (or_left (ltb offset edit.start) (eqb offset edit.start && stays_at (at_start edit) sticks) (lt-ltb offset edit.start low))
 

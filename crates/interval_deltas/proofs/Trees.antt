@@ -1,13 +1,13 @@
 -- What a tree keeps as one is put in, is taken out, or all move.
 use Rattle.std.proofs.Common.{◌≡◌, ℕ, ◌+◌, ◌-◌, ◌<◌, ◌≤◌, zero, suc, true, false, cond, eqb, inl, inr, List, [], ◌∷◌, ◌++◌, length, get_or, map, Option, Some, None, refl, sym, ◌∙◌, ap, subst, arith}
-use Rattle.std.specs.List.{list_all, All, Contains}
+use Rattle.std.specs.List.{All, Contains}
 use Rattle.std.specs.List.Sorted.{IsPermutation}
-use Rattle.std.proofs.lemmas.Bool.{or_parts, and_from, both_ways, cases_Bool, cond-true, cond-false, eq-eqb, eqb-true}
+use Rattle.std.proofs.lemmas.Bool.{or_parts, both_ways, cases_Bool, cond-true, cond-false, eq-eqb, eqb-true}
 use Rattle.std.proofs.lemmas.Bool.Decides.{nat_tests}
 use Rattle.std.proofs.lemmas.Int.{ints}
-use Rattle.std.proofs.lemmas.List.{append-nil, length-append, length-map, get_or_at}
+use Rattle.std.proofs.lemmas.List.{length-append, length-map, get_or_at}
 use Rattle.std.proofs.lemmas.List.Elements.{All-head, All-tail}
-use Rattle.std.proofs.lemmas.List.Sorted.{IsPermutation-trans, IsPermutation-map, list_any-IsPermutation, length_permutation, Contains-permutation}
+use Rattle.std.proofs.lemmas.List.Sorted.{IsPermutation-map, list_any-IsPermutation, length_permutation, Contains-permutation}
 use Rattle.text_lengths.specs.declared.Span.{Span}
 use Rattle.decoration_rules.specs.declared.Edit.{Edit}
 use Rattle.decoration_rules.specs.declared.Mark.{Mark}
@@ -16,21 +16,12 @@ use Rattle.decoration_rules.specs.Marks.{stands_before, in_order, IsInOrder, has
 use Rattle.decoration_rules.proofs.MarkLists.{in_order-unique, distinct_map}
 use Rattle.interval_deltas.specs.declared.weave.KeptMark.{KeptMark}
 use Rattle.interval_deltas.specs.Weave.{is_mark}
-use Rattle.interval_deltas.specs.Kept.{Each, AreMarks, CanMove, IsUntouched, as_mark, marks_of, moved_kept, moved_items}
+use Rattle.interval_deltas.specs.Kept.{CanMove, IsUntouched, as_mark, marks_of, moved_kept, moved_items}
 use Rattle.interval_deltas.specs.Tree.{node_in}
-use Rattle.interval_deltas.proofs.Items.{each_listed}
-use Rattle.interval_deltas.proofs.Lists.{moved-append, marks-moved, fresh_at, node_none, node_some, mark_none, node_moved}
+use Rattle.interval_deltas.proofs.Lists.{marks-moved, fresh_at, node_none, node_some, mark_none, node_moved}
 use Rattle.interval_deltas.proofs.Moving.{grounded, still_kept, span_past, nat_order}
 use Rattle.interval_deltas.proofs.Naming.{past_other}
 use Rattle.interval_deltas.proofs.Sorting.{HaveSame-permutation, distinct_permutation}
-
--- the list after the three phases of an edit
-pub all_moved : (edit : Edit) (old first lifted new : List (ℕ × KeptMark)) → HasDistinctIds (marks_of old) → IsPermutation (old ++ []) (first ++ lifted) → IsPermutation (moved_items edit first ++ moved_items edit lifted) new
-    → IsPermutation (moved_items edit old) new
-all_moved edit old first lifted new distinct one two =
-    let moved : IsPermutation (moved_items edit (old ++ [])) (moved_items edit (first ++ lifted)) = IsPermutation-map (λ (e : ℕ × KeptMark). (e.0, moved_kept edit e.1)) (old ++ []) (first ++ lifted) one in
-    IsPermutation-trans (moved_items edit old) (moved_items edit (first ++ lifted)) new (subst (λ l. IsPermutation (moved_items edit l) (moved_items edit (first ++ lifted))) (append-nil old) moved)
-    (subst (λ l. IsPermutation l new) (sym (moved-append edit first lifted)) two)
 
 pub marks_all_moved : (edit : Edit) (old new : List (ℕ × KeptMark)) → HasDistinctIds (marks_of old) → IsInOrder (marks_of new) → IsPermutation (moved_items edit old) new
     → marks_of new ≡ in_order (map (moved_mark edit) (marks_of old))
@@ -128,28 +119,11 @@ kept_order edit x y up h g (inr high) (inr high2) before =
     (sym (span_past b.span b.sticky b.collapse edit up (nat_order y g) (omega (arith, ints, second, high2))))
     (shifted_before a b edit.units (edit.end - edit.start) (omega (arith, ints, first, high)) (nat_order x h) (omega (arith, ints, second, high2)) (nat_order y g) before))
 
-pub rest_ordered : (edit : Edit) (es : List (ℕ × KeptMark)) → edit.start ≤ edit.end → AreMarks es → Each (IsUntouched edit) es → IsInOrder (marks_of es) → IsInOrder (marks_of (moved_items edit es))
-rest_ordered edit [] up h g ordered = tt
-rest_ordered edit (e ∷ es) up (h, hs) (g, gs) ordered =
-    (later es hs gs (each_listed (stands_before (as_mark e.1)) es ordered.0), rest_ordered edit es up hs gs ordered.1)
-  where
-    later : (fs : List (ℕ × KeptMark)) → AreMarks fs → Each (IsUntouched edit) fs → Each (λ m. stands_before (as_mark e.1) (as_mark m) ≡ true) fs
-        → list_all (stands_before (as_mark (moved_kept edit e.1))) (marks_of (moved_items edit fs)) ≡ true
-    later [] a b c = refl
-    later (f ∷ fs) (a, rest) (b, bs) (c, cs) = and_from (stands_before (as_mark (moved_kept edit e.1)) (as_mark (moved_kept edit f.1))) _ (kept_order edit e.1 f.1 up h a g b c) (later fs rest bs cs)
-
 pub can_move : (edit : Edit) (es : List (ℕ × KeptMark)) → All (λ (mark : Mark). (moved_mark edit mark).span.end < offset_limit) (marks_of es) → CanMove edit es
 can_move edit [] h = tt
 can_move edit (e ∷ es) h =
     let P : Mark → Type 0 = λ mark. (moved_mark edit mark).span.end < offset_limit in
     (All-head P (as_mark e.1) (marks_of es) h, can_move edit es (All-tail P (as_mark e.1) (marks_of es) h))
-
-pub distinct_moved : (edit : Edit) (old first lifted : List (ℕ × KeptMark)) → HasDistinctIds (marks_of old) → IsPermutation (old ++ []) (first ++ lifted) → HasDistinctIds (marks_of (moved_items edit first ++ moved_items edit lifted))
-distinct_moved edit old first lifted distinct moved =
-    let all : HasDistinctIds (marks_of (first ++ lifted)) =
-    distinct_permutation (marks_of (old ++ [])) (marks_of (first ++ lifted)) (IsPermutation-map (λ (f : ℕ × KeptMark). as_mark f.1) (old ++ []) (first ++ lifted) moved) (subst (λ l. HasDistinctIds (marks_of l)) (sym (append-nil old)) distinct) in
-    subst (λ l. HasDistinctIds (marks_of l)) (moved-append edit first lifted)
-    (subst HasDistinctIds (sym (marks-moved edit (first ++ lifted))) (distinct_map (moved_mark edit) (λ _. refl) (marks_of (first ++ lifted)) all))
 
 pub lengths_moved : (edit : Edit) (old new : List (ℕ × KeptMark)) → IsPermutation (moved_items edit old) new → length new ≡ length old
 lengths_moved edit old new moved = length_permutation (moved_items edit old) new moved ∙ length-map old (λ e. (e.0, moved_kept edit e.1))

@@ -92,8 +92,3 @@ FirstReaching offset items (Some found) =
 abbrev pub ShowsFirst : ℤ → Option (ℕ × KeptMark × Option ℤ) → Option (ℕ × KeptMark) → Type 0
 ShowsFirst offset end first =
     (items : List (ℕ × KeptMark)) → Found marks mark_turn (sought.Reaching offset) items end → FirstReaching offset items first
-
--- where none is told, the edit touches none
-abbrev pub FirstTouched : Edit → List (ℕ × KeptMark) → Option ℕ → Type 0
-FirstTouched edit items None = Each (IsUntouched edit) items
-FirstTouched edit items (Some id) = Unit {0}

@@ -3,9 +3,11 @@
 
 mod accept;
 mod kept;
+mod mover;
 mod moves;
 mod names;
 mod search;
+mod sort;
 mod tree;
 mod weave;
 

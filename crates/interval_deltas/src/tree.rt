@@ -8,7 +8,7 @@ ghost use Rattle.decoration_rules.specs.Marks.{in_order, put_in_order, is_live, 
 ghost use Rattle.interval_deltas.specs.Weave.{is_mark};
 ghost use Rattle.interval_deltas.specs.Kept.{AreMarks, marks_of};
 
-use crate::accept::{land_all, lift_touched, shift_rest};
+use crate::accept::move_in_order;
 use crate::kept::capped;
 use crate::names::Names;
 use crate::search::{first_reaching, last_before, reaching_after};
@@ -106,9 +106,8 @@ impl IntervalTree {
         ensures moved { self.new.marks ≡ in_order (map (moved_mark edit.now) self.old.marks) }
         ensures room { self.old.spare ≤ self.new.spare }
     {
-        lift_touched(&mut self.tree, edit);
-        shift_rest(&mut self.tree, edit);
-        land_all(&mut self.tree, edit);
+        let count = self.len();
+        move_in_order(&mut self.tree, count, edit);
     }
 
     /// The decoration of this id.

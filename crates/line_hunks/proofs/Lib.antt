@@ -1,3 +1,7 @@
-pub mod Stacks
 pub mod RunMarks
+pub mod Turning
+pub mod SideLaws
+pub mod Finding
+pub mod Pushing
+pub mod Popping
 pub mod PlaceLaws

@@ -1,40 +1,18 @@
 -- The places of lines.
 use Rattle.std.proofs.Common.{◌≡◌, ℕ, zero, suc, ◌+◌, ◌-◌, ◌<◌, Bool, true, false, not, ◌||◌, eqb, inl, inr, List, [], ◌∷◌, ◌++◌, length, get_or, take, drop, refl, sym, ◌∙◌, ap, subst, arith}
 use Rattle.std.specs.Prelude.{replicate}
-use Rattle.std.proofs.lemmas.Bool.{cases_eq, cases_lt, eq-eqb, ne_eqb}
+use Rattle.std.proofs.lemmas.Bool.{cases_lt, eq-eqb, ne_eqb}
 use Rattle.std.proofs.lemmas.List.{append_assoc, append-nil, length-append, replicate_more, get_or_at, get_or_append_left, take_at, drop_at, drop_all, nil_from_length}
 use Rattle.mark_rules.specs.declared.Mark.{Mark}
 use Rattle.mark_rules.specs.declared.Mark.TheVariants.{Kept, New}
 use Rattle.mark_rules.specs.Marks.{kept_marks, mark_at, kept_run, has_new, SpansNew}
 use Rattle.mark_rules.proofs.MarkLaws.{length-kept_marks, kept_run-kept_marks, has_new-append, has_new-kept_marks}
 use Rattle.line_hunks.specs.declared.run.Run.{Run}
-use Rattle.line_hunks.specs.declared.stack.Stacked.{Stacked}
-use Rattle.line_hunks.specs.declared.places.Place.{Place}
-use Rattle.line_hunks.specs.Run.{is_new, later_mark, marks_from, run_marks, lines_in, kept_of, kept_lines, IsInRange}
-use Rattle.line_hunks.specs.Stack.{Holds}
+use Rattle.line_hunks.specs.declared.run.Place.{Place}
+use Rattle.line_hunks.specs.Run.{is_new, later_mark, marks_from, run_marks, lines_in, kept_of, kept_lines}
 use Rattle.line_hunks.specs.Runs.{marks_up, marks_down, marks_around, StandsBy, Stands}
 use Rattle.line_hunks.specs.Places.{EndsNew, IsPlace}
-use Rattle.line_hunks.proofs.RunMarks.{length-marks_from, length-marks_up, length-marks_down, marks_from-split}
-
--- Runs of a stack below others.
-
-marks_up-append : (above below : List Run) → marks_up (above ++ below) ≡ marks_up below ++ marks_up above
-marks_up-append [] below = sym (append-nil (marks_up below))
-marks_up-append (run ∷ above) below =
-    ap (λ ms. ms ++ run_marks run) (marks_up-append above below) ∙ append_assoc (marks_up below) (marks_up above) (run_marks run)
-
-marks_down-append : (above below : List Run) → marks_down (above ++ below) ≡ marks_down above ++ marks_down below
-marks_down-append [] below = refl
-marks_down-append (run ∷ above) below =
-    ap (λ ms. run_marks run ++ ms) (marks_down-append above below) ∙ sym (append_assoc (run_marks run) (marks_down above) (marks_down below))
-
-lines_in-append : (above below : List Run) → lines_in (above ++ below) ≡ lines_in above + lines_in below
-lines_in-append [] below = omega arith
-lines_in-append (run ∷ above) below = omega (arith, lines_in-append above below)
-
-StandsBy-at : (mark : Mark) (above : List Run) (run : Run) (below : List Run) → StandsBy mark (above ++ run ∷ below) → IsInRange run × StandsBy run.first below
-StandsBy-at mark [] run below stands = (stands.2, stands.3)
-StandsBy-at mark (next ∷ above) run below stands = StandsBy-at next.first above run below stands.3
+use Rattle.line_hunks.proofs.RunMarks.{length-marks_from, length-marks_up, marks_from-split}
 
 -- Behind a kept run no line goes on.
 
@@ -60,13 +38,6 @@ apart-down mark [] stands kept = refl
 apart-down mark (run ∷ runs) stands kept =
     kept_run-new run.first run.lines (marks_down runs) (not-mark (is_new run.first) (is_new mark) stands.0 kept) stands.1
 
-apart-up : (mark : Mark) (above : List Run) (run : Run) (below : List Run) (behind : List Mark) → StandsBy mark (above ++ run ∷ below)
-    → (is_new mark ≡ true → kept_run behind ≡ 0) → is_new run.first ≡ false → kept_run (marks_up above ++ behind) ≡ 0
-apart-up mark [] run below behind stands next kept = next (not-kept (is_new run.first) (is_new mark) stands.0 kept)
-apart-up mark (other ∷ above) run below behind stands next kept =
-    ap kept_run (append_assoc (marks_up above) (run_marks other) behind)
-    ∙ apart-up other.first above run below (run_marks other ++ behind) stands.3 (λ new. kept_run-new other.first other.lines behind new stands.1) kept
-
 -- Before a kept run the last line is new.
 
 EndsNew-new : (marks : List Mark) → EndsNew (marks ++ New ∷ [])
@@ -86,17 +57,6 @@ under-up mark [] stands kept = refl
 under-up mark (run ∷ runs) stands kept =
     EndsNew-run (marks_up runs) run.first run.lines (not-mark (is_new run.first) (is_new mark) stands.0 kept) stands.1
 
-under-down : (marks : List Mark) (gap : Run) (above : List Run) (run : Run) (below : List Run) → StandsBy gap.first (above ++ run ∷ below) → 0 < gap.lines
-    → is_new run.first ≡ false → EndsNew (marks ++ (run_marks gap ++ marks_down above))
-under-down marks gap [] run below stands some kept =
-    subst (λ ms. EndsNew (marks ++ ms)) (sym (append-nil (run_marks gap)))
-    (EndsNew-run marks gap.first gap.lines (not-kept (is_new run.first) (is_new gap.first) stands.0 kept) some)
-under-down marks gap (other ∷ above) run below stands some kept =
-    subst EndsNew (append_assoc marks (run_marks gap) (run_marks other ++ marks_down above))
-    (under-down (marks ++ run_marks gap) other above run below stands.3 stands.1 kept)
-
--- The three places.
-
 pub gap-place : (front : List Run) (gap : Run) (back : List Run) (n before : ℕ) → Stands front gap back → n ≡ lines_in front + before + 1 → before < gap.lines
     → IsPlace (marks_around front gap back) n (record { run = gap; before = before })
 gap-place front gap back n before stands line within = record {
@@ -109,57 +69,6 @@ gap-place front gap back n before stands line within = record {
   under = under-up gap.first front stands.before;
   apart = apart-down gap.first back stands.behind;
 }
-
-pub front-place : (front : List Run) (gap : Run) (back : List Run) (n : ℕ) (found : Stacked) (before : ℕ) → Stands front gap back → Holds front n found
-    → before ≡ n - 1 - (found.height - found.run.lines)
-    → IsPlace (marks_around front gap back) n (record { run = found.run; before = before })
-front-place front gap back n found before stands holds at =
-    let run = found.run in
-    let stand : StandsBy gap.first (holds.above ++ run ∷ holds.below) = subst (StandsBy gap.first) holds.place stands.before in
-    record {
-      lower = marks_up holds.below;
-      upper = marks_up holds.above ++ (run_marks gap ++ marks_down back);
-      parts = ap (λ rs. marks_up rs ++ (run_marks gap ++ marks_down back)) holds.place
-          ∙ ap (λ ms. ms ++ (run_marks gap ++ marks_down back)) (marks_up-append holds.above (run ∷ holds.below))
-          ∙ simp append_assoc;
-      line = omega (arith, length-marks_up holds.below, holds.height, holds.under, holds.reach);
-      within = omega (arith, holds.height, holds.under, holds.reach);
-      range = (StandsBy-at gap.first holds.above run holds.below stand).0;
-      under = under-up run.first holds.below (StandsBy-at gap.first holds.above run holds.below stand).1;
-      apart = apart-up gap.first holds.above run holds.below (run_marks gap ++ marks_down back) stand
-          (λ new. kept_run-new gap.first gap.lines (marks_down back) new stands.some);
-    }
-
-pub back-place : (front : List Run) (gap : Run) (back : List Run) (from_end : ℕ) (found : Stacked) (before : ℕ) → Stands front gap back → Holds back from_end found
-    → before ≡ found.height - from_end
-    → IsPlace (marks_around front gap back) (lines_in front + gap.lines + lines_in back + 1 - from_end) (record { run = found.run; before = before })
-back-place front gap back from_end found before stands holds at =
-    let run = found.run in
-    let stand : StandsBy gap.first (holds.above ++ run ∷ holds.below) = subst (StandsBy gap.first) holds.place stands.behind in
-    let lower = marks_up front ++ (run_marks gap ++ marks_down holds.above) in
-    let size : length lower ≡ lines_in front + gap.lines + lines_in holds.above =
-    omega (
-      arith,
-      length-append (marks_up front) (run_marks gap ++ marks_down holds.above),
-      length-append (run_marks gap) (marks_down holds.above),
-      length-marks_up front,
-      length-marks_from gap.first gap.lines,
-      length-marks_down holds.above,
-    ) in
-    let lines : lines_in back ≡ lines_in holds.above + found.height =
-    ap lines_in holds.place ∙ omega (arith, lines_in-append holds.above (run ∷ holds.below), holds.height) in
-    record {
-      lower = lower;
-      upper = marks_down holds.below;
-      parts = ap (λ rs. marks_up front ++ (run_marks gap ++ marks_down rs)) holds.place
-          ∙ ap (λ ms. marks_up front ++ (run_marks gap ++ ms)) (marks_down-append holds.above (run ∷ holds.below))
-          ∙ simp append_assoc;
-      line = omega (arith, size, lines, holds.reach, holds.under);
-      within = omega (arith, holds.height, holds.under, holds.reach);
-      range = (StandsBy-at gap.first holds.above run holds.below stand).0;
-      under = under-down (marks_up front) gap holds.above run holds.below stand stands.some;
-      apart = apart-down run.first holds.below (StandsBy-at gap.first holds.above run holds.below stand).1;
-    }
 
 -- What a place tells.
 
@@ -258,12 +167,16 @@ new-nowhere [] gap [] stands kept none_before none_behind =
 new-nowhere (run ∷ runs) gap back stands kept none_before none_behind = absurd (omega arith)
 new-nowhere [] gap (run ∷ runs) stands kept none_before none_behind = absurd (omega arith)
 
-pub clean-behind : (front : List Run) (gap : Run) (back : List Run) (n : ℕ) → Stands front gap back → is_new gap.first ≡ false → length front ≡ 0 → n ≡ length back
-    → eqb n 0 ≡ not (has_new (marks_around front gap back))
-clean-behind front gap back n stands kept none same = elim (cases_eq n 0) [
-  | inl zero_lines ↦ eq-eqb n 0 zero_lines ∙ ap not (sym (new-nowhere front gap back stands kept none (sym same ∙ zero_lines)))
-  | inr some ↦ ne_eqb n 0 some ∙ ap not (sym (new-back front gap back stands kept (omega arith)))
-]
+pub clean-lines : (front : List Run) (gap : Run) (back : List Run) (n : ℕ) → Stands front gap back → is_new gap.first ≡ false
+    → n ≡ lines_in front + lines_in back → eqb n 0 ≡ not (has_new (marks_around front gap back))
+clean-lines [] gap [] n stands kept same =
+    eq-eqb n 0 same ∙ ap not (sym (new-nowhere [] gap [] stands kept refl refl))
+clean-lines (run ∷ front) gap back n stands kept same =
+    ne_eqb n 0 (λ none. absurd (omega (arith, same, stands.before.1, none)))
+    ∙ ap not (sym (new-front (run ∷ front) gap back stands kept (omega arith)))
+clean-lines [] gap (run ∷ back) n stands kept same =
+    ne_eqb n 0 (λ none. absurd (omega (arith, same, stands.behind.1, none)))
+    ∙ ap not (sym (new-back [] gap (run ∷ back) stands kept (omega arith)))
 
 -- The first and the last new line.
 

@@ -186,4 +186,4 @@ replaced-marks front gap back before old new head tail a b front' back' within h
     ∙ edited_behind (lines_in front + before) old new all
 
 pub line_count-marks : (r : Runs) (marks : List Mark) → all_marks r ≡ marks → line_count r ≡ length marks
-line_count-marks r marks is = sym (length-marks_around r.front.runs r.gap r.back.runs) ∙ ap length is
+line_count-marks r marks is = sym (length-marks_around r.sides.front r.gap r.sides.back) ∙ ap length is

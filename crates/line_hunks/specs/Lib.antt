@@ -1,5 +1,7 @@
 pub mod Run
-pub mod Stack
+pub mod Weave
+pub mod Adding
+pub mod Sides
 pub mod Runs
 pub mod Places
 pub mod Hunks

@@ -3,7 +3,7 @@ use Rattle.std.specs.Prelude.{ℕ, ◌≡◌, ◌+◌, ◌<◌, false, List, ◌
 use Rattle.mark_rules.specs.declared.Mark.{Mark}
 use Rattle.mark_rules.specs.declared.Mark.TheVariants.{New}
 use Rattle.mark_rules.specs.Marks.{mark_at, kept_run}
-use Rattle.line_hunks.specs.declared.places.Place.{Place}
+use Rattle.line_hunks.specs.declared.run.Place.{Place}
 use Rattle.line_hunks.specs.Run.{is_new, run_marks, IsInRange}
 
 -- the last of these lines is new, if there are any

@@ -12,24 +12,24 @@ use std::marker::Model;
 /// One mark for each line of a text, from its first line on. Lines are counted from 1; there is at least one, and fewer
 /// than 2^62.
 ///
-/// They are kept as runs, with a gap where the text was edited last. Looking up a line halves the runs. An edit costs time
-/// in the runs between its place and the last one's, and typing at one place makes no more of them.
+/// They are kept as runs in a tree, around a gap where the text was edited last. A look-up and an edit cost the logarithm
+/// of the number of runs, an edit once more for each run that it takes away. Typing at one place touches no run beside it.
 #[derive(Drop)]
 pub struct Hunks {
     runs: Runs,
 }
 
 impl Model for Hunks {
-    ghost use Rattle.std.specs.Prelude.{◌-◌, ◌/◌};
+    ghost use Rattle.std.specs.Prelude.{◌/◌};
     ghost use Rattle.mark_rules.specs.Marks.{Rises};
     ghost use Rattle.line_hunks.specs.Hunks.{Shown};
-    ghost use Rattle.line_hunks.specs.Runs.{all_marks, run_count, room_of, IsWhole};
+    ghost use Rattle.line_hunks.specs.Runs.{all_marks, IsWhole};
 
     ghost Value = { Shown };
 
     ghost view = { λ h. record {
       marks = all_marks h.runs;
-      spare = (room_of h.runs - run_count h.runs) / 2;
+      spare = h.runs.sides.room / 2;
     } };
 
     ghost invariant = { λ h. IsWhole h.runs × Rises (all_marks h.runs) };

@@ -14,6 +14,13 @@ pub(crate) struct Run {
     pub lines: u64,
 }
 
+/// A line of a run, behind so many others of it.
+#[derive(Clone, Copy)]
+pub(crate) struct Place {
+    pub run: Run,
+    pub before: u64,
+}
+
 impl Run {
     /// The mark of the line behind so many of them.
     pub(crate) fn mark(self, before: u64) -> Mark

@@ -1,62 +1,205 @@
-//! The two sides of an edit.
+//! The runs on both sides of a gap.
 
-ghost use Rattle.std.specs.Prelude.{◌≡◌, ◌+◌, ◌^◌, ◌<◌, ◌≤◌, ◌∷◌, length, drop};
-ghost use Rattle.mark_rules.specs.declared.Mark.TheVariants.{New};
-ghost use Rattle.line_hunks.specs.Run.{new_lines, lines_in, IsInRange};
-ghost use Rattle.line_hunks.specs.Runs.{marks_before, marks_behind, StandsBy};
+ghost use Rattle.std.specs.Prelude.{◌≡◌, ◌+◌, ◌^◌, ◌<◌, ◌≤◌, None, [], ◌∷◌, OnOk, IfNone, MatchOption};
+ghost use Rattle.rb_arena.specs.RbTree.{PlaceAfter, HasPut, AtPlace, SumsPut, first_or};
+ghost use Rattle.line_hunks.specs.Run.{lines_in};
+ghost use Rattle.line_hunks.specs.Weave.{adding, has_line, is_few};
+ghost use Rattle.line_hunks.specs.Sides.{turned, Holds};
 
-use crate::run::Run;
-use crate::stack::RunStack;
-use mark_rules::Mark;
+use crate::find::find;
+use crate::run::{Place, Run};
+use crate::weave::RunWeave;
+use raw_arena::NodeId;
+use rb_arena::RbTree;
+use std::alloc::{AllocError, Global};
+use std::marker::Model;
 
-/// Takes so many lines off, of the run and then of those behind it. Returns what is left of the last run that was
-/// touched, maybe no line.
-pub(crate) fn take_lines(back: &mut RunStack, run: Run, lines: u64) -> Run
-    requires within { lines ≤ run.lines + lines_in back.old.runs }
-    requires range { IsInRange run }
-    requires apart { StandsBy run.first back.old.runs }
-    ensures marks { marks_behind result back.new.runs
-        ≡ drop lines (marks_behind run back.old.runs) }
-    ensures lines { lines_in (result ∷ back.new.runs) + lines ≡ lines_in (run ∷ back.old.runs) }
-    ensures range { IsInRange result }
-    ensures apart { StandsBy result.first back.new.runs }
-    ensures count { length back.new.runs ≤ length back.old.runs }
-    ensures room { back.old.room ≤ back.new.room }
-{
-    let mut rest = run;
-    let mut more = lines;
-    while rest.lines < more {
-        more -= rest.lines;
-        rest = back.pop().unwrap();
-    }
-    rest.split(more).1
+/// The runs before a gap and those behind it, each with a line, in one tree. Only `reserve` takes memory.
+#[derive(Drop)]
+pub(crate) struct Sides {
+    tree: RbTree<RunWeave>,
+    /// The run right before the gap; None where none is.
+    before: Option<NodeId>,
+    /// How many lines stand before the gap.
+    lines: u64,
 }
 
-/// Puts what is left of a run, maybe no line, on its side of new lines. New lines that would stand beside those are
-/// taken away: how many.
-pub(crate) fn set_aside(side: &mut RunStack, run: Run) -> u64
-    requires room { length side.old.runs < side.old.room }
-    requires fits { lines_in side.old.runs + run.lines < 2 ^ 62 }
-    requires range { IsInRange run }
-    requires apart { StandsBy run.first side.old.runs }
-    ensures up { marks_before side.new.runs (new_lines result) ≡ marks_before side.old.runs run }
-    ensures down { marks_behind (new_lines result) side.new.runs ≡ marks_behind run side.old.runs }
-    ensures lines { result + lines_in side.new.runs ≡ run.lines + lines_in side.old.runs }
-    ensures apart { StandsBy New side.new.runs }
-    ensures count { length side.new.runs ≤ length side.old.runs + 1 }
-    ensures room { side.old.room ≤ side.new.room }
-{
-    match run.first {
-        Mark::New => run.lines,
-        Mark::Kept(_) => {
-            if run.lines > 0 {
-                side.push(run);
-                return 0;
-            }
-            match side.pop() {
-                Some(beside) => beside.lines,
-                None => 0,
-            }
+impl Model for Sides {
+    ghost use Rattle.line_hunks.specs.Sides.{Shown, shown, IsParted};
+
+    ghost Value = { Shown };
+
+    ghost view = { λ s. shown s.tree.items s.lines s.tree.spare };
+
+    ghost invariant = { λ s. IsParted s.tree.items s.before s.lines };
+}
+
+impl Sides {
+    /// No run on either side.
+    pub(crate) fn new(alloc: Global) -> Sides
+        ensures front { result.front ≡ [] }
+        ensures back { result.back ≡ [] }
+    {
+        Sides {
+            tree: RbTree::new(alloc),
+            before: None,
+            lines: 0,
         }
+    }
+
+    /// Makes room for so many more. An error leaves the runs as they were, and room that was there stays.
+    pub(crate) fn reserve(&mut self, more: u64) -> Result<(), AllocError>
+        ensures room { OnOk result (more ≤ self.new.room) }
+        ensures front { self.new.front ≡ self.old.front }
+        ensures back { self.new.back ≡ self.old.back }
+        ensures kept { self.old.room ≤ self.new.room }
+    {
+        self.tree.reserve(more)
+    }
+
+    /// How many lines stand before the gap.
+    pub(crate) fn front_lines(&self) -> u64
+        ensures { result ≡ lines_in self.now.front }
+    {
+        self.lines
+    }
+
+    /// How many lines stand on both sides.
+    pub(crate) fn lines(&self) -> u64
+        ensures lines { result ≡ lines_in self.now.front + lines_in self.now.back }
+        ensures small { result < 2 ^ 62 }
+    {
+        self.tree.sum()
+    }
+
+    /// Puts a run right before the gap.
+    pub(crate) fn push_front(&mut self, run: Run)
+        requires room { 0 < self.old.room }
+        requires some { 0 < run.lines }
+        requires fits { lines_in self.old.front + run.lines + lines_in self.old.back < 2 ^ 62 }
+        ensures front { self.new.front ≡ run ∷ self.old.front }
+        ensures back { self.new.back ≡ self.old.back }
+        ensures room { self.new.room + 1 ≡ self.old.room }
+    {
+        self.before = Some(put_after(&mut self.tree, self.before, run));
+        self.lines += run.lines;
+    }
+
+    /// Puts a run right behind the gap.
+    pub(crate) fn push_back(&mut self, run: Run)
+        requires room { 0 < self.old.room }
+        requires some { 0 < run.lines }
+        requires fits { lines_in self.old.front + run.lines + lines_in self.old.back < 2 ^ 62 }
+        ensures front { self.new.front ≡ self.old.front }
+        ensures back { self.new.back ≡ run ∷ self.old.back }
+        ensures room { self.new.room + 1 ≡ self.old.room }
+    {
+        put_after(&mut self.tree, self.before, run);
+    }
+
+    /// Takes the run right before the gap out.
+    pub(crate) fn pop_front(&mut self) -> Option<Run>
+        ensures front { MatchOption result (self.old.front ≡ [])
+            (λ run. self.old.front ≡ run ∷ self.new.front) }
+        ensures none { IfNone result (self.new.front ≡ []) }
+        ensures back { self.new.back ≡ self.old.back }
+        ensures room { MatchOption result (self.new.room ≡ self.old.room)
+            (λ run. self.new.room ≡ self.old.room + 1) }
+    {
+        let id = self.before?;
+        let run = self.tree.get(id);
+        self.before = self.tree.prev(id);
+        self.tree.remove(id);
+        self.lines -= run.lines;
+        Some(run)
+    }
+
+    /// Takes the run right behind the gap out.
+    pub(crate) fn pop_back(&mut self) -> Option<Run>
+        ensures back { MatchOption result (self.old.back ≡ [])
+            (λ run. self.old.back ≡ run ∷ self.new.back) }
+        ensures none { IfNone result (self.new.back ≡ []) }
+        ensures front { self.new.front ≡ self.old.front }
+        ensures room { MatchOption result (self.new.room ≡ self.old.room)
+            (λ run. self.new.room ≡ self.old.room + 1) }
+    {
+        let id = next_after(&self.tree, self.before)?;
+        let run = self.tree.get(id);
+        self.tree.remove(id);
+        Some(run)
+    }
+
+    /// Takes all runs out.
+    pub(crate) fn clear(&mut self)
+        ensures front { self.new.front ≡ [] }
+        ensures back { self.new.back ≡ [] }
+        ensures room { self.old.room ≤ self.new.room }
+    {
+        while self.pop_front().is_some() {}
+        while self.pop_back().is_some() {}
+    }
+
+    /// The gap's run goes among the others, and the one that has the line behind so many comes out: it stands in the gap now.
+    pub(crate) fn seek(&mut self, gap: Run, lines: u64) -> Run
+        requires room { 0 < self.old.room }
+        requires some { 0 < gap.lines }
+        requires within { lines < lines_in self.old.front + gap.lines + lines_in self.old.back }
+        requires fits { lines_in self.old.front + gap.lines + lines_in self.old.back < 2 ^ 62 }
+        ensures order { turned self.new.front (result ∷ self.new.back)
+            ≡ turned self.old.front (gap ∷ self.old.back) }
+        ensures before { lines_in self.new.front ≤ lines }
+        ensures reach { lines < lines_in self.new.front + result.lines }
+        ensures room { self.new.room ≡ self.old.room }
+    {
+        self.push_back(gap);
+        let (id, place) = find(&self.tree, lines);
+        self.before = self.tree.prev(id);
+        self.tree.remove(id);
+        self.lines = lines - place.before;
+        place.run
+    }
+
+    /// Where the line behind so many stands, among the runs with the gap's.
+    pub(crate) fn place(&self, gap: Run, lines: u64) -> Place
+        requires within { lines < lines_in self.now.front + gap.lines + lines_in self.now.back }
+        ensures { Holds self.now gap lines result }
+    {
+        if lines < self.lines {
+            return find(&self.tree, lines).1;
+        }
+        let behind = lines - self.lines;
+        if behind < gap.lines {
+            return Place {
+                run: gap,
+                before: behind,
+            };
+        }
+        find(&self.tree, lines - gap.lines).1
+    }
+}
+
+/// Puts a run right after the one of that name, or before all others.
+fn put_after(tree: &mut RbTree<RunWeave>, id: Option<NodeId>, run: Run) -> NodeId
+    requires room { 0 < tree.old.spare }
+    requires named { PlaceAfter tree.old.items id }
+    requires some { has_line run }
+    requires few { SumsPut adding is_few tree.old.items id run }
+    ensures items { HasPut tree.old.items tree.new.items id (result, run) }
+    ensures spare { tree.new.spare + 1 ≡ tree.old.spare }
+{
+    match id {
+        Some(id) => tree.insert_after(id, run),
+        None => tree.insert_first(run),
+    }
+}
+
+/// The run right after the one of that name, or the first.
+fn next_after(tree: &RbTree<RunWeave>, id: Option<NodeId>) -> Option<NodeId>
+    requires { PlaceAfter tree.now.items id }
+    ensures { AtPlace tree.now.items id (λ us vs. result ≡ first_or None vs) }
+{
+    match id {
+        Some(id) => tree.next(id),
+        None => tree.first(),
     }
 }

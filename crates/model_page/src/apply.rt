@@ -13,6 +13,7 @@ ghost use Rattle.model_page.specs.Ways.{text_by, changes_by, decorations_by, mar
 
 use crate::change::{Change, Way};
 use crate::page::Page;
+use crate::placed::{Place, known, note};
 use decorations::Edit;
 use edit_stack::Element;
 use text_buffer::TextBuffer;
@@ -33,10 +34,30 @@ impl Page {
         ensures grown { HasGrown (length ops.now) self.old.text self.new.text }
         ensures spent { HasSpent (need_of_ops ops.now) self.old self.new }
     {
+        self.carry(ops, &[], forces);
+    }
+
+    // `apply`, of ops whose texts may lie in the buffers already, at the places that they have, if any.
+    fn carry(&mut self, ops: &[Op], places: &[Place], forces: bool)
+        requires { CanApply self.old ops.now }
+        ensures units { self.new.text.units ≡ applied_from 0 self.old.text.units ops.now }
+        ensures decorations { self.new.decorations
+            ≡ carried_with forces self.old.decorations ops.now }
+        ensures marks { self.new.marks
+            ≡ marked_backwards self.old.text.units ops.now self.old.marks }
+        ensures parse { KeepsParse self.old self.new }
+        ensures grown { HasGrown (length ops.now) self.old.text self.new.text }
+        ensures spent { HasSpent (need_of_ops ops.now) self.old self.new }
+    {
         for done in 0..ops.len() {
-            let op = &ops[ops.len() - 1 - done];
+            let at = ops.len() - 1 - done;
+            let op = &ops[at];
             self.decorations.accept(&edit_with(op, forces));
-            let dirty = self.text.replace(op.span, op.text.as_slice());
+            let mut place = known(places, at);
+            let dirty = self
+                .text
+                .replace_again(op.span, op.text.as_slice(), &mut place);
+            note(places, at, place);
             self.last.mark(dirty);
         }
     }
@@ -56,7 +77,8 @@ impl Page {
     {
         for done in 0..step.len() {
             let at = place_at(way, step.len(), done);
-            self.apply(step.change(at).ops(way), way.forces());
+            let placed = step.change(at).batch_for(way);
+            self.carry(placed.batch().ops(), placed.places(), way.forces());
         }
     }
 }

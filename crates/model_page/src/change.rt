@@ -9,6 +9,7 @@ ghost use Rattle.model_page.specs.Counts.{text_breaks};
 ghost use Rattle.model_page.specs.Needs.{need_of_ops, need_along};
 ghost use Rattle.model_page.specs.Ways.{forces};
 
+use crate::placed::PlacedBatch;
 use edit_batches::Batch;
 use edit_stack::Element;
 use line_starts::count_breaks;
@@ -38,7 +39,10 @@ impl Way {
 #[derive(Drop)]
 pub enum Change {
     /// A batch, and the one that takes it back.
-    Ops { batch: Batch, inverse: Batch },
+    Ops {
+        batch: PlacedBatch,
+        inverse: PlacedBatch,
+    },
 }
 
 impl Change {
@@ -46,10 +50,10 @@ impl Change {
     pub fn ops(&self, way: Way) -> &[Op]
         ensures { result.now ≡ ops_by way self.now }
     {
-        self.batch_for(way).ops()
+        self.batch_for(way).batch().ops()
     }
 
-    fn batch_for(&self, way: Way) -> &Batch
+    pub(crate) fn batch_for(&self, way: Way) -> &PlacedBatch
         ensures { result.now ≡ ops_by way self.now }
     {
         match self {
@@ -84,7 +88,7 @@ pub fn need_of_step(step: &Element<Change>, way: Way) -> Result<Need, AllocError
         breaks: 0,
     };
     for at in 0..step.len() {
-        let need = need_of(step.change(at).batch_for(way));
+        let need = need_of(step.change(at).batch_for(way).batch());
         all = joined(all, need).ok_or(AllocError)?;
     }
     Ok(all)

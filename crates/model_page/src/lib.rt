@@ -7,8 +7,10 @@ mod brackets;
 mod change;
 mod last_parse;
 mod page;
+mod placed;
 mod text_lines;
 
 pub use apply::apply_to_text;
 pub use change::{Change, Way, need_of, need_of_step};
 pub use page::Page;
+pub use placed::PlacedBatch;

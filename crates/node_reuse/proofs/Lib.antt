@@ -1,4 +1,5 @@
 pub mod OldPlaces
+pub mod Remembered
 pub mod OldRoom
 pub mod FreshSteps
 pub mod FreshLines

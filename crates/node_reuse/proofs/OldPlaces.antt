@@ -18,7 +18,7 @@ use Rattle.node_reuse.specs.OldText.{IsOldPlace, IsNewLine, OldText, old_text, I
 
 -- ---- marks
 
-abbrev number_of : Mark → ℕ
+abbrev pub number_of : Mark → ℕ
 number_of (Kept i) = i
 number_of New = 0
 

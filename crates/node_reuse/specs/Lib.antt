@@ -1,5 +1,6 @@
 pub mod OldText
 pub mod Texts
+pub mod LineMarks
 pub mod Ahead
 pub mod Reading
 pub mod Reader

@@ -89,7 +89,7 @@ pub mark_of-number : (m : Mark) → mark_of (number_of m) ≡ m
 mark_of-number (Kept i) = refl
 mark_of-number New = refl
 
-abbrev mark_code : Coded Mark
+abbrev pub mark_code : Coded Mark
 mark_code = code_by (Option ℕ) (coded_option coded_ℕ) number_of mark_of mark_of-number
 
 abbrev pub old_text_code : Coded OldText

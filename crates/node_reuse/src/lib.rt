@@ -5,6 +5,7 @@ mod fresh;
 mod kept;
 mod line;
 mod lines;
+mod marks;
 mod old;
 mod parsed;
 mod reader;

@@ -8,6 +8,7 @@ ghost use Rattle.mark_rules.specs.Marks.{kept_run};
 ghost use Rattle.bracket_nodes.specs.Borrowed.{node_of};
 ghost use Rattle.node_reuse.specs.OldText.{IsOldPlace, IsNewLine, Fits64, IsLongestReusable, NoneReusable, IsOldToken, NoOldBracket};
 
+use crate::marks::LineMarks;
 use bracket_nodes::{Kinds, Node, NodeReader, NodeRef};
 use bracket_rules::Token;
 use line_hunks::Hunks;
@@ -66,7 +67,7 @@ pub(crate) struct OldPlace {
 #[derive(Drop)]
 pub struct OldReader<'a> {
     tree: Option<NodeReader<'a>>,
-    hunks: &'a Hunks,
+    marks: LineMarks<'a>,
 }
 
 impl<'a> Model for OldReader<'a> {
@@ -76,7 +77,7 @@ impl<'a> Model for OldReader<'a> {
 
     ghost coded = { old_text_code };
 
-    ghost view = { λ r. record { tree = r.tree; marks = r.hunks.now.marks } };
+    ghost view = { λ r. record { tree = r.tree; marks = r.marks } };
 }
 
 impl<'a> OldReader<'a> {
@@ -89,30 +90,29 @@ impl<'a> OldReader<'a> {
             Some(tree) => Some(NodeReader::new(alloc, tree)),
             None => None,
         };
-        OldReader { tree, hunks }
+        let marks = LineMarks::new(hunks);
+        OldReader { tree, marks }
     }
 
-    // The place of the old text that this one is kept from. The mark of its line is looked up once.
-    fn old_place(&self, place: Length) -> Option<OldPlace>
-        requires { place.lines < length self.now.marks }
-        ensures fits { length self.now.marks < 2 ^ 62 }
-        ensures some { IfSome result (λ old. IsOldPlace self.now.marks place old.place) }
+    // The place of the old text that this one is kept from.
+    fn old_place(&mut self, place: Length) -> Option<OldPlace>
+        requires { place.lines < length self.old.marks }
+        ensures fits { length self.old.marks < 2 ^ 62 }
+        ensures some { IfSome result (λ old. IsOldPlace self.old.marks place old.place) }
         ensures run { IfSome result (λ old.
-            old.lines ≡ kept_run (drop place.lines self.now.marks)) }
-        ensures none { IfNone result (IsNewLine self.now.marks place) }
+            old.lines ≡ kept_run (drop place.lines self.old.marks)) }
+        ensures none { IfNone result (IsNewLine self.old.marks place) }
+        ensures same { self.new ≡ self.old }
     {
-        let _lines = self.hunks.lines();
-        let (mark, lines) = self.hunks.at(place.lines + 1);
-        match mark {
-            Mark::Kept(number) => Some(OldPlace {
-                place: Length {
-                    lines: number - 1,
-                    columns: place.columns,
-                },
-                lines,
-            }),
-            Mark::New => None,
-        }
+        let (mark, lines) = self.marks.at(place.lines);
+        let Mark::Kept(number) = mark else {
+            return None;
+        };
+        let place = Length {
+            lines: number - 1,
+            columns: place.columns,
+        };
+        Some(OldPlace { place, lines })
     }
 
     #[tactic(auto, using(crate::proofs::OldPlaces::node_laws))]

@@ -11,6 +11,7 @@ ghost use Rattle.node_reuse.specs.Texts.{text_weights, new_lines, AsksFront, IsT
 
 use crate::line::first_line;
 use crate::lines::Lines;
+use crate::marks::LineMarks;
 use crate::old::Old;
 use crate::reader::Reader;
 use bracket_nodes::{Node, parse};
@@ -89,13 +90,14 @@ pub fn reparse<O: Old + Drop, Q: Lines, L: Ledger>(
         (new_lines hunks.now.marks) steps.old steps.new }
 {
     let mut line = first_line(alloc, table)?;
+    let mut marks = LineMarks::new(hunks);
     let place = Length {
         lines: 0,
         columns: 0,
     };
     let mut reader = Reader {
         text: &mut old,
-        hunks,
+        marks: &mut marks,
         table,
         lines,
         steps,

@@ -8,10 +8,10 @@ use crate::fresh::next_of_line;
 use crate::kept::next_of_old;
 use crate::line::{Line, scan};
 use crate::lines::Lines;
+use crate::marks::LineMarks;
 use crate::old::Old;
 use bracket_nodes::{Kinds, Next, Source};
 use bracket_scan::BracketTable;
-use line_hunks::Hunks;
 use mark_rules::Mark;
 use std::alloc::{AllocError, Global};
 use std::sync::ledger::Ledger;
@@ -20,9 +20,9 @@ use text_lengths::Length;
 
 // A reader of the text of now.
 #[derive(Drop)]
-pub(crate) struct Reader<'o, 'h, 't, 'q, 's, 'l, O, Q, L: Ledger> {
+pub(crate) struct Reader<'o, 'm, 'h, 't, 'q, 's, 'l, O, Q, L: Ledger> {
     pub text: &'o mut O,
-    pub hunks: &'h Hunks,
+    pub marks: &'m mut LineMarks<'h>,
     pub table: &'t BracketTable,
     pub lines: &'q mut Q,
     pub steps: &'s mut Steps<L>,
@@ -31,50 +31,47 @@ pub(crate) struct Reader<'o, 'h, 't, 'q, 's, 'l, O, Q, L: Ledger> {
     pub line: &'l mut Line,
 }
 
-impl<O: Old, Q: Lines, L: Ledger> Source for Reader<'_, '_, '_, '_, '_, '_, O, Q, L> {
+impl<O: Old, Q: Lines, L: Ledger> Source for Reader<'_, '_, '_, '_, '_, '_, '_, O, Q, L> {
     ghost use Rattle.node_reuse.specs.Reader.{sight, asked_so, names_of, seen_at, StandsAt};
     ghost use Rattle.node_reuse.specs.Paying.{paying_at};
 
     ghost ahead = { λ r. seen_at
-        (sight r.table.now (Q.state r.lines.now).contents (O.text r.text.now) r.hunks.now.marks)
+        (sight r.table.now (Q.state r.lines.now).contents (O.text r.text.now) r.marks.now)
         (asked_so (Q.state r.lines.now).asked (names_of r.text r.lines r.steps r.line))
         r.place r.line.now };
 
     ghost paying = { λ r. paying_at
-        (sight r.table.now (Q.state r.lines.now).contents (O.text r.text.now) r.hunks.now.marks)
+        (sight r.table.now (Q.state r.lines.now).contents (O.text r.text.now) r.marks.now)
         r.steps.now r.place r.line.now };
 
     ghost stands = { λ r. StandsAt
-        (sight r.table.now (Q.state r.lines.now).contents (O.text r.text.now) r.hunks.now.marks)
+        (sight r.table.now (Q.state r.lines.now).contents (O.text r.text.now) r.marks.now)
         r.place r.line.now };
 
     fn next(&mut self, alloc: Global, opened: Kinds, level: u64) -> Result<Next, AllocError> {
-        let count = self.hunks.lines();
-        let number = self.place.lines + 1;
-        if is_kept(
-            self.hunks,
-            number,
-            self.place.columns > 0,
-            self.line.scanned,
-        ) {
+        let count = self.marks.lines();
+        let above = self.place.lines;
+        let entered = self.place.columns > 0;
+        if is_kept(self.marks, above, entered, self.line.scanned) {
             return next_of_old(self.text, &mut self.place, opened, level, self.steps);
         }
+        let number = above + 1;
         enter(self.table, self.lines, number, self.line)?;
         next_of_line(alloc, number == count, &mut self.place, self.line)
     }
 }
 
-// Whether line `n` is kept. One that was scanned is new, and any other that was entered is kept: neither's mark is looked
-// up again.
-fn is_kept(hunks: &Hunks, n: u64, entered: bool, scanned: bool) -> bool
-    requires first { 1 ≤ n }
-    requires there { n ≤ length hunks.now.marks }
-    requires scanned { scanned ≡ true → mark_at n hunks.now.marks ≡ New }
+// Whether a line is kept, from 0. One that was scanned is new, and any other that was entered is kept: neither's mark is
+// looked up again.
+fn is_kept(marks: &mut LineMarks<'_>, line: u64, entered: bool, scanned: bool) -> bool
+    requires there { line < length marks.old }
+    requires scanned { scanned ≡ true → mark_at (line + 1) marks.old ≡ New }
     requires entered { entered ≡ true → scanned ≡ false
-        → (i : ℕ) × (mark_at n hunks.now.marks ≡ Kept i) }
+        → (i : ℕ) × (mark_at (line + 1) marks.old ≡ Kept i) }
     ensures unscanned { result ≡ true → scanned ≡ false }
-    ensures kept { result ≡ true → (i : ℕ) × (mark_at n hunks.now.marks ≡ Kept i) }
-    ensures new { result ≡ false → mark_at n hunks.now.marks ≡ New }
+    ensures kept { result ≡ true → (i : ℕ) × (mark_at (line + 1) marks.old ≡ Kept i) }
+    ensures new { result ≡ false → mark_at (line + 1) marks.old ≡ New }
+    ensures same { marks.new ≡ marks.old }
 {
     if scanned {
         return false;
@@ -82,7 +79,7 @@ fn is_kept(hunks: &Hunks, n: u64, entered: bool, scanned: bool) -> bool
     if entered {
         return true;
     }
-    match hunks.mark(n) {
+    match marks.at(line).0 {
         Mark::Kept(_) => true,
         Mark::New => false,
     }

@@ -5,6 +5,7 @@ use Rattle.std.proofs.lemmas.Option.{none-some}
 use Rattle.std.specs.Option.{unwrap_or, ForSome}
 use Rattle.chunk_buffers.specs.declared.span.ChunkSpan.{ChunkSpan}
 use Rattle.chunk_buffers.specs.Chunks.{part_of}
+use Rattle.rb_arena.specs.Items.{values_of}
 use Rattle.rb_arena.specs.RbTree.{IsItem, SplitsAt, EndsWith, first_or, last_or}
 use Rattle.piece_tree.specs.declared.piece.Piece.{Piece}
 use Rattle.piece_tree.specs.declared.piece.Found.{Found}
@@ -130,3 +131,8 @@ pub last_told : (items us later : List (ℕ × Piece)) (r : Option ℕ) (told : 
 last_told items us later None told e is tells = tells ∙ ap (λ l. last_of (entries_of l)) (sym (last_none us is))
 last_told items us later (Some other) told e is tells =
     let (ws, (y, last)) = last_there us other is in tells ws y later (before_place items us ws later other y e last) ∙ sym (last_shown us ws other y last)
+
+-- the items without their names
+pub values_are : (items : List (ℕ × Piece)) → values_of items ≡ in_order items
+values_are [] = refl
+values_are (item ∷ items) = ap (λ l. item.1 ∷ l) (values_are items)

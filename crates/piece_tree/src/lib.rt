@@ -9,5 +9,5 @@ mod run;
 mod tree;
 mod weave;
 
-pub use piece::{Found, Piece, PieceId, PieceSum};
+pub use piece::{Found, Piece, PieceId, PieceSum, piece_of};
 pub use tree::PieceTree;

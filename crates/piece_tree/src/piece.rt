@@ -38,7 +38,7 @@ pub struct Found {
 }
 
 /// The piece of a span.
-pub(crate) fn piece_of(chunks: &Chunks, span: ChunkSpan) -> Piece
+pub fn piece_of(chunks: &Chunks, span: ChunkSpan) -> Piece
     requires { LiesIn chunks.now.buffers span }
     ensures piece { result ≡ piece_of chunks.now.buffers span }
     ensures counted { IsPieceOf chunks.now.buffers result }

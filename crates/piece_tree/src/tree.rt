@@ -1,6 +1,6 @@
 //! The tree of pieces, with look-ups by units and by breaks.
 
-ghost use Rattle.std.specs.Prelude.{◌≡◌, ◌+◌, ◌-◌, ◌<◌, ◌≤◌, ◌^◌, ◌++◌, [], length, map, None, MatchOption, IfSome, OnOk, OnErr};
+ghost use Rattle.std.specs.Prelude.{◌≡◌, ◌+◌, ◌-◌, ◌<◌, ◌≤◌, ◌^◌, ◌++◌, [], length, map, vec_len, vec_capacity, None, MatchOption, IfSome, OnOk, OnErr};
 ghost use Rattle.std.specs.List.{All};
 ghost use Rattle.std.specs.Option.{ForSome, ForNone};
 ghost use Rattle.rb_arena.specs.RbTree.{IsItem};
@@ -216,20 +216,26 @@ impl PieceTree {
     }
 
     /// Appends the spans of the pieces in their order. An error leaves `out` as it was.
+    #[tactic(auto, using(crate::proofs::Places::values_are))]
     pub fn spans(&self, out: &mut Vec<ChunkSpan>) -> Result<(), AllocError>
         ensures ok { OnOk result (out.new.items
             ≡ out.old.items ++ map (λ p. p.span) (pieces_of self.now.entries)) }
         ensures err { OnErr result (out.new.items ≡ out.old.items) }
     {
-        let before = out.len();
-        let mut next = self.tree.first();
-        while let Some(id) = next {
-            if out.push(self.tree.get(id).span).is_err() {
-                out.truncate(before);
-                return Err(AllocError);
-            }
-            next = self.tree.next(id);
-        }
+        let mut pieces = Vec::new(*out.allocator());
+        self.tree.push_items(&mut pieces)?;
+        out.reserve(pieces.len())?;
+        push_spans(&pieces, out);
         Ok(())
+    }
+}
+
+/// Appends the spans of the pieces, for which there is room.
+fn push_spans(pieces: &[Piece], out: &mut Vec<ChunkSpan>)
+    requires { vec_len out.old + length pieces.now ≤ vec_capacity out.old }
+    ensures { out.new.items ≡ out.old.items ++ map (λ p. p.span) pieces.now }
+{
+    for piece in pieces {
+        out.push_reserved(piece.span);
     }
 }

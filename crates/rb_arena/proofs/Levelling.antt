@@ -40,10 +40,10 @@ module _ {X S B : Type 0} {w : Weaving X S B} {L : Lawful w} {is_near : B → Ty
   spot = record { beside = beside; hole = k; red = z.red; datum = z.datum; left = z.left; right = z.right }
 
   -- its item, and those of its right subtree
-  own : Valued w is_item is_value ((i, w.shift acc z.datum.item) ∷ entries w (w.plus acc z.datum.delta) z.right)
+  pub own : Valued w is_item is_value ((i, w.shift acc z.datum.item) ∷ entries w (w.plus acc z.datum.delta) z.right)
   own = valued_right w L is_near is_item is_sum is_value sums parts (entries w acc z.left) ((i, w.shift acc z.datum.item) ∷ entries w (w.plus acc z.datum.delta) z.right) z.can.3
 
-  left_values : Valued w is_item is_value (entries w acc z.left)
+  pub left_values : Valued w is_item is_value (entries w acc z.left)
   left_values = valued_left w L is_near is_item is_sum is_value sums parts (entries w acc z.left) ((i, w.shift acc z.datum.item) ∷ entries w (w.plus acc z.datum.delta) z.right) z.can.3
 
   -- its numbers are those of values, relative to the path

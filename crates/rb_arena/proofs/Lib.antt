@@ -8,6 +8,7 @@ pub mod Growing
 pub mod Heirs
 pub mod Inserting
 pub mod Keeping
+pub mod Items
 pub mod Landing
 pub mod Leaving
 pub mod Levelling
@@ -16,6 +17,9 @@ pub mod Locating
 pub mod Moving
 pub mod Paths
 pub mod Renewing
+pub mod Rewriting
+pub mod RewritingAll
+pub mod RewritingSteps
 pub mod Searches
 pub mod Seeing
 pub mod Setting

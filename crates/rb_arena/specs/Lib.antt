@@ -2,6 +2,7 @@ pub mod Closing
 pub mod Ends
 mod Examples
 pub mod Exchanging
+pub mod Items
 pub mod Landing
 pub mod Leaving
 pub mod Mending
@@ -9,6 +10,7 @@ pub mod Nodes
 pub mod Pairs
 pub mod Placing
 pub mod Relative
+pub mod Rewriting
 pub mod Rising
 pub mod Searching
 pub mod Shifting

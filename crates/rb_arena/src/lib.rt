@@ -10,6 +10,7 @@ mod level;
 mod links;
 mod mend;
 mod merge;
+mod rewrite;
 mod shift;
 mod sums;
 mod tree;

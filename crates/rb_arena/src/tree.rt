@@ -6,6 +6,7 @@ ghost use Rattle.rb_arena.specs.RbTree.{IsItem, AtItem, NamesDiffer};
 ghost use Rattle.rb_arena.specs.Names.{HaveOwnNames};
 
 mod edits;
+mod items;
 mod loose;
 mod search;
 

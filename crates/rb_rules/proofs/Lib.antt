@@ -10,6 +10,7 @@ pub mod Knots
 pub mod Levels
 pub mod Live
 pub mod Memories
+pub mod Rewritings
 pub mod Shapes
 pub mod Shifts
 pub mod Spots

@@ -2,6 +2,7 @@ pub mod Colours
 mod Examples
 pub mod Memory
 pub mod Packing
+pub mod Rewriting
 pub mod Shape
 pub mod Shifts
 pub mod Sound

@@ -2,9 +2,11 @@
 #![tactic(auto)]
 
 mod packed;
+mod rewriting;
 mod slot;
 mod weave;
 
 pub use packed::Packed;
+pub use rewriting::Rewriting;
 pub use slot::{Data, Side, Slot};
 pub use weave::{Turn, Weave};

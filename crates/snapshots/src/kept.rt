@@ -1,11 +1,10 @@
 //! One snapshot.
 
-ghost use Rattle.std.specs.Prelude.{◌≡◌, ◌+◌, ◌-◌, ◌<◌, ◌≤◌, IfOk};
+ghost use Rattle.std.specs.Prelude.{◌≡◌, ◌+◌, ◌-◌, ◌<◌, ◌≤◌};
 ghost use Rattle.std.specs.List.{All};
 ghost use Rattle.snapshots.specs.Spans.{IsSmall, without, passed};
 
 use chunk_buffers::ChunkSpan;
-use std::alloc::{AllocError, Global};
 use std::marker::Model;
 
 /// A snapshot that is open. Contracts see its id, and the spans of what was not read yet.
@@ -31,12 +30,11 @@ impl Model for Kept {
 
 impl Kept {
     /// The text that the spans spell, of which nothing was read.
-    pub(crate) fn of_spans(alloc: Global, id: u64, spans: &[ChunkSpan]) -> Result<Kept, AllocError>
-        requires { All IsSmall spans.now }
-        ensures { IfOk result (λ kept. kept ≡ record { id = id; spans = spans.now }) }
+    pub(crate) fn of_spans(id: u64, spans: Vec<ChunkSpan>) -> Kept
+        requires { All IsSmall spans.items }
+        ensures { result ≡ record { id = id; spans = spans.items } }
     {
-        let spans = Vec::from_slice(alloc, spans)?;
-        Ok(Kept { id, spans, read: 0 })
+        Kept { id, spans, read: 0 }
     }
 
     pub(crate) fn id(&self) -> u64

@@ -20,7 +20,6 @@ use text_lengths::GREATEST_NUMBER;
 /// buffers that only grow shows the same units for good.
 #[derive(Drop)]
 pub struct Shelf {
-    alloc: Global,
     snapshots: Vec<Kept>,
     next_id: u64,
 }
@@ -39,7 +38,6 @@ impl Shelf {
         ensures { result ≡ record { snapshots = []; next_id = 1 } }
     {
         Shelf {
-            alloc,
             snapshots: Vec::new(alloc),
             next_id: 1,
         }
@@ -47,18 +45,18 @@ impl Shelf {
 
     /// Keeps the text that the spans spell, and answers its id. It refuses with Limit where 64 are open, or where the
     /// id would pass 2^63 - 1. An error leaves the shelf as it was.
-    pub fn take(&mut self, spans: &[ChunkSpan]) -> Result<u64, ShelfError>
-        requires { All IsSmall spans.now }
-        ensures change { TakesText result self.old self.new spans.now }
+    pub fn take(&mut self, spans: Vec<ChunkSpan>) -> Result<u64, ShelfError>
+        requires { All IsSmall spans.items }
+        ensures change { TakesText result self.old self.new spans.items }
         ensures inside { (buffers : List (List ℕ)) → LieIn buffers self.old
-            → All (LiesIn buffers) spans.now → LieIn buffers self.new }
+            → All (LiesIn buffers) spans.items → LieIn buffers self.new }
         ensures err { OnErr result (self.new ≡ self.old) }
     {
         if self.is_full() {
             return Err(ShelfError::Limit);
         }
         let id = self.next_id;
-        let kept = Kept::of_spans(self.alloc, id, spans).map_err(|_| ShelfError::Memory)?;
+        let kept = Kept::of_spans(id, spans);
         self.snapshots.push(kept).map_err(|_| ShelfError::Memory)?;
         self.next_id = id + 1;
         Ok(id)

@@ -5,6 +5,7 @@ pub mod Remembering
 pub mod Places
 pub mod LookUps
 pub mod Edits
+pub mod Again
 pub mod Along
 mod Examples
 pub use Rattle.piece_tree.specs.Costs

@@ -7,6 +7,7 @@ mod cursor;
 mod edit;
 mod lines;
 mod look_up;
+mod put;
 mod queries;
 mod remembered;
 mod room;

@@ -1,7 +1,8 @@
 //! Pieces that were looked up and are remembered.
 
-ghost use Rattle.std.specs.Prelude.{◌≡◌, ◌-◌, ◌<◌, ◌≤◌, nat_lt, List, [], length, slice_index_or, IfSome, IsTrue};
+ghost use Rattle.std.specs.Prelude.{◌≡◌, ◌-◌, ◌<◌, ◌≤◌, ◌++◌, ◌∷◌, List, [], length, slice_index_or, IfSome, IsTrue};
 ghost use Rattle.std.specs.List.{All};
+ghost use Rattle.std.specs.List.Sorted.{IsNonDecreasingBy};
 ghost use Rattle.piece_tree.specs.Pieces.{Entry, IsFound};
 ghost use Rattle.text_buffer.specs.LookUps.{Has};
 ghost use Rattle.text_buffer.specs.Remembering.{end_of, KeepsBefore};
@@ -10,9 +11,6 @@ use crate::look_up::Sought;
 use piece_tree::Found;
 use std::alloc::{AllocError, Global};
 use std::marker::Model;
-
-/// Where more pieces than that are left of earlier edits, they are forgotten before others are looked up.
-const MOST_LEFT: usize = 64;
 
 /// Room for more pieces than that is given back with them.
 const MOST_ROOM: usize = 1024;
@@ -29,6 +27,8 @@ const MOST_ASKED: usize = 16;
 pub(crate) struct Remembered {
     pieces: Vec<Found>,
     settled: usize,
+    /// Whether all are left of earlier edits: none came since the last one.
+    are_left: bool,
 }
 
 impl Model for Remembered {
@@ -52,16 +52,16 @@ impl Remembered {
         Remembered {
             pieces: Vec::new(alloc),
             settled: 0,
+            are_left: true,
         }
     }
 
-    /// Before others come: where none came since the last edit, and many are left of those before or much room, all are forgotten.
-    pub(crate) fn begin(&mut self)
+    /// Forgets those that are left of earlier edits, where none came since and they are more than so many.
+    pub(crate) fn forget_left(&mut self, most: usize)
         ensures { (entries : List Entry) → All (IsFound entries) self.old
             → All (IsFound entries) self.new }
     {
-        let is_large = self.settled > MOST_LEFT || self.pieces.capacity() > MOST_ROOM;
-        if is_large && self.settled == self.pieces.len() {
+        if self.are_left && self.pieces.len() > most {
             self.clear();
         }
     }
@@ -123,7 +123,8 @@ impl Remembered {
         if self.pieces.len() >= MOST_KEPT {
             self.clear();
         }
-        let _ = self.pieces.push(*found);
+        self.push(found);
+        self.are_left = false;
     }
 
     /// The same, unless it is remembered already.
@@ -148,30 +149,56 @@ impl Remembered {
     }
 
     /// Forgets those that do not end before the offset, from which on the text has changed, and those that have no order. It remembers
-    /// a piece that the text has there now.
+    /// a piece that the text has there now, where there is room for it.
     pub(crate) fn change_from(&mut self, offset: u64, told: Option<Found>)
         ensures { (old new : List Entry) → All (IsFound old) self.old → KeepsBefore old new offset
             → IfSome told (IsFound new) → All (IsFound new) self.new }
     {
-        self.settled = self.pieces[..self.settled].partition_point(|piece| end_of(piece)
-            < u128::from(offset));
-        self.pieces.truncate(self.settled);
+        self.forget_from(offset);
+        self.are_left = true;
         if let Some(found) = told {
-            self.push_last(found);
+            self.push_in_room(&found);
         }
     }
 
-    // Remembers a piece that stands behind the others, where there is room for it and those have their order.
-    fn push_last(&mut self, found: Found)
-        ensures { (entries : List Entry) → All (IsFound entries) self.old → IsFound entries found
-            → All (IsFound entries) self.new }
+    fn forget_from(&mut self, offset: u64)
+        ensures { (old new : List Entry) → All (IsFound old) self.old → KeepsBefore old new offset
+            → All (IsFound new) self.new }
     {
-        let has_room = self.pieces.len() < self.pieces.capacity();
-        let is_settled = self.settled == self.pieces.len();
-        if has_room && is_settled && end_by(&self.pieces, found.before.units) {
-            self.pieces.push_reserved(found);
-            self.settled += 1;
+        self.settled = self.pieces[..self.settled].partition_point(|piece| end_of(piece)
+            < u128::from(offset));
+        self.pieces.truncate(self.settled);
+    }
+
+    // Remembers a piece too, where there is room for it.
+    fn push_in_room(&mut self, found: &Found)
+        ensures { (entries : List Entry) → All (IsFound entries) self.old
+            → IsFound entries found.now → All (IsFound entries) self.new }
+    {
+        if self.pieces.len() < self.pieces.capacity() {
+            self.push(found);
         }
+    }
+
+    // Remembers a piece too, unless memory is short.
+    fn push(&mut self, found: &Found)
+        ensures { (entries : List Entry) → All (IsFound entries) self.old
+            → IsFound entries found.now → All (IsFound entries) self.new }
+    {
+        let goes_on = self.goes_on_with(found);
+        if self.pieces.push(*found).is_ok() && goes_on {
+            self.settled = self.pieces.len();
+        }
+    }
+
+    // Whether all have their order, and the piece stands behind them.
+    fn goes_on_with(&self, found: &Found) -> bool
+        ensures { IsTrue result → IsNonDecreasingBy end_of (self.now ++ found.now ∷ []) }
+    {
+        if self.settled < self.pieces.len() {
+            return false;
+        }
+        end_by(&self.pieces, found.before.units)
     }
 }
 

@@ -1,5 +1,6 @@
 //! The pieces that edits will ask for, each looked up once.
 
+ghost use Rattle.std.specs.Prelude.{IfSome};
 ghost use Rattle.std.specs.List.{All};
 ghost use Rattle.piece_tree.specs.Pieces.{IsFound};
 ghost use Rattle.text_buffer.specs.LookUps.{Has, IsThere};
@@ -13,42 +14,54 @@ use text_rules::Op;
 /// Through so many pieces a line is followed to its end; that of a longer one is searched for.
 const MOST_FOLLOWED: usize = 8;
 
+/// No more pieces than that are kept from one edit to the look-ups of lines for the next.
+const MOST_LEFT: usize = 8;
+
 /// Remembers the pieces that have the units at the ends of the ops' spans, beside those that were located before. Where there is no
 /// memory for it, none of these is remembered.
 pub(crate) fn look_up_all(pieces: &PieceTree, ops: &[Op], remembered: &mut Remembered)
     requires { All (IsFound pieces.now.entries) remembered.old }
     ensures { All (IsFound pieces.now.entries) remembered.new }
 {
-    remembered.begin();
+    // The text may go on where it was changed last.
+    let near = remembered.last();
+    remembered.forget_left(0);
     if remembered.make_room(ops.len().saturating_mul(2)).is_err() {
         return;
     }
     // What was located came in any order.
     remembered.settle();
     for op in ops {
-        look_up_ends(pieces, op.span, remembered);
+        look_up_ends(pieces, &near, op.span, remembered);
     }
     remembered.settle();
 }
 
 /// Looks up the pieces at both ends of a span, unless it is turned round.
-fn look_up_ends(pieces: &PieceTree, span: Span, remembered: &mut Remembered)
-    requires { All (IsFound pieces.now.entries) remembered.old }
+fn look_up_ends(pieces: &PieceTree, other: &Option<Found>, span: Span, remembered: &mut Remembered)
+    requires other { IfSome other.now (IsFound pieces.now.entries) }
+    requires remembered { All (IsFound pieces.now.entries) remembered.old }
     ensures { All (IsFound pieces.now.entries) remembered.new }
 {
     if span.start <= span.end {
-        look_up_unit(pieces, span.start, remembered);
-        look_up_unit(pieces, span.end, remembered);
+        look_up_unit(pieces, other, span.start, remembered);
+        look_up_unit(pieces, other, span.end, remembered);
     }
 }
 
 /// Remembers the piece that has the unit at this offset, if there is one.
-pub(crate) fn look_up_unit(pieces: &PieceTree, offset: u64, remembered: &mut Remembered)
-    requires { All (IsFound pieces.now.entries) remembered.old }
+pub(crate) fn look_up_unit(
+    pieces: &PieceTree,
+    other: &Option<Found>,
+    offset: u64,
+    remembered: &mut Remembered,
+)
+    requires other { IfSome other.now (IsFound pieces.now.entries) }
+    requires remembered { All (IsFound pieces.now.entries) remembered.old }
     ensures { All (IsFound pieces.now.entries) remembered.new }
 {
     if offset < pieces.len() {
-        look_up(pieces, Sought::Offset(offset), remembered);
+        look_up(pieces, other, Sought::Offset(offset), remembered);
     }
 }
 
@@ -58,12 +71,13 @@ pub(crate) fn look_up_line(pieces: &PieceTree, line: u64, remembered: &mut Remem
     requires { All (IsFound pieces.now.entries) remembered.old }
     ensures { All (IsFound pieces.now.entries) remembered.new }
 {
-    remembered.begin();
+    let near = remembered.last();
+    remembered.forget_left(MOST_LEFT);
     if 1 < line && line - 1 <= pieces.breaks() {
-        let first = look_up(pieces, Sought::Break(line - 1), remembered);
+        let first = look_up(pieces, &near, Sought::Break(line - 1), remembered);
         follow_line(pieces, first, line, remembered);
     } else if line == 1 && 0 < pieces.len() {
-        let first = look_up(pieces, Sought::Offset(0), remembered);
+        let first = look_up(pieces, &near, Sought::Offset(0), remembered);
         follow_line(pieces, first, line, remembered);
     }
 }
@@ -88,9 +102,15 @@ fn follow_line(pieces: &PieceTree, first: Found, line: u64, remembered: &mut Rem
     }
 }
 
-// The piece that has what is sought. It is looked up near the one that came last, and is remembered.
-fn look_up(pieces: &PieceTree, sought: Sought, remembered: &mut Remembered) -> Found
+// The piece that has what is sought. It is looked up near the one that came last, or else near another, and is remembered.
+fn look_up(
+    pieces: &PieceTree,
+    other: &Option<Found>,
+    sought: Sought,
+    remembered: &mut Remembered,
+) -> Found
     requires there { IsThere pieces.now.entries sought }
+    requires other { IfSome other.now (IsFound pieces.now.entries) }
     requires remembered { All (IsFound pieces.now.entries) remembered.old }
     ensures found { Has pieces.now.entries result sought }
     ensures remembered { All (IsFound pieces.now.entries) remembered.new }
@@ -98,7 +118,8 @@ fn look_up(pieces: &PieceTree, sought: Sought, remembered: &mut Remembered) -> F
     if let Some(found) = remembered.find(sought) {
         return found;
     }
-    let found = piece_near(pieces, &remembered.last(), sought);
+    let near = remembered.last().or(*other);
+    let found = piece_near(pieces, &near, sought);
     remembered.add(&found);
     found
 }

@@ -1,26 +1,24 @@
 //! The text, with its edits.
 
-ghost use Rattle.std.specs.Prelude.{◌≡◌, ℕ, ◌+◌, ◌-◌, ◌*◌, ◌<◌, ◌≤◌, ◌^◌, ◌&&◌, ◌++◌, ◌∷◌, List, [], true, false, if◌then◌else◌, length, min, map, take, drop, slice_index, slice_index_or, OnOk, OnErr, IfOk, IfSome};
+ghost use Rattle.std.specs.Prelude.{◌≡◌, ◌+◌, ◌-◌, ◌<◌, ◌≤◌, ◌^◌, ◌++◌, [], false, if◌then◌else◌, length, min, take, drop, OnOk, OnErr, IfOk};
 ghost use Rattle.std.specs.List.{All, flat_map};
-ghost use Rattle.std.specs.Option.{ForSome};
-ghost use Rattle.chunk_buffers.specs.Chunks.{units_at, unit_count, LiesIn, Extends, EndsLast};
-ghost use Rattle.line_starts.specs.Starts.{break_count};
+ghost use Rattle.chunk_buffers.specs.Chunks.{units_at, unit_count, LiesIn, Extends};
 ghost use Rattle.piece_tree.specs.Costs.{WithinLookUps};
-ghost use Rattle.piece_tree.specs.Pieces.{IsPieceOf, span_of};
 ghost use Rattle.unit_text.specs.Units.{is_place};
 ghost use Rattle.text_rules.specs.Positions.{position_of, is_position, offset_of};
 ghost use Rattle.text_rules.specs.Edits.{edited};
 ghost use Rattle.text_rules.specs.Dirty.{dirty_lines, replaced};
-ghost use Rattle.text_rules.specs.Lines.{Line, lines_of, line_at, line_start, line_feed, carriage_return, begins_with};
-ghost use Rattle.text_rules.specs.Breaks.{ends_with, joins_pair, count_to, break_ends};
+ghost use Rattle.text_rules.specs.Lines.{Line, lines_of, line_at, line_start};
+ghost use Rattle.text_buffer.specs.Again.{TypesOn, CanTypeOn};
 ghost use Rattle.text_buffer.specs.Along.{LeavesLittle};
 ghost use Rattle.text_buffer.specs.Edits.{joins_of, IsTyped, AreSameBefore, AreSameBehind};
 ghost use Rattle.text_buffer.specs.Room.{IsEnough, KeepsRoom, HasSpent, need_of_edit, units_beside_text};
-ghost use Rattle.text_buffer.specs.Text.{text_of, IsAdded, GrowsAt};
+ghost use Rattle.text_buffer.specs.Text.{text_of, GrowsAt};
 ghost use Rattle.text_buffer.specs.Views.{IsView};
 
 use crate::beside::units_along;
 use crate::lines::LineReader;
+use crate::put::put_some;
 use crate::remembered::Remembered;
 use crate::room::Need;
 use crate::runs::Runs;
@@ -145,7 +143,7 @@ impl TextBuffer {
     {
         look_up_line(&self.pieces, position.line, &mut self.remembered);
         let offset = self.offset(position)?;
-        look_up_unit(&self.pieces, offset, &mut self.remembered);
+        look_up_unit(&self.pieces, &None, offset, &mut self.remembered);
         Some(offset)
     }
 
@@ -185,6 +183,38 @@ impl TextBuffer {
         ensures before { AreSameBefore result self.old.units self.new.units }
         ensures after { AreSameBehind result self.old.units self.new.units }
     {
+        self.replace_again(span, text, &mut None)
+    }
+
+    /// `replace`, of a text that may lie in the buffers since it was put in before: where it lies at the place, and nothing comes with
+    /// it, it is not appended. The place tells then where it lies. Nothing rests on what it told.
+    pub fn replace_again(
+        &mut self,
+        span: Span,
+        text: &[u16],
+        place: &mut Option<ChunkSpan>,
+    ) -> Dirty
+        requires ordered { span.start ≤ span.end }
+        requires within { span.end ≤ length self.old.units }
+        requires room { IsEnough self.old.room (need_of_edit text.now) }
+        requires small { length (edited self.old.units
+            (record { span = span; text = text.now; force = false })) < 2 ^ 62 }
+        ensures units { self.new.units
+            ≡ edited self.old.units (record { span = span; text = text.now; force = false }) }
+        ensures pieces { length self.new.spans ≤ length self.old.spans + 2 }
+        ensures taken { LeavesLittle self.old span → length self.new.spans ≤ length self.old.spans }
+        ensures typed { place.old ≡ None → TypesOn self.old self.new span text.now }
+        ensures grows { place.old ≡ None → CanTypeOn self.old self.new span text.now }
+        ensures appended { unit_count self.new.buffers
+            ≤ unit_count self.old.buffers + length text.now + units_beside_text }
+        ensures eight { unit_count self.new.buffers
+            ≤ unit_count self.old.buffers + length text.now + 8 }
+        ensures grown { Extends self.old.buffers self.new.buffers }
+        ensures spent { HasSpent (need_of_edit text.now) self.old.room self.new.room }
+        ensures dirty { result ≡ dirty_lines self.old.units span text.now }
+        ensures before { AreSameBefore result self.old.units self.new.units }
+        ensures after { AreSameBehind result self.old.units self.new.units }
+    {
         let view = View {
             pieces: &self.pieces,
             chunks: &self.chunks,
@@ -201,7 +231,7 @@ impl TextBuffer {
         let at = view.found_before(&ends.start, before.len() as u64);
         let from = span.start - before.len() as u64;
         let to = span.end + after.len() as u64;
-        let added = append_some(&mut self.chunks, before, text, after);
+        let added = put_some(&mut self.chunks, before, text, after, place);
         let told = self.pieces.splice(at, from, to - from, added, &self.chunks);
         self.remembered.change_from(from, told);
         dirty
@@ -352,29 +382,4 @@ impl Flat for TextBuffer {
     fn copy(&self, start: u64, end: u64, out: &mut Vec<u16>) -> Result<(), AllocError> {
         self.value(Span { start, end }, out)
     }
-}
-
-// Appends the three texts as one, if they have any unit, and answers their piece.
-fn append_some(chunks: &mut Chunks, before: &[u16], text: &[u16], after: &[u16]) -> Option<Piece>
-    requires room { length (before.now ++ text.now ++ after.now) < chunks.old.spare }
-    requires breaks { break_count (before.now ++ text.now ++ after.now)
-        ≤ chunks.old.spare_breaks }
-    ensures added { IsAdded chunks.new.buffers (span_of result)
-        (before.now ++ text.now ++ after.now) }
-    ensures counted { ForSome result (IsPieceOf chunks.new.buffers) }
-    ensures grown { Extends chunks.old.buffers chunks.new.buffers }
-    ensures units { unit_count chunks.new.buffers
-        ≤ unit_count chunks.old.buffers + length (before.now ++ text.now ++ after.now) + 1 }
-    ensures spare { chunks.old.spare
-        ≤ chunks.new.spare + length (before.now ++ text.now ++ after.now) + 1 }
-    ensures spare_breaks { chunks.old.spare_breaks
-        ≤ chunks.new.spare_breaks + break_count (before.now ++ text.now ++ after.now) }
-    ensures last { IfSome (span_of result) (λ span.
-        EndsLast chunks.old.buffers chunks.new.buffers span (before.now ++ text.now ++ after.now)) }
-{
-    if before.is_empty() && text.is_empty() && after.is_empty() {
-        return None;
-    }
-    let (span, breaks) = chunks.append_joined(before, text, after);
-    Some(Piece { span, breaks })
 }

@@ -17,7 +17,7 @@ use crate::model::Model;
 use crate::ready::{Action, Ready};
 use document_rules::ModelError;
 use edit_batches::{Batch, sorted_ops};
-use model_page::{Change, Way, need_of};
+use model_page::{Change, PlacedBatch, Way, need_of};
 use std::alloc::{AllocError, Global};
 use text_lengths::{Span, raised};
 use text_rules::Op;
@@ -88,7 +88,11 @@ impl Model {
         self.page
             .reserve(need_of(&batch))
             .map_err(|_| ModelError::Memory)?;
-        Ok(Ready::making(next, Action::Edit(Change::Ops { batch, inverse })))
+        let change = Change::Ops {
+            batch: PlacedBatch::of(self.alloc, batch),
+            inverse: PlacedBatch::of(self.alloc, inverse),
+        };
+        Ok(Ready::making(next, Action::Edit(change)))
     }
 
     /// Carries out what was prepared, which makes the next version, in the room that was made. It takes no memory. The

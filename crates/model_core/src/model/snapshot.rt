@@ -24,7 +24,7 @@ impl Model {
             .text()
             .spans(&mut spans)
             .map_err(|_| ModelError::Memory)?;
-        self.shelf.take(spans.as_slice()).map_err(shelf_error_of)
+        self.shelf.take(spans).map_err(shelf_error_of)
     }
 
     /// Reads a snapshot: appends the first `count` units of what is left of it, or all where fewer are left; one fewer where the

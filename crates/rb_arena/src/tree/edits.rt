@@ -1,21 +1,23 @@
 //! Items come, go and move.
 ghost use Rattle.std.specs.Prelude.{◌≡◌, ◌+◌, ◌<◌, ◌∷◌};
-ghost use Rattle.rb_rules.specs.Woven.{sum_of};
+ghost use Rattle.rb_rules.specs.Rewriting.{rewritten_all, onward_all};
+ghost use Rattle.rb_rules.specs.Woven.{sum_of, Valued};
 ghost use Rattle.rb_arena.specs.RbTree.{IsItem, PlaceAfter, HasInstead, HasPut, HasAfter, HasInsteadAndAfter, LeavesOut};
 ghost use Rattle.rb_arena.specs.RbTree.{SumsWith, SumsPut, SumsTo, SumsWithAndTo};
 ghost use Rattle.rb_arena.specs.RbTree.{CanMoveAfter, SumsMoved, HasMoved};
 ghost use Rattle.rb_arena.specs.Pairs.{HasNext, SumsMerged, HasMerged};
 
-use crate::climb::renew_over;
+use crate::climb::{LONGEST, renew_over};
 use crate::insert::{hang_new, insert_at, leaf_at};
 use crate::leave::{item_for, leave};
 use crate::merge::merge;
+use crate::rewrite::rewrite_below;
 use crate::shift::{reach_for, shift_from};
 use crate::sums::replace_item;
 use crate::tree::RbTree;
 use crate::walk::place_after;
 use raw_arena::NodeId;
-use rb_rules::Weave;
+use rb_rules::{Rewriting, Weave};
 
 impl<W: Weave> RbTree<W> {
     /// Puts another item in the place of that one, under its name. Where its sum is the same, no other node is renewed.
@@ -135,5 +137,20 @@ impl<W: Weave> RbTree<W> {
         let at = place_after(&self.links, id);
         shift_from::<W>(&mut self.links, at, by);
         self.reach = reach;
+    }
+
+    /// Rewrites the items where they stand, in order. Where items are skipped only the topmost node of theirs is read.
+    #[tactic(auto, using(crate::proofs::Seeing::spare_seen))]
+    pub fn rewrite<R: Rewriting<W>>(&mut self, how: &mut R)
+        requires values { Valued W.weaving W.is_item W.is_value
+            (rewritten_all R.rewritten R.onward how.old self.old.items) }
+        ensures items { self.new.items
+            ≡ rewritten_all R.rewritten R.onward how.old self.old.items }
+        ensures onward { how.new ≡ onward_all R.rewritten R.onward how.old self.old.items }
+        ensures loose { self.new.loose ≡ self.old.loose }
+        ensures spare { self.new.spare ≡ self.old.spare }
+    {
+        let root = self.links.root;
+        rewrite_below::<W, R>(&mut self.links, root, W::still(), LONGEST, how);
     }
 }

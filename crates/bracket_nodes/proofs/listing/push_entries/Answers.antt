@@ -1,6 +1,7 @@
 use Rattle.std.proofs.Common.{◌≡◌, ◌*◌, ◌<◌, ◌∙◌, refl, ap, arith}
 use Rattle.std.proofs.lemmas.List.Elements.{All-pop}
 use Rattle.bracket_tree_rules.specs.Tree.{tree_entries}
+use Rattle.bracket_nodes.specs.Seen.{seen_tree}
 use Rattle.bracket_nodes.specs.Shapes.{tree_size}
 use Rattle.bracket_nodes.specs.Walks.{chosen}
 use Rattle.bracket_nodes.specs.Listing.{entries_left, steps_left, all_steps, HasRoomLeft}
@@ -10,7 +11,7 @@ use Rattle.bracket_nodes.proofs.listing.push_entries.Goals as goal
 pub loop-next-smaller-in-Continue-branch-2 : goal.loop-next-smaller-in-Continue-branch-2
 loop-next-smaller-in-Continue-branch-2 c =
     let popped = steps_popped c.loop-next.left.items c.pop.new.self.items c.in-Some.next c.in-Some.ensures.items in
-    let next : steps_left c.in-Some.next ≡ 2 * tree_size c.in-Part.here.node.now.value = ap steps_left c.in-Part.is in
+    let next : steps_left c.in-Some.next ≡ 2 * tree_size (seen_tree c.in-Part.here.node) = ap steps_left c.in-Part.is in
     let less : all_steps c.push_first.new.left.items < all_steps c.loop-next.left.items =
     omega (arith, c.in_ok-push_first-in-Part.ensures.fewer) in
     less
@@ -20,7 +21,7 @@ loop-next-preserved-in-Continue-branch-2 c =
     let from = c.args.lines.from in
     let to = c.args.lines.to in
     let next : entries_left from to c.in-Some.next
-    ≡ chosen from to (tree_entries c.in-Part.here.start c.in-Part.level c.in-Part.here.node.now.value) = ap (entries_left from to) c.in-Part.is in
+    ≡ chosen from to (tree_entries c.in-Part.here.start c.in-Part.level (seen_tree c.in-Part.here.node)) = ap (entries_left from to) c.in-Part.is in
     record {
       listed = listed_on from to c.loop-next.left.items c.push_first.new.left.items c.pop.new.self.items c.in-Some.next
           c.loop-next.out.items c.push_first.new.out.items c.in-Some.ensures.items

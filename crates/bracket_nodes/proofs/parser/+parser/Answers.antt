@@ -5,7 +5,7 @@ use Rattle.text_lengths.specs.declared.Length.{Length}
 use Rattle.bracket_rules.specs.declared.TheConstants.{MOST_OPEN}
 use Rattle.std.proofs.lemmas.List.{append-nil}
 use Rattle.bracket_tree_rules.specs.Tree.{nothing}
-use Rattle.bracket_nodes.specs.SharedLists.{shared_items, shared_weight}
+use Rattle.bracket_nodes.specs.Joining.{joined_items, joined_weight}
 use Rattle.bracket_nodes.specs.declared.parser.Taken.{Taken}
 use Rattle.bracket_nodes.specs.Source.{Ahead, Takes, closing_taken, pair_taken}
 use Rattle.bracket_nodes.proofs.Parsing.{Takes-end, AsksOn-same, AsksOn-then, Takes-ready, Takes-closing, Takes-capped, Takes-paired, asks_not_missing, Reads-start, Reads-one, Listed-after, bracket_weighs}
@@ -18,7 +18,7 @@ taken_as r x P h p = IfOk-weaker r (λ (y : Taken). y ≡ x) P (λ y e. subst P 
 pub parse_list-loop-joiner-init : goal.parse_list-loop-joiner-init
 parse_list-loop-joiner-init g t c =
     let start : Ahead = g.S.Source.ahead c.args.source.now in
-    (rw c.new-joiner.ensures (Reads-start start c.args.opened c.args.level c.requires.some), c.requires.stands, AsksOn-same start.asking, λ room. PaysOn-same (g.S.Source.paying c.args.source.now))
+    (rw (c.new-joiner.ensures.items, c.new-joiner.ensures.weight) (Reads-start start c.args.opened c.args.level c.requires.some), c.requires.stands, AsksOn-same start.asking, λ room. PaysOn-same (g.S.Source.paying c.args.source.now))
 
 pub parse_list-loop-joiner-preserved : goal.parse_list-loop-joiner-preserved
 parse_list-loop-joiner-preserved g t c =
@@ -28,7 +28,7 @@ parse_list-loop-joiner-preserved g t c =
     let new : Ahead = g.S.Source.ahead c.take.new.source in (
       rw ((c.in_ok-push-in-One.ensures).in_order, (c.in_ok-push-in-One.ensures).weighs)
           (Reads-one start now new c.args.opened c.args.level
-          (shared_items c.loop-joiner.joiner.lists.items) (shared_weight c.loop-joiner.joiner.lists.items) c.in-One.node c.loop-joiner.invariant.0 parsed),
+          (joined_items c.loop-joiner.joiner) (joined_weight c.loop-joiner.joiner) c.in-One.node c.loop-joiner.invariant.0 parsed),
       c.in_ok-node.ensures.stands,
       AsksOn-then start.asking now.asking new.asking c.loop-joiner.invariant.2 c.take.ensures.asks,
       λ room.
@@ -41,7 +41,7 @@ pub parse_list-returns-in-Last-clause-listed : goal.parse_list-returns-in-Last-c
 parse_list-returns-in-Last-clause-listed g t c =
     let listed = rw c.in-Last.is at c.in_ok-node.ensures.takes in
     Listed-after (g.S.Source.ahead c.args.source.now) (g.S.Source.ahead c.loop-joiner.source) (g.S.Source.ahead c.take.new.source) c.args.opened c.args.level
-    (shared_items c.loop-joiner.joiner.lists.items) (shared_weight c.loop-joiner.joiner.lists.items) c.in-Last.node c.in_ok-list-in-Last.list c.in-Last.stop
+    (joined_items c.loop-joiner.joiner) (joined_weight c.loop-joiner.joiner) c.in-Last.node c.in_ok-list-in-Last.list c.in-Last.stop
     c.loop-joiner.invariant.0 listed
     (rw (c.in_ok-push-in-Last.ensures).in_order at (c.in_ok-list-in-Last.ensures).in_order)
     (rw (c.in_ok-push-in-Last.ensures).weighs at (c.in_ok-list-in-Last.ensures).weighs)
@@ -50,10 +50,10 @@ pub parse_list-returns-in-Nothing-clause-listed : goal.parse_list-returns-in-Not
 parse_list-returns-in-Nothing-clause-listed g t c =
     let listed = rw c.in-Nothing.is at c.in_ok-node.ensures.takes in
     Listed-after (g.S.Source.ahead c.args.source.now) (g.S.Source.ahead c.loop-joiner.source) (g.S.Source.ahead c.take.new.source) c.args.opened c.args.level
-    (shared_items c.loop-joiner.joiner.lists.items) (shared_weight c.loop-joiner.joiner.lists.items) nothing c.in_ok-list-in-Nothing.list c.in-Nothing.stop
+    (joined_items c.loop-joiner.joiner) (joined_weight c.loop-joiner.joiner) nothing c.in_ok-list-in-Nothing.list c.in-Nothing.stop
     c.loop-joiner.invariant.0 listed
-    (rw (append-nil (shared_items c.loop-joiner.joiner.lists.items)) (c.in_ok-list-in-Nothing.ensures).in_order)
-    (rw (add-zero (shared_weight c.loop-joiner.joiner.lists.items)) (c.in_ok-list-in-Nothing.ensures).weighs)
+    (rw (append-nil (joined_items c.loop-joiner.joiner)) (c.in_ok-list-in-Nothing.ensures).in_order)
+    (rw (add-zero (joined_weight c.loop-joiner.joiner)) (c.in_ok-list-in-Nothing.ensures).weighs)
 
 pub take-returns-in-End-clause-takes : goal.take-returns-in-End-clause-takes
 take-returns-in-End-clause-takes g t c =

@@ -1,6 +1,6 @@
 use Rattle.std.proofs.Common.{◌+◌, ◌-◌, ◌*◌}
 use Rattle.bracket_rules.specs.declared.TheConstants.{MOST_OPEN}
-use Rattle.bracket_nodes.specs.SharedLists.{shared_items, shared_weight}
+use Rattle.bracket_nodes.specs.Joining.{joined_items, joined_weight}
 use Rattle.bracket_nodes.specs.Source.{AsksOn, Reads, weight_ahead}
 use Rattle.bracket_nodes.specs.Paying.{HasRoom, PaysOn}
 use Rattle.bracket_nodes.proofs.parser.+parser.Given as goal
@@ -14,7 +14,7 @@ decreases-take g l = 2 * (MOST_OPEN - l.level)
 abbrev pub invariant-parse_list-loop-joiner : goal.invariant-parse_list-loop-joiner
 invariant-parse_list-loop-joiner g l =
     Reads (g.S.Source.ahead l.initial.source) (g.S.Source.ahead l.source) l.opened l.level
-    (shared_items l.joiner.lists.items) (shared_weight l.joiner.lists.items)
+    (joined_items l.joiner) (joined_weight l.joiner)
     × g.S.Source.stands l.source
     × AsksOn (g.S.Source.ahead l.initial.source).asking (g.S.Source.ahead l.source).asking
     × (HasRoom (g.S.Source.paying l.initial.source) l.level → PaysOn (g.S.Source.paying l.initial.source) (g.S.Source.paying l.source))

@@ -2,9 +2,8 @@ use Rattle.std.proofs.Common.{◌≡◌, ℤ, ◌-◌, ◌<◌, ◌^◌, pos, �
 use Rattle.std.proofs.lemmas.Int.{ints}
 use Rattle.rb_rules.specs.Shifts.{shifted}
 use Rattle.decoration_rules.specs.declared.Edit.{Edit}
-use Rattle.decoration_rules.specs.Moves.{offset_limit, moved_mark}
 use Rattle.interval_deltas.specs.Weave.{marks, is_mark}
-use Rattle.interval_deltas.specs.Kept.{Each, AreMarks, CanMove, as_mark}
+use Rattle.interval_deltas.specs.Kept.{Each, AreMarks}
 use Rattle.interval_deltas.proofs.Items.{each_left, each_right, each_both, sum_low}
 use Rattle.interval_deltas.proofs.Moving.{past_items, moved_are}
 use Rattle.interval_deltas.proofs.Untouched.{small_behind}
@@ -38,7 +37,7 @@ shift_after-requires-clause-values c = λ us vs s.
     let small = small_behind c.args.edit.now c.args.tree.now.items c.args.last.now c.next_after.result c.requires.upright c.requires.named c.requires.values c.requires.fits c.requires.after c.next_after.ensures (sym c.is_some.ensures ∙ c.if-is_some.true) in
     let by = lengthened edit in let is = fits edit small.0 small.1 in
     subst (Each is_mark) (sym (past_items edit by vs c.requires.upright is (each_right is_mark us vs (subst AreMarks s.0 c.requires.values)) (c.requires.after us vs s)))
-    (moved_are edit vs (each_right (λ m. (moved_mark edit (as_mark m)).span.end < offset_limit) us vs (subst (CanMove edit) s.0 c.requires.fits)))
+    (moved_are edit vs (c.requires.fits us vs s))
 
 pub shift_after-requires-clause-sum : goal.shift_after-requires-clause-sum
 shift_after-requires-clause-sum c = λ us vs s.
@@ -49,7 +48,7 @@ shift_after-requires-clause-sum c = λ us vs s.
     sum_low (us ++ shifted marks by vs)
     (each_both is_mark us (shifted marks by vs) (each_left is_mark us vs all)
     (subst (Each is_mark) (sym (past_items edit by vs c.requires.upright is (each_right is_mark us vs all) (c.requires.after us vs s)))
-    (moved_are edit vs (each_right (λ m. (moved_mark edit (as_mark m)).span.end < offset_limit) us vs (subst (CanMove edit) s.0 c.requires.fits)))))
+    (moved_are edit vs (c.requires.fits us vs s))))
 
 pub returns-then-is_some-clause-moved : goal.returns-then-is_some-clause-moved
 returns-then-is_some-clause-moved c = λ us vs s.

@@ -1,14 +1,16 @@
 -- The partner at the node that was reached is the partner in the whole.
 use Rattle.std.proofs.Common.{◌+◌, ◌<◌, ◌^◌}
-use Rattle.bracket_tree_rules.specs.Tree.{weight}
+use Rattle.bracket_tree_rules.specs.Tree.{weight, IsTree}
+use Rattle.bracket_nodes.specs.Seen.{seen_tree}
 use Rattle.bracket_nodes.specs.Shapes.{tree_size}
 use Rattle.bracket_nodes.specs.Walks.{ShowsPartner}
 use Rattle.bracket_nodes.proofs.node.Node.partner_of.Given as goal
 
 abbrev pub invariant-loop-found : goal.invariant-loop-found
 invariant-loop-found l =
-    (l.here.start.lines + l.here.start.columns + weight l.here.node.now.value < 2 ^ 64)
-    × ShowsPartner l.self l.here.start l.here.node.now.value l.place
+    IsTree (seen_tree l.here.node)
+    × (l.here.start.lines + l.here.start.columns + weight (seen_tree l.here.node) < 2 ^ 64)
+    × ShowsPartner l.self l.here.start (seen_tree l.here.node) l.place
 
 abbrev pub decreases-loop-found : goal.decreases-loop-found
-decreases-loop-found l = tree_size l.here.node.now.value
+decreases-loop-found l = tree_size (seen_tree l.here.node)

@@ -1,14 +1,16 @@
 -- What is found at the node that was reached is what is found in the whole.
 use Rattle.std.proofs.Common.{◌≡◌}
-use Rattle.bracket_tree_rules.specs.Parts.{IsShown, ShowsBrackets}
+use Rattle.bracket_tree_rules.specs.Parts.{ShowsBrackets}
+use Rattle.bracket_nodes.specs.Paths.{IsOnPath}
+use Rattle.bracket_nodes.specs.Seen.{seen_tree}
 use Rattle.bracket_nodes.specs.Shapes.{tree_size}
 use Rattle.bracket_nodes.proofs.reader.NodeReader.bracket_at.Given as goal
 
 abbrev pub invariant-loop-token : goal.invariant-loop-token
 invariant-loop-token l =
     (l.self ≡ l.fn.self)
-    × (IsShown l.fn.self l.here.start l.here.node.now.value
-    × ShowsBrackets l.fn.self l.here.start l.here.node.now.value l.place)
+    × (IsOnPath l.fn.self l.here
+    × ShowsBrackets l.fn.self l.here.start (seen_tree l.here.node) l.place)
 
 abbrev pub decreases-loop-token : goal.decreases-loop-token
-decreases-loop-token l = tree_size l.here.node.now.value
+decreases-loop-token l = tree_size (seen_tree l.here.node)

@@ -1,6 +1,7 @@
 use Rattle.std.proofs.Common.{Bool, true, false, cond, List, [], ◌∷◌, ◌++◌, All}
 use Rattle.std.proofs.lemmas.List.Elements.{All-push}
-use Rattle.bracket_tree_rules.specs.Parts.{IsShown}
+use Rattle.bracket_nodes.specs.Paths.{IsOnPath}
+use Rattle.bracket_nodes.specs.Seen.{seen_tree}
 use Rattle.bracket_nodes.proofs.reader.NodeReader.keep.Goals as goal
 
 -- with memory for it or without
@@ -10,6 +11,6 @@ pushed P false xs x all here = all
 
 pub invariant_of-self : goal.invariant_of-self
 invariant_of-self c =
-    let root = c.self.inside.root.now.value in
+    let root = seen_tree c.self.inside.root in
     rw c.push.ensures.items
-    (pushed (λ at. IsShown root at.start at.node.now.value) _ c.self.inside.path.items c.args.here c.self.invariant (rw c.self.view_is c.requires))
+    (c.self.invariant.0, pushed (IsOnPath root) _ c.self.inside.path.items c.args.here c.self.invariant.1 (rw c.self.view_is c.requires))

@@ -1,7 +1,16 @@
-use Rattle.std.proofs.Common.{arith}
+use Rattle.std.proofs.Common.{subst, arith}
+use Rattle.line_hunks.specs.Places.{IsPlace}
+use Rattle.line_hunks.proofs.Turning.{marks-moved, Stands-moved}
 use Rattle.line_hunks.proofs.PlaceLaws.{gap-place}
 use Rattle.line_hunks.proofs.runs.Runs.place.Goals as goal
 
-pub returns-then-n-front-2 : goal.returns-then-n-front-2
-returns-then-n-front-2 c =
-    gap-place c.args.self.now.front.runs c.args.self.now.gap c.args.self.now.back.runs c.args.n _ c.requires.whole (omega arith) (omega arith)
+pub returns : goal.returns
+returns c =
+    let r = c.args.self.now in
+    let place = c.place.result in
+    let at = c.place.ensures in
+    subst (λ marks. IsPlace marks c.args.n place)
+    (marks-moved r.sides.front r.gap r.sides.back at.lower place.run at.upper at.order)
+    (gap-place at.lower place.run at.upper c.args.n place.before
+    (Stands-moved r.sides.front r.gap r.sides.back at.lower place.run at.upper at.order c.requires.whole)
+    (omega (arith, at.line, c.requires.some)) at.within)

@@ -71,7 +71,8 @@ returns-clause-ready c =
     let inverse : c.in_ok-inverse.inverse ≡ inverse_from 0 0 x sorted = grind (arith, common_steps) in
     let next : c.in_ok-next.next ≡ m.version + 1 = grind (arith, common_steps) in
     let last : c.in_ok-next.next ≤ greatest_version = grind (arith, common_steps) in
-    edit_ready _ c.args.ops.items sorted c.in_ok-inverse.inverse c.making.result (rw text rule) (rw text inverse) c.making.ensures.action
+    edit_ready _ c.args.ops.items sorted c.in_ok-inverse.inverse c.making.result (rw text rule) (rw text inverse)
+    (rw (← c.of.ensures) (rw (← c.of-2.ensures) c.making.ensures.action))
     (omega (arith, next, c.making.ensures.version)) (omega (arith, next, last))
     (record {
       text = record {

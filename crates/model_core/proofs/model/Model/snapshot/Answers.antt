@@ -14,10 +14,10 @@ invariant_of-self c =
     let m = c.self.inside in
     let old = c.self.invariant in
     let inside : All (LiesIn m.page.text.buffers) m.page.text.spans = subst (λ (t : Text). All (LiesIn t.buffers) t.spans) c.text.ensures.text c.spans.ensures.inside in
-    let spans : c.as_slice.result.now ≡ m.page.text.spans = grind (arith, common_steps) in
-    let lie : All (LiesIn m.page.text.buffers) c.as_slice.result.now = subst (All (LiesIn m.page.text.buffers)) (sym spans) inside in
+    let spans : c.spans.new.out.items ≡ m.page.text.spans = grind (arith, common_steps) in
+    let lie : All (LiesIn m.page.text.buffers) c.spans.new.out.items = subst (All (LiesIn m.page.text.buffers)) (sym spans) inside in
     let shelf = IsShelf-taken m.page.text.buffers m.shelf c.take.new.self (c.take.ensures.inside m.page.text.buffers old.2.inside lie) old.2
-    c.take.result (spelled m.page.text.buffers c.as_slice.result.now) (c.take.ensures.change m.page.text.buffers) in
+    c.take.result (spelled m.page.text.buffers c.spans.new.out.items) (c.take.ensures.change m.page.text.buffers) in
     (old.0, old.1, shelf)
 
 pub returns-clause-paired_state : goal.returns-clause-paired_state
@@ -26,7 +26,7 @@ returns-clause-paired_state c =
     let m = c.self.inside in
     let buffers = m.page.text.buffers in
     let all : m.page.text.units ≡ spelled buffers m.page.text.spans = subst (λ (t : Text). t.units ≡ spelled t.buffers t.spans) c.text.ensures.text c.spans.ensures.spelled in
-    let spans : c.as_slice.result.now ≡ m.page.text.spans = grind (arith, common_steps) in
-    let units : spelled buffers c.as_slice.result.now ≡ m.page.text.units = ap (spelled buffers) spans ∙ sym all in
+    let spans : c.spans.new.out.items ≡ m.page.text.spans = grind (arith, common_steps) in
+    let units : spelled buffers c.spans.new.out.items ≡ m.page.text.units = ap (spelled buffers) spans ∙ sym all in
     taken_paired _ _ (subst (λ (s : ModelState). IsPairedState s.document) (sym c.self.view_is) paired)
-    c.take.result (spelled buffers c.as_slice.result.now) units (c.take.ensures.change buffers)
+    c.take.result (spelled buffers c.spans.new.out.items) units (c.take.ensures.change buffers)

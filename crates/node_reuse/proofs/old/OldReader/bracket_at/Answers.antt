@@ -11,7 +11,7 @@ returns c =
     let old : OldText = c.args.self.now in
     let t = c.in_ok-tree.tree.now in
     let there : c.self.inside.tree ≡ Some t = sym c.as_mut.ensures.value ∙ ap option_copied_mut c.in_ok-tree.was in
-    let e : old ≡ old_text (Some t) old.marks = seen old c.self.inside.tree c.self.inside.hunks.now.marks t c.self.view_is there in
+    let e : old ≡ old_text (Some t) old.marks = seen old c.self.inside.tree c.self.inside.marks t (c.self.view_is ∙ c.old_place.ensures.same) there in
     let place = c.in_ok-old.old.place in
     let kept = c.in_ok-old.ensures.some in
     record {

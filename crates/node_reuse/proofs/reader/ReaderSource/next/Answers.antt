@@ -31,7 +31,7 @@ next_of_old-requires-clause-there g c = omega (arith, (has_numbers c.requires.st
 pub returns-then-is_kept : goal.returns-then-is_kept
 returns-then-is_kept g c =
     let self = c.args.self.now in
-    let s : Sight = sight self.table.now (g.Q.Lines.state self.lines.now).contents (g.O.Old.text self.text.now) self.hunks.now.marks in
+    let s : Sight = sight self.table.now (g.Q.Lines.state self.lines.now).contents (g.O.Old.text self.text.now) self.marks.now in
     let asked = asked_so (g.Q.Lines.state self.lines.now).asked (names_of self.text self.lines self.steps self.line) in
     let new = c.next_of_old.new.place in
     let kept = c.is_kept.ensures.kept c.if-is_kept.true in
@@ -39,15 +39,16 @@ returns-then-is_kept g c =
     let reads = c.next_of_old.ensures.reads s self.line.now refl kept unscanned c.requires.stands in
     record {
       comes =
-          rw c.next_of_old.ensures.same_text
+          rw (c.next_of_old.ensures.same_text, c.is_kept.ensures.same)
           (reads_comes c.next_of_old.result s asked self.place new self.line.now self.line.now c.args.opened c.args.level reads);
       stands =
-          rw c.next_of_old.ensures.same_text
+          rw (c.next_of_old.ensures.same_text, c.is_kept.ensures.same)
           (reads_stands c.next_of_old.result s self.place new self.line.now self.line.now c.args.opened c.args.level reads);
       asks =
-          reads_asks c.next_of_old.result s asked self.place new self.line.now self.line.now c.args.opened c.args.level reads
-          c.next_of_old.ensures.same_place (on_err c.next_of_old.result self.line.now);
-      pays = λ room. rw c.next_of_old.ensures.same_text (c.next_of_old.ensures.pays s self.line.now refl kept unscanned c.requires.stands room);
+          rw c.is_kept.ensures.same
+          (reads_asks c.next_of_old.result s asked self.place new self.line.now self.line.now c.args.opened c.args.level reads
+          c.next_of_old.ensures.same_place (on_err c.next_of_old.result self.line.now));
+      pays = λ room. rw (c.next_of_old.ensures.same_text, c.is_kept.ensures.same) (c.next_of_old.ensures.pays s self.line.now refl kept unscanned c.requires.stands room);
       spends = search rules;
     }
 
@@ -62,17 +63,18 @@ enter-requires-clause-count g c = omega (arith, (has_numbers c.requires.stands).
 pub returns-in_err-enter-clause-asks : goal.returns-in_err-enter-clause-asks
 returns-in_err-enter-clause-asks g c =
     let self = c.args.self.now in
-    let s : Sight = sight self.table.now (g.Q.Lines.state self.lines.now).contents (g.O.Old.text self.text.now) self.hunks.now.marks in
+    let s : Sight = sight self.table.now (g.Q.Lines.state self.lines.now).contents (g.O.Old.text self.text.now) self.marks.now in
     let new : mark_of s self.place ≡ New = c.is_kept.ensures.new c.if-is_kept.false in
     let borrows = names_of self.text self.lines self.steps self.line in
-    failed_asks s.table s.contents (g.Q.Lines.state c.enter.new.lines).contents s.old s.marks c.enter.ensures.contents
+    rw c.is_kept.ensures.same
+    (failed_asks s.table s.contents (g.Q.Lines.state c.enter.new.lines).contents s.old s.marks c.enter.ensures.contents
     (asked_so (g.Q.Lines.state self.lines.now).asked borrows) (asked_so (g.Q.Lines.state c.enter.new.lines).asked borrows)
-    self.place self.line.now c.enter.new.line (c.enter.ensures.asks s self.place borrows refl new c.requires.stands)
+    self.place self.line.now c.enter.new.line (c.enter.ensures.asks s self.place borrows refl new c.requires.stands))
 
 pub next_of_line-requires-clause-in_line : goal.next_of_line-requires-clause-in_line
 next_of_line-requires-clause-in_line g c =
     let self = c.args.self.now in
-    let s : Sight = sight self.table.now (g.Q.Lines.state self.lines.now).contents (g.O.Old.text self.text.now) self.hunks.now.marks in
+    let s : Sight = sight self.table.now (g.Q.Lines.state self.lines.now).contents (g.O.Old.text self.text.now) self.marks.now in
     let new : mark_of s self.place ≡ New = c.is_kept.ensures.new c.if-is_kept.false in
     let stands : StandsAt s self.place c.enter.new.line = c.in_ok-enter.ensures.stands s self.place refl refl refl new c.requires.stands in
     (fresh_line s self.place c.enter.new.line stands c.in_ok-enter.ensures.scanned).line
@@ -83,7 +85,7 @@ next_of_line-requires-clause-fits g c = omega (arith, (has_numbers c.requires.st
 pub returns : goal.returns
 returns g c =
     let self = c.args.self.now in
-    let s : Sight = sight self.table.now (g.Q.Lines.state self.lines.now).contents (g.O.Old.text self.text.now) self.hunks.now.marks in
+    let s : Sight = sight self.table.now (g.Q.Lines.state self.lines.now).contents (g.O.Old.text self.text.now) self.marks.now in
     let after = g.Q.Lines.state c.enter.new.lines in
     let borrows = names_of self.text self.lines self.steps self.line in
     let new : mark_of s self.place ≡ New = c.is_kept.ensures.new c.if-is_kept.false in
@@ -96,13 +98,14 @@ returns g c =
     c.next_of_line.new.line c.args.opened c.args.level reads
     c.next_of_line.ensures.same_place c.next_of_line.ensures.same_line (c.enter.ensures.asks s self.place borrows refl new c.requires.stands) in
     record {
-      comes = next.comes;
-      stands = next.stands;
-      asks = next.asks;
+      comes = rw c.is_kept.ensures.same next.comes;
+      stands = rw c.is_kept.ensures.same next.stands;
+      asks = rw c.is_kept.ensures.same next.asks;
       pays = λ room.
-          new_pays c.next_of_line.result s.table s.contents after.contents s.old s.marks c.enter.ensures.contents
+          rw c.is_kept.ensures.same
+          (new_pays c.next_of_line.result s.table s.contents after.contents s.old s.marks c.enter.ensures.contents
           self.steps.now self.place c.next_of_line.new.place self.line.now c.enter.new.line c.next_of_line.new.line
           (c.in_ok-enter.ensures.pays s self.place self.steps.now refl refl refl new c.requires.stands)
-          (c.next_of_line.ensures.pays s self.steps.now stands);
+          (c.next_of_line.ensures.pays s self.steps.now stands));
       spends = search rules;
     }

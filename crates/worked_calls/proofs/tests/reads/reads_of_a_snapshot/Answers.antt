@@ -19,11 +19,11 @@ pub peek-requires : goal.peek-requires
 peek-requires g c =
     let b : List (List ℕ) = c.append_whole-2.new.self.buffers in
     taken c.append_whole.new.self.buffers b c.in_ok-front.front.0 c.in_ok-back.back.0 c.new-shelf.result c.take.new.self c.new-shelf.ensures
-    c.in_ok-front.ensures.inside c.append_whole-2.ensures.grown c.in_ok-back.ensures.inside (c.take.ensures.inside b)
+    c.in_ok-front.ensures.inside c.append_whole-2.ensures.grown c.in_ok-back.ensures.inside (λ old both. c.take.ensures.inside b old (subst (All (LiesIn b)) (sym c.in_ok-both.ensures) both))
 
 pub peek-requires-2 : goal.peek-requires-2
 peek-requires-2 g c =
     let b : List (List ℕ) = c.append_whole-2.new.self.buffers in
     c.skip.ensures.inside b
     (taken c.append_whole.new.self.buffers b c.in_ok-front.front.0 c.in_ok-back.back.0 c.new-shelf.result c.take.new.self c.new-shelf.ensures
-    c.in_ok-front.ensures.inside c.append_whole-2.ensures.grown c.in_ok-back.ensures.inside (c.take.ensures.inside b))
+    c.in_ok-front.ensures.inside c.append_whole-2.ensures.grown c.in_ok-back.ensures.inside (λ old both. c.take.ensures.inside b old (subst (All (LiesIn b)) (sym c.in_ok-both.ensures) both)))

@@ -1,0 +1,43 @@
+/* Reading a line of a script: each of these goes past what it reads, or tells that it is not there. */
+#include "flat_text.h"
+
+static bool word(const char **at, const char *expected) {
+    size_t length = strlen(expected);
+    if (strncmp(*at, expected, length) != 0) return false;
+    *at += length;
+    return true;
+}
+
+static bool number(const char **at, Number *value) {
+    if (**at < '0' || **at > '9') return false;
+    char *end;
+    *value = strtoull(*at, &end, 10);
+    *at = end;
+    return true;
+}
+
+static bool span(const char **at, size_t *start, size_t *end) {
+    return word(at, "\"at\":[") && number(at, start) && word(at, ",") && number(at, end) && word(at, "]");
+}
+
+/* The unit that an escape stands for, or the character as it is. */
+static uint16_t unit(const char **at) {
+    if (**at < ' ') fail("a text has more than ASCII");
+    if (**at != '\\') return (uint16_t)**at;
+    ++*at;
+    if (**at != 'n' && **at != 'r') fail("a text has another escape than those of breaks");
+    return **at == 'n' ? '\n' : '\r';
+}
+
+static bool text(const char **at, Units *units) {
+    *units = (Units){0};
+    if (!word(at, "\"")) return false;
+    for (; **at && **at != '"'; ++*at) {
+        units->at = grown(units->at, units->length, &units->room, sizeof *units->at);
+        units->at[units->length] = unit(at);
+        units->has_returns |= units->at[units->length++] == '\r';
+    }
+    return word(at, "\"");
+}
+
+static bool closes(const char **at) { return word(at, "}") && (**at == '\n' || **at == 0); }

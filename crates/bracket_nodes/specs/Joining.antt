@@ -1,0 +1,43 @@
+-- Nodes that are being joined.
+use Rattle.std.specs.Prelude.{◌≡◌, ℕ, ◌+◌, ◌<◌, ◌≤◌, List, [], ◌∷◌, ◌++◌, length, if◌then◌else◌}
+use Rattle.bracket_tree_rules.specs.Tree.{Tree, weight, items, is_nothing}
+use Rattle.bracket_nodes.specs.Shapes.{link_tree}
+use Rattle.bracket_nodes.specs.declared.node.Link.{Link}
+use Rattle.bracket_nodes.specs.declared.joiner.Joiner.{Joiner}
+use Rattle.bracket_nodes.specs.declared.joiner.Step.{Step}
+use Rattle.bracket_nodes.specs.declared.joiner.Step.TheVariants.{Stay, Join, JoinThree}
+
+abbrev pub linked_items : List Link → List Tree
+linked_items [] = []
+linked_items (list ∷ lists) = items (link_tree list) ++ linked_items lists
+
+abbrev pub linked_weight : List Link → ℕ
+linked_weight [] = 0
+linked_weight (list ∷ lists) = weight (link_tree list) + linked_weight lists
+
+abbrev pub joined_items : Joiner → List Tree
+joined_items j = linked_items j.lists.items ++ items (link_tree j.last)
+
+abbrev pub joined_weight : Joiner → ℕ
+joined_weight j = linked_weight j.lists.items + weight (link_tree j.last)
+
+-- how many lists there are
+abbrev pub count : Joiner → ℕ
+count j = length j.lists.items + (if is_nothing (link_tree j.last) then 0 else 1)
+
+-- the new lists have the nodes of the old ones and then these
+pub record Takes (old : Joiner) (node : Tree) (new : Joiner) : Type 0 where
+  pub in_order : joined_items new ≡ joined_items old ++ items node
+  pub weighs : joined_weight new ≡ joined_weight old + weight node
+
+-- both have the same nodes
+pub record IsSame (old new : Joiner) : Type 0 where
+  pub in_order : joined_items new ≡ joined_items old
+  pub weighs : joined_weight new ≡ joined_weight old
+  pub fewer : count new ≤ count old
+
+-- a list is taken off where it is joined to those behind it
+abbrev pub IsStep : Joiner → Joiner → Step → Type 0
+IsStep old new Stay = IsSame old new
+IsStep old new Join = IsSame old new
+IsStep old new (JoinThree before) = Takes new (link_tree before) old × (count new < count old)

@@ -1,0 +1,114 @@
+//! Decorations that an edit touches move where they stand.
+ghost use Rattle.std.specs.Prelude.{◌≡◌, ◌≤◌, false, true};
+ghost use Rattle.decoration_rules.specs.Marks.{stands_before};
+ghost use Rattle.interval_deltas.specs.Weave.{is_mark, reaches};
+ghost use Rattle.interval_deltas.specs.Kept.{IsPlace, as_mark, mark_at, capped};
+ghost use Rattle.interval_deltas.specs.Mover.{met, starting};
+
+use crate::kept::capped;
+use crate::weave::{KeptMark, Marks, Place, placed};
+use decoration_rules::Edit;
+use rb_rules::Rewriting;
+use std::marker::Model;
+
+/// What moves those that an edit touches, and sees whether one of them comes to stand before another that it stood behind.
+#[derive(Drop)]
+pub(crate) struct Mover {
+    edit: Edit,
+    /// The greatest place of those that moved.
+    greatest: Place,
+    in_order: bool,
+    /// One was seen that starts behind the edit.
+    past: bool,
+}
+
+impl Model for Mover {
+    ghost use Rattle.std.specs.Prelude.{◌≤◌};
+    ghost use Rattle.interval_deltas.specs.Kept.{IsPlace};
+    ghost use Rattle.interval_deltas.specs.Mover.{Moving};
+
+    ghost Value = { Moving };
+
+    ghost view = { λ m. record { edit = m.edit; greatest = m.greatest; in_order = m.in_order; past = m.past } };
+
+    ghost invariant = { λ m. (m.edit.start ≤ m.edit.end) × IsPlace m.greatest };
+}
+
+impl Mover {
+    pub(crate) fn new(edit: &Edit) -> Mover
+        requires { edit.now.start ≤ edit.now.end }
+        ensures { result ≡ starting edit.now }
+    {
+        Mover {
+            edit: *edit,
+            greatest: Place {
+                start: 0,
+                end: 0,
+                id: 0,
+            },
+            in_order: true,
+            past: false,
+        }
+    }
+
+    /// Whether none came to stand before another that it stood behind.
+    pub(crate) fn in_order(&self) -> bool
+        ensures { result ≡ self.now.in_order }
+    {
+        self.in_order
+    }
+
+    /// One has moved.
+    fn meet(&mut self, mark: &KeptMark)
+        requires { is_mark mark.now }
+        ensures { self.new ≡ met self.old mark.now }
+    {
+        if stands_below(mark, &self.greatest) {
+            self.in_order = false;
+        } else {
+            self.greatest = mark.place();
+        }
+    }
+}
+
+/// Whether a decoration stands before a place.
+#[tactic(auto, using(crate::proofs::Searches::order_is))]
+fn stands_below(mark: &KeptMark, place: &Place) -> bool
+    requires value { is_mark mark.now }
+    requires place { IsPlace place.now }
+    ensures { result ≡ stands_before (as_mark mark.now) (mark_at place.now) }
+{
+    placed(mark, place).is_lt()
+}
+
+/// Whether a greatest end lies at an offset or after it.
+fn reaches(offset: i64, end: Option<i64>) -> bool
+    ensures { result ≡ reaches offset end }
+{
+    end.is_some_and(|end| offset <= end)
+}
+
+impl Rewriting<Marks> for Mover {
+    ghost use Rattle.interval_deltas.specs.Mover.{rewritten_by, onward_of};
+
+    ghost rewritten = { rewritten_by };
+
+    ghost onward = { onward_of };
+
+    fn skips(&self, sum: Option<i64>) -> bool {
+        self.past || !reaches(capped(self.edit.start), sum)
+    }
+
+    fn rewrite(&mut self, item: KeptMark) -> KeptMark {
+        if self.past || item.end < capped(self.edit.start) {
+            return item;
+        }
+        if capped(self.edit.end) < item.start {
+            self.past = true;
+            return item;
+        }
+        let moved = item.moved(&self.edit);
+        self.meet(&moved);
+        moved
+    }
+}

@@ -1,7 +1,0 @@
-use Rattle.std.proofs.Common.{refl}
-use Rattle.line_hunks.proofs.PlaceLaws.{back-place}
-use Rattle.line_hunks.proofs.runs.Runs.place_behind.Goals as goal
-
-pub returns : goal.returns
-returns c =
-    back-place c.args.self.now.front.runs c.args.self.now.gap c.args.self.now.back.runs c.args.from_end c.find-found.result _ c.requires.whole c.find-found.ensures refl

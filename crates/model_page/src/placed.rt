@@ -1,0 +1,81 @@
+//! Batches with the places of their texts.
+
+ghost use Rattle.std.specs.Prelude.{◌≡◌};
+
+use chunk_buffers::ChunkSpan;
+use edit_batches::Batch;
+use std::alloc::{AllocError, Global};
+use std::cell::Cell;
+use std::marker::Model;
+use text_rules::Op;
+use unit_text::Flat;
+
+/// A batch of which no text has that many units keeps no places.
+const LEAST_PLACED: u64 = 4;
+
+/// Where a text lay in the buffers when it was last put into a document, if that is known.
+pub(crate) type Place = Cell<Option<ChunkSpan>>;
+
+/// A batch that is carried out time and again, with the places of its texts. Contracts see its ops: nothing rests on the places.
+#[derive(Drop)]
+pub struct PlacedBatch {
+    batch: Batch,
+    /// One for each op, or none at all.
+    places: Vec<Place>,
+}
+
+impl Model for PlacedBatch {
+    ghost use Rattle.std.specs.Prelude.{List};
+    ghost use Rattle.text_rules.specs.declared.Op.{Op};
+
+    ghost Value = { List Op };
+
+    ghost view = { λ p. p.batch };
+}
+
+impl PlacedBatch {
+    /// The batch, which was not carried out yet. Where memory is short it keeps no places.
+    pub fn of(alloc: Global, batch: Batch) -> PlacedBatch
+        ensures { result ≡ batch }
+    {
+        let places = match places_for(alloc, batch.ops()) {
+            Ok(places) => places,
+            Err(_) => Vec::new(alloc),
+        };
+        PlacedBatch { batch, places }
+    }
+
+    pub(crate) fn batch(&self) -> &Batch
+        ensures { result.now ≡ self.now }
+    {
+        &self.batch
+    }
+
+    pub(crate) fn places(&self) -> &[Place] {
+        self.places.as_slice()
+    }
+}
+
+// A place for the text of each op, where one of them is long enough.
+fn places_for(alloc: Global, ops: &[Op]) -> Result<Vec<Place>, AllocError> {
+    if ops.iter().all(|op| op.text.len() < LEAST_PLACED) {
+        return Ok(Vec::new(alloc));
+    }
+    let mut places = Vec::with_capacity(alloc, ops.len())?;
+    for _op in ops {
+        places.push(Cell::new(None))?;
+    }
+    Ok(places)
+}
+
+/// What is known of the place of that number.
+pub(crate) fn known(places: &[Place], at: usize) -> Option<ChunkSpan> {
+    places.get(at)?.get()
+}
+
+/// Notes what is known now.
+pub(crate) fn note(places: &[Place], at: usize, known: Option<ChunkSpan>) {
+    if let Some(place) = places.get(at) {
+        place.set(known);
+    }
+}

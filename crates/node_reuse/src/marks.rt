@@ -1,0 +1,88 @@
+// The marks of the lines, of which the one that was looked up last is remembered.
+ghost use Rattle.std.specs.Prelude.{◌≡◌, ◌+◌, ◌^◌, ◌<◌, drop, length, IfSome};
+ghost use Rattle.mark_rules.specs.Marks.{mark_at, kept_run, Rises};
+
+use line_hunks::Hunks;
+use mark_rules::Mark;
+use std::marker::Model;
+
+// The marks of the lines of a text. A look-up is remembered, so that none is made for that line, and for the kept ones
+// that follow it one after another, until another line is looked up. Lines are counted from 0.
+#[derive(Drop)]
+pub(crate) struct LineMarks<'h> {
+    hunks: &'h Hunks,
+    // The line that was looked up last, its mark, and how many lines from it on are kept one after another.
+    line: u64,
+    mark: Mark,
+    kept: u64,
+}
+
+impl<'h> Model for LineMarks<'h> {
+    ghost use Rattle.std.specs.Prelude.{List};
+    ghost use Rattle.mark_rules.specs.declared.Mark.{Mark};
+    ghost use Rattle.node_reuse.specs.LineMarks.{IsRemembered};
+
+    ghost Value = { List Mark };
+
+    ghost view = { λ m. m.hunks.now.marks };
+
+    ghost invariant = { λ m. IsRemembered m.hunks.now.marks m.line m.mark m.kept };
+}
+
+impl<'h> LineMarks<'h> {
+    pub fn new(hunks: &'h Hunks) -> LineMarks<'h>
+        ensures { result ≡ hunks.now.marks }
+    {
+        let _lines = hunks.lines();
+        let (mark, kept) = hunks.at(1);
+        LineMarks {
+            hunks,
+            line: 0,
+            mark,
+            kept,
+        }
+    }
+
+    // How many lines there are.
+    pub fn lines(&self) -> u64
+        ensures lines { result ≡ length self.now }
+        ensures fits { result < 2 ^ 62 }
+    {
+        self.hunks.lines()
+    }
+
+    // The mark of a line, and how many lines from it on are kept one after another. At most one look-up.
+    pub fn at(&mut self, line: u64) -> (Mark, u64)
+        requires { line < length self.old }
+        ensures mark { result.0 ≡ mark_at (line + 1) self.old }
+        ensures kept { result.1 ≡ kept_run (drop line self.old) }
+        ensures fits { length self.old < 2 ^ 62 }
+        ensures rises { Rises self.old }
+        ensures same { self.new ≡ self.old }
+    {
+        if let Some(told) = self.remembered(line) {
+            return told;
+        }
+        (self.mark, self.kept) = self.hunks.at(line + 1);
+        self.line = line;
+        (self.mark, self.kept)
+    }
+
+    // The same by what is remembered; None where that is too little.
+    fn remembered(&self, line: u64) -> Option<(Mark, u64)>
+        ensures mark { IfSome result (λ told. told.0 ≡ mark_at (line + 1) self.now) }
+        ensures kept { IfSome result (λ told. told.1 ≡ kept_run (drop line self.now)) }
+    {
+        let past = line.checked_sub(self.line)?;
+        if past == 0 {
+            return Some((self.mark, self.kept));
+        }
+        if self.kept <= past {
+            return None;
+        }
+        let Mark::Kept(number) = self.mark else {
+            return None;
+        };
+        Some((Mark::Kept(number.checked_add(past)?), self.kept - past))
+    }
+}
