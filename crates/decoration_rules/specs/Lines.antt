@@ -2,6 +2,7 @@
 -- change their kind.
 use Rattle.std.specs.Prelude.{ℕ, ◌≡◌, ◌+◌, ◌-◌, ◌<◌, ◌≤◌, min, nat_le, if◌then◌else◌, List, [], ◌∷◌, map}
 use Rattle.std.specs.List.{AllPairs}
+use Rattle.text_lengths.specs.declared.Span.{Span}
 use Rattle.decoration_rules.specs.declared.LineMove.{LineMove}
 use Rattle.decoration_rules.specs.declared.Mark.{Mark}
 use Rattle.decoration_rules.specs.Moves.{offset_limit}
@@ -22,10 +23,11 @@ carried_place [] place = place
 carried_place (first ∷ lines) place = place_in (line_of first lines place) place
 
 -- both ends of a decoration do
+abbrev pub carried_span : List LineMove → Span → Span
+carried_span lines span = record { start = carried_place lines span.start; end = carried_place lines span.end }
+
 abbrev pub carried_mark : List LineMove → Mark → Mark
-carried_mark lines mark = record mark {
-  span = record { start = carried_place lines mark.span.start; end = carried_place lines mark.span.end };
-}
+carried_mark lines mark = record mark { span = carried_span lines mark.span }
 
 -- all of them, by start, then by end, then by id
 abbrev pub carried_with_lines : List LineMove → List Mark → List Mark
