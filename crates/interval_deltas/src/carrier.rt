@@ -18,7 +18,7 @@ pub(crate) struct Carrier<'a> {
     lines: Lines<'a>,
     /// The greatest place of those that were carried.
     greatest: Place,
-    /// The least and the greatest start of those that came to stand before another.
+    /// The least and the greatest start of those that came to stand before another; the limit and 0 as long as none did.
     first: i64,
     last: i64,
 }
