@@ -2,3 +2,4 @@ pub mod MoveLemmas
 pub mod OrderLemmas
 pub mod MarkLists
 pub mod InText
+pub mod LineLemmas

@@ -4,11 +4,13 @@ use Rattle.text_lengths.specs.declared.Span.{Span}
 use Rattle.decoration_rules.specs.declared.Sticky.{Sticky}
 use Rattle.decoration_rules.specs.declared.Sticky.TheVariants.{AlwaysGrows, NeverGrows, GrowsBefore, GrowsAfter}
 use Rattle.decoration_rules.specs.declared.Edit.{Edit}
+use Rattle.decoration_rules.specs.declared.LineMove.{LineMove}
 use Rattle.decoration_rules.specs.declared.Mark.{Mark}
 use Rattle.decoration_rules.specs.declared.NewDeco.{NewDeco}
 use Rattle.decoration_rules.specs.Refusals.{unknown, range, limit}
 use Rattle.decoration_rules.specs.Moves.{moved}
 use Rattle.decoration_rules.specs.Marks.{carried, touching}
+use Rattle.decoration_rules.specs.Lines.{carried_with_lines}
 use Rattle.decoration_rules.specs.Decorations.{Decorations, no_decorations, decorated, decos_in}
 
 abbrev span : ℕ → ℕ → Span
@@ -79,6 +81,31 @@ a_batch_from_its_last_op = refl
 an_insert_that_turns_the_order : carried (mark 1 2 2 NeverGrows ∷ mark 2 2 4 AlwaysGrows ∷ []) (edit 2 2 1 ∷ [])
     ≡ mark 2 2 5 AlwaysGrows ∷ mark 1 3 3 NeverGrows ∷ []
 an_insert_that_turns_the_order = refl
+
+abbrev line : ℕ → ℕ → ℕ → LineMove
+line old content new = record { old = old; content = content; new = new }
+
+-- `a LF b LF c` becomes `a CR LF b CR LF c`
+abbrev longer_endings : List LineMove
+longer_endings = line 0 1 0 ∷ line 2 1 3 ∷ line 4 1 6 ∷ []
+
+-- and the other way round
+abbrev shorter_endings : List LineMove
+shorter_endings = line 0 1 0 ∷ line 3 1 2 ∷ line 6 1 4 ∷ []
+
+-- the whole text, and the b
+lines_move_behind_longer_endings : carried_with_lines longer_endings (mark 1 0 5 AlwaysGrows ∷ mark 2 2 3 AlwaysGrows ∷ [])
+    ≡ mark 1 0 7 AlwaysGrows ∷ mark 2 3 4 AlwaysGrows ∷ []
+lines_move_behind_longer_endings = refl
+
+and_back_before_shorter_ones : carried_with_lines shorter_endings (mark 1 0 7 AlwaysGrows ∷ mark 2 3 4 AlwaysGrows ∷ [])
+    ≡ mark 1 0 5 AlwaysGrows ∷ mark 2 2 3 AlwaysGrows ∷ []
+and_back_before_shorter_ones = refl
+
+-- the one between the CR and the LF falls onto the one before the CR, and stands before it by its id
+inside_an_ending : carried_with_lines shorter_endings (mark 2 1 1 NeverGrows ∷ mark 1 2 2 NeverGrows ∷ [])
+    ≡ mark 1 1 1 NeverGrows ∷ mark 2 1 1 NeverGrows ∷ []
+inside_an_ending = refl
 
 abbrev three : List Mark
 three = mark 1 2 5 AlwaysGrows ∷ mark 2 5 5 NeverGrows ∷ mark 3 6 8 AlwaysGrows ∷ []

@@ -62,6 +62,17 @@ pub struct Edit {
     pub force: bool,
 }
 
+/// A line that keeps its content and starts elsewhere, as where the line endings of a text change their kind.
+#[derive(Clone, Copy, PartialEq, Eq, Debug)]
+pub struct LineMove {
+    /// Where the line started.
+    pub old: u64,
+    /// How many units it has, without its line ending.
+    pub content: u64,
+    /// Where it starts now.
+    pub new: u64,
+}
+
 /// A live decoration.
 #[derive(Clone, Copy, PartialEq, Eq, Debug)]
 pub struct Mark {

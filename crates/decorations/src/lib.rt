@@ -4,5 +4,5 @@
 mod changes;
 mod set;
 
-pub use decoration_rules::{Deco, DecoError, Edit, NewDeco};
+pub use decoration_rules::{Deco, DecoError, Edit, LineMove, NewDeco};
 pub use set::DecoSet;

@@ -3,18 +3,19 @@
 ghost use Rattle.std.specs.Prelude.{◌≡◌, ◌≤◌, ◌<◌, ◌^◌, ◌++◌, length, map, take, vec_len, IsOk, OnOk, OnErr, IfErr};
 ghost use Rattle.std.specs.List.{All, filter};
 ghost use Rattle.decoration_rules.specs.Moves.{offset_limit, moved_mark};
+ghost use Rattle.decoration_rules.specs.Lines.{AreLineMoves, carried_with_lines};
 ghost use Rattle.decoration_rules.specs.Marks.{in_order};
 ghost use Rattle.decoration_rules.specs.Decorations.{no_decorations, IsSound, deco_of, deco_at, is_of, decos_in, decorated, RefusedFor, Decorates};
 
 use crate::changes::{add_all, any_is_bad, is_too_much, named_once, owns_all, remove_all};
-use decoration_rules::{Deco, DecoError, Edit, Mark, NewDeco};
+use decoration_rules::{Deco, DecoError, Edit, LineMove, Mark, NewDeco};
 use interval_deltas::IntervalTree;
 use std::alloc::{AllocError, Global};
 use std::marker::Model;
 use text_lengths::Span;
 use unit_text::Flat;
 
-/// The live decorations of a document, by start, then by end, then by id. `accept` and `get` take no memory.
+/// The live decorations of a document, by start, then by end, then by id. `accept`, `carry` and `get` take no memory.
 #[derive(Drop)]
 pub struct DecoSet {
     alloc: Global,
@@ -137,6 +138,17 @@ impl DecoSet {
         ensures sound { IsSound self.new }
     {
         self.tree.accept(edit);
+    }
+
+    /// Each decoration goes with its lines, as where the line endings of the text change their kind.
+    pub fn carry(&mut self, moves: &[LineMove])
+        requires { AreLineMoves moves.now }
+        ensures carried { self.new ≡ record self.old {
+          marks = carried_with_lines moves.now self.old.marks;
+        } }
+        ensures sound { IsSound self.new }
+    {
+        self.tree.carry(moves);
     }
 }
 

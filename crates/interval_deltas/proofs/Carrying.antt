@@ -8,12 +8,14 @@ use Rattle.rb_rules.specs.Rewriting.{rewritten_all, onward_all}
 use Rattle.rb_rules.proofs.Rewritings.{rewritten-append, onward-append}
 use Rattle.decoration_rules.specs.declared.Edit.{Edit}
 use Rattle.decoration_rules.specs.Marks.{stands_before, IsInOrder}
+use Rattle.decoration_rules.specs.Moves.{moved_mark}
 use Rattle.interval_deltas.specs.declared.weave.KeptMark.{KeptMark}
 use Rattle.interval_deltas.specs.declared.weave.Place.{Place}
 use Rattle.interval_deltas.specs.Weave.{marks, is_mark, reaches}
 use Rattle.interval_deltas.specs.Kept.{Each, AreMarks, as_mark, capped, mark_at, marks_of, moved_kept, moved_items, place_of}
 use Rattle.interval_deltas.specs.Mover.{Moving, starting, ends_before, starts_behind, met, rewritten_by, onward_of}
 use Rattle.interval_deltas.specs.Sorting.{Pairs, IsNotBelow, AreSorted}
+use Rattle.interval_deltas.proofs.Crossing.{changed_pairs}
 use Rattle.interval_deltas.proofs.Items.{each_left, each_right, each_both, each_weaker, each_with, each_listed, each_below}
 use Rattle.interval_deltas.proofs.Moving.{still_kept}
 use Rattle.interval_deltas.proofs.Sorting.{stands_before-weak}
@@ -171,14 +173,6 @@ module _ (edit : Edit) where
   kept_pairs (e ∷ es) up (h, hs) (o, os) =
       (each_with is_mark (λ m. stands_before (as_mark e.1) (as_mark m) ≡ true) (Kept e.1) (λ m g before. keeps_order edit e.1 m up h g before) es hs (each_listed (stands_before (as_mark e.1)) es o), kept_pairs es up hs os)
 
-  pub moved_each : (P : KeptMark → Type 0) (es : List (ℕ × KeptMark)) → Each (λ m. P (shown m)) es → Each P (moved_items edit es)
-  moved_each P [] h = tt
-  moved_each P (e ∷ es) (h, hs) = (h, moved_each P es hs)
-
-  pub moved_pairs : (R : KeptMark → KeptMark → Type 0) (es : List (ℕ × KeptMark)) → Pairs (λ x y. R (shown x) (shown y)) es → Pairs R (moved_items edit es)
-  moved_pairs R [] h = tt
-  moved_pairs R (e ∷ es) (h, hs) = (moved_each (R (shown e.1)) es h, moved_pairs R es hs)
-
   module _ (us vs : List (ℕ × KeptMark)) (up : edit.start ≤ edit.end) (values : AreMarks (us ++ vs)) (low : Each (λ m. starts_behind edit m ≡ false) us) (high : Each (λ m. starts_behind edit m ≡ true) vs) where
     front : Run (record { start = pos 0; end = pos 0; id = 0 }) true us
     front = run (record { start = pos 0; end = pos 0; id = 0 }) true us up (each_left is_mark us vs values) low
@@ -216,4 +210,4 @@ module _ (edit : Edit) where
     )
 
     pub sorted_where : IsInOrder (marks_of (us ++ vs)) → (past_all (starting edit) (us ++ vs)).in_order ≡ true → AreSorted (moved_items edit (us ++ vs))
-    sorted_where ordered seen = moved_pairs IsNotBelow (us ++ vs) (both us vs (kept_pairs (us ++ vs) up values ordered) (front.apart (sym ordered_is ∙ seen)) high)
+    sorted_where ordered seen = changed_pairs IsNotBelow (moved_mark edit) (us ++ vs) (both us vs (kept_pairs (us ++ vs) up values ordered) (front.apart (sym ordered_is ∙ seen)) high)

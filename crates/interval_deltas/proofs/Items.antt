@@ -12,7 +12,7 @@ use Rattle.decoration_rules.specs.declared.Mark.{Mark}
 use Rattle.decoration_rules.specs.Marks.{stands_before, IsInOrder}
 use Rattle.interval_deltas.specs.declared.weave.KeptMark.{KeptMark}
 use Rattle.interval_deltas.specs.Weave.{marks, is_mark, is_low, later, reaches}
-use Rattle.interval_deltas.specs.Kept.{Each, as_mark, marks_of}
+use Rattle.interval_deltas.specs.Kept.{Each, as_mark, marks_of, changed_kept, changed_items}
 
 pub each_left : (P : KeptMark → Type 0) (us vs : List (ℕ × KeptMark)) → Each P (us ++ vs) → Each P us
 each_left P [] vs h = tt
@@ -33,6 +33,11 @@ each_weaker P Q to (e ∷ es) (h, hs) = (to e.1 h, each_weaker P Q to es hs)
 pub each_with : (P Q R : KeptMark → Type 0) → ((m : KeptMark) → P m → Q m → R m) → (es : List (ℕ × KeptMark)) → Each P es → Each Q es → Each R es
 each_with P Q R to [] h g = tt
 each_with P Q R to (e ∷ es) (h, hs) (g, gs) = (to e.1 h g, each_with P Q R to es hs gs)
+
+-- what holds of what each becomes
+pub changed_each : (to : Mark → Mark) (P : KeptMark → Type 0) (es : List (ℕ × KeptMark)) → Each (λ m. P (changed_kept to m)) es → Each P (changed_items to es)
+changed_each to P [] h = tt
+changed_each to P (e ∷ es) (h, hs) = (h, changed_each to P es hs)
 
 pub all_each : (P : KeptMark → Type 0) (es : List (ℕ × KeptMark)) → Each P es → All (λ e. P e.1) es
 all_each P [] h = λ k d within. absurd (omega arith)

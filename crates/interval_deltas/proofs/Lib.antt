@@ -14,3 +14,5 @@ mod Crossing
 mod Touched
 mod Carrying
 mod MovedAll
+mod WithLines
+mod LineSearch

@@ -7,14 +7,12 @@ use Rattle.std.proofs.lemmas.List.Sums.{sum_by-append, sum_by-cons}
 use Rattle.std.proofs.lemmas.List.Sorted.{IsPermutation-trans, IsPermutation-sym, IsPermutation-middle, IsPermutation-append_left}
 use Rattle.rb_arena.specs.Names.{times_named, HaveOwnNames}
 use Rattle.rb_arena.specs.RbTree.{SplitsAfter}
-use Rattle.decoration_rules.specs.declared.Edit.{Edit}
 use Rattle.decoration_rules.specs.declared.Mark.{Mark}
-use Rattle.decoration_rules.specs.Moves.{moved_mark}
 use Rattle.decoration_rules.specs.Marks.{stands_before, put_in_order, has_id, is_live, mark_of, HasDistinctIds, without}
 use Rattle.decoration_rules.proofs.OrderLemmas.{stands_before-total}
 use Rattle.decoration_rules.proofs.MarkLists.{without-none}
 use Rattle.interval_deltas.specs.declared.weave.KeptMark.{KeptMark}
-use Rattle.interval_deltas.specs.Kept.{Each, as_mark, marks_of, moved_kept, moved_items}
+use Rattle.interval_deltas.specs.Kept.{Each, as_mark, marks_of, changed_kept, changed_items}
 use Rattle.interval_deltas.specs.Tree.{node_in}
 use Rattle.interval_deltas.proofs.Sorting.{stands_before-weak}
 
@@ -72,13 +70,13 @@ pub marks-append : (us vs : List (ℕ × KeptMark)) → marks_of (us ++ vs) ≡ 
 marks-append [] vs = refl
 marks-append (u ∷ us) vs = ap (λ l. as_mark u.1 ∷ l) (marks-append us vs)
 
-pub moved-append : (edit : Edit) (us vs : List (ℕ × KeptMark)) → moved_items edit (us ++ vs) ≡ moved_items edit us ++ moved_items edit vs
-moved-append edit [] vs = refl
-moved-append edit (u ∷ us) vs = ap (λ l. (u.0, moved_kept edit u.1) ∷ l) (moved-append edit us vs)
+pub changed-append : (to : Mark → Mark) (us vs : List (ℕ × KeptMark)) → changed_items to (us ++ vs) ≡ changed_items to us ++ changed_items to vs
+changed-append to [] vs = refl
+changed-append to (u ∷ us) vs = ap (λ l. (u.0, changed_kept to u.1) ∷ l) (changed-append to us vs)
 
-pub marks-moved : (edit : Edit) (es : List (ℕ × KeptMark)) → marks_of (moved_items edit es) ≡ map (moved_mark edit) (marks_of es)
-marks-moved edit [] = refl
-marks-moved edit (e ∷ es) = ap (λ l. moved_mark edit (as_mark e.1) ∷ l) (marks-moved edit es)
+pub marks-changed : (to : Mark → Mark) (es : List (ℕ × KeptMark)) → marks_of (changed_items to es) ≡ map to (marks_of es)
+marks-changed to [] = refl
+marks-changed to (e ∷ es) = ap (λ l. to (as_mark e.1) ∷ l) (marks-changed to es)
 
 pub length-marks : (es : List (ℕ × KeptMark)) → length (marks_of es) ≡ length es
 length-marks [] = refl
@@ -183,6 +181,6 @@ mark_none (x ∷ xs) id e = elim (cases_Bool (eqb id x.1.label.id)) [
     no_some : (a : ℕ) → Some a ≡ None → ⊥
     no_some a s = absurd (cc)
 
-pub node_moved : (edit : Edit) (es : List (ℕ × KeptMark)) (id : ℕ) → node_in (moved_items edit es) id ≡ node_in es id
-node_moved edit [] id = refl
-node_moved edit (e ∷ es) id = ap (cond (eqb id e.1.label.id) (Some e.0)) (node_moved edit es id)
+pub node_changed : (to : Mark → Mark) → ((m : Mark) → (to m).id ≡ m.id) → (es : List (ℕ × KeptMark)) (id : ℕ) → node_in (changed_items to es) id ≡ node_in es id
+node_changed to keeps [] id = refl
+node_changed to keeps (e ∷ es) id = λ i. cond (eqb id (keeps (as_mark e.1) i)) (Some e.0) (node_changed to keeps es id i)

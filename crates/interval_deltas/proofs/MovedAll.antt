@@ -14,9 +14,9 @@ use Rattle.interval_deltas.specs.Weave.{marks, is_mark, is_low}
 use Rattle.interval_deltas.specs.Kept.{Each, AreMarks, CanMove, PartedAt, as_mark, capped, mark_at, marks_of, moved_kept, moved_items}
 use Rattle.interval_deltas.specs.Mover.{Moving, starting, starts_behind}
 use Rattle.interval_deltas.specs.Sorting.{AreSorted, CrossIn, IsNotBelow, LiesIn}
-use Rattle.interval_deltas.proofs.Carrying.{all_of, past_all, carried, sorted_where, moved_each}
-use Rattle.interval_deltas.proofs.Items.{each_left, each_right, each_both, each_with, each_listed, sum_low}
-use Rattle.interval_deltas.proofs.Lists.{same_after, moved-append}
+use Rattle.interval_deltas.proofs.Carrying.{all_of, past_all, carried, sorted_where}
+use Rattle.interval_deltas.proofs.Items.{each_left, each_right, each_both, each_with, changed_each, each_listed, sum_low}
+use Rattle.interval_deltas.proofs.Lists.{same_after, changed-append}
 use Rattle.interval_deltas.proofs.Moving.{grounded, moved_are}
 use Rattle.interval_deltas.proofs.Touched.{IsTouched, behind, keeps_order, lies_there}
 use Rattle.interval_deltas.proofs.Untouched.{after_edit, starts_before, starts_behind_place}
@@ -76,7 +76,7 @@ module _ (edit : Edit) (items : List (ℕ × KeptMark)) (last : Option ℕ) (p :
 
   new_ends : (o : Option ℕ) → EndsWith us o → EndsWith (moved_items edit us) o
   new_ends None e = ap (moved_items edit) e
-  new_ends (Some i) (ks, (x, e)) = (moved_items edit ks, (moved_kept edit x, ap (moved_items edit) e ∙ moved-append edit ks ((i, x) ∷ [])))
+  new_ends (Some i) (ks, (x, e)) = (moved_items edit ks, (moved_kept edit x, ap (moved_items edit) e ∙ changed-append (moved_mark edit) ks ((i, x) ∷ [])))
 
   named : (o : Option ℕ) → EndsWith (moved_items edit us) o → PlaceAfter new o
   named None e = tt
@@ -105,7 +105,7 @@ module _ (edit : Edit) (items : List (ℕ × KeptMark)) (last : Option ℕ) (p :
           (each_with is_mark (λ m. starts_behind edit m ≡ true) (λ m. pos edit.end <ℤ m.start) (λ m h e. behind edit up m h e) vs (each_right is_mark us vs all) high)
 
     pub all_moved : (shifted : List (ℕ × KeptMark)) → AtPlace rewritten last (λ ws zs. shifted ≡ ws ++ moved_items edit zs) → shifted ≡ moved_items edit items
-    all_moved shifted moves = moves (moved_items edit us) vs split_new ∙ sym (moved-append edit us vs) ∙ ap (moved_items edit) (sym at_edit.1.1.0)
+    all_moved shifted moves = moves (moved_items edit us) vs split_new ∙ sym (changed-append (moved_mark edit) us vs) ∙ ap (moved_items edit) (sym at_edit.1.1.0)
 
     pub all_sorted : IsInOrder (marks_of items) → (after : Moving) → after ≡ past_all v items → after.in_order ≡ true → AreSorted (moved_items edit items)
     all_sorted ordered after goes seen =
@@ -121,7 +121,7 @@ pub cross_moved : (edit : Edit) (bound : ℤ) (es : List (ℕ × KeptMark)) → 
     → CrossIn (capped edit.start) bound (moved_items edit es)
 cross_moved edit bound [] up is h f ordered = tt
 cross_moved edit bound (e ∷ es) up is (h, hs) (f, fs) (o, os) = (
-  moved_each edit (λ m. IsNotBelow (moved_kept edit e.1) m ⊎ (LiesIn (capped edit.start) bound (moved_kept edit e.1) × LiesIn (capped edit.start) bound m)) es
+  changed_each (moved_mark edit) (λ m. IsNotBelow (moved_kept edit e.1) m ⊎ (LiesIn (capped edit.start) bound (moved_kept edit e.1) × LiesIn (capped edit.start) bound m)) es
       (each_with (λ m. is_mark m × Fits edit m) (λ m. stands_before (as_mark e.1) (as_mark m) ≡ true)
       (λ m. IsNotBelow (moved_kept edit e.1) (moved_kept edit m) ⊎ (LiesIn (capped edit.start) bound (moved_kept edit e.1) × LiesIn (capped edit.start) bound (moved_kept edit m)))
       (λ m g before. there m g.0 g.1 (keeps_order edit e.1 m up h g.0 before)) es (each_with is_mark (Fits edit) (λ m. is_mark m × Fits edit m) (λ m a b. (a, b)) es hs fs) (each_listed (stands_before (as_mark e.1)) es o)),

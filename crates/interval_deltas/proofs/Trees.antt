@@ -16,20 +16,12 @@ use Rattle.decoration_rules.specs.Marks.{stands_before, in_order, IsInOrder, has
 use Rattle.decoration_rules.proofs.MarkLists.{in_order-unique, distinct_map}
 use Rattle.interval_deltas.specs.declared.weave.KeptMark.{KeptMark}
 use Rattle.interval_deltas.specs.Weave.{is_mark}
-use Rattle.interval_deltas.specs.Kept.{CanMove, IsUntouched, as_mark, marks_of, moved_kept, moved_items}
+use Rattle.interval_deltas.specs.Kept.{CanMove, IsUntouched, as_mark, marks_of, moved_kept, changed_kept, changed_items}
 use Rattle.interval_deltas.specs.Tree.{node_in}
-use Rattle.interval_deltas.proofs.Lists.{marks-moved, fresh_at, node_none, node_some, mark_none, node_moved}
+use Rattle.interval_deltas.proofs.Lists.{marks-changed, fresh_at, node_none, node_some, mark_none, node_changed}
 use Rattle.interval_deltas.proofs.Moving.{grounded, still_kept, span_past, nat_order}
 use Rattle.interval_deltas.proofs.Naming.{past_other}
 use Rattle.interval_deltas.proofs.Sorting.{HaveSame-permutation, distinct_permutation}
-
-pub marks_all_moved : (edit : Edit) (old new : List (ℕ × KeptMark)) → HasDistinctIds (marks_of old) → IsInOrder (marks_of new) → IsPermutation (moved_items edit old) new
-    → marks_of new ≡ in_order (map (moved_mark edit) (marks_of old))
-marks_all_moved edit old new distinct ordered moved =
-    let same : IsPermutation (map (moved_mark edit) (marks_of old)) (marks_of new) =
-    subst (λ l. IsPermutation l (marks_of new)) (marks-moved edit old) (IsPermutation-map (λ (e : ℕ × KeptMark). as_mark e.1) (moved_items edit old) new moved) in
-    in_order-unique (map (moved_mark edit) (marks_of old)) (marks_of new) (distinct_map (moved_mark edit) (λ _. refl) (marks_of old) distinct) ordered
-    (HaveSame-permutation (map (moved_mark edit) (marks_of old)) (marks_of new) same)
 
 -- Nodes of ids.
 
@@ -125,15 +117,24 @@ can_move edit (e ∷ es) h =
     let P : Mark → Type 0 = λ mark. (moved_mark edit mark).span.end < offset_limit in
     (All-head P (as_mark e.1) (marks_of es) h, can_move edit es (All-tail P (as_mark e.1) (marks_of es) h))
 
-pub lengths_moved : (edit : Edit) (old new : List (ℕ × KeptMark)) → IsPermutation (moved_items edit old) new → length new ≡ length old
-lengths_moved edit old new moved = length_permutation (moved_items edit old) new moved ∙ length-map old (λ e. (e.0, moved_kept edit e.1))
+-- All are changed, and stand in another order then. None changes its id.
+module _ (to : Mark → Mark) (keeps : (m : Mark) → (to m).id ≡ m.id) (old new : List (ℕ × KeptMark)) (changed : IsPermutation (changed_items to old) new) where
+  pub lengths_changed : length new ≡ length old
+  lengths_changed = length_permutation (changed_items to old) new changed ∙ length-map old (λ e. (e.0, changed_kept to e.1))
 
-pub names_moved : (edit : Edit) (old new : List (ℕ × KeptMark)) → HasDistinctIds (marks_of old) → IsPermutation (moved_items edit old) new → (k : ℕ) → node_in old k ≡ node_in new k
-names_moved edit old new distinct moved k =
-    sym (node_moved edit old k)
-    ∙ node_permutation (moved_items edit old) new moved (subst HasDistinctIds (sym (marks-moved edit old)) (distinct_map (moved_mark edit) (λ _. refl) (marks_of old) distinct)) k
+  module _ (distinct : HasDistinctIds (marks_of old)) where
+    distinct_changed : HasDistinctIds (marks_of (changed_items to old))
+    distinct_changed = subst HasDistinctIds (sym (marks-changed to old)) (distinct_map to keeps (marks_of old) distinct)
 
-pub distinct_all_moved : (edit : Edit) (old new : List (ℕ × KeptMark)) → HasDistinctIds (marks_of old) → IsPermutation (moved_items edit old) new → HasDistinctIds (marks_of new)
-distinct_all_moved edit old new distinct moved =
-    distinct_permutation (marks_of (moved_items edit old)) (marks_of new) (IsPermutation-map (λ (f : ℕ × KeptMark). as_mark f.1) (moved_items edit old) new moved)
-    (subst HasDistinctIds (sym (marks-moved edit old)) (distinct_map (moved_mark edit) (λ _. refl) (marks_of old) distinct))
+    pub names_changed : (k : ℕ) → node_in old k ≡ node_in new k
+    names_changed k = sym (node_changed to keeps old k) ∙ node_permutation (changed_items to old) new changed distinct_changed k
+
+    pub distinct_all_changed : HasDistinctIds (marks_of new)
+    distinct_all_changed =
+        distinct_permutation (marks_of (changed_items to old)) (marks_of new) (IsPermutation-map (λ (f : ℕ × KeptMark). as_mark f.1) (changed_items to old) new changed) distinct_changed
+
+    pub marks_all_changed : IsInOrder (marks_of new) → marks_of new ≡ in_order (map to (marks_of old))
+    marks_all_changed ordered =
+        let same : IsPermutation (map to (marks_of old)) (marks_of new) =
+        subst (λ l. IsPermutation l (marks_of new)) (marks-changed to old) (IsPermutation-map (λ (e : ℕ × KeptMark). as_mark e.1) (changed_items to old) new changed) in
+        in_order-unique (map to (marks_of old)) (marks_of new) (distinct_map to keeps (marks_of old) distinct) ordered (HaveSame-permutation (map to (marks_of old)) (marks_of new) same)

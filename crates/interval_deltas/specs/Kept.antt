@@ -60,12 +60,19 @@ Each P items = AllItems marks P items
 abbrev pub AreMarks : List (ℕ × KeptMark) → Type 0
 AreMarks items = Each is_mark items
 
+-- how one is kept that was made of this one, and each of them
+abbrev pub changed_kept : (Mark → Mark) → KeptMark → KeptMark
+changed_kept to m = kept_of (to (as_mark m))
+
+abbrev pub changed_items : (Mark → Mark) → List (ℕ × KeptMark) → List (ℕ × KeptMark)
+changed_items to items = map (λ item. (item.0, changed_kept to item.1)) items
+
 -- where it is after the edit
 abbrev pub moved_kept : Edit → KeptMark → KeptMark
-moved_kept edit m = kept_of (moved_mark edit (as_mark m))
+moved_kept edit m = changed_kept (moved_mark edit) m
 
 abbrev pub moved_items : Edit → List (ℕ × KeptMark) → List (ℕ × KeptMark)
-moved_items edit items = map (λ item. (item.0, moved_kept edit item.1)) items
+moved_items edit items = changed_items (moved_mark edit) items
 
 -- they lie below the limit after the edit
 abbrev pub CanMove : Edit → List (ℕ × KeptMark) → Type 0

@@ -4,4 +4,6 @@ pub mod Laws
 pub mod Names
 pub mod Kept
 pub mod Mover
+pub mod Lines
+pub mod Carrier
 pub mod Sorting

@@ -2,7 +2,10 @@
 #![tactic(auto)]
 
 mod accept;
+mod carrier;
+mod carry;
 mod kept;
+mod lines;
 mod mover;
 mod moves;
 mod names;
@@ -11,6 +14,6 @@ mod sort;
 mod tree;
 mod weave;
 
-pub use decoration_rules::{Edit, Mark, Sticky};
+pub use decoration_rules::{Edit, LineMove, Mark, Sticky};
 pub use moves::moved;
 pub use tree::IntervalTree;

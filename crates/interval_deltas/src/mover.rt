@@ -73,7 +73,7 @@ impl Mover {
 
 /// Whether a decoration stands before a place.
 #[tactic(auto, using(crate::proofs::Searches::order_is))]
-fn stands_below(mark: &KeptMark, place: &Place) -> bool
+pub(crate) fn stands_below(mark: &KeptMark, place: &Place) -> bool
     requires value { is_mark mark.now }
     requires place { IsPlace place.now }
     ensures { result ≡ stands_before (as_mark mark.now) (mark_at place.now) }

@@ -4,16 +4,18 @@ ghost use Rattle.std.specs.Prelude.{◌≡◌, ◌+◌, ◌<◌, ◌≤◌, ◌+
 ghost use Rattle.std.specs.List.{All};
 ghost use Rattle.rb_arena.specs.RbTree.{AtPlace, PlaceAfter};
 ghost use Rattle.decoration_rules.specs.Moves.{offset_limit, moved_mark};
+ghost use Rattle.decoration_rules.specs.Lines.{AreLineMoves, carried_with_lines};
 ghost use Rattle.decoration_rules.specs.Marks.{in_order, put_in_order, is_live, mark_of, without, touching, IsInOrder};
 ghost use Rattle.interval_deltas.specs.Weave.{is_mark};
 ghost use Rattle.interval_deltas.specs.Kept.{AreMarks, marks_of};
 
 use crate::accept::move_in_order;
+use crate::carry::carry_in_order;
 use crate::kept::capped;
 use crate::names::Names;
 use crate::search::{first_reaching, last_before, reaching_after};
 use crate::weave::{KeptMark, Marks};
-use decoration_rules::{Edit, Mark};
+use decoration_rules::{Edit, LineMove, Mark};
 use raw_arena::NodeId;
 use rb_arena::RbTree;
 use std::alloc::{AllocError, Global};
@@ -108,6 +110,16 @@ impl IntervalTree {
     {
         let count = self.len();
         move_in_order(&mut self.tree, count, edit);
+    }
+
+    /// Each decoration goes with its lines, as where the line endings of the text change their kind.
+    pub fn carry(&mut self, moves: &[LineMove])
+        requires { AreLineMoves moves.now }
+        ensures carried { self.new.marks ≡ carried_with_lines moves.now self.old.marks }
+        ensures room { self.new.spare ≡ self.old.spare }
+    {
+        let count = self.len();
+        carry_in_order(&mut self.tree, count, moves);
     }
 
     /// The decoration of this id.
