@@ -12,11 +12,11 @@ use Rattle.bracket_nodes.specs.declared.leaf.TheConstants.{HIGHEST_BREAKS}
 use Rattle.bracket_nodes.specs.Forms.{breaks, IsSound}
 use Rattle.bracket_nodes.specs.Kept.{Keeps, last_level}
 
-breaks_some : (h : ℕ) → is_nothing (breaks h) ≡ false
+pub breaks_some : (h : ℕ) → is_nothing (breaks h) ≡ false
 breaks_some zero = refl
 breaks_some (suc h) = refl
 
-breaks_height : (h : ℕ) → height (breaks h) ≡ h
+pub breaks_height : (h : ℕ) → height (breaks h) ≡ h
 breaks_height zero = refl
 breaks_height (suc h) = ap suc (breaks_height h)
 

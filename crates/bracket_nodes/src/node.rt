@@ -1,7 +1,7 @@
 // The nodes of a bracket tree.
-ghost use Rattle.std.specs.Prelude.{◌≡◌, ◌+◌, ◌<◌, ◌≤◌, ◌^◌, ℕ, IfOk};
+ghost use Rattle.std.specs.Prelude.{◌≡◌, ◌+◌, ◌<◌, ◌≤◌, ◌^◌, ℕ, false, IfOk};
 ghost use Rattle.bracket_tree_rules.specs.Told.{has_kind};
-ghost use Rattle.bracket_tree_rules.specs.Tree.{tree_length, is_missing, is_closed, is_capped, nesting, height, highest, weight, IsTree};
+ghost use Rattle.bracket_tree_rules.specs.Tree.{tree_length, is_missing, is_closed, is_capped, nesting, height, highest, weight, is_nothing, IsTree};
 ghost use Rattle.bracket_nodes.specs.Kept.{Keeps};
 ghost use Rattle.bracket_nodes.specs.Shapes.{link_tree, tree_size};
 ghost use Rattle.bracket_nodes.specs.Bounds.{IsBounded};
@@ -146,10 +146,12 @@ impl Model for Inner {
 }
 
 impl Inner {
-    /// What the node keeps of its subtree.
+    /// What the node keeps of its subtree. It is some node: the list of no nodes takes no memory.
+    #[inline(always)]
     pub fn kept(&self) -> Kept
         ensures keeps { Keeps self.now result }
         ensures bounded { IsBounded (weight self.now) result }
+        ensures some { is_nothing self.now ≡ false }
     {
         self.kept
     }
@@ -187,7 +189,7 @@ fn longer_first(a: Link, b: Link) -> (Link, Link)
     ensures { tree_size (link_tree result.0) + tree_size (link_tree result.1)
         ≡ tree_size (link_tree a) + tree_size (link_tree b) }
 {
-    if a.kept().length.before(&b.kept().length) {
+    if a.length().before(&b.length()) {
         (b, a)
     } else {
         (a, b)

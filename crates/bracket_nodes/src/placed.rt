@@ -38,6 +38,7 @@ impl<'a> Placed<'a> {
         }
     }
 
+    #[tactic(auto, using(bracket_tree_rules::proofs::Parts::part_held))]
     /// The part of the node that holds the place.
     pub fn part_at(&self, place: &Length) -> Option<Placed<'a>>
         requires tree { IsTree (seen_tree self.now.node) }
@@ -48,26 +49,31 @@ impl<'a> Placed<'a> {
             Holds part.start (seen_tree part.node) place.now) }
         ensures none { IfNone result (NoPartHolds self.now.start (seen_tree self.now.node) place.now) }
     {
+        if place.before(&self.start) {
+            return None;
+        }
         let node = self.node;
         match node.shown() {
             Shown::Pair(_, opening, inside, _) => self.inside(opening, inside).holding(place),
             Shown::Two(a, b) => {
                 let first = self.first(a);
-                if first.holds(place) {
+                let second = first.next(b);
+                if place.before(&second.start) {
                     return Some(first);
                 }
-                first.next(b).holding(place)
+                second.holding(place)
             }
             Shown::Three(a, b, c) => {
                 let first = self.first(a);
-                if first.holds(place) {
+                let second = first.next(b);
+                if place.before(&second.start) {
                     return Some(first);
                 }
-                let second = first.next(b);
-                if second.holds(place) {
+                let third = second.next(c);
+                if place.before(&third.start) {
                     return Some(second);
                 }
-                second.next(c).holding(place)
+                third.holding(place)
             }
             _ => None,
         }
