@@ -31,6 +31,11 @@ impl Link {
         }
     }
 
+    /// Whether the node takes no memory of its own.
+    pub fn is_leaf(&self) -> bool {
+        matches!(self, Link::Here(_))
+    }
+
     /// What is kept of the node.
     pub fn kept(&self) -> Kept
         ensures keeps { Keeps (link_tree self.now) result }
@@ -44,6 +49,16 @@ impl Link {
         ensures { result ≡ tree_length (link_tree self.now) }
     {
         self.seen().length()
+    }
+
+    /// Where the node ends, where it starts here.
+    pub fn end(&self, start: &Length) -> Length
+        requires { start.now.lines + start.now.columns + weight (link_tree self.now) < 2 ^ 64 }
+        ensures end { result ≡ length_plus start.now (tree_length (link_tree self.now)) }
+        ensures fits { result.lines + result.columns
+            ≤ start.now.lines + start.now.columns + weight (link_tree self.now) }
+    {
+        self.seen().end(start)
     }
 
     /// The height of a list of several nodes, and else 0.
@@ -205,7 +220,7 @@ fn shown_breaks<'a>(height: u8) -> Shown<'a>
     Shown::Two(first, second)
 }
 
-fn seen_breaks<'a>(height: u8) -> Seen<'a>
+pub(crate) fn seen_breaks<'a>(height: u8) -> Seen<'a>
     requires { height ≤ HIGHEST_BREAKS }
     ensures { seen_tree result ≡ breaks height }
 {

@@ -157,9 +157,9 @@ impl Inner {
     }
 }
 
-// A loop goes on with the longest part. So a call inside another drops a part of at most half its lines or, within a line,
-// of at most half its columns, and calls lie inside one another as often as these have binary digits, however deep the
-// tree is.
+// A loop goes on with the longest part that takes memory. So a call inside another drops a part of at most half its lines
+// or, within a line, of at most half its columns, and calls lie inside one another as often as these have binary digits,
+// however deep the tree is.
 impl Drop for Inner {
     fn drop(mut self) {
         loop {
@@ -184,12 +184,12 @@ impl Drop for Inner {
     }
 }
 
-// The two, and first the longer one.
+// The two, and first the longer one; one that takes memory comes before one that takes none.
 fn longer_first(a: Link, b: Link) -> (Link, Link)
     ensures { tree_size (link_tree result.0) + tree_size (link_tree result.1)
         ≡ tree_size (link_tree a) + tree_size (link_tree b) }
 {
-    if a.length().before(&b.length()) {
+    if a.is_leaf() || !b.is_leaf() && a.length().before(&b.length()) {
         (b, a)
     } else {
         (a, b)
