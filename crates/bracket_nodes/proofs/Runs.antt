@@ -5,7 +5,6 @@ use Rattle.std.proofs.lemmas.Nat.{pow_pos, pow_below}
 use Rattle.std.proofs.lemmas.Grind.{common_steps}
 use Rattle.text_lengths.specs.Length.{length_of, length_plus}
 use Rattle.bracket_tree_rules.specs.Tree.{two, tree_length, is_missing, is_closed, is_capped, nesting, height, highest, weight, is_nothing, IsTree}
-use Rattle.bracket_tree_rules.specs.Told.{has_kind}
 use Rattle.bracket_tree_rules.proofs.KindSets.{has_kind-none}
 use Rattle.bracket_nodes.specs.declared.kept.Kept.{Kept}
 use Rattle.bracket_nodes.specs.declared.leaf.TheConstants.{HIGHEST_BREAKS}
