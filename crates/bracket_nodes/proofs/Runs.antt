@@ -5,18 +5,17 @@ use Rattle.std.proofs.lemmas.Nat.{pow_pos, pow_below}
 use Rattle.std.proofs.lemmas.Grind.{common_steps}
 use Rattle.text_lengths.specs.Length.{length_of, length_plus}
 use Rattle.bracket_tree_rules.specs.Tree.{two, tree_length, is_missing, is_closed, is_capped, nesting, height, highest, weight, is_nothing, IsTree}
-use Rattle.bracket_tree_rules.specs.Told.{has_kind}
 use Rattle.bracket_tree_rules.proofs.KindSets.{has_kind-none}
 use Rattle.bracket_nodes.specs.declared.kept.Kept.{Kept}
 use Rattle.bracket_nodes.specs.declared.leaf.TheConstants.{HIGHEST_BREAKS}
 use Rattle.bracket_nodes.specs.Forms.{breaks, IsSound}
 use Rattle.bracket_nodes.specs.Kept.{Keeps, last_level}
 
-breaks_some : (h : ℕ) → is_nothing (breaks h) ≡ false
+pub breaks_some : (h : ℕ) → is_nothing (breaks h) ≡ false
 breaks_some zero = refl
 breaks_some (suc h) = refl
 
-breaks_height : (h : ℕ) → height (breaks h) ≡ h
+pub breaks_height : (h : ℕ) → height (breaks h) ≡ h
 breaks_height zero = refl
 breaks_height (suc h) = ap suc (breaks_height h)
 

@@ -1,5 +1,5 @@
 -- Each part of a node is smaller than the node.
-use Rattle.std.specs.Prelude.{ℕ, suc, ◌≤◌, max}
+use Rattle.std.specs.Prelude.{suc, ◌≤◌, max}
 use Rattle.std.proofs.Common.{arith}
 use Rattle.bracket_nodes.specs.declared.node.Link.{Link}
 use Rattle.bracket_nodes.specs.declared.node.Link.TheVariants.{Here, Shared}

@@ -5,6 +5,8 @@ use Rattle.bracket_nodes.specs.Shapes.{link_tree}
 use Rattle.bracket_nodes.specs.declared.node.Link.{Link}
 use Rattle.bracket_nodes.specs.declared.joiner.Joiner.{Joiner}
 use Rattle.bracket_nodes.specs.declared.joiner.Step.{Step}
+use Rattle.bracket_nodes.specs.declared.parser.Part.{Part}
+use Rattle.bracket_nodes.specs.declared.parser.Stop.{Stop}
 use Rattle.bracket_nodes.specs.declared.joiner.Step.TheVariants.{Stay, Join, JoinThree}
 
 abbrev pub linked_items : List Link → List Tree
@@ -41,3 +43,9 @@ abbrev pub IsStep : Joiner → Joiner → Step → Type 0
 IsStep old new Stay = IsSame old new
 IsStep old new Join = IsSame old new
 IsStep old new (JoinThree before) = Takes new (link_tree before) old × (count new < count old)
+
+-- the part is the list of the nodes, and stops so
+pub record IsFinished (j : Joiner) (stop : Stop) (part : Part) : Type 0 where
+  pub in_order : items part.list ≡ joined_items j
+  pub weighs : weight part.list ≡ joined_weight j
+  pub stops : part.stop ≡ stop

@@ -1,7 +1,6 @@
 // What a reader asks of a node of an old tree: whether it may be taken, and whether a bracket of it starts here.
 ghost use Rattle.std.specs.Prelude.{◌≡◌, ◌≢◌, ◌+◌, ◌<◌, ◌≤◌, ◌^◌, ◌⊎◌, ◌↔◌, Some, None, IsTrue, IfOk, IfSome, IfNone};
 ghost use Rattle.bracket_tree_rules.specs.Tree.{tree_length, IsTree};
-ghost use Rattle.bracket_tree_rules.specs.Told.{Fits};
 ghost use Rattle.bracket_tree_rules.specs.Places.{touched, MayBeTaken};
 ghost use Rattle.bracket_tree_rules.specs.Found.{token_at, IsTakenHere, IsTokenAt};
 ghost use Rattle.bracket_tree_rules.specs.Parts.{NoOwnBracketAt};
@@ -65,7 +64,15 @@ fn may_be_taken(node: &Seen, room: &Room) -> bool
     ensures { IsTrue result
         ↔ MayBeTaken room.now.lines room.now.opened room.now.level (seen_tree node.now) }
 {
-    !node.is_nothing() && is_within(&node.kept().length, room.lines) && fits(node, room)
+    if node.is_nothing() {
+        return false;
+    }
+    let kept = node.kept();
+    kept.closed
+        && !kept.capped
+        && is_within(&kept.length, room.lines)
+        && has_room(room.level, kept.nesting)
+        && kept.missing.is_apart_from(room.opened)
 }
 
 // Whether a text of this length touches no more lines.
@@ -77,17 +84,6 @@ fn is_within(length: &Length, lines: u64) -> bool
     } else {
         length.lines < lines
     }
-}
-
-fn fits(node: &Seen, room: &Room) -> bool
-    requires { IsSound (seen_tree node.now) }
-    ensures { IsTrue result ↔ Fits room.now.opened room.now.level (seen_tree node.now) }
-{
-    let kept = node.kept();
-    kept.closed
-        && !kept.capped
-        && kept.missing.is_apart_from(room.opened)
-        && has_room(room.level, kept.nesting)
 }
 
 // Whether brackets inside one another may open at this level, so many.

@@ -81,8 +81,8 @@ impl Joiner {
     fn step(&mut self, top: &Link, list: &Link) -> Step
         ensures { IsStep self.old self.new result }
     {
-        let height = list.kept().height;
-        let above = top.kept().height;
+        let height = list.height();
+        let above = top.height();
         if height < above {
             return Step::Stay;
         }
@@ -90,7 +90,7 @@ impl Joiner {
             return Step::Join;
         }
         match self.lists.last() {
-            Some(before) if before.kept().height == height => {}
+            Some(before) if before.height() == height => {}
             _ => return Step::Stay,
         }
         match self.pop() {

@@ -1,6 +1,6 @@
 // Nodes that take no memory of their own: they stand in the link that leads to them.
 ghost use Rattle.std.specs.Prelude.{◌≡◌, ◌+◌, ◌<◌, ◌≤◌, ◌^◌, IfSome, IsTrue};
-ghost use Rattle.bracket_tree_rules.specs.Tree.{text, pair, stray, capped, nothing, two, tree_length, weight, IsGap, IsPair, IsLone};
+ghost use Rattle.bracket_tree_rules.specs.Tree.{text, pair, stray, capped, nothing, two, tree_length, height, weight, is_nothing, IsGap, IsPair, IsLone};
 ghost use Rattle.bracket_nodes.specs.Forms.{form_tree, breaks, short_inside, short_tree, IsSound};
 ghost use Rattle.bracket_nodes.specs.Kept.{Keeps};
 
@@ -194,6 +194,36 @@ impl Form {
                 ..leaf_kept(wide(width as u64), Kinds::none(), None)
             },
             Form::Pair(pair) => short_pair_kept(pair),
+        }
+    }
+
+    #[tactic(auto, using(crate::proofs::Runs::breaks_some))]
+    /// Whether it is the list of no nodes.
+    pub fn is_nothing(self) -> bool
+        ensures { result ≡ is_nothing (form_tree self) }
+    {
+        match self {
+            Form::Nothing => true,
+            Form::Text(_)
+            | Form::Breaks(_)
+            | Form::Stray(_, _)
+            | Form::Capped(_, _)
+            | Form::Pair(_) => false,
+        }
+    }
+
+    #[tactic(auto, using(crate::proofs::Runs::breaks_height))]
+    /// The height of a list of several nodes, and else 0.
+    pub fn height(self) -> u8
+        ensures { result ≡ height (form_tree self) }
+    {
+        match self {
+            Form::Breaks(height) => height.min(HIGHEST_BREAKS),
+            Form::Nothing
+            | Form::Text(_)
+            | Form::Stray(_, _)
+            | Form::Capped(_, _)
+            | Form::Pair(_) => 0,
         }
     }
 

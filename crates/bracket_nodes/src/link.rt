@@ -1,7 +1,7 @@
 // What leads to a node, and a node that is borrowed.
 ghost use Rattle.std.specs.Prelude.{◌≡◌, ◌+◌, ◌<◌, ◌≤◌, ◌^◌, IfOk};
 ghost use Rattle.text_lengths.specs.Length.{length_plus};
-ghost use Rattle.bracket_tree_rules.specs.Tree.{tree_length, is_nothing, weight, IsTree};
+ghost use Rattle.bracket_tree_rules.specs.Tree.{tree_length, height, is_nothing, weight, IsTree};
 ghost use Rattle.bracket_nodes.specs.Bounds.{IsBounded};
 ghost use Rattle.bracket_nodes.specs.Forms.{form_tree, breaks, IsSound};
 ghost use Rattle.bracket_nodes.specs.Kept.{Keeps};
@@ -17,6 +17,7 @@ use text_lengths::Length;
 
 impl Link {
     /// The same node, borrowed.
+    #[inline(always)]
     pub fn seen(&self) -> Seen<'_>
         ensures same { seen_tree result ≡ link_tree self.now }
         ensures sound { IsSound (link_tree self.now) }
@@ -30,12 +31,41 @@ impl Link {
         }
     }
 
+    /// Whether the node takes no memory of its own.
+    pub fn is_leaf(&self) -> bool {
+        matches!(self, Link::Here(_))
+    }
+
     /// What is kept of the node.
     pub fn kept(&self) -> Kept
         ensures keeps { Keeps (link_tree self.now) result }
         ensures bounded { IsBounded (weight (link_tree self.now)) result }
     {
         self.seen().kept()
+    }
+
+    /// The node's length.
+    pub fn length(&self) -> Length
+        ensures { result ≡ tree_length (link_tree self.now) }
+    {
+        self.seen().length()
+    }
+
+    /// Where the node ends, where it starts here.
+    pub fn end(&self, start: &Length) -> Length
+        requires { start.now.lines + start.now.columns + weight (link_tree self.now) < 2 ^ 64 }
+        ensures end { result ≡ length_plus start.now (tree_length (link_tree self.now)) }
+        ensures fits { result.lines + result.columns
+            ≤ start.now.lines + start.now.columns + weight (link_tree self.now) }
+    {
+        self.seen().end(start)
+    }
+
+    /// The height of a list of several nodes, and else 0.
+    pub fn height(&self) -> u8
+        ensures { result ≡ height (link_tree self.now) }
+    {
+        self.seen().height()
     }
 
     pub fn is_nothing(&self) -> bool
@@ -89,9 +119,11 @@ impl<'a> Seen<'a> {
         }
     }
 
+    #[tactic(auto, using(bracket_tree_rules::proofs::Weights::length_within))]
     /// The node's length.
     pub fn length(&self) -> Length
-        ensures { result ≡ tree_length (seen_tree self.now) }
+        ensures length { result ≡ tree_length (seen_tree self.now) }
+        ensures within { result.lines + result.columns ≤ weight (seen_tree self.now) }
     {
         match *self {
             Seen::Here(form) => form.length(),
@@ -111,10 +143,27 @@ impl<'a> Seen<'a> {
         }
     }
 
+    /// The height of a list of several nodes, and else 0.
+    pub fn height(&self) -> u8
+        ensures { result ≡ height (seen_tree self.now) }
+    {
+        match *self {
+            Seen::Here(form) => form.height(),
+            Seen::Shared(inner) => inner.kept().height,
+        }
+    }
+
     pub fn is_nothing(&self) -> bool
         ensures { result ≡ is_nothing (seen_tree self.now) }
     {
-        matches!(self.shown(), Shown::Nothing)
+        match *self {
+            Seen::Here(form) => form.is_nothing(),
+            Seen::Shared(inner) => {
+                // No block is made for it.
+                let _kept = inner.kept();
+                false
+            }
+        }
     }
 
     /// Where the node ends, where it starts here.
@@ -125,10 +174,11 @@ impl<'a> Seen<'a> {
         ensures fits { result.lines + result.columns
             ≤ start.now.lines + start.now.columns + weight (seen_tree self.now) }
     {
-        start.plus(&self.kept().length)
+        start.plus(&self.length())
     }
 
-    /// What the node is.
+    /// What the node is. Each caller takes it apart at once, so that it is not made where this is part of the caller.
+    #[inline(always)]
     pub fn shown(&self) -> Shown<'a>
         ensures { shown_tree result ≡ seen_tree self.now }
     {
@@ -139,6 +189,7 @@ impl<'a> Seen<'a> {
     }
 }
 
+#[inline(always)]
 fn shown_form<'a>(form: Form) -> Shown<'a>
     ensures { shown_tree result ≡ form_tree form }
 {
@@ -169,13 +220,14 @@ fn shown_breaks<'a>(height: u8) -> Shown<'a>
     Shown::Two(first, second)
 }
 
-fn seen_breaks<'a>(height: u8) -> Seen<'a>
+pub(crate) fn seen_breaks<'a>(height: u8) -> Seen<'a>
     requires { height ≤ HIGHEST_BREAKS }
     ensures { seen_tree result ≡ breaks height }
 {
     Seen::Here(Form::Breaks(height))
 }
 
+#[inline(always)]
 fn shown_inner(inner: &Rc<Inner>) -> Shown<'_>
     ensures { shown_tree result ≡ inner.now.value }
 {

@@ -85,7 +85,7 @@ fn append(alloc: Global, list: &Seen, last: Link) -> Result<Siblings, AllocError
     ensures weighs { IfOk result (λ lists.
         sibling_weight lists ≡ weight (seen_tree list.now) + weight (link_tree last)) }
 {
-    if list.kept().height == last.kept().height {
+    if list.height() == last.height() {
         return Ok(Siblings::Two(list.share()?, last));
     }
     match list.shown() {
@@ -114,7 +114,7 @@ fn prepend(alloc: Global, first: Link, list: &Seen) -> Result<Siblings, AllocErr
     ensures weighs { IfOk result (λ lists.
         sibling_weight lists ≡ weight (link_tree first) + weight (seen_tree list.now)) }
 {
-    if list.kept().height == first.kept().height {
+    if list.height() == first.height() {
         return Ok(Siblings::Two(first, list.share()?));
     }
     match list.shown() {
@@ -141,7 +141,7 @@ pub(crate) fn join(alloc: Global, first: Link, second: Link) -> Result<Link, All
     if second.is_nothing() {
         return Ok(first);
     }
-    let grown = if second.kept().height <= first.kept().height {
+    let grown = if second.height() <= first.height() {
         append(alloc, &first.seen(), second)?
     } else {
         prepend(alloc, first, &second.seen())?
@@ -175,7 +175,7 @@ pub(crate) fn join_three(
 fn are_even(a: &Link, b: &Link) -> bool
     ensures { IsTrue result → IsEven (link_tree a.now) (link_tree b.now) }
 {
-    a.kept().height == b.kept().height && !a.is_nothing() && !b.is_nothing()
+    a.height() == b.height() && !a.is_nothing() && !b.is_nothing()
 }
 
 /// Whether both are line breaks of one height, whose list takes no memory.

@@ -1,7 +1,7 @@
 // The nodes of a bracket tree.
-ghost use Rattle.std.specs.Prelude.{◌≡◌, ◌+◌, ◌<◌, ◌≤◌, ◌^◌, ℕ, IfOk};
+ghost use Rattle.std.specs.Prelude.{◌≡◌, ◌+◌, ◌<◌, ◌≤◌, ◌^◌, ℕ, false, IfOk};
 ghost use Rattle.bracket_tree_rules.specs.Told.{has_kind};
-ghost use Rattle.bracket_tree_rules.specs.Tree.{tree_length, is_missing, is_closed, is_capped, nesting, height, highest, weight, IsTree};
+ghost use Rattle.bracket_tree_rules.specs.Tree.{tree_length, is_missing, is_closed, is_capped, nesting, height, highest, weight, is_nothing, IsTree};
 ghost use Rattle.bracket_nodes.specs.Kept.{Keeps};
 ghost use Rattle.bracket_nodes.specs.Shapes.{link_tree, tree_size};
 ghost use Rattle.bracket_nodes.specs.Bounds.{IsBounded};
@@ -146,18 +146,20 @@ impl Model for Inner {
 }
 
 impl Inner {
-    /// What the node keeps of its subtree.
+    /// What the node keeps of its subtree. It is some node: the list of no nodes takes no memory.
+    #[inline(always)]
     pub fn kept(&self) -> Kept
         ensures keeps { Keeps self.now result }
         ensures bounded { IsBounded (weight self.now) result }
+        ensures some { is_nothing self.now ≡ false }
     {
         self.kept
     }
 }
 
-// A loop goes on with the longest part. So a call inside another drops a part of at most half its lines or, within a line,
-// of at most half its columns, and calls lie inside one another as often as these have binary digits, however deep the
-// tree is.
+// A loop goes on with the longest part that takes memory. So a call inside another drops a part of at most half its lines
+// or, within a line, of at most half its columns, and calls lie inside one another as often as these have binary digits,
+// however deep the tree is.
 impl Drop for Inner {
     fn drop(mut self) {
         loop {
@@ -182,12 +184,12 @@ impl Drop for Inner {
     }
 }
 
-// The two, and first the longer one.
+// The two, and first the longer one; one that takes memory comes before one that takes none.
 fn longer_first(a: Link, b: Link) -> (Link, Link)
     ensures { tree_size (link_tree result.0) + tree_size (link_tree result.1)
         ≡ tree_size (link_tree a) + tree_size (link_tree b) }
 {
-    if a.kept().length.before(&b.kept().length) {
+    if a.is_leaf() || !b.is_leaf() && a.length().before(&b.length()) {
         (b, a)
     } else {
         (a, b)

@@ -2,10 +2,11 @@
 ghost use Rattle.std.specs.Prelude.{◌≡◌, ◌+◌, ◌<◌, ◌≤◌, ◌^◌, [], false, IfOk, OnOk};
 ghost use Rattle.bracket_rules.specs.Rows.{HasRow};
 ghost use Rattle.bracket_tree_rules.specs.Told.{IsTreeOf};
-ghost use Rattle.bracket_tree_rules.specs.Tree.{IsLone, is_missing, weight};
+ghost use Rattle.bracket_tree_rules.specs.Tree.{capped, IsLone, is_missing, weight};
+ghost use Rattle.bracket_nodes.specs.Joining.{joined_weight, IsFinished};
 ghost use Rattle.bracket_tree_rules.specs.Weights.{tree_weights, AreCovered};
-ghost use Rattle.bracket_nodes.specs.Source.{AsksOn, Listed, Takes, HasWidth, weights_ahead, weight_ahead, stop_width, closing_taken, pair_taken};
-ghost use Rattle.bracket_nodes.specs.Paying.{HasRoom, Spends, PaysUpTo, PaysTaken};
+ghost use Rattle.bracket_nodes.specs.Source.{AsksOn, Comes, Listed, Takes, HasWidth, weights_ahead, weight_ahead, stop_width, closing_taken, pair_taken};
+ghost use Rattle.bracket_nodes.specs.Paying.{HasRoom, Spends, PaysFor, PaysUpTo, PaysTaken};
 
 use crate::joiner::Joiner;
 use crate::kept::wide;
@@ -122,13 +123,9 @@ fn parse_list<S: Source>(
             Taken::One(node) => joiner.push(alloc, node)?,
             Taken::Last(node, stop) => {
                 joiner.push(alloc, node)?;
-                let list = joiner.finish(alloc)?;
-                return Ok(Part { list, stop });
+                return finished(alloc, joiner, stop);
             }
-            Taken::Nothing(stop) => {
-                let list = joiner.finish(alloc)?;
-                return Ok(Part { list, stop });
-            }
+            Taken::Nothing(stop) => return finished(alloc, joiner, stop),
         }
     }
 }
@@ -152,24 +149,44 @@ fn take<S: Source>(
     ensures spends { HasRoom (S.paying source.old) level
         → Spends (S.paying source.old) (S.paying source.new) }
 {
-    match source.next(alloc, opened, level)? {
-        Next::End => Ok(Taken::Nothing(Stop::AtEnd)),
-        Next::Ready(node) => Ok(Taken::One(node)),
-        Next::Bracket(kind, width, opening) => {
-            if !opening {
-                return closing(alloc, opened, kind, width);
-            }
-            if level == MOST_OPEN {
-                return Ok(Taken::One(capped_node(alloc, kind, wide(width))?));
-            }
-            let part = parse_list(alloc, source, opened.with(kind), level + 1)?;
-            paired(alloc, kind, width, part)
-        }
+    let (kind, width, opening) = match next_of(alloc, source, opened, level)? {
+        Next::End => return Ok(Taken::Nothing(Stop::AtEnd)),
+        Next::Ready(node) => return Ok(Taken::One(node)),
+        Next::Bracket(kind, width, opening) => (kind, width, opening),
+    };
+    if !opening {
+        return closing(alloc, opened, kind, width);
     }
+    if level == MOST_OPEN {
+        return too_deep(alloc, kind, width);
+    }
+    let part = parse_list(alloc, source, opened.with(kind), level + 1)?;
+    paired(alloc, kind, width, part)
 }
 
-// A closing bracket stops the list, or closes no bracket. Out of line, as what else makes nodes: so the frame of a list,
-// of which there is one for each open bracket, has no room for them.
+// What comes next. Out of line, as what makes nodes: so the frame of a list, of which there is one for each open bracket,
+// has no room for them.
+#[inline(never)]
+fn next_of<S: Source>(
+    alloc: Global,
+    source: &mut S,
+    opened: Kinds,
+    level: u64,
+) -> Result<Next, AllocError>
+    requires level { level ≤ MOST_OPEN }
+    requires stands { S.stands source.old }
+    ensures comes { IfOk result (Comes (S.ahead source.old) (S.ahead source.new) opened level) }
+    ensures stands { OnOk result (S.stands source.new) }
+    ensures asks { AsksOn (S.ahead source.old).asking (S.ahead source.new).asking }
+    ensures pays { HasRoom (S.paying source.old) level
+        → IfOk result (PaysFor (S.paying source.old) (S.paying source.new)) }
+    ensures spends { HasRoom (S.paying source.old) level
+        → Spends (S.paying source.old) (S.paying source.new) }
+{
+    source.next(alloc, opened, level)
+}
+
+// A closing bracket stops the list, or closes no bracket.
 #[inline(never)]
 fn closing(alloc: Global, opened: Kinds, kind: u64, width: u64) -> Result<Taken, AllocError>
     requires { IsLone kind width }
@@ -179,6 +196,25 @@ fn closing(alloc: Global, opened: Kinds, kind: u64, width: u64) -> Result<Taken,
         return Ok(Taken::Nothing(Stop::AtClosing(kind, width)));
     }
     Ok(Taken::One(stray_node(alloc, kind, wide(width))?))
+}
+
+// An opening bracket beyond the most that may be open.
+#[inline(never)]
+fn too_deep(alloc: Global, kind: u64, width: u64) -> Result<Taken, AllocError>
+    requires { IsLone kind width }
+    ensures { IfOk result (λ taken. taken ≡ Taken.One (capped kind width)) }
+{
+    Ok(Taken::One(capped_node(alloc, kind, wide(width))?))
+}
+
+// The list of what was read, which stops so.
+#[inline(never)]
+fn finished(alloc: Global, joiner: Joiner, stop: Stop) -> Result<Part, AllocError>
+    requires { joined_weight joiner < 2 ^ 64 }
+    ensures { IfOk result (IsFinished joiner stop) }
+{
+    let list = joiner.finish(alloc)?;
+    Ok(Part { list, stop })
 }
 
 // The pair of an opening bracket and what stands after it, unclosed where that stopped otherwise.

@@ -1,14 +1,18 @@
 // A node of a tree at its place, and the part of it that holds a place.
-ghost use Rattle.std.specs.Prelude.{◌+◌, ◌<◌, ◌≤◌, ◌^◌, ◌↔◌, ◌≡◌, IsTrue, IfSome, IfNone};
-ghost use Rattle.text_lengths.specs.Length.{no_length, length_plus};
+ghost use Rattle.std.specs.Prelude.{◌+◌, ◌<◌, ◌≤◌, ◌^◌, ◌↔◌, ◌≡◌, false, IsTrue, IfSome, IfNone};
+ghost use Rattle.text_lengths.specs.Length.{no_length, length_plus, is_before};
 ghost use Rattle.bracket_tree_rules.specs.Tree.{tree_length, wide, weight, nesting, IsTree};
 ghost use Rattle.bracket_tree_rules.specs.Parts.{Holds, IsPart, NoPartHolds};
 ghost use Rattle.bracket_nodes.specs.Parts.{reach};
-ghost use Rattle.bracket_nodes.specs.Forms.{IsSound};
+ghost use Rattle.bracket_nodes.specs.Forms.{form_tree, breaks, IsSound};
+ghost use Rattle.bracket_nodes.specs.Shapes.{link_tree};
 ghost use Rattle.bracket_nodes.specs.Seen.{seen_tree};
 
 use crate::kept::wide;
-use crate::link::{Seen, Shown};
+use crate::leaf::{Form, HIGHEST_BREAKS};
+use crate::link::{Seen, seen_breaks};
+use crate::node::{Inner, Link, Shape};
+use std::rc::Rc;
 use text_lengths::Length;
 
 // A node, and where it starts.
@@ -38,6 +42,7 @@ impl<'a> Placed<'a> {
         }
     }
 
+    #[tactic(auto, using(bracket_tree_rules::proofs::Parts::part_held))]
     /// The part of the node that holds the place.
     pub fn part_at(&self, place: &Length) -> Option<Placed<'a>>
         requires tree { IsTree (seen_tree self.now.node) }
@@ -48,28 +53,99 @@ impl<'a> Placed<'a> {
             Holds part.start (seen_tree part.node) place.now) }
         ensures none { IfNone result (NoPartHolds self.now.start (seen_tree self.now.node) place.now) }
     {
-        let node = self.node;
-        match node.shown() {
-            Shown::Pair(_, opening, inside, _) => self.inside(opening, inside).holding(place),
-            Shown::Two(a, b) => {
-                let first = self.first(a);
-                if first.holds(place) {
-                    return Some(first);
-                }
-                first.next(b).holding(place)
+        if place.before(&self.start) {
+            return None;
+        }
+        match self.node {
+            Seen::Here(form) => self.part_of_leaf(form, place),
+            Seen::Shared(inner) => self.part_of_inner(inner, place),
+        }
+    }
+
+    // The same of a node without memory of its own, where it does not start behind the place.
+    fn part_of_leaf(&self, form: Form, place: &Length) -> Option<Placed<'a>>
+        requires node { form_tree form ≡ seen_tree self.now.node }
+        requires tree { IsTree (seen_tree self.now.node) }
+        requires fits { reach self.now < 2 ^ 64 }
+        requires from { is_before place.now self.now.start ≡ false }
+        ensures part { IfSome result (λ part.
+            IsPart self.now.start (seen_tree self.now.node) part.start (seen_tree part.node)) }
+        ensures holds { IfSome result (λ part.
+            Holds part.start (seen_tree part.node) place.now) }
+        ensures none { IfNone result (NoPartHolds self.now.start (seen_tree self.now.node) place.now) }
+    {
+        match form {
+            Form::Pair(pair) => {
+                let inside = Seen::Here(pair.inside());
+                self.inside(pair.opening as u64, inside).holding(place)
             }
-            Shown::Three(a, b, c) => {
-                let first = self.first(a);
-                if first.holds(place) {
-                    return Some(first);
-                }
-                let second = first.next(b);
-                if second.holds(place) {
-                    return Some(second);
-                }
-                second.next(c).holding(place)
+            Form::Breaks(height) => self.half_at(height.min(HIGHEST_BREAKS), place),
+            Form::Nothing | Form::Text(_) | Form::Stray(_, _) | Form::Capped(_, _) => None,
+        }
+    }
+
+    #[tactic(auto, using(crate::proofs::Runs::breaks_halved))]
+    // The same of line breaks.
+    fn half_at(&self, height: u8, place: &Length) -> Option<Placed<'a>>
+        requires low { height ≤ HIGHEST_BREAKS }
+        requires node { breaks height ≡ seen_tree self.now.node }
+        requires tree { IsTree (seen_tree self.now.node) }
+        requires fits { reach self.now < 2 ^ 64 }
+        requires from { is_before place.now self.now.start ≡ false }
+        ensures part { IfSome result (λ part.
+            IsPart self.now.start (seen_tree self.now.node) part.start (seen_tree part.node)) }
+        ensures holds { IfSome result (λ part.
+            Holds part.start (seen_tree part.node) place.now) }
+        ensures none { IfNone result (NoPartHolds self.now.start (seen_tree self.now.node) place.now) }
+    {
+        if height == 0 {
+            return None;
+        }
+        let half = seen_breaks(height - 1);
+        let first = self.first(half);
+        let second = first.next(half);
+        if place.before(&second.start) {
+            return Some(first);
+        }
+        second.holding(place)
+    }
+
+    // The same of a node with memory of its own: what no place leads to is not copied.
+    fn part_of_inner(&self, inner: &'a Rc<Inner>, place: &Length) -> Option<Placed<'a>>
+        requires node { inner.now.value ≡ seen_tree self.now.node }
+        requires tree { IsTree (seen_tree self.now.node) }
+        requires fits { reach self.now < 2 ^ 64 }
+        requires from { is_before place.now self.now.start ≡ false }
+        ensures part { IfSome result (λ part.
+            IsPart self.now.start (seen_tree self.now.node) part.start (seen_tree part.node)) }
+        ensures holds { IfSome result (λ part.
+            Holds part.start (seen_tree part.node) place.now) }
+        ensures none { IfNone result (NoPartHolds self.now.start (seen_tree self.now.node) place.now) }
+    {
+        let inner: &Inner = inner;
+        match &inner.shape {
+            Shape::Pair(_, opening, inside, _) => {
+                self.inside(*opening, inside.seen()).holding(place)
             }
-            _ => None,
+            Shape::Two(a, b) => {
+                let second = a.end(&self.start);
+                if place.before(&second) {
+                    return Some(self.first(a.seen()));
+                }
+                linked(second, b).holding(place)
+            }
+            Shape::Three(a, b, c) => {
+                let second = a.end(&self.start);
+                if place.before(&second) {
+                    return Some(self.first(a.seen()));
+                }
+                let third = b.end(&second);
+                if place.before(&third) {
+                    return Some(linked(second, b));
+                }
+                linked(third, c).holding(place)
+            }
+            Shape::Text(_) | Shape::Stray(_, _) | Shape::Capped(_, _) => None,
         }
     }
 
@@ -130,5 +206,16 @@ impl<'a> Placed<'a> {
         ensures { IsTrue result ↔ Holds self.now.start (seen_tree self.now.node) place.now }
     {
         !place.before(&self.start) && place.before(&self.node.end(&self.start))
+    }
+}
+
+// The node that a link leads to, which starts here.
+fn linked(start: Length, link: &Link) -> Placed<'_>
+    ensures start { result.start ≡ start }
+    ensures node { seen_tree result.node ≡ link_tree link.now }
+{
+    Placed {
+        start,
+        node: link.seen(),
     }
 }

@@ -1,6 +1,6 @@
 //! A reader of a tree that goes on where it stood.
-ghost use Rattle.std.specs.Prelude.{◌≡◌, ◌<◌, ◌^◌, true, IfSome, IfNone};
-ghost use Rattle.text_lengths.specs.Length.{no_length, is_before};
+ghost use Rattle.std.specs.Prelude.{◌≡◌, ◌<◌, ◌^◌, IfSome, IfNone};
+ghost use Rattle.text_lengths.specs.Length.{no_length};
 ghost use Rattle.bracket_tree_rules.specs.Tree.{tree_length, weight, IsTree};
 ghost use Rattle.bracket_tree_rules.specs.Places.{IsLongest, NoneMayBeTaken};
 ghost use Rattle.bracket_tree_rules.specs.Found.{IsTokenAt, NoBracketAt};
@@ -110,25 +110,25 @@ impl<'a> NodeReader<'a> {
         }
     }
 
-    // The last node of the path that starts before the place and ends after it, or the whole tree.
+    // The last node of the path that starts before the place and ends after it, or the whole tree. What lies beyond it is
+    // left.
     fn back_before(&mut self, place: &Length) -> Placed<'a>
         ensures shown { IsOnPath self.old result }
         ensures nodes { ShowsNodes self.old result.start (seen_tree result.node) place.now }
         ensures same { self.new ≡ self.old }
     {
-        let last = self.back_to(place);
-        if last.start.before(place) {
-            return last;
+        while let Some(&last) = self.path.last() {
+            if last.start.before(place) && last.holds(place) {
+                return last;
+            }
+            self.path.pop();
         }
-        self.path.clear();
         Placed::whole(self.root)
     }
 
     // The last node of the path that holds the place, or the whole tree. What lies beyond it is left.
     fn back_to(&mut self, place: &Length) -> Placed<'a>
         ensures shown { IsOnPath self.old result }
-        ensures nodes { is_before result.start place.now ≡ true
-            → ShowsNodes self.old result.start (seen_tree result.node) place.now }
         ensures brackets { ShowsBrackets self.old result.start (seen_tree result.node) place.now }
         ensures same { self.new ≡ self.old }
     {

@@ -1,5 +1,4 @@
 use Rattle.std.proofs.Common.{◌≡◌, refl, arith}
-use Rattle.text_lengths.specs.declared.Length.{Length}
 use Rattle.text_lengths.proofs.Lengths.{same_length}
 use Rattle.bracket_tree_rules.specs.Tree.{wide}
 use Rattle.bracket_nodes.proofs.KeptLemmas.{Keeps-stray}

@@ -1,5 +1,4 @@
 use Rattle.std.proofs.Common.{arith}
-use Rattle.bracket_tree_rules.specs.Tree.{items, weight}
 use Rattle.bracket_nodes.specs.Shapes.{link_tree}
 use Rattle.bracket_nodes.specs.Joining.{linked_items, linked_weight}
 use Rattle.bracket_nodes.proofs.Joined.{popped_items, popped_weight, Holds-joined}

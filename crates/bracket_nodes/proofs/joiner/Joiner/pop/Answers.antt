@@ -1,6 +1,5 @@
 use Rattle.std.proofs.Common.{◌≡◌, true, ap, sym, ◌∙◌}
 use Rattle.bracket_tree_rules.specs.Tree.{nothing, is_nothing}
-use Rattle.bracket_nodes.specs.declared.node.Link.{Link}
 use Rattle.bracket_nodes.specs.Shapes.{link_tree}
 use Rattle.bracket_nodes.proofs.Joined.{no_items, Takes-popped}
 use Rattle.bracket_nodes.proofs.joiner.Joiner.pop.Goals as goal

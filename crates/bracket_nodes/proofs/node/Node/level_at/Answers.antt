@@ -1,4 +1,4 @@
-use Rattle.std.proofs.Common.{◌≡◌, ◌<◌, ◌^◌, ◌∙◌, ap, sym, arith}
+use Rattle.std.proofs.Common.{◌<◌, ◌^◌, ◌∙◌, ap, sym, arith}
 use Rattle.bracket_tree_rules.specs.Tree.{Tree, tree_level, weight, nesting}
 use Rattle.bracket_nodes.specs.Seen.{seen_tree}
 use Rattle.bracket_nodes.proofs.node.Node.level_at.Goals as goal
