@@ -6,7 +6,7 @@
  * in rising order. Any other line is answered `! syntax`. What an `open` or an edit lets go of is not freed. */
 #include "flat_fields.h"
 
-enum { MOST_OPEN = 300, MOST_SNAPSHOTS = 64, BUFFER_BYTES = 1 << 16 };
+enum { MOST_OPEN = 300, MOST_SNAPSHOTS = 1000, BUFFER_BYTES = 1 << 16 };
 
 static const size_t NOWHERE = SIZE_MAX;
 

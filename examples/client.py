@@ -25,8 +25,8 @@ PROVED = HERE.parent / "bin" / "textmodel"
 SECONDS = 10.0
 MOST_BYTES = 1 << 24  # of a line, its LF not counted
 PIECE = 1 << 16
-# What a line may have beside a text: 32 pairs of brackets, each unit as an escape, take the most.
-BESIDE = 1 << 14
+# What a line may have beside a text: 64 pairs of brackets, each unit as an escape, take the most.
+BESIDE = 1 << 15
 CHECKER = HERE.parent / "tools" / "check_lines.py"
 
 Command = dict[str, Any]
@@ -216,7 +216,7 @@ class Client:
     def open(self, text: str, brackets: list[list[str]] | None = None) -> list[int]:
         """Opens a text of any size in place of the document; its version, units and lines.
 
-        `brackets` are 1 to 32 pairs of an opening and a closing text; None are `()`, `[]` and `{}`.
+        `brackets` are 1 to 64 pairs of an opening and a closing text; None are `()`, `[]` and `{}`.
 
         A text that is too long for one line of the script is opened with its first part, and edits append the others. Its version
         is then the number of parts and not 1, and the first step of undo takes the appended parts away; later edits are

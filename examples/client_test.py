@@ -45,8 +45,8 @@ def cut_texts() -> None:
         cut = [*parts(text, 40)]
         check(f"parts of {len(text)} characters", "".join(cut) == text, True)
         check("each fits", all(len(to_json(part).encode()) <= 40 for part in cut), True)
-    op = {"cmd": "edit", "ops": [replace(2**30, 2**30, "")]}
-    opened = {"cmd": "open", "text": "", "brackets": [["\x01" * 32] * 2] * 32}
+    op = {"cmd": "edit", "ops": [replace(2**40, 2**40, "")]}
+    opened = {"cmd": "open", "text": "", "brackets": [["\x01" * 32] * 2] * 64}
     check("room beside a part", max(len(line_of(op)), len(line_of(opened))) <= BESIDE, True)
 
 

@@ -10,7 +10,7 @@ from texts import units_of
 
 MOST_NUMBER = 2**64 - 1
 MOST_NESTING = 127
-MOST_PAIRS = 32
+MOST_PAIRS = 64
 MOST_BRACKET_UNITS = 32
 
 STRING = re.compile(r'"(?:[^"\\]|\\.)*"')

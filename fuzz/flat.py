@@ -14,9 +14,9 @@ from moves import Decoration, Op, applied, carried, inverse, unforced
 from texts import Text, cuts_pair, quoted
 
 MOST_LINE_BYTES = 2**24
-MOST_UNITS = 2**30 - 1
+MOST_UNITS = 2**40 - 1
 MOST_DECORATIONS = 2**20
-MOST_SNAPSHOTS = 64
+MOST_SNAPSHOTS = 1_000
 MOST_STICK = 3
 BLANKS = b" \t\r"
 UNJUDGED = b"?"  # in place of a reply of which the flat document knows nothing

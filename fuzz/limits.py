@@ -1,7 +1,7 @@
 """One script of lines at the limits that a script can reach: bytes of a line, decorations, snapshots, open brackets."""
 MOST_LINE_BYTES = 2**24
 MOST_DECORATIONS = 2**20
-MOST_SNAPSHOTS = 64
+MOST_SNAPSHOTS = 1_000
 MOST_OPEN = 300
 
 
@@ -54,7 +54,7 @@ def many_decorations() -> list[bytes]:
 def many_snapshots() -> list[bytes]:
     lines = [b'{"cmd":"open","text":"ab"}', *[b'{"cmd":"snapshot"}'] * (MOST_SNAPSHOTS + 1)]
     lines += [b'{"cmd":"close","id":1}', b'{"cmd":"snapshot"}', b'{"cmd":"close","id":1}']
-    return [*lines, b'{"cmd":"read","id":65,"count":9}']
+    return [*lines, b'{"cmd":"read","id":%d,"count":9}' % (MOST_SNAPSHOTS + 1)]
 
 
 def many_brackets() -> list[bytes]:

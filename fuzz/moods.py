@@ -76,6 +76,7 @@ TABLES: list[Pairs] = [
     (("x" * 32, "x" * 31), ("x", "xx")),
     (("\U0001f600" * 16, "\U0001f600"), ("a\u0301", "\u0301")),
     tuple((chr(97 + kind % 26) + chr(65 + kind), chr(97 + kind % 26) + chr(33 + kind)) for kind in range(32)),
+    tuple((f"<{kind}", f">{kind}") for kind in range(64)),
 ]
 
 

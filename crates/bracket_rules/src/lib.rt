@@ -6,7 +6,7 @@
 use text_lengths::Length;
 
 /// The most pairs of a bracket table.
-pub const MOST_PAIRS: u64 = 32;
+pub const MOST_PAIRS: u64 = 64;
 
 /// The most units of one bracket text.
 pub const MOST_BRACKET_UNITS: u64 = 32;

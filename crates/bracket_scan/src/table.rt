@@ -15,7 +15,7 @@ use unit_text::Units;
 /// Why no table was made.
 #[derive(Clone, Copy, PartialEq, Eq, Debug, Error)]
 pub enum TableError {
-    /// The pairs are no table: there are none or more than 32, a text is empty, has more than 32
+    /// The pairs are no table: there are none or more than 64, a text is empty, has more than 32
     /// units or a line break, or two texts are equal.
     #[error("the pairs are no bracket table")]
     BadTable,

@@ -1,7 +1,7 @@
 -- Worked examples of the definitions.
-use Rattle.std.specs.Prelude.{◌≡◌, ℕ, ◌+◌, ◌^◌, List, [], ◌∷◌, Ok, Err, refl}
+use Rattle.std.specs.Prelude.{◌≡◌, ℕ, ◌+◌, ◌^◌, List, [], ◌∷◌, true, false, replicate, Ok, Err, refl}
 use Rattle.snapshot_rules.specs.Refusals.{unknown, range, limit}
-use Rattle.snapshot_rules.specs.Snapshots.{FlatShelf, empty_shelf, flat_take, flat_peek, flat_skip, flat_close}
+use Rattle.snapshot_rules.specs.Snapshots.{FlatShelf, empty_shelf, is_full, flat_take, flat_peek, flat_skip, flat_close}
 
 -- `hi`
 abbrev hi : List ℕ
@@ -48,6 +48,16 @@ closed_twice = refl
 
 an_id_is_not_used_again : flat_take (record { snapshots = []; next_id = 2 }) hi ≡ Ok (one 2 hi)
 an_id_is_not_used_again = refl
+
+-- so many are open
+abbrev many : ℕ → FlatShelf
+many count = record { snapshots = replicate count (record { id = 1; rest = hi }); next_id = 2000 }
+
+one_more_goes_on : is_full (many 999) ≡ false
+one_more_goes_on = refl
+
+a_thousand_are_all : is_full (many 1000) ≡ true
+a_thousand_are_all = refl
 
 no_id_is_left : flat_take (record { snapshots = []; next_id = 2 ^ 63 }) hi ≡ Err limit
 no_id_is_left = refl

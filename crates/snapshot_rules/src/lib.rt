@@ -5,7 +5,7 @@
 use thiserror::Error;
 
 /// The most snapshots that are open at once.
-pub const MOST_SNAPSHOTS: u64 = 64;
+pub const MOST_SNAPSHOTS: u64 = 1_000;
 
 /// The least number of units that may be read at once: a pair of surrogates has so many.
 pub const LEAST_READ: u64 = 2;

@@ -1,13 +1,17 @@
 -- What a shelf with spans shows is a flat shelf.
-use Rattle.std.proofs.Common.{◌≡◌, ℕ, ◌<◌, ◌≤◌, Bool, true, false, not, Option, Some, None, Ok, Err, lt-ltb, le-ltb, List, [], ◌∷◌, map, filter, find, option_map, refl, ap, ap₂, sym, subst, unwrap_or}
+use Rattle.std.proofs.Common.{◌≡◌, ℕ, ◌<◌, ◌≤◌, Bool, true, false, not, Option, Some, None, Ok, Err, lt-ltb, le-ltb, List, [], ◌∷◌, map, filter, find, option_map, if◌then◌else◌, refl, ap, ap₂, sym, subst, unwrap_or}
 use Rattle.std.specs.List.{All, list_any}
 use Rattle.std.proofs.lemmas.List.Elements.{All-head, All-tail, All-same, All-map, All-weaker}
 use Rattle.chunk_buffers.specs.Chunks.{LiesIn}
 use Rattle.snapshot_rules.specs.Refusals.{unknown, range}
 use Rattle.snapshot_rules.specs.Snapshots.{has_id, skipped, front, least_read, flat_peek, flat_skip, flat_close}
-use Rattle.snapshots.specs.Spans.{Spelled, spelled, snapshot_of, spells, passed}
+use Rattle.snapshots.specs.Spans.{Spelled, spelled, snapshot_of, spells, without}
 use Rattle.snapshots.specs.Shown.{Shown, shown, LieIn, Lies}
 use Rattle.snapshots.proofs.Spelling.{spelled-without, LiesIn-without}
+
+-- the first n units were read, if it has this id
+abbrev pub passed : ℕ → ℕ → Spelled → Spelled
+passed id n s = if spells id s then record s { spans = without n s.spans } else s
 
 module _ (b : List (List ℕ)) where
   pub is_open-shown : (id : ℕ) (xs : List Spelled) → list_any (has_id id) (map (snapshot_of b) xs) ≡ list_any (spells id) xs

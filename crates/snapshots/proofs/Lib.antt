@@ -1,4 +1,5 @@
 pub mod Spelling
 pub mod Fronts
 pub mod Flat
+pub mod Places
 pub mod Growth

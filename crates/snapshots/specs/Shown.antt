@@ -1,10 +1,10 @@
 -- What contracts see of a shelf, and the flat shelf that it shows.
-use Rattle.std.specs.Prelude.{ℕ, List, map, Result}
+use Rattle.std.specs.Prelude.{ℕ, List, [], map, Result}
 use Rattle.std.specs.List.{All}
 use Rattle.chunk_buffers.specs.Chunks.{LiesIn}
 use Rattle.chunk_buffers.specs.declared.span.ChunkSpan.{ChunkSpan}
 use Rattle.snapshot_rules.specs.declared.ShelfError.{ShelfError}
-use Rattle.snapshot_rules.specs.Snapshots.{FlatShelf, flat_take, Takes}
+use Rattle.snapshot_rules.specs.Snapshots.{FlatShelf, IsSound, flat_take, Takes}
 use Rattle.snapshots.specs.Spans.{Spelled, snapshot_of, spelled}
 
 pub record Shown : Type 0 where
@@ -15,6 +15,10 @@ pub record Shown : Type 0 where
 -- the flat shelf, where the spans are spans of these buffers
 abbrev pub shown : List (List ℕ) → Shown → FlatShelf
 shown buffers shelf = record { snapshots = map (snapshot_of buffers) shelf.snapshots; next_id = shelf.next_id }
+
+-- Ids rise, and none comes again. This is the same whatever the buffers are, as it does not speak of units.
+abbrev pub IsOrdered : Shown → Type 0
+IsOrdered shelf = IsSound (shown [] shelf)
 
 -- the spans of the snapshot lie in these buffers
 abbrev pub Lies : List (List ℕ) → Spelled → Type 0

@@ -1,6 +1,6 @@
 -- A snapshot as the spans of buffers that spell what was not read yet.
-use Rattle.std.specs.Prelude.{ℕ, ◌+◌, ◌-◌, ◌<◌, ◌^◌, ◌==◌, Bool, nat_lt, if◌then◌else◌, List, [], ◌∷◌}
-use Rattle.std.specs.List.{flat_map}
+use Rattle.std.specs.Prelude.{ℕ, ◌≡◌, ◌≢◌, ◌+◌, ◌-◌, ◌<◌, ◌^◌, ◌==◌, Bool, nat_lt, if◌then◌else◌, List, [], ◌∷◌, length, Option, Some, None}
+use Rattle.std.specs.List.{flat_map, All, HoldsAt}
 use Rattle.chunk_buffers.specs.declared.span.ChunkSpan.{ChunkSpan}
 use Rattle.chunk_buffers.specs.Chunks.{units_at, part_of}
 use Rattle.snapshot_rules.specs.Snapshots.{Snapshot}
@@ -31,6 +31,7 @@ without n (span ∷ spans) =
 abbrev pub spells : ℕ → Spelled → Bool
 spells id s = s.id == id
 
--- the first n units were read, if it has this id
-abbrev pub passed : ℕ → ℕ → Spelled → Spelled
-passed id n s = if spells id s then record s { spans = without n s.spans } else s
+-- where the snapshot of this id stands, if one has it
+abbrev pub IsPlaceOf : ℕ → List Spelled → Option ℕ → Type 0
+IsPlaceOf id xs None = All (λ s. s.id ≢ id) xs
+IsPlaceOf id xs (Some i) = (i < length xs) × HoldsAt (λ s. s.id ≡ id) xs i

@@ -2,7 +2,7 @@
 
 ghost use Rattle.std.specs.Prelude.{◌≡◌, ◌+◌, ◌-◌, ◌<◌, ◌≤◌};
 ghost use Rattle.std.specs.List.{All};
-ghost use Rattle.snapshots.specs.Spans.{IsSmall, without, passed};
+ghost use Rattle.snapshots.specs.Spans.{IsSmall, without};
 
 use chunk_buffers::ChunkSpan;
 use std::marker::Model;
@@ -51,17 +51,8 @@ impl Kept {
         rest
     }
 
-    /// The first `n` units were read, if the snapshot has this id.
-    pub(crate) fn skip_if(&mut self, id: u64, n: u64)
-        ensures { self.new ≡ passed id n self.old }
-    {
-        if self.id == id {
-            self.skip(n);
-        }
-    }
-
-    // The first `n` units were read. Spans that were read whole are passed in one step.
-    fn skip(&mut self, n: u64)
+    /// The first `n` units were read. Spans that were read whole are passed in one step.
+    pub(crate) fn skip(&mut self, n: u64)
         ensures { self.new ≡ record self.old { spans = without n self.old.spans } }
     {
         let mut left = n;

@@ -1,11 +1,11 @@
 //! The shelf.
 
-ghost use Rattle.std.specs.Prelude.{◌≡◌, Err, ℕ, List, [], map, find, ◌++◌, OnErr, ◌||◌, nat_le, nat_lt, length};
-ghost use Rattle.std.specs.List.{All, list_any};
+ghost use Rattle.std.specs.Prelude.{◌≡◌, Err, ℕ, List, [], find, ◌++◌, OnErr, ◌||◌, nat_le, nat_lt, length};
+ghost use Rattle.std.specs.List.{All};
 ghost use Rattle.std.specs.Option.{option_copied};
 ghost use Rattle.chunk_buffers.specs.Chunks.{LiesIn};
 ghost use Rattle.snapshot_rules.specs.Snapshots.{flat_peek, flat_skip, flat_close, most_snapshots, greatest_snapshot, Peeks, Closes};
-ghost use Rattle.snapshots.specs.Spans.{IsSmall, spells, passed};
+ghost use Rattle.snapshots.specs.Spans.{IsSmall, spells, IsPlaceOf};
 ghost use Rattle.snapshots.specs.Shown.{shown, LieIn, TakesText};
 
 use crate::kept::Kept;
@@ -25,11 +25,13 @@ pub struct Shelf {
 }
 
 impl Model for Shelf {
-    ghost use Rattle.snapshots.specs.Shown.{Shown};
+    ghost use Rattle.snapshots.specs.Shown.{Shown, IsOrdered};
 
     ghost Value = { Shown };
 
     ghost view = { λ s. record { snapshots = s.snapshots.items; next_id = s.next_id } };
+
+    ghost invariant = { λ s. IsOrdered (record { snapshots = s.snapshots.items; next_id = s.next_id }) };
 }
 
 impl Shelf {
@@ -43,7 +45,7 @@ impl Shelf {
         }
     }
 
-    /// Keeps the text that the spans spell, and answers its id. It refuses with Limit where 64 are open, or where the
+    /// Keeps the text that the spans spell, and answers its id. It refuses with Limit where 1,000 are open, or where the
     /// id would pass 2^63 - 1. An error leaves the shelf as it was.
     pub fn take(&mut self, spans: Vec<ChunkSpan>) -> Result<u64, ShelfError>
         requires { All IsSmall spans.items }
@@ -96,7 +98,17 @@ impl Shelf {
     fn snapshot(&self, id: u64) -> Option<&Kept>
         ensures { option_copied result ≡ find (spells id) self.now.snapshots }
     {
-        self.snapshots.iter().find(|kept| kept.id() == id)
+        let place = self.place(id)?;
+        Some(&self.snapshots[place])
+    }
+
+    // Where the snapshot of this id stands. It is found by halving, since ids rise.
+    fn place(&self, id: u64) -> Option<usize>
+        ensures { IsPlaceOf id self.now.snapshots result }
+    {
+        self.snapshots
+            .binary_search_by_key(&id, |kept| kept.id())
+            .ok()
     }
 
     /// The first `n` units of what is left of the snapshot were read; all of it where fewer are left. Nothing changes
@@ -107,7 +119,10 @@ impl Shelf {
         ensures inside { (buffers : List (List ℕ)) → LieIn buffers self.old
             → LieIn buffers self.new }
     {
-        pass_all(self.snapshots.as_mut_slice(), id, n);
+        let Some(place) = self.place(id) else {
+            return;
+        };
+        self.snapshots[place].skip(n);
     }
 
     /// The snapshot is no longer open, and its id is not used again. It refuses with Unknown where no snapshot of this
@@ -121,24 +136,10 @@ impl Shelf {
         ensures err { OnErr result (self.new ≡ self.old) }
         ensures sure { ¬ (result ≡ Err ShelfError.Memory) }
     {
-        if !self.is_open(id) {
+        let Some(place) = self.place(id) else {
             return Err(ShelfError::Unknown);
-        }
-        self.snapshots.retain(|kept| kept.id() != id);
+        };
+        self.snapshots.remove(place);
         Ok(())
-    }
-
-    fn is_open(&self, id: u64) -> bool
-        ensures { result ≡ list_any (spells id) self.now.snapshots }
-    {
-        self.snapshots.iter().any(|kept| kept.id() == id)
-    }
-}
-
-fn pass_all(snapshots: &mut [Kept], id: u64, n: u64)
-    ensures { snapshots.new ≡ map (passed id n) snapshots.old }
-{
-    for kept in snapshots.iter_mut() {
-        kept.skip_if(id, n);
     }
 }

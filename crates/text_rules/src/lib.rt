@@ -9,7 +9,7 @@ use text_lengths::Span;
 use unit_text::{Flat, Units};
 
 /// The most units that a text may have.
-pub const MOST_TEXT_UNITS: u64 = 0x3FFF_FFFF;
+pub const MOST_TEXT_UNITS: u64 = 0xFF_FFFF_FFFF;
 
 /// One edit: the text takes the place of the units in the span.
 #[derive(Drop, Debug)]

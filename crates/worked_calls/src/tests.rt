@@ -4,6 +4,7 @@ mod columns;
 mod documents;
 mod library;
 mod lines;
+mod long_texts;
 mod nodes;
 mod parts;
 mod prepared;

@@ -12,7 +12,7 @@ use document_rules::ModelError;
 
 impl Model {
     /// Keeps the text of now, to be read from its front, and answers its id. No unit is copied, and edits leave what is
-    /// kept. `Limit` where 64 are open, or where the id would pass 2^63 - 1.
+    /// kept. `Limit` where 1,000 are open, or where the id would pass 2^63 - 1.
     pub fn snapshot(&mut self) -> Result<u64, ModelError>
         ensures document { ChangesWith self.old.document.shelf.next_id result
             self.old.document self.new.document (flat_snapshot self.old.document) }

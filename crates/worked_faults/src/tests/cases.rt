@@ -22,6 +22,17 @@ const QUESTIONS: &str = r#"{"cmd":"brackets","from":1,"to":1}
 {"cmd":"match","line":1,"col":1}
 "#;
 
+const SNAPSHOT: &str = "{\"cmd\":\"snapshot\"}\n";
+
+/// What becomes of ids that are closed, open and new.
+const OTHER_IDS: &str = r#"{"cmd":"read","id":1,"count":9}
+{"cmd":"read","id":2,"count":9}
+{"cmd":"close","id":500}
+{"cmd":"close","id":500}
+{"cmd":"snapshot"}
+{"cmd":"read","id":1002,"count":9}
+"#;
+
 const ONE_REPLY: &[Part] = &[Part::Text("ok 0 1\n")];
 
 const SYNTAX: &str = "! syntax\n";
@@ -177,6 +188,24 @@ pub const CASES: &[Case] = &[
             Part::Unclosed(300),
             Part::Text("ok 300\nok 299\nok none\n"),
         ],
+        ..PLAIN
+    }),
+    Case::Run(Run {
+        name: "as many snapshots as may be",
+        script: &[
+            Part::Text("{\"cmd\":\"open\",\"text\":\"ab\"}\n"),
+            Part::Times(SNAPSHOT, 1001),
+            Part::Text("{\"cmd\":\"close\",\"id\":1}\n"),
+            Part::Text(SNAPSHOT),
+            Part::Text(OTHER_IDS),
+        ],
+        written: &[
+            Part::Text("ok 1 2 1\n"),
+            Part::Counted(1000),
+            Part::Text("! limit\nok\nok 1001\n"),
+            Part::Text("! unknown\nok \"ab\"\nok\n! unknown\nok 1002\nok \"ab\"\n"),
+        ],
+        status: 1,
         ..PLAIN
     }),
     Case::Run(Run {

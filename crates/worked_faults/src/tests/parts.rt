@@ -15,6 +15,8 @@ pub enum Part {
     BrokenAtEachByte(&'static str),
     /// What `brackets` tells of so many opening brackets in the first line that nothing closes.
     Unclosed(u64),
+    /// Each number from 1 to this, in a reply of its own.
+    Counted(u64),
 }
 
 /// The parts one behind the other.
@@ -34,6 +36,7 @@ fn push_part(alloc: Global, part: &Part, bytes: &mut Vec<u8>) -> Result<(), Allo
         Part::Blanks(count) => push_blanks(*count, bytes),
         Part::BrokenAtEachByte(line) => push_broken(line.as_bytes(), bytes),
         Part::Unclosed(count) => push_unclosed(alloc, *count, bytes),
+        Part::Counted(count) => push_counted(alloc, *count, bytes),
     }
 }
 
@@ -65,5 +68,13 @@ fn push_unclosed(alloc: Global, count: u64, bytes: &mut Vec<u8>) -> Result<(), A
         bytes.extend_from_slice(entry.as_bytes())?;
     }
     bytes.push(b'\n')?;
+    Ok(())
+}
+
+fn push_counted(alloc: Global, count: u64, bytes: &mut Vec<u8>) -> Result<(), AllocError> {
+    for number in 0..count {
+        let reply = format!(in alloc; "ok {}\n", number.saturating_add(1))?;
+        bytes.extend_from_slice(reply.as_bytes())?;
+    }
     Ok(())
 }

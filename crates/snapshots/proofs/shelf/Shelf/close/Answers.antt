@@ -1,24 +1,27 @@
-use Rattle.std.proofs.Common.{rules, not, filter, sym, subst, refl, ◌∙◌, ap}
-use Rattle.std.specs.List.{All}
-use Rattle.std.proofs.lemmas.List.Elements.{All-filter, All-same}
-use Rattle.std.proofs.lemmas.Fn.{filter_same}
-use Rattle.snapshots.specs.Spans.{Spelled, spells}
-use Rattle.snapshots.specs.Shown.{Shown, Lies}
-use Rattle.snapshots.proofs.Flat.{closed-unknown, closed-open}
+use Rattle.std.proofs.Common.{◌≡◌, Ok, Some, refl, sym, subst}
+use Rattle.std.specs.List.{remove}
+use Rattle.snapshot_rules.specs.Snapshots.{flat_close}
+use Rattle.snapshots.specs.Spans.{IsPlaceOf}
+use Rattle.snapshots.specs.Shown.{Shown, shown}
+use Rattle.snapshots.proofs.Flat.{closed-unknown}
+use Rattle.snapshots.proofs.Places.{any-none, closed-place, closed-ordered}
 use Rattle.snapshots.proofs.shelf.Shelf.close.Goals as goal
 
-pub returns-then-not-is_open-clause-change : goal.returns-then-not-is_open-clause-change
-returns-then-not-is_open-clause-change c = λ b. (refl, closed-unknown b c.args.self.now c.args.id (search rules))
+pub returns-in_default-clause-change : goal.returns-in_default-clause-change
+returns-in_default-clause-change c = λ b.
+    (refl, closed-unknown b c.args.self.now c.args.id (any-none c.args.id c.args.self.now.snapshots c.in_default.ensures))
+
+pub invariant_of-self : goal.invariant_of-self
+invariant_of-self c =
+    let at = subst (λ (t : Shown). IsPlaceOf c.args.id t.snapshots (Some c.in-Some.place)) (sym c.self.view_is) c.in-Some.ensures in
+    rw c.remove.ensures.items
+    (closed-ordered (record { snapshots = c.self.inside.snapshots.items; next_id = c.self.inside.next_id }) c.self.invariant
+    c.args.id c.in-Some.place c.remove.result at.0 (at.1 c.remove.result))
 
 pub returns-clause-change : goal.returns-clause-change
 returns-clause-change c = λ b.
-    let left = filter_same _ (λ (s : Spelled). not (spells c.args.id s)) _ (λ x b f' k. search rules) _ _ c.retain.ensures.filtered in
-    closed-open b c.args.self.now c.args.id c.retain.new.self.items c.self.inside.next_id (search rules)
-    (left ∙ ap (λ (t : Shown). filter (λ (s : Spelled). not (spells c.args.id s)) t.snapshots) c.self.view_is) (ap (λ (t : Shown). t.next_id) c.self.view_is)
-
-pub returns-clause-inside : goal.returns-clause-inside
-returns-clause-inside c = λ b lie.
-    let left = filter_same _ (λ (s : Spelled). not (spells c.args.id s)) _ (λ x b f' k. search rules) _ _ c.retain.ensures.filtered in
-    All-same (Lies b) _ _ left
-    (All-filter (λ (s : Spelled). not (spells c.args.id s)) (Lies b) _
-    (subst (λ (t : Shown). All (Lies b) t.snapshots) (sym c.self.view_is) lie))
+    let at = subst (λ (t : Shown). IsPlaceOf c.args.id t.snapshots (Some c.in-Some.place)) (sym c.self.view_is) c.in-Some.ensures in
+    rw c.remove.ensures.items
+    (subst (λ (t : Shown). flat_close (shown b t) c.args.id ≡ Ok (shown b (record { snapshots = remove c.self.inside.snapshots.items c.in-Some.place; next_id = c.self.inside.next_id }))) c.self.view_is
+    (closed-place (record { snapshots = c.self.inside.snapshots.items; next_id = c.self.inside.next_id }) c.self.invariant
+    c.args.id c.in-Some.place c.remove.result at.0 (at.1 c.remove.result) b))

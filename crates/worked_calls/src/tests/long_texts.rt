@@ -1,0 +1,74 @@
+//! A batch on the longest text, which lies in no memory.
+ghost use Rattle.std.specs.Prelude.{List, ℕ, replicate};
+
+use batch_rules::BatchError;
+use edit_batches::{Batch, MOST_TEXT_UNITS, Op};
+use std::alloc::{AllocError, Global};
+use std::test::Fail;
+use text_lengths::Span;
+use unit_text::{Flat, Units};
+
+const LETTER: u16 = 0x61;
+
+static ONE_LETTER: [u16; 1] = [LETTER];
+
+/// A text of one letter, so many times.
+#[derive(Drop)]
+struct Letters {
+    count: u64,
+}
+
+impl Flat for Letters {
+    ghost units = { λ text. replicate text.count 0x61 };
+
+    fn len(&self) -> u64 {
+        self.count
+    }
+
+    fn is_place(&self, offset: u64) -> bool {
+        offset <= self.count
+    }
+
+    fn are_places(&self, start: u64, end: u64) -> bool {
+        self.is_place(start) && self.is_place(end)
+    }
+
+    fn run(&self, _at: u64) -> &[u16] {
+        &ONE_LETTER
+    }
+
+    fn copy(&self, start: u64, end: u64, out: &mut Vec<u16>) -> Result<(), AllocError> {
+        let Some(len) = out.len().checked_add((end - start) as usize) else {
+            return Err(AllocError);
+        };
+        out.resize(len, LETTER)
+    }
+}
+
+/// A batch that inserts a letter at the text's end.
+fn one_more(alloc: Global, count: u64) -> Result<Batch, BatchError> {
+    let text = Units::from_vec(vec![in alloc; LETTER].map_err(|_| BatchError::Memory)?);
+    let span = Span {
+        start: count,
+        end: count,
+    };
+    let op = Op {
+        span,
+        text,
+        force: false,
+    };
+    let ops = vec![in alloc; op].map_err(|_| BatchError::Memory)?;
+    Batch::checked(ops, &Letters { count })
+}
+
+#[test]
+fn the_longest_text(rt: HostRuntime) -> Result<(), Fail> {
+    assert!(rt; one_more(rt.alloc(), MOST_TEXT_UNITS - 1).is_ok());
+    assert!(rt;
+        matches!(
+            one_more(rt.alloc(), MOST_TEXT_UNITS),
+            Err(BatchError::Limit)
+        )
+    );
+    Ok(())
+}
