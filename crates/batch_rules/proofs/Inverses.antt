@@ -1,6 +1,7 @@
 -- The inverse of a batch gives the text back.
 use Rattle.std.proofs.Common.{◌≡◌, ℕ, suc, ◌+◌, ◌-◌, false, List, [], ◌∷◌, ◌++◌, length, take, drop, refl, ap, sym, ◌∙◌, append_assoc, length-append, arith}
 use Rattle.std.proofs.lemmas.List.{take-append-drop, take_at, drop_at, drop-drop}
+use Rattle.unit_text.specs.declared.kind.Kind.{Kind}
 use Rattle.text_rules.specs.declared.Op.{Op}
 use Rattle.batch_rules.specs.Batches.{sorted_ops, has_bad_span, overlap, applied_from, applied, StandFrom, inverse_from, inverse_of}
 use Rattle.batch_rules.proofs.Order.{sorted_ops_standing}
@@ -63,8 +64,8 @@ inverse_takes_back x ops standing =
     ∙ ap (applied_from 0 (applied_from 0 x ops)) (inverse_in_order x ops standing) ∙ inverse_gives_back x ops standing
 
 -- for any batch without a bad span and without an overlap
-pub inverse_of_gives_back : (x : List ℕ) (ops : List Op) → has_bad_span x ops ≡ false → overlap (sorted_ops ops) ≡ false
+pub inverse_of_gives_back : (kind : Kind) (x : List ℕ) (ops : List Op) → has_bad_span kind x ops ≡ false → overlap (sorted_ops ops) ≡ false
     → applied (applied x ops) (inverse_of x ops) ≡ x
-inverse_of_gives_back x ops good apart =
-    let standing = sorted_ops_stand x ops good apart in
+inverse_of_gives_back kind x ops good apart =
+    let standing = sorted_ops_stand kind x ops good apart in
     ap (applied_from 0 (applied x ops)) (inverse_in_order x (sorted_ops ops) standing) ∙ inverse_gives_back x (sorted_ops ops) standing

@@ -6,67 +6,68 @@ use Rattle.std.proofs.lemmas.List.{length-take-le}
 use Rattle.std.proofs.lemmas.List.Elements.{All-nil, All-cons, All-head, All-tail}
 use Rattle.std.proofs.lemmas.List.Sorted.{list_any-IsPermutation}
 use Rattle.std.proofs.lemmas.List.Sums.{sum_by-cons}
+use Rattle.unit_text.specs.declared.kind.Kind.{Kind}
 use Rattle.text_rules.specs.declared.Op.{Op}
 use Rattle.text_rules.specs.Edits.{is_bad_span}
 use Rattle.text_rules.proofs.EditLemmas.{span_from_test}
 use Rattle.batch_rules.specs.Refusals.{BatchRefusal}
 use Rattle.batch_rules.specs.Refusals as refused
-use Rattle.batch_rules.specs.Batches.{most_units, sorted_ops, has_bad_span, overlap, applied_from, applied, checked_batch, StandFrom, FollowFrom, text_units, inverse_from}
+use Rattle.batch_rules.specs.Batches.{most_units, sorted_ops, has_bad_span, overlap, applied_from, applied, checked_ops, StandFrom, FollowFrom, text_units, inverse_from}
 use Rattle.batch_rules.proofs.Order.{sorted_ops_move, All-sorted_ops}
 
-abbrev pub IsGood : List ℕ → Op → Type 0
-IsGood x op = is_bad_span x op.span ≡ false
+abbrev pub IsGood : Kind → List ℕ → Op → Type 0
+IsGood kind x op = is_bad_span kind x op.span ≡ false
 
-pub all_good : (x : List ℕ) (ops : List Op) → has_bad_span x ops ≡ false → All (IsGood x) ops
-all_good x [] e = All-nil (IsGood x)
-all_good x (op ∷ ops) e =
+pub all_good : (kind : Kind) (x : List ℕ) (ops : List Op) → has_bad_span kind x ops ≡ false → All (IsGood kind x) ops
+all_good kind x [] e = All-nil (IsGood kind x)
+all_good kind x (op ∷ ops) e =
     let parts = or_parts _ _ e in
-    All-cons (IsGood x) op ops parts.0 (all_good x ops parts.1)
+    All-cons (IsGood kind x) op ops parts.0 (all_good kind x ops parts.1)
 
 -- the order hides no bad span
-pub has_bad_span-sorted_ops : (x : List ℕ) (ops : List Op) → has_bad_span x (sorted_ops ops) ≡ has_bad_span x ops
-has_bad_span-sorted_ops x ops =
-    sym (list_any-IsPermutation (λ op. is_bad_span x op.span) ops (sorted_ops ops) (sorted_ops_move ops))
+pub has_bad_span-sorted_ops : (kind : Kind) (x : List ℕ) (ops : List Op) → has_bad_span kind x (sorted_ops ops) ≡ has_bad_span kind x ops
+has_bad_span-sorted_ops kind x ops =
+    sym (list_any-IsPermutation (λ op. is_bad_span kind x op.span) ops (sorted_ops ops) (sorted_ops_move ops))
 
 -- ops in order that do not overlap, by spans of the text
-pub stand_from_tests : (at : ℕ) (x : List ℕ) (op : Op) (ops : List Op) → at ≤ op.span.start → All (IsGood x) (op ∷ ops) → overlap (op ∷ ops) ≡ false → StandFrom at x (op ∷ ops)
-stand_from_tests at x op [] above good apart =
-    let span = span_from_test x op.span (All-head (IsGood x) op [] good) in
+pub stand_from_tests : (kind : Kind) (at : ℕ) (x : List ℕ) (op : Op) (ops : List Op) → at ≤ op.span.start → All (IsGood kind x) (op ∷ ops) → overlap (op ∷ ops) ≡ false → StandFrom at x (op ∷ ops)
+stand_from_tests kind at x op [] above good apart =
+    let span = span_from_test kind x op.span (All-head (IsGood kind x) op [] good) in
     (above, span.ordered, span.within)
-stand_from_tests at x op (next ∷ ops) above good apart =
-    let span = span_from_test x op.span (All-head (IsGood x) op (next ∷ ops) good) in
+stand_from_tests kind at x op (next ∷ ops) above good apart =
+    let span = span_from_test kind x op.span (All-head (IsGood kind x) op (next ∷ ops) good) in
     let parts = or_parts _ _ apart in
-    (above, span.ordered, stand_from_tests op.span.end x next ops (ltb-false _ _ parts.0) (All-tail (IsGood x) op (next ∷ ops) good) parts.1)
+    (above, span.ordered, stand_from_tests kind op.span.end x next ops (ltb-false _ _ parts.0) (All-tail (IsGood kind x) op (next ∷ ops) good) parts.1)
 
-pub stand_from_start : (x : List ℕ) (ops : List Op) → All (IsGood x) ops → overlap ops ≡ false → StandFrom 0 x ops
-stand_from_start x [] good apart = omega arith
-stand_from_start x (op ∷ ops) good apart = stand_from_tests 0 x op ops (omega arith) good apart
+pub stand_from_start : (kind : Kind) (x : List ℕ) (ops : List Op) → All (IsGood kind x) ops → overlap ops ≡ false → StandFrom 0 x ops
+stand_from_start kind x [] good apart = omega arith
+stand_from_start kind x (op ∷ ops) good apart = stand_from_tests kind 0 x op ops (omega arith) good apart
 
-pub sorted_ops_stand : (x : List ℕ) (ops : List Op) → has_bad_span x ops ≡ false → overlap (sorted_ops ops) ≡ false → StandFrom 0 x (sorted_ops ops)
-sorted_ops_stand x ops good apart = stand_from_start x (sorted_ops ops) (All-sorted_ops (IsGood x) ops (all_good x ops good)) apart
+pub sorted_ops_stand : (kind : Kind) (x : List ℕ) (ops : List Op) → has_bad_span kind x ops ≡ false → overlap (sorted_ops ops) ≡ false → StandFrom 0 x (sorted_ops ops)
+sorted_ops_stand kind x ops good apart = stand_from_start kind x (sorted_ops ops) (All-sorted_ops (IsGood kind x) ops (all_good kind x ops good)) apart
 
--- what an accepted batch is
-pub record IsAccepted (x : List ℕ) (ops sorted : List Op) : Type 0 where
+-- what an accepted kind batch is
+pub record IsAccepted (kind : Kind) (x : List ℕ) (ops sorted : List Op) : Type 0 where
   pub in_order : sorted ≡ sorted_ops ops
-  pub good : All (IsGood x) sorted
+  pub good : All (IsGood kind x) sorted
   pub standing : StandFrom 0 x sorted
   pub fits : length (applied_from 0 x sorted) ≤ most_units
 
 abbrev answer_by : Bool → Bool → Bool → List Op → Result (List Op) BatchRefusal
 answer_by bad overlaps long sorted = cond bad (Err refused.range) (cond overlaps (Err refused.overlap) (cond long (Err refused.limit) (Ok sorted)))
 
-accepted_at : (x : List ℕ) (ops sorted : List Op) (bad overlaps long : Bool) → has_bad_span x ops ≡ bad → overlap (sorted_ops ops) ≡ overlaps → ltb most_units (length (applied x ops)) ≡ long
-    → answer_by bad overlaps long (sorted_ops ops) ≡ Ok sorted → IsAccepted x ops sorted
-accepted_at x ops sorted true overlaps long h1 h2 h3 e = absurd cc
-accepted_at x ops sorted false true long h1 h2 h3 e = absurd cc
-accepted_at x ops sorted false false true h1 h2 h3 e = absurd cc
-accepted_at x ops sorted false false false h1 h2 h3 e =
+accepted_at : (kind : Kind) (x : List ℕ) (ops sorted : List Op) (bad overlaps long : Bool) → has_bad_span kind x ops ≡ bad → overlap (sorted_ops ops) ≡ overlaps → ltb most_units (length (applied x ops)) ≡ long
+    → answer_by bad overlaps long (sorted_ops ops) ≡ Ok sorted → IsAccepted kind x ops sorted
+accepted_at kind x ops sorted true overlaps long h1 h2 h3 e = absurd cc
+accepted_at kind x ops sorted false true long h1 h2 h3 e = absurd cc
+accepted_at kind x ops sorted false false true h1 h2 h3 e = absurd cc
+accepted_at kind x ops sorted false false false h1 h2 h3 e =
     let same : sorted_ops ops ≡ sorted = cc in
-    let good = All-sorted_ops (IsGood x) ops (all_good x ops h1) in
-    subst (λ s. IsAccepted x ops s) same (record { in_order = refl; good = good; standing = stand_from_start x (sorted_ops ops) good h2; fits = ltb-false _ _ h3 })
+    let good = All-sorted_ops (IsGood kind x) ops (all_good kind x ops h1) in
+    subst (λ s. IsAccepted kind x ops s) same (record { in_order = refl; good = good; standing = stand_from_start kind x (sorted_ops ops) good h2; fits = ltb-false _ _ h3 })
 
-pub accepted : (x : List ℕ) (ops sorted : List Op) → checked_batch x ops ≡ Ok sorted → IsAccepted x ops sorted
-accepted x ops sorted e = accepted_at x ops sorted _ _ _ refl refl refl e
+pub accepted : (kind : Kind) (x : List ℕ) (ops sorted : List Op) → checked_ops kind x ops ≡ Ok sorted → IsAccepted kind x ops sorted
+accepted kind x ops sorted e = accepted_at kind x ops sorted _ _ _ refl refl refl e
 
 -- a place that ops stand from lies within the text
 pub standing_within : (at : ℕ) (x : List ℕ) (ops : List Op) → StandFrom at x ops → at ≤ length x

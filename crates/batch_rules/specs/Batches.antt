@@ -1,6 +1,9 @@
 -- A batch of edits: several ops whose spans are all of one text, applied at once.
-use Rattle.std.specs.Prelude.{ℕ, ◌+◌, ◌-◌, ◌^◌, ◌≤◌, ◌==◌, ◌&&◌, ◌||◌, Bool, false, nat_lt, nat_le, if◌then◌else◌, List, [], ◌∷◌, ◌++◌, length, take, drop, sum_by, Result, Ok, Err, ⊤}
+use Rattle.std.specs.Prelude.{ℕ, ◌+◌, ◌-◌, ◌^◌, ◌≤◌, ◌==◌, ◌&&◌, ◌||◌, Bool, false, nat_lt, nat_le, if◌then◌else◌, List, [], ◌∷◌, ◌++◌, length, map, take, drop, sum_by, Result, Ok, Err, ⊤}
 use Rattle.std.specs.List.{list_any}
+use Rattle.unit_text.specs.declared.kind.Kind.{Kind}
+use Rattle.unit_text.specs.declared.kind.Kind.TheVariants.{Mixed, Lf, Crlf}
+use Rattle.unit_text.specs.Kinds.{normalized}
 use Rattle.text_rules.specs.declared.Op.{Op}
 use Rattle.text_rules.specs.declared.TheConstants.{MOST_TEXT_UNITS}
 use Rattle.text_rules.specs.Edits.{is_bad_span, edited}
@@ -24,9 +27,9 @@ abbrev pub sorted_ops : List Op → List Op
 sorted_ops [] = []
 sorted_ops (op ∷ ops) = put_in_order op (sorted_ops ops)
 
--- the span of some op is none of the text
-abbrev pub has_bad_span : List ℕ → List Op → Bool
-has_bad_span x ops = list_any (λ op. is_bad_span x op.span) ops
+-- the span of some op is none of the text, which is of the kind
+abbrev pub has_bad_span : Kind → List ℕ → List Op → Bool
+has_bad_span kind x ops = list_any (λ op. is_bad_span kind x op.span) ops
 
 -- of ops in order one starts below the end of the one before it; to touch is no overlap
 abbrev pub overlap : List Op → Bool
@@ -43,13 +46,27 @@ applied_from at x (op ∷ ops) = take (op.span.start - at) (drop at x) ++ op.tex
 abbrev pub applied : List ℕ → List Op → List ℕ
 applied x ops = applied_from 0 x (sorted_ops ops)
 
--- the ops of the batch in their order, or why it is refused
-abbrev pub checked_batch : List ℕ → List Op → Result (List Op) BatchRefusal
-checked_batch x ops =
-    if has_bad_span x ops then Err refused.range else
+-- the op with the line endings of the kind in its text
+abbrev pub op_in : Kind → Op → Op
+op_in kind op = record op { text = normalized kind op.text }
+
+-- a text of a kind takes only texts of the kind
+abbrev pub ops_in : Kind → List Op → List Op
+ops_in Mixed ops = ops
+ops_in Lf ops = map (op_in Lf) ops
+ops_in Crlf ops = map (op_in Crlf) ops
+
+-- ops whose texts are of the kind, in their order, or why they are refused
+abbrev pub checked_ops : Kind → List ℕ → List Op → Result (List Op) BatchRefusal
+checked_ops kind x ops =
+    if has_bad_span kind x ops then Err refused.range else
     (if overlap (sorted_ops ops) then Err refused.overlap else
     (if nat_lt most_units (length (applied x ops)) then Err refused.limit
     else Ok (sorted_ops ops)))
+
+-- The ops of a batch on a text of the kind, in their order and with texts of the kind, or why it is refused.
+abbrev pub checked_batch : Kind → List ℕ → List Op → Result (List Op) BatchRefusal
+checked_batch kind x ops = checked_ops kind x (ops_in kind ops)
 
 -- From a place on the spans stand in the text one after another: each begins where the one before it ends, or later.
 abbrev pub StandFrom : ℕ → List ℕ → List Op → Type 0

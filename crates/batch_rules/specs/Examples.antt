@@ -1,5 +1,6 @@
 -- Worked examples of the definitions.
 use Rattle.std.specs.Prelude.{◌≡◌, ℕ, [], ◌∷◌, List, codes, true, false, Ok, Err, refl}
+use Rattle.unit_text.specs.declared.kind.Kind.TheVariants.{Mixed, Crlf}
 use Rattle.text_rules.specs.declared.Op.{Op}
 use Rattle.batch_rules.specs.Refusals as refused
 use Rattle.batch_rules.specs.Batches.{sorted_ops, overlap, applied, checked_batch, inverse_of, edited_backwards, text_units}
@@ -35,12 +36,18 @@ two_ops_from_the_last_to_the_first = refl
 texts_of_two_ops : text_units (op 1 2 (codes "XX") ∷ op 4 5 (codes "Y") ∷ []) ≡ 3
 texts_of_two_ops = refl
 
-a_batch_comes_in_order : checked_batch (codes "abcdef") (op 4 5 (codes "Y") ∷ op 1 2 (codes "XX") ∷ [])
+a_batch_comes_in_order : checked_batch Mixed (codes "abcdef") (op 4 5 (codes "Y") ∷ op 1 2 (codes "XX") ∷ [])
     ≡ Ok (op 1 2 (codes "XX") ∷ op 4 5 (codes "Y") ∷ [])
 a_batch_comes_in_order = refl
 
-a_bad_span_comes_before_an_overlap : checked_batch (codes "abc") (op 0 2 [] ∷ op 1 3 [] ∷ op 2 9 [] ∷ []) ≡ Err refused.range
+a_bad_span_comes_before_an_overlap : checked_batch Mixed (codes "abc") (op 0 2 [] ∷ op 1 3 [] ∷ op 2 9 [] ∷ []) ≡ Err refused.range
 a_bad_span_comes_before_an_overlap = refl
 
-an_overlap : checked_batch (codes "abc") (op 1 3 [] ∷ op 0 2 [] ∷ []) ≡ Err refused.overlap
+an_overlap : checked_batch Mixed (codes "abc") (op 1 3 [] ∷ op 0 2 [] ∷ []) ≡ Err refused.overlap
 an_overlap = refl
+
+texts_of_the_kind : checked_batch Crlf (codes "a\r\nb") (op 4 4 (codes "\nc\r") ∷ []) ≡ Ok (op 4 4 (codes "\r\nc\r\n") ∷ [])
+texts_of_the_kind = refl
+
+a_place_inside_an_ending : checked_batch Crlf (codes "a\r\nb") (op 2 2 (codes "x") ∷ []) ≡ Err refused.range
+a_place_inside_an_ending = refl

@@ -1,10 +1,10 @@
 -- Worked examples of the parse, as computed theorems. Places are (lines, columns) from (0, 0).
-use Rattle.std.specs.Prelude.{◌≡◌, ℕ, zero, suc, ◌+◌, Bool, true, false, ◌&&◌, List, [], ◌∷◌, Some, None, replicate, refl}
+use Rattle.std.specs.Prelude.{◌≡◌, ℕ, zero, suc, Bool, true, false, ◌&&◌, List, [], ◌∷◌, Some, None, replicate, refl}
 use Rattle.text_lengths.specs.Length.{length_of, no_length}
 use Rattle.bracket_rules.specs.declared.Entry.{Entry}
 use Rattle.bracket_rules.specs.declared.Status.{Status}
 use Rattle.bracket_rules.specs.declared.Status.TheVariants.{PairedOpening, PairedClosing, Unclosed, Unexpected}
-use Rattle.bracket_rules.specs.Table.{Table, is_table, standard_table}
+use Rattle.bracket_rules.specs.Table.{Table, standard_table}
 use Rattle.bracket_rules.specs.Parse.{spot, bracket_entries, bracket_partner, bracket_level}
 use Rattle.bracket_rules.specs.Rows.{text_brackets}
 
@@ -108,14 +108,3 @@ overlapping_texts :
     entries_in ((60 ∷ [], 60 ∷ 60 ∷ []) ∷ []) ((60 ∷ 60 ∷ 60 ∷ []) ∷ [])
     ≡ entry 0 0 2 0 Unexpected 0 ∷ entry 0 2 1 0 Unclosed 0 ∷ []
 overlapping_texts = refl
-
--- so many pairs, each of two texts that no other pair has
-abbrev numbered : ℕ → Table
-numbered zero = []
-numbered (suc count) = (60 ∷ (count + 100) ∷ [], 62 ∷ (count + 100) ∷ []) ∷ numbered count
-
-sixty_four_pairs_are_a_table : is_table (numbered 64) ≡ true
-sixty_four_pairs_are_a_table = refl
-
-one_pair_more_is_no_table : is_table (numbered 65) ≡ false
-one_pair_more_is_no_table = refl

@@ -3,7 +3,8 @@ use Rattle.std.specs.Prelude.{ℕ, ◌≡◌, ◌+◌, ◌-◌, ◌<◌, ◌≤�
 use Rattle.std.specs.List.{list_any, All}
 use Rattle.text_lengths.specs.declared.Span.{Span}
 use Rattle.text_lengths.specs.declared.TheConstants.{GREATEST_NUMBER}
-use Rattle.unit_text.specs.Units.{is_place}
+use Rattle.unit_text.specs.declared.kind.Kind.{Kind}
+use Rattle.unit_text.specs.Kinds.{is_place_in}
 use Rattle.decoration_rules.specs.declared.TheConstants.{MOST_DECORATIONS, GREATEST_MODE}
 use Rattle.decoration_rules.specs.declared.Sticky.{Sticky}
 use Rattle.decoration_rules.specs.declared.Sticky.TheVariants.{AlwaysGrows, NeverGrows, GrowsBefore, GrowsAfter}
@@ -87,10 +88,10 @@ has_repeat (id ∷ ids) = list_any (λ other. other == id) ids || has_repeat ids
 abbrev pub is_unknown : List Mark → ℕ → List ℕ → Bool
 is_unknown marks owner ids = list_any (λ id. not (owns marks owner id)) ids || has_repeat ids
 
--- the span's start is above its end, or one of the two is no place of the text, or there is no such mode
-abbrev pub is_bad : List ℕ → NewDeco → Bool
-is_bad units new =
-    nat_lt new.span.end new.span.start || not (is_place units new.span.start && is_place units new.span.end)
+-- the span's start is above its end, or one of the two is no place of the text of the kind, or there is no such mode
+abbrev pub is_bad : Kind → List ℕ → NewDeco → Bool
+is_bad kind units new =
+    nat_lt new.span.end new.span.start || not (is_place_in kind units new.span.start && is_place_in kind units new.span.end)
     || nat_lt GREATEST_MODE new.stick
 
 -- the live ones that are not among these
@@ -112,10 +113,10 @@ is_too_much d ids added =
     nat_lt most_decorations (length (kept d.marks ids) + added) || nat_lt greatest_id (d.next_id + added - 1)
 
 -- decorations of one owner go, and new ones come
-abbrev pub decorated : Decorations → ℕ → List ℕ → List NewDeco → List ℕ → Result Decorations DecoRefusal
-decorated d owner ids add units =
+abbrev pub decorated : Decorations → ℕ → List ℕ → List NewDeco → Kind → List ℕ → Result Decorations DecoRefusal
+decorated d owner ids add kind units =
     if is_unknown d.marks owner ids then Err unknown else
-    (if list_any (is_bad units) add then Err range else
+    (if list_any (is_bad kind units) add then Err range else
     (if is_too_much d ids (length add) then Err limit
     else Ok (record {
       marks = in_order (kept d.marks ids ++ new_marks owner d.next_id add);

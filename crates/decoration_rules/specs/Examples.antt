@@ -1,6 +1,7 @@
 -- Worked examples of the definitions.
 use Rattle.std.specs.Prelude.{◌≡◌, ℕ, ◌^◌, Bool, true, false, List, [], ◌∷◌, map, Some, Ok, Err, refl}
 use Rattle.text_lengths.specs.declared.Span.{Span}
+use Rattle.unit_text.specs.declared.kind.Kind.TheVariants.{Mixed}
 use Rattle.decoration_rules.specs.declared.Sticky.{Sticky}
 use Rattle.decoration_rules.specs.declared.Sticky.TheVariants.{AlwaysGrows, NeverGrows, GrowsBefore, GrowsAfter}
 use Rattle.decoration_rules.specs.declared.Edit.{Edit}
@@ -122,23 +123,23 @@ new start end stick = record { span = span start end; stick = stick; collapse = 
 abbrev one : Decorations
 one = record { marks = mark 1 0 0 AlwaysGrows ∷ []; next_id = 2 }
 
-the_first_id : decorated no_decorations 1 [] (new 0 0 0 ∷ []) [] ≡ Ok one
+the_first_id : decorated no_decorations 1 [] (new 0 0 0 ∷ []) Mixed [] ≡ Ok one
 the_first_id = refl
 
-named_twice : decorated one 1 (1 ∷ 1 ∷ []) [] [] ≡ Err unknown
+named_twice : decorated one 1 (1 ∷ 1 ∷ []) [] Mixed [] ≡ Err unknown
 named_twice = refl
 
-of_another_owner : decorated one 2 (1 ∷ []) [] [] ≡ Err unknown
+of_another_owner : decorated one 2 (1 ∷ []) [] Mixed [] ≡ Err unknown
 of_another_owner = refl
 
-an_id_is_not_used_again : decorated one 1 (1 ∷ []) (new 0 0 3 ∷ []) [] ≡ Ok (record { marks = mark 2 0 0 GrowsAfter ∷ []; next_id = 3 })
+an_id_is_not_used_again : decorated one 1 (1 ∷ []) (new 0 0 3 ∷ []) Mixed [] ≡ Ok (record { marks = mark 2 0 0 GrowsAfter ∷ []; next_id = 3 })
 an_id_is_not_used_again = refl
 
-no_such_mode : decorated one 1 [] (new 0 0 4 ∷ []) [] ≡ Err range
+no_such_mode : decorated one 1 [] (new 0 0 4 ∷ []) Mixed [] ≡ Err range
 no_such_mode = refl
 
-unknown_comes_first : decorated one 1 (7 ∷ []) (new 0 1 0 ∷ []) [] ≡ Err unknown
+unknown_comes_first : decorated one 1 (7 ∷ []) (new 0 1 0 ∷ []) Mixed [] ≡ Err unknown
 unknown_comes_first = refl
 
-no_id_is_left : decorated (record { marks = []; next_id = 2 ^ 63 }) 1 [] (new 0 0 0 ∷ []) [] ≡ Err limit
+no_id_is_left : decorated (record { marks = []; next_id = 2 ^ 63 }) 1 [] (new 0 0 0 ∷ []) Mixed [] ≡ Err limit
 no_id_is_left = refl

@@ -5,6 +5,7 @@ use Rattle.std.specs.List.{All, list_any, list_all}
 use Rattle.std.proofs.lemmas.Bool.{cond-true, cond-false, or_parts, or_left, not-false, both_ways, ltb-false}
 use Rattle.std.proofs.lemmas.List.{length-append}
 use Rattle.std.proofs.lemmas.List.Elements.{All-append, All-filter, All-weaker, All-nil, All-cons}
+use Rattle.unit_text.specs.declared.kind.Kind.{Kind}
 use Rattle.decoration_rules.specs.declared.Mark.{Mark}
 use Rattle.decoration_rules.specs.declared.NewDeco.{NewDeco}
 use Rattle.decoration_rules.specs.Refusals.{DecoRefusal, unknown, range, limit}
@@ -29,7 +30,7 @@ unknown-repeat marks owner ids owned = ap (λ b. b || has_repeat ids) (list_any-
 pub known-owned : (marks : List Mark) (owner : ℕ) (ids : List ℕ) → list_all (owns marks owner) ids ≡ true → has_repeat ids ≡ false → is_unknown marks owner ids ≡ false
 known-owned marks owner ids owned once = unknown-repeat marks owner ids owned ∙ once
 
-module _ (d : Decorations) (owner : ℕ) (ids : List ℕ) (add : List NewDeco) (units : List ℕ) where
+module _ (d : Decorations) (owner : ℕ) (ids : List ℕ) (add : List NewDeco) (kind : Kind) (units : List ℕ) where
   made : Decorations
   made = record { marks = in_order (kept d.marks ids ++ new_marks owner d.next_id add); next_id = d.next_id + length add }
 
@@ -37,27 +38,27 @@ module _ (d : Decorations) (owner : ℕ) (ids : List ℕ) (add : List NewDeco) (
   after_good = if is_too_much d ids (length add) then Err limit else Ok made
 
   after_known : Result Decorations DecoRefusal
-  after_known = if list_any (is_bad units) add then Err range else after_good
+  after_known = if list_any (is_bad kind units) add then Err range else after_good
 
-  pub decorated-unknown : is_unknown d.marks owner ids ≡ true → decorated d owner ids add units ≡ Err unknown
+  pub decorated-unknown : is_unknown d.marks owner ids ≡ true → decorated d owner ids add kind units ≡ Err unknown
   unfolding after_known after_good made
   decorated-unknown named_wrong = cond-true (is_unknown d.marks owner ids) (Err unknown) after_known named_wrong
 
-  pub decorated-bad : is_unknown d.marks owner ids ≡ false → list_any (is_bad units) add ≡ true → decorated d owner ids add units ≡ Err range
+  pub decorated-bad : is_unknown d.marks owner ids ≡ false → list_any (is_bad kind units) add ≡ true → decorated d owner ids add kind units ≡ Err range
   unfolding after_known after_good made
-  decorated-bad known bad = cond-false (is_unknown d.marks owner ids) (Err unknown) after_known known ∙ cond-true (list_any (is_bad units) add) (Err range) after_good bad
+  decorated-bad known bad = cond-false (is_unknown d.marks owner ids) (Err unknown) after_known known ∙ cond-true (list_any (is_bad kind units) add) (Err range) after_good bad
 
-  pub decorated-too_much : is_unknown d.marks owner ids ≡ false → list_any (is_bad units) add ≡ false → is_too_much d ids (length add) ≡ true → decorated d owner ids add units ≡ Err limit
+  pub decorated-too_much : is_unknown d.marks owner ids ≡ false → list_any (is_bad kind units) add ≡ false → is_too_much d ids (length add) ≡ true → decorated d owner ids add kind units ≡ Err limit
   unfolding after_known after_good made
   decorated-too_much known good much =
-      cond-false (is_unknown d.marks owner ids) (Err unknown) after_known known ∙ cond-false (list_any (is_bad units) add) (Err range) after_good good
+      cond-false (is_unknown d.marks owner ids) (Err unknown) after_known known ∙ cond-false (list_any (is_bad kind units) add) (Err range) after_good good
       ∙ cond-true (is_too_much d ids (length add)) (Err limit) (Ok made) much
 
-  pub decorated-ok : is_unknown d.marks owner ids ≡ false → list_any (is_bad units) add ≡ false → is_too_much d ids (length add) ≡ false → IsOk (decorated d owner ids add units)
+  pub decorated-ok : is_unknown d.marks owner ids ≡ false → list_any (is_bad kind units) add ≡ false → is_too_much d ids (length add) ≡ false → IsOk (decorated d owner ids add kind units)
   unfolding after_known after_good made
   decorated-ok known good few =
-      let is : decorated d owner ids add units ≡ Ok made =
-      cond-false (is_unknown d.marks owner ids) (Err unknown) after_known known ∙ cond-false (list_any (is_bad units) add) (Err range) after_good good
+      let is : decorated d owner ids add kind units ≡ Ok made =
+      cond-false (is_unknown d.marks owner ids) (Err unknown) after_known known ∙ cond-false (list_any (is_bad kind units) add) (Err range) after_good good
       ∙ cond-false (is_too_much d ids (length add)) (Err limit) (Ok made) few in
       subst IsOk (sym is) refl
 
@@ -78,10 +79,10 @@ is_too_much-by_length d owner ids live n distinct owned once live_is =
 
 -- What an accepted change leaves.
 
-pub record IsFit (d : Decorations) (owner : ℕ) (ids : List ℕ) (add : List NewDeco) (units : List ℕ) : Type 0 where
+pub record IsFit (d : Decorations) (owner : ℕ) (ids : List ℕ) (add : List NewDeco) (kind : Kind) (units : List ℕ) : Type 0 where
   pub owned : list_all (owns d.marks owner) ids ≡ true
   pub once : has_repeat ids ≡ false
-  pub good : list_any (is_bad units) add ≡ false
+  pub good : list_any (is_bad kind units) add ≡ false
   pub few : length (kept d.marks ids) + length add ≤ most_decorations
   pub last : d.next_id + length add - 1 ≤ greatest_id
 
@@ -89,10 +90,10 @@ ok_value : (r : Result Decorations DecoRefusal) → IsOk r → (new : Decoration
 ok_value (Ok new) is = (new, refl)
 ok_value (Err e) is = absurd (both_ways false refl is)
 
-pub fit-from_ok : (d : Decorations) (owner : ℕ) (ids : List ℕ) (add : List NewDeco) (units : List ℕ) → IsOk (decorated d owner ids add units) → IsFit d owner ids add units
-fit-from_ok d owner ids add units is =
-    let new : (new : Decorations) × (decorated d owner ids add units ≡ Ok new) = ok_value (decorated d owner ids add units) is in
-    let change : IsAccepted d owner ids add units new.0 = accepted d owner ids add units new.0 new.1 in
+pub fit-from_ok : (d : Decorations) (owner : ℕ) (ids : List ℕ) (add : List NewDeco) (kind : Kind) (units : List ℕ) → IsOk (decorated d owner ids add kind units) → IsFit d owner ids add kind units
+fit-from_ok d owner ids add kind units is =
+    let new : (new : Decorations) × (decorated d owner ids add kind units ≡ Ok new) = ok_value (decorated d owner ids add kind units) is in
+    let change : IsAccepted d owner ids add kind units new.0 = accepted d owner ids add kind units new.0 new.1 in
     let known = or_parts (list_any (λ id. not (owns d.marks owner id)) ids) (has_repeat ids) change.known in
     let limits = or_parts (ltb most_decorations (length (kept d.marks ids) + length add)) (ltb greatest_id (d.next_id + length add - 1)) change.few in
     record {
@@ -112,18 +113,18 @@ kept-distinct marks ids distinct = distinct_filter (λ mark. not (list_any (λ i
 pub kept-below : (n : ℕ) (marks : List Mark) (ids : List ℕ) → Below n marks → Below n (kept marks ids)
 kept-below n marks ids used = All-filter (λ mark. not (list_any (λ id. eqb mark.id id) ids)) (λ (mark : Mark). mark.id < n) marks used
 
-pub all_new : (units : List ℕ) (add : List NewDeco) → length units < offset_limit → list_any (is_bad units) add ≡ false → All IsNew add
-all_new units [] small good = All-nil IsNew
-all_new units (new ∷ more) small good =
-    let parts = or_parts (is_bad units new) (list_any (is_bad units) more) good in
-    let is_in : IsNewIn new (length units) = IsNewIn-from_good units new parts.0 in
+pub all_new : (kind : Kind) (units : List ℕ) (add : List NewDeco) → length units < offset_limit → list_any (is_bad kind units) add ≡ false → All IsNew add
+all_new kind units [] small good = All-nil IsNew
+all_new kind units (new ∷ more) small good =
+    let parts = or_parts (is_bad kind units new) (list_any (is_bad kind units) more) good in
+    let is_in : IsNewIn new (length units) = IsNewIn-from_good kind units new parts.0 in
     All-cons IsNew new more
     (record { upright = is_in.span.upright; small = omega (arith, is_in.span.within, small); mode = is_in.mode })
-    (all_new units more small parts.1)
+    (all_new kind units more small parts.1)
 
-pub IsSound-delta : (d : Decorations) (owner : ℕ) (ids : List ℕ) (add : List NewDeco) (units : List ℕ) → IsSound d → IsFit d owner ids add units
+pub IsSound-delta : (d : Decorations) (owner : ℕ) (ids : List ℕ) (add : List NewDeco) (kind : Kind) (units : List ℕ) → IsSound d → IsFit d owner ids add kind units
     → IsSound (record { marks = in_order (kept d.marks ids ++ new_marks owner d.next_id add); next_id = d.next_id + length add })
-IsSound-delta d owner ids add units sound fit =
+IsSound-delta d owner ids add kind units sound fit =
     let stays = λ (mark : Mark). not (list_any (λ id. eqb mark.id id) ids) in
     let left : AreAdded (kept d.marks ids) d.next_id = record {
       distinct = distinct_filter stays d.marks sound.distinct;
@@ -138,7 +139,7 @@ IsSound-delta d owner ids add units sound fit =
           (All-append (λ (mark : Mark). mark.span.start ≤ mark.span.end) (kept d.marks ids) (new_marks owner d.next_id add)
           (All-filter stays (λ (mark : Mark). mark.span.start ≤ mark.span.end) d.marks sound.upright)
           (All-weaker (λ (m : Mark). IsSpanIn m.span (length units)) (λ (mark : Mark). mark.span.start ≤ mark.span.end) (λ mark inside. inside.upright)
-          (new_marks owner d.next_id add) (LieIn-new_marks units owner d.next_id add fit.good)));
+          (new_marks owner d.next_id add) (LieIn-new_marks kind units owner d.next_id add fit.good)));
       few = omega (
         arith,
         length-in_order (kept d.marks ids ++ new_marks owner d.next_id add),

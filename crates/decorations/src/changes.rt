@@ -54,13 +54,13 @@ fn has_repeat(alloc: Global, ids: &[u64]) -> Result<bool, AllocError>
 
 /// Whether one of the new decorations has a span that is none of the text, or a mode that there is not.
 pub(crate) fn any_is_bad<F: Flat>(add: &[NewDeco], text: &F) -> bool
-    ensures { result ≡ list_any (is_bad (F.units text.now)) add.now }
+    ensures { result ≡ list_any (is_bad (F.kind text.now) (F.units text.now)) add.now }
 {
     add.iter().any(|new| is_bad(new, text))
 }
 
 fn is_bad<F: Flat>(new: &NewDeco, text: &F) -> bool
-    ensures { result ≡ is_bad (F.units text.now) new.now }
+    ensures { result ≡ is_bad (F.kind text.now) (F.units text.now) new.now }
 {
     new.span.end < new.span.start
         || !text.are_places(new.span.start, new.span.end)

@@ -57,7 +57,8 @@ impl DecoSet {
     ) -> Result<u64, DecoError>
         requires { length (F.units text.now) < offset_limit }
         ensures change { Decorates result self.old self.new
-            (decorated self.old owner remove.now add.now (F.units text.now)) }
+            (decorated self.old owner remove.now add.now
+            (F.kind text.now) (F.units text.now)) }
         ensures sound { IsSound self.new }
     {
         self.check(owner, remove, add, text)?;
@@ -79,9 +80,11 @@ impl DecoSet {
         text: &F,
     ) -> Result<(), DecoError>
         ensures ok { OnOk result (IsOk
-            (decorated self.now owner remove.now add.now (F.units text.now))) }
+            (decorated self.now owner remove.now add.now
+            (F.kind text.now) (F.units text.now))) }
         ensures err { IfErr result (λ e. RefusedFor e
-            (decorated self.now owner remove.now add.now (F.units text.now))) }
+            (decorated self.now owner remove.now add.now
+            (F.kind text.now) (F.units text.now))) }
     {
         if !owns_all(&self.tree, owner, remove) {
             return Err(DecoError::Unknown);

@@ -5,6 +5,7 @@ use Rattle.std.proofs.lemmas.Bool.{eqb-true, ne_eqb, leb-false}
 use Rattle.std.proofs.lemmas.List.{drop_all}
 use Rattle.std.proofs.lemmas.List.Elements.{All-nil, All-cons, All-head, All-tail, All-push, All-filter}
 use Rattle.std.specs.Char.Utf16.{utf16_chars}
+use Rattle.unit_text.specs.declared.kind.Kind.TheVariants.{Mixed}
 use Rattle.unit_text.specs.Units.{cuts_pair, IsPaired}
 use Rattle.unit_text.proofs.Paired.{IsPaired-cut}
 use Rattle.text_rules.specs.declared.Op.{Op}
@@ -158,11 +159,11 @@ opened_paired text table f e h =
     accepted_value (nat_lt most_units (length text)) (new_document text table) f limit e
     (record { units = h; undo = All-nil IsPairedStep; redo = All-nil IsPairedStep; shelf = All-nil HasPairedRest })
 
-after_batch_paired : (f : FlatState) (ops sorted : List Op) → checked_batch f.units ops ≡ Ok sorted → IsPairedState f → All HasPairedText ops → IsPairedState (after_batch f ops sorted)
+after_batch_paired : (f : FlatState) (ops sorted : List Op) → checked_batch Mixed f.units ops ≡ Ok sorted → IsPairedState f → All HasPairedText ops → IsPairedState (after_batch f ops sorted)
 after_batch_paired f ops sorted rule h texts =
-    let ok = accepted f.units ops sorted rule in
+    let ok = accepted Mixed f.units ops sorted rule in
     let in_order : All HasPairedText sorted = rw ok.in_order (All-sorted_ops HasPairedText ops texts) in
-    let from_sorted : IsPaired (applied_from 0 f.units sorted) = IsPaired-applied f.units sorted ok.standing ok.good in_order h.units in
+    let from_sorted : IsPaired (applied_from 0 f.units sorted) = IsPaired-applied Mixed f.units sorted ok.standing ok.good in_order h.units in
     let after : IsPaired (applied f.units ops) = subst (λ (s : List Op). IsPaired (applied_from 0 f.units s)) ok.in_order from_sorted in
     record {
       units = after;
@@ -172,14 +173,14 @@ after_batch_paired f ops sorted rule h texts =
       shelf = h.shelf;
     }
 
-edited_by_paired : (f g : FlatState) (ops : List Op) (r : Result (List Op) BatchRefusal) → checked_batch f.units ops ≡ r → edited_by f ops r ≡ Ok g
+edited_by_paired : (f g : FlatState) (ops : List Op) (r : Result (List Op) BatchRefusal) → checked_batch Mixed f.units ops ≡ r → edited_by f ops r ≡ Ok g
     → IsPairedState f → All HasPairedText ops → IsPairedState g
 edited_by_paired f g ops (Err e) rule done h texts = absurd cc
 edited_by_paired f g ops (Ok sorted) rule done h texts =
     accepted_value (nat_le greatest_version f.version) (after_batch f ops sorted) g limit done (after_batch_paired f ops sorted rule h texts)
 
 pub edited_paired : (f g : FlatState) (ops : List Op) → flat_edit f ops ≡ Ok g → IsPairedState f → All HasPairedText ops → IsPairedState g
-edited_paired f g ops done h texts = edited_by_paired f g ops (checked_batch f.units ops) refl done h texts
+edited_paired f g ops done h texts = edited_by_paired f g ops (checked_batch Mixed f.units ops) refl done h texts
 
 undone_step_paired : (f g : FlatState) (steps : List (Step FlatChange)) → ArePairedSteps steps → undone_step f steps ≡ Ok (Some g) → IsPairedState f → IsPairedState g
 undone_step_paired f g [] kept done h = absurd cc
@@ -241,7 +242,7 @@ with_decorations_paired f g (Ok d) done h =
 pub IsPairedState-decorate : (answer : ℕ) (result : Result ℕ ModelError) (old new : FlatState) (owner : ℕ) (remove : List ℕ) (add : List NewDeco)
     → ChangesWith answer result old new (flat_decorate old owner remove add) → IsPairedState old → IsPairedState new
 IsPairedState-decorate answer (Ok n) old new owner remove add done h =
-    with_decorations_paired old new (decorated old.decorations owner remove add old.units) done.0 h
+    with_decorations_paired old new (decorated old.decorations owner remove add Mixed old.units) done.0 h
 IsPairedState-decorate answer (Err e) old new owner remove add done h = subst IsPairedState (sym done.0) h
 
 with_shelf_paired : (f g : FlatState) (r : Result FlatShelf ShelfRefusal) → with_shelf f r ≡ Ok g → ((shelf : FlatShelf) → r ≡ Ok shelf → IsPairedShelf shelf)

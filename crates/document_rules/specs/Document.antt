@@ -4,6 +4,7 @@ use Rattle.std.specs.Prelude.{ℕ, ◌+◌, ◌-◌, false, nat_lt, nat_le, if�
 use Rattle.text_lengths.specs.declared.Position.{Position}
 use Rattle.text_lengths.specs.declared.Span.{Span}
 use Rattle.text_lengths.specs.declared.TheConstants.{GREATEST_NUMBER}
+use Rattle.unit_text.specs.declared.kind.Kind.TheVariants.{Mixed}
 use Rattle.unit_text.specs.Units.{is_place}
 use Rattle.text_rules.specs.Positions.{position_of, offset_of, is_position}
 use Rattle.text_rules.specs.declared.Op.{Op}
@@ -96,7 +97,7 @@ edited_by f ops (Ok sorted) = if nat_le greatest_version f.version then Err limi
 
 -- a batch of edits at once
 abbrev pub flat_edit : FlatState → List Op → Result FlatState FlatRefusal
-flat_edit f ops = edited_by f ops (checked_batch f.units ops)
+flat_edit f ops = edited_by f ops (checked_batch Mixed f.units ops)
 
 -- the next edit begins a step of undo
 abbrev pub flat_stop : FlatState → FlatState
@@ -165,7 +166,7 @@ with_decorations f (Ok d) = Ok (record f { decorations = d })
 
 -- decorations of one owner go, and new ones come
 abbrev pub flat_decorate : FlatState → ℕ → List ℕ → List NewDeco → Result FlatState FlatRefusal
-flat_decorate f owner remove add = with_decorations f (decorated f.decorations owner remove add f.units)
+flat_decorate f owner remove add = with_decorations f (decorated f.decorations owner remove add Mixed f.units)
 
 -- the live decoration of this id
 abbrev pub flat_deco : FlatState → ℕ → Option Deco
@@ -173,7 +174,7 @@ flat_deco f id = deco_at f.decorations id
 
 -- those that touch the span, of all owners or of one
 abbrev pub flat_decos : FlatState → Span → Option ℕ → Result (List Deco) FlatRefusal
-flat_decos f span owner = if is_bad_span f.units span then Err range else Ok (decos_in f.decorations span owner)
+flat_decos f span owner = if is_bad_span Mixed f.units span then Err range else Ok (decos_in f.decorations span owner)
 
 abbrev pub content_of : Option Line → Result (List ℕ) FlatRefusal
 content_of None = Err range
@@ -185,7 +186,7 @@ flat_line f n = content_of (line_at f.units n)
 
 -- the units of a span
 abbrev pub flat_value : FlatState → Span → Result (List ℕ) FlatRefusal
-flat_value f span = if is_bad_span f.units span then Err range else Ok (take (span.end - span.start) (drop span.start f.units))
+flat_value f span = if is_bad_span Mixed f.units span then Err range else Ok (take (span.end - span.start) (drop span.start f.units))
 
 -- where the offset is, by line and column; none where it is no place
 abbrev pub flat_position : FlatState → ℕ → Option Position

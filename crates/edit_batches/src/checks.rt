@@ -7,7 +7,7 @@ use text_rules::{MOST_TEXT_UNITS, Op, is_bad_span};
 use unit_text::Flat;
 
 pub(crate) fn has_bad_span<F: Flat>(ops: &[Op], text: &F) -> bool
-    ensures { result ≡ has_bad_span (F.units text.now) ops.now }
+    ensures { result ≡ has_bad_span (F.kind text.now) (F.units text.now) ops.now }
 {
     ops.iter().any(|op| is_bad_span(text, op.span))
 }

@@ -4,6 +4,7 @@
 mod batch;
 mod checks;
 mod inverse;
+mod kinds;
 mod order;
 
 pub use batch::Batch;

@@ -2,6 +2,7 @@
 use Rattle.std.proofs.Common.{◌≡◌, ℕ, ◌+◌, ◌≤◌, false, true, nat_le, List, length, Ok, refl, arith}
 use Rattle.std.specs.List.{All}
 use Rattle.std.proofs.lemmas.Bool.{lt-leb}
+use Rattle.unit_text.specs.declared.kind.Kind.TheVariants.{Mixed}
 use Rattle.unit_text.specs.Units.{IsPaired}
 use Rattle.text_rules.specs.declared.Op.{Op}
 use Rattle.batch_rules.specs.Batches.{most_units, checked_batch, applied_from, inverse_from}
@@ -20,11 +21,11 @@ use Rattle.model_page.specs.Carrying.{carried_with}
 use Rattle.model_core.proofs.Histories.{history-pushed, IsHistory-pushed}
 use Rattle.model_page.specs.declared.change.Way.TheVariants.{Back, On}
 
-module _ (x : List ℕ) (ops : List Op) (change : Change) (rule : checked_batch x ops ≡ Ok (ops_by On change)) (fits : length x ≤ most_units)
+module _ (x : List ℕ) (ops : List Op) (change : Change) (rule : checked_batch Mixed x ops ≡ Ok (ops_by On change)) (fits : length x ≤ most_units)
     (inverse : ops_by Back change ≡ inverse_from 0 0 x (ops_by On change)) where
   pub leads : Leads x change (applied_from 0 x (ops_by On change))
   leads =
-      let ok = accepted x ops (ops_by On change) rule in
+      let ok = accepted Mixed x ops (ops_by On change) rule in
       record { standing = ok.standing; on = refl; inverse = inverse; fits_before = fits; fits_after = ok.fits }
 
   pub edited_history : (s : Stack Change) (alternative version : ℕ) → IsHistory x s
@@ -43,13 +44,13 @@ module _ (x : List ℕ) (ops : List Op) (change : Change) (rule : checked_batch 
         shelf = shelf;
       })
   edited_document s d table shelf version alternative few =
-      let ok = accepted x ops (ops_by On change) rule in
+      let ok = accepted Mixed x ops (ops_by On change) rule in
       let below : nat_le greatest_version version ≡ false = lt-leb greatest_version version (omega (arith, few)) in
       let history = history-pushed s change x (applied_from 0 x (ops_by On change)) alternative (version + 1) leads in
       rw (rule, below, history, ok.in_order) refl
 
-pub edited_paired : (x : List ℕ) (ops sorted : List Op) → checked_batch x ops ≡ Ok sorted → IsPaired x → All HasPairedText ops
+pub edited_paired : (x : List ℕ) (ops sorted : List Op) → checked_batch Mixed x ops ≡ Ok sorted → IsPaired x → All HasPairedText ops
     → IsPaired (applied_from 0 x sorted)
 edited_paired x ops sorted rule paired texts =
-    let ok = accepted x ops sorted rule in
-    IsPaired-applied x sorted ok.standing ok.good (rw ok.in_order (All-sorted_ops HasPairedText ops texts)) paired
+    let ok = accepted Mixed x ops sorted rule in
+    IsPaired-applied Mixed x sorted ok.standing ok.good (rw ok.in_order (All-sorted_ops HasPairedText ops texts)) paired

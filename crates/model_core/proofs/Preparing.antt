@@ -4,6 +4,7 @@ use Rattle.std.specs.List.{All}
 use Rattle.std.proofs.lemmas.Bool.{lt-leb, le-ltb}
 use Rattle.std.proofs.lemmas.List.Elements.{All-head, All-tail}
 use Rattle.unit_text.specs.Units.{IsPaired}
+use Rattle.unit_text.specs.declared.kind.Kind.TheVariants.{Mixed}
 use Rattle.text_rules.specs.declared.Op.{Op}
 use Rattle.batch_rules.specs.Refusals.{BatchRefusal}
 use Rattle.batch_rules.specs.Batches.{checked_batch, sorted_ops, has_bad_span, overlap, inverse_from, applied_from, StandFrom}
@@ -39,20 +40,20 @@ use Rattle.model_page.specs.declared.change.Change.TheVariants.{Ops}
 
 -- what is told of the ops in their order is told of the ops
 pub told_of_all : (x : List ℕ) (ops sorted : List Op) (r : Result (List Op) BatchError) → sorted ≡ sorted_ops ops
-    → Checks r (checked_batch x sorted) → Checks r (checked_batch x ops)
+    → Checks r (checked_batch Mixed x sorted) → Checks r (checked_batch Mixed x ops)
 told_of_all x ops sorted r is told =
-    subst (λ (b : Result (List Op) BatchRefusal). Checks r b) (ap (checked_batch x) is ∙ checked_batch-sorted_ops x ops) told
+    subst (λ (b : Result (List Op) BatchRefusal). Checks r b) (ap (checked_batch Mixed x) is ∙ checked_batch-sorted_ops Mixed x ops) told
 
 pub accepted_of_all : (x : List ℕ) (ops sorted batch : List Op) (r : Result (List Op) BatchError) → sorted ≡ sorted_ops ops
-    → Checks r (checked_batch x sorted) → r ≡ Ok batch → checked_batch x ops ≡ Ok batch
+    → Checks r (checked_batch Mixed x sorted) → r ≡ Ok batch → checked_batch Mixed x ops ≡ Ok batch
 accepted_of_all x ops sorted batch r is told ok =
-    subst (λ (a : Result (List Op) BatchError). Checks a (checked_batch x ops)) ok (told_of_all x ops sorted r is told)
+    subst (λ (a : Result (List Op) BatchError). Checks a (checked_batch Mixed x ops)) ok (told_of_all x ops sorted r is told)
 
-no_bad_span : (x : List ℕ) (ops : List Op) → All (IsGood x) ops → has_bad_span x ops ≡ false
+no_bad_span : (x : List ℕ) (ops : List Op) → All (IsGood Mixed x) ops → has_bad_span Mixed x ops ≡ false
 no_bad_span x [] good = refl
 no_bad_span x (op ∷ ops) good =
-    let first : IsGood x op = All-head (IsGood x) op ops good in
-    rw (first, no_bad_span x ops (All-tail (IsGood x) op ops good)) refl
+    let first : IsGood Mixed x op = All-head (IsGood Mixed x) op ops good in
+    rw (first, no_bad_span x ops (All-tail (IsGood Mixed x) op ops good)) refl
 
 no_overlap : (at : ℕ) (x : List ℕ) (ops : List Op) → StandFrom at x ops → overlap ops ≡ false
 no_overlap at x [] standing = refl
@@ -60,20 +61,20 @@ no_overlap at x (op ∷ []) standing = refl
 no_overlap at x (op ∷ next ∷ ops) standing =
     rw (le-ltb next.span.start op.span.end standing.2.0, no_overlap op.span.end x (next ∷ ops) standing.2) refl
 
-module _ (x : List ℕ) (ops sorted : List Op) (rule : checked_batch x ops ≡ Ok sorted) where
+module _ (x : List ℕ) (ops sorted : List Op) (rule : checked_batch Mixed x ops ≡ Ok sorted) where
   sorted_again : sorted_ops sorted ≡ sorted
-  sorted_again = sorted_ops_standing 0 x sorted (accepted x ops sorted rule).standing
+  sorted_again = sorted_ops_standing 0 x sorted (accepted Mixed x ops sorted rule).standing
 
-  pub checked_again : checked_batch x sorted ≡ Ok sorted
+  pub checked_again : checked_batch Mixed x sorted ≡ Ok sorted
   checked_again =
-      let ok = accepted x ops sorted rule in
+      let ok = accepted Mixed x ops sorted rule in
       let apart : overlap (sorted_ops sorted) ≡ false = rw sorted_again (no_overlap 0 x sorted ok.standing) in
-      accepted_in_order x sorted (no_bad_span x sorted ok.good) apart (rw sorted_again ok.fits) ∙ ap (λ (s : List Op). Ok s) sorted_again
+      accepted_in_order Mixed x sorted (no_bad_span x sorted ok.good) apart (rw sorted_again ok.fits) ∙ ap (λ (s : List Op). Ok s) sorted_again
 
-module _ (f : FlatState) (ops sorted : List Op) (rule : checked_batch f.units ops ≡ Ok sorted) where
+module _ (f : FlatState) (ops sorted : List Op) (rule : checked_batch Mixed f.units ops ≡ Ok sorted) where
   edit_again : flat_edit f sorted ≡ flat_edit f ops
   edit_again =
-      let ok = accepted f.units ops sorted rule in
+      let ok = accepted Mixed f.units ops sorted rule in
       rw (checked_again f.units ops sorted rule, rule, sorted_again f.units ops sorted rule, ← ok.in_order) refl
 
   edit_accepted : f.version + 1 ≤ greatest_version → flat_edit f ops ≡ Ok (after_batch f ops sorted)
@@ -82,17 +83,17 @@ module _ (f : FlatState) (ops sorted : List Op) (rule : checked_batch f.units op
       rw (rule, below) refl
 
 -- the batch that was accepted
-ruled : (f : FlatState) (ops : List Op) (answer : Result (List Op) BatchRefusal) (next : FlatState) → checked_batch f.units ops ≡ answer
-    → edited_by f ops answer ≡ Ok next → checked_batch f.units ops ≡ Ok (sorted_ops ops)
+ruled : (f : FlatState) (ops : List Op) (answer : Result (List Op) BatchRefusal) (next : FlatState) → checked_batch Mixed f.units ops ≡ answer
+    → edited_by f ops answer ≡ Ok next → checked_batch Mixed f.units ops ≡ Ok (sorted_ops ops)
 ruled f ops (Err why) next is done = absurd cc
-ruled f ops (Ok sorted) next is done = is ∙ ap (λ (s : List Op). Ok s) (accepted f.units ops sorted is).in_order
+ruled f ops (Ok sorted) next is done = is ∙ ap (λ (s : List Op). Ok s) (accepted Mixed f.units ops sorted is).in_order
 
 -- what is prepared makes the same document of the ops in their order
 pub same_in_order : (ops : List Op) (now : ModelState) (ready : Prepared) → IsEditReady ops now ready
     → flat_edit now.document (sorted_ops ops) ≡ flat_edit now.document ops
 same_in_order ops now ready is =
     let f : FlatState = now.document in
-    edit_again f ops (sorted_ops ops) (ruled f ops (checked_batch f.units ops) (after_batch f ops (sorted_ops ops)) refl is.accepted)
+    edit_again f ops (sorted_ops ops) (ruled f ops (checked_batch Mixed f.units ops) (after_batch f ops (sorted_ops ops)) refl is.accepted)
 
 -- ---- what commit asks for
 
@@ -104,13 +105,13 @@ can_commit now ready action is version can room = record {
   room = subst (λ a. IsEnough now.room (need_of a now.document)) (sym is) room;
 }
 
-pub edit_ready : (now : ModelState) (ops sorted back : List Op) (ready : Prepared) → checked_batch now.document.units ops ≡ Ok sorted
+pub edit_ready : (now : ModelState) (ops sorted back : List Op) (ready : Prepared) → checked_batch Mixed now.document.units ops ≡ Ok sorted
     → back ≡ inverse_from 0 0 now.document.units sorted → ready.action ≡ Edit (Ops sorted back)
     → ready.version ≡ now.document.version → now.document.version + 1 ≤ greatest_version
     → IsEnough now.room (record { text = need_of_ops sorted; changes = 1 }) → IsEditReady ops now ready
 edit_ready now ops sorted back ready rule inverse is version few room =
     let f : FlatState = now.document in
-    let ok = accepted f.units ops sorted rule in
+    let ok = accepted Mixed f.units ops sorted rule in
     record {
       action = is ∙ ap (λ (b : List Op). Edit (Ops sorted b)) inverse
           ∙ ap (λ (s : List Op). Edit (Ops s (inverse_from 0 0 f.units s))) ok.in_order;

@@ -1,5 +1,6 @@
 -- Changes of the document that were prepared: what each asks of the document that it is carried out on, and what it does.
 use Rattle.std.specs.Prelude.{◌≡◌, ℕ, ◌<◌, ◌≤◌, List, [], ◌∷◌, length, sum_by, Option, Some, None, Result, Ok, Err, All, ⊤}
+use Rattle.unit_text.specs.declared.kind.Kind.TheVariants.{Mixed}
 use Rattle.unit_text.specs.Units.{IsPaired}
 use Rattle.text_rules.specs.declared.Op.{Op}
 use Rattle.batch_rules.specs.Batches.{checked_batch, sorted_ops, inverse_from, inverse_of, text_units}
@@ -82,7 +83,7 @@ pub record IsEnough (room : Room) (need : Need) : Type 0 where
 
 -- a batch in its order that the rule accepts on text x, with the one that takes it back
 pub record IsChangeOf (x : List ℕ) (change : Change) : Type 0 where
-  pub accepted : checked_batch x (ops_by On change) ≡ Ok (ops_by On change)
+  pub accepted : checked_batch Mixed x (ops_by On change) ≡ Ok (ops_by On change)
   pub inverse : ops_by Back change ≡ inverse_from 0 0 x (ops_by On change)
 
 -- a move needs a step that comes next

@@ -3,6 +3,7 @@ use Rattle.std.proofs.Common.{◌≡◌, ℕ, suc, ◌+◌, ◌-◌, ◌^◌, �
 use Rattle.std.specs.List.{All}
 use Rattle.std.proofs.Math.Seq.{drop-cons}
 use Rattle.std.proofs.lemmas.List.{length-append, length-take-le, length-drop}
+use Rattle.unit_text.specs.declared.kind.Kind.{Kind}
 use Rattle.text_rules.specs.declared.Op.{Op}
 use Rattle.text_rules.specs.Edits.{edited}
 use Rattle.batch_rules.specs.Batches.{applied_from, inverse_from}
@@ -78,7 +79,7 @@ carried_on-kept d now (c ∷ cs) =
     ap (λ e. carried_on e (changes_on (applied_from 0 now (ops_by On c)) cs)) same ∙ carried_on-kept (carried_with false d (ops_by On c)) (applied_from 0 now (ops_by On c)) cs
 
 -- Decorations that are changed still lie in the text.
-pub inside-decorated : (result : Result ℕ DecoError) (old new : Decorations) (owner : ℕ) (remove : List ℕ) (add : List NewDeco) (units : List ℕ)
-    → Decorates result old new (decorated old owner remove add units) → LieIn (length units) old.marks → LieIn (length units) new.marks
-inside-decorated (Ok first) old new owner remove add units change inside = LieIn-decorated old owner remove add units new change.0 inside
-inside-decorated (Err e) old new owner remove add units change inside = subst (λ (d : Decorations). LieIn (length units) d.marks) (sym change.0) inside
+pub inside-decorated : (result : Result ℕ DecoError) (old new : Decorations) (owner : ℕ) (remove : List ℕ) (add : List NewDeco) (kind : Kind) (units : List ℕ)
+    → Decorates result old new (decorated old owner remove add kind units) → LieIn (length units) old.marks → LieIn (length units) new.marks
+inside-decorated (Ok first) old new owner remove add kind units change inside = LieIn-decorated old owner remove add kind units new change.0 inside
+inside-decorated (Err e) old new owner remove add kind units change inside = subst (λ (d : Decorations). LieIn (length units) d.marks) (sym change.0) inside

@@ -76,6 +76,7 @@ module _ (old now : PageState) (forces : Bool) (ops : List Op) (done : ℕ) (can
   still_page sound =
       let done = page_after in
       record {
+        mixed = after.text.kind ∙ sound.mixed;
         fits = rw done.units can.fits;
         inside = after.inside;
         stays = subst (λ table. StaysWith now.tree now.marks table now.text.units) (sym done.parse.table)

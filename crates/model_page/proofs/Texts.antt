@@ -1,5 +1,5 @@
 -- A text along the ops of a batch, which are carried out from the last to the first.
-use Rattle.std.proofs.Common.{◌≡◌, ℕ, ◌+◌, ◌-◌, ◌<◌, ◌≤◌, List, [], length, drop, ap, sym, ◌∙◌, arith}
+use Rattle.std.proofs.Common.{◌≡◌, ℕ, ◌+◌, ◌-◌, ◌<◌, ◌≤◌, List, [], length, drop, refl, ap, sym, ◌∙◌, arith}
 use Rattle.std.proofs.lemmas.List.{drop_all}
 use Rattle.text_rules.specs.declared.Op.{Op}
 use Rattle.text_rules.specs.Edits.{edited}
@@ -17,6 +17,7 @@ use Rattle.model_page.proofs.Turns.{IsTurn}
 -- what so many of the ops leave
 pub record IsTextAfter (old : Text) (ops : List Op) (done : ℕ) (now : Text) : Type 0 where
   pub units : now.units ≡ edited_backwards old.units (drop (length ops - done) ops)
+  pub kind : now.kind ≡ old.kind
   pub grown : HasGrown done old now
   pub spent : HasSpent (record { edits = done; units = text_units (drop (length ops - done) ops); breaks = text_breaks (drop (length ops - done) ops) }) old.room now.room
 
@@ -26,6 +27,7 @@ module _ (old : Text) (ops : List Op) where
       let none : drop (length ops - 0) ops ≡ [] = drop_all (length ops - 0) ops (omega arith) in
       record {
         units = sym (ap (edited_backwards old.units) none);
+        kind = refl;
         grown = record { pieces = omega arith; buffers = Extends-refl old.buffers };
         spent = record { edits = omega arith; units = omega arith; breaks = omega arith };
       }
@@ -45,10 +47,11 @@ module _ (old : Text) (ops : List Op) where
       )
 
   module _ (now : Text) (done : ℕ) (op : Op) (after : IsTextAfter old ops done now) (turn : IsTurn old.units ops done op now.units) where
-    pub text_turn : (new : Text) → new.units ≡ edited now.units op → length new.spans ≤ length now.spans + 2 → Extends now.buffers new.buffers
+    pub text_turn : (new : Text) → new.units ≡ edited now.units op → new.kind ≡ now.kind → length new.spans ≤ length now.spans + 2 → Extends now.buffers new.buffers
         → HasSpent (need_of_edit op.text) now.room new.room → IsTextAfter old ops (done + 1) new
-    text_turn new units pieces grown spent = record {
+    text_turn new units kind pieces grown spent = record {
       units = units ∙ sym turn.leaves;
+      kind = kind ∙ after.kind;
       grown = record {
         pieces = omega (arith, after.grown.pieces, pieces);
         buffers = Extends-trans old.buffers now.buffers new.buffers after.grown.buffers grown;

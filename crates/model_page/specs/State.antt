@@ -1,5 +1,6 @@
 -- What contracts see of a page, the text side of a document: what may be done with it, and what that leaves.
 use Rattle.std.specs.Prelude.{◌≡◌, ℕ, ◌+◌, ◌*◌, ◌≤◌, Bool, true, false, List, length, replicate, Option, None, is_some, Result, OnOk, OnErr}
+use Rattle.unit_text.specs.declared.kind.Kind.TheVariants.{Mixed}
 use Rattle.text_rules.specs.declared.Op.{Op}
 use Rattle.text_rules.specs.Lines.{lines_of}
 use Rattle.batch_rules.specs.Batches.{most_units, applied_from, StandFrom}
@@ -37,6 +38,8 @@ pub record PageState : Type 0 where
 
 -- what holds of every page
 pub record IsPage (page : PageState) : Type 0 where
+  -- each line ends as it came
+  pub mixed : page.text.kind ≡ Mixed
   pub fits : length page.text.units ≤ most_units
   pub inside : AreIn (length page.text.units) page.decorations
   pub stays : StaysWith page.tree page.marks page.table page.text.units
@@ -92,6 +95,7 @@ pub record KeepsParse (old new : PageState) : Type 0 where
 -- the page is as it was, beside the room for edits
 pub record IsUntouched (old new : PageState) : Type 0 where
   pub units : new.text.units ≡ old.text.units
+  pub kind : new.text.kind ≡ old.text.kind
   pub spans : new.text.spans ≡ old.text.spans
   pub buffers : Extends old.text.buffers new.text.buffers
   pub decorations : new.decorations ≡ old.decorations

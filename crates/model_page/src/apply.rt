@@ -1,6 +1,7 @@
 //! Ops and changes that are carried out.
 
 ghost use Rattle.std.specs.Prelude.{◌≡◌, ◌+◌, ◌<◌, ◌^◌, length};
+ghost use Rattle.unit_text.specs.declared.kind.Kind.TheVariants.{Mixed};
 ghost use Rattle.batch_rules.specs.Batches.{applied_from, text_units, StandFrom};
 ghost use Rattle.edit_stack.specs.Element.{step_of};
 ghost use Rattle.text_buffer.specs.Room as text_room;
@@ -109,9 +110,11 @@ fn edit_with(op: &Op, forces: bool) -> Edit
 /// Carries out the ops on a text by itself, which has room for them. It takes no memory.
 pub fn apply_to_text(text: &mut TextBuffer, ops: &[Op])
     requires standing { StandFrom 0 text.old.units ops.now }
+    requires mixed { text.old.kind ≡ Mixed }
     requires small { length text.old.units + text_units ops.now < 2 ^ 62 }
     requires room { text_room.IsEnough text.old.room (need_of_ops ops.now) }
     ensures units { text.new.units ≡ applied_from 0 text.old.units ops.now }
+    ensures kind { text.new.kind ≡ text.old.kind }
     ensures grown { HasGrown (length ops.now) text.old text.new }
     ensures spent { text_room.HasSpent (need_of_ops ops.now) text.old.room text.new.room }
 {

@@ -3,6 +3,7 @@
 ghost use Rattle.std.specs.Prelude.{◌≡◌, ◌+◌, ◌-◌, ◌<◌, ◌≤◌, ◌^◌, ◌∷◌, [], None, Some, false, true, length, is_some, replicate, IfOk, OnOk};
 ghost use Rattle.std.specs.Option.{option_copied};
 ghost use Rattle.batch_rules.specs.Batches.{most_units};
+ghost use Rattle.unit_text.specs.declared.kind.Kind.TheVariants.{Mixed};
 ghost use Rattle.text_rules.specs.Lines.{lines_of};
 ghost use Rattle.bracket_tree_rules.specs.Tree.{IsTree};
 ghost use Rattle.mark_rules.specs.declared.Mark.TheVariants.{New};
@@ -16,6 +17,7 @@ use std::alloc::{AllocError, Global};
 use std::marker::Model;
 use text_buffer::TextBuffer;
 use text_lengths::Dirty;
+use unit_text::Kind;
 
 /// The last parse, where there was one, and a mark for each line of the text of now.
 #[derive(Drop)]
@@ -163,13 +165,14 @@ impl LastParse {
 pub(crate) fn unparsed(alloc: Global, units: &[u16]) -> Result<(TextBuffer, LastParse), AllocError>
     requires { length units.now ≤ most_units }
     ensures units { IfOk result (λ made. made.0.units ≡ units.now) }
+    ensures kind { IfOk result (λ made. made.0.kind ≡ Mixed) }
     ensures spans { IfOk result (λ made. length made.0.spans ≤ 1) }
     ensures parsed { IfOk result (λ made. made.1.parsed ≡ None) }
     ensures tree { IfOk result (λ made. made.1.tree ≡ None) }
     ensures marks { IfOk result (λ made.
         made.1.marks ≡ replicate (length (lines_of units.now)) New) }
 {
-    let text = TextBuffer::of_units(alloc, units)?;
+    let text = TextBuffer::of_units(alloc, units, Kind::Mixed)?;
     let last = LastParse::of_new_lines(alloc, text.line_count())?;
     Ok((text, last))
 }

@@ -4,6 +4,7 @@ ghost use Rattle.std.specs.Prelude.{◌≡◌, ◌≤◌, ◌&&◌, [], None, So
 ghost use Rattle.batch_rules.specs.Batches.{most_units};
 ghost use Rattle.bracket_rules.specs.Table.{standard_table};
 ghost use Rattle.decoration_rules.specs.Decorations.{Decorates, decorated};
+ghost use Rattle.unit_text.specs.declared.kind.Kind.TheVariants.{Mixed};
 ghost use Rattle.text_rules.specs.Positions.{is_position, offset_of};
 ghost use Rattle.model_page.specs.Carrying.{AreIn};
 ghost use Rattle.model_page.specs.State.{HasRoom, IsNew, IsUntouched, KeepsRoom};
@@ -80,6 +81,7 @@ impl Page {
     /// The text.
     pub fn text(&self) -> &TextBuffer
         ensures text { result.now ≡ self.now.text }
+        ensures mixed { self.now.text.kind ≡ Mixed }
         ensures fits { length self.now.text.units ≤ most_units }
     {
         &self.text
@@ -101,7 +103,7 @@ impl Page {
         add: &[NewDeco],
     ) -> Result<u64, DecoError>
         ensures change { Decorates result self.old.decorations self.new.decorations
-            (decorated self.old.decorations owner remove.now add.now self.old.text.units) }
+            (decorated self.old.decorations owner remove.now add.now Mixed self.old.text.units) }
         ensures same { self.new ≡ record self.old { decorations = self.new.decorations } }
     {
         self.decorations.delta(owner, remove, add, &self.text)

@@ -14,6 +14,7 @@ use Rattle.piece_tree.specs.declared.piece.Found.{Found}
 use Rattle.piece_tree.specs.Costs.{WithinLookUps}
 use Rattle.piece_tree.specs.Pieces.{Pieces, Entry, pieces_of, unit_count, break_count_of, IsPieceOf, IsFound, AreNeighbours}
 use Rattle.piece_tree.proofs.Sums.{breaks-cons}
+use Rattle.unit_text.specs.declared.kind.Kind.{Kind}
 use Rattle.unit_text.specs.Units.{cuts_pair, is_place}
 use Rattle.text_rules.specs.Lines.{lines_of, line_start}
 use Rattle.text_rules.specs.Breaks.{ends_break, break_ends, joins_pair, count_to}
@@ -76,24 +77,24 @@ all_breaks b ps all a =
 pub ruleset sizes = (length-spelled, lines_of_pieces, all_breaks)
 
 -- what the pieces count, in the text that contracts see
-pub units_shown : (tree : Pieces) (chunks : Shown) (seen : Text) → IsText tree chunks → text_of tree chunks ≡ seen
+pub units_shown : {kind : Kind} (tree : Pieces) (chunks : Shown) (seen : Text) → IsText tree chunks → text_of kind tree chunks ≡ seen
     → unit_count (pieces_of tree.entries) ≡ length seen.units
 units_shown tree chunks seen is shown =
     omega (arith, length-spelled chunks.buffers (pieces_of tree.entries) is.pieces, ap (λ (t : Text). length t.units) shown)
 
-pub lines_shown : (tree : Pieces) (chunks : Shown) (seen : Text) → IsText tree chunks → text_of tree chunks ≡ seen
+pub lines_shown : {kind : Kind} (tree : Pieces) (chunks : Shown) (seen : Text) → IsText tree chunks → text_of kind tree chunks ≡ seen
     → break_count_of (pieces_of tree.entries) + 1 ≡ length (lines_of seen.units)
 lines_shown tree chunks seen is shown =
     line_count_of_pieces chunks.buffers (pieces_of tree.entries) is.pieces is.unsplit ∙ ap (λ (t : Text). length (lines_of t.units)) shown
 
-pub breaks_shown : (tree : Pieces) (chunks : Shown) (seen : Text) (offset : ℕ) → IsText tree chunks → text_of tree chunks ≡ seen
+pub breaks_shown : {kind : Kind} (tree : Pieces) (chunks : Shown) (seen : Text) (offset : ℕ) → IsText tree chunks → text_of kind tree chunks ≡ seen
     → offset ≡ length seen.units → break_count_of (pieces_of tree.entries) ≡ count_to offset (break_ends 0 seen.units)
 breaks_shown tree chunks seen offset is shown at_end =
     breaks_of_pieces chunks.buffers (pieces_of tree.entries) is.pieces is.unsplit ∙ ap (λ (t : Text). length (break_ends 0 t.units)) shown
     ∙ sym (count_to_all 0 offset seen.units (omega (arith, at_end)))
 
 -- a look-up among the pieces is one among the spans that contracts see
-pub among_spans : (tree : Pieces) (chunks : Shown) (seen : Text) (look_ups nodes : ℕ) → text_of tree chunks ≡ seen
+pub among_spans : {kind : Kind} (tree : Pieces) (chunks : Shown) (seen : Text) (look_ups nodes : ℕ) → text_of kind tree chunks ≡ seen
     → WithinLookUps look_ups (length tree.entries) nodes → WithinLookUps look_ups (length seen.spans) nodes
 among_spans tree chunks seen look_ups nodes shown cost =
     let count : length tree.entries ≡ length (map (λ (p : Piece). p.span) (pieces_of tree.entries)) =

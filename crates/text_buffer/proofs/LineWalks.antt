@@ -13,7 +13,7 @@ use Rattle.piece_tree.specs.Pieces.{Pieces, Entry, pieces_of, unit_count, sum_of
 use Rattle.text_rules.specs.Lines.{Line, lines_of, line_length, line_start, line_at, line_feed, begins_with, carriage_return}
 use Rattle.text_rules.specs.Breaks.{joins_pair}
 use Rattle.text_buffer.specs.declared.cursor.Cursor.{Cursor}
-use Rattle.text_buffer.specs.Text.{text_of, spelled, IsText, IsUnsplit}
+use Rattle.text_buffer.specs.Text.{units_from, spelled, IsText, IsUnsplit}
 use Rattle.text_buffer.specs.Places.{IsPlace, text_from, StartsAt}
 use Rattle.text_buffer.proofs.Spelling.{length-units_at, length-spelled, drop-past}
 use Rattle.text_buffer.proofs.Borders.{ends_with-append}
@@ -179,7 +179,7 @@ module _ (b : List (List ℕ)) where
 
 module _ (tree : Pieces) (chunks : Shown) (n : ℕ) (start : Cursor) (s : StartsAt tree chunks n start) where
   abbrev x : List ℕ
-  x = (text_of tree chunks).units
+  x = units_from tree chunks
 
   abbrev from : List ℕ
   from = text_from chunks.buffers tree.entries start s.at.is

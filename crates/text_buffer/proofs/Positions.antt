@@ -1,5 +1,5 @@
 -- Positions that are there, and positions that are not.
-use Rattle.std.proofs.Common.{◌≡◌, ℕ, ◌+◌, ◌-◌, ◌<◌, ◌≤◌, ◌&&◌, ◌==◌, leb, ltb, not, Bool, true, false, if◌then◌else◌, Option, Some, None, List, length, get_or, refl, ap, sym, ◌∙◌, arith}
+use Rattle.std.proofs.Common.{◌≡◌, ℕ, ◌+◌, ◌-◌, ◌<◌, ◌≤◌, ◌&&◌, ◌||◌, ◌==◌, leb, ltb, not, Bool, true, false, if◌then◌else◌, Option, Some, None, List, length, get_or, refl, ap, sym, ◌∙◌, arith}
 use Rattle.std.specs.Option.{unwrap_or}
 use Rattle.std.specs.Char.Utf16.{is_high_surrogate, is_low_surrogate}
 use Rattle.std.proofs.lemmas.Bool.{le-leb, lt-leb}
@@ -7,6 +7,10 @@ use Rattle.std.proofs.lemmas.Bool.Decides.{nat_tests}
 use Rattle.std.proofs.lemmas.List.{get_or_past}
 use Rattle.std.proofs.lemmas.Option.{none-some}
 use Rattle.text_lengths.specs.declared.Position.{Position}
+use Rattle.unit_text.specs.declared.kind.Kind.{Kind}
+use Rattle.unit_text.specs.declared.kind.Kind.TheVariants.{Mixed, Lf, Crlf}
+use Rattle.unit_text.specs.Endings.{line_feed, carriage_return}
+use Rattle.unit_text.specs.Kinds.{cuts_in, is_place_in}
 use Rattle.unit_text.specs.Units.{cuts_pair, is_place}
 use Rattle.text_rules.specs.Lines.{Line, lines_of, line_at, line_start}
 use Rattle.text_rules.specs.Positions.{is_position, offset_of, has_column}
@@ -17,33 +21,49 @@ none_cut true true = refl
 none_cut true false = refl
 none_cut false high = refl
 
--- the end of the text is a place
-pub place_at_end : (x : List ℕ) (offset : ℕ) → offset ≡ length x → is_place x offset ≡ true
-place_at_end x offset at_end =
+neither_cut : (a b : Bool) → not ((a && false) || (b && false)) ≡ true
+neither_cut true true = refl
+neither_cut true false = refl
+neither_cut false true = refl
+neither_cut false false = refl
+
+end_of_any : (x : List ℕ) (offset : ℕ) → offset ≡ length x → is_place x offset ≡ true
+end_of_any x offset at_end =
     let past : get_or x offset 0 ≡ 0 = get_or_past x offset 0 (omega arith) in
     ap (λ b. b && not (cuts_pair x offset)) (le-leb offset (length x) (omega arith))
     ∙ ap (λ u. not (ltb 0 offset && is_high_surrogate (get_or x (offset - 1) 0) && is_low_surrogate u)) past
     ∙ none_cut (ltb 0 offset) (is_high_surrogate (get_or x (offset - 1) 0))
 
--- a place where no pair is cut
-pub place_inside : (x : List ℕ) (offset : ℕ) → offset ≤ length x → cuts_pair x offset ≡ false → is_place x offset ≡ true
-place_inside x offset within whole = ap (λ b. b && not (cuts_pair x offset)) (le-leb offset (length x) within) ∙ ap not whole
+-- the end of the text is a place
+pub place_at_end : (kind : Kind) (x : List ℕ) (offset : ℕ) → offset ≡ length x → is_place_in kind x offset ≡ true
+place_at_end Mixed x offset at_end = end_of_any x offset at_end
+place_at_end Lf x offset at_end = end_of_any x offset at_end
+place_at_end Crlf x offset at_end =
+    let past : get_or x offset 0 ≡ 0 = get_or_past x offset 0 (omega arith) in
+    let before : ℕ = get_or x (offset - 1) 0 in
+    ap (λ b. b && not (cuts_in Crlf x offset)) (le-leb offset (length x) (omega arith))
+    ∙ ap (λ u. not (ltb 0 offset && before == carriage_return && u == line_feed || ltb 0 offset && is_high_surrogate before && is_low_surrogate u)) past
+    ∙ neither_cut (ltb 0 offset && before == carriage_return) (ltb 0 offset && is_high_surrogate before)
+
+-- a place where nothing is cut
+pub place_inside : (kind : Kind) (x : List ℕ) (offset : ℕ) → offset ≤ length x → cuts_in kind x offset ≡ false → is_place_in kind x offset ≡ true
+place_inside kind x offset within whole = ap (λ b. b && not (cuts_in kind x offset)) (le-leb offset (length x) within) ∙ ap not whole
 
 -- nothing past the end is a place
-pub past_end : (x : List ℕ) (offset : ℕ) → length x < offset → is_place x offset ≡ false
-past_end x offset past = ap (λ b. b && not (cuts_pair x offset)) (lt-leb offset (length x) past)
+pub past_end : (kind : Kind) (x : List ℕ) (offset : ℕ) → length x < offset → is_place_in kind x offset ≡ false
+past_end kind x offset past = ap (λ b. b && not (cuts_in kind x offset)) (lt-leb offset (length x) past)
 
--- nor is a place where a pair is cut
-pub place_cut : (x : List ℕ) (offset : ℕ) → offset ≤ length x → cuts_pair x offset ≡ true → is_place x offset ≡ false
-place_cut x offset within cut = ap (λ b. b && not (cuts_pair x offset)) (le-leb offset (length x) within) ∙ ap not cut
+-- nor is a place where a pair or a line ending is cut
+pub place_cut : (kind : Kind) (x : List ℕ) (offset : ℕ) → offset ≤ length x → cuts_in kind x offset ≡ true → is_place_in kind x offset ≡ false
+place_cut kind x offset within cut = ap (λ b. b && not (cuts_in kind x offset)) (le-leb offset (length x) within) ∙ ap not cut
 
--- where no pair is cut before the end, or at it, is a place
-pub place_if_whole : (x : List ℕ) (offset : ℕ) → offset ≤ length x → not (cuts_pair x offset) ≡ is_place x offset
-place_if_whole x offset within = sym (ap (λ b. b && not (cuts_pair x offset)) (le-leb offset (length x) within))
+-- where nothing is cut before the end, or at it, is a place
+pub place_if_whole : (kind : Kind) (x : List ℕ) (offset : ℕ) → offset ≤ length x → not (cuts_in kind x offset) ≡ is_place_in kind x offset
+place_if_whole kind x offset within = sym (ap (λ b. b && not (cuts_in kind x offset)) (le-leb offset (length x) within))
 
 -- from the end on only the end is one
-pub place_from_end : (x : List ℕ) (n offset : ℕ) → n ≡ length x → n ≤ offset → (offset == n) ≡ is_place x offset
-place_from_end x n offset e past = grind (arith, nat_tests, place_at_end, past_end)
+pub place_from_end : (kind : Kind) (x : List ℕ) (n offset : ℕ) → n ≡ length x → n ≤ offset → (offset == n) ≡ is_place_in kind x offset
+place_from_end kind x n offset e past = grind (arith, nat_tests, place_at_end, past_end)
 
 -- what is answered only at a place
 pub some_at_place : (place : Bool) (n m : ℕ) → Some m ≡ (if place then Some n else None) → (place ≡ true) × (m ≡ n)

@@ -9,7 +9,7 @@ use Rattle.piece_tree.specs.Pieces.{Pieces, pieces_of, StandsAt}
 use Rattle.text_rules.specs.Lines.{line_feed, carriage_return, begins_with}
 use Rattle.text_rules.specs.Breaks.{ends_with, joins_pair, count_to, break_ends}
 use Rattle.text_rules.proofs.Breaks.{and_false, break_ends-append, count_to_all, count_to_none, count_to-append}
-use Rattle.text_buffer.specs.Text.{one_if, text_of, IsText}
+use Rattle.text_buffer.specs.Text.{one_if, units_from, IsText}
 use Rattle.text_buffer.proofs.Replacing.{ends_with_split, ends_with_some}
 use Rattle.text_buffer.proofs.Spelling.{length-spelled}
 use Rattle.text_buffer.proofs.Found.{found_reach}
@@ -58,7 +58,7 @@ count_before x place true feed within a f =
 
 -- a place that was looked up is one of the text
 pub spot_within : (tree : Pieces) (chunks : Shown) (at : Option Found) (offset : ℕ) → IsText tree chunks → StandsAt tree.entries at offset
-    → offset ≤ length (text_of tree chunks).units
+    → offset ≤ length (units_from tree chunks)
 spot_within tree chunks None offset is here = omega (arith, here, length-spelled chunks.buffers (pieces_of tree.entries) is.pieces)
 spot_within tree chunks (Some found) offset is here =
     omega (arith, here.end, found_reach chunks.buffers tree.entries found here.piece is.pieces)

@@ -9,15 +9,15 @@ use Rattle.text_rules.specs.Breaks.{ends_with, joins_pair}
 use Rattle.text_buffer.specs.declared.edit.Spot.{Spot}
 use Rattle.text_buffer.specs.declared.edit.Ends.{Ends}
 use Rattle.text_buffer.specs.declared.edit.Joins.{Joins}
-use Rattle.text_buffer.specs.Text.{text_of, one_if}
+use Rattle.text_buffer.specs.Text.{units_from, one_if}
 
 -- what the place says of the text is so
 pub record IsSpot (tree : Pieces) (chunks : Shown) (spot : Spot) : Type 0 where
   pub found : StandsAt tree.entries spot.found spot.offset
-  pub after_return : spot.after_return ≡ ends_with carriage_return (take spot.offset (text_of tree chunks).units)
-  pub before_feed : spot.before_feed ≡ begins_with line_feed (drop spot.offset (text_of tree chunks).units)
+  pub after_return : spot.after_return ≡ ends_with carriage_return (take spot.offset (units_from tree chunks))
+  pub before_feed : spot.before_feed ≡ begins_with line_feed (drop spot.offset (units_from tree chunks))
   -- what is counted in the text fits
-  pub small : length (text_of tree chunks).units < 2 ^ 62
+  pub small : length (units_from tree chunks) < 2 ^ 62
 
 pub record AreEnds (tree : Pieces) (chunks : Shown) (ends : Ends) : Type 0 where
   pub start : IsSpot tree chunks ends.start

@@ -5,7 +5,7 @@ use Rattle.piece_tree.specs.declared.piece.Piece.{Piece}
 use Rattle.piece_tree.specs.Pieces.{Pieces, Entry, pieces_of, first_of}
 use Rattle.text_rules.specs.Lines.{lines_of, line_start}
 use Rattle.text_buffer.specs.declared.cursor.Cursor.{Cursor}
-use Rattle.text_buffer.specs.Text.{text_of, spelled}
+use Rattle.text_buffer.specs.Text.{units_from, spelled}
 
 -- the place is in the piece of that name, whose units it has from itself on
 pub record IsPlace (buffers : List (List ℕ)) (entries : List Entry) (place : Cursor) : Type 0 where
@@ -30,7 +30,7 @@ text_from buffers entries place is = units_at buffers place.rest ++ spelled buff
 -- the text goes on from the place as it does from the offset
 pub record IsAt (tree : Pieces) (chunks : Shown) (offset : ℕ) (place : Cursor) : Type 0 where
   pub is : IsPlace chunks.buffers tree.entries place
-  pub text : text_from chunks.buffers tree.entries place is ≡ drop offset (text_of tree chunks).units
+  pub text : text_from chunks.buffers tree.entries place is ≡ drop offset (units_from tree chunks)
 
 -- and its piece goes on there
 pub record HasRun (tree : Pieces) (chunks : Shown) (offset : ℕ) (place : Cursor) : Type 0 where
@@ -40,10 +40,10 @@ pub record HasRun (tree : Pieces) (chunks : Shown) (offset : ℕ) (place : Curso
 -- the line of this number, counted from 1, starts at the place
 pub record StartsAt (tree : Pieces) (chunks : Shown) (n : ℕ) (place : Cursor) : Type 0 where
   pub first : 0 < n
-  pub there : n ≤ length (lines_of (text_of tree chunks).units)
-  pub at : IsAt tree chunks (line_start (text_of tree chunks).units n) place
+  pub there : n ≤ length (lines_of (units_from tree chunks))
+  pub at : IsAt tree chunks (line_start (units_from tree chunks) n) place
 
 -- where the line after that one starts: nowhere, where that one is the last
 abbrev pub NextStartsAt : Pieces → Shown → ℕ → Option Cursor → Type 0
-NextStartsAt tree chunks n None = n ≡ length (lines_of (text_of tree chunks).units)
+NextStartsAt tree chunks n None = n ≡ length (lines_of (units_from tree chunks))
 NextStartsAt tree chunks n (Some place) = StartsAt tree chunks (n + 1) place

@@ -7,6 +7,8 @@ use Rattle.piece_tree.specs.declared.piece.Piece.{Piece}
 use Rattle.piece_tree.specs.Pieces.{Pieces, pieces_of, unit_count, IsPieceOf, IsFound}
 use Rattle.text_buffer.specs.declared.beside.TheConstants.{MOST_ALONG}
 use Rattle.piece_tree.specs.declared.piece.Found.{Found}
+use Rattle.unit_text.specs.declared.kind.Kind.{Kind}
+use Rattle.unit_text.specs.Kinds.{IsOfKind}
 use Rattle.text_rules.specs.Lines.{line_feed, carriage_return}
 use Rattle.text_rules.specs.Breaks.{joins_pair}
 use Rattle.text_buffer.specs.Room.{Room}
@@ -18,6 +20,8 @@ most_along = MOST_ALONG
 -- what contracts see of a text buffer
 pub record Text : Type 0 where
   pub units : List ℕ
+  -- the kind of its line endings
+  pub kind : Kind
   -- the spans of the buffers that spell the units, one for each piece
   pub spans : List ChunkSpan
   pub buffers : List (List ℕ)
@@ -46,13 +50,23 @@ pub record IsTextWith (tree : Pieces) (chunks : Shown) (remembered : List Found)
   pub text : IsText tree chunks
   pub found : All (IsFound tree.entries) remembered
 
-abbrev pub text_of : Pieces → Shown → Text
-text_of tree chunks = record {
-  units = spelled chunks.buffers (pieces_of tree.entries);
+-- the units that pieces spell
+abbrev pub units_from : Pieces → Shown → List ℕ
+units_from tree chunks = spelled chunks.buffers (pieces_of tree.entries)
+
+abbrev pub text_of : Kind → Pieces → Shown → Text
+text_of kind tree chunks = record {
+  units = units_from tree chunks;
+  kind = kind;
   spans = map (λ p. p.span) (pieces_of tree.entries);
   buffers = chunks.buffers;
   room = record { edits = tree.spare; units = chunks.spare; breaks = chunks.spare_breaks };
 }
+
+-- and all line endings of the text are those of the kind
+pub record IsTextOf (kind : Kind) (tree : Pieces) (chunks : Shown) (remembered : List Found) : Type 0 where
+  pub seen : IsTextWith tree chunks remembered
+  pub endings : IsOfKind kind (units_from tree chunks)
 
 -- at that offset of the text one of its spans ends, where the last buffer ends: what is appended next goes on from that span
 pub record GrowsAt (text : Text) (offset : ℕ) : Type 0 where

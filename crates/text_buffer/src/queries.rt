@@ -6,7 +6,7 @@ ghost use Rattle.chunk_buffers.specs.Chunks.{units_at, LiesIn};
 ghost use Rattle.piece_tree.specs.Costs.{WithinLookUps};
 ghost use Rattle.piece_tree.specs.Pieces.{IsFound};
 ghost use Rattle.steps.specs.Counting.{IsFor};
-ghost use Rattle.unit_text.specs.Units.{is_place};
+ghost use Rattle.unit_text.specs.Kinds.{IsOfKind, is_place_in};
 ghost use Rattle.text_rules.specs.Lines.{Line, lines_of, line_start};
 ghost use Rattle.text_rules.specs.Positions.{position_of, is_position, offset_of};
 ghost use Rattle.text_buffer.specs.Text.{ends_with_pair};
@@ -22,6 +22,7 @@ use std::marker::Brand;
 use std::sync::ledger::{Blank, Ledger};
 use steps::Steps;
 use text_lengths::{Position, Span};
+use unit_text::Kind;
 
 /// A place of the text, with a piece that was looked up there, if any: the next look-up beside it asks that piece first.
 #[derive(Drop)]
@@ -34,15 +35,18 @@ impl View<'_> {
     /// The position of the offset; None where the offset is no place of the text.
     pub(crate) fn position_at<L: Ledger>(
         &self,
+        kind: Kind,
         offset: u64,
         steps: &mut Steps<L>,
     ) -> Option<Position>
         requires view { IsView self.now }
+        requires kind { IsOfKind kind (units_in self.now) }
         ensures position { let units = units_in self.now in
-            result ≡ (if is_place units offset then Some (position_of units offset) else None) }
+            result ≡ (if is_place_in kind units offset
+            then Some (position_of units offset) else None) }
         ensures cost { WithinLookUps 3 (length (entries_in self.now)) (steps.new - steps.old) }
     {
-        let Some(at) = self.place_at(&None, offset, steps) else {
+        let Some(at) = self.place_at(kind, &None, offset, steps) else {
             return None;
         };
         let breaks = self.breaks_before(&at.found, offset);
@@ -80,7 +84,7 @@ impl View<'_> {
         }
         let offset = start.offset + (position.column - 1);
         let near = nearer(&start.found, &end.found, offset);
-        let Some(at) = self.place_at(&near, offset, steps) else {
+        let Some(at) = self.place_at(Kind::Mixed, &near, offset, steps) else {
             return None;
         };
         Some(at.offset)
@@ -90,14 +94,16 @@ impl View<'_> {
     // of the text.
     fn place_at<L: Ledger>(
         &self,
+        kind: Kind,
         near: &Option<Found>,
         offset: u64,
         steps: &mut Steps<L>,
     ) -> Option<Place>
         requires view { IsView self.now }
         requires near { IfSome near.now (IsFound (entries_in self.now)) }
+        requires kind { IsOfKind kind (units_in self.now) }
         ensures place { MatchOption result
-            (is_place (units_in self.now) offset ≡ false) (IsPlaceAt self.now offset) }
+            (is_place_in kind (units_in self.now) offset ≡ false) (IsPlaceAt kind self.now offset) }
         ensures cost { WithinLookUps 2 (length (entries_in self.now)) (steps.new - steps.old) }
     {
         if offset > self.len() {
@@ -110,7 +116,7 @@ impl View<'_> {
             });
         }
         let found = self.piece_with(near, Sought::Offset(offset), steps);
-        if self.cuts_pair_beside(near, &found, offset, steps) {
+        if self.cuts_beside(kind, near, &found, offset, steps) {
             return None;
         }
         Some(Place {
@@ -178,13 +184,20 @@ impl View<'_> {
     }
 
     /// `position_at`, with steps that nobody counts.
-    pub(crate) fn position_for<L: Ledger>(&self, offset: u64, blank: Blank) -> Option<Position>
+    pub(crate) fn position_for<L: Ledger>(
+        &self,
+        kind: Kind,
+        offset: u64,
+        blank: Blank,
+    ) -> Option<Position>
         requires view { IsView self.now }
+        requires kind { IsOfKind kind (units_in self.now) }
         requires blank { IsFor L.Ledger blank }
         ensures { let units = units_in self.now in
-            result ≡ (if is_place units offset then Some (position_of units offset) else None) }
+            result ≡ (if is_place_in kind units offset
+            then Some (position_of units offset) else None) }
     {
-        self.position_at(offset, &mut Steps::<L>::new(blank))
+        self.position_at(kind, offset, &mut Steps::<L>::new(blank))
     }
 
     /// `offset_at`, with steps that nobody counts.
@@ -219,19 +232,26 @@ impl View<'_> {
     }
 
     /// Whether the offsets are places, by steps that nobody counts. The second is looked for where the first was found.
-    pub(crate) fn has_places_for<L: Ledger>(&self, start: u64, end: u64, blank: Blank) -> bool
+    pub(crate) fn has_places_for<L: Ledger>(
+        &self,
+        kind: Kind,
+        start: u64,
+        end: u64,
+        blank: Blank,
+    ) -> bool
         requires view { IsView self.now }
+        requires kind { IsOfKind kind (units_in self.now) }
         requires ordered { start ≤ end }
         requires blank { IsFor L.Ledger blank }
         ensures { let units = units_in self.now in
-            result ≡ (is_place units start && is_place units end) }
+            result ≡ (is_place_in kind units start && is_place_in kind units end) }
     {
         let mut steps = Steps::<L>::new(blank);
         if start >= self.len() {
             return end == self.len();
         }
         let first = self.piece_at(&None, start);
-        if self.cuts_pair_beside(&None, &first, start, &mut steps) {
+        if self.cuts_beside(kind, &None, &first, start, &mut steps) {
             return false;
         }
         if end == start {
@@ -242,7 +262,7 @@ impl View<'_> {
         }
         let near = Some(first);
         let last = self.piece_at(&near, end);
-        !self.cuts_pair_beside(&near, &last, end, &mut steps)
+        !self.cuts_beside(kind, &near, &last, end, &mut steps)
     }
 }
 

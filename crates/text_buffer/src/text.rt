@@ -4,7 +4,8 @@ ghost use Rattle.std.specs.Prelude.{◌≡◌, ◌+◌, ◌-◌, ◌<◌, ◌≤
 ghost use Rattle.std.specs.List.{All, flat_map};
 ghost use Rattle.chunk_buffers.specs.Chunks.{units_at, unit_count, LiesIn, Extends};
 ghost use Rattle.piece_tree.specs.Costs.{WithinLookUps};
-ghost use Rattle.unit_text.specs.Units.{is_place};
+ghost use Rattle.unit_text.specs.declared.kind.Kind.TheVariants.{Mixed};
+ghost use Rattle.unit_text.specs.Kinds.{IsOfKind, is_place_in};
 ghost use Rattle.text_rules.specs.Positions.{position_of, is_position, offset_of};
 ghost use Rattle.text_rules.specs.Edits.{edited};
 ghost use Rattle.text_rules.specs.Dirty.{dirty_lines, replaced};
@@ -32,31 +33,33 @@ use std::sync::ledger::{Blank, Ledger};
 use steps::Steps;
 use text_lengths::{Dirty, Position, Span};
 use text_rules::Op;
-use unit_text::{CARRIAGE_RETURN, Flat, LINE_FEED};
+use unit_text::{CARRIAGE_RETURN, Flat, Kind, LINE_FEED};
 
 /// One text. Contracts see its units, and the spans that spell them.
 ///
-/// No CR LF lies across the border of two pieces, and no piece is empty.
+/// All its line endings are those of its kind. No CR LF lies across the border of two pieces, and no piece is empty.
 #[derive(Drop)]
 pub struct TextBuffer {
     pieces: PieceTree,
     chunks: Chunks,
     remembered: Remembered,
+    kind: Kind,
 }
 
 impl Model for TextBuffer {
-    ghost use Rattle.text_buffer.specs.Text.{Text, text_of, IsTextWith};
+    ghost use Rattle.text_buffer.specs.Text.{Text, text_of, IsTextOf};
 
     ghost Value = { Text };
 
-    ghost view = { λ t. text_of t.pieces t.chunks };
+    ghost view = { λ t. text_of t.kind t.pieces t.chunks };
 
-    ghost invariant = { λ t. IsTextWith t.pieces t.chunks t.remembered };
+    ghost invariant = { λ t. IsTextOf t.kind t.pieces t.chunks t.remembered };
 }
 
 impl TextBuffer {
     pub fn new(alloc: Global) -> TextBuffer
         ensures units { result.units ≡ [] }
+        ensures kind { result.kind ≡ Mixed }
         ensures spans { result.spans ≡ [] }
         ensures buffers { result.buffers ≡ [] }
     {
@@ -64,16 +67,22 @@ impl TextBuffer {
             pieces: PieceTree::new(alloc),
             chunks: Chunks::new(alloc),
             remembered: Remembered::new(alloc),
+            kind: Kind::Mixed,
         }
     }
 
-    /// A buffer of this text. It fails where memory is short, and for a text of 2^32 units or more.
-    pub fn of_units(alloc: Global, units: &[u16]) -> Result<TextBuffer, AllocError>
+    /// A buffer of this text, which is of the kind. It fails where memory is short, and for a text of 2^32 units or more.
+    pub fn of_units(alloc: Global, units: &[u16], kind: Kind) -> Result<TextBuffer, AllocError>
+        requires { IsOfKind kind units.now }
         ensures units { IfOk result (λ text. text.units ≡ units.now) }
+        ensures kind { IfOk result (λ text. text.kind ≡ kind) }
         ensures spans { IfOk result (λ text. length text.spans ≤ 1) }
     {
         if units.is_empty() {
-            return Ok(TextBuffer::new(alloc));
+            return Ok(TextBuffer {
+                kind,
+                ..TextBuffer::new(alloc)
+            });
         }
         let mut pieces = PieceTree::new(alloc);
         let mut chunks = Chunks::new(alloc);
@@ -84,6 +93,7 @@ impl TextBuffer {
             pieces,
             chunks,
             remembered: Remembered::new(alloc),
+            kind,
         })
     }
 
@@ -93,6 +103,7 @@ impl TextBuffer {
         ensures room { OnOk result (IsEnough self.new.room need) }
         ensures kept { KeepsRoom self.old.room self.new.room }
         ensures same { self.new.units ≡ self.old.units }
+        ensures kind { self.new.kind ≡ self.old.kind }
         ensures spans { self.new.spans ≡ self.old.spans }
         ensures grown { Extends self.old.buffers self.new.buffers }
         ensures appended { unit_count self.new.buffers ≡ unit_count self.old.buffers }
@@ -164,6 +175,9 @@ impl TextBuffer {
         requires room { IsEnough self.old.room (need_of_edit text.now) }
         requires small { length (edited self.old.units
             (record { span = span; text = text.now; force = false })) < 2 ^ 62 }
+        requires kind { IsOfKind self.old.kind (edited self.old.units
+            (record { span = span; text = text.now; force = false })) }
+        ensures kind { self.new.kind ≡ self.old.kind }
         ensures units { self.new.units
             ≡ edited self.old.units (record { span = span; text = text.now; force = false }) }
         ensures pieces { length self.new.spans ≤ length self.old.spans + 2 }
@@ -199,6 +213,9 @@ impl TextBuffer {
         requires room { IsEnough self.old.room (need_of_edit text.now) }
         requires small { length (edited self.old.units
             (record { span = span; text = text.now; force = false })) < 2 ^ 62 }
+        requires kind { IsOfKind self.old.kind (edited self.old.units
+            (record { span = span; text = text.now; force = false })) }
+        ensures kind { self.new.kind ≡ self.old.kind }
         ensures units { self.new.units
             ≡ edited self.old.units (record { span = span; text = text.now; force = false }) }
         ensures pieces { length self.new.spans ≤ length self.old.spans + 2 }
@@ -257,11 +274,11 @@ impl TextBuffer {
 
     /// The position of the offset; None where the offset is no place of the text. Each node that is visited is a step.
     pub fn position_at<L: Ledger>(&self, offset: u64, steps: &mut Steps<L>) -> Option<Position>
-        ensures position { result ≡ (if is_place self.now.units offset
+        ensures position { result ≡ (if is_place_in self.now.kind self.now.units offset
             then Some (position_of self.now.units offset) else None) }
         ensures cost { WithinLookUps 3 (length self.now.spans) (steps.new - steps.old) }
     {
-        self.view().position_at(offset, steps)
+        self.view().position_at(self.kind, offset, steps)
     }
 
     /// The offset of the position; None where it is no position of the text. Each node that is visited is a step.
@@ -275,10 +292,11 @@ impl TextBuffer {
 
     /// `position_at`, with steps that nobody counts.
     pub fn position(&self, offset: u64) -> Option<Position>
-        ensures { result ≡ (if is_place self.now.units offset
+        ensures { result ≡ (if is_place_in self.now.kind self.now.units offset
             then Some (position_of self.now.units offset) else None) }
     {
-        self.view().position_for::<Brand>(offset, Blank::new(1))
+        self.view()
+            .position_for::<Brand>(self.kind, offset, Blank::new(1))
     }
 
     /// `offset_at`, with steps that nobody counts.
@@ -348,7 +366,7 @@ impl TextBuffer {
     }
 
     fn view(&self) -> View<'_>
-        ensures text { text_of result.pieces.now result.chunks.now ≡ self.now }
+        ensures text { text_of self.now.kind result.pieces.now result.chunks.now ≡ self.now }
         ensures view { IsView result }
     {
         View {
@@ -362,6 +380,12 @@ impl TextBuffer {
 impl Flat for TextBuffer {
     ghost units = { λ text. text.units };
 
+    ghost kind = { λ text. text.kind };
+
+    fn kind(&self) -> Kind {
+        self.kind
+    }
+
     fn len(&self) -> u64 {
         TextBuffer::len(self)
     }
@@ -372,7 +396,7 @@ impl Flat for TextBuffer {
 
     fn are_places(&self, start: u64, end: u64) -> bool {
         self.view()
-            .has_places_for::<Brand>(start, end, Blank::new(1))
+            .has_places_for::<Brand>(self.kind, start, end, Blank::new(1))
     }
 
     fn run(&self, at: u64) -> &[u16] {

@@ -5,6 +5,7 @@ ghost use Rattle.std.specs.Char.Utf16.{is_low_surrogate};
 ghost use Rattle.chunk_buffers.specs.Chunks.{units_at, part_of, LiesIn};
 ghost use Rattle.piece_tree.specs.Pieces.{pieces_of, unit_count, break_count_of, IsFound, HasUnit};
 ghost use Rattle.piece_tree.specs.Costs.{WithinLookUps};
+ghost use Rattle.unit_text.specs.Kinds.{IsOfKind, cuts_in};
 ghost use Rattle.unit_text.specs.Units.{cuts_pair};
 ghost use Rattle.text_rules.specs.Lines.{lines_of, line_start};
 ghost use Rattle.text_rules.specs.Breaks.{count_to, break_ends};
@@ -17,7 +18,7 @@ use chunk_buffers::{ChunkSpan, Chunks};
 use piece_tree::{Found, PieceTree};
 use std::sync::ledger::Ledger;
 use steps::Steps;
-use unit_text::cuts_pair;
+use unit_text::{Kind, LINE_FEED, cuts_pair};
 
 /// A text to read: its pieces, the buffers in which they lie, and the pieces that are remembered.
 #[derive(Clone, Copy)]
@@ -175,6 +176,29 @@ impl View<'_> {
         let holder = self.piece_with(&nearest, Sought::Offset(offset - 1), steps);
         let before = self.unit_in(&holder, offset - 1);
         cuts_pair(&[before, unit], 1)
+    }
+
+    /// Whether the offset, whose unit the piece has, stands inside a pair of surrogates or, in a text of kind CR LF, inside a line
+    /// ending. A search is made for the first alone.
+    pub(crate) fn cuts_beside<L: Ledger>(
+        &self,
+        kind: Kind,
+        near: &Option<Found>,
+        found: &Found,
+        offset: u64,
+        steps: &mut Steps<L>,
+    ) -> bool
+        requires view { IsView self.now }
+        requires kind { IsOfKind kind (units_in self.now) }
+        requires near { IfSome near.now (IsFound (entries_in self.now)) }
+        requires unit { HasUnit (entries_in self.now) found.now offset }
+        ensures cuts { result ≡ cuts_in kind (units_in self.now) offset }
+        ensures cost { WithinLookUps 1 (length (entries_in self.now)) (steps.new - steps.old) }
+    {
+        if kind == Kind::Crlf && self.unit_in(found, offset) == LINE_FEED {
+            return true;
+        }
+        self.cuts_pair_beside(near, found, offset, steps)
     }
 
     /// The piece that has the `n`-th break, and how many of its units stand up to the end of that break: the piece at hand, one that is

@@ -1,6 +1,6 @@
 -- The places at which the breaks of a text end, and its lines by them.
 use Rattle.std.proofs.Common.{◌≡◌, ℕ, zero, suc, ◌+◌, ◌-◌, ◌<◌, ◌≤◌, ◌==◌, leb, Bool, cond, true, false, ◌&&◌, ◌||◌, if◌then◌else◌, List, [], ◌∷◌, ◌++◌, length, take, drop, get_or, map, sum_by, refl, ap, sym, ◌∙◌, add_assoc, zero-add, add-zero, inl, inr, arith}
-use Rattle.std.specs.List.{range_with_len, prefix_len}
+use Rattle.std.specs.List.{range_with_len}
 use Rattle.std.specs.List.Sorted.{IsNonDecreasingBy}
 use Rattle.std.proofs.lemmas.Bool.{lt-leb, le-leb, cases_lt}
 use Rattle.std.proofs.lemmas.List.{same_lists, get_or_default, length-take-le, get_or-take, get_or-drop}

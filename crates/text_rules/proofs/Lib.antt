@@ -3,3 +3,4 @@ pub mod Breaks
 pub mod Places
 pub mod TextLengths
 pub mod DirtyLines
+pub mod KindLines

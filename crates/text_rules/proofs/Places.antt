@@ -1,8 +1,7 @@
 -- Positions by the places at which breaks end.
-use Rattle.std.proofs.Common.{◌≡◌, ℕ, zero, suc, ◌+◌, ◌-◌, ◌<◌, ◌≤◌, leb, ltb, Bool, true, false, cond, List, [], ◌∷◌, length, get_or, refl, ap, sym, ◌∙◌, inl, inr, zero-add, arith}
+use Rattle.std.proofs.Common.{◌≡◌, ℕ, zero, suc, ◌+◌, ◌-◌, ◌<◌, ◌≤◌, leb, true, false, cond, List, [], ◌∷◌, length, get_or, refl, ap, sym, ◌∙◌, inl, inr, zero-add, arith}
 use Rattle.std.proofs.lemmas.Bool.{lt-ltb, le-ltb, lt-leb, le-leb, cases_lt}
 use Rattle.std.proofs.lemmas.List.Sums.{prefix_len-le-length}
-use Rattle.text_lengths.specs.declared.Position.{Position}
 use Rattle.text_rules.specs.Lines.{Line, lines_of, line_length, line_start}
 use Rattle.text_rules.specs.Positions.{position_in, position_of, one_line_down}
 use Rattle.text_rules.specs.Breaks.{break_ends, ends_break, count_to}

@@ -1,12 +1,13 @@
 -- Edits of a text.
 use Rattle.std.specs.Prelude.{ℕ, List, ◌++◌, take, drop, Bool, not, ◌&&◌, ◌||◌, nat_lt}
 use Rattle.text_lengths.specs.declared.Span.{Span}
-use Rattle.unit_text.specs.Units.{is_place}
+use Rattle.unit_text.specs.declared.kind.Kind.{Kind}
+use Rattle.unit_text.specs.Kinds.{is_place_in}
 use Rattle.text_rules.specs.declared.Op.{Op}
 
--- the span's start is above its end, or one of the two is no place of the text
-abbrev pub is_bad_span : List ℕ → Span → Bool
-is_bad_span x span = nat_lt span.end span.start || not (is_place x span.start && is_place x span.end)
+-- in a text of the kind: the span's start is above its end, or one of the two is no place of the text
+abbrev pub is_bad_span : Kind → List ℕ → Span → Bool
+is_bad_span kind x span = nat_lt span.end span.start || not (is_place_in kind x span.start && is_place_in kind x span.end)
 
 -- the text in which the op's text has taken the place of its span
 abbrev pub edited : List ℕ → Op → List ℕ

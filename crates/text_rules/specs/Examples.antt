@@ -5,6 +5,7 @@ use Rattle.text_lengths.specs.Length.{length_of, no_length, length_plus}
 use Rattle.text_rules.specs.Lines.{lines_of, line_at, line_start, text_length}
 use Rattle.text_rules.specs.Positions.{position_of, offset_of, is_position}
 use Rattle.text_rules.specs.Edits.{edited, is_bad_span}
+use Rattle.unit_text.specs.declared.kind.Kind.TheVariants.{Mixed, Crlf}
 use Rattle.text_rules.specs.Dirty.{dirty_lines}
 
 -- CR LF, CR and LF each end one line
@@ -49,8 +50,11 @@ lengths_of_cr_and_lf = refl
 over_a_break : edited (codes "ab\ncd") (record { span = record { start = 1; end = 4 }; text = codes "X"; force = false }) ≡ codes "aXd"
 over_a_break = refl
 
-inside_an_emoji : is_bad_span (0xD83D ∷ 0xDE00 ∷ []) (record { start = 1; end = 1 }) ≡ true
+inside_an_emoji : is_bad_span Mixed (0xD83D ∷ 0xDE00 ∷ []) (record { start = 1; end = 1 }) ≡ true
 inside_an_emoji = refl
+
+inside_an_ending : is_bad_span Crlf (codes "a\r\nb") (record { start = 2; end = 4 }) ≡ true
+inside_an_ending = refl
 
 -- a place inside CR LF has a position, which no position names back
 inside_a_break : position_of (codes "a\r\nb") 2 ≡ record { line = 1; column = 3 }

@@ -1,23 +1,13 @@
 -- Cutting a text into lines, as the text buffer of VS Code does: CR LF ends a line, and so does a lone CR or a lone LF.
-use Rattle.std.specs.Prelude.{ℕ, ◌+◌, ◌-◌, ◌==◌, Bool, false, ◌&&◌, ◌||◌, if◌then◌else◌, List, [], ◌∷◌, length, take, sum_by, Option, None, slice_get}
+use Rattle.std.specs.Prelude.{ℕ, ◌+◌, ◌-◌, ◌==◌, ◌&&◌, ◌||◌, if◌then◌else◌, List, [], ◌∷◌, length, take, sum_by, Option, None, slice_get}
 use Rattle.text_lengths.specs.declared.Length.{Length}
 use Rattle.text_lengths.specs.Length.{length_of}
-use Rattle.unit_text.specs.declared.TheConstants.{LINE_FEED, CARRIAGE_RETURN}
+pub use Rattle.unit_text.specs.Endings.{line_feed, carriage_return, begins_with}
 
 pub record Line : Type 0 where
   pub content : List ℕ
   -- CR LF, CR or LF, and nothing in the last line
   pub break : List ℕ
-
-abbrev pub line_feed : ℕ
-line_feed = LINE_FEED
-
-abbrev pub carriage_return : ℕ
-carriage_return = CARRIAGE_RETURN
-
-abbrev pub begins_with : ℕ → List ℕ → Bool
-begins_with unit [] = false
-begins_with unit (u ∷ x) = u == unit
 
 -- the unit joins the content of the first line
 abbrev pub in_first_line : ℕ → List Line → List Line

@@ -22,7 +22,7 @@ pub struct Op {
 
 /// Whether the span's start is above its end, or one of the two is no place of the text.
 pub fn is_bad_span<F: Flat>(text: &F, span: Span) -> bool
-    ensures { result ≡ is_bad_span (F.units text.now) span }
+    ensures { result ≡ is_bad_span (F.kind text.now) (F.units text.now) span }
 {
     span.start > span.end || !text.are_places(span.start, span.end)
 }

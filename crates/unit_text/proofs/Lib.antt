@@ -1,2 +1,4 @@
 pub mod Chars
 pub mod Paired
+pub mod WithEndings
+pub mod KindLaws

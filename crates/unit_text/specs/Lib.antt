@@ -1,3 +1,5 @@
 pub mod Units
 pub mod Text
+pub mod Endings
+pub mod Kinds
 mod Examples

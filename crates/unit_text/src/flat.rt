@@ -1,8 +1,11 @@
 //! A text that is read without a copy.
 
 ghost use Rattle.std.specs.Prelude.{◌≡◌, ◌-◌, ◌<◌, ◌≤◌, ◌++◌, ◌&&◌, List, ℕ, length, drop, take, OnOk, OnErr};
-ghost use Rattle.unit_text.specs.Units.{is_place};
+ghost use Rattle.unit_text.specs.declared.kind.Kind.{Kind};
+ghost use Rattle.unit_text.specs.declared.kind.Kind.TheVariants.{Mixed};
+ghost use Rattle.unit_text.specs.Kinds.{is_place_in};
 
+use crate::kind::Kind;
 use crate::units::{Units, cuts_pair};
 use std::alloc::AllocError;
 
@@ -10,18 +13,26 @@ use std::alloc::AllocError;
 pub trait Flat {
     ghost units: { Self → List ℕ };
 
+    ghost kind: { Self → Kind };
+
     /// How many units the text has.
     fn len(&self) -> u64
         ensures { result ≡ length (units self.now) };
 
-    /// Whether the offset is at most the length, and does not stand inside a pair of surrogates.
+    /// The kind of its line endings.
+    fn kind(&self) -> Kind
+        ensures { result ≡ kind self.now };
+
+    /// Whether the offset is at most the length, and stands neither inside a pair of surrogates nor, in a text of kind CR LF,
+    /// inside such a line ending.
     fn is_place(&self, offset: u64) -> bool
-        ensures { result ≡ is_place (units self.now) offset };
+        ensures { result ≡ is_place_in (kind self.now) (units self.now) offset };
 
     /// Whether each of two offsets, the first of which is not above the second, is a place.
     fn are_places(&self, start: u64, end: u64) -> bool
         requires { start ≤ end }
-        ensures { result ≡ (is_place (units self.now) start && is_place (units self.now) end) };
+        ensures { result ≡ (is_place_in (kind self.now) (units self.now) start
+            && is_place_in (kind self.now) (units self.now) end) };
 
     /// Some of the units that stand from `at` on: at least one of them.
     fn run(&self, at: u64) -> &[u16]
@@ -40,6 +51,12 @@ pub trait Flat {
 
 impl Flat for Units {
     ghost units = { λ text. text };
+
+    ghost kind = { λ _. Mixed };
+
+    fn kind(&self) -> Kind {
+        Kind::Mixed
+    }
 
     fn len(&self) -> u64 {
         self.as_slice().len() as u64

@@ -2,11 +2,13 @@
 #![tactic(auto)]
 
 mod flat;
+mod kind;
 mod quote;
 mod units;
 mod utf8;
 
 pub use flat::Flat;
+pub use kind::{Kind, is_of_kind, norm_of};
 pub use quote::quoted;
 pub use units::{Units, cuts_pair};
 pub use utf8::{units_of, utf8_of};

@@ -1,9 +1,11 @@
 //! An owned list of units, and where a pair of surrogates would be cut.
 
-ghost use Rattle.std.specs.Prelude.{◌≡◌, ◌&&◌, IfOk, vec_len};
+ghost use Rattle.std.specs.Prelude.{◌≡◌, ◌&&◌, IfOk, IsOk, OnOk, OnErr, vec_len};
 ghost use Rattle.std.specs.Char.Utf16.{is_high_surrogate, is_low_surrogate};
+ghost use Rattle.unit_text.specs.Kinds.{normalized, IsOfKind};
 ghost use Rattle.unit_text.specs.Units.{cuts_pair};
 
+use crate::kind::{Kind, is_of_kind, norm_of};
 use std::alloc::{AllocError, Global};
 use std::marker::Model;
 
@@ -48,6 +50,21 @@ impl Units {
         ensures { result.now ≡ self.now }
     {
         self.items.as_slice()
+    }
+
+    /// Makes all line endings those of the kind. It takes memory only where there are others; an error leaves the text as it was.
+    pub fn normalize(&mut self, kind: Kind) -> Result<(), AllocError>
+        ensures ok { OnOk result (self.new ≡ normalized kind self.old) }
+        ensures sure { IsOfKind kind self.old → IsOk result }
+        ensures err { OnErr result (self.new ≡ self.old) }
+    {
+        if is_of_kind(self.as_slice(), kind) {
+            return Ok(());
+        }
+        let mut items = Vec::new(*self.items.allocator());
+        norm_of(self.as_slice(), kind, &mut items)?;
+        self.items = items;
+        Ok(())
     }
 }
 

@@ -1,12 +1,13 @@
 //! A batch on the longest text, which lies in no memory.
 ghost use Rattle.std.specs.Prelude.{List, ℕ, replicate};
+ghost use Rattle.unit_text.specs.declared.kind.Kind.TheVariants.{Mixed};
 
 use batch_rules::BatchError;
 use edit_batches::{Batch, MOST_TEXT_UNITS, Op};
 use std::alloc::{AllocError, Global};
 use std::test::Fail;
 use text_lengths::Span;
-use unit_text::{Flat, Units};
+use unit_text::{Flat, Kind, Units};
 
 const LETTER: u16 = 0x61;
 
@@ -20,6 +21,12 @@ struct Letters {
 
 impl Flat for Letters {
     ghost units = { λ text. replicate text.count 0x61 };
+
+    ghost kind = { λ _. Mixed };
+
+    fn kind(&self) -> Kind {
+        Kind::Mixed
+    }
 
     fn len(&self) -> u64 {
         self.count

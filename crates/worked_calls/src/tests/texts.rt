@@ -5,6 +5,7 @@ use std::alloc::{AllocError, Global};
 use std::test::Fail;
 use text_buffer::{Need, TextBuffer};
 use text_lengths::{Dirty, Position, Span};
+use unit_text::Kind;
 
 const A: u16 = 0x61;
 
@@ -21,7 +22,7 @@ fn spans_of_an_edited_text(rt: HostRuntime) -> Result<(), Fail> {
 }
 
 fn units_without_x(alloc: Global) -> Result<Vec<u16>, AllocError> {
-    let mut text = TextBuffer::of_units(alloc, &[A, 13, X, 10, B])?;
+    let mut text = TextBuffer::of_units(alloc, &[A, 13, X, 10, B], Kind::Mixed)?;
     text.reserve(Need {
         edits: 1,
         units: 0,
@@ -44,7 +45,7 @@ fn units_by_spans(alloc: Global, text: &TextBuffer) -> Result<Vec<u16>, AllocErr
 /// An LF comes behind a CR that was a break alone.
 #[test]
 fn lines_that_an_edit_touches(rt: HostRuntime) -> Result<(), Fail> {
-    let text = TextBuffer::of_units(rt.alloc(), &[A, 13, B])?;
+    let text = TextBuffer::of_units(rt.alloc(), &[A, 13, B], Kind::Mixed)?;
     let dirty = text.dirty_lines(Span { start: 2, end: 2 }, &[10]);
     let touched = Dirty {
         first: 1,
@@ -70,7 +71,7 @@ fn text_with_just_the_room_for_its_breaks(rt: HostRuntime) -> Result<(), Fail> {
 /// More room than units that are left, and less.
 #[test]
 fn units_read_into_a_buffer(rt: HostRuntime) -> Result<(), Fail> {
-    let text = TextBuffer::of_units(rt.alloc(), &[A, B, X])?;
+    let text = TextBuffer::of_units(rt.alloc(), &[A, B, X], Kind::Mixed)?;
     let mut out = [0; 4];
     assert_eq!(rt; text.read_into(1, &mut out), 2);
     assert_eq!(rt; out.as_slice(), [B, X, 0, 0].as_slice());
@@ -82,7 +83,7 @@ fn units_read_into_a_buffer(rt: HostRuntime) -> Result<(), Fail> {
 /// The last position first, and one past the content of its line.
 #[test]
 fn positions_located(rt: HostRuntime) -> Result<(), Fail> {
-    let mut text = TextBuffer::of_units(rt.alloc(), &[A, 13, 10, B, X])?;
+    let mut text = TextBuffer::of_units(rt.alloc(), &[A, 13, 10, B, X], Kind::Mixed)?;
     assert_eq!(rt; text.locate(Position { line: 2, column: 3 }), Some(5));
     assert_eq!(rt; text.locate(Position { line: 1, column: 2 }), Some(1));
     assert_eq!(rt; text.locate(Position { line: 1, column: 3 }), None);

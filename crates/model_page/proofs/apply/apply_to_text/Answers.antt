@@ -1,4 +1,5 @@
-use Rattle.std.proofs.Common.{◌≡◌, subst, arith}
+use Rattle.std.proofs.Common.{◌≡◌, refl, subst, ◌∙◌, arith}
+use Rattle.unit_text.specs.declared.kind.Kind.TheVariants.{Mixed}
 use Rattle.text_rules.specs.Edits.{edited}
 use Rattle.text_buffer.specs.Room.{HasSpent, need_of_edit}
 use Rattle.model_page.proofs.Texts.{text_before, text_after, text_turn, room_now}
@@ -28,6 +29,11 @@ replace-requires-clause-small c =
     let turn = turn_now (goal.at.replace-requires-clause-small c).After-index-ops-ops in
     rw c.as_slice.ensures (omega (arith, turn.few, c.requires.small))
 
+pub replace-requires-clause-kind : goal.replace-requires-clause-kind
+replace-requires-clause-kind c =
+    let mixed : c.loop-done.text.kind ≡ Mixed = c.loop-done.invariant.kind ∙ c.requires.mixed in
+    rw mixed refl
+
 pub loop-done-preserved : goal.loop-done-preserved
 loop-done-preserved c =
     let turn = turn_now (goal.at.loop-done-preserved c).After-index-ops-ops in
@@ -36,9 +42,9 @@ loop-done-preserved c =
     let spent : HasSpent (need_of_edit op.text) c.loop-done.text.room c.replace.new.self.room =
     subst (λ t. HasSpent (need_of_edit t) c.loop-done.text.room c.replace.new.self.room) c.as_slice.ensures c.replace.ensures.spent in
     text_turn c.args.text.now c.args.ops.now c.loop-done.text c.loop-done.done op c.loop-done.invariant turn c.replace.new.self
-    units c.replace.ensures.pieces c.replace.ensures.grown spent
+    units c.replace.ensures.kind c.replace.ensures.pieces c.replace.ensures.grown spent
 
 pub returns : goal.returns
 returns c =
     let after = text_after c.args.text.now c.args.ops.now c.loop-done.text c.loop-done.done c.requires.standing (omega arith) (omega arith) c.loop-done.invariant in
-    record { units = after.0; grown = after.1; spent = after.2 }
+    record { units = after.0; kind = c.loop-done.invariant.kind; grown = after.1; spent = after.2 }

@@ -13,10 +13,11 @@ use Rattle.decorations.proofs.set.DecoSet.delta.Goals as goal
 
 pub remove_all-requires-clause-live : goal.remove_all-requires-clause-live
 remove_all-requires-clause-live g c =
+    let kind = g.F.Flat.kind c.args.text.now in
     let units = g.F.Flat.units c.args.text.now in
     let before : Decorations = record { marks = c.self.inside.tree.marks; next_id = c.self.inside.next_id } in
-    let fit : IsFit before c.args.owner c.args.remove.now c.args.add.now units = fit-from_ok before c.args.owner c.args.remove.now c.args.add.now units
-    (subst (λ (d : Decorations). IsOk (decorated d c.args.owner c.args.remove.now c.args.add.now units)) (sym c.self.view_is) c.in_ok-check.ensures.ok) in
+    let fit : IsFit before c.args.owner c.args.remove.now c.args.add.now kind units = fit-from_ok before c.args.owner c.args.remove.now c.args.add.now kind units
+    (subst (λ (d : Decorations). IsOk (decorated d c.args.owner c.args.remove.now c.args.add.now kind units)) (sym c.self.view_is) c.in_ok-check.ensures.ok) in
     ap (λ ms. list_all (is_live ms) c.args.remove.now) c.reserve.ensures.marks ∙ all_live-owned c.self.inside.tree.marks c.args.owner c.args.remove.now fit.owned
 
 pub add_all-requires-clause-used : goal.add_all-requires-clause-used
@@ -36,22 +37,24 @@ add_all-requires-clause-distinct g c =
 
 pub add_all-requires-clause-good : goal.add_all-requires-clause-good
 add_all-requires-clause-good g c =
+    let kind = g.F.Flat.kind c.args.text.now in
     let units = g.F.Flat.units c.args.text.now in
-    let fit : IsFit c.args.self.now c.args.owner c.args.remove.now c.args.add.now units =
-    fit-from_ok c.args.self.now c.args.owner c.args.remove.now c.args.add.now units c.in_ok-check.ensures.ok in
-    all_new units c.args.add.now c.requires fit.good
+    let fit : IsFit c.args.self.now c.args.owner c.args.remove.now c.args.add.now kind units =
+    fit-from_ok c.args.self.now c.args.owner c.args.remove.now c.args.add.now kind units c.in_ok-check.ensures.ok in
+    all_new kind units c.args.add.now c.requires fit.good
 
 sound : (g : Over) (c : After-add_all g)
     → IsSound (record { marks = c.add_all.new.tree.marks; next_id = c.self.inside.next_id + length c.args.add.now })
 sound g c =
+    let kind = g.F.Flat.kind c.args.text.now in
     let units = g.F.Flat.units c.args.text.now in
     let before : Decorations = record { marks = c.self.inside.tree.marks; next_id = c.self.inside.next_id } in
-    let fit : IsFit before c.args.owner c.args.remove.now c.args.add.now units = fit-from_ok before c.args.owner c.args.remove.now c.args.add.now units
-    (subst (λ (d : Decorations). IsOk (decorated d c.args.owner c.args.remove.now c.args.add.now units)) (sym c.self.view_is) c.in_ok-check.ensures.ok) in
+    let fit : IsFit before c.args.owner c.args.remove.now c.args.add.now kind units = fit-from_ok before c.args.owner c.args.remove.now c.args.add.now kind units
+    (subst (λ (d : Decorations). IsOk (decorated d c.args.owner c.args.remove.now c.args.add.now kind units)) (sym c.self.view_is) c.in_ok-check.ensures.ok) in
     subst (λ (ms : List Mark). IsSound (record { marks = ms; next_id = c.self.inside.next_id + length c.args.add.now }))
     (sym (c.add_all.ensures ∙ ap (λ ms. in_order (ms ++ new_marks c.args.owner c.self.inside.next_id c.args.add.now))
     (c.remove_all.ensures.marks ∙ ap (λ ms. kept ms c.args.remove.now) c.reserve.ensures.marks)))
-    (IsSound-delta before c.args.owner c.args.remove.now c.args.add.now units c.self.invariant fit)
+    (IsSound-delta before c.args.owner c.args.remove.now c.args.add.now kind units c.self.invariant fit)
 
 pub invariant_of-self-2 : goal.invariant_of-self-2
 invariant_of-self-2 g c = sound g (goal.at.invariant_of-self-2 g c).After-add_all

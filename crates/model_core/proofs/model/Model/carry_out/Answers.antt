@@ -1,5 +1,6 @@
 use Rattle.std.proofs.Common.{◌≡◌, ◌+◌, ◌≤◌, length, true, refl, ap, sym, subst, ◌∙◌, arith}
 use Rattle.std.proofs.lemmas.Grind.{common_steps}
+use Rattle.unit_text.specs.declared.kind.Kind.TheVariants.{Mixed}
 use Rattle.batch_rules.specs.Batches.{applied_from, text_units}
 use Rattle.batch_rules.proofs.Standing.{accepted, IsAccepted}
 use Rattle.undo_rules.specs.Stack.{pushed}
@@ -22,8 +23,8 @@ use Rattle.model_core.proofs.model.Model.carry_out.Goals.{After-self, After-appl
 change_of : (c : After-self) → IsChangeOf c.self.inside.page.text.units c.args.change
 change_of c = subst (λ (s : ModelState). IsChangeOf s.document.units c.args.change) (sym c.self.view_is) c.requires.change
 
-taken : (c : After-self) → IsAccepted c.self.inside.page.text.units (ops_by On c.args.change) (ops_by On c.args.change)
-taken c = accepted c.self.inside.page.text.units (ops_by On c.args.change) (ops_by On c.args.change) (change_of c).accepted
+taken : (c : After-self) → IsAccepted Mixed c.self.inside.page.text.units (ops_by On c.args.change) (ops_by On c.args.change)
+taken c = accepted Mixed c.self.inside.page.text.units (ops_by On c.args.change) (ops_by On c.args.change) (change_of c).accepted
 
 text_after : (c : After-apply) → c.apply.new.self.text.units ≡ applied_from 0 c.self.inside.page.text.units (ops_by On c.args.change)
 text_after c = c.apply.ensures.units ∙ ap (applied_from 0 c.self.inside.page.text.units) c.ops.ensures

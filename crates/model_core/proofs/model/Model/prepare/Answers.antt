@@ -1,5 +1,6 @@
 use Rattle.std.proofs.Common.{◌≡◌, ◌+◌, ◌≤◌, ap, subst, arith}
 use Rattle.std.proofs.lemmas.Grind.{common_steps}
+use Rattle.unit_text.specs.declared.kind.Kind.TheVariants.{Mixed}
 use Rattle.batch_rules.specs.Batches.{checked_batch, inverse_from}
 use Rattle.edit_batches.specs.Outcomes.{Checks}
 use Rattle.text_buffer.specs.Text.{Text}
@@ -17,14 +18,16 @@ kept : (c : After-reserve-2) → IsUntouched c.self.inside.page c.reserve-2.new.
 kept c = subst (λ (page : PageState). IsUntouched page c.reserve-2.new.self) c.seek.ensures c.reserve-2.ensures.same
 
 -- what is told of the text of before
-told : (c : After-checked) → Checks c.checked.result (checked_batch c.seek.new.self.text.units c.in_ok-ops.ops.items)
-told c = subst (λ (t : Text). Checks c.checked.result (checked_batch t.units c.in_ok-ops.ops.items)) c.text.ensures.text c.checked.ensures.rule
+told : (c : After-checked) → Checks c.checked.result (checked_batch Mixed c.seek.new.self.text.units c.in_ok-ops.ops.items)
+told c =
+    let seen = subst (λ (t : Text). Checks c.checked.result (checked_batch t.kind t.units c.in_ok-ops.ops.items)) c.text.ensures.text c.checked.ensures.rule in
+    subst (λ k. Checks c.checked.result (checked_batch k c.seek.new.self.text.units c.in_ok-ops.ops.items)) c.text.ensures.mixed seen
 
 pub need_of-requires : goal.need_of-requires
 need_of-requires c =
     let x = c.seek.new.self.text.units in
     let rule = accepted_of_all x c.args.ops.items c.in_ok-ops.ops.items c.in_ok-batch.batch c.checked.result (grind (arith, common_steps)) (told (goal.at.need_of-requires c).After-checked) (grind (arith, common_steps)) in
-    let ok = accepted x c.args.ops.items c.in_ok-batch.batch rule in
+    let ok = accepted Mixed x c.args.ops.items c.in_ok-batch.batch rule in
     omega (arith, text_units_applied 0 x c.in_ok-batch.batch ok.standing, ok.fits)
 
 pub invariant_of-self-in_err-map_err-2 : goal.invariant_of-self-in_err-map_err-2

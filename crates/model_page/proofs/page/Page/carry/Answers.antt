@@ -1,4 +1,5 @@
-use Rattle.std.proofs.Common.{◌≡◌, ◌<◌, ◌^◌, ◌+◌, ℕ, List, ◌++◌, length, map, drop, take, ap, sym, subst, ◌∙◌, arith}
+use Rattle.std.proofs.Common.{◌≡◌, ◌<◌, ◌^◌, ◌+◌, ℕ, List, ◌++◌, length, map, drop, take, refl, ap, sym, subst, ◌∙◌, arith}
+use Rattle.unit_text.specs.declared.kind.Kind.TheVariants.{Mixed}
 use Rattle.text_rules.specs.Dirty.{dirty_lines}
 use Rattle.text_rules.specs.Edits.{edited}
 use Rattle.text_rules.specs.Lines.{lines_of}
@@ -68,6 +69,12 @@ replace_again-dirty-requires-clause-small c =
     let few = small (goal.at.replace_again-dirty-requires-clause-small c).After-index-ops-at in
     rw c.as_slice.ensures (omega (arith, few))
 
+pub replace_again-dirty-requires-clause-kind : goal.replace_again-dirty-requires-clause-kind
+replace_again-dirty-requires-clause-kind c =
+    let was = ap (λ (p : PageState). p.text.kind) (sym c.self.view_is) ∙ c.self.invariant.mixed in
+    let mixed : c.loop-done.self-inside.text.kind ≡ Mixed = c.loop-done.invariant.text.kind ∙ was in
+    rw mixed refl
+
 -- the answer of the edit
 dirty_is : (c : After-replace_again-dirty) → c.replace_again-dirty.result ≡ dirty_lines c.loop-done.self-inside.text.units c.index-ops-at.result.span c.index-ops-at.result.text
 dirty_is c = c.replace_again-dirty.ensures.dirty ∙ ap (dirty_lines c.loop-done.self-inside.text.units c.index-ops-at.result.span) c.as_slice.ensures
@@ -117,7 +124,7 @@ loop-done-preserved c =
     let spent : HasSpent (need_of_edit op.text) now.text.room c.replace_again-dirty.new.self.room =
     subst (λ t. HasSpent (need_of_edit t) now.text.room c.replace_again-dirty.new.self.room) c.as_slice.ensures c.replace_again-dirty.ensures.spent in
     record {
-      text = text_turn first.text ops now.text done op before.text turn c.replace_again-dirty.new.self left c.replace_again-dirty.ensures.pieces c.replace_again-dirty.ensures.grown spent;
+      text = text_turn first.text ops now.text done op before.text turn c.replace_again-dirty.new.self left c.replace_again-dirty.ensures.kind c.replace_again-dirty.ensures.pieces c.replace_again-dirty.ensures.grown spent;
       carried = set ∙ sym moved.leaves;
       inside = record { sound = c.accept.ensures.sound; inside = rw (left, set) moved.inside };
       marks = c.mark.ensures.marks ∙ marked now.text.units op c.replace_again-dirty.result dirty now.last.marks

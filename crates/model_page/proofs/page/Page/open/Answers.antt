@@ -18,6 +18,7 @@ invariant_of-result c =
     let lines = length (lines_of x) in
     let told = c.in_ok-text.ensures in
     record {
+      mixed = told.kind;
       fits = rw told.units c.requires;
       inside = record {
         sound = c.new.ensures.sound;

@@ -10,6 +10,7 @@ use Rattle.piece_tree.proofs.Cuts.{units-front}
 use Rattle.text_rules.specs.Breaks.{joins_pair}
 use Rattle.text_rules.specs.Lines.{carriage_return, line_feed, lines_of}
 use Rattle.text_rules.specs.Dirty.{dirty_lines}
+use Rattle.unit_text.specs.Kinds.{IsOfKind}
 use Rattle.text_buffer.specs.declared.beside.TheConstants.{MOST_BREAKS_ALONG}
 use Rattle.text_buffer.specs.Text.{text_of, most_along, GrowsAt}
 use Rattle.text_buffer.specs.Along.{is_little, rest_before, rest_behind, units_along, LeavesLittle}
@@ -57,7 +58,7 @@ ahead c joins rest =
     let x_is = ap (λ v. v.units) c.self.view_is in let at = (ap (λ s. s.start) c.ends_of-ends.ensures.span) in
     let more : List ℕ = c.args.text.now ++ drop c.args.span.end c.args.self.now.units in
     let here = joins ∙ (λ i. joins_pair (take (sym at i) (sym x_is i)) more) in
-    let is = front_along tree chunks c.self.invariant.text spot there (spot_within tree chunks spot.found spot.offset c.self.invariant.text there.found)
+    let is = front_along tree chunks c.self.invariant.seen.text spot there (spot_within tree chunks spot.found spot.offset c.self.invariant.seen.text there.found)
     c.rests_of-rests.result.front c.joins_of-joins.result.front more here rest in
     subst {A = List ℕ × ℕ × List ℕ} (λ p. IsFrontAlong p.0 p.1 c.joins_of-joins.result.front p.2)
     (λ i. (x_is i, at i, sym (c.as_slice-before.ensures.value ∙ c.units_along-front.ensures) i)) is
@@ -70,7 +71,7 @@ behind c joins rest =
     let x_is = ap (λ v. v.units) c.self.view_is in let at = (ap (λ s. s.end) c.ends_of-ends.ensures.span) in
     let more : List ℕ = take c.args.span.start c.args.self.now.units ++ c.args.text.now in
     let here = joins ∙ (λ i. joins_pair more (drop (sym at i) (sym x_is i))) in
-    let is = back_along tree chunks c.self.invariant.text spot there (spot_within tree chunks spot.found spot.offset c.self.invariant.text there.found)
+    let is = back_along tree chunks c.self.invariant.seen.text spot there (spot_within tree chunks spot.found spot.offset c.self.invariant.seen.text there.found)
     c.rests_of-rests.result.back c.joins_of-joins.result.back more here rest in
     subst {A = List ℕ × ℕ × List ℕ} (λ p. IsBackAlong p.0 p.1 c.joins_of-joins.result.back p.2)
     (λ i. (x_is i, at i, sym (c.as_slice-after.ensures.value ∙ c.units_along-back.ensures) i)) is
@@ -84,28 +85,28 @@ units_along-front-requires-clause-inside c =
     let at = (goal.at.units_along-front-requires-clause-inside c).After-rests_of-rests in
     let tree = c.self.inside.pieces in let chunks = c.self.inside.chunks in let spot = c.ends_of-ends.result.start in let there = c.ends_of-ends.ensures.ends.start in
     if_some (LiesIn chunks.buffers) c.rests_of-rests.result.front
-    (λ part e. (front_fits tree chunks c.self.invariant.text spot there (spot_within tree chunks spot.found spot.offset c.self.invariant.text there.found) part (front_rest at part e)).0)
+    (λ part e. (front_fits tree chunks c.self.invariant.seen.text spot there (spot_within tree chunks spot.found spot.offset c.self.invariant.seen.text there.found) part (front_rest at part e)).0)
 
 pub units_along-front-requires-clause-few : goal.units_along-front-requires-clause-few
 units_along-front-requires-clause-few c =
     let at = (goal.at.units_along-front-requires-clause-few c).After-rests_of-rests in
     let tree = c.self.inside.pieces in let chunks = c.self.inside.chunks in let spot = c.ends_of-ends.result.start in let there = c.ends_of-ends.ensures.ends.start in
     if_some (λ span. span.units ≤ most_along) c.rests_of-rests.result.front
-    (λ part e. (front_fits tree chunks c.self.invariant.text spot there (spot_within tree chunks spot.found spot.offset c.self.invariant.text there.found) part (front_rest at part e)).1)
+    (λ part e. (front_fits tree chunks c.self.invariant.seen.text spot there (spot_within tree chunks spot.found spot.offset c.self.invariant.seen.text there.found) part (front_rest at part e)).1)
 
 pub units_along-back-requires-clause-inside : goal.units_along-back-requires-clause-inside
 units_along-back-requires-clause-inside c =
     let at = (goal.at.units_along-back-requires-clause-inside c).After-rests_of-rests in
     let tree = c.self.inside.pieces in let chunks = c.self.inside.chunks in let spot = c.ends_of-ends.result.end in let there = c.ends_of-ends.ensures.ends.end in
     if_some (LiesIn chunks.buffers) c.rests_of-rests.result.back
-    (λ part e. (back_fits tree chunks c.self.invariant.text spot there (spot_within tree chunks spot.found spot.offset c.self.invariant.text there.found) part (back_rest at part e).1).0)
+    (λ part e. (back_fits tree chunks c.self.invariant.seen.text spot there (spot_within tree chunks spot.found spot.offset c.self.invariant.seen.text there.found) part (back_rest at part e).1).0)
 
 pub units_along-back-requires-clause-few : goal.units_along-back-requires-clause-few
 units_along-back-requires-clause-few c =
     let at = (goal.at.units_along-back-requires-clause-few c).After-rests_of-rests in
     let tree = c.self.inside.pieces in let chunks = c.self.inside.chunks in let spot = c.ends_of-ends.result.end in let there = c.ends_of-ends.ensures.ends.end in
     if_some (λ span. span.units ≤ most_along) c.rests_of-rests.result.back
-    (λ part e. (back_fits tree chunks c.self.invariant.text spot there (spot_within tree chunks spot.found spot.offset c.self.invariant.text there.found) part (back_rest at part e).1).1)
+    (λ part e. (back_fits tree chunks c.self.invariant.seen.text spot there (spot_within tree chunks spot.found spot.offset c.self.invariant.seen.text there.found) part (back_rest at part e).1).1)
 
 pub found_before-at-requires-clause-there : goal.found_before-at-requires-clause-there
 found_before-at-requires-clause-there c =
@@ -149,11 +150,11 @@ pub splice-told-requires-clause-range : goal.splice-told-requires-clause-range
 splice-told-requires-clause-range c =
     let to = goal.at.splice-told-requires-clause-range c in let at = to.After-rests_of-rests in
     let there = (behind to.After-as_slice-after (back_is at) (λ part e. (back_rest at part e).1)).there in
-    omega (arith, units_shown c.self.inside.pieces c.self.inside.chunks c.args.self.now c.self.invariant.text c.self.view_is, there, c.requires.ordered)
+    omega (arith, units_shown c.self.inside.pieces c.self.inside.chunks c.args.self.now c.self.invariant.seen.text c.self.view_is, there, c.requires.ordered)
 
 pub splice-told-requires-clause-pieces : goal.splice-told-requires-clause-pieces
 splice-told-requires-clause-pieces c =
-    pieces-extended c.self.inside.chunks.buffers c.put_some-added.new.chunks.buffers c.put_some-added.ensures.grown (pieces_of c.self.inside.pieces.entries) c.self.invariant.text.pieces
+    pieces-extended c.self.inside.chunks.buffers c.put_some-added.new.chunks.buffers c.put_some-added.ensures.grown (pieces_of c.self.inside.pieces.entries) c.self.invariant.seen.text.pieces
 
 pub splice-told-requires-clause-small : goal.splice-told-requires-clause-small
 splice-told-requires-clause-small c =
@@ -161,7 +162,7 @@ splice-told-requires-clause-small c =
     let one = (ahead to.After-as_slice-after (front_is at) (front_rest at)).there in
     let two = (behind to.After-as_slice-after (back_is at) (λ part e. (back_rest at part e).1)).there in
     let before = c.as_slice-before.result.now in let after = c.as_slice-after.result.now in let text = c.args.text.now in
-    let count = units_shown c.self.inside.pieces c.self.inside.chunks c.args.self.now c.self.invariant.text c.self.view_is in
+    let count = units_shown c.self.inside.pieces c.self.inside.chunks c.args.self.now c.self.invariant.seen.text c.self.view_is in
     let added = units-listed c.put_some-added.new.chunks.buffers c.put_some-added.result (before ++ text ++ after) c.put_some-added.ensures.added c.put_some-added.ensures.counted in
     omega (
       arith,
@@ -188,7 +189,7 @@ replaced c one two front back =
     c.joins_of-joins.result.front c.joins_of-joins.result.back front back one two
     c.self.inside.chunks.buffers c.put_some-added.new.chunks.buffers (pieces_of c.self.inside.pieces.entries) (pieces_of c.splice-told.new.self.entries) (span_of c.put_some-added.result)
     (c.args.span.start - length before) (c.args.span.start - length before + (c.args.span.end + length after - (c.args.span.start - length before)))
-    c.put_some-added.ensures.grown c.self.invariant.text.pieces c.self.invariant.text.full c.self.invariant.text.unsplit (ap (λ v. v.units) c.self.view_is)
+    c.put_some-added.ensures.grown c.self.invariant.seen.text.pieces c.self.invariant.seen.text.full c.self.invariant.seen.text.unsplit (ap (λ v. v.units) c.self.view_is)
     c.requires.ordered refl (omega (arith, c.requires.ordered)) c.put_some-added.ensures.added c.splice-told.ensures.spliced
 
 pub invariant_of-self : goal.invariant_of-self
@@ -196,7 +197,13 @@ invariant_of-self c =
     let to = goal.at.invariant_of-self c in let at = to.After-rests_of-rests in
     let r = replaced to.After-splice-told (ahead to.After-as_slice-after (front_is at) (front_rest at)) (behind to.After-as_slice-after (back_is at) (λ part e. (back_rest at part e).1)) (front_is at) (back_is at) in
     let small : unit_count (pieces_of c.splice-told.new.self.entries) < 2 ^ 62 = omega (arith, length-spelled c.put_some-added.new.chunks.buffers (pieces_of c.splice-told.new.self.entries) r.pieces, ap length r.text_is, c.requires.small) in
-    record { text = record { pieces = r.pieces; full = r.full; unsplit = r.unsplit; small = small }; found = c.change_from.ensures c.self.inside.pieces.entries c.splice-told.new.self.entries c.self.invariant.found c.splice-told.ensures.front c.splice-told.ensures.told }
+    record {
+      seen = record {
+        text = record { pieces = r.pieces; full = r.full; unsplit = r.unsplit; small = small };
+        found = c.change_from.ensures c.self.inside.pieces.entries c.splice-told.new.self.entries c.self.invariant.seen.found c.splice-told.ensures.front c.splice-told.ensures.told;
+      };
+      endings = subst (IsOfKind c.self.inside.kind) (sym r.text_is) (rw (ap (λ t. t.kind) c.self.view_is) c.requires.kind);
+    }
 
 pub returns-clause-units : goal.returns-clause-units
 returns-clause-units c =
@@ -223,18 +230,18 @@ taken_in : (c : After-splice-told) (us : List Piece) (p : Piece) (vs : List Piec
 taken_in c us p vs is some ahead behind =
     let tree = c.self.inside.pieces in let chunks = c.self.inside.chunks in let start = c.ends_of-ends.result.start in let end = c.ends_of-ends.result.end in
     let one = c.ends_of-ends.ensures.ends.start in let two = c.ends_of-ends.ensures.ends.end in
-    let both = c.rests_of-rests.ensures ∙ both_cut tree chunks c.self.invariant.text start end one two us p vs is some ahead behind (length c.args.text.now) in
+    let both = c.rests_of-rests.ensures ∙ both_cut tree chunks c.self.invariant.seen.text start end one two us p vs is some ahead behind (length c.args.text.now) in
     let low = little_units chunks.buffers (part_of p.span 0 (start.offset - unit_count us)) ahead in
     let high = little_units chunks.buffers (part_of p.span (end.offset - unit_count us) p.span.units) behind in
     let first : length c.as_slice-before.result.now ≡ start.offset - unit_count us =
     ap length (c.as_slice-before.ensures.value ∙ c.units_along-front.ensures ∙ ap (λ r. units_along chunks.buffers r.front c.joins_of-joins.result.front carriage_return) both)
-    ∙ first_length tree chunks c.self.invariant.text start end one two us p vs is some ahead behind in
+    ∙ first_length tree chunks c.self.invariant.seen.text start end one two us p vs is some ahead behind in
     let last : length c.as_slice-after.result.now ≡ p.span.units - (end.offset - unit_count us) =
     ap length (c.as_slice-after.ensures.value ∙ c.units_along-back.ensures ∙ ap (λ r. units_along chunks.buffers r.back c.joins_of-joins.result.back line_feed) both)
-    ∙ last_length tree chunks c.self.invariant.text start end one two us p vs is some ahead behind in
+    ∙ last_length tree chunks c.self.invariant.seen.text start end one two us p vs is some ahead behind in
     let from = c.args.span.start - length c.as_slice-before.result.now in
     let few = takes_place c.put_some-added.new.chunks.buffers us p vs (pieces_of tree.entries) from (from + (c.args.span.end + length c.as_slice-after.result.now - from)) (span_of c.put_some-added.result)
-    is c.self.invariant.text.full (omega (arith, first, low, (ap (λ s. s.start) c.ends_of-ends.ensures.span))) (omega (arith, first, last, low, high, some, (ap (λ s. s.start) c.ends_of-ends.ensures.span), (ap (λ s. s.end) c.ends_of-ends.ensures.span))) in
+    is c.self.invariant.seen.text.full (omega (arith, first, low, (ap (λ s. s.start) c.ends_of-ends.ensures.span))) (omega (arith, first, last, low, high, some, (ap (λ s. s.start) c.ends_of-ends.ensures.span), (ap (λ s. s.end) c.ends_of-ends.ensures.span))) in
     omega (arith, few, ap length c.splice-told.ensures.spliced)
 
 pub returns-clause-taken : goal.returns-clause-taken
@@ -250,16 +257,16 @@ returns-clause-taken c = λ little.
 
 -- where the text goes on from a span, the place stands inside no piece, and nothing is taken along before it
 none_ahead : (c : After-as_slice-after) → ((part : ChunkSpan) → c.rests_of-rests.result.front ≡ Some part → rest_before c.self.inside.chunks.buffers c.ends_of-ends.result.start.found c.ends_of-ends.result.start.offset ≡ Some part)
-    → GrowsAt (text_of c.self.inside.pieces c.self.inside.chunks) c.args.span.start → c.joins_of-joins.result.front ≡ false → length c.as_slice-before.result.now ≡ 0
+    → GrowsAt (text_of c.self.inside.kind c.self.inside.pieces c.self.inside.chunks) c.args.span.start → c.joins_of-joins.result.front ≡ false → length c.as_slice-before.result.now ≡ 0
 none_ahead c rest place apart =
     let tree = c.self.inside.pieces in let chunks = c.self.inside.chunks in let spot = c.ends_of-ends.result.start in let there = c.ends_of-ends.ensures.ends.start in
     let (us, (p, (vs, is, count, same))) = split_spans (pieces_of tree.entries) place.earlier place.span place.later place.among in
     ap length (c.as_slice-before.ensures.value ∙ c.units_along-front.ensures
     ∙ none_along chunks.buffers c.rests_of-rests.result.front c.joins_of-joins.result.front carriage_return (λ part e.
-    let (found, has, cut) = front_cuts tree chunks c.self.invariant.text spot there (spot_within tree chunks spot.found spot.offset c.self.invariant.text there.found) part (rest part e) in
+    let (found, has, cut) = front_cuts tree chunks c.self.invariant.seen.text spot there (spot_within tree chunks spot.found spot.offset c.self.invariant.seen.text there.found) part (rest part e) in
     let before = ap (λ s. s.units) has.piece.before in let units = ap (λ (s : ChunkSpan). s.units) same in
-    at_border us (pieces_of has.piece.earlier) vs (pieces_of has.piece.later) p (own chunks.buffers tree.entries found has.piece c.self.invariant.text.pieces)
-    (sym is ∙ pieces_are chunks.buffers tree.entries found has.piece c.self.invariant.text.pieces)
+    at_border us (pieces_of has.piece.earlier) vs (pieces_of has.piece.later) p (own chunks.buffers tree.entries found has.piece c.self.invariant.seen.text.pieces)
+    (sym is ∙ pieces_are chunks.buffers tree.entries found has.piece c.self.invariant.seen.text.pieces)
     (omega (arith, before, units, count, place.ends, cut, (ap (λ s. s.start) c.ends_of-ends.ensures.span))) (omega (arith, before, units, count, place.ends, has.end, (ap (λ s. s.start) c.ends_of-ends.ensures.span)))) apart)
 
 pub returns-clause-typed : goal.returns-clause-typed
@@ -285,7 +292,7 @@ returns-clause-typed c = λ unplaced grows none.
     subst (λ (s : ChunkSpan). s.start + s.units ≡ length (buffer_at old s.buffer)) (sym same) place.end in
     let border = front_border c.args.self.now.units text before after start c.args.span.end c.joins_of-joins.result.front c.joins_of-joins.result.back
     (front_is at) (back_is at) ahead_is behind_is in
-    let few = adds_none old new ps us p vs from is ends last end c.self.invariant.text.full c.self.invariant.text.pieces (before ++ text ++ after)
+    let few = adds_none old new ps us p vs from is ends last end c.self.invariant.seen.text.full c.self.invariant.seen.text.pieces (before ++ text ++ after)
     (subst (λ y. joins_pair (take from y) (before ++ text ++ after) ≡ false) (sym x_is) border) (span_of c.put_some-added.result)
     (from + (c.args.span.end + length after - from)) (omega arith) (c.put_some-added.ensures.last unplaced) in
     omega (
@@ -318,11 +325,11 @@ returns-clause-grows c = λ unplaced (same, some) none.
     let after = c.as_slice-after.result.now in
     let from = c.args.span.start - length before in
     let till = from + (c.args.span.end + length after - from) in
-    let count = units_shown c.self.inside.pieces c.self.inside.chunks c.args.self.now c.self.invariant.text c.self.view_is in
+    let count = units_shown c.self.inside.pieces c.self.inside.chunks c.args.self.now c.self.invariant.seen.text c.self.view_is in
     let there = (ahead to.After-as_slice-after (front_is at) (front_rest at)).there in
     let none_taken = none_behind to.After-as_slice-after (back_rest at) same (back_is at ∙ none) in
     let added_size : length (before ++ text ++ after) ≡ length before + length text = omega (arith, length-append (before ++ text) after, length-append before text, none_taken) in
-    grows_later (text_of c.splice-told.new.self c.put_some-added.new.chunks) old new (front new from ps) (back new till ps) (span_of c.put_some-added.result) (before ++ text ++ after) (c.args.span.start + length text)
+    grows_later (text_of c.self.inside.kind c.splice-told.new.self c.put_some-added.new.chunks) old new (front new from ps) (back new till ps) (span_of c.put_some-added.result) (before ++ text ++ after) (c.args.span.start + length text)
     c.put_some-added.ensures.added (c.put_some-added.ensures.last unplaced) (omega (arith, some, added_size)) (ap (map (λ p. p.span)) c.splice-told.ensures.spliced) refl
     (omega (arith, added_size, units-front new from ps (omega (arith, count, c.requires.ordered, c.requires.within)), there))
 

@@ -1,4 +1,5 @@
-use Rattle.std.proofs.Common.{ap, ◌∙◌}
+use Rattle.std.proofs.Common.{ap, sym, subst, ◌∙◌}
+use Rattle.unit_text.specs.Kinds.{IsOfKind}
 use Rattle.piece_tree.specs.Pieces.{pieces_of}
 use Rattle.text_buffer.specs.Text.{spelled}
 use Rattle.text_buffer.proofs.Extended.{pieces-extended, spelled-extended, unsplit-extended}
@@ -9,15 +10,19 @@ invariant_of-self-2 c =
     let old = c.self.inside.chunks.buffers in
     let new = c.reserve.new.self.buffers in
     let ps = pieces_of c.self.inside.pieces.entries in
+    let was = c.self.invariant.seen in
     rw c.reserve-2.ensures.same
     (record {
-      text = record {
-        pieces = pieces-extended old new c.reserve.ensures.same ps c.self.invariant.text.pieces;
-        full = c.self.invariant.text.full;
-        unsplit = unsplit-extended old new c.reserve.ensures.same ps c.self.invariant.text.pieces c.self.invariant.text.unsplit;
-        small = c.self.invariant.text.small;
+      seen = record {
+        text = record {
+          pieces = pieces-extended old new c.reserve.ensures.same ps was.text.pieces;
+          full = was.text.full;
+          unsplit = unsplit-extended old new c.reserve.ensures.same ps was.text.pieces was.text.unsplit;
+          small = was.text.small;
+        };
+        found = was.found;
       };
-      found = c.self.invariant.found;
+      endings = subst (IsOfKind c.self.inside.kind) (sym (spelled-extended old new c.reserve.ensures.same ps was.text.pieces)) c.self.invariant.endings;
     })
 
 pub returns-clause-same : goal.returns-clause-same
@@ -26,4 +31,4 @@ returns-clause-same c =
     let new = c.reserve.new.self.buffers in
     let ps = pieces_of c.self.inside.pieces.entries in
     ap (λ e. spelled new (pieces_of e)) c.reserve-2.ensures.same
-    ∙ spelled-extended old new c.reserve.ensures.same ps c.self.invariant.text.pieces ∙ ap (λ v. v.units) c.self.view_is
+    ∙ spelled-extended old new c.reserve.ensures.same ps c.self.invariant.seen.text.pieces ∙ ap (λ v. v.units) c.self.view_is

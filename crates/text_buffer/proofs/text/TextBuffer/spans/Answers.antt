@@ -16,4 +16,4 @@ pub returns-clause-inside : goal.returns-clause-inside
 returns-clause-inside c =
     subst (λ (t : Text). All (LiesIn t.buffers) t.spans) c.self.view_is
     (All-map (LiesIn c.self.inside.chunks.buffers) (λ p. p.span) (pieces_of c.self.inside.pieces.entries)
-    (λ k d h. (c.self.invariant.text.pieces k d h).inside))
+    (λ k d h. (c.self.invariant.seen.text.pieces k d h).inside))

@@ -8,6 +8,7 @@ use Rattle.text_rules.specs.Breaks.{count_to, break_ends}
 use Rattle.text_rules.proofs.Places.{position_of_is, line_start_before}
 use Rattle.text_buffer.specs.Text.{spelled}
 use Rattle.text_buffer.proofs.Found.{count_small, count_in_lines, place_small}
+use Rattle.unit_text.proofs.KindLaws.{is_place-of_kind}
 use Rattle.text_buffer.proofs.view.View.position_at.Goals as goal
 
 pub returns-in_default-clause-cost : goal.returns-in_default-clause-cost
@@ -27,7 +28,12 @@ overflow_sub-result g c =
     omega (arith, line_start_before x c.args.offset, c.start_after-start.ensures.start ∙ ap (λ n. line_start x (n + 1)) c.breaks_before-breaks.ensures.count)
 
 pub overflow_add-result-2 : goal.overflow_add-result-2
-overflow_add-result-2 g c = omega (arith, place_small c.args.self.now.pieces.now c.args.self.now.chunks.now c.requires.view.text c.args.offset c.in-Some.ensures.place.place)
+overflow_add-result-2 g c = omega (
+  arith,
+  place_small c.args.self.now.pieces.now c.args.self.now.chunks.now c.requires.view.text c.args.offset
+      (is_place-of_kind c.args.kind (spelled c.args.self.now.chunks.now.buffers (pieces_of c.args.self.now.pieces.now.entries)) c.args.offset
+      c.in-Some.ensures.place.place),
+)
 
 pub returns-clause-position : goal.returns-clause-position
 returns-clause-position g c =

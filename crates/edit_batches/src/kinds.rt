@@ -1,0 +1,19 @@
+//! The edits of a batch with texts of one kind.
+
+ghost use Rattle.std.specs.Prelude.{◌≡◌, IfOk, IsOk};
+ghost use Rattle.batch_rules.specs.Batches.{ops_in};
+
+use std::alloc::AllocError;
+use text_rules::Op;
+use unit_text::Kind;
+
+/// The edits with the line endings of the kind in their texts. It takes memory only for texts that have others.
+pub(crate) fn ops_in(mut ops: Vec<Op>, kind: Kind) -> Result<Vec<Op>, AllocError>
+    ensures ok { IfOk result (λ new. new.items ≡ ops_in kind ops.items) }
+    ensures sure { ops_in kind ops.items ≡ ops.items → IsOk result }
+{
+    for at in 0..ops.len() {
+        ops[at].text.normalize(kind)?;
+    }
+    Ok(ops)
+}
