@@ -1,0 +1,5 @@
+//! Tests of kinds of line ending.
+#![tactic(auto)]
+
+#[cfg(test)]
+mod endings;
