@@ -242,6 +242,27 @@ def decoration_cases(scale: Scale) -> Iterator[Case]:
             yield Case(f"remove {way}, mixed", f"{count:,}", full[count], lines, refused, len(lines))
 
 
+# ---- kinds of line ending
+
+
+def eol(kind: str) -> str:
+    """A line that changes the kind of line ending."""
+    return f'{{"cmd":"eol","kind":"{kind}"}}'
+
+
+def kind_cases(scale: Scale) -> Iterator[Case]:
+    """Changes of the kind of line ending among so many decorations, and one that is undone and redone. Where nothing is
+    left to redo stands for what is refused."""
+    turns = scale.count // 2_500
+    documents = {count: [*plain(MILLION), decorate([], marks(count, "mixed"))] for count in MARKS}
+    lines, refused = ([eol(kind) for kind in kinds] * turns for kinds in (("crlf", "lf"), ("crlg", "lg")))
+    for count, document in documents.items():
+        yield Case("eol crlf, eol lf in turn", f"{count:,}", document, lines, refused, len(lines))
+    lines, refused = ['{"cmd":"undo"}', '{"cmd":"redo"}'] * turns, ['{"cmd":"redo"}'] * (2 * turns)
+    for count, document in documents.items():
+        yield Case("undo, redo of one eol in turn", f"{count:,}", [*document, eol("crlf")], lines, refused, len(lines))
+
+
 # ---- brackets
 
 
@@ -326,7 +347,7 @@ def line_cases(scale: Scale) -> Iterator[Case]:
 
 def all_cases(scale: Scale) -> Iterator[Case]:
     """Every case, made as it is asked for."""
-    for group in (text_cases(scale), undo_cases(scale), decoration_cases(scale), nested_cases(scale)):
-        yield from group
+    for group in (text_cases, undo_cases, decoration_cases, kind_cases, nested_cases):
+        yield from group(scale)
     yield from parse_cases()
     yield from line_cases(scale)

@@ -1,9 +1,10 @@
 /* A flat text model: what the program is measured beside, and its replies compared with.
  *
  * The text is one array of UTF-16 units that each edit moves. Lines are found by scanning it from its beginning, and
- * each question about brackets folds all of it; a snapshot copies all of it. It reads the lines that bench/run writes and
- * those alone: fields in one order without blanks, texts of ASCII with `\n` and `\r` as their escapes, the ops of an edit
- * in rising order. Any other line is answered `! syntax`. What an `open` or an edit lets go of is not freed. */
+ * each question about brackets folds all of it; a snapshot and a change of the kind of line ending copy all of it. It
+ * reads the lines that bench/run writes and those alone: fields in one order without blanks, texts of ASCII with `\n` and
+ * `\r` as their escapes, the ops of an edit in rising order. Any other line is answered `! syntax`. What an `open` or an
+ * edit lets go of is not freed. */
 #include "flat_fields.h"
 
 enum { MOST_OPEN = 300, MOST_SNAPSHOTS = 1000, BUFFER_BYTES = 1 << 16 };
@@ -11,12 +12,14 @@ enum { MOST_OPEN = 300, MOST_SNAPSHOTS = 1000, BUFFER_BYTES = 1 << 16 };
 static const size_t NOWHERE = SIZE_MAX;
 
 typedef struct { size_t start, end; Units text; } Op;
-/* A replacement that was made, with both texts; `begins` where it is the first of its step. */
-typedef struct { size_t start; Units removed, added; bool begins; } Change;
+/* A replacement that was made, with both texts; `begins` where it is the first of its step. Or a change of the kind of
+ * line ending: `removed` is the whole text on its other side, which has this kind. */
+typedef struct { size_t start; Units removed, added; bool begins, is_of_kind; Kind kind; } Change;
 typedef struct { Number id, owner, stick; size_t start, end; bool goes; } Mark;
 typedef struct { size_t at, line, col, level, partner; int kind; char status; } Bracket;
 typedef struct {
     Units text;
+    Kind kind;
     Number version, next_id;
     Change *changes;
     size_t done, total, change_room;
@@ -31,7 +34,12 @@ typedef struct {
 
 static bool refuse_range(void) { return printf("! range") > 0; }
 
-/* ---- positions */
+/* ---- places and positions */
+
+static bool is_span(const Document *document, size_t start, size_t end) {
+    const Units *text = &document->text;
+    return start <= end && is_place(text, document->kind, start) && is_place(text, document->kind, end);
+}
 
 /* Reads a line and a column, with this between them, and looks for the offset, which is NOWHERE where there is none. */
 static bool offset_of(const Units *text, const char **at, const char *between, size_t *offset) {
@@ -96,7 +104,7 @@ static bool additions(Document *document, const char **at, Number owner, bool *i
     for (Mark mark = {.id = document->next_id, .owner = owner}; word(at, "{"); word(at, ","), mark.id++) {
         if (!span(at, &mark.start, &mark.end) || !word(at, ",\"stick\":")) return false;
         if (!number(at, &mark.stick) || !word(at, "}")) return false;
-        *inside = *inside && mark.start <= mark.end && mark.end <= document->text.length && mark.stick <= 3;
+        *inside = *inside && is_span(document, mark.start, mark.end) && mark.stick <= 3;
         document->marks = grown(document->marks, document->mark_count, &document->mark_room, sizeof mark);
         document->marks[document->mark_count++] = mark;
     }
@@ -139,7 +147,7 @@ static int by_place(const void *one, const void *other) {
 static bool decos(Document *document, const char **at) {
     size_t start, end, count = 0;
     if (!span(at, &start, &end) || !closes(at)) return false;
-    if (start > end || end > document->text.length) return refuse_range();
+    if (!is_span(document, start, end)) return refuse_range();
     Mark *met = malloc((document->mark_count + 1) * sizeof *met);
     if (!met) fail("no memory");
     for (const Mark *m = document->marks; m < document->marks + document->mark_count; m++)
@@ -164,15 +172,32 @@ static void replace(Document *document, const Op *op) {
     move_marks(document, op);
 }
 
+/* What was undone is dropped. */
+static void keep(Document *document, Change change) {
+    document->changes = grown(document->changes, document->done, &document->change_room, sizeof change);
+    document->changes[document->done++] = change;
+    document->total = document->done;
+}
+
 static void replace_and_keep(Document *document, const Op *op) {
     Units removed = {.length = op->end - op->start};
     removed.at = grown(NULL, removed.length, &removed.room, sizeof *removed.at);
     if (removed.length) memcpy(removed.at, document->text.at + op->start, 2 * removed.length);
-    document->changes = grown(document->changes, document->done, &document->change_room, sizeof(Change));
-    document->changes[document->done++] = (Change){op->start, removed, op->text, document->begins};
-    document->total = document->done;
+    keep(document, (Change){op->start, removed, op->text, document->begins, false, MIXED});
     document->begins = false;
     replace(document, op);
+}
+
+/* Goes over to the other side of a change of kind. */
+static void recast(Document *document, Change *change) {
+    size_t *places = places_in(&change->removed, &document->text);
+    for (Mark *m = document->marks; m < document->marks + document->mark_count; m++)
+        m->start = places[m->start], m->end = places[m->end];
+    free(places);
+    Units text = document->text;
+    Kind kind = document->kind;
+    document->text = change->removed, document->kind = change->kind;
+    change->removed = text, change->kind = kind;
 }
 
 static bool next_version(Document *document) {
@@ -182,8 +207,10 @@ static bool next_version(Document *document) {
 
 static bool open_text(Document *document, const char **at) {
     Units units;
-    if (!text(at, &units) || !closes(at)) return false;
-    *document = (Document){.text = units, .next_id = 1, .next_snapshot = 1, .begins = true};
+    Kind of = MIXED;
+    if (!text(at, &units) || (word(at, ",\"eol\":") && !kind(at, &of)) || !closes(at)) return false;
+    units = normalized(units, of);
+    *document = (Document){.text = units, .kind = of, .next_id = 1, .next_snapshot = 1, .begins = true};
     return next_version(document);
 }
 
@@ -210,7 +237,8 @@ static bool edit(Document *document, const char **at) {
     size_t count = 0;
     if (!read_ops(&document->text, at, &all, &count)) return false;
     for (size_t i = 0; i < count; i++) {
-        if (all[i].start > all[i].end || all[i].end > document->text.length) return refuse_range();
+        if (!is_span(document, all[i].start, all[i].end)) return refuse_range();
+        all[i].text = normalized(all[i].text, document->kind);
         if (i > 0 && all[i].start < all[i - 1].end) fail("the ops of an edit do not rise");
     }
     for (size_t i = count; i-- > 0;) replace_and_keep(document, &all[i]);
@@ -218,13 +246,24 @@ static bool edit(Document *document, const char **at) {
     return next_version(document);
 }
 
+static bool eol(Document *document, const char **at) {
+    Kind of;
+    if (!kind(at, &of) || !closes(at)) return false;
+    if (of == document->kind) return printf("ok none") > 0;
+    keep(document, (Change){.removed = normalized(document->text, of), .kind = of, .begins = true, .is_of_kind = true});
+    recast(document, &document->changes[document->done - 1]);
+    document->begins = true;
+    return next_version(document);
+}
+
 static bool undo(Document *document, const char **at) {
     if (!closes(at)) return false;
     if (document->done == 0) return printf("ok none") > 0;
-    const Change *change;
+    Change *change;
     do {
         change = &document->changes[--document->done];
-        replace(document, &(Op){change->start, change->start + change->added.length, change->removed});
+        if (change->is_of_kind) recast(document, change);
+        else replace(document, &(Op){change->start, change->start + change->added.length, change->removed});
     } while (!change->begins);
     document->begins = true;
     return next_version(document);
@@ -234,8 +273,9 @@ static bool redo(Document *document, const char **at) {
     if (!closes(at)) return false;
     if (document->done == document->total) return printf("ok none") > 0;
     do {
-        const Change *change = &document->changes[document->done++];
-        replace(document, &(Op){change->start, change->start + change->removed.length, change->added});
+        Change *change = &document->changes[document->done++];
+        if (change->is_of_kind) recast(document, change);
+        else replace(document, &(Op){change->start, change->start + change->removed.length, change->added});
     } while (document->done < document->total && !document->changes[document->done].begins);
     return next_version(document);
 }
@@ -288,7 +328,7 @@ static bool line(Document *document, const char **at) {
 static bool position(Document *document, const char **at) {
     Number offset;
     if (!number(at, &offset) || !closes(at)) return false;
-    if (offset > document->text.length) return refuse_range();
+    if (!is_place(&document->text, document->kind, offset)) return refuse_range();
     size_t lines = 1, start = 0;
     for (size_t i = 0; i < offset; i++)
         if (ends_break(&document->text, i)) lines++, start = i + 1;
@@ -388,7 +428,7 @@ static const struct { const char *head; bool (*answer)(Document *, const char **
     {"{\"cmd\":\"undo\"", undo},                  {"{\"cmd\":\"redo\"", redo},
     {"{\"cmd\":\"stop\"", stop},                  {"{\"cmd\":\"size\"", size},
     {"{\"cmd\":\"decos\",", decos},              {"{\"cmd\":\"snapshot\"", snapshot},
-    {"{\"cmd\":\"close\",\"id\":", close_snapshot},
+    {"{\"cmd\":\"close\",\"id\":", close_snapshot}, {"{\"cmd\":\"eol\",\"kind\":", eol},
 };
 
 static bool answer(Document *document, const char *line) {

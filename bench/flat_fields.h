@@ -32,12 +32,13 @@ static uint16_t unit(const char **at) {
 static bool text(const char **at, Units *units) {
     *units = (Units){0};
     if (!word(at, "\"")) return false;
-    for (; **at && **at != '"'; ++*at) {
-        units->at = grown(units->at, units->length, &units->room, sizeof *units->at);
-        units->at[units->length] = unit(at);
-        units->has_returns |= units->at[units->length++] == '\r';
-    }
+    for (; **at && **at != '"'; ++*at) push(units, unit(at));
     return word(at, "\"");
+}
+
+static bool kind(const char **at, Kind *value) {
+    *value = word(at, "\"lf\"") ? LF : word(at, "\"crlf\"") ? CRLF : MIXED;
+    return *value != MIXED;
 }
 
 static bool closes(const char **at) { return word(at, "}") && (**at == '\n' || **at == 0); }

@@ -6,7 +6,7 @@ from dataclasses import dataclass
 from typing import Any
 
 from brackets import Pairs
-from texts import units_of
+from texts import ENDINGS, units_of
 
 MOST_NUMBER = 2**64 - 1
 MOST_NESTING = 127
@@ -123,6 +123,13 @@ def positions(value: Any) -> list[int]:
     return numbers(value)
 
 
+def kind(value: Any) -> str:
+    """A kind of line ending. Texts of any endings have no word."""
+    if type(value) is not str or value not in ENDINGS:
+        raise Refused("syntax")
+    return value
+
+
 def pairs(value: Any) -> Pairs:
     """The brackets of a new document."""
     found = tuple(tuple(map(text, listed(pair))) for pair in listed(value))
@@ -188,11 +195,12 @@ def new_decorations(value: Any) -> list[tuple[list[int], int, bool]]:
 
 
 COMMANDS: dict[str, Fields] = {
-    "open": fields({"brackets": pairs}, text=text),
+    "open": fields({"brackets": pairs, "eol": kind}, text=text),
     "edit": fields(ops=ops),
     "undo": fields(),
     "redo": fields(),
     "stop": fields(),
+    "eol": fields(kind=kind),
     "decorate": fields(owner=number, remove=numbers, add=new_decorations),
     "deco": fields(id=number),
     "decos": fields({"owner": number}, at=span),

@@ -10,8 +10,8 @@ from typing import Any
 import clusters
 from brackets import STANDARD, Entry, Pairs, Parse, Table, parse
 from commands import LineOp, Refused, command_of
-from moves import Decoration, Op, applied, carried, inverse, unforced
-from texts import Text, cuts_pair, quoted
+from moves import Decoration, Op, applied, carried, inverse, recast, unforced
+from texts import MIXED, Text, cuts_pair, normalized, quoted
 
 MOST_LINE_BYTES = 2**24
 MOST_UNITS = 2**40 - 1
@@ -33,10 +33,18 @@ class Batch:
 
 
 @dataclass(slots=True)
-class Step:
-    """Edits that are undone together, with the alternative versions around them."""
+class Recast:
+    """What one change of the kind of line ending did."""
 
-    batches: list[Batch]
+    before: Text
+    after: Text
+
+
+@dataclass(slots=True)
+class Step:
+    """Edits that are undone together, or one change of kind, with the alternative versions around it."""
+
+    done: list[Batch] | Recast
     before: int
     after: int
 
@@ -108,26 +116,48 @@ class Document:
         else:
             start, end = self.offset_of(*op.range[:2]), self.offset_of(*op.range[2:])
         self.check_span(start, end)
-        return Op(start, end, op.text, op.force)
+        return Op(start, end, normalized(op.text, self.text.kind), op.force)
+
+    def eol(self, kind: str) -> str:
+        if kind == self.text.kind:
+            return " none"
+        after = Text(normalized(self.text.units, kind), kind)
+        if len(after.units) > MOST_UNITS:
+            raise Refused("limit")
+        self.version += 1
+        self.undo_steps.append(Step(Recast(self.text, after), self.alternative, self.version))
+        self.is_step_open = False
+        self.alternative = self.version
+        self.redo_steps = []
+        self.recast(after)
+        return self.sizes()
 
     def push(self, batch: Batch) -> None:
         """Lets the open step have the batch, or a new one that this opens."""
         if not self.is_step_open:
             self.undo_steps.append(Step([], self.alternative, 0))
         self.is_step_open = True
-        self.undo_steps[-1].batches.append(batch)
+        self.undo_steps[-1].done.append(batch)
         self.undo_steps[-1].after = self.version
 
     def change(self, units: str, ops: list[Op]) -> None:
-        self.text = Text(units)
+        self.text = Text(units, self.text.kind)
         self.decorations = carried(self.decorations, ops)
+
+    def recast(self, text: Text) -> None:
+        """Puts the text in the place of one with the same lines and other endings."""
+        self.decorations = recast(self.decorations, self.text, text)
+        self.text = text
 
     def undo(self) -> str:
         if not self.undo_steps:
             return " none"
         step = self.undo_steps.pop()
-        for batch in reversed(step.batches):
-            self.change(batch.before, inverse(batch.before, batch.ops))
+        if isinstance(step.done, Recast):
+            self.recast(step.done.before)
+        else:
+            for batch in reversed(step.done):
+                self.change(batch.before, inverse(batch.before, batch.ops))
         self.redo_steps.append(step)
         self.version += 1
         self.alternative = step.before
@@ -138,8 +168,11 @@ class Document:
         if not self.redo_steps:
             return " none"
         step = self.redo_steps.pop()
-        for batch in step.batches:
-            self.change(batch.after, unforced(batch.ops))
+        if isinstance(step.done, Recast):
+            self.recast(step.done.after)
+        else:
+            for batch in step.done:
+                self.change(batch.after, unforced(batch.ops))
         self.undo_steps.append(step)
         self.version += 1
         self.alternative = step.after
@@ -267,10 +300,11 @@ class Flat:
     def __init__(self) -> None:
         self.document = Document()
 
-    def open(self, units: str, pairs: Pairs | None) -> str:
-        if len(units) > MOST_UNITS:
+    def open(self, units: str, pairs: Pairs | None, kind: str | None) -> str:
+        text = Text(normalized(units, kind or MIXED), kind or MIXED)
+        if len(text.units) > MOST_UNITS:
             raise Refused("limit")
-        self.document = Document(Text(units), Table(pairs) if pairs else STANDARD_TABLE)
+        self.document = Document(text, Table(pairs) if pairs else STANDARD_TABLE)
         return self.document.sizes()
 
     def call_named(self, name: str) -> Callable[..., str | None]:

@@ -13,9 +13,12 @@ NUMBERS = [
     "18446744073709551616", "9223372036854775808", "9" * 40, "1" + "0" * 400, "4294967296", "null", "true",
 ]  # fmt: skip
 VALUES: list[Any] = [
-    None, True, False, -1, 0.5, 2**64, "1", "", [], {}, [1], [1, 2], [[1, 2]], [1, 2, 3], {"at": [0, 0]},
+    None, True, False, -1, 0.5, 2**64, "1", "", "lf", [], {}, [1], [1, 2], [[1, 2]], [1, 2, 3], {"at": [0, 0]},
 ]  # fmt: skip
-KEYS = ["x", "cmd", "text", "at", "range", "force", "n", "owner", "id", "collapse", "stick", "brackets", "", "Cmd"]
+KEYS = [
+    "x", "cmd", "text", "at", "range", "force", "n", "owner", "id", "collapse", "stick", "brackets", "eol", "kind", "",
+    "Cmd",
+]  # fmt: skip
 WHOLE = [
     b"[]", b"{}", b"1", b'"size"', b"null", b"{", b"}", b"[" * 128, b"[" * 127 + b"]" * 127, b"[" * 5000,
     b'{"a":' * 200, b"\xff", b"\xef\xbb\xbf{\"cmd\":\"size\"}", b'{"cmd":"size"} x', b'{"cmd":"size"}{}',
@@ -32,7 +35,11 @@ WHOLE = [
     b'{"cmd":"edit","ops":[{"at":[0,0],"text":"","force":null}]}',
     b'{"cmd":"edit","ops":[{"at":[0,0],"text":"","force":1}]}', b'{"cmd":"edit","ops":[{"at":[0,0,0],"text":""}]}',
     b'{"cmd":"edit","ops":[{"range":[1,1,1],"text":""}]}', b'{"cmd":"decos","at":[0,0],"owner":null}',
-    b'{"cmd":"open","text":"","brackets":null}', b'{"cmd":1,"cmd":"size"}', b'{"cmd":"undo","cmd":"size"}',
+    b'{"cmd":"open","text":"","brackets":null}', b'{"cmd":"open","text":"","eol":null}', b'{"cmd":"eol","kind":null}',
+    b'{"cmd":"open","text":"","eol":"mixed"}', b'{"cmd":"open","text":"","eol":"lf","kind":"lf"}', b'{"cmd":"eol"}',
+    b'{"cmd":"open","text":"\\n","eol":"cr","eol":"crlf"}', b'{"cmd":"eol","kind":"LF"}', b'{"cmd":"eol","eol":"lf"}',
+    b'{"cmd":"eol","kind":"\\u006cf"}', b'{"cmd":"eol","kind":"lf","at":[0,0]}', b'{"cmd":"eol","kind":"lf\\u0000"}',
+    b'{"cmd":1,"cmd":"size"}', b'{"cmd":"undo","cmd":"size"}',
     b'{"cmd":1e999,"cmd":"size"}', b'{"cmd":"\\ud800","cmd":"size"}', b"", b" ", b"\t \r", b"\r", b"\x0b", b"\x0c",
     b"\xc2\xa0", b"// x", b"{\"cmd\":\"size\"/**/}",
 ]  # fmt: skip

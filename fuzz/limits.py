@@ -45,7 +45,13 @@ def many_decorations() -> list[bytes]:
         b'{"cmd":"decorate","owner":1,"remove":[7],"add":[{"at":[1,2],"stick":1}]}',
         b'{"cmd":"deco","id":7}',
         b'{"cmd":"decos","at":[1,2]}',
-        b'{"cmd":"edit","ops":[{"at":[0,0],"text":"xyz"}]}',
+        b'{"cmd":"edit","ops":[{"at":[0,0],"text":"x\\nz"}]}',
+        b'{"cmd":"deco","id":1048577}',
+        b'{"cmd":"eol","kind":"crlf"}',
+        b'{"cmd":"deco","id":1}',
+        b'{"cmd":"decos","at":[5,6]}',
+        b'{"cmd":"undo"}',
+        b'{"cmd":"deco","id":1}',
         b'{"cmd":"deco","id":1048577}',
     ]
     return lines

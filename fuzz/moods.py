@@ -6,7 +6,7 @@ import clusters
 from brackets import MOST_OPEN, STANDARD, Pairs
 
 WEIGHTS = {
-    "edit": 30, "undo": 8, "redo": 8, "stop": 4, "version": 3, "size": 1,
+    "edit": 30, "undo": 8, "redo": 8, "stop": 4, "version": 3, "size": 1, "eol": 2,
     "decorate": 7, "deco": 4, "decos": 4,
     "line": 3, "value": 3, "offset": 4, "position": 5, "stops": 3,
     "snapshot": 2, "read": 3, "close": 1,
@@ -35,6 +35,8 @@ class Mood(NamedTuple):
     ops: int = 40  # the most ops of an edit
     run: int = 0  # how many an undo and a redo may be in turn, or undos and then as many redos
     is_apart: bool = False  # edits keep to the front, and questions to the end
+    of_kind: float = 0.3  # how often a new text has a kind of line ending
+    at_endings: float = 0.03  # how often new decorations stand around one line ending
 
 
 def more(**weights: int) -> dict[str, int]:
@@ -42,6 +44,7 @@ def more(**weights: int) -> dict[str, int]:
 
 
 FAR = {name: 1 for name in WEIGHTS} | {"edit": 150, "undo": 4, "redo": 4, "decos": 2}  # long runs without a question
+ENDED = more(eol=8, undo=15, redo=8, stop=8, version=6, decorate=25, deco=12, decos=12, position=12, value=8, open=3)
 
 MOODS = {
     "mixed": (10, Mood(40, WEIGHTS, [LETTERS, BREAKS, PAIRED, JOINED, QUOTED], 4)),
@@ -51,6 +54,7 @@ MOODS = {
     "nests": (6, Mood(40, more(brackets=25, match=20, level=20, deco=1, decos=1), [BREAKS, LETTERS], 12)),
     "forest": (3, Mood(300, more(brackets=4, match=20, level=20), [BREAKS, LETTERS, LETTERS], 8)),
     "steps": (5, Mood(30, more(undo=30, redo=30, stop=15, version=10), [LETTERS, BREAKS], 2)),
+    "endings": (5, Mood(30, ENDED, [BREAKS[2:], BREAKS, LETTERS], 2, of_kind=0.1, at_endings=0.5)),
     "shelves": (3, Mood(30, more(snapshot=20, read=30, close=8, edit=20), [PAIRED, LETTERS, BREAKS], 1)),
     "clusters": (3, Mood(25, more(stops=40, line=5), [JOINED, JOINED, JOINED, BREAKS], 1)),
     "hostile": (3, Mood(20, more(hostile=60), [LETTERS, BREAKS, PAIRED], 1)),
@@ -60,7 +64,7 @@ MOODS = {
     "ragged": (2, Mood(400, more(brackets=4, match=15, level=25), [BREAKS, LETTERS], 2, ragged=9, is_apart=True)),
     "capped": (1, Mood(300, more(brackets=2, match=15, level=25), [BREAKS, LETTERS], 0, MOST_OPEN, 9, is_apart=True)),
     "far": (1, Mood(600, FAR, [BREAKS, LETTERS], 3, ragged=1, ops=150)),
-    "swings": (1, Mood(60, more(undo=15, redo=15, stop=15, level=10), [LETTERS, BREAKS, PAIRED], 3, run=60)),
+    "swings": (1, Mood(60, more(undo=15, redo=15, stop=15, level=10, eol=5), [LETTERS, BREAKS, PAIRED], 3, run=60)),
     "pieces": (1, Mood(1500, more(edit=60, snapshot=15, read=30, close=12), [PAIRED, LETTERS, BREAKS], 1, ops=150)),
     "large": (1, Mood(4000, more(brackets=4, open=2, stops=1, hostile=1), [LETTERS, LETTERS, BREAKS, PAIRED], 2)),
 }

@@ -1,7 +1,11 @@
-"""Ops of an edit: how they change a text, how they are undone, and how a decoration follows them."""
+"""Ops of an edit: how they change a text, how they are undone, and how a decoration follows them; and how it follows a
+change of the kind of line ending."""
+from bisect import bisect_right
 from collections.abc import Iterable
 from enum import Enum, auto
 from typing import NamedTuple
+
+from texts import Text
 
 GROWS_AT_START = (0, 2)  # modes in which a start stays where text is put in at it
 STAYS_AT_END = (1, 2)  # modes in which an end does
@@ -100,3 +104,16 @@ def carried(decorations: dict[int, Decoration], ops: list[Op]) -> dict[int, Deco
     for op in reversed(ops):
         decorations = {id: moved(decoration, op) for id, decoration in decorations.items()}
     return decorations
+
+
+def recast_mark(mark: int, old: Text, new: Text) -> int:
+    """Where a mark stands when lines end otherwise: it keeps line and column, and leaves an ending to its line's content."""
+    line = bisect_right(old.starts, mark) - 1
+    column = min(mark, old.ends[line]) - old.starts[line]
+    return new.starts[line] + column
+
+
+def recast(decorations: dict[int, Decoration], old: Text, new: Text) -> dict[int, Decoration]:
+    """All decorations after a change of the text into one of the same lines with other endings."""
+    moves = {mark: recast_mark(mark, old, new) for it in decorations.values() for mark in (it.start, it.end)}
+    return {id: it.at(moves[it.start], moves[it.end]) for id, it in decorations.items()}

@@ -9,13 +9,17 @@ import hostile
 from brackets import STANDARD
 from flat import UNJUDGED, Document, Flat
 from moods import Mood, drawn_alphabet, drawn_mood, drawn_table, opened_brackets
-from texts import cuts_pair
+from texts import ENDINGS
 
 ODD_NUMBERS = [0, 1, 2, 2**31, 2**32, 2**53 + 1, 2**63 - 1, 2**63, 2**64 - 1, 2**64]
 NO_TABLES = [
     [], [["a", "a"]], [["", "b"]], [["a"]], [["a", "b", "c"]], [["a\r", "b"]], [["a", "\nb"]], [["x" * 33, "y"]],
     [["a", "b"], ["b", "c"]], [[chr(64 + n), chr(256 + n)] for n in range(65)], [["\U0001f600" * 17, "y"]], "()", [1],
 ]  # fmt: skip
+NO_CHANGES = [
+    '{"cmd":"eol"}', '{"cmd":"eol","eol":"lf"}', '{"cmd":"eol","kind":"lf","n":1}', '{"cmd":"eol","kind":"crlf","text":""}',
+]  # fmt: skip
+NO_KINDS = ["mixed", "cr", "LF", "lf ", "", "\n", None, True, 1, ["lf"], {"kind": "lf"}]
 
 
 class Script(NamedTuple):
@@ -119,17 +123,16 @@ class Writer:
         elif kind < 0.45:
             place = self.place
         elif kind < 0.6:
-            place = self.draw.choice(self.document.text.starts) - self.draw.randint(0, 2)
+            place = self.draw.choice(self.document.text.starts) - self.draw.choice([0, 1, 1, 2])
         else:
             place = self.draw.randint(0, units)
         place = min(max(place + (self.few() if self.chance(0.2) else 0), 0), units)
-        is_half = cuts_pair(self.document.text.units, place)
-        return place - 1 if is_half and self.chance(0.9) else place
+        return place - 1 if self.document.text.cuts(place) and self.chance(0.9) else place
 
     def span(self) -> tuple[int, int]:
         start = self.offset()
         end = min(start + self.few(), len(self.document.text.units))
-        if cuts_pair(self.document.text.units, end) and self.chance(0.9):
+        if self.document.text.cuts(end) and self.chance(0.9):
             end += 1
         if self.chance(0.1):
             end = self.offset()
@@ -183,10 +186,23 @@ class Writer:
         opening = opened_brackets(self.draw, self.mood, self.table)
         text = self.spelled(opening + self.text(self.mood.units))
         self.mood = self.mood._replace(units=self.mood.units + len(opening))
+        kind = f',"eol":{self.kind()}' if self.chance(self.mood.of_kind) else ""
         if self.table is STANDARD and self.chance(0.8):
-            return f'{{"cmd":"open","text":{text}}}'
+            return f'{{"cmd":"open","text":{text}{kind}}}'
         table = self.draw.choice(NO_TABLES) if self.chance(0.05) else self.table
-        return f'{{"cmd":"open","text":{text},"brackets":{json.dumps(table, ensure_ascii=self.chance(0.5))}}}'
+        return f'{{"cmd":"open","text":{text},"brackets":{json.dumps(table, ensure_ascii=self.chance(0.5))}{kind}}}'
+
+    def kind(self) -> str:
+        """A kind of line ending, mostly another than that of the text; now and then none."""
+        if self.chance(0.03):
+            return json.dumps(self.draw.choice(NO_KINDS))
+        others = [kind for kind in ENDINGS if kind != self.document.text.kind]
+        return json.dumps(self.draw.choice(others if self.chance(0.7) else [*ENDINGS]))
+
+    def eol(self) -> str:
+        if self.chance(0.04):
+            return self.draw.choice(NO_CHANGES)
+        return f'{{"cmd":"eol","kind":{self.kind()}}}'
 
     def edit(self) -> str:
         many = self.mood.ops if self.chance(0.03) else min(self.mood.ops, 5)
@@ -221,6 +237,8 @@ class Writer:
         add = [self.new_decoration() for _ in range(60 if self.chance(0.005) else self.few())]
         if len(self.document.decorations) < self.mood.heap and self.chance(0.4):
             add = self.heaped()
+        elif self.chance(self.mood.at_endings):
+            add = self.at_an_ending()
         return f'{{"cmd":"decorate","owner":{owner},"remove":{json.dumps(remove)},"add":[{",".join(add)}]}}'
 
     def heaped(self) -> list[str]:
@@ -232,11 +250,17 @@ class Writer:
             edges = [(self.whole(self.few()), self.whole(units - self.few())) for _ in edges]
         return [self.spelled_decoration(min(edge), max(edge), self.draw.randint(0, 3)) for edge in edges]
 
+    def at_an_ending(self) -> list[str]:
+        """Decorations that start and end close to the end of a line, also inside its ending where that is a place."""
+        end = self.draw.choice(self.document.text.ends)
+        places = [self.whole(end + self.draw.randint(-1, 3)) for _ in range(2 * self.draw.randint(2, 6))]
+        edges = zip(places[::2], places[1::2])
+        return [self.spelled_decoration(min(edge), max(edge), self.draw.randint(0, 3)) for edge in edges]
+
     def whole(self, place: int) -> int:
         """The nearest place of the text that is no later."""
-        units = self.document.text.units
-        place = min(max(place, 0), len(units))
-        return place - cuts_pair(units, place)
+        place = min(max(place, 0), len(self.document.text.units))
+        return place - self.document.text.cuts(place)
 
     def new_decoration(self) -> str:
         stick = self.draw.choice([4, *ODD_NUMBERS]) if self.chance(0.01) else self.draw.randint(0, 3)
@@ -302,6 +326,7 @@ def about(asked: Callable[[Writer, str], str], name: str) -> Callable[[Writer], 
 MAKERS: dict[str, Callable[[Writer], str]] = {
     "open": Writer.open,
     "edit": Writer.edit,
+    "eol": Writer.eol,
     "decorate": Writer.decorate,
     "deco": Writer.deco,
     "decos": Writer.decos,

@@ -6,6 +6,8 @@ ASTRAL = re.compile("[\U00010000-\U0010ffff]")
 BREAK = re.compile("\r\n|\r|\n")
 ESCAPED = re.compile('[\x00-\x1f"\\\\]')
 ESCAPES = {'"': '\\"', "\\": "\\\\", "\n": "\\n", "\r": "\\r", "\t": "\\t"}
+MIXED = "mixed"  # the kind of a text whose line endings may be any
+ENDINGS = {"lf": "\n", "crlf": "\r\n"}  # those of the other kinds
 
 
 def units_of(text: str) -> str:
@@ -45,11 +47,22 @@ def cuts_pair(units: str, at: int) -> bool:
     return 0 < at < len(units) and is_high(units[at - 1]) and is_low(units[at])
 
 
-class Text:
-    """A text, with where its lines start, and where their contents end."""
+def cuts_ending(units: str, at: int) -> bool:
+    """Whether the place stands between a CR and the LF behind it."""
+    return at > 0 and units[at - 1 : at + 1] == "\r\n"
 
-    def __init__(self, units: str) -> None:
+
+def normalized(units: str, kind: str) -> str:
+    """The units with the line ending of the kind in the place of each other one."""
+    return units if kind == MIXED else BREAK.sub(ENDINGS[kind], units)
+
+
+class Text:
+    """A text whose line endings are those of its kind, with where its lines start, and where their contents end."""
+
+    def __init__(self, units: str, kind: str = MIXED) -> None:
         self.units = units
+        self.kind = kind
 
     @cached_property
     def breaks(self) -> list[tuple[int, int]]:
@@ -64,4 +77,8 @@ class Text:
         return [*(start for start, _ in self.breaks), len(self.units)]
 
     def is_place(self, offset: int) -> bool:
-        return offset <= len(self.units) and not cuts_pair(self.units, offset)
+        return offset <= len(self.units) and not self.cuts(offset)
+
+    def cuts(self, offset: int) -> bool:
+        """Whether the offset stands inside a pair of surrogates, or inside the CR LF of a text that has these alone."""
+        return cuts_pair(self.units, offset) or (self.kind == "crlf" and cuts_ending(self.units, offset))

@@ -22,6 +22,7 @@ MOST_NUMBER = 2**64 - 1
 MOST_NESTING = 127
 MOST_PAIRS = 64
 MOST_BRACKET_UNITS = 32
+KINDS = ("lf", "crlf")
 USAGE, UNREADABLE = 2, 4
 SHOWN = 40
 
@@ -367,6 +368,15 @@ def bracket(node: Node, name: str) -> None:
         raise Fault(node.at, f"{name} has a CR or LF, and no bracket has")
 
 
+def kind(node: Node, name: str) -> None:
+    """The word of a kind of line ending."""
+    wanted = " or ".join(f"`{word}`" for word in KINDS)
+    if node.kind != "text":
+        wrong(node, name, wanted)
+    if node.value not in KINDS:
+        raise Fault(node.at, f"{name} is `{shown(node.value)}`, and {wanted} is wanted")
+
+
 def pairs(node: Node, name: str) -> None:
     list_of(pair, "an array of pairs")(node, name)
     if not 1 <= len(node.value) <= MOST_PAIRS:
@@ -379,11 +389,12 @@ def pairs(node: Node, name: str) -> None:
 
 
 COMMANDS: dict[str, Fields] = {
-    "open": fields({"brackets": pairs}, text=text),
+    "open": fields({"brackets": pairs, "eol": kind}, text=text),
     "edit": fields(ops=list_of(op, "an array of one op or more", least=1)),
     "undo": fields(),
     "redo": fields(),
     "stop": fields(),
+    "eol": fields(kind=kind),
     "decorate": fields(
         owner=number,
         remove=list_of(number, "an array of numbers"),

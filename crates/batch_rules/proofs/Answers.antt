@@ -24,7 +24,7 @@ pub accepted_in_order : (kind : Kind) (x : List ℕ) (ops : List Op) → has_bad
 accepted_in_order kind x ops good apart fits = rw (good, apart, le-ltb most_units (length (applied x ops)) fits) refl
 
 -- it makes no difference to the rule in which order the ops come
-checked_ops-sorted_ops : (kind : Kind) (x : List ℕ) (ops : List Op) → checked_ops kind x (sorted_ops ops) ≡ checked_ops kind x ops
+pub checked_ops-sorted_ops : (kind : Kind) (x : List ℕ) (ops : List Op) → checked_ops kind x (sorted_ops ops) ≡ checked_ops kind x ops
 checked_ops-sorted_ops kind x ops = rw (has_bad_span-sorted_ops kind x ops, sorted_ops_again ops) refl
 
 put_in_order-op_in : (kind : Kind) (op : Op) (ops : List Op)

@@ -8,7 +8,7 @@ use Rattle.text_rules.specs.Edits.{edited}
 use Rattle.batch_rules.specs.Batches.{applied_from, StandFrom, edited_backwards, text_units}
 use Rattle.batch_rules.proofs.Standing.{standing_within, length-applied_from}
 
-backwards_from : (at : ℕ) (x : List ℕ) (ops : List Op) → StandFrom at x ops → edited_backwards x ops ≡ take at x ++ applied_from at x ops
+pub backwards_from : (at : ℕ) (x : List ℕ) (ops : List Op) → StandFrom at x ops → edited_backwards x ops ≡ take at x ++ applied_from at x ops
 backwards_from at x [] standing = sym (take-append-drop at x)
 backwards_from at x (op ∷ ops) standing =
     let s : ℕ = op.span.start in

@@ -16,7 +16,7 @@ inverse_stands at now x y (op ∷ ops) standing e =
     (omega arith, omega arith, inverse_stands op.span.end later x y ops standing.2 (omega (arith, e, length-applied_from at x op ops standing)))
 
 -- a list in three parts, cut between them
-middle_cut : (k n m : ℕ) (a b c y : List ℕ) → length a ≡ k → length b ≡ n → m ≡ k + n → y ≡ a ++ b ++ c → (take k y ≡ a) × (drop m y ≡ c)
+pub middle_cut : (k n m : ℕ) (a b c y : List ℕ) → length a ≡ k → length b ≡ n → m ≡ k + n → y ≡ a ++ b ++ c → (take k y ≡ a) × (drop m y ≡ c)
 middle_cut k n m a b c y la lb e same =
     let whole : y ≡ a ++ (b ++ c) = same ∙ append_assoc a b c in (
       ap (take k) whole ∙ take_at a (b ++ c) k la,
@@ -24,7 +24,7 @@ middle_cut k n m a b c y la lb e same =
     )
 
 -- `now` in the new text is the place `at` of the old one
-inverse_applied : (at now : ℕ) (x y : List ℕ) (ops : List Op) → StandFrom at x ops → drop now y ≡ applied_from at x ops
+pub inverse_applied : (at now : ℕ) (x y : List ℕ) (ops : List Op) → StandFrom at x ops → drop now y ≡ applied_from at x ops
     → applied_from now y (inverse_from at now x ops) ≡ drop at x
 inverse_applied at now x y [] standing e = e
 inverse_applied at now x y (op ∷ ops) standing e =

@@ -4,3 +4,4 @@ pub mod Answers
 pub mod Inverses
 pub mod Backwards
 pub mod Pairs
+pub mod Keeping

@@ -16,7 +16,7 @@ abbrev pub HasPairedText : Op → Type 0
 HasPairedText op = IsPaired op.text
 
 -- the rest of a text has the places of the text
-cuts_pair-drop : (at k : ℕ) (x : List ℕ) → cuts_pair (drop at x) (suc k) ≡ cuts_pair x (at + suc k)
+pub cuts_pair-drop : (at k : ℕ) (x : List ℕ) → cuts_pair (drop at x) (suc k) ≡ cuts_pair x (at + suc k)
 cuts_pair-drop at k x =
     let here : nat_lt 0 (suc k) ≡ true = lt-ltb 0 (suc k) (omega arith) in
     let there : nat_lt 0 (at + suc k) ≡ true = lt-ltb 0 (at + suc k) (omega arith) in

@@ -1,9 +1,9 @@
 -- A batch of edits: several ops whose spans are all of one text, applied at once.
-use Rattle.std.specs.Prelude.{ℕ, ◌+◌, ◌-◌, ◌^◌, ◌≤◌, ◌==◌, ◌&&◌, ◌||◌, Bool, false, nat_lt, nat_le, if◌then◌else◌, List, [], ◌∷◌, ◌++◌, length, map, take, drop, sum_by, Result, Ok, Err, ⊤}
+use Rattle.std.specs.Prelude.{ℕ, ◌+◌, ◌-◌, ◌≤◌, ◌==◌, ◌&&◌, ◌||◌, Bool, false, nat_lt, nat_le, if◌then◌else◌, List, [], ◌∷◌, ◌++◌, length, map, take, drop, sum_by, Result, Ok, Err, ⊤}
 use Rattle.std.specs.List.{list_any}
 use Rattle.unit_text.specs.declared.kind.Kind.{Kind}
 use Rattle.unit_text.specs.declared.kind.Kind.TheVariants.{Mixed, Lf, Crlf}
-use Rattle.unit_text.specs.Kinds.{normalized}
+use Rattle.unit_text.specs.Kinds.{normalized, IsOfKind}
 use Rattle.text_rules.specs.declared.Op.{Op}
 use Rattle.text_rules.specs.declared.TheConstants.{MOST_TEXT_UNITS}
 use Rattle.text_rules.specs.Edits.{is_bad_span, edited}
@@ -95,6 +95,10 @@ inverse_of x ops = inverse_from 0 0 x (sorted_ops ops)
 abbrev pub edited_backwards : List ℕ → List Op → List ℕ
 edited_backwards x [] = x
 edited_backwards x (op ∷ ops) = edited (edited_backwards x ops) op
+
+-- carried out so, the text is of the kind at each moment
+abbrev pub KeepsKind : Kind → List ℕ → List Op → Type 0
+KeepsKind kind x ops = (k : ℕ) → IsOfKind kind (edited_backwards x (drop k ops))
 
 -- how many units the texts of the ops have together
 abbrev pub text_units : List Op → ℕ

@@ -1,3 +1,4 @@
 pub mod Places
 pub mod RowLengths
+pub mod PairedEndings
 pub mod PairedStates

@@ -1,16 +1,17 @@
 -- No call brings a lone surrogate into a document that has none, where the texts that it is given have none.
-use Rattle.std.proofs.Common.{◌≡◌, ℕ, ◌+◌, ◌<◌, not, map, drop, filter, find, option_map, arith, Bool, true, false, nat_lt, nat_le, if◌then◌else◌, List, [], ◌∷◌, ◌++◌, length, Option, Some, IfSome, Result, Ok, Err, refl, ap, sym, subst}
+use Rattle.std.proofs.Common.{◌≡◌, ℕ, ◌+◌, ◌<◌, ◌||◌, not, map, drop, filter, find, option_map, arith, Bool, true, false, nat_lt, nat_le, if◌then◌else◌, List, [], ◌∷◌, ◌++◌, length, Option, Some, None, IfSome, Result, Ok, Err, refl, ap, sym, subst}
 use Rattle.std.specs.Prelude.{⊤, All}
 use Rattle.std.proofs.lemmas.Bool.{eqb-true, ne_eqb, leb-false}
 use Rattle.std.proofs.lemmas.List.{drop_all}
 use Rattle.std.proofs.lemmas.List.Elements.{All-nil, All-cons, All-head, All-tail, All-push, All-filter}
 use Rattle.std.specs.Char.Utf16.{utf16_chars}
-use Rattle.unit_text.specs.declared.kind.Kind.TheVariants.{Mixed}
+use Rattle.unit_text.specs.declared.kind.Kind.{Kind}
 use Rattle.unit_text.specs.Units.{cuts_pair, IsPaired}
+use Rattle.unit_text.specs.Kinds.{normalized}
 use Rattle.unit_text.proofs.Paired.{IsPaired-cut}
 use Rattle.text_rules.specs.declared.Op.{Op}
 use Rattle.batch_rules.specs.Refusals.{BatchRefusal}
-use Rattle.batch_rules.specs.Batches.{most_units, checked_batch, applied, applied_from}
+use Rattle.batch_rules.specs.Batches.{most_units, checked_batch, ops_in, applied_from}
 use Rattle.batch_rules.proofs.Order.{All-sorted_ops}
 use Rattle.batch_rules.proofs.Pairs.{HasPairedText, IsPaired-applied}
 use Rattle.batch_rules.proofs.Standing.{accepted}
@@ -20,13 +21,14 @@ use Rattle.decoration_rules.specs.declared.NewDeco.{NewDeco}
 use Rattle.decoration_rules.specs.Decorations.{Decorations, decorated}
 use Rattle.undo_rules.specs.Stack.{Step, Stack, joined, new_step, undone_lists, redone_lists, undone, redone}
 use Rattle.snapshot_rules.specs.Refusals.{ShelfRefusal}
-use Rattle.snapshot_rules.specs.Snapshots.{Snapshot, FlatShelf, IsRising, IsSound, empty_shelf, has_id, skipped, front, front_of, least_read, is_full, is_open, flat_take, flat_peek, flat_close}
+use Rattle.snapshot_rules.specs.Snapshots.{Snapshot, FlatShelf, IsRising, IsSound, empty_shelf, has_id, skipped, front, is_full, is_open, flat_take, flat_close}
+use Rattle.document_rules.proofs.PairedEndings.{IsPaired-normalized, paired_texts_in}
 use Rattle.document_rules.specs.declared.ModelError.{ModelError}
 use Rattle.document_rules.specs.Refusals.{FlatRefusal, limit}
-use Rattle.document_rules.specs.Document.{greatest_version, FlatChange, FlatState, new_document, flat_open, after_batch, edited_by, flat_edit, text_before, text_after, carried_back, carried_on, returned, undone_step, flat_undo, redone_step, flat_redo, with_decorations, flat_decorate}
+use Rattle.document_rules.specs.Document.{greatest_version, FlatText, Deed, batch, recast, FlatChange, FlatState, new_document, flat_open, text_now, after_deed, after_batch, edited_by, flat_edit, is_same_kind, recast_to, carried_to, after_recast, flat_eol, carried_by, flat_stop, text_before, text_after, carried_back, carried_on, returned, undone_step, flat_undo, redone_step, flat_redo, with_decorations, flat_decorate}
 use Rattle.document_rules.specs.Outcomes.{Changes, ChangesWith, Moves}
-use Rattle.document_rules.specs.Snapshots.{with_shelf, flat_snapshot, units_read, flat_peek_of, flat_skipped, flat_close_of, EndsBesidePairs}
-use Rattle.document_rules.specs.Paired.{IsPairedChange, ArePairedSteps, IsPairedShelf, IsPairedState}
+use Rattle.document_rules.specs.Snapshots.{with_shelf, flat_snapshot, flat_skipped, flat_close_of, EndsBesidePairs}
+use Rattle.document_rules.specs.Paired.{IsPairedDeed, IsPairedChange, ArePairedSteps, IsPairedShelf, IsPairedState}
 
 abbrev IsPairedStep : Step FlatChange → Type 0
 IsPairedStep step = All IsPairedChange step.changes
@@ -63,11 +65,11 @@ paired_redone undo [] is_open h k = record { undo = h; redo = k }
 paired_redone undo (step ∷ steps) is_open h k =
     record { undo = All-cons IsPairedStep step undo (All-head IsPairedStep step steps k) h; redo = All-tail IsPairedStep step steps k }
 
-paired_before : (now : List ℕ) (changes : List FlatChange) → IsPaired now → All IsPairedChange changes → IsPaired (text_before now changes)
+paired_before : (now : FlatText) (changes : List FlatChange) → IsPaired now.units → All IsPairedChange changes → IsPaired (text_before now changes).units
 paired_before now [] h kept = h
 paired_before now (change ∷ changes) h kept = (All-head IsPairedChange change changes kept).before
 
-paired_after : (now : List ℕ) (changes : List FlatChange) → IsPaired now → All IsPairedChange changes → IsPaired (text_after now changes)
+paired_after : (now : FlatText) (changes : List FlatChange) → IsPaired now.units → All IsPairedChange changes → IsPaired (text_after now changes).units
 paired_after now [] h kept = h
 paired_after now (change ∷ changes) h kept =
     paired_after change.after changes (All-head IsPairedChange change changes kept).after (All-tail IsPairedChange change changes kept)
@@ -154,41 +156,57 @@ accepted_move : (refused : Bool) (new f : FlatState) (e : FlatRefusal) → (if r
 accepted_move true new f e same h = absurd cc
 accepted_move false new f e same h = let is : new ≡ f = cc in subst IsPairedState is h
 
-pub opened_paired : (text : List ℕ) (table : Table) (f : FlatState) → flat_open text table ≡ Ok f → IsPaired text → IsPairedState f
-opened_paired text table f e h =
-    accepted_value (nat_lt most_units (length text)) (new_document text table) f limit e
-    (record { units = h; undo = All-nil IsPairedStep; redo = All-nil IsPairedStep; shelf = All-nil HasPairedRest })
+pub opened_paired : (text : List ℕ) (table : Table) (kind : Kind) (f : FlatState) → flat_open text table kind ≡ Ok f → IsPaired text → IsPairedState f
+opened_paired text table kind f e h =
+    accepted_value (nat_lt most_units (length (normalized kind text))) (new_document (normalized kind text) table kind) f limit e
+    (record { units = IsPaired-normalized kind text h; undo = All-nil IsPairedStep; redo = All-nil IsPairedStep; shelf = All-nil HasPairedRest })
 
-after_batch_paired : (f : FlatState) (ops sorted : List Op) → checked_batch Mixed f.units ops ≡ Ok sorted → IsPairedState f → All HasPairedText ops → IsPairedState (after_batch f ops sorted)
+after_deed_paired : (f : FlatState) (deed : Deed) (text : FlatText) (d : Decorations) → IsPairedState f → IsPairedDeed deed → IsPaired text.units
+    → IsPairedState (after_deed f deed text d)
+after_deed_paired f deed text d h texts after = record {
+  units = after;
+  undo = paired_joined f.history.is_open f.history.undo (record { before = text_now f; deed = deed; after = text }) f.alternative (f.version + 1)
+      h.undo (record { before = h.units; deed = texts; after = after });
+  redo = All-nil IsPairedStep;
+  shelf = h.shelf;
+}
+
+after_batch_paired : (f : FlatState) (ops sorted : List Op) → checked_batch f.kind f.units ops ≡ Ok sorted → IsPairedState f → All HasPairedText ops → IsPairedState (after_batch f sorted)
 after_batch_paired f ops sorted rule h texts =
-    let ok = accepted Mixed f.units ops sorted rule in
-    let in_order : All HasPairedText sorted = rw ok.in_order (All-sorted_ops HasPairedText ops texts) in
-    let from_sorted : IsPaired (applied_from 0 f.units sorted) = IsPaired-applied Mixed f.units sorted ok.standing ok.good in_order h.units in
-    let after : IsPaired (applied f.units ops) = subst (λ (s : List Op). IsPaired (applied_from 0 f.units s)) ok.in_order from_sorted in
-    record {
-      units = after;
-      undo = paired_joined f.history.is_open f.history.undo (record { before = f.units; ops = sorted; after = applied f.units ops }) f.alternative (f.version + 1)
-          h.undo (record { before = h.units; texts = in_order; after = after });
-      redo = All-nil IsPairedStep;
-      shelf = h.shelf;
-    }
+    let ok = accepted f.kind f.units (ops_in f.kind ops) sorted rule in
+    let in_order : All HasPairedText sorted = rw ok.in_order (All-sorted_ops HasPairedText (ops_in f.kind ops) (paired_texts_in f.kind ops texts)) in
+    after_deed_paired f (batch sorted) (record { units = applied_from 0 f.units sorted; kind = f.kind }) (carried_by f.decorations sorted) h in_order
+    (IsPaired-applied f.kind f.units sorted ok.standing ok.good in_order h.units)
 
-edited_by_paired : (f g : FlatState) (ops : List Op) (r : Result (List Op) BatchRefusal) → checked_batch Mixed f.units ops ≡ r → edited_by f ops r ≡ Ok g
+edited_by_paired : (f g : FlatState) (ops : List Op) (r : Result (List Op) BatchRefusal) → checked_batch f.kind f.units ops ≡ r → edited_by f r ≡ Ok g
     → IsPairedState f → All HasPairedText ops → IsPairedState g
 edited_by_paired f g ops (Err e) rule done h texts = absurd cc
 edited_by_paired f g ops (Ok sorted) rule done h texts =
-    accepted_value (nat_le greatest_version f.version) (after_batch f ops sorted) g limit done (after_batch_paired f ops sorted rule h texts)
+    accepted_value (nat_le greatest_version f.version) (after_batch f sorted) g limit done (after_batch_paired f ops sorted rule h texts)
 
 pub edited_paired : (f g : FlatState) (ops : List Op) → flat_edit f ops ≡ Ok g → IsPairedState f → All HasPairedText ops → IsPairedState g
-edited_paired f g ops done h texts = edited_by_paired f g ops (checked_batch Mixed f.units ops) refl done h texts
+edited_paired f g ops done h texts = edited_by_paired f g ops (checked_batch f.kind f.units ops) refl done h texts
+
+stopped_paired : (f : FlatState) → IsPairedState f → IsPairedState (flat_stop f)
+stopped_paired f h = record { units = h.units; undo = h.undo; redo = h.redo; shelf = h.shelf }
+
+after_recast_paired : (f : FlatState) (kind : Kind) → IsPairedState f → IsPairedState (after_recast f kind)
+after_recast_paired f kind h =
+    stopped_paired _ (after_deed_paired (flat_stop f) recast (recast_to kind f.units) (carried_to f.decorations f.units (normalized kind f.units))
+    (stopped_paired f h) tt (IsPaired-normalized kind f.units h.units))
+
+recast_paired : (f g : FlatState) (kind : Kind) (same refused : Bool)
+    → (if same then Ok None else (if refused then Err limit else Ok (Some (after_recast f kind)))) ≡ Ok (Some g) → IsPairedState f → IsPairedState g
+recast_paired f g kind true refused done h = absurd cc
+recast_paired f g kind false refused done h = accepted_move refused (after_recast f kind) g limit done (after_recast_paired f kind h)
 
 undone_step_paired : (f g : FlatState) (steps : List (Step FlatChange)) → ArePairedSteps steps → undone_step f steps ≡ Ok (Some g) → IsPairedState f → IsPairedState g
 undone_step_paired f g [] kept done h = absurd cc
 undone_step_paired f g (step ∷ steps) kept done h =
     let lists = paired_undone f.history.undo f.history.redo h.undo h.redo in
     accepted_move (nat_le greatest_version f.version)
-    (returned f (text_before f.units step.changes) step.alt_before (carried_back f.decorations step.changes) (undone f.history)) g limit done
-    (record { units = paired_before f.units step.changes h.units (All-head IsPairedStep step steps kept); undo = lists.undo; redo = lists.redo; shelf = h.shelf })
+    (returned f (text_before (text_now f) step.changes) step.alt_before (carried_back f.decorations step.changes) (undone f.history)) g limit done
+    (record { units = paired_before (text_now f) step.changes h.units (All-head IsPairedStep step steps kept); undo = lists.undo; redo = lists.redo; shelf = h.shelf })
 
 pub undone_paired : (f g : FlatState) → flat_undo f ≡ Ok (Some g) → IsPairedState f → IsPairedState g
 undone_paired f g done h = undone_step_paired f g f.history.undo h.undo done h
@@ -198,8 +216,8 @@ redone_step_paired f g [] kept done h = absurd cc
 redone_step_paired f g (step ∷ steps) kept done h =
     let lists = paired_redone f.history.undo f.history.redo f.history.is_open h.undo h.redo in
     accepted_move (nat_le greatest_version f.version)
-    (returned f (text_after f.units step.changes) step.alt_after (carried_on f.decorations step.changes) (redone f.history)) g limit done
-    (record { units = paired_after f.units step.changes h.units (All-head IsPairedStep step steps kept); undo = lists.undo; redo = lists.redo; shelf = h.shelf })
+    (returned f (text_after (text_now f) step.changes) step.alt_after (carried_on f.decorations step.changes) (redone f.history)) g limit done
+    (record { units = paired_after (text_now f) step.changes h.units (All-head IsPairedStep step steps kept); undo = lists.undo; redo = lists.redo; shelf = h.shelf })
 
 pub redone_paired : (f g : FlatState) → flat_redo f ≡ Ok (Some g) → IsPairedState f → IsPairedState g
 redone_paired f g done h = redone_step_paired f g f.history.redo h.redo done h
@@ -217,10 +235,10 @@ moved_paired (Ok true) old new rule done by_rule h = by_rule new done
 moved_paired (Ok false) old new rule done by_rule h = subst IsPairedState (sym done.1) h
 moved_paired (Err e) old new rule done by_rule h = subst IsPairedState (sym done.0) h
 
-pub IsPairedState-open : (result : Result ⊤ ModelError) (old new : FlatState) (text : List ℕ) (table : Table) → Changes result old new (flat_open text table)
+pub IsPairedState-open : (result : Result ⊤ ModelError) (old new : FlatState) (text : List ℕ) (table : Table) (kind : Kind) → Changes result old new (flat_open text table kind)
     → IsPaired text → IsPairedState old → IsPairedState new
-IsPairedState-open result old new text table done text_paired =
-    changed_paired result old new (flat_open text table) done (λ f e. opened_paired text table f e text_paired)
+IsPairedState-open result old new text table kind done text_paired =
+    changed_paired result old new (flat_open text table kind) done (λ f e. opened_paired text table kind f e text_paired)
 
 pub IsPairedState-edit : (result : Result ⊤ ModelError) (old new : FlatState) (ops : List Op) → Changes result old new (flat_edit old ops)
     → All HasPairedText ops → IsPairedState old → IsPairedState new
@@ -233,6 +251,11 @@ IsPairedState-undo result old new done h = moved_paired result old new (flat_und
 pub IsPairedState-redo : (result : Result Bool ModelError) (old new : FlatState) → Moves result old new (flat_redo old) → IsPairedState old → IsPairedState new
 IsPairedState-redo result old new done h = moved_paired result old new (flat_redo old) done (λ f e. redone_paired old f e h) h
 
+pub IsPairedState-eol : (result : Result Bool ModelError) (old new : FlatState) (kind : Kind) → Moves result old new (flat_eol old kind) → IsPairedState old → IsPairedState new
+IsPairedState-eol result old new kind done h =
+    moved_paired result old new (flat_eol old kind) done (λ f e. recast_paired old f kind (is_same_kind kind old.kind)
+    (nat_lt most_units (length (normalized kind old.units)) || nat_le greatest_version old.version) e h) h
+
 with_decorations_paired : (f g : FlatState) (d : Result Decorations DecoRefusal) → with_decorations f d ≡ Ok g → IsPairedState f → IsPairedState g
 with_decorations_paired f g (Err e) done h = absurd cc
 with_decorations_paired f g (Ok d) done h =
@@ -242,7 +265,7 @@ with_decorations_paired f g (Ok d) done h =
 pub IsPairedState-decorate : (answer : ℕ) (result : Result ℕ ModelError) (old new : FlatState) (owner : ℕ) (remove : List ℕ) (add : List NewDeco)
     → ChangesWith answer result old new (flat_decorate old owner remove add) → IsPairedState old → IsPairedState new
 IsPairedState-decorate answer (Ok n) old new owner remove add done h =
-    with_decorations_paired old new (decorated old.decorations owner remove add Mixed old.units) done.0 h
+    with_decorations_paired old new (decorated old.decorations owner remove add old.kind old.units) done.0 h
 IsPairedState-decorate answer (Err e) old new owner remove add done h = subst IsPairedState (sym done.0) h
 
 with_shelf_paired : (f g : FlatState) (r : Result FlatShelf ShelfRefusal) → with_shelf f r ≡ Ok g → ((shelf : FlatShelf) → r ≡ Ok shelf → IsPairedShelf shelf)

@@ -1,5 +1,6 @@
 -- Worked examples of the rules.
 use Rattle.std.specs.Prelude.{◌≡◌, ℕ, List, [], ◌∷◌, Result, Ok, Err, Option, Some, None, codes, false, true, refl}
+use Rattle.unit_text.specs.declared.kind.Kind.TheVariants.{Mixed, Lf, Crlf}
 use Rattle.text_rules.specs.declared.Op.{Op}
 use Rattle.decoration_rules.specs.declared.Deco.{Deco}
 use Rattle.decoration_rules.specs.declared.Mark.{Mark}
@@ -14,20 +15,23 @@ use Rattle.document_rules.specs.Snapshots.{flat_snapshot, flat_peek_of, flat_ski
 use Rattle.document_rules.specs.Stops.{flat_stops}
 use Rattle.document_rules.specs.Brackets.{flat_brackets, flat_match, flat_level}
 use Rattle.document_rules.specs.Refusals.{FlatRefusal, unknown, range, overlap, limit}
-use Rattle.document_rules.specs.Document.{FlatState, FlatChange, new_document, after_batch, flat_edit, flat_undo, flat_redo, flat_decorate, flat_deco, flat_decos, carried_on, flat_line, flat_value, flat_position, flat_offset, flat_line_count, greatest_version}
+use Rattle.document_rules.specs.Document.{FlatText, FlatState, FlatChange, batch, recast, flat_open, flat_eol, new_document, after_batch, flat_edit, flat_undo, flat_redo, flat_decorate, flat_deco, flat_decos, carried_on, flat_line, flat_value, flat_position, flat_offset, flat_line_count, greatest_version}
 
 abbrev op : ℕ → ℕ → List ℕ → Op
 op start end text = record { span = record { start = start; end = end }; text = text; force = false }
 
+abbrev mixed : List ℕ → FlatText
+mixed units = record { units = units; kind = Mixed }
+
 -- a text of these two versions, with what can be undone and redone
 abbrev at_version : ℕ → ℕ → List ℕ → Stack FlatChange → FlatState
 at_version version alternative text history =
-    record (new_document text standard_table) { version = version; alternative = alternative; history = history }
+    record (new_document text standard_table Mixed) { version = version; alternative = alternative; history = history }
 
-an_edit_over_a_break : flat_edit (new_document (codes "ab\ncd") standard_table) (op 1 4 (codes "X") ∷ [])
+an_edit_over_a_break : flat_edit (new_document (codes "ab\ncd") standard_table Mixed) (op 1 4 (codes "X") ∷ [])
     ≡ Ok (at_version 2 2 (codes "aXd") (record {
       undo = record {
-        changes = record { before = codes "ab\ncd"; ops = op 1 4 (codes "X") ∷ []; after = codes "aXd" } ∷ [];
+        changes = record { before = mixed (codes "ab\ncd"); deed = batch (op 1 4 (codes "X") ∷ []); after = mixed (codes "aXd") } ∷ [];
         alt_before = 1;
         alt_after = 2;
       } ∷ [];
@@ -36,20 +40,20 @@ an_edit_over_a_break : flat_edit (new_document (codes "ab\ncd") standard_table) 
     }))
 an_edit_over_a_break = refl
 
-an_edit_past_the_end : flat_edit (new_document (codes "ab") standard_table) (op 1 3 (codes "X") ∷ []) ≡ Err range
+an_edit_past_the_end : flat_edit (new_document (codes "ab") standard_table Mixed) (op 1 3 (codes "X") ∷ []) ≡ Err range
 an_edit_past_the_end = refl
 
-two_edits_that_overlap : flat_edit (new_document (codes "abcde") standard_table) (op 1 4 [] ∷ op 3 3 [] ∷ []) ≡ Err overlap
+two_edits_that_overlap : flat_edit (new_document (codes "abcde") standard_table Mixed) (op 1 4 [] ∷ op 3 3 [] ∷ []) ≡ Err overlap
 two_edits_that_overlap = refl
 
-an_edit_at_the_last_version : flat_edit (record (new_document (codes "ab") standard_table) { version = greatest_version })
+an_edit_at_the_last_version : flat_edit (record (new_document (codes "ab") standard_table Mixed) { version = greatest_version })
     (op 1 2 (codes "X") ∷ [])
     ≡ Err limit
 an_edit_at_the_last_version = refl
 
 -- "a", after an edit has put "b" behind it
 abbrev one_edit : FlatState
-one_edit = after_batch (new_document (codes "a") standard_table) (op 1 1 (codes "b") ∷ []) (op 1 1 (codes "b") ∷ [])
+one_edit = after_batch (new_document (codes "a") standard_table Mixed) (op 1 1 (codes "b") ∷ [])
 
 -- ... and an undo has taken it back
 abbrev undone_edit : FlatState
@@ -65,7 +69,7 @@ a_redo_makes_the_step_again = refl
 
 -- two edits without a stop are one step
 abbrev two_edits : FlatState
-two_edits = after_batch one_edit (op 2 2 (codes "c") ∷ []) (op 2 2 (codes "c") ∷ [])
+two_edits = after_batch one_edit (op 2 2 (codes "c") ∷ [])
 
 an_undo_takes_back_the_whole_step : flat_undo two_edits
     ≡ Ok (Some (at_version 4 1 (codes "a") (record { undo = []; redo = two_edits.history.undo; is_open = false })))
@@ -81,9 +85,9 @@ mark_at start end =
 
 -- "ab" with a decoration at its one inner place
 abbrev decorated_text : FlatState
-decorated_text = record (new_document (codes "ab") standard_table) { decorations = record { marks = mark_at 1 1 ∷ []; next_id = 2 } }
+decorated_text = record (new_document (codes "ab") standard_table Mixed) { decorations = record { marks = mark_at 1 1 ∷ []; next_id = 2 } }
 
-a_decoration_of_one_place : flat_decorate (new_document (codes "ab") standard_table) 1 []
+a_decoration_of_one_place : flat_decorate (new_document (codes "ab") standard_table Mixed) 1 []
     (record { span = record { start = 1; end = 1 }; stick = 0; collapse = false } ∷ [])
     ≡ Ok decorated_text
 a_decoration_of_one_place = refl
@@ -99,7 +103,7 @@ abbrev forced_op : Op
 forced_op = record (op 1 1 (codes "x")) { force = true }
 
 abbrev forced_insert : FlatState
-forced_insert = after_batch decorated_text (forced_op ∷ []) (forced_op ∷ [])
+forced_insert = after_batch decorated_text (forced_op ∷ [])
 
 a_forced_insert_moves_it : stands_at forced_insert ≡ Some (deco 2 2)
 a_forced_insert_moves_it = refl
@@ -115,7 +119,7 @@ an_undo_moves_it_back = refl
 
 -- ... and after a second insert in the same step, before it
 abbrev second_insert : FlatState
-second_insert = after_batch forced_insert (op 0 0 (codes "yy") ∷ []) (op 0 0 (codes "yy") ∷ [])
+second_insert = after_batch forced_insert (op 0 0 (codes "yy") ∷ [])
 
 a_second_insert_moves_it_on : stands_at second_insert ≡ Some (deco 4 4)
 a_second_insert_moves_it_on = refl
@@ -128,59 +132,59 @@ it_touches_the_unit_before_it = refl
 
 -- a redo forces nothing: the decoration grows, which it did not at first
 a_redo_forces_nothing : carried_on decorated_text.decorations
-    (record { before = codes "ab"; ops = forced_op ∷ []; after = codes "axb" } ∷ [])
+    (record { before = mixed (codes "ab"); deed = batch (forced_op ∷ []); after = mixed (codes "axb") } ∷ [])
     ≡ record { marks = mark_at 1 2 ∷ []; next_id = 2 }
 a_redo_forces_nothing = refl
 
-nothing_to_undo : flat_undo (new_document (codes "ab") standard_table) ≡ Ok None
+nothing_to_undo : flat_undo (new_document (codes "ab") standard_table Mixed) ≡ Ok None
 nothing_to_undo = refl
 
-the_second_line : flat_line (new_document (codes "ab\ncd") standard_table) 2 ≡ Ok (codes "cd")
+the_second_line : flat_line (new_document (codes "ab\ncd") standard_table Mixed) 2 ≡ Ok (codes "cd")
 the_second_line = refl
 
-an_empty_text_has_a_line : flat_line_count (new_document (codes "") standard_table) ≡ 1
+an_empty_text_has_a_line : flat_line_count (new_document (codes "") standard_table Mixed) ≡ 1
 an_empty_text_has_a_line = refl
 
-units_of_a_span : flat_value (new_document (codes "abcd") standard_table) (record { start = 1; end = 3 }) ≡ Ok (codes "bc")
+units_of_a_span : flat_value (new_document (codes "abcd") standard_table Mixed) (record { start = 1; end = 3 }) ≡ Ok (codes "bc")
 units_of_a_span = refl
 
-a_span_past_the_end : flat_value (new_document (codes "abcd") standard_table) (record { start = 1; end = 5 }) ≡ Err range
+a_span_past_the_end : flat_value (new_document (codes "abcd") standard_table Mixed) (record { start = 1; end = 5 }) ≡ Err range
 a_span_past_the_end = refl
 
-position_inside_a_break : flat_position (new_document (codes "a\r\nb") standard_table) 2 ≡ Some (record { line = 1; column = 3 })
+position_inside_a_break : flat_position (new_document (codes "a\r\nb") standard_table Mixed) 2 ≡ Some (record { line = 1; column = 3 })
 position_inside_a_break = refl
 
-no_position_past_the_end : flat_position (new_document (codes "ab") standard_table) 3 ≡ None
+no_position_past_the_end : flat_position (new_document (codes "ab") standard_table Mixed) 3 ≡ None
 no_position_past_the_end = refl
 
-no_offset_inside_a_break : flat_offset (new_document (codes "a\r\nb") standard_table) (record { line = 1; column = 3 }) ≡ None
+no_offset_inside_a_break : flat_offset (new_document (codes "a\r\nb") standard_table Mixed) (record { line = 1; column = 3 }) ≡ None
 no_offset_inside_a_break = refl
 
 abbrev entry : ℕ → ℕ → Status → ℕ → Entry
 entry column kind status level =
     record { place = record { lines = 0; columns = column }; len = 1; kind = kind; status = status; level = level }
 
-brackets_of_one_line : flat_brackets (new_document (codes "([)]{") standard_table) 1 1
+brackets_of_one_line : flat_brackets (new_document (codes "([)]{") standard_table Mixed) 1 1
     ≡ Ok (entry 0 0 PairedOpening 0 ∷ entry 1 1 Unclosed 1 ∷ entry 2 0 PairedClosing 0 ∷ entry 3 1 Unexpected 0 ∷ entry 4 2 Unclosed 0 ∷ [])
 brackets_of_one_line = refl
 
-no_second_line_of_brackets : flat_brackets (new_document (codes "()") standard_table) 1 2 ≡ Err range
+no_second_line_of_brackets : flat_brackets (new_document (codes "()") standard_table Mixed) 1 2 ≡ Err range
 no_second_line_of_brackets = refl
 
-the_partner_of_the_first : flat_match (new_document (codes "([)]{") standard_table) (record { line = 1; column = 1 })
+the_partner_of_the_first : flat_match (new_document (codes "([)]{") standard_table Mixed) (record { line = 1; column = 1 })
     ≡ Ok (Some (record { line = 1; column = 3 }, 1))
 the_partner_of_the_first = refl
 
-an_unclosed_one_has_no_partner : flat_match (new_document (codes "([)]{") standard_table) (record { line = 1; column = 2 }) ≡ Ok None
+an_unclosed_one_has_no_partner : flat_match (new_document (codes "([)]{") standard_table Mixed) (record { line = 1; column = 2 }) ≡ Ok None
 an_unclosed_one_has_no_partner = refl
 
-level_inside_two : flat_level (new_document (codes "([)]{") standard_table) (record { line = 1; column = 3 }) ≡ Ok 2
+level_inside_two : flat_level (new_document (codes "([)]{") standard_table Mixed) (record { line = 1; column = 3 }) ≡ Ok 2
 level_inside_two = refl
 
-level_after_a_pair : flat_level (new_document (codes "([)]{") standard_table) (record { line = 1; column = 4 }) ≡ Ok 0
+level_after_a_pair : flat_level (new_document (codes "([)]{") standard_table Mixed) (record { line = 1; column = 4 }) ≡ Ok 0
 level_after_a_pair = refl
 
-level_at_the_end : flat_level (new_document (codes "([)]{") standard_table) (record { line = 1; column = 6 }) ≡ Ok 1
+level_at_the_end : flat_level (new_document (codes "([)]{") standard_table Mixed) (record { line = 1; column = 6 }) ≡ Ok 1
 level_at_the_end = refl
 
 -- the one snapshot, of which this is left to read
@@ -189,14 +193,14 @@ one_snapshot rest = record { snapshots = record { id = 1; rest = rest } ∷ []; 
 
 -- `hi`, which was put on the shelf
 abbrev hi : FlatState
-hi = record (new_document (codes "hi") standard_table) { shelf = one_snapshot (codes "hi") }
+hi = record (new_document (codes "hi") standard_table Mixed) { shelf = one_snapshot (codes "hi") }
 
-a_snapshot_of_the_text_of_now : flat_snapshot (new_document (codes "hi") standard_table) ≡ Ok hi
+a_snapshot_of_the_text_of_now : flat_snapshot (new_document (codes "hi") standard_table Mixed) ≡ Ok hi
 a_snapshot_of_the_text_of_now = refl
 
 -- ... and then became `Xhi`
 abbrev hi_edited : FlatState
-hi_edited = after_batch hi (op 0 0 (codes "X") ∷ []) (op 0 0 (codes "X") ∷ [])
+hi_edited = after_batch hi (op 0 0 (codes "X") ∷ [])
 
 an_edit_leaves_the_snapshot : flat_peek_of hi_edited 1 2 ≡ Ok (codes "hi")
 an_edit_leaves_the_snapshot = refl
@@ -206,7 +210,7 @@ what_was_read_is_read_once = refl
 
 -- of `a` and two surrogates that are a pair, two units end inside it
 abbrev smile : FlatState
-smile = record (new_document [] standard_table) { shelf = one_snapshot (97 ∷ 0xD83D ∷ 0xDE00 ∷ []) }
+smile = record (new_document [] standard_table Mixed) { shelf = one_snapshot (97 ∷ 0xD83D ∷ 0xDE00 ∷ []) }
 
 a_unit_before_a_pair : EndsBesidePairs smile 1 1
 a_unit_before_a_pair = refl
@@ -221,11 +225,64 @@ a_read_of_one_unit : flat_peek_of hi 1 1 ≡ Err range
 a_read_of_one_unit = refl
 
 a_snapshot_is_closed : flat_close_of hi 1
-    ≡ Ok (record (new_document (codes "hi") standard_table) { shelf = record { snapshots = []; next_id = 2 } })
+    ≡ Ok (record (new_document (codes "hi") standard_table Mixed) { shelf = record { snapshots = []; next_id = 2 } })
 a_snapshot_is_closed = refl
 
-no_snapshot_to_close : flat_close_of (new_document (codes "hi") standard_table) 1 ≡ Err unknown
+no_snapshot_to_close : flat_close_of (new_document (codes "hi") standard_table Mixed) 1 ≡ Err unknown
 no_snapshot_to_close = refl
 
-no_stops_past_the_last_line : flat_stops (new_document (codes "hi") standard_table) 2 ≡ Err range
+no_stops_past_the_last_line : flat_stops (new_document (codes "hi") standard_table Mixed) 2 ≡ Err range
 no_stops_past_the_last_line = refl
+
+-- `a\r\nb\rc`, which is opened with LF, and a decoration at its second line
+abbrev three_lines : FlatState
+three_lines = record (new_document (codes "a\nb\nc") standard_table Lf) { decorations = record { marks = mark_at 2 3 ∷ []; next_id = 2 } }
+
+a_text_gets_its_endings : flat_open (codes "a\r\nb\rc") standard_table Lf ≡ Ok (new_document (codes "a\nb\nc") standard_table Lf)
+a_text_gets_its_endings = refl
+
+-- ... and then with CR LF
+abbrev three_pairs : FlatState
+three_pairs = record (at_version 2 2 (codes "a\r\nb\r\nc") (record {
+  undo = record {
+    changes = record {
+      before = record { units = codes "a\nb\nc"; kind = Lf };
+      deed = recast;
+      after = record { units = codes "a\r\nb\r\nc"; kind = Crlf };
+    } ∷ [];
+    alt_before = 1;
+    alt_after = 2;
+  } ∷ [];
+  redo = [];
+  is_open = false;
+})) { kind = Crlf; decorations = record { marks = mark_at 3 4 ∷ []; next_id = 2 } }
+
+a_change_of_endings : flat_eol three_lines Crlf ≡ Ok (Some three_pairs)
+a_change_of_endings = refl
+
+the_endings_are_so_already : flat_eol three_pairs Crlf ≡ Ok None
+the_endings_are_so_already = refl
+
+no_place_inside_an_ending : flat_position three_pairs 2 ≡ None
+no_place_inside_an_ending = refl
+
+texts_of_an_edit_get_them_too : flat_line_count (after_batch three_pairs (op 7 7 (codes "x\r\ny") ∷ [])) ≡ 4
+texts_of_an_edit_get_them_too = refl
+
+-- an undo gives text and kind back, and takes the decoration along
+abbrev undone_endings : FlatState
+undone_endings = record three_lines {
+  version = 3;
+  history = record { undo = []; redo = three_pairs.history.undo; is_open = false };
+}
+
+endings_are_taken_back : flat_undo three_pairs ≡ Ok (Some undone_endings)
+endings_are_taken_back = refl
+
+-- a decoration inside a CR LF goes to the end of its line
+abbrev inside_a_pair : FlatState
+inside_a_pair =
+    record (new_document (codes "a\r\nb") standard_table Mixed) { decorations = record { marks = mark_at 2 2 ∷ []; next_id = 2 } }
+
+it_goes_to_the_end_of_its_line : stands_back_at (flat_eol inside_a_pair Lf) ≡ Some (deco 1 1)
+it_goes_to_the_end_of_its_line = refl

@@ -1,16 +1,21 @@
 -- Documents in which each surrogate stands in a pair.
-use Rattle.std.specs.Prelude.{List, All}
+use Rattle.std.specs.Prelude.{List, All, ⊤}
 use Rattle.unit_text.specs.Units.{IsPaired}
 use Rattle.text_rules.specs.declared.Op.{Op}
 use Rattle.undo_rules.specs.Stack.{Step}
 use Rattle.snapshot_rules.specs.Snapshots.{Snapshot, FlatShelf}
-use Rattle.document_rules.specs.Document.{FlatChange, FlatState}
+use Rattle.document_rules.specs.Document.{Deed, batch, recast, FlatChange, FlatState}
 
--- a batch whose new texts, and the whole texts before and after it, have no lone surrogate
+-- the texts that a deed puts in have no lone surrogate
+abbrev pub IsPairedDeed : Deed → Type 0
+IsPairedDeed (batch ops) = All (λ (op : Op). IsPaired op.text) ops
+IsPairedDeed recast = ⊤
+
+-- neither have the whole texts before and after it
 pub record IsPairedChange (change : FlatChange) : Type 0 where
-  pub before : IsPaired change.before
-  pub texts : All (λ (op : Op). IsPaired op.text) change.ops
-  pub after : IsPaired change.after
+  pub before : IsPaired change.before.units
+  pub deed : IsPairedDeed change.deed
+  pub after : IsPaired change.after.units
 
 -- steps that keep no lone surrogate
 abbrev pub ArePairedSteps : List (Step FlatChange) → Type 0

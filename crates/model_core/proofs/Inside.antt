@@ -9,7 +9,6 @@ use Rattle.decoration_rules.specs.declared.Deco.{Deco}
 use Rattle.decoration_rules.specs.Marks.{has_id, touches, touching}
 use Rattle.decoration_rules.specs.Moves.{IsSpanIn, LieIn}
 use Rattle.decoration_rules.specs.Decorations.{deco_of, is_of, decos_in}
-use Rattle.unit_text.specs.declared.kind.Kind.TheVariants.{Mixed}
 use Rattle.text_rules.specs.Edits.{is_bad_span}
 use Rattle.document_rules.specs.Document.{FlatState, flat_deco, flat_decos}
 use Rattle.model_core.proofs.Kept.{answered}
@@ -35,6 +34,6 @@ module _ (f : FlatState) (lie : LieIn (length f.units) f.decorations.marks) wher
       → All (λ (deco : Deco). IsSpanIn deco.span (length f.units)) decos
   decos_inside span owner decos is =
       let P : Mark → Type 0 = λ mark. IsSpanIn mark.span (length f.units) in
-      subst (All (λ (deco : Deco). IsSpanIn deco.span (length f.units))) (answered (is_bad_span Mixed f.units span) (decos_in f.decorations span owner) decos is)
+      subst (All (λ (deco : Deco). IsSpanIn deco.span (length f.units))) (answered (is_bad_span f.kind f.units span) (decos_in f.decorations span owner) decos is)
       (All-map (λ (deco : Deco). IsSpanIn deco.span (length f.units)) deco_of (filter (is_of owner) (touching span f.decorations.marks))
       (All-filter (is_of owner) P (touching span f.decorations.marks) (All-filter (touches span) P f.decorations.marks lie)))

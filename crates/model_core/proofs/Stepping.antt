@@ -5,7 +5,7 @@ use Rattle.std.proofs.lemmas.List.Sums.{sum_by-cons}
 use Rattle.std.specs.Option.{option_map}
 use Rattle.std.proofs.lemmas.Bool.{lt-leb, le-leb}
 use Rattle.text_rules.specs.declared.Op.{Op}
-use Rattle.batch_rules.specs.Batches.{applied_from, text_units}
+use Rattle.batch_rules.specs.Batches.{text_units}
 use Rattle.batch_rules.proofs.Inverses.{length-inverse_from}
 use Rattle.undo_rules.specs.Stack.{Step, Stack}
 use Rattle.document_rules.specs.declared.ModelError.{ModelError}
@@ -14,27 +14,28 @@ use Rattle.document_rules.specs.Paired.{IsPairedState}
 use Rattle.document_rules.proofs.PairedStates.{IsPairedState-undo, IsPairedState-redo}
 use Rattle.document_rules.specs.Refusals.{limit}
 use Rattle.snapshot_rules.specs.Snapshots.{FlatShelf}
-use Rattle.document_rules.specs.Document.{FlatChange, FlatState, greatest_version}
+use Rattle.document_rules.specs.Document.{FlatText, FlatChange, FlatState, greatest_version}
 use Rattle.model_page.specs.declared.change.Change.{Change}
+use Rattle.model_page.specs.declared.change.Change.TheVariants.{Ops, Endings}
 use Rattle.model_page.specs.declared.change.Way.{Way}
 use Rattle.model_page.specs.declared.change.Way.TheVariants.{Back, On}
 use Rattle.model_core.specs.Ways.{next_steps, passed, alternative_after, flat_move}
 use Rattle.model_page.specs.Ways.{text_by, changes_by, LeadBy, decorations_by, marked_along, marked_step}
-use Rattle.model_core.specs.Prepared.{ops_along, next_op_count, next_unit_count, next_break_count}
-use Rattle.model_page.specs.Changes.{ops_by, text_back, changes_back, changes_on, LeadBack}
-use Rattle.model_page.specs.Counts.{text_breaks, op_count, unit_count, breaks_along}
+use Rattle.model_core.specs.Prepared.{ops_along, next_op_count, deed_marking, next_marking_count, next_unit_count, next_break_count}
+use Rattle.model_page.specs.Changes.{whole_op, ops_by, led, deed_of, text_back, changes_back, changes_on, Leads, LeadBack, LeadOn}
+use Rattle.model_page.specs.Counts.{text_breaks, op_count, unit_count, breaks_along, marking_ops, marking_count}
 use Rattle.model_core.specs.History.{undo_steps, redo_steps, history_of, IsHistory}
 use Rattle.bracket_rules.specs.Table.{Table}
 use Rattle.decoration_rules.specs.Decorations.{Decorations}
 use Rattle.mark_rules.specs.declared.Mark.{Mark}
-use Rattle.model_page.proofs.Turns.{op_count-cons}
+use Rattle.model_page.proofs.Turns.{op_count-cons, marking_count-cons}
 use Rattle.model_page.proofs.Carries.{carried_back-kept, carried_on-kept}
 use Rattle.model_core.proofs.Histories.{text_before-back, text_after-on, history-undone, IsHistory-undone, history-redone, IsHistory-redone}
 
 -- the flat document of a text and the kept batches
-abbrev pub document_of : List ℕ → ℕ → ℕ → Decorations → Table → FlatShelf → Stack Change → FlatState
+abbrev pub document_of : FlatText → ℕ → ℕ → Decorations → Table → FlatShelf → Stack Change → FlatState
 document_of now version alternative d table shelf s =
-    record { units = now; version = version; alternative = alternative; decorations = d; table = table; history = history_of now s; shelf = shelf }
+    record { units = now.units; kind = now.kind; version = version; alternative = alternative; decorations = d; table = table; history = history_of now s; shelf = shelf }
 
 first_of : {A : Type 0} (xs : List A) (x : A) → slice_get xs 0 ≡ Some x → (rest : List A) × (xs ≡ x ∷ rest)
 first_of [] x is = absurd cc
@@ -46,33 +47,73 @@ none_of : {A : Type 0} (xs : List A) → slice_get xs 0 ≡ None → xs ≡ []
 none_of [] is = refl
 none_of (y ∷ xs) is = absurd cc
 
--- a step has as many ops on the way back as its batches have
-ops_back : (after : List ℕ) (cs : List Change) → LeadBack after cs → sum_by (λ (change : FlatChange). length change.ops) (changes_back after cs) ≡ op_count Back cs
-ops_back after [] lead = refl
-ops_back after (c ∷ cs) lead =
-    let first : FlatChange = record { before = text_back after (c ∷ cs); ops = ops_by On c; after = text_back after cs } in
-    let same : length (ops_by Back c) ≡ length (ops_by On c) = ap length lead.0.inverse ∙ length-inverse_from 0 0 (text_back after (c ∷ cs)) (ops_by On c) in
-    omega (arith, sum_by-cons {X = FlatChange} (λ change. length change.ops) first (changes_back after cs), op_count-cons Back c cs, same, ops_back after cs lead.1)
+-- a change has the ops of its deed
+same_ops_back : (before after : FlatText) (c : Change) → Leads before c after → ops_along Back (record { before = before; deed = deed_of c; after = after }) ≡ ops_by Back c
+same_ops_back before after (Ops ops inverse) leads = sym leads.inverse
+same_ops_back before after (Endings r) leads =
+    ap (λ (t : FlatText). whole_op t.units before.units) (sym leads.kinds.1) ∙ ap (λ (t : FlatText). whole_op r.after t.units) (sym leads.kinds.0)
+
+same_ops_on : (before after : FlatText) (c : Change) → Leads before c after → ops_along On (record { before = before; deed = deed_of c; after = after }) ≡ ops_by On c
+same_ops_on before after (Ops ops inverse) leads = refl
+same_ops_on before after (Endings r) leads =
+    ap (λ (t : FlatText). whole_op t.units after.units) (sym leads.kinds.0) ∙ ap (λ (t : FlatText). whole_op r.before t.units) (sym leads.kinds.1)
+
+-- so many of them on the way on as on the way back
+as_many : (before after : FlatText) (c : Change) → Leads before c after → length (ops_by Back c) ≡ length (ops_by On c)
+as_many before after c leads = ap length leads.inverse ∙ length-inverse_from 0 0 before.units (ops_by On c)
 
 -- a measure of the ops on a way, such as the units of their texts, is that of the kept ones
-measured_back : (measure : List Op → ℕ) (after : List ℕ) (cs : List Change) → LeadBack after cs
+measured_back : (measure : List Op → ℕ) (after : FlatText) (cs : List Change) → LeadBack after cs
     → sum_by (λ (change : FlatChange). measure (ops_along Back change)) (changes_back after cs) ≡ sum_by (λ (c : Change). measure (ops_by Back c)) cs
 measured_back measure after [] lead = refl
 measured_back measure after (c ∷ cs) lead =
-    let first : FlatChange = record { before = text_back after (c ∷ cs); ops = ops_by On c; after = text_back after cs } in
-    let same : measure (ops_by Back c) ≡ measure (ops_along Back first) = ap measure lead.0.inverse in
+    let first : FlatChange = record { before = text_back after (c ∷ cs); deed = deed_of c; after = text_back after cs } in
+    let same : measure (ops_along Back first) ≡ measure (ops_by Back c) = ap measure (same_ops_back (text_back after (c ∷ cs)) (text_back after cs) c lead.0) in
     omega (arith, sum_by-cons {X = FlatChange} (λ change. measure (ops_along Back change)) first (changes_back after cs), sum_by-cons {X = Change} (λ d. measure (ops_by Back d)) c cs, same, measured_back measure after cs lead.1)
 
-measured_on : (measure : List Op → ℕ) (before : List ℕ) (cs : List Change)
+measured_on : (measure : List Op → ℕ) (before : FlatText) (cs : List Change) → LeadOn before cs
     → sum_by (λ (change : FlatChange). measure (ops_along On change)) (changes_on before cs) ≡ sum_by (λ (c : Change). measure (ops_by On c)) cs
-measured_on measure before [] = refl
-measured_on measure before (c ∷ cs) =
-    let after = applied_from 0 before (ops_by On c) in
-    let first : FlatChange = record { before = before; ops = ops_by On c; after = after } in
-    omega (arith, sum_by-cons {X = FlatChange} (λ change. measure (ops_along On change)) first (changes_on after cs), sum_by-cons {X = Change} (λ d. measure (ops_by On d)) c cs, measured_on measure after cs)
+measured_on measure before [] lead = refl
+measured_on measure before (c ∷ cs) lead =
+    let after : FlatText = led On c before in
+    let first : FlatChange = record { before = before; deed = deed_of c; after = after } in
+    let same : measure (ops_along On first) ≡ measure (ops_by On c) = ap measure (same_ops_on before after c lead.0) in
+    omega (arith, sum_by-cons {X = FlatChange} (λ change. measure (ops_along On change)) first (changes_on after cs), sum_by-cons {X = Change} (λ d. measure (ops_by On d)) c cs, same, measured_on measure after cs lead.1)
+
+-- a step has as many ops on the way back as on the way on
+ops_back : (after : FlatText) (cs : List Change) → LeadBack after cs → sum_by (λ (change : FlatChange). length (ops_along On change)) (changes_back after cs) ≡ op_count Back cs
+ops_back after [] lead = refl
+ops_back after (c ∷ cs) lead =
+    let first : FlatChange = record { before = text_back after (c ∷ cs); deed = deed_of c; after = text_back after cs } in
+    let on = ap length (same_ops_on (text_back after (c ∷ cs)) (text_back after cs) c lead.0) in
+    let same = as_many (text_back after (c ∷ cs)) (text_back after cs) c lead.0 in
+    omega (arith, sum_by-cons {X = FlatChange} (λ change. length (ops_along On change)) first (changes_back after cs), op_count-cons Back c cs, on, same, ops_back after cs lead.1)
+
+-- and as many of them mark lines
+marking_at_back : (before after : FlatText) (c : Change) → Leads before c after → deed_marking (deed_of c) ≡ marking_ops Back c
+marking_at_back before after (Ops ops inverse) leads = sym (as_many before after (Ops ops inverse) leads)
+marking_at_back before after (Endings r) leads = refl
+
+marking_at_on : (c : Change) → deed_marking (deed_of c) ≡ marking_ops On c
+marking_at_on (Ops ops inverse) = refl
+marking_at_on (Endings r) = refl
+
+marking_back : (after : FlatText) (cs : List Change) → LeadBack after cs → sum_by (λ (change : FlatChange). deed_marking change.deed) (changes_back after cs) ≡ marking_count Back cs
+marking_back after [] lead = refl
+marking_back after (c ∷ cs) lead =
+    let first : FlatChange = record { before = text_back after (c ∷ cs); deed = deed_of c; after = text_back after cs } in
+    let same = marking_at_back (text_back after (c ∷ cs)) (text_back after cs) c lead.0 in
+    omega (arith, sum_by-cons {X = FlatChange} (λ change. deed_marking change.deed) first (changes_back after cs), marking_count-cons Back c cs, same, marking_back after cs lead.1)
+
+marking_on : (before : FlatText) (cs : List Change) → sum_by (λ (change : FlatChange). deed_marking change.deed) (changes_on before cs) ≡ marking_count On cs
+marking_on before [] = refl
+marking_on before (c ∷ cs) =
+    let after : FlatText = led On c before in
+    let first : FlatChange = record { before = before; deed = deed_of c; after = after } in
+    omega (arith, sum_by-cons {X = FlatChange} (λ change. deed_marking change.deed) first (changes_on after cs), marking_count-cons On c cs, marking_at_on c, marking_on after cs)
 
 -- what a step does that comes next on the way
-pub record IsStep (way : Way) (now : List ℕ) (version alternative : ℕ) (d : Decorations) (table : Table) (shelf : FlatShelf) (s : Stack Change) (step : Step Change) : Type 0 where
+pub record IsStep (way : Way) (now : FlatText) (version alternative : ℕ) (d : Decorations) (table : Table) (shelf : FlatShelf) (s : Stack Change) (step : Step Change) : Type 0 where
   pub lead : LeadBy way now step.changes
   pub history : IsHistory (text_by way now step.changes) (passed way s)
   pub accepted : version + 1 ≤ greatest_version
@@ -81,11 +122,12 @@ pub record IsStep (way : Way) (now : List ℕ) (version alternative : ℕ) (d : 
   pub some : 0 < length (next_steps way s)
   pub next : 0 < length (next_steps way (history_of now s))
   pub ops : next_op_count (next_steps way (history_of now s)) ≡ op_count way step.changes
+  pub marking : next_marking_count (next_steps way (history_of now s)) ≡ marking_count way step.changes
   pub units : next_unit_count way (next_steps way (history_of now s)) ≡ unit_count way step.changes
   pub breaks : next_break_count way (next_steps way (history_of now s)) ≡ breaks_along way step.changes
   pub marks : (ms : List Mark) → marked_step way ms (next_steps way (history_of now s)) ≡ marked_along way ms (changes_by way now step.changes)
 
-undo_first : (now : List ℕ) (version alternative : ℕ) (d : Decorations) (table : Table) (shelf : FlatShelf) (step : Step Change) (rest redo : List (Step Change)) (is_open : Bool)
+undo_first : (now : FlatText) (version alternative : ℕ) (d : Decorations) (table : Table) (shelf : FlatShelf) (step : Step Change) (rest redo : List (Step Change)) (is_open : Bool)
     → IsHistory now (record { undo = step ∷ rest; redo = redo; is_open = is_open })
     → IsStep Back now version alternative d table shelf (record { undo = step ∷ rest; redo = redo; is_open = is_open }) step
 undo_first now version alternative d table shelf step rest redo is_open old =
@@ -97,29 +139,31 @@ undo_first now version alternative d table shelf step rest redo is_open old =
       some = omega arith;
       next = omega arith;
       ops = ops_back now step.changes old.back.0;
+      marking = marking_back now step.changes old.back.0;
       units = measured_back text_units now step.changes old.back.0;
       breaks = measured_back text_breaks now step.changes old.back.0;
       marks = λ ms. refl;
     }
 
-redo_first : (now : List ℕ) (version alternative : ℕ) (d : Decorations) (table : Table) (shelf : FlatShelf) (step : Step Change) (undo rest : List (Step Change)) (is_open : Bool)
+redo_first : (now : FlatText) (version alternative : ℕ) (d : Decorations) (table : Table) (shelf : FlatShelf) (step : Step Change) (undo rest : List (Step Change)) (is_open : Bool)
     → IsHistory now (record { undo = undo; redo = step ∷ rest; is_open = is_open })
     → IsStep On now version alternative d table shelf (record { undo = undo; redo = step ∷ rest; is_open = is_open }) step
 redo_first now version alternative d table shelf step undo rest is_open old =
     record {
       lead = old.on.0;
       history = IsHistory-redone undo rest step is_open now old.back old.on;
-      accepted = λ few. rw (lt-leb greatest_version version (omega (arith, few)), text_after-on step.changes now, carried_on-kept d now step.changes, sym (history-redone undo rest step is_open now old.on.0)) refl;
+      accepted = λ few. rw (lt-leb greatest_version version (omega (arith, few)), text_after-on step.changes now, carried_on-kept d now step.changes old.on.0, sym (history-redone undo rest step is_open now old.on.0)) refl;
       refused = λ last. rw (le-leb greatest_version version (omega (arith, last))) refl;
       some = omega arith;
       next = omega arith;
-      ops = measured_on length now step.changes;
-      units = measured_on text_units now step.changes;
-      breaks = measured_on text_breaks now step.changes;
+      ops = measured_on length now step.changes old.on.0;
+      marking = marking_on now step.changes;
+      units = measured_on text_units now step.changes old.on.0;
+      breaks = measured_on text_breaks now step.changes old.on.0;
       marks = λ ms. refl;
     }
 
-pub step_on : (way : Way) (now : List ℕ) (version alternative : ℕ) (d : Decorations) (table : Table) (shelf : FlatShelf) (s : Stack Change) (step : Step Change)
+pub step_on : (way : Way) (now : FlatText) (version alternative : ℕ) (d : Decorations) (table : Table) (shelf : FlatShelf) (s : Stack Change) (step : Step Change)
     → slice_get (next_steps way s) 0 ≡ Some step → IsHistory now s → IsStep way now version alternative d table shelf s step
 step_on Back now version alternative d table shelf s step next old =
     let split = first_of s.undo step next in
@@ -130,25 +174,25 @@ step_on On now version alternative d table shelf s step next old =
     subst (λ u. IsHistory now (record { undo = s.undo; redo = u; is_open = s.is_open }) → IsStep On now version alternative d table shelf (record { undo = s.undo; redo = u; is_open = s.is_open }) step)
     (sym split.1) (redo_first now version alternative d table shelf step s.undo split.0 s.is_open) old
 
-pub no_step_on : (way : Way) (now : List ℕ) (version alternative : ℕ) (d : Decorations) (table : Table) (shelf : FlatShelf) (s : Stack Change)
+pub no_step_on : (way : Way) (now : FlatText) (version alternative : ℕ) (d : Decorations) (table : Table) (shelf : FlatShelf) (s : Stack Change)
     → slice_get (next_steps way s) 0 ≡ None → flat_move way (document_of now version alternative d table shelf s) ≡ Ok None
 no_step_on Back now version alternative d table shelf s none = rw (none_of s.undo none) refl
 no_step_on On now version alternative d table shelf s none = rw (none_of s.redo none) refl
 
-pub no_next_on : (way : Way) (now : List ℕ) (s : Stack Change) → slice_get (next_steps way s) 0 ≡ None → next_steps way (history_of now s) ≡ []
+pub no_next_on : (way : Way) (now : FlatText) (s : Stack Change) → slice_get (next_steps way s) 0 ≡ None → next_steps way (history_of now s) ≡ []
 no_next_on Back now s none = rw (none_of s.undo none) refl
 no_next_on On now s none = rw (none_of s.redo none) refl
 
-next_of_undo : (now : List ℕ) (ss : List (Step Change)) → is_some (slice_get (undo_steps now ss) 0) ≡ is_some (slice_get ss 0)
+next_of_undo : (now : FlatText) (ss : List (Step Change)) → is_some (slice_get (undo_steps now ss) 0) ≡ is_some (slice_get ss 0)
 next_of_undo now [] = refl
 next_of_undo now (s ∷ ss) = refl
 
-next_of_redo : (now : List ℕ) (ss : List (Step Change)) → is_some (slice_get (redo_steps now ss) 0) ≡ is_some (slice_get ss 0)
+next_of_redo : (now : FlatText) (ss : List (Step Change)) → is_some (slice_get (redo_steps now ss) 0) ≡ is_some (slice_get ss 0)
 next_of_redo now [] = refl
 next_of_redo now (s ∷ ss) = refl
 
 -- a step comes next where one is kept
-pub next_on : (way : Way) (now : List ℕ) (s : Stack Change) → is_some (slice_get (next_steps way (history_of now s)) 0) ≡ is_some (slice_get (next_steps way s) 0)
+pub next_on : (way : Way) (now : FlatText) (s : Stack Change) → is_some (slice_get (next_steps way (history_of now s)) 0) ≡ is_some (slice_get (next_steps way s) 0)
 next_on Back now s = next_of_undo now s.undo
 next_on On now s = next_of_redo now s.redo
 

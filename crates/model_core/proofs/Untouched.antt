@@ -4,22 +4,22 @@ use Rattle.document_rules.specs.Document.{FlatState}
 use Rattle.snapshots.specs.Shown.{Shown, shown}
 use Rattle.undo_rules.specs.Stack.{Stack}
 use Rattle.model_page.specs.declared.change.Change.{Change}
-use Rattle.model_page.specs.State.{PageState, IsUntouched}
+use Rattle.model_page.specs.State.{PageState, IsUntouched, flat_text}
 use Rattle.model_core.specs.History.{IsHistory}
 use Rattle.model_core.specs.Shelving.{IsShelf}
 use Rattle.model_core.proofs.Shelving.{shown-grown, IsShelf-grown}
 use Rattle.model_core.proofs.Stepping.{document_of}
 
 module _ (old new : PageState) (kept : IsUntouched old new) where
-  pub history_untouched : (old_stack stack : Stack Change) → stack ≡ old_stack → IsHistory old.text.units old_stack → IsHistory new.text.units stack
-  history_untouched old_stack stack same history = rw (kept.units, same) history
+  pub history_untouched : (old_stack stack : Stack Change) → stack ≡ old_stack → IsHistory (flat_text old.text) old_stack → IsHistory (flat_text new.text) stack
+  history_untouched old_stack stack same history = rw (kept.units, kept.kind, same) history
 
   pub shelf_untouched : (shelf : Shown) → IsShelf old.text.buffers shelf → IsShelf new.text.buffers shelf
   shelf_untouched shelf sound = IsShelf-grown old.text.buffers new.text.buffers shelf kept.buffers sound
 
   pub document_untouched : (old_stack stack : Stack Change) → stack ≡ old_stack → (shelf : Shown) → IsShelf old.text.buffers shelf → (version alternative : ℕ) (now : FlatState)
-      → document_of old.text.units version alternative old.decorations old.table (shown old.text.buffers shelf) old_stack ≡ now
-      → document_of new.text.units version alternative new.decorations new.table (shown new.text.buffers shelf) stack ≡ now
+      → document_of (flat_text old.text) version alternative old.decorations old.table (shown old.text.buffers shelf) old_stack ≡ now
+      → document_of (flat_text new.text) version alternative new.decorations new.table (shown new.text.buffers shelf) stack ≡ now
   document_untouched old_stack stack same shelf sound version alternative now was =
       let shelves = shown-grown old.text.buffers new.text.buffers shelf kept.buffers sound in
-      rw (kept.units, same, shelves, kept.decorations, kept.parse.table) was
+      rw (kept.units, kept.kind, same, shelves, kept.decorations, kept.parse.table) was

@@ -4,9 +4,9 @@ use Rattle.std.specs.List.{All}
 use Rattle.text_lengths.specs.declared.Span.{Span}
 use Rattle.unit_text.specs.Units.{IsPaired}
 use Rattle.text_rules.specs.declared.Op.{Op}
-use Rattle.batch_rules.specs.Batches.{sorted_ops}
+use Rattle.batch_rules.specs.Batches.{sorted_ops, ops_in}
 use Rattle.document_rules.specs.declared.ModelError.{ModelError}
-use Rattle.document_rules.specs.Document.{flat_edit}
+use Rattle.document_rules.specs.Document.{FlatState, flat_edit}
 use Rattle.document_rules.specs.Outcomes.{Changes}
 use Rattle.document_rules.specs.Paired.{IsPairedState}
 use Rattle.model_page.specs.LineMarks.{marked_backwards}
@@ -16,6 +16,10 @@ use Rattle.model_core.specs.State.{ModelState, LeftAfter, KeptAfter, GrownAfter}
 abbrev pub one_edit : Span → List ℕ → List Op
 one_edit span text = record { span = span; text = text; force = false } ∷ []
 
+-- the ops as they are carried out: in their order, and with texts of the document's kind
+abbrev pub ops_as_done : FlatState → List Op → List Op
+ops_as_done f ops = sorted_ops (ops_in f.kind ops)
+
 -- what a call leaves that carries out these ops, or refuses them
 pub record HasEdited (ops : List Op) (result : Result ⊤ ModelError) (old new : ModelState) : Type 0 where
   pub document : Changes result old.document new.document (flat_edit old.document ops)
@@ -23,6 +27,6 @@ pub record HasEdited (ops : List Op) (result : Result ⊤ ModelError) (old new :
   pub paired_state : All (λ (op : Op). IsPaired op.text) ops → IsPairedState old.document → IsPairedState new.document
   pub parsed : new.parsed ≡ old.parsed
   pub tree : new.tree ≡ old.tree
-  pub marks : LeftAfter result (marked_backwards old.document.units (sorted_ops ops) old.marks) old.marks new.marks
+  pub marks : LeftAfter result (marked_backwards old.document.units (ops_as_done old.document ops) old.marks) old.marks new.marks
   pub fresh : KeptAfter (length ops) result old.fresh new.fresh
   pub pieces : GrownAfter (length ops) result old.pieces new.pieces

@@ -5,6 +5,8 @@ use Rattle.decoration_rules.specs.declared.DecoError.{DecoError}
 use Rattle.decoration_rules.specs.declared.DecoError.TheVariants as decoration
 use Rattle.snapshot_rules.specs.declared.ShelfError.{ShelfError}
 use Rattle.snapshot_rules.specs.declared.ShelfError.TheVariants as shelf
+use Rattle.recasts.specs.declared.recast.RecastError.{RecastError}
+use Rattle.recasts.specs.declared.recast.RecastError.TheVariants as endings
 use Rattle.document_rules.specs.declared.ModelError.{ModelError}
 use Rattle.document_rules.specs.declared.ModelError.TheVariants.{Unknown, Range, Overlap, Limit, Memory}
 
@@ -25,3 +27,7 @@ shelf_error_of shelf.Unknown = Unknown
 shelf_error_of shelf.Range = Range
 shelf_error_of shelf.Limit = Limit
 shelf_error_of shelf.Memory = Memory
+
+abbrev pub recast_error_of : RecastError → ModelError
+recast_error_of endings.Limit = Limit
+recast_error_of endings.Memory = Memory

@@ -1,32 +1,41 @@
 -- Worked examples of the definitions.
 use Rattle.std.specs.Prelude.{◌≡◌, ℕ, List, [], ◌∷◌, None, codes, false, refl}
 use Rattle.std.proofs.Common.{arith}
+use Rattle.unit_text.specs.declared.kind.Kind.TheVariants.{Mixed, Lf}
 use Rattle.text_rules.specs.declared.Op.{Op}
 use Rattle.mark_rules.specs.declared.Mark.TheVariants.{New}
 use Rattle.undo_rules.specs.Stack.{Step}
 use Rattle.bracket_rules.specs.Table.{standard_table}
-use Rattle.document_rules.specs.Document.{FlatChange, new_document}
+use Rattle.document_rules.specs.Document.{FlatChange, batch, recast, new_document}
 use Rattle.model_page.specs.declared.change.Change.{Change}
 use Rattle.model_page.specs.declared.change.Way.TheVariants.{Back, On}
-use Rattle.model_core.specs.declared.ready.Action.TheVariants.{Edit}
+use Rattle.model_core.specs.declared.ready.Action.TheVariants.{Make}
 use Rattle.model_core.specs.State.{Room, ModelState}
-use Rattle.model_core.specs.Prepared.{Need, CanCommit, IsEnough, next_op_count, next_unit_count, next_break_count}
+use Rattle.model_core.specs.Prepared.{Need, CanCommit, IsEnough, next_op_count, next_marking_count, next_unit_count, next_break_count}
 use Rattle.model_page.specs.declared.change.Change.TheVariants.{Ops}
 
 abbrev insert : ℕ → Op
 insert at = record { span = record { start = at; end = at }; text = codes "x"; force = false }
 
+-- a batch on a text whose lines end as they came
+abbrev changed : List ℕ → List Op → List ℕ → FlatChange
+changed before ops after = record {
+  before = record { units = before; kind = Mixed };
+  deed = batch ops;
+  after = record { units = after; kind = Mixed };
+}
+
 -- a batch of two ops, and after it one of a single op
 abbrev two_batches : Step FlatChange
 two_batches = record {
-  changes = record { before = codes "a"; ops = insert 0 ∷ insert 1 ∷ []; after = codes "xax" }
-      ∷ record { before = codes "xax"; ops = insert 3 ∷ []; after = codes "xaxx" } ∷ [];
+  changes = changed (codes "a") (insert 0 ∷ insert 1 ∷ []) (codes "xax")
+      ∷ changed (codes "xax") (insert 3 ∷ []) (codes "xaxx") ∷ [];
   alt_before = 1;
   alt_after = 3;
 }
 
 abbrev one_batch : Step FlatChange
-one_batch = record { changes = record { before = []; ops = insert 0 ∷ []; after = codes "x" } ∷ []; alt_before = 0; alt_after = 1 }
+one_batch = record { changes = changed [] (insert 0 ∷ []) (codes "x") ∷ []; alt_before = 0; alt_after = 1 }
 
 the_ops_of_all_batches_of_the_next_step : next_op_count (two_batches ∷ one_batch ∷ []) ≡ 3
 the_ops_of_all_batches_of_the_next_step = refl
@@ -46,8 +55,8 @@ replace start end text = record { span = record { start = start; end = end }; te
 -- a break behind `a`, and then a text with two breaks in the place of both
 abbrev two_changes : Step FlatChange
 two_changes = record {
-  changes = record { before = codes "a"; ops = replace 1 1 (codes "\n") ∷ []; after = codes "a\n" }
-      ∷ record { before = codes "a\n"; ops = replace 0 2 (codes "b\r\nc\n") ∷ []; after = codes "b\r\nc\n" } ∷ [];
+  changes = changed (codes "a") (replace 1 1 (codes "\n") ∷ []) (codes "a\n")
+      ∷ changed (codes "a\n") (replace 0 2 (codes "b\r\nc\n") ∷ []) (codes "b\r\nc\n") ∷ [];
   alt_before = 1;
   alt_after = 3;
 }
@@ -57,6 +66,27 @@ the_breaks_of_both_changes = refl
 
 the_break_that_comes_back : next_break_count Back (two_changes ∷ one_batch ∷ []) ≡ 1
 the_break_that_comes_back = refl
+
+-- the lines of `a` and `b` end with LF now
+abbrev other_endings : Step FlatChange
+other_endings = record {
+  changes = record {
+    before = record { units = codes "a\r\nb"; kind = Mixed };
+    deed = recast;
+    after = record { units = codes "a\nb"; kind = Lf };
+  } ∷ [];
+  alt_before = 1;
+  alt_after = 2;
+}
+
+the_whole_text_is_put_in : next_unit_count On (other_endings ∷ []) ≡ 3
+the_whole_text_is_put_in = refl
+
+the_whole_text_comes_back : next_unit_count Back (other_endings ∷ []) ≡ 4
+the_whole_text_comes_back = refl
+
+no_line_is_marked : next_marking_count (other_endings ∷ []) ≡ 0
+no_line_is_marked = refl
 
 -- two edits, whose texts have five units and one break
 abbrev two_edits : Need
@@ -79,7 +109,7 @@ four_breaks_are_one_too_few enough = omega (arith, enough.text.breaks)
 -- a document of one line, with room for one edit that puts one unit in
 abbrev six_letters : ModelState
 six_letters = record {
-  document = new_document (codes "abcdef") standard_table;
+  document = new_document (codes "abcdef") standard_table Mixed;
   parsed = None;
   tree = None;
   marks = New ∷ [];
@@ -92,10 +122,11 @@ six_letters = record {
 abbrev two_by_one : Change
 two_by_one = Ops (replace 2 4 (codes "x") ∷ []) (replace 2 3 (codes "cd") ∷ [])
 
-two_units_make_way_for_one : CanCommit six_letters (record { version = 1; action = Edit two_by_one })
+two_units_make_way_for_one : CanCommit six_letters (record { version = 1; kind = Mixed; action = Make two_by_one })
 two_units_make_way_for_one = record {
   version = refl;
-  action = record { accepted = refl; inverse = refl };
+  kind = refl;
+  action = record { accepted = refl; back = refl };
   room = record {
     text = record { edits = omega arith; units = omega arith; breaks = omega arith };
     marks = omega arith;

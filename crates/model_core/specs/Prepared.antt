@@ -1,27 +1,30 @@
 -- Changes of the document that were prepared: what each asks of the document that it is carried out on, and what it does.
-use Rattle.std.specs.Prelude.{◌≡◌, ℕ, ◌<◌, ◌≤◌, List, [], ◌∷◌, length, sum_by, Option, Some, None, Result, Ok, Err, All, ⊤}
-use Rattle.unit_text.specs.declared.kind.Kind.TheVariants.{Mixed}
+use Rattle.std.specs.Prelude.{◌≡◌, ℕ, ◌<◌, ◌≤◌, true, false, List, [], ◌∷◌, length, sum_by, Option, Some, None, Result, Ok, Err, All, ⊤}
+use Rattle.unit_text.specs.declared.kind.Kind.{Kind}
+use Rattle.unit_text.specs.Kinds.{normalized}
 use Rattle.unit_text.specs.Units.{IsPaired}
 use Rattle.text_rules.specs.declared.Op.{Op}
-use Rattle.batch_rules.specs.Batches.{checked_batch, sorted_ops, inverse_from, inverse_of, text_units}
+use Rattle.batch_rules.specs.Batches.{checked_batch, inverse_from, text_units}
+use Rattle.recast_rules.specs.Recasts.{RecastState}
 use Rattle.mark_rules.specs.declared.Mark.{Mark}
 use Rattle.undo_rules.specs.Stack.{Step}
 use Rattle.document_rules.specs.declared.ModelError.{ModelError}
 use Rattle.document_rules.specs.Outcomes.{RefusedFor}
-use Rattle.document_rules.specs.Document.{FlatChange, FlatState, after_batch, flat_edit}
+use Rattle.document_rules.specs.Document.{FlatText, Deed, FlatChange, FlatState, batch, recast, text_now, recast_to, after_batch, after_recast, flat_edit, is_same_kind, flat_eol}
 use Rattle.model_page.specs.declared.change.Change.{Change}
 use Rattle.model_page.specs.declared.change.Way.{Way}
 use Rattle.model_page.specs.declared.change.Way.TheVariants.{Back, On}
 use Rattle.model_core.specs.declared.ready.Action.{Action}
-use Rattle.model_core.specs.declared.ready.Action.TheVariants.{Edit, Move}
+use Rattle.model_core.specs.declared.ready.Action.TheVariants.{Make, Move}
 use Rattle.model_core.specs.State.{Room, ModelState}
 use Rattle.text_buffer.specs.Room as text_room
 use Rattle.text_buffer.specs.declared.room.Need as text_need
 use Rattle.model_core.specs.Ways.{next_steps, flat_move}
-use Rattle.model_page.specs.declared.change.Change.TheVariants.{Ops}
-use Rattle.model_page.specs.Changes.{ops_by}
-use Rattle.model_page.specs.Counts.{text_breaks}
-use Rattle.model_page.specs.LineMarks.{marked_backwards}
+use Rattle.model_core.specs.Edited.{ops_as_done}
+use Rattle.model_page.specs.declared.change.Change.TheVariants.{Ops, Endings}
+use Rattle.model_page.specs.Changes.{whole_op, text_from, text_to, ops_by}
+use Rattle.model_page.specs.Counts.{text_breaks, marking_ops}
+use Rattle.model_page.specs.LineMarks.{marks_over}
 use Rattle.model_page.specs.Needs.{need_of_ops}
 use Rattle.model_page.specs.State.{GrownBy}
 use Rattle.model_page.specs.Staying.{KeptBy}
@@ -31,14 +34,20 @@ use Rattle.model_page.specs.Ways.{marked_step}
 pub record Prepared : Type 0 where
   -- of the document that it was prepared on
   pub version : ℕ
+  pub kind : Kind
   pub action : Action
 
 -- ---- the room
 
 -- the ops that lead along the change
+abbrev pub deed_ops : Way → FlatText → Deed → FlatText → List Op
+deed_ops Back before (batch ops) after = inverse_from 0 0 before.units ops
+deed_ops On before (batch ops) after = ops
+deed_ops Back before recast after = whole_op after.units before.units
+deed_ops On before recast after = whole_op before.units after.units
+
 abbrev pub ops_along : Way → FlatChange → List Op
-ops_along Back change = inverse_from 0 0 change.before change.ops
-ops_along On change = change.ops
+ops_along way change = deed_ops way change.before change.deed change.after
 
 -- a measure of these, over all batches of the step that comes next; 0 where there is no step
 abbrev pub next_sum : (List Op → ℕ) → Way → List (Step FlatChange) → ℕ
@@ -48,6 +57,15 @@ next_sum measure way (step ∷ steps) = sum_by (λ change. measure (ops_along wa
 -- how many ops that step has, be it undone or made again
 abbrev pub next_op_count : List (Step FlatChange) → ℕ
 next_op_count steps = next_sum length On steps
+
+-- how many of them mark lines; other line endings mark none
+abbrev pub deed_marking : Deed → ℕ
+deed_marking (batch ops) = length ops
+deed_marking recast = 0
+
+abbrev pub next_marking_count : List (Step FlatChange) → ℕ
+next_marking_count [] = 0
+next_marking_count (step ∷ steps) = sum_by (λ change. deed_marking change.deed) step.changes
 
 -- how many units their texts have
 abbrev pub next_unit_count : Way → List (Step FlatChange) → ℕ
@@ -62,9 +80,9 @@ pub record Need : Type 0 where
   pub text : text_need.Need
   pub changes : ℕ
 
--- an edit is kept as one change more; a move keeps what is there
+-- a new change is kept as one more; a move keeps what is there
 abbrev pub need_of : Action → FlatState → Need
-need_of (Edit change) f = record { text = need_of_ops (ops_by On change); changes = 1 }
+need_of (Make change) f = record { text = need_of_ops (ops_by On change); changes = 1 }
 need_of (Move way) f = record {
   text = record {
     edits = next_op_count (next_steps way f.history);
@@ -81,52 +99,90 @@ pub record IsEnough (room : Room) (need : Need) : Type 0 where
 
 -- ---- what is asked of the document
 
--- a batch in its order that the rule accepts on text x, with the one that takes it back
-pub record IsChangeOf (x : List ℕ) (change : Change) : Type 0 where
-  pub accepted : checked_batch Mixed x (ops_by On change) ≡ Ok (ops_by On change)
-  pub inverse : ops_by Back change ≡ inverse_from 0 0 x (ops_by On change)
+-- a batch in its order that the rule accepts on the text, with the one that takes it back
+pub record IsBatchOf (text : FlatText) (ops inverse : List Op) : Type 0 where
+  pub accepted : checked_batch text.kind text.units ops ≡ Ok ops
+  pub back : inverse ≡ inverse_from 0 0 text.units ops
+
+-- the text, and the same with the line endings of another kind
+pub record IsRecastOf (text : FlatText) (r : RecastState) : Type 0 where
+  pub before : text_from On r ≡ text
+  pub after : text_to On r ≡ recast_to r.to text.units
+  pub other : is_same_kind r.to text.kind ≡ false
+
+abbrev pub IsChangeOf : FlatText → Change → Type 0
+IsChangeOf text (Ops ops inverse) = IsBatchOf text ops inverse
+IsChangeOf text (Endings r) = IsRecastOf text r
 
 -- a move needs a step that comes next
 abbrev pub CanAct : Action → FlatState → Type 0
-CanAct (Edit change) f = IsChangeOf f.units change
+CanAct (Make change) f = IsChangeOf (text_now f) change
 CanAct (Move way) f = 0 < length (next_steps way f.history)
 
 -- Decorations, snapshots and the stops of undo may differ from those at the call that prepared.
 pub record CanCommit (now : ModelState) (ready : Prepared) : Type 0 where
   pub version : ready.version ≡ now.document.version
+  pub kind : ready.kind ≡ now.document.kind
   pub action : CanAct ready.action now.document
   pub room : IsEnough now.room (need_of ready.action now.document)
 
 -- ---- what is done
 
 -- the new document is the one that the rule makes
+abbrev pub Makes : Change → FlatState → FlatState → Type 0
+Makes (Ops ops inverse) old new = flat_edit old ops ≡ Ok new
+Makes (Endings r) old new = flat_eol old r.to ≡ Ok (Some new)
+
 abbrev pub Acts : Action → FlatState → FlatState → Type 0
-Acts (Edit change) old new = flat_edit old (ops_by On change) ≡ Ok new
+Acts (Make change) old new = Makes change old new
 Acts (Move way) old new = flat_move way old ≡ Ok (Some new)
 
 abbrev pub marks_after : Action → FlatState → List Mark → List Mark
-marks_after (Edit change) f marks = marked_backwards f.units (ops_by On change) marks
+marks_after (Make change) f marks = marks_over On change f.units marks
 marks_after (Move way) f marks = marked_step way marks (next_steps way f.history)
+
+-- how many of its ops mark lines
+abbrev pub marking_count : Action → FlatState → ℕ
+marking_count (Make change) f = marking_ops On change
+marking_count (Move way) f = next_marking_count (next_steps way f.history)
 
 -- what it leaves of the last parse and of the pieces
 pub record HasActed (action : Action) (old new : ModelState) : Type 0 where
   pub parsed : new.parsed ≡ old.parsed
   pub tree : new.tree ≡ old.tree
   pub marks : new.marks ≡ marks_after action old.document old.marks
-  pub fresh : KeptBy (need_of action old.document).text.edits old.fresh new.fresh
+  pub fresh : KeptBy (marking_count action old.document) old.fresh new.fresh
   pub pieces : GrownBy (need_of action old.document).text.edits old.pieces new.pieces
 
--- no new text has a lone surrogate; a move brings none
+-- no new text has a lone surrogate; other line endings and a move bring none
+abbrev pub HasPairedTexts : Change → Type 0
+HasPairedTexts (Ops ops inverse) = All (λ (op : Op). IsPaired op.text) ops
+HasPairedTexts (Endings r) = ⊤
+
 abbrev pub ArePairedTexts : Action → Type 0
-ArePairedTexts (Edit change) = All (λ (op : Op). IsPaired op.text) (ops_by On change)
+ArePairedTexts (Make change) = HasPairedTexts change
 ArePairedTexts (Move way) = ⊤
 
 -- ---- what the calls that prepare answer, on the document of now
 
--- The rule accepts the ops. It makes the same document of them in their order: `same_in_order` of proofs/Preparing.antt.
+-- a batch, and the one that takes it back
+abbrev pub batch_of : FlatState → List Op → Action
+batch_of f ops = Make (Ops ops (inverse_from 0 0 f.units ops))
+
+-- The rule accepts the ops. It makes the same document of them as they are done: `same_as_done` of proofs/Preparing.antt.
 pub record IsEditReady (ops : List Op) (now : ModelState) (ready : Prepared) : Type 0 where
-  pub action : ready.action ≡ Edit (Ops (sorted_ops ops) (inverse_of now.document.units ops))
-  pub accepted : flat_edit now.document ops ≡ Ok (after_batch now.document ops (sorted_ops ops))
+  pub action : ready.action ≡ batch_of now.document (ops_as_done now.document ops)
+  pub accepted : flat_edit now.document ops ≡ Ok (after_batch now.document (ops_as_done now.document ops))
+  pub can : CanCommit now ready
+
+-- the text of now, and the same with the line endings of the kind
+abbrev pub recast_of : FlatState → Kind → Action
+recast_of f kind = Make (Endings (record { before = f.units; from = f.kind; after = normalized kind f.units; to = kind }))
+
+-- the rule changes the line endings
+pub record IsEolReady (kind : Kind) (now : ModelState) (ready : Prepared) : Type 0 where
+  pub action : ready.action ≡ recast_of now.document kind
+  pub accepted : flat_eol now.document kind ≡ Ok (Some (after_recast now.document kind))
   pub can : CanCommit now ready
 
 pub record IsMoveReady (way : Way) (now : ModelState) (ready : Prepared) : Type 0 where
@@ -136,6 +192,12 @@ pub record IsMoveReady (way : Way) (now : ModelState) (ready : Prepared) : Type 
 abbrev pub PreparesEdit : List Op → Result Prepared ModelError → ModelState → Type 0
 PreparesEdit ops (Ok ready) now = IsEditReady ops now ready
 PreparesEdit ops (Err e) now = RefusedFor e (flat_edit now.document ops)
+
+-- nothing is prepared exactly where the line endings are of the kind
+abbrev pub PreparesEol : Kind → Result (Option Prepared) ModelError → ModelState → Type 0
+PreparesEol kind (Ok (Some ready)) now = IsEolReady kind now ready
+PreparesEol kind (Ok None) now = is_same_kind kind now.document.kind ≡ true
+PreparesEol kind (Err e) now = RefusedFor e (flat_eol now.document kind)
 
 -- nothing is prepared exactly where no step comes next
 abbrev pub PreparesMove : Way → Result (Option Prepared) ModelError → ModelState → Type 0

@@ -62,12 +62,13 @@ AfterMove (Ok true) moved same = moved
 AfterMove (Ok false) moved same = same
 AfterMove (Err e) moved same = same
 
--- what a call of so many ops leaves of the last parse and of the pieces, where it answers whether there was anything to do
-pub record HasMoved (ops : ℕ) (left : List Mark) (result : Result Bool ModelError) (old new : ModelState) : Type 0 where
+-- what a call of so many ops, so many of which mark lines, leaves of the last parse and of the pieces, where it answers whether there was
+-- anything to do
+pub record HasMoved (ops marking : ℕ) (left : List Mark) (result : Result Bool ModelError) (old new : ModelState) : Type 0 where
   pub parsed : new.parsed ≡ old.parsed
   pub tree : new.tree ≡ old.tree
   pub marks : AfterMove result (new.marks ≡ left) (new.marks ≡ old.marks)
-  pub fresh : AfterMove result (KeptBy ops old.fresh new.fresh) (new.fresh ≡ old.fresh)
+  pub fresh : AfterMove result (KeptBy marking old.fresh new.fresh) (new.fresh ≡ old.fresh)
   pub pieces : AfterMove result (GrownBy ops old.pieces new.pieces) (new.pieces ≡ old.pieces)
 
 -- the last parse, what the lines are to it, and the pieces are as they were, and room that was there stays

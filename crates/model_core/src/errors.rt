@@ -1,11 +1,12 @@
 //! How the errors of the parts are told.
 
 ghost use Rattle.std.specs.Prelude.{◌≡◌};
-ghost use Rattle.model_core.specs.Errors.{error_of, refusal_of, shelf_error_of};
+ghost use Rattle.model_core.specs.Errors.{error_of, refusal_of, shelf_error_of, recast_error_of};
 
 use decorations::DecoError;
 use document_rules::ModelError;
 use edit_batches::BatchError;
+use recasts::RecastError;
 use snapshots::ShelfError;
 
 pub(crate) fn error_of(error: BatchError) -> ModelError
@@ -38,5 +39,14 @@ pub(crate) fn shelf_error_of(error: ShelfError) -> ModelError
         ShelfError::Range => ModelError::Range,
         ShelfError::Limit => ModelError::Limit,
         ShelfError::Memory => ModelError::Memory,
+    }
+}
+
+pub(crate) fn recast_error_of(error: RecastError) -> ModelError
+    ensures { result ≡ recast_error_of error }
+{
+    match error {
+        RecastError::Limit => ModelError::Limit,
+        RecastError::Memory => ModelError::Memory,
     }
 }

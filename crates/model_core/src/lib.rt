@@ -18,4 +18,4 @@ pub use ready::Ready;
 pub use steps::Steps;
 pub use text_lengths::{Length, Position, Span};
 pub use text_rules::Op;
-pub use unit_text::{Units, units_of, utf8_of};
+pub use unit_text::{Kind, Units, units_of, utf8_of};

@@ -3,6 +3,7 @@
 mod brackets;
 mod decorate;
 mod edit;
+mod endings;
 mod history;
 mod open;
 mod queries;
@@ -30,7 +31,7 @@ impl std::marker::Model for Model {
     ghost use Rattle.std.specs.Coded.{codes};
     ghost use Rattle.bracket_tree_rules.specs.TreeCode.{tree_code};
     ghost use Rattle.node_reuse.specs.ParsedTree.{parsed_tree_code};
-    ghost use Rattle.model_page.specs.State.{is_fresh};
+    ghost use Rattle.model_page.specs.State.{flat_text, is_fresh};
     ghost use Rattle.model_core.specs.State.{ModelState};
     ghost use Rattle.snapshots.specs.Shown.{shown};
     ghost use Rattle.model_core.specs.Shelving.{IsShelf};
@@ -43,11 +44,12 @@ impl std::marker::Model for Model {
     ghost view = { λ m. record {
       document = record {
         units = m.page.text.units;
+        kind = m.page.text.kind;
         version = m.version;
         alternative = m.alternative;
         decorations = m.page.decorations;
         table = m.page.table;
-        history = history_of m.page.text.units m.history.stack;
+        history = history_of (flat_text m.page.text) m.history.stack;
         shelf = shown m.page.text.buffers m.shelf;
       };
       parsed = m.page.parsed;
@@ -63,6 +65,6 @@ impl std::marker::Model for Model {
     } };
 
     ghost invariant = { λ m. (m.version ≤ greatest_version)
-        × IsHistory m.page.text.units m.history.stack
+        × IsHistory (flat_text m.page.text) m.history.stack
         × IsShelf m.page.text.buffers m.shelf };
 }

@@ -1,8 +1,9 @@
-//! The step of undo that comes next, on either way.
+//! Steps of undo: the one that comes next, on either way, and the one that a change joins or begins.
 
 ghost use Rattle.std.specs.Prelude.{◌≡◌, ◌<◌, length, slice_get, is_some, option_map};
 ghost use Rattle.std.specs.Option.{option_copied};
 ghost use Rattle.edit_stack.specs.Element.{step_of};
+ghost use Rattle.model_core.specs.History.{is_alone, kept_with};
 ghost use Rattle.model_core.specs.Ways.{next_steps, passed, alternative_after};
 
 use edit_stack::{EditStack, Element};
@@ -45,5 +46,29 @@ pub(crate) fn pass_step(history: &mut EditStack<Change>, way: Way)
     match way {
         Way::Back => history.undone(),
         Way::On => history.redone(),
+    }
+}
+
+/// The change was made, from one alternative version to another. There is room for it.
+pub(crate) fn keep(history: &mut EditStack<Change>, change: Change, before: u64, after: u64)
+    requires { 0 < history.old.spare }
+    ensures { history.new.stack ≡ kept_with history.old.stack change before after }
+{
+    if is_alone(&change) {
+        history.stop();
+        history.push(change, before, after);
+        history.stop();
+    } else {
+        history.push(change, before, after);
+    }
+}
+
+// Whether the change is a step of its own.
+fn is_alone(change: &Change) -> bool
+    ensures { result ≡ is_alone change.now }
+{
+    match change {
+        Change::Ops { .. } => false,
+        Change::Endings(_) => true,
     }
 }

@@ -1,12 +1,11 @@
 -- Decorations that move as ops are carried out one by one, and as steps are undone and redone.
-use Rattle.std.proofs.Common.{◌≡◌, ℕ, suc, ◌+◌, ◌-◌, ◌^◌, ◌<◌, ◌≤◌, Bool, false, List, [], ◌∷◌, ◌++◌, length, map, take, drop, get_or, slice_index_or, Result, Ok, Err, refl, ap, sym, subst, ◌∙◌, arith}
+use Rattle.std.proofs.Common.{◌≡◌, ℕ, suc, ◌+◌, ◌-◌, ◌^◌, ◌<◌, ◌≤◌, Bool, true, false, List, [], ◌∷◌, ◌++◌, length, map, take, drop, get_or, slice_index_or, Result, Ok, Err, refl, ap, sym, subst, ◌∙◌, arith}
 use Rattle.std.specs.List.{All}
 use Rattle.std.proofs.Math.Seq.{drop-cons}
 use Rattle.std.proofs.lemmas.List.{length-append, length-take-le, length-drop}
 use Rattle.unit_text.specs.declared.kind.Kind.{Kind}
 use Rattle.text_rules.specs.declared.Op.{Op}
 use Rattle.text_rules.specs.Edits.{edited}
-use Rattle.batch_rules.specs.Batches.{applied_from, inverse_from}
 use Rattle.decoration_rules.specs.declared.Mark.{Mark}
 use Rattle.decoration_rules.specs.declared.NewDeco.{NewDeco}
 use Rattle.decoration_rules.specs.declared.DecoError.{DecoError}
@@ -15,11 +14,12 @@ use Rattle.decoration_rules.specs.Marks.{in_order, carried}
 use Rattle.decoration_rules.specs.Decorations.{Decorations, IsSound, Decorates, decorated}
 use Rattle.decoration_rules.proofs.InText.{LieIn-moved, LieIn-decorated, moved_mark-fits}
 use Rattle.decoration_rules.proofs.MarkLists.{carried-none, carried-first}
-use Rattle.document_rules.specs.Document.{edit_of, carried_by, carried_back, carried_on, unforced}
+use Rattle.document_rules.specs.Document.{FlatText, edit_of, carried_by, carried_to, taken_back, made_again, carried_back, carried_on, unforced}
 use Rattle.model_page.specs.declared.change.Change.{Change}
-use Rattle.model_page.specs.Changes.{ops_by, text_back, changes_back, changes_on, LeadBack}
-use Rattle.model_page.specs.Carrying.{edit_with, carried_with, decorations_back, decorations_on, AreIn}
-use Rattle.model_page.specs.declared.change.Way.TheVariants.{On}
+use Rattle.model_page.specs.Changes.{led, deed_of, text_back, changes_back, changes_on, Leads, LeadBack, LeadOn}
+use Rattle.model_page.specs.declared.change.Change.TheVariants.{Ops, Endings}
+use Rattle.model_page.specs.Carrying.{edit_with, carried_with, decorations_over, decorations_back, decorations_on, AreIn}
+use Rattle.model_page.specs.declared.change.Way.TheVariants.{Back, On}
 
 -- no op moves nothing
 pub carried_with-none : (forces : Bool) (d : Decorations) → IsSound d → carried_with forces d [] ≡ d
@@ -61,22 +61,36 @@ carried_turn forces first ops done op now d sound are_in inside is carried_so or
 
 -- Steps, as the flat document tells them.
 
-pub carried_back-kept : (d : Decorations) (now : List ℕ) (cs : List Change) → LeadBack now cs → carried_back d (changes_back now cs) ≡ decorations_back d cs
+back_over : (d : Decorations) (before after : FlatText) (c : Change) → Leads before c after
+    → taken_back d before (deed_of c) after ≡ decorations_over true Back c d
+back_over d before after (Ops ops inverse) leads = ap (carried_by d) (sym leads.inverse)
+back_over d before after (Endings r) leads =
+    ap (λ (t : FlatText). carried_to d t.units before.units) (sym leads.kinds.1)
+    ∙ ap (λ (t : FlatText). carried_to d r.after t.units) (sym leads.kinds.0)
+
+pub carried_back-kept : (d : Decorations) (now : FlatText) (cs : List Change) → LeadBack now cs → carried_back d (changes_back now cs) ≡ decorations_back d cs
 carried_back-kept d now [] lead = refl
 carried_back-kept d now (c ∷ cs) lead =
-    ap (λ e. carried_by e (inverse_from 0 0 (text_back now (c ∷ cs)) (ops_by On c))) (carried_back-kept d now cs lead.1)
-    ∙ ap (carried_by (decorations_back d cs)) (sym lead.0.inverse)
+    ap (λ e. taken_back e (text_back now (c ∷ cs)) (deed_of c) (text_back now cs)) (carried_back-kept d now cs lead.1)
+    ∙ back_over (decorations_back d cs) (text_back now (c ∷ cs)) (text_back now cs) c lead.0
 
 edits-unforced : (ops : List Op) → map edit_of (map unforced ops) ≡ map (edit_with false) ops
 edits-unforced [] = refl
 edits-unforced (op ∷ ops) = ap (λ es. edit_with false op ∷ es) (edits-unforced ops)
 
-pub carried_on-kept : (d : Decorations) (now : List ℕ) (cs : List Change) → carried_on d (changes_on now cs) ≡ decorations_on d cs
-carried_on-kept d now [] = refl
-carried_on-kept d now (c ∷ cs) =
-    let same : carried_by d (map unforced (ops_by On c)) ≡ carried_with false d (ops_by On c) =
-    ap (λ es. record { marks = carried d.marks es; next_id = d.next_id }) (edits-unforced (ops_by On c)) in
-    ap (λ e. carried_on e (changes_on (applied_from 0 now (ops_by On c)) cs)) same ∙ carried_on-kept (carried_with false d (ops_by On c)) (applied_from 0 now (ops_by On c)) cs
+on_over : (d : Decorations) (before after : FlatText) (c : Change) → Leads before c after
+    → made_again d before (deed_of c) after ≡ decorations_over false On c d
+on_over d before after (Ops ops inverse) leads = ap (λ es. record { marks = carried d.marks es; next_id = d.next_id }) (edits-unforced ops)
+on_over d before after (Endings r) leads =
+    ap (λ (t : FlatText). carried_to d t.units after.units) (sym leads.kinds.0)
+    ∙ ap (λ (t : FlatText). carried_to d r.before t.units) (sym leads.kinds.1)
+
+pub carried_on-kept : (d : Decorations) (now : FlatText) (cs : List Change) → LeadOn now cs → carried_on d (changes_on now cs) ≡ decorations_on d cs
+carried_on-kept d now [] lead = refl
+carried_on-kept d now (c ∷ cs) lead =
+    let after : FlatText = led On c now in
+    ap (λ e. carried_on e (changes_on after cs)) (on_over d now after c lead.0)
+    ∙ carried_on-kept (decorations_over false On c d) after cs lead.1
 
 -- Decorations that are changed still lie in the text.
 pub inside-decorated : (result : Result ℕ DecoError) (old new : Decorations) (owner : ℕ) (remove : List ℕ) (add : List NewDeco) (kind : Kind) (units : List ℕ)

@@ -6,4 +6,5 @@ pub mod DirtyEdits
 pub mod EditedMarks
 pub mod Marking
 pub mod Staying
+pub mod Recasts
 pub mod Pages

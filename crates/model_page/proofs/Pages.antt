@@ -12,18 +12,20 @@ use Rattle.mark_rules.specs.declared.Mark.{Mark}
 use Rattle.model_page.specs.declared.change.Change.{Change}
 use Rattle.model_page.specs.declared.change.Way.{Way}
 use Rattle.model_page.specs.declared.change.Way.TheVariants.{Back, On}
-use Rattle.model_page.specs.Carrying.{carried_with, AreIn}
-use Rattle.model_page.specs.Changes.{ops_by}
+use Rattle.model_page.specs.Carrying.{carried_with, decorations_over, AreIn}
+use Rattle.document_rules.specs.Document.{FlatText}
+use Rattle.model_page.specs.declared.change.Change.TheVariants.{Ops, Endings}
+use Rattle.model_page.specs.Changes.{ops_by, led}
 use Rattle.model_page.specs.Counts.{op_count}
-use Rattle.model_page.specs.LineMarks.{marked_backwards}
+use Rattle.model_page.specs.LineMarks.{marked_backwards, marks_over}
 use Rattle.model_page.specs.Needs.{need_of_ops}
 use Rattle.model_page.specs.Staying.{StaysWith}
 use Rattle.model_page.specs.Ways.{forces, text_by, changes_by, LeadBy, decorations_by, marked_along}
-use Rattle.model_page.specs.State.{PageState, IsPage, CanApply, CanLead, HasGrown, HasSpent, KeepsParse, Renews, is_fresh}
+use Rattle.model_page.specs.State.{PageState, IsPage, flat_text, CanApply, CanFollow, CanLead, HasGrown, HasRoom, HasSpent, KeepsParse, Renews, is_fresh}
 use Rattle.model_page.proofs.Carries.{carried_with-none}
 use Rattle.model_page.proofs.Staying.{stays_as, stays_applied, clean_where_fresh}
 use Rattle.model_page.proofs.Texts.{IsTextAfter, text_before, text_after}
-use Rattle.model_page.proofs.Turns.{IsNext}
+use Rattle.model_page.proofs.Turns.{IsFit, IsNext}
 
 -- what so many of the ops leave
 pub record IsPageAfter (old : PageState) (forces : Bool) (ops : List Op) (done : ℕ) (now : PageState) : Type 0 where
@@ -50,7 +52,7 @@ page_before page forces ops sound =
 
 -- what all of them leave
 pub record IsApplied (forces : Bool) (ops : List Op) (old new : PageState) : Type 0 where
-  pub units : new.text.units ≡ applied_from 0 old.text.units ops
+  pub text : flat_text new.text ≡ record { units = applied_from 0 old.text.units ops; kind = old.text.kind }
   pub decorations : new.decorations ≡ carried_with forces old.decorations ops
   pub marks : new.marks ≡ marked_backwards old.text.units ops old.marks
   pub parse : KeepsParse old new
@@ -64,7 +66,7 @@ module _ (old now : PageState) (forces : Bool) (ops : List Op) (done : ℕ) (can
       let all : length ops - done ≡ 0 = omega arith in
       let text = text_after old.text ops now.text done can.standing past within after.text in
       record {
-        units = text.0;
+        text = rw (text.0, after.text.kind) refl;
         decorations = after.carried ∙ ap (λ (k : ℕ). carried_with forces old.decorations (drop k ops)) all;
         marks = after.marks ∙ ap (λ (k : ℕ). marked_backwards old.text.units (drop k ops) old.marks) all;
         parse = after.parse;
@@ -74,23 +76,25 @@ module _ (old now : PageState) (forces : Bool) (ops : List Op) (done : ℕ) (can
 
   pub still_page : IsPage old → IsPage now
   still_page sound =
+      let keeps = can.keeps (length ops - done) in
       let done = page_after in
+      let units : now.text.units ≡ applied_from 0 old.text.units ops = ap (λ (t : FlatText). t.units) done.text in
       record {
-        mixed = after.text.kind ∙ sound.mixed;
-        fits = rw done.units can.fits;
+        endings = rw (after.text.units, after.text.kind) keeps;
+        fits = rw units can.fits;
         inside = after.inside;
         stays = subst (λ table. StaysWith now.tree now.marks table now.text.units) (sym done.parse.table)
             (stays_as old.tree now.tree (marked_backwards old.text.units ops old.marks) now.marks old.table (applied_from 0 old.text.units ops) now.text.units
-            done.parse.tree done.marks done.units (stays_applied old.tree old.marks old.table old.text.units ops can.standing sound.stays));
+            done.parse.tree done.marks units (stays_applied old.tree old.marks old.table old.text.units ops can.standing sound.stays));
       }
 
 -- ---- the changes of a step
 
 -- these are left of the changes on the way
 pub record IsOnWay (way : Way) (old : PageState) (cs : List Change) (left : List Change) (now : PageState) : Type 0 where
-  pub units : text_by way now.text.units left ≡ text_by way old.text.units cs
+  pub text : text_by way (flat_text now.text) left ≡ text_by way (flat_text old.text) cs
   pub decorations : decorations_by way now.decorations left ≡ decorations_by way old.decorations cs
-  pub marks : marked_along way now.marks (changes_by way now.text.units left) ≡ marked_along way old.marks (changes_by way old.text.units cs)
+  pub marks : marked_along way now.marks (changes_by way (flat_text now.text) left) ≡ marked_along way old.marks (changes_by way (flat_text old.text) cs)
   pub parse : KeepsParse old now
   pub pieces : length now.text.spans + 2 * op_count way left ≤ length old.text.spans + 2 * op_count way cs
   pub buffers : Extends old.text.buffers now.text.buffers
@@ -100,7 +104,7 @@ pub way_begins : (way : Way) (page : PageState) (cs left : List Change) → left
 way_begins way page cs left all can =
     subst (λ l. IsOnWay way page cs l page) (sym all)
     (record {
-      units = refl;
+      text = refl;
       decorations = refl;
       marks = refl;
       parse = record { table = refl; parsed = refl; tree = refl };
@@ -109,32 +113,41 @@ way_begins way page cs left all can =
       can = can;
     })
 
-module _ (way : Way) (old now : PageState) (cs left : List Change) (c : Change) (rest : List Change) (before : IsOnWay way old cs left now) (next : IsNext way left c rest now.text.units) where
-  pub can_apply : CanApply now (ops_by way c)
-  can_apply =
-      let room = before.can.room in
-      record {
-        standing = next.fit.standing;
-        fits = next.fit.fits;
-        room = record {
-          text = record {
-            edits = omega (arith, room.text.edits, next.ops);
-            units = omega (arith, room.text.units, next.ops, next.units);
-            breaks = omega (arith, room.text.breaks, next.ops, next.breaks);
-          };
-          marks = omega (arith, room.marks, next.ops);
-        };
-      }
+-- what one of them leaves
+pub record IsFollowed (way : Way) (forces : Bool) (c : Change) (old new : PageState) : Type 0 where
+  pub text : flat_text new.text ≡ led way c (flat_text old.text)
+  pub decorations : new.decorations ≡ decorations_over forces way c old.decorations
+  pub marks : new.marks ≡ marks_over way c old.text.units old.marks
+  pub parse : KeepsParse old new
+  pub grown : HasGrown (length (ops_by way c)) old.text new.text
+  pub spent : HasSpent (need_of_ops (ops_by way c)) old new
 
-  pub way_goes_on : (new : PageState) → IsApplied (forces way) (ops_by way c) now new → IsOnWay way old cs rest new
+fit_follows : (way : Way) (now : PageState) (c : Change) → IsFit way c (flat_text now.text) → HasRoom now (need_of_ops (ops_by way c)) → CanFollow way now c
+fit_follows way now (Ops ops inverse) fit room = record { standing = fit.standing; fits = fit.fits; keeps = fit.kinds; room = room }
+fit_follows way now (Endings r) fit room = (fit.kinds, room)
+
+module _ (way : Way) (old now : PageState) (cs left : List Change) (c : Change) (rest : List Change) (before : IsOnWay way old cs left now) (next : IsNext way left c rest (flat_text now.text)) where
+  pub can_follow : CanFollow way now c
+  can_follow =
+      let room = before.can.room in
+      fit_follows way now c next.fit (record {
+        text = record {
+          edits = omega (arith, room.text.edits, next.ops);
+          units = omega (arith, room.text.units, next.ops, next.units);
+          breaks = omega (arith, room.text.breaks, next.ops, next.breaks);
+        };
+        marks = omega (arith, room.marks, next.ops);
+      })
+
+  pub way_goes_on : (new : PageState) → IsFollowed way (forces way) c now new → IsOnWay way old cs rest new
   way_goes_on new done =
       let room = before.can.room in
       let spent = done.spent in
       record {
-        units = ap (λ x. text_by way x rest) done.units ∙ sym next.text ∙ before.units;
+        text = ap (λ x. text_by way x rest) done.text ∙ sym next.text ∙ before.text;
         decorations = ap (λ d. decorations_by way d rest) done.decorations ∙ sym (next.decorations now.decorations) ∙ before.decorations;
-        marks = ap (λ x. marked_along way new.marks (changes_by way x rest)) done.units
-            ∙ ap (λ ms. marked_along way ms (changes_by way (applied_from 0 now.text.units (ops_by way c)) rest)) done.marks
+        marks = ap (λ x. marked_along way new.marks (changes_by way x rest)) done.text
+            ∙ ap (λ ms. marked_along way ms (changes_by way (led way c (flat_text now.text)) rest)) done.marks
             ∙ sym (next.marks now.marks) ∙ before.marks;
         parse = record {
           table = done.parse.table ∙ before.parse.table;
@@ -144,7 +157,7 @@ module _ (way : Way) (old now : PageState) (cs left : List Change) (c : Change) 
         pieces = omega (arith, before.pieces, done.grown.pieces, next.ops);
         buffers = Extends-trans old.text.buffers now.text.buffers new.text.buffers before.buffers done.grown.buffers;
         can = record {
-          lead = subst (λ x. LeadBy way x rest) (sym done.units) next.lead;
+          lead = subst (λ x. LeadBy way x rest) (sym done.text) next.lead;
           room = record {
             text = record {
               edits = omega (arith, room.text.edits, spent.text.edits, next.ops);
@@ -156,7 +169,7 @@ module _ (way : Way) (old now : PageState) (cs left : List Change) (c : Change) 
         };
       }
 
-text_none : (way : Way) (x : List ℕ) → text_by way x [] ≡ x
+text_none : (way : Way) (x : FlatText) → text_by way x [] ≡ x
 text_none Back x = refl
 text_none On x = refl
 
@@ -164,15 +177,15 @@ decorations_none : (way : Way) (d : Decorations) → decorations_by way d [] ≡
 decorations_none Back d = refl
 decorations_none On d = refl
 
-marks_none : (way : Way) (ms : List Mark) (x : List ℕ) → marked_along way ms (changes_by way x []) ≡ ms
+marks_none : (way : Way) (ms : List Mark) (x : FlatText) → marked_along way ms (changes_by way x []) ≡ ms
 marks_none Back ms x = refl
 marks_none On ms x = refl
 
 -- what the changes leave
 pub record IsLed (way : Way) (cs : List Change) (old new : PageState) : Type 0 where
-  pub units : new.text.units ≡ text_by way old.text.units cs
+  pub text : flat_text new.text ≡ text_by way (flat_text old.text) cs
   pub decorations : new.decorations ≡ decorations_by way old.decorations cs
-  pub marks : new.marks ≡ marked_along way old.marks (changes_by way old.text.units cs)
+  pub marks : new.marks ≡ marked_along way old.marks (changes_by way (flat_text old.text) cs)
   pub parse : KeepsParse old new
   pub grown : HasGrown (op_count way cs) old.text new.text
 
@@ -180,9 +193,9 @@ pub way_ends : (way : Way) (old now : PageState) (cs left : List Change) → lef
 way_ends way old now cs left none before =
     let at_end : IsOnWay way old cs [] now = subst (λ l. IsOnWay way old cs l now) none before in
     record {
-      units = sym (text_none way now.text.units) ∙ at_end.units;
+      text = sym (text_none way (flat_text now.text)) ∙ at_end.text;
       decorations = sym (decorations_none way now.decorations) ∙ at_end.decorations;
-      marks = sym (marks_none way now.marks now.text.units) ∙ at_end.marks;
+      marks = sym (marks_none way now.marks (flat_text now.text)) ∙ at_end.marks;
       parse = at_end.parse;
       grown = record { pieces = omega (arith, at_end.pieces); buffers = at_end.buffers };
     }

@@ -26,14 +26,17 @@ use Rattle.document_rules.specs.Brackets.{line_contents}
 use Rattle.model_page.specs.declared.change.Change.{Change}
 use Rattle.model_page.specs.declared.change.Way.{Way}
 use Rattle.model_page.specs.declared.change.Way.TheVariants.{Back, On}
-use Rattle.model_page.specs.Changes.{ops_by, text_back, changes_back, changes_on, LeadBack, LeadOn}
-use Rattle.model_page.specs.Counts.{op_count}
+use Rattle.document_rules.specs.Document.{FlatText}
+use Rattle.recast_rules.specs.Moves.{HaveSameContents}
+use Rattle.model_page.specs.declared.change.Change.TheVariants.{Ops, Endings}
+use Rattle.model_page.specs.Changes.{ops_by, led, text_back, changes_back, changes_on, LeadBack, LeadOn}
+use Rattle.model_page.specs.Counts.{marking_ops, marking_count}
 use Rattle.model_page.specs.Ways.{changes_by, LeadBy, marked_along}
-use Rattle.model_page.specs.LineMarks.{marked_by, marked_backwards, marked_back, marked_on}
+use Rattle.model_page.specs.LineMarks.{marked_by, marked_backwards, marks_over, marked_back, marked_on}
 use Rattle.model_page.specs.Staying.{fresh_tree, IsKept, KeptBy, StaysWith}
 use Rattle.model_page.proofs.DirtyEdits.{lines_edited, IsEdited-map, length-after}
 use Rattle.model_page.proofs.EditedMarks.{length-edited_marks, has_new-edited, AllNew-replicate, AllNew-edited, clean_where_kept}
-use Rattle.model_page.proofs.Turns.{fit_back, fit_on, op_count-cons}
+use Rattle.model_page.proofs.Turns.{IsFit, fit_back, fit_on, marks_back, marks_on, marking_count-cons}
 
 -- ---- trees of the text of now
 
@@ -62,6 +65,26 @@ pub stays_as : (old_tree tree : Option Tree) (old_marks marks : List Mark) (tabl
     → StaysWith old_tree old_marks table old_text → StaysWith tree marks table x
 stays_as old_tree tree old_marks marks table old_text x trees are texts stays =
     subst (λ t. StaysWith t marks table x) (sym trees) (subst (λ ms. StaysWith old_tree ms table x) (sym are) (subst (StaysWith old_tree old_marks table) (sym texts) stays))
+
+kept_recast : (tree : Option Tree) (table : Table) (x y : List ℕ) → HaveSameContents x y → IsKept tree table x → IsKept tree table y
+kept_recast None table x y same kept = tt
+kept_recast (Some t) table x y same kept =
+    (kept.0, subst (λ (contents : List (List ℕ)). IsTreeOf (text_rows table contents) t) same kept.1)
+
+-- of a text whose lines hold the same
+pub stays_recast : (tree : Option Tree) (marks : List Mark) (table : Table) (x y : List ℕ) → HaveSameContents x y → StaysWith tree marks table x
+    → StaysWith tree marks table y
+stays_recast tree marks table x y same stays = record {
+  count = omega (
+    arith,
+    stays.count,
+    length-map (lines_of x) (λ (line : Line). line.content),
+    length-map (lines_of y) (λ (line : Line). line.content),
+    ap length same,
+  );
+  agrees = subst (λ (contents : List (List ℕ)). AgreesIfThere tree marks (text_rows table contents)) same stays.agrees;
+  kept = kept_recast (fresh_tree tree marks) table x y same stays.kept;
+}
 
 -- ---- an op
 
@@ -129,10 +152,6 @@ stays_applied tree marks table x ops standing stays =
 
 -- ---- a step
 
-marked_back-first : (marks : List Mark) (after : List ℕ) (c : Change) (cs : List Change) → LeadBack after (c ∷ cs)
-    → marked_back marks (changes_back after (c ∷ cs)) ≡ marked_backwards (text_back after cs) (ops_by Back c) (marked_back marks (changes_back after cs))
-marked_back-first marks after c cs lead = ap (λ ops. marked_backwards (text_back after cs) ops (marked_back marks (changes_back after cs))) (sym lead.0.inverse)
-
 -- the op whose turn it is, after so many others from the last on
 pub marked_turn : (x : List ℕ) (ops : List Op) (marks : List Mark) (done : ℕ) (op : Op) (now : List ℕ) (ms : List Mark) → done < length ops
     → op ≡ slice_index_or ops (length ops - 1 - done) op → now ≡ edited_backwards x (drop (length ops - done) ops) → ms ≡ marked_backwards x (drop (length ops - done) ops) marks
@@ -169,26 +188,33 @@ marked_ops at x [] marks standing = refl
 marked_ops at x (op ∷ ops) marks standing =
     some_new (edited_backwards x ops) op standing.1 (op_within at x op ops standing) (marked_backwards x ops marks)
 
-marked_step_back : (marks : List Mark) (after : List ℕ) (cs : List Change) → LeadBack after cs → MarkedBy (op_count Back cs) marks (marked_back marks (changes_back after cs))
+pub marked_over : (way : Way) (c : Change) (now : FlatText) (marks : List Mark) → IsFit way c now → MarkedBy (marking_ops way c) marks (marks_over way c now.units marks)
+unfolding MarkedBy
+marked_over way (Ops ops inverse) now marks fit = marked_ops 0 now.units (ops_by way (Ops ops inverse)) marks fit.standing
+marked_over way (Endings r) now marks fit = refl
+
+marked_step_back : (marks : List Mark) (after : FlatText) (cs : List Change) → LeadBack after cs → MarkedBy (marking_count Back cs) marks (marked_back marks (changes_back after cs))
 unfolding MarkedBy
 marked_step_back marks after [] lead = refl
 marked_step_back marks after (c ∷ cs) lead =
     let mid : List Mark = marked_back marks (changes_back after cs) in
-    subst (MarkedBy (op_count Back (c ∷ cs)) marks) (sym (marked_back-first marks after c cs lead))
-    (marked_more (op_count Back (c ∷ cs)) (op_count Back cs) (length (ops_by Back c)) marks mid (marked_backwards (text_back after cs) (ops_by Back c) mid) (op_count-cons Back c cs)
-    (marked_step_back marks after cs lead.1) (marked_ops 0 (text_back after cs) (ops_by Back c) mid (fit_back _ _ c lead.0).standing))
+    let now : FlatText = text_back after cs in
+    subst (MarkedBy (marking_count Back (c ∷ cs)) marks) (sym (marks_back (text_back after (c ∷ cs)) now c mid lead.0))
+    (marked_more (marking_count Back (c ∷ cs)) (marking_count Back cs) (marking_ops Back c) marks mid (marks_over Back c now.units mid) (marking_count-cons Back c cs)
+    (marked_step_back marks after cs lead.1) (marked_over Back c now mid (fit_back _ _ c lead.0)))
 
-marked_step_on : (marks : List Mark) (before : List ℕ) (cs : List Change) → LeadOn before cs → MarkedBy (op_count On cs) marks (marked_on marks (changes_on before cs))
+marked_step_on : (marks : List Mark) (before : FlatText) (cs : List Change) → LeadOn before cs → MarkedBy (marking_count On cs) marks (marked_on marks (changes_on before cs))
 unfolding MarkedBy
 marked_step_on marks before [] lead = refl
 marked_step_on marks before (c ∷ cs) lead =
-    let after : List ℕ = applied_from 0 before (ops_by On c) in
-    let mid : List Mark = marked_backwards before (ops_by On c) marks in
-    marked_more (op_count On (c ∷ cs)) (length (ops_by On c)) (op_count On cs) marks mid (marked_on mid (changes_on after cs)) (omega (arith, op_count-cons On c cs))
-    (marked_ops 0 before (ops_by On c) marks (fit_on before after c lead.0).standing) (marked_step_on mid after cs lead.1)
+    let after : FlatText = led On c before in
+    let mid : List Mark = marks_over On c before.units marks in
+    subst (λ ms. MarkedBy (marking_count On (c ∷ cs)) marks (marked_on ms (changes_on after cs))) (sym (marks_on before c marks))
+    (marked_more (marking_count On (c ∷ cs)) (marking_ops On c) (marking_count On cs) marks mid (marked_on mid (changes_on after cs)) (omega (arith, marking_count-cons On c cs))
+    (marked_over On c before marks (fit_on before after c lead.0)) (marked_step_on mid after cs lead.1))
 
-pub marked_by_way : (way : Way) (marks : List Mark) (now : List ℕ) (cs : List Change) → LeadBy way now cs
-    → MarkedBy (op_count way cs) marks (marked_along way marks (changes_by way now cs))
+pub marked_by_way : (way : Way) (marks : List Mark) (now : FlatText) (cs : List Change) → LeadBy way now cs
+    → MarkedBy (marking_count way cs) marks (marked_along way marks (changes_by way now cs))
 marked_by_way Back marks now cs lead = marked_step_back marks now cs lead
 marked_by_way On marks now cs lead = marked_step_on marks now cs lead
 

@@ -10,20 +10,21 @@ use Rattle.std.proofs.lemmas.List.Sums.{sum_by-cons, sum_by-append, sum_by-drop_
 use Rattle.text_rules.specs.declared.Op.{Op}
 use Rattle.text_rules.specs.Edits.{edited}
 use Rattle.line_starts.specs.Starts.{break_count}
-use Rattle.batch_rules.specs.Batches.{most_units, applied_from, inverse_from, text_units, StandFrom, edited_backwards}
+use Rattle.batch_rules.specs.Batches.{most_units, applied_from, text_units, StandFrom, edited_backwards, KeepsKind}
 use Rattle.batch_rules.proofs.Backwards.{backwards_step, backwards_few, IsStep}
 use Rattle.batch_rules.proofs.Standing.{text_units_applied, text_units_inverse}
 use Rattle.batch_rules.proofs.Inverses.{inverse_stands_from_start, inverse_gives_back}
 use Rattle.decoration_rules.specs.Decorations.{Decorations}
-use Rattle.document_rules.specs.Document.{FlatChange}
+use Rattle.document_rules.specs.Document.{FlatText, FlatChange}
 use Rattle.mark_rules.specs.declared.Mark.{Mark}
 use Rattle.model_page.specs.declared.change.Change.{Change}
+use Rattle.model_page.specs.declared.change.Change.TheVariants.{Ops, Endings}
 use Rattle.model_page.specs.declared.change.Way.{Way}
 use Rattle.model_page.specs.declared.change.Way.TheVariants.{Back, On}
-use Rattle.model_page.specs.Changes.{ops_by, text_back, changes_back, Leads, LeadBack, LeadOn}
-use Rattle.model_page.specs.Counts.{text_breaks, op_count, unit_count, breaks_along}
-use Rattle.model_page.specs.Carrying.{carried_with, decorations_back}
-use Rattle.model_page.specs.LineMarks.{marked_backwards, marked_back}
+use Rattle.model_page.specs.Changes.{text_from, ops_by, kind_by, led, deed_of, text_back, changes_back, changes_on, Leads, LeadBack, LeadOn}
+use Rattle.model_page.specs.Counts.{text_breaks, op_count, unit_count, breaks_along, marking_ops, marking_count}
+use Rattle.model_page.specs.Carrying.{decorations_over, decorations_back}
+use Rattle.model_page.specs.LineMarks.{marked_backwards, marks_over, marks_taken_back, marks_made_again, marked_back, marked_on}
 use Rattle.model_page.specs.Ways.{forces, text_by, changes_by, LeadBy, decorations_by, marked_along, place_at, rest_on}
 
 -- the op whose turn it is, after so many others, on the text of the moment
@@ -80,85 +81,126 @@ op_count-cons way c cs = sum_by-cons {X = Change} (λ d. length (ops_by way d)) 
 unit_count-cons : (way : Way) (c : Change) (cs : List Change) → unit_count way (c ∷ cs) ≡ text_units (ops_by way c) + unit_count way cs
 unit_count-cons way c cs = sum_by-cons {X = Change} (λ d. text_units (ops_by way d)) c cs
 
+pub marking_count-cons : (way : Way) (c : Change) (cs : List Change) → marking_count way (c ∷ cs) ≡ marking_ops way c + marking_count way cs
+marking_count-cons way c cs = sum_by-cons {X = Change} (λ d. marking_ops way d) c cs
+
 breaks_along-cons : (way : Way) (c : Change) (cs : List Change) → breaks_along way (c ∷ cs) ≡ text_breaks (ops_by way c) + breaks_along way cs
 breaks_along-cons way c cs = sum_by-cons {X = Change} (λ d. text_breaks (ops_by way d)) c cs
 
-pub leads_back : (before after : List ℕ) (c : Change) → Leads before c after → applied_from 0 after (ops_by Back c) ≡ before
+-- the new text is what the ops make of the old one
+units_on : (before after : FlatText) (c : Change) → Leads before c after → after.units ≡ applied_from 0 before.units (ops_by On c)
+units_on before after c leads = ap (λ (t : FlatText). t.units) leads.on
+
+kind_back : (before after : FlatText) (c : Change) → Leads before c after → kind_by Back c after.kind ≡ before.kind
+kind_back before after (Ops ops inverse) leads = ap (λ (t : FlatText). t.kind) leads.on
+kind_back before after (Endings r) leads = ap (λ (t : FlatText). t.kind) leads.kinds.0
+
+pub leads_back : (before after : FlatText) (c : Change) → Leads before c after → led Back c after ≡ before
 leads_back before after c leads =
-    rw (leads.on, leads.inverse) (inverse_gives_back before (ops_by On c) leads.standing)
+    let units : applied_from 0 after.units (ops_by Back c) ≡ before.units =
+    rw (units_on before after c leads, leads.inverse) (inverse_gives_back before.units (ops_by On c) leads.standing) in
+    rw (units, kind_back before after c leads) refl
 
--- a batch that may be carried out on the text of the moment, with the room that it takes
-pub record IsFit (way : Way) (c : Change) (now : List ℕ) : Type 0 where
-  pub standing : StandFrom 0 now (ops_by way c)
-  pub fits : length (applied_from 0 now (ops_by way c)) ≤ most_units
+-- all line endings are those of the kind on the way
+abbrev pub IsKindly : Way → Change → FlatText → Type 0
+IsKindly way (Ops ops inverse) now = KeepsKind now.kind now.units (ops_by way (Ops ops inverse))
+IsKindly way (Endings r) now = text_from way r ≡ now
+
+-- a change that may be carried out on the text of the moment, with the room that it takes
+pub record IsFit (way : Way) (c : Change) (now : FlatText) : Type 0 where
+  pub standing : StandFrom 0 now.units (ops_by way c)
+  pub fits : length (applied_from 0 now.units (ops_by way c)) ≤ most_units
   pub units : text_units (ops_by way c) ≤ most_units
+  pub kinds : IsKindly way c now
 
-pub fit_back : (before after : List ℕ) (c : Change) → Leads before c after → IsFit Back c after
+kindly_back : (before after : FlatText) (c : Change) → Leads before c after → IsKindly Back c after
+kindly_back before after (Ops ops inverse) leads = leads.kinds.1
+kindly_back before after (Endings r) leads = leads.kinds.1
+
+kindly_on : (before after : FlatText) (c : Change) → Leads before c after → IsKindly On c before
+kindly_on before after (Ops ops inverse) leads = leads.kinds.0
+kindly_on before after (Endings r) leads = leads.kinds.0
+
+pub fit_back : (before after : FlatText) (c : Change) → Leads before c after → IsFit Back c after
 fit_back before after c leads =
+    let back : applied_from 0 after.units (ops_by Back c) ≡ before.units = ap (λ (t : FlatText). t.units) (leads_back before after c leads) in
     record {
-      standing = rw (leads.on, leads.inverse) (inverse_stands_from_start before (ops_by On c) leads.standing);
-      fits = omega (arith, ap length (leads_back before after c leads), leads.fits_before);
-      units = rw leads.inverse (omega (arith, text_units_inverse 0 0 before (ops_by On c) leads.standing, leads.fits_before));
+      standing = rw (units_on before after c leads, leads.inverse) (inverse_stands_from_start before.units (ops_by On c) leads.standing);
+      fits = omega (arith, ap length back, leads.fits_before);
+      units = rw leads.inverse (omega (arith, text_units_inverse 0 0 before.units (ops_by On c) leads.standing, leads.fits_before));
+      kinds = kindly_back before after c leads;
     }
 
-pub fit_on : (before after : List ℕ) (c : Change) → Leads before c after → IsFit On c before
+pub fit_on : (before after : FlatText) (c : Change) → Leads before c after → IsFit On c before
 fit_on before after c leads =
+    let on = ap length (units_on before after c leads) in
     record {
       standing = leads.standing;
-      fits = omega (arith, ap length leads.on, leads.fits_after);
-      units = omega (arith, text_units_applied 0 before (ops_by On c) leads.standing, ap length leads.on, leads.fits_after);
+      fits = omega (arith, on, leads.fits_after);
+      units = omega (arith, text_units_applied 0 before.units (ops_by On c) leads.standing, on, leads.fits_after);
+      kinds = kindly_on before after c leads;
     }
 
 -- ---- the change that comes next on a way
 
 -- one change more at the end
 
-pub text_back-more : (cs : List Change) (c : Change) (after : List ℕ) → text_back after (cs ++ c ∷ []) ≡ text_back (applied_from 0 after (ops_by Back c)) cs
+pub text_back-more : (cs : List Change) (c : Change) (after : FlatText) → text_back after (cs ++ c ∷ []) ≡ text_back (led Back c after) cs
 text_back-more [] c after = refl
-text_back-more (d ∷ cs) c after = ap (λ x. applied_from 0 x (ops_by Back d)) (text_back-more cs c after)
+text_back-more (d ∷ cs) c after = ap (led Back d) (text_back-more cs c after)
 
-pub changes_back-more : (cs : List Change) (c : Change) (before after : List ℕ) → applied_from 0 after (ops_by Back c) ≡ before
-    → changes_back after (cs ++ c ∷ []) ≡ changes_back before cs ++ record { before = before; ops = ops_by On c; after = after } ∷ []
-changes_back-more [] c before after led = ap (λ x. record { before = x; ops = ops_by On c; after = after } ∷ []) led
-changes_back-more (d ∷ cs) c before after led =
-    let back : text_back after (cs ++ c ∷ []) ≡ text_back before cs = text_back-more cs c after ∙ ap (λ x. text_back x cs) led in
-    rw (changes_back-more cs c before after led, back) refl
+pub changes_back-more : (cs : List Change) (c : Change) (before after : FlatText) → led Back c after ≡ before
+    → changes_back after (cs ++ c ∷ []) ≡ changes_back before cs ++ record { before = before; deed = deed_of c; after = after } ∷ []
+changes_back-more [] c before after back = ap (λ x. record { before = x; deed = deed_of c; after = after } ∷ []) back
+changes_back-more (d ∷ cs) c before after back =
+    let there : text_back after (cs ++ c ∷ []) ≡ text_back before cs = text_back-more cs c after ∙ ap (λ x. text_back x cs) back in
+    rw (changes_back-more cs c before after back, there) refl
 
 decorations_back-more : (cs : List Change) (c : Change) (d : Decorations)
-    → decorations_back d (cs ++ c ∷ []) ≡ decorations_back (carried_with true d (ops_by Back c)) cs
+    → decorations_back d (cs ++ c ∷ []) ≡ decorations_back (decorations_over true Back c d) cs
 decorations_back-more [] c d = refl
-decorations_back-more (e ∷ cs) c d = ap (λ (o : Decorations). carried_with true o (ops_by Back e)) (decorations_back-more cs c d)
+decorations_back-more (e ∷ cs) c d = ap (decorations_over true Back e) (decorations_back-more cs c d)
 
 marked_back-more : (ms : List Mark) (changes : List FlatChange) (last : FlatChange)
-    → marked_back ms (changes ++ last ∷ []) ≡ marked_back (marked_backwards last.after (inverse_from 0 0 last.before last.ops) ms) changes
+    → marked_back ms (changes ++ last ∷ []) ≡ marked_back (marks_taken_back last.before last.deed last.after ms) changes
 marked_back-more ms [] last = refl
 marked_back-more ms (change ∷ changes) last =
-    ap (marked_backwards change.after (inverse_from 0 0 change.before change.ops)) (marked_back-more ms changes last)
+    ap (marks_taken_back change.before change.deed change.after) (marked_back-more ms changes last)
 
-LeadBack-less : (cs : List Change) (c : Change) (after : List ℕ) → LeadBack after (cs ++ c ∷ [])
-    → Leads (applied_from 0 after (ops_by Back c)) c after × LeadBack (applied_from 0 after (ops_by Back c)) cs
+LeadBack-less : (cs : List Change) (c : Change) (after : FlatText) → LeadBack after (cs ++ c ∷ [])
+    → Leads (led Back c after) c after × LeadBack (led Back c after) cs
 LeadBack-less [] c after lead = (lead.0, tt)
 LeadBack-less (d ∷ cs) c after lead =
     let less = LeadBack-less cs c after lead.1 in
-    (less.0, (subst (λ x. Leads (applied_from 0 x (ops_by Back d)) d x) (text_back-more cs c after) lead.0, less.1))
+    (less.0, (subst (λ x. Leads (led Back d x) d x) (text_back-more cs c after) lead.0, less.1))
+
+-- lines are marked as the change marks them
+pub marks_back : (before after : FlatText) (c : Change) (ms : List Mark) → Leads before c after
+    → marks_taken_back before (deed_of c) after ms ≡ marks_over Back c after.units ms
+marks_back before after (Ops ops inverse) ms leads = ap (λ (o : List Op). marked_backwards after.units o ms) (sym leads.inverse)
+marks_back before after (Endings r) ms leads = refl
+
+pub marks_on : (before : FlatText) (c : Change) (ms : List Mark) → marks_made_again before (deed_of c) ms ≡ marks_over On c before.units ms
+marks_on before (Ops ops inverse) ms = refl
+marks_on before (Endings r) ms = refl
 
 -- of the changes that are left, this one comes next on the text of the moment, and leaves the rest
-pub record IsNext (way : Way) (left : List Change) (c : Change) (rest : List Change) (now : List ℕ) : Type 0 where
+pub record IsNext (way : Way) (left : List Change) (c : Change) (rest : List Change) (now : FlatText) : Type 0 where
   pub fit : IsFit way c now
-  pub lead : LeadBy way (applied_from 0 now (ops_by way c)) rest
-  pub text : text_by way now left ≡ text_by way (applied_from 0 now (ops_by way c)) rest
-  pub decorations : (d : Decorations) → decorations_by way d left ≡ decorations_by way (carried_with (forces way) d (ops_by way c)) rest
+  pub lead : LeadBy way (led way c now) rest
+  pub text : text_by way now left ≡ text_by way (led way c now) rest
+  pub decorations : (d : Decorations) → decorations_by way d left ≡ decorations_by way (decorations_over (forces way) way c d) rest
   pub marks : (ms : List Mark) → marked_along way ms (changes_by way now left)
-      ≡ marked_along way (marked_backwards now (ops_by way c) ms) (changes_by way (applied_from 0 now (ops_by way c)) rest)
+      ≡ marked_along way (marks_over way c now.units ms) (changes_by way (led way c now) rest)
   pub ops : op_count way left ≡ length (ops_by way c) + op_count way rest
   pub units : unit_count way left ≡ text_units (ops_by way c) + unit_count way rest
   pub breaks : breaks_along way left ≡ text_breaks (ops_by way c) + breaks_along way rest
 
-next_back : (rest : List Change) (c : Change) (now : List ℕ) → LeadBack now (rest ++ c ∷ []) → IsNext Back (rest ++ c ∷ []) c rest now
+next_back : (rest : List Change) (c : Change) (now : FlatText) → LeadBack now (rest ++ c ∷ []) → IsNext Back (rest ++ c ∷ []) c rest now
 next_back rest c now lead =
-    let before : List ℕ = applied_from 0 now (ops_by Back c) in
+    let before : FlatText = led Back c now in
     let less = LeadBack-less rest c now lead in
-    let last : FlatChange = record { before = before; ops = ops_by On c; after = now } in
+    let last : FlatChange = record { before = before; deed = deed_of c; after = now } in
     record {
       fit = fit_back before now c less.0;
       lead = less.1;
@@ -166,26 +208,26 @@ next_back rest c now lead =
       decorations = decorations_back-more rest c;
       marks = λ ms.
           ap (marked_back ms) (changes_back-more rest c before now refl) ∙ marked_back-more ms (changes_back before rest) last
-          ∙ ap (λ (ops : List Op). marked_back (marked_backwards now ops ms) (changes_back before rest)) (sym less.0.inverse);
+          ∙ ap (λ (marks : List Mark). marked_back marks (changes_back before rest)) (marks_back before now c ms less.0);
       ops = omega (arith, sum_by-append {X = Change} (λ d. length (ops_by Back d)) rest (c ∷ []), op_count-cons Back c []);
       units = omega (arith, sum_by-append {X = Change} (λ d. text_units (ops_by Back d)) rest (c ∷ []), unit_count-cons Back c []);
       breaks = omega (arith, sum_by-append {X = Change} (λ d. text_breaks (ops_by Back d)) rest (c ∷ []), breaks_along-cons Back c []);
     }
 
-next_on : (c : Change) (rest : List Change) (now : List ℕ) → LeadOn now (c ∷ rest) → IsNext On (c ∷ rest) c rest now
+next_on : (c : Change) (rest : List Change) (now : FlatText) → LeadOn now (c ∷ rest) → IsNext On (c ∷ rest) c rest now
 next_on c rest now lead = record {
-  fit = fit_on now (applied_from 0 now (ops_by On c)) c lead.0;
+  fit = fit_on now (led On c now) c lead.0;
   lead = lead.1;
   text = refl;
   decorations = λ d. refl;
-  marks = λ ms. refl;
+  marks = λ ms. ap (λ (marks : List Mark). marked_on marks (changes_on (led On c now) rest)) (marks_on now c ms);
   ops = op_count-cons On c rest;
   units = unit_count-cons On c rest;
   breaks = breaks_along-cons On c rest;
 }
 
 -- the change whose turn it is, after so many others
-pub turn_by : (way : Way) (cs : List Change) (done : ℕ) (c : Change) (now : List ℕ) → done < length cs
+pub turn_by : (way : Way) (cs : List Change) (done : ℕ) (c : Change) (now : FlatText) → done < length cs
     → slice_get cs (place_at way (length cs) done) ≡ Some c → LeadBy way now (rest_on way done cs)
     → IsNext way (rest_on way done cs) c (rest_on way (done + 1) cs) now
 turn_by Back cs done c now inside is lead =
@@ -218,14 +260,14 @@ none_left Back cs done past =
 none_left On cs done past = drop_all done cs past
 
 -- each change of a step is fit for its way
-few_back : (after : List ℕ) (cs : List Change) → LeadBack after cs → All (λ c. text_units (ops_by Back c) ≤ most_units) cs
+few_back : (after : FlatText) (cs : List Change) → LeadBack after cs → All (λ c. text_units (ops_by Back c) ≤ most_units) cs
 few_back after [] lead = All-nil (λ c. text_units (ops_by Back c) ≤ most_units)
 few_back after (c ∷ cs) lead = All-cons (λ d. text_units (ops_by Back d) ≤ most_units) c cs (fit_back _ _ c lead.0).units (few_back after cs lead.1)
 
-few_on : (before : List ℕ) (cs : List Change) → LeadOn before cs → All (λ c. text_units (ops_by On c) ≤ most_units) cs
+few_on : (before : FlatText) (cs : List Change) → LeadOn before cs → All (λ c. text_units (ops_by On c) ≤ most_units) cs
 few_on before [] lead = All-nil (λ c. text_units (ops_by On c) ≤ most_units)
-few_on before (c ∷ cs) lead = All-cons (λ d. text_units (ops_by On d) ≤ most_units) c cs (fit_on _ _ c lead.0).units (few_on (applied_from 0 before (ops_by On c)) cs lead.1)
+few_on before (c ∷ cs) lead = All-cons (λ d. text_units (ops_by On d) ≤ most_units) c cs (fit_on _ _ c lead.0).units (few_on (led On c before) cs lead.1)
 
-pub few_by : (way : Way) (now : List ℕ) (cs : List Change) → LeadBy way now cs → All (λ c. text_units (ops_by way c) ≤ most_units) cs
+pub few_by : (way : Way) (now : FlatText) (cs : List Change) → LeadBy way now cs → All (λ c. text_units (ops_by way c) ≤ most_units) cs
 few_by Back now cs lead = few_back now cs lead
 few_by On now cs lead = few_on now cs lead

@@ -1,12 +1,15 @@
--- How the kept batches move the decorations.
+-- How the kept changes move the decorations.
 use Rattle.std.specs.Prelude.{ℕ, ◌&&◌, Bool, true, false, List, [], ◌∷◌, length, map}
 use Rattle.text_rules.specs.declared.Op.{Op}
 use Rattle.decoration_rules.specs.declared.Edit.{Edit}
 use Rattle.decoration_rules.specs.Moves.{LieIn}
 use Rattle.decoration_rules.specs.Marks.{carried}
 use Rattle.decoration_rules.specs.Decorations.{Decorations, IsSound}
+use Rattle.document_rules.specs.Document.{carried_to}
 use Rattle.model_page.specs.declared.change.Change.{Change}
-use Rattle.model_page.specs.Changes.{ops_by}
+use Rattle.model_page.specs.declared.change.Change.TheVariants.{Ops, Endings}
+use Rattle.model_page.specs.declared.change.Way.{Way}
+use Rattle.model_page.specs.Changes.{ops_by, text_from, text_to}
 use Rattle.model_page.specs.declared.change.Way.TheVariants.{Back, On}
 
 -- an op as decorations see it, where forced ones are wanted and where they are not
@@ -16,15 +19,20 @@ edit_with forces op = record { start = op.span.start; end = op.span.end; units =
 abbrev pub carried_with : Bool → Decorations → List Op → Decorations
 carried_with forces d ops = record d { marks = carried d.marks (map (edit_with forces) ops) }
 
--- the decorations that the inverses lead back to, the last of them first
+-- the decorations after the change: moved by its ops, or along with their lines
+abbrev pub decorations_over : Bool → Way → Change → Decorations → Decorations
+decorations_over forces way (Ops ops inverse) d = carried_with forces d (ops_by way (Ops ops inverse))
+decorations_over forces way (Endings r) d = carried_to d (text_from way r).units (text_to way r).units
+
+-- the decorations that the changes lead back to, the last of them first
 abbrev pub decorations_back : Decorations → List Change → Decorations
 decorations_back d [] = d
-decorations_back d (c ∷ cs) = carried_with true (decorations_back d cs) (ops_by Back c)
+decorations_back d (c ∷ cs) = decorations_over true Back c (decorations_back d cs)
 
--- the decorations that the batches lead on to, where nothing is forced
+-- the decorations that the changes lead on to, where nothing is forced
 abbrev pub decorations_on : Decorations → List Change → Decorations
 decorations_on d [] = d
-decorations_on d (c ∷ cs) = decorations_on (carried_with false d (ops_by On c)) cs
+decorations_on d (c ∷ cs) = decorations_on (decorations_over false On c d) cs
 
 -- the decorations of a text of this length
 pub record AreIn (len : ℕ) (d : Decorations) : Type 0 where

@@ -1,54 +1,88 @@
--- Batches that were carried out, and the texts that they lead to and back from.
-use Rattle.std.specs.Prelude.{ℕ, ◌≡◌, ◌≤◌, List, [], ◌∷◌, length, ⊤}
+-- Changes that were carried out, and the texts that they lead to and back from.
+use Rattle.std.specs.Prelude.{ℕ, ◌≡◌, ◌≤◌, false, List, [], ◌∷◌, length, ⊤}
+use Rattle.unit_text.specs.declared.kind.Kind.{Kind}
 use Rattle.text_rules.specs.declared.Op.{Op}
-use Rattle.batch_rules.specs.Batches.{most_units, applied_from, inverse_from, StandFrom}
-use Rattle.document_rules.specs.Document.{FlatChange}
+use Rattle.batch_rules.specs.Batches.{most_units, applied_from, inverse_from, StandFrom, KeepsKind}
+use Rattle.recast_rules.specs.Recasts.{RecastState}
+use Rattle.document_rules.specs.Document.{FlatText, Deed, FlatChange, batch, recast}
 use Rattle.model_page.specs.declared.change.Change.{Change}
-use Rattle.model_page.specs.declared.change.Change.TheVariants.{Ops}
+use Rattle.model_page.specs.declared.change.Change.TheVariants.{Ops, Endings}
 use Rattle.model_page.specs.declared.change.Way.{Way}
 use Rattle.model_page.specs.declared.change.Way.TheVariants.{Back, On}
 
+-- the text that a change of line endings leads from on the way, and the one that it leads to
+abbrev pub text_from : Way → RecastState → FlatText
+text_from Back r = record { units = r.after; kind = r.to }
+text_from On r = record { units = r.before; kind = r.from }
+
+abbrev pub text_to : Way → RecastState → FlatText
+text_to Back r = record { units = r.before; kind = r.from }
+text_to On r = record { units = r.after; kind = r.to }
+
+-- one op that puts a text in the place of another, whole
+abbrev pub whole_op : List ℕ → List ℕ → List Op
+whole_op old new = record { span = record { start = 0; end = length old }; text = new; force = false } ∷ []
+
 -- the ops that lead a text along the change
 abbrev pub ops_by : Way → Change → List Op
-ops_by Back (Ops batch inverse) = inverse
-ops_by On (Ops batch inverse) = batch
+ops_by Back (Ops ops inverse) = inverse
+ops_by On (Ops ops inverse) = ops
+ops_by way (Endings r) = whole_op (text_from way r).units (text_to way r).units
+
+-- the kind that the text has then, where it had this one
+abbrev pub kind_by : Way → Change → Kind → Kind
+kind_by way (Ops ops inverse) kind = kind
+kind_by way (Endings r) kind = (text_to way r).kind
+
+-- the text that the change leads to
+abbrev pub led : Way → Change → FlatText → FlatText
+led way c text = record { units = applied_from 0 text.units (ops_by way c); kind = kind_by way c text.kind }
 
 -- the text before the changes, where `after` is the one after them
-abbrev pub text_back : List ℕ → List Change → List ℕ
+abbrev pub text_back : FlatText → List Change → FlatText
 text_back after [] = after
-text_back after (c ∷ cs) = applied_from 0 (text_back after cs) (ops_by Back c)
+text_back after (c ∷ cs) = led Back c (text_back after cs)
 
 -- the text after the changes, where `before` is the one before them
-abbrev pub text_on : List ℕ → List Change → List ℕ
+abbrev pub text_on : FlatText → List Change → FlatText
 text_on before [] = before
-text_on before (c ∷ cs) = text_on (applied_from 0 before (ops_by On c)) cs
+text_on before (c ∷ cs) = text_on (led On c before) cs
+
+-- what the change did
+abbrev pub deed_of : Change → Deed
+deed_of (Ops ops inverse) = batch ops
+deed_of (Endings r) = recast
 
 -- the changes with their whole texts, from the text after them back
-abbrev pub changes_back : List ℕ → List Change → List FlatChange
+abbrev pub changes_back : FlatText → List Change → List FlatChange
 changes_back after [] = []
 changes_back after (c ∷ cs) =
-    record { before = text_back after (c ∷ cs); ops = ops_by On c; after = text_back after cs } ∷ changes_back after cs
+    record { before = text_back after (c ∷ cs); deed = deed_of c; after = text_back after cs } ∷ changes_back after cs
 
 -- the changes with their whole texts, from the text before them on
-abbrev pub changes_on : List ℕ → List Change → List FlatChange
+abbrev pub changes_on : FlatText → List Change → List FlatChange
 changes_on before [] = []
 changes_on before (c ∷ cs) =
-    let after = applied_from 0 before (ops_by On c) in
-    record { before = before; ops = ops_by On c; after = after } ∷ changes_on after cs
+    let after = led On c before in record { before = before; deed = deed_of c; after = after } ∷ changes_on after cs
+
+-- both texts are of their kinds, at each moment on the way; a change of line endings is one of these two texts
+abbrev pub AreOfKinds : FlatText → Change → FlatText → Type 0
+AreOfKinds before (Ops ops inverse) after = KeepsKind before.kind before.units ops × KeepsKind after.kind after.units inverse
+AreOfKinds before (Endings r) after = (text_from On r ≡ before) × (text_to On r ≡ after)
 
 -- the change leads from one text to the other, and back
-pub record Leads (before : List ℕ) (c : Change) (after : List ℕ) : Type 0 where
-  pub standing : StandFrom 0 before (ops_by On c)
-  pub on : after ≡ applied_from 0 before (ops_by On c)
-  pub inverse : ops_by Back c ≡ inverse_from 0 0 before (ops_by On c)
-  pub fits_before : length before ≤ most_units
-  pub fits_after : length after ≤ most_units
+pub record Leads (before : FlatText) (c : Change) (after : FlatText) : Type 0 where
+  pub standing : StandFrom 0 before.units (ops_by On c)
+  pub on : after ≡ led On c before
+  pub inverse : ops_by Back c ≡ inverse_from 0 0 before.units (ops_by On c)
+  pub fits_before : length before.units ≤ most_units
+  pub fits_after : length after.units ≤ most_units
+  pub kinds : AreOfKinds before c after
 
-abbrev pub LeadBack : List ℕ → List Change → Type 0
+abbrev pub LeadBack : FlatText → List Change → Type 0
 LeadBack after [] = ⊤
 LeadBack after (c ∷ cs) = Leads (text_back after (c ∷ cs)) c (text_back after cs) × LeadBack after cs
 
-abbrev pub LeadOn : List ℕ → List Change → Type 0
+abbrev pub LeadOn : FlatText → List Change → Type 0
 LeadOn before [] = ⊤
-LeadOn before (c ∷ cs) =
-    Leads before c (applied_from 0 before (ops_by On c)) × LeadOn (applied_from 0 before (ops_by On c)) cs
+LeadOn before (c ∷ cs) = Leads before c (led On c before) × LeadOn (led On c before) cs

@@ -4,6 +4,7 @@ use Rattle.text_rules.specs.declared.Op.{Op}
 use Rattle.line_starts.specs.Starts.{break_count}
 use Rattle.batch_rules.specs.Batches.{text_units}
 use Rattle.model_page.specs.declared.change.Change.{Change}
+use Rattle.model_page.specs.declared.change.Change.TheVariants.{Ops, Endings}
 use Rattle.model_page.specs.declared.change.Way.{Way}
 use Rattle.model_page.specs.Changes.{ops_by}
 
@@ -20,3 +21,11 @@ unit_count way cs = sum_by (λ c. text_units (ops_by way c)) cs
 
 abbrev pub breaks_along : Way → List Change → ℕ
 breaks_along way cs = sum_by (λ c. text_breaks (ops_by way c)) cs
+
+-- how many ops of the change mark lines; other line endings mark none
+abbrev pub marking_ops : Way → Change → ℕ
+marking_ops way (Ops ops inverse) = length (ops_by way (Ops ops inverse))
+marking_ops way (Endings r) = 0
+
+abbrev pub marking_count : Way → List Change → ℕ
+marking_count way cs = sum_by (λ c. marking_ops way c) cs

@@ -3,7 +3,8 @@ use Rattle.std.specs.Prelude.{◌≡◌, ℕ, List, [], ◌∷◌, codes, false,
 use Rattle.text_rules.specs.declared.Op.{Op}
 use Rattle.mark_rules.specs.declared.Mark.TheVariants.{Kept, New}
 use Rattle.mark_rules.specs.Marks.{clean_marks}
-use Rattle.document_rules.specs.Document.{FlatChange}
+use Rattle.unit_text.specs.declared.kind.Kind.TheVariants.{Mixed}
+use Rattle.document_rules.specs.Document.{FlatChange, batch}
 use Rattle.model_page.specs.Counts.{text_breaks}
 use Rattle.model_page.specs.LineMarks.{marked_by, marked_backwards, marked_back}
 
@@ -36,7 +37,11 @@ a_cr_before_an_insert_is_touched = refl
 
 -- an undo brings the text back, and the lines that it touches stay new
 abbrev typed_in_line_two : FlatChange
-typed_in_line_two = record { before = three_lines; ops = insert 2 ∷ []; after = 97 ∷ 10 ∷ 120 ∷ 98 ∷ 10 ∷ 99 ∷ [] }
+typed_in_line_two = record {
+  before = record { units = three_lines; kind = Mixed };
+  deed = batch (insert 2 ∷ []);
+  after = record { units = 97 ∷ 10 ∷ 120 ∷ 98 ∷ 10 ∷ 99 ∷ []; kind = Mixed };
+}
 
 undone_lines_are_new : marked_back (clean_marks 3) (typed_in_line_two ∷ []) ≡ Kept 1 ∷ New ∷ Kept 3 ∷ []
 undone_lines_are_new = refl

@@ -6,7 +6,11 @@ use Rattle.batch_rules.specs.Batches.{edited_backwards, inverse_from}
 use Rattle.mark_rules.specs.declared.Mark.{Mark}
 use Rattle.mark_rules.specs.Marks.{edited_marks}
 use Rattle.undo_rules.specs.Stack.{Step}
-use Rattle.document_rules.specs.Document.{FlatChange}
+use Rattle.document_rules.specs.Document.{FlatText, Deed, FlatChange, batch, recast}
+use Rattle.model_page.specs.declared.change.Change.{Change}
+use Rattle.model_page.specs.declared.change.Change.TheVariants.{Ops, Endings}
+use Rattle.model_page.specs.declared.change.Way.{Way}
+use Rattle.model_page.specs.Changes.{ops_by}
 
 -- after an op on text x: the lines that it touches are new, the others stay what they were
 abbrev pub marked_by : List ℕ → Op → List Mark → List Mark
@@ -17,16 +21,28 @@ abbrev pub marked_backwards : List ℕ → List Op → List Mark → List Mark
 marked_backwards x [] marks = marks
 marked_backwards x (op ∷ ops) marks = marked_by (edited_backwards x ops) op (marked_backwards x ops marks)
 
--- Undo and redo mark lines as any edit does. Back: by the inverses, the last batch first.
+-- after the change on text x: what the lines hold stays under other line endings, and so do the marks
+abbrev pub marks_over : Way → Change → List ℕ → List Mark → List Mark
+marks_over way (Ops ops inverse) x marks = marked_backwards x (ops_by way (Ops ops inverse)) marks
+marks_over way (Endings r) x marks = marks
+
+-- Undo and redo mark lines as any edit does. Back: by the inverses, the last change first.
+abbrev pub marks_taken_back : FlatText → Deed → FlatText → List Mark → List Mark
+marks_taken_back before (batch ops) after marks = marked_backwards after.units (inverse_from 0 0 before.units ops) marks
+marks_taken_back before recast after marks = marks
+
 abbrev pub marked_back : List Mark → List FlatChange → List Mark
 marked_back marks [] = marks
-marked_back marks (change ∷ changes) =
-    marked_backwards change.after (inverse_from 0 0 change.before change.ops) (marked_back marks changes)
+marked_back marks (change ∷ changes) = marks_taken_back change.before change.deed change.after (marked_back marks changes)
 
 -- On: by the batches in their order.
+abbrev pub marks_made_again : FlatText → Deed → List Mark → List Mark
+marks_made_again before (batch ops) marks = marked_backwards before.units ops marks
+marks_made_again before recast marks = marks
+
 abbrev pub marked_on : List Mark → List FlatChange → List Mark
 marked_on marks [] = marks
-marked_on marks (change ∷ changes) = marked_on (marked_backwards change.before change.ops marks) changes
+marked_on marks (change ∷ changes) = marked_on (marks_made_again change.before change.deed marks) changes
 
 -- after the step that comes next is undone; as they are, where there is none
 abbrev pub undone_marks : List Mark → List (Step FlatChange) → List Mark

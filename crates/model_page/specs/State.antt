@@ -1,13 +1,15 @@
 -- What contracts see of a page, the text side of a document: what may be done with it, and what that leaves.
 use Rattle.std.specs.Prelude.{◌≡◌, ℕ, ◌+◌, ◌*◌, ◌≤◌, Bool, true, false, List, length, replicate, Option, None, is_some, Result, OnOk, OnErr}
-use Rattle.unit_text.specs.declared.kind.Kind.TheVariants.{Mixed}
+use Rattle.unit_text.specs.declared.kind.Kind.{Kind}
+use Rattle.unit_text.specs.Kinds.{IsOfKind}
 use Rattle.text_rules.specs.declared.Op.{Op}
 use Rattle.text_rules.specs.Lines.{lines_of}
-use Rattle.batch_rules.specs.Batches.{most_units, applied_from, StandFrom}
+use Rattle.batch_rules.specs.Batches.{most_units, applied_from, StandFrom, KeepsKind}
 use Rattle.bracket_rules.specs.Table.{Table}
 use Rattle.bracket_tree_rules.specs.Tree.{Tree}
 use Rattle.chunk_buffers.specs.Chunks.{Extends}
 use Rattle.decoration_rules.specs.Decorations.{Decorations, no_decorations}
+use Rattle.document_rules.specs.Document.{FlatText}
 use Rattle.mark_rules.specs.declared.Mark.{Mark}
 use Rattle.mark_rules.specs.declared.Mark.TheVariants.{New}
 use Rattle.mark_rules.specs.Marks.{clean_marks}
@@ -17,7 +19,9 @@ use Rattle.text_buffer.specs.Text.{Text}
 use Rattle.text_buffer.specs.Room as text_room
 use Rattle.text_buffer.specs.declared.room.Need.{Need}
 use Rattle.model_page.specs.declared.change.Change.{Change}
+use Rattle.model_page.specs.declared.change.Change.TheVariants.{Ops, Endings}
 use Rattle.model_page.specs.declared.change.Way.{Way}
+use Rattle.model_page.specs.Changes.{ops_by, text_from}
 use Rattle.model_page.specs.Carrying.{AreIn}
 use Rattle.model_page.specs.Needs.{need_of_ops, need_along}
 use Rattle.model_page.specs.Staying.{fresh_tree, HasAsked, StaysWith}
@@ -36,10 +40,14 @@ pub record PageState : Type 0 where
   -- for how many edits of the marks there is room
   pub spare : ℕ
 
+-- the text as a flat document has it
+abbrev pub flat_text : Text → FlatText
+flat_text text = record { units = text.units; kind = text.kind }
+
 -- what holds of every page
 pub record IsPage (page : PageState) : Type 0 where
-  -- each line ends as it came
-  pub mixed : page.text.kind ≡ Mixed
+  -- all line endings are those of the text's kind
+  pub endings : IsOfKind page.text.kind page.text.units
   pub fits : length page.text.units ≤ most_units
   pub inside : AreIn (length page.text.units) page.decorations
   pub stays : StaysWith page.tree page.marks page.table page.text.units
@@ -48,9 +56,10 @@ pub record IsPage (page : PageState) : Type 0 where
 abbrev pub is_fresh : PageState → Bool
 is_fresh page = is_some (fresh_tree page.tree page.marks)
 
--- a page of these units and brackets, with no decoration, which was not parsed yet
-pub record IsNew (x : List ℕ) (brackets : Table) (page : PageState) : Type 0 where
+-- a page of these units of this kind, with these brackets and no decoration, which was not parsed yet
+pub record IsNew (x : List ℕ) (endings : Kind) (brackets : Table) (page : PageState) : Type 0 where
   pub units : page.text.units ≡ x
+  pub kind : page.text.kind ≡ endings
   pub pieces : length page.text.spans ≤ 1
   pub decorations : page.decorations ≡ no_decorations
   pub table : page.table ≡ brackets
@@ -104,15 +113,22 @@ pub record IsUntouched (old new : PageState) : Type 0 where
 
 -- ---- what is asked of a page
 
--- the ops stand in the text in their order, the text that they make is not too long, and there is room for them
+-- The ops stand in the text in their order, the text that they make is not too long, and there is room for them. All line endings
+-- are those of the text's kind at each moment.
 pub record CanApply (page : PageState) (ops : List Op) : Type 0 where
   pub standing : StandFrom 0 page.text.units ops
   pub fits : length (applied_from 0 page.text.units ops) ≤ most_units
+  pub keeps : KeepsKind page.text.kind page.text.units ops
   pub room : HasRoom page (need_of_ops ops)
+
+-- the change leads on from the text this way, and there is room for it
+abbrev pub CanFollow : Way → PageState → Change → Type 0
+CanFollow way page (Ops ops inverse) = CanApply page (ops_by way (Ops ops inverse))
+CanFollow way page (Endings r) = (text_from way r ≡ flat_text page.text) × HasRoom page (need_of_ops (ops_by way (Endings r)))
 
 -- the changes lead the text this way, and there is room for them
 pub record CanLead (way : Way) (page : PageState) (cs : List Change) : Type 0 where
-  pub lead : LeadBy way page.text.units cs
+  pub lead : LeadBy way (flat_text page.text) cs
   pub room : HasRoom page (need_along way cs)
 
 -- ---- a parse

@@ -3,7 +3,7 @@ use Rattle.std.specs.Prelude.{ℕ, ◌-◌, Bool, true, false, List, length, tak
 use Rattle.decoration_rules.specs.Decorations.{Decorations}
 use Rattle.mark_rules.specs.declared.Mark.{Mark}
 use Rattle.undo_rules.specs.Stack.{Step}
-use Rattle.document_rules.specs.Document.{FlatChange}
+use Rattle.document_rules.specs.Document.{FlatText, FlatChange}
 use Rattle.model_page.specs.declared.change.Change.{Change}
 use Rattle.model_page.specs.declared.change.Way.{Way}
 use Rattle.model_page.specs.declared.change.Way.TheVariants.{Back, On}
@@ -16,15 +16,15 @@ abbrev pub forces : Way → Bool
 forces Back = true
 forces On = false
 
-abbrev pub text_by : Way → List ℕ → List Change → List ℕ
+abbrev pub text_by : Way → FlatText → List Change → FlatText
 text_by Back now cs = text_back now cs
 text_by On now cs = text_on now cs
 
-abbrev pub changes_by : Way → List ℕ → List Change → List FlatChange
+abbrev pub changes_by : Way → FlatText → List Change → List FlatChange
 changes_by Back now cs = changes_back now cs
 changes_by On now cs = changes_on now cs
 
-abbrev pub LeadBy : Way → List ℕ → List Change → Type 0
+abbrev pub LeadBy : Way → FlatText → List Change → Type 0
 LeadBy Back now cs = LeadBack now cs
 LeadBy On now cs = LeadOn now cs
 

@@ -5,16 +5,19 @@ ghost use Rattle.unit_text.specs.declared.kind.Kind.TheVariants.{Mixed};
 ghost use Rattle.batch_rules.specs.Batches.{applied_from, text_units, StandFrom};
 ghost use Rattle.edit_stack.specs.Element.{step_of};
 ghost use Rattle.text_buffer.specs.Room as text_room;
-ghost use Rattle.model_page.specs.Carrying.{edit_with, carried_with};
+ghost use Rattle.document_rules.specs.Document.{carried_to};
+ghost use Rattle.model_page.specs.declared.change.Change.TheVariants.{Endings};
+ghost use Rattle.model_page.specs.Carrying.{edit_with, carried_with, decorations_over};
+ghost use Rattle.model_page.specs.Changes.{led, ops_by, text_from, text_to};
 ghost use Rattle.model_page.specs.Counts.{op_count};
-ghost use Rattle.model_page.specs.LineMarks.{marked_backwards};
+ghost use Rattle.model_page.specs.LineMarks.{marked_backwards, marks_over};
 ghost use Rattle.model_page.specs.Needs.{need_of_ops};
-ghost use Rattle.model_page.specs.State.{CanApply, CanLead, HasGrown, HasSpent, KeepsParse};
+ghost use Rattle.model_page.specs.State.{CanApply, CanFollow, CanLead, HasGrown, HasRoom, HasSpent, KeepsParse, flat_text};
 ghost use Rattle.model_page.specs.Ways.{text_by, changes_by, decorations_by, marked_along, place_at};
 
-use crate::change::{Change, Way};
+use crate::change::{Change, Way, batch_for};
 use crate::page::Page;
-use crate::placed::{Place, known, note};
+use crate::placed::{Place, PlacedRecast, known, note};
 use decorations::Edit;
 use edit_stack::Element;
 use text_buffer::TextBuffer;
@@ -22,26 +25,34 @@ use text_rules::Op;
 use unit_text::Flat;
 
 impl Page {
-    /// Carries out the ops, for which there is room. Decorations move with them, forced ones only where they are wanted, and
-    /// the lines that they touch are marked. It takes no memory.
-    pub fn apply(&mut self, ops: &[Op], forces: bool)
-        requires { CanApply self.old ops.now }
-        ensures units { self.new.text.units ≡ applied_from 0 self.old.text.units ops.now }
+    /// Leads the page along the change this way, for which there is room. Decorations move with its ops, forced ones only where
+    /// they are wanted, and the lines that these touch are marked; under other line endings decorations keep line and column, and
+    /// lines stay what they were to the last parse. It takes no memory.
+    pub fn follow(&mut self, change: &Change, way: Way, forces: bool)
+        requires { CanFollow way self.old change.now }
+        ensures text { flat_text self.new.text ≡ led way change.now (flat_text self.old.text) }
         ensures decorations { self.new.decorations
-            ≡ carried_with forces self.old.decorations ops.now }
+            ≡ decorations_over forces way change.now self.old.decorations }
         ensures marks { self.new.marks
-            ≡ marked_backwards self.old.text.units ops.now self.old.marks }
+            ≡ marks_over way change.now self.old.text.units self.old.marks }
         ensures parse { KeepsParse self.old self.new }
-        ensures grown { HasGrown (length ops.now) self.old.text self.new.text }
-        ensures spent { HasSpent (need_of_ops ops.now) self.old self.new }
+        ensures grown { HasGrown (length (ops_by way change.now)) self.old.text self.new.text }
+        ensures spent { HasSpent (need_of_ops (ops_by way change.now)) self.old self.new }
     {
-        self.carry(ops, &[], forces);
+        match change {
+            Change::Ops { batch, inverse } => {
+                let placed = batch_for(batch, inverse, way);
+                self.carry(placed.batch().ops(), placed.places(), forces);
+            }
+            Change::Endings(recast) => self.recast(recast, way),
+        }
     }
 
-    // `apply`, of ops whose texts may lie in the buffers already, at the places that they have, if any.
+    // Carries out the ops, whose texts may lie in the buffers already, at the places that they have, if any.
     fn carry(&mut self, ops: &[Op], places: &[Place], forces: bool)
         requires { CanApply self.old ops.now }
-        ensures units { self.new.text.units ≡ applied_from 0 self.old.text.units ops.now }
+        ensures text { flat_text self.new.text
+            ≡ record { units = applied_from 0 self.old.text.units ops.now; kind = self.old.text.kind } }
         ensures decorations { self.new.decorations
             ≡ carried_with forces self.old.decorations ops.now }
         ensures marks { self.new.marks
@@ -63,14 +74,35 @@ impl Page {
         }
     }
 
+    // Puts the text to which the recast leads this way in the place of the other.
+    fn recast(&mut self, recast: &PlacedRecast, way: Way)
+        requires text { text_from way recast.now ≡ flat_text self.old.text }
+        requires room { HasRoom self.old (need_of_ops (ops_by way (Endings recast.now))) }
+        ensures text { flat_text self.new.text ≡ text_to way recast.now }
+        ensures decorations { self.new.decorations ≡ carried_to self.old.decorations
+            (text_from way recast.now).units (text_to way recast.now).units }
+        ensures marks { self.new.marks ≡ self.old.marks }
+        ensures parse { KeepsParse self.old self.new }
+        ensures grown { HasGrown 1 self.old.text self.new.text }
+        ensures spent { HasSpent (need_of_ops (ops_by way (Endings recast.now))) self.old self.new }
+    {
+        let side = recast.side(way);
+        let place = recast.place(way);
+        let mut known = place.get();
+        self.text
+            .recast_again(side.kind(), side.units(), &mut known);
+        place.set(known);
+        self.decorations.carry(side.moves());
+    }
+
     /// Leads the page along the changes of the step this way, for which there is room. It takes no memory.
     pub fn lead(&mut self, step: &Element<Change>, way: Way)
         requires { CanLead way self.old (step_of step.now).changes }
-        ensures units { self.new.text.units
-            ≡ text_by way self.old.text.units (step_of step.now).changes }
+        ensures text { flat_text self.new.text
+            ≡ text_by way (flat_text self.old.text) (step_of step.now).changes }
         ensures decorations { self.new.decorations
             ≡ decorations_by way self.old.decorations (step_of step.now).changes }
-        ensures marks { let changes = changes_by way self.old.text.units (step_of step.now).changes in
+        ensures marks { let changes = changes_by way (flat_text self.old.text) (step_of step.now).changes in
             self.new.marks ≡ marked_along way self.old.marks changes }
         ensures parse { KeepsParse self.old self.new }
         ensures grown { HasGrown (op_count way (step_of step.now).changes)
@@ -78,8 +110,7 @@ impl Page {
     {
         for done in 0..step.len() {
             let at = place_at(way, step.len(), done);
-            let placed = step.change(at).batch_for(way);
-            self.carry(placed.batch().ops(), placed.places(), way.forces());
+            self.follow(step.change(at), way, way.forces());
         }
     }
 }

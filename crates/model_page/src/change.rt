@@ -1,15 +1,17 @@
-//! Batches that were carried out, and the room that a text is led along them in.
+//! Changes that were carried out, and the room that a text is led along them in.
 
-ghost use Rattle.std.specs.Prelude.{◌≡◌, ◌+◌, ◌≤◌, ◌<◌, ◌^◌, IfOk, IfSome};
+ghost use Rattle.std.specs.Prelude.{◌≡◌, ◌+◌, ◌≤◌, ◌<◌, ◌^◌, IfOk, IfSome, length};
 ghost use Rattle.std.specs.List.{All};
 ghost use Rattle.edit_stack.specs.Element.{step_of};
 ghost use Rattle.batch_rules.specs.Batches.{most_units, text_units};
+ghost use Rattle.line_starts.specs.Starts.{break_count};
+ghost use Rattle.model_page.specs.declared.change.Change.TheVariants.{Ops};
 ghost use Rattle.model_page.specs.Changes.{ops_by};
 ghost use Rattle.model_page.specs.Counts.{text_breaks};
 ghost use Rattle.model_page.specs.Needs.{need_of_ops, need_along};
 ghost use Rattle.model_page.specs.Ways.{forces};
 
-use crate::placed::PlacedBatch;
+use crate::placed::{PlacedBatch, PlacedRecast};
 use edit_batches::Batch;
 use edit_stack::Element;
 use line_starts::count_breaks;
@@ -43,30 +45,37 @@ pub enum Change {
         batch: PlacedBatch,
         inverse: PlacedBatch,
     },
+    /// The line endings became those of another kind.
+    Endings(PlacedRecast),
 }
 
-impl Change {
-    /// The ops that lead a text along it this way.
-    pub fn ops(&self, way: Way) -> &[Op]
-        ensures { result.now ≡ ops_by way self.now }
-    {
-        self.batch_for(way).batch().ops()
-    }
-
-    pub(crate) fn batch_for(&self, way: Way) -> &PlacedBatch
-        ensures { result.now ≡ ops_by way self.now }
-    {
-        match self {
-            Change::Ops { batch, inverse } => match way {
-                Way::Back => inverse,
-                Way::On => batch,
-            },
-        }
+/// The one of the two batches that leads a text this way.
+pub(crate) fn batch_for<'b>(
+    batch: &'b PlacedBatch,
+    inverse: &'b PlacedBatch,
+    way: Way,
+) -> &'b PlacedBatch
+    ensures { result.now ≡ ops_by way (Ops batch.now inverse.now) }
+{
+    match way {
+        Way::Back => inverse,
+        Way::On => batch,
     }
 }
 
-/// What the ops of the batch ask for.
-pub fn need_of(batch: &Batch) -> Need
+/// What the change asks for this way.
+pub fn need_of(change: &Change, way: Way) -> Need
+    requires { text_units (ops_by way change.now) ≤ most_units }
+    ensures { result ≡ need_of_ops (ops_by way change.now) }
+{
+    match change {
+        Change::Ops { batch, inverse } => need_of_batch(batch_for(batch, inverse, way).batch()),
+        Change::Endings(recast) => need_of_whole(recast.side(way).units()),
+    }
+}
+
+// What the ops of the batch ask for.
+fn need_of_batch(batch: &Batch) -> Need
     requires { text_units batch.now ≤ most_units }
     ensures { result ≡ need_of_ops batch.now }
 {
@@ -74,6 +83,19 @@ pub fn need_of(batch: &Batch) -> Need
         edits: batch.ops().len() as u64,
         units: batch.text_units(),
         breaks: text_breaks(batch.ops()),
+    }
+}
+
+// What one op asks for that puts in these units.
+fn need_of_whole(units: &[u16]) -> Need
+    ensures edits { result.edits ≡ 1 }
+    ensures units { result.units ≡ length units.now }
+    ensures breaks { result.breaks ≡ break_count units.now }
+{
+    Need {
+        edits: 1,
+        units: units.len() as u64,
+        breaks: count_breaks(units),
     }
 }
 
@@ -88,7 +110,7 @@ pub fn need_of_step(step: &Element<Change>, way: Way) -> Result<Need, AllocError
         breaks: 0,
     };
     for at in 0..step.len() {
-        let need = need_of(step.change(at).batch_for(way).batch());
+        let need = need_of(step.change(at), way);
         all = joined(all, need).ok_or(AllocError)?;
     }
     Ok(all)

@@ -3,7 +3,7 @@
 ghost use Rattle.std.specs.Prelude.{◌≡◌, ◌+◌, ◌-◌, ◌<◌, ◌≤◌, ◌^◌, ◌∷◌, [], None, Some, false, true, length, is_some, replicate, IfOk, OnOk};
 ghost use Rattle.std.specs.Option.{option_copied};
 ghost use Rattle.batch_rules.specs.Batches.{most_units};
-ghost use Rattle.unit_text.specs.declared.kind.Kind.TheVariants.{Mixed};
+ghost use Rattle.unit_text.specs.Kinds.{IsOfKind};
 ghost use Rattle.text_rules.specs.Lines.{lines_of};
 ghost use Rattle.bracket_tree_rules.specs.Tree.{IsTree};
 ghost use Rattle.mark_rules.specs.declared.Mark.TheVariants.{New};
@@ -161,18 +161,23 @@ impl LastParse {
     }
 }
 
-/// The text of these units, which was not parsed yet.
-pub(crate) fn unparsed(alloc: Global, units: &[u16]) -> Result<(TextBuffer, LastParse), AllocError>
-    requires { length units.now ≤ most_units }
+/// The text of these units of the kind, which was not parsed yet.
+pub(crate) fn unparsed(
+    alloc: Global,
+    units: &[u16],
+    kind: Kind,
+) -> Result<(TextBuffer, LastParse), AllocError>
+    requires fits { length units.now ≤ most_units }
+    requires endings { IsOfKind kind units.now }
     ensures units { IfOk result (λ made. made.0.units ≡ units.now) }
-    ensures kind { IfOk result (λ made. made.0.kind ≡ Mixed) }
+    ensures kind { IfOk result (λ made. made.0.kind ≡ kind) }
     ensures spans { IfOk result (λ made. length made.0.spans ≤ 1) }
     ensures parsed { IfOk result (λ made. made.1.parsed ≡ None) }
     ensures tree { IfOk result (λ made. made.1.tree ≡ None) }
     ensures marks { IfOk result (λ made.
         made.1.marks ≡ replicate (length (lines_of units.now)) New) }
 {
-    let text = TextBuffer::of_units(alloc, units, Kind::Mixed)?;
+    let text = TextBuffer::of_units(alloc, units, kind)?;
     let last = LastParse::of_new_lines(alloc, text.line_count())?;
     Ok((text, last))
 }

@@ -13,4 +13,4 @@ mod text_lines;
 pub use apply::apply_to_text;
 pub use change::{Change, Way, need_of, need_of_step};
 pub use page::Page;
-pub use placed::PlacedBatch;
+pub use placed::{PlacedBatch, PlacedRecast};

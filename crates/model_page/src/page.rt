@@ -5,6 +5,7 @@ ghost use Rattle.batch_rules.specs.Batches.{most_units};
 ghost use Rattle.bracket_rules.specs.Table.{standard_table};
 ghost use Rattle.decoration_rules.specs.Decorations.{Decorates, decorated};
 ghost use Rattle.unit_text.specs.declared.kind.Kind.TheVariants.{Mixed};
+ghost use Rattle.unit_text.specs.Kinds.{IsOfKind};
 ghost use Rattle.text_rules.specs.Positions.{is_position, offset_of};
 ghost use Rattle.model_page.specs.Carrying.{AreIn};
 ghost use Rattle.model_page.specs.State.{HasRoom, IsNew, IsUntouched, KeepsRoom};
@@ -17,6 +18,7 @@ use std::marker::Model;
 use text_buffer::{Need, TextBuffer};
 use text_lengths::Position;
 use text_rules::Op;
+use unit_text::Kind;
 
 /// A text, the decorations that stand at it, and the last parse of its brackets.
 ///
@@ -51,7 +53,7 @@ impl Model for Page {
 impl Page {
     /// An empty text, with the standard brackets.
     pub fn new(alloc: Global) -> Page
-        ensures page { IsNew [] standard_table result }
+        ensures page { IsNew [] Mixed standard_table result }
         ensures pieces { length result.text.spans ≡ 0 }
     {
         Page {
@@ -63,12 +65,18 @@ impl Page {
         }
     }
 
-    /// The text of these units, with these brackets.
-    pub fn open(alloc: Global, units: &[u16], table: BracketTable) -> Result<Page, AllocError>
-        requires { length units.now ≤ most_units }
-        ensures { IfOk result (IsNew units.now table) }
+    /// The text of these units, all of whose line endings are of the kind, with these brackets.
+    pub fn open(
+        alloc: Global,
+        units: &[u16],
+        kind: Kind,
+        table: BracketTable,
+    ) -> Result<Page, AllocError>
+        requires fits { length units.now ≤ most_units }
+        requires endings { IsOfKind kind units.now }
+        ensures { IfOk result (IsNew units.now kind table) }
     {
-        let (text, last) = unparsed(alloc, units)?;
+        let (text, last) = unparsed(alloc, units, kind)?;
         Ok(Page {
             alloc,
             text,
@@ -81,7 +89,7 @@ impl Page {
     /// The text.
     pub fn text(&self) -> &TextBuffer
         ensures text { result.now ≡ self.now.text }
-        ensures mixed { self.now.text.kind ≡ Mixed }
+        ensures endings { IsOfKind self.now.text.kind self.now.text.units }
         ensures fits { length self.now.text.units ≤ most_units }
     {
         &self.text
@@ -103,7 +111,8 @@ impl Page {
         add: &[NewDeco],
     ) -> Result<u64, DecoError>
         ensures change { Decorates result self.old.decorations self.new.decorations
-            (decorated self.old.decorations owner remove.now add.now Mixed self.old.text.units) }
+            (decorated self.old.decorations owner remove.now add.now
+            self.old.text.kind self.old.text.units) }
         ensures same { self.new ≡ record self.old { decorations = self.new.decorations } }
     {
         self.decorations.delta(owner, remove, add, &self.text)

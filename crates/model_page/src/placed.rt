@@ -1,9 +1,16 @@
-//! Batches with the places of their texts.
+//! Changes with the places of their texts.
 
-ghost use Rattle.std.specs.Prelude.{◌≡◌};
+ghost use Rattle.std.specs.Prelude.{◌≡◌, ◌≤◌, length};
+ghost use Rattle.unit_text.specs.Kinds.{IsOfKind};
+ghost use Rattle.batch_rules.specs.Batches.{most_units};
+ghost use Rattle.decoration_rules.specs.Lines.{AreLineMoves};
+ghost use Rattle.recast_rules.specs.Moves.{line_moves, HaveSameContents};
+ghost use Rattle.model_page.specs.Changes.{text_from, text_to};
 
+use crate::change::Way;
 use chunk_buffers::ChunkSpan;
 use edit_batches::Batch;
+use recasts::{Recast, Side};
 use std::alloc::{AllocError, Global};
 use std::cell::Cell;
 use std::marker::Model;
@@ -77,5 +84,57 @@ pub(crate) fn known(places: &[Place], at: usize) -> Option<ChunkSpan> {
 pub(crate) fn note(places: &[Place], at: usize, known: Option<ChunkSpan>) {
     if let Some(place) = places.get(at) {
         place.set(known);
+    }
+}
+
+/// A recast that is carried out time and again, with the places of its two texts. Contracts see the recast: nothing rests on the places.
+#[derive(Drop)]
+pub struct PlacedRecast {
+    recast: Recast,
+    before: Place,
+    after: Place,
+}
+
+impl Model for PlacedRecast {
+    ghost use Rattle.recast_rules.specs.Recasts.{RecastState};
+
+    ghost Value = { RecastState };
+
+    ghost view = { λ p. p.recast };
+}
+
+impl PlacedRecast {
+    /// The recast, which was not carried out yet.
+    pub fn of(recast: Recast) -> PlacedRecast
+        ensures { result ≡ recast }
+    {
+        PlacedRecast {
+            recast,
+            before: Cell::new(None),
+            after: Cell::new(None),
+        }
+    }
+
+    /// The text that it leads to this way.
+    pub(crate) fn side(&self, way: Way) -> &Side
+        ensures text { record { units = result.now.units; kind = result.now.kind } ≡ text_to way self.now }
+        ensures moves { result.now.moves ≡ line_moves (text_from way self.now).units (text_to way self.now).units }
+        ensures contents { HaveSameContents (text_from way self.now).units (text_to way self.now).units }
+        ensures endings { IsOfKind result.now.kind result.now.units }
+        ensures lines { AreLineMoves result.now.moves }
+        ensures fits { length result.now.units ≤ most_units }
+    {
+        match way {
+            Way::Back => self.recast.before(),
+            Way::On => self.recast.after(),
+        }
+    }
+
+    /// Where that text lies, if that is known.
+    pub(crate) fn place(&self, way: Way) -> &Place {
+        match way {
+            Way::Back => &self.before,
+            Way::On => &self.after,
+        }
     }
 }

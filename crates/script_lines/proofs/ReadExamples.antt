@@ -2,11 +2,12 @@
 use Rattle.std.specs.Prelude.{◌≡◌, false, [], ◌∷◌, Some, None, codes, refl}
 use Rattle.std.specs.Str.{is_utf8, chars}
 use Rattle.serde_json.proofs.OnLiterals.{serde_json_on_literals}
-use Rattle.script_lines.specs.declared.command.Command.TheVariants.{Open, Edit, Line, Size}
+use Rattle.unit_text.specs.declared.kind.Kind.TheVariants.{Mixed, Crlf}
+use Rattle.script_lines.specs.declared.command.Command.TheVariants.{Open, Edit, Eol, Line, Size}
 use Rattle.script_lines.specs.declared.op.Place.TheVariants.{At}
 use Rattle.script_lines.specs.Commands.{command_of}
 
-pub an_opening : command_of (codes "{\"cmd\":\"open\",\"text\":\"ab\\ncd\"}") ≡ Some (Open (codes "ab\ncd") None)
+pub an_opening : command_of (codes "{\"cmd\":\"open\",\"text\":\"ab\\ncd\"}") ≡ Some (Open (codes "ab\ncd") None Mixed)
 unfolding command_of is_utf8 chars serde_json_on_literals
 an_opening = refl
 
@@ -14,6 +15,14 @@ pub an_edit : command_of (codes "{\"cmd\":\"edit\",\"ops\":[{\"at\":[1,4],\"text
     ≡ Some (Edit (record { place = At (record { start = 1; end = 4 }); text = codes "X"; force = false } ∷ []))
 unfolding command_of is_utf8 chars serde_json_on_literals
 an_edit = refl
+
+pub an_opening_with_eol : command_of (codes "{\"cmd\":\"open\",\"text\":\"ab\",\"eol\":\"crlf\"}") ≡ Some (Open (codes "ab") None Crlf)
+unfolding command_of is_utf8 chars serde_json_on_literals
+an_opening_with_eol = refl
+
+pub an_eol : command_of (codes "{\"cmd\":\"eol\",\"kind\":\"crlf\"}") ≡ Some (Eol Crlf)
+unfolding command_of is_utf8 chars serde_json_on_literals
+an_eol = refl
 
 pub a_line : command_of (codes "{\"cmd\":\"line\",\"n\":1}") ≡ Some (Line 1)
 unfolding command_of is_utf8 chars serde_json_on_literals

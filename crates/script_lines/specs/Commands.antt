@@ -5,7 +5,7 @@ use Rattle.serde_json.specs.Data.{Data}
 use Rattle.serde_json.specs.Read.{read}
 use Rattle.script_lines.specs.Fields.{string_at}
 use Rattle.script_lines.specs.Rows.{Row, row, named_in, bare, of_number, of_two_numbers, of_span, of_position}
-use Rattle.script_lines.specs.EditCommands.{open_in, edit_in}
+use Rattle.script_lines.specs.EditCommands.{open_in, edit_in, eol_in}
 use Rattle.script_lines.specs.DecorationCommands.{decorate_in, decos_in}
 use Rattle.script_lines.specs.declared.command.Command.{Command}
 use Rattle.script_lines.specs.declared.command.Command.TheVariants.{Undo, Redo, Stop, Size, Version, Line, Stops, Value, Offset, Position, Deco, Brackets, Match, Level, Snapshot, Read, Close}
@@ -18,6 +18,7 @@ commands =
     ∷ row (codes "redo") (bare Redo)
     ∷ row (codes "stop") (bare Stop)
     ∷ row (codes "open") open_in
+    ∷ row (codes "eol") eol_in
     ∷ row (codes "size") (bare Size)
     ∷ row (codes "version") (bare Version)
     ∷ row (codes "line") (of_number Line (codes "n"))

@@ -6,20 +6,22 @@ use Rattle.script_lines.specs.declared.op.LineOp.{LineOp}
 use Rattle.script_lines.specs.declared.op.Place.{Place}
 use Rattle.script_lines.specs.declared.op.Place.TheVariants.{At, InRange}
 use Rattle.script_lines.specs.Reading.{◌>>=◌}
-use Rattle.script_lines.specs.Fields.{has_only, has_fields, all_of, text_at, span_from, positions_at, flag_at}
+use Rattle.script_lines.specs.Fields.{has_only, has_fields, all_of, text_at, span_from, positions_at, flag_at, kind_at, optional_kind_at}
 use Rattle.script_lines.specs.Brackets.{optional_table_at}
 use Rattle.script_lines.specs.declared.command.Command.{Command}
-use Rattle.script_lines.specs.declared.command.Command.TheVariants.{Open, Edit}
+use Rattle.script_lines.specs.declared.command.Command.TheVariants.{Open, Edit, Eol}
 
 abbrev pub open_of : Data → Option Command
 open_of d = do
   text ← text_at (codes "text") d
   brackets ← optional_table_at (codes "brackets") d
-  Some (Open text brackets)
+  kind ← optional_kind_at (codes "eol") d
+  Some (Open text brackets kind)
 
--- `{"cmd":"open","text":TEXT}`, with `"brackets":[[OPENING,CLOSING],..]` if the brackets are not those of the standard table
+-- `{"cmd":"open","text":TEXT}`, with `"brackets":[[OPENING,CLOSING],..]` if the brackets are not those of the standard table, and
+-- with `"eol":"lf"` or `"eol":"crlf"` if all line endings are to be of that kind
 abbrev pub open_in : Data → Option Command
-open_in d = if has_fields (codes "text" ∷ codes "brackets" ∷ []) d then open_of d else None
+open_in d = if has_fields (codes "text" ∷ codes "brackets" ∷ codes "eol" ∷ []) d then open_of d else None
 
 -- where an op stands, by its field `at` where it has one: at a span of offsets, or in a range of positions
 abbrev pub place_of : Option Data → Data → Option Place
@@ -47,3 +49,7 @@ some_ops_in (item d ds) = all_of op_in (item d ds)
 abbrev pub edit_in : Data → Option Command
 edit_in d = if has_fields (codes "ops" ∷ []) d
     then option_map Edit (option_and_then some_ops_in (option_and_then as_array (get (codes "ops") d))) else None
+
+-- `{"cmd":"eol","kind":"lf"}`, or with `"crlf"`
+abbrev pub eol_in : Data → Option Command
+eol_in d = if has_fields (codes "kind" ∷ []) d then option_map Eol (kind_at (codes "kind") d) else None

@@ -2,11 +2,12 @@
 use Rattle.std.specs.Prelude.{◌≡◌, ℕ, false, List, ◌∷◌, [], Some, None, codes, refl}
 use Rattle.std.specs.Fmt.{digits}
 use Rattle.std.specs.Str.{chars}
+use Rattle.unit_text.specs.declared.kind.Kind.TheVariants.{Mixed, Lf, Crlf}
 use Rattle.serde_json.specs.Data.{Data, null, number, string, array, object, unsigned, Items, no_items, item, no_members, member}
 use Rattle.script_lines.specs.Replies.{ok_reply}
 use Rattle.script_lines.specs.Decorations.{new_deco_in}
 use Rattle.script_lines.specs.Commands.{command_in}
-use Rattle.script_lines.specs.declared.command.Command.TheVariants.{Open, Decorate, Decos, Match, Level, Read, Close, Stops}
+use Rattle.script_lines.specs.declared.command.Command.TheVariants.{Open, Eol, Decorate, Decos, Match, Level, Read, Close, Stops}
 
 three_numbers : ok_reply (2 ∷ 3 ∷ 10 ∷ []) ≡ codes "ok 2 3 10\n"
 unfolding digits
@@ -80,12 +81,12 @@ open_with brackets = object (member (codes "brackets") brackets
     (member (codes "cmd") (string (codes "open")) (member (codes "text") (string []) no_members)))
 
 open_without_brackets : command_in (object (member (codes "cmd") (string (codes "open")) (member (codes "text") (string []) no_members)))
-    ≡ Some (Open [] None)
+    ≡ Some (Open [] None Mixed)
 unfolding chars
 open_without_brackets = refl
 
 pairs_in_their_order : command_in (open_with (array (item (pair (codes "<") (codes "<<")) (item (pair (codes "(") (codes ")")) no_items))))
-    ≡ Some (Open [] (Some ((60 ∷ [], 60 ∷ 60 ∷ []) ∷ (40 ∷ [], 41 ∷ []) ∷ [])))
+    ≡ Some (Open [] (Some ((60 ∷ [], 60 ∷ 60 ∷ []) ∷ (40 ∷ [], 41 ∷ []) ∷ [])) Mixed)
 unfolding chars
 pairs_in_their_order = refl
 
@@ -112,6 +113,59 @@ match_at_position = refl
 
 level_at_position : command_in (at_position (codes "level")) ≡ Some (Level (record { line = 2; column = 3 }))
 level_at_position = refl
+
+-- ---- line endings
+
+-- `{"cmd":"open","eol":EOL,"text":""}`
+abbrev open_with_eol : Data → Data
+open_with_eol eol = object (member (codes "cmd") (string (codes "open"))
+    (member (codes "eol") eol (member (codes "text") (string []) no_members)))
+
+open_with_lf : command_in (open_with_eol (string (codes "lf"))) ≡ Some (Open [] None Lf)
+unfolding chars
+open_with_lf = refl
+
+open_with_crlf : command_in (open_with_eol (string (codes "crlf"))) ≡ Some (Open [] None Crlf)
+unfolding chars
+open_with_crlf = refl
+
+-- any line endings may stand where the field is absent, and no word says so
+open_with_mixed : command_in (open_with_eol (string (codes "mixed"))) ≡ None
+unfolding chars
+open_with_mixed = refl
+
+open_with_null : command_in (open_with_eol null) ≡ None
+unfolding chars
+open_with_null = refl
+
+-- `{"cmd":"eol","kind":KIND}`
+abbrev eol : Data → Data
+eol kind = object (member (codes "cmd") (string (codes "eol")) (member (codes "kind") kind no_members))
+
+eol_of_lf : command_in (eol (string (codes "lf"))) ≡ Some (Eol Lf)
+eol_of_lf = refl
+
+eol_of_crlf : command_in (eol (string (codes "crlf"))) ≡ Some (Eol Crlf)
+eol_of_crlf = refl
+
+eol_of_another_word : command_in (eol (string (codes "cr"))) ≡ None
+eol_of_another_word = refl
+
+eol_of_capitals : command_in (eol (string (codes "LF"))) ≡ None
+eol_of_capitals = refl
+
+eol_of_mixed : command_in (eol (string (codes "mixed"))) ≡ None
+eol_of_mixed = refl
+
+eol_of_null : command_in (eol null) ≡ None
+eol_of_null = refl
+
+eol_without_kind : command_in (object (member (codes "cmd") (string (codes "eol")) no_members)) ≡ None
+eol_without_kind = refl
+
+eol_with_a_text : command_in (object (member (codes "cmd") (string (codes "eol"))
+    (member (codes "kind") (string (codes "lf")) (member (codes "text") (string []) no_members)))) ≡ None
+eol_with_a_text = refl
 
 -- ---- snapshots and stops
 

@@ -1,5 +1,5 @@
 -- The fields of a JSON object, as serde_json reads it.
-use Rattle.std.specs.Prelude.{ℕ, Bool, true, false, ◌&&◌, List, [], ◌∷◌, ◌++◌, Option, Some, None, map, option_map, option_and_then, codes}
+use Rattle.std.specs.Prelude.{ℕ, Bool, true, false, ◌&&◌, List, [], ◌∷◌, ◌++◌, Option, Some, None, map, option_map, option_and_then, codes, if◌then◌else◌}
 use Rattle.std.specs.Borrow.{Bor}
 use Rattle.std.specs.List.{list_any}
 use Rattle.std.specs.Str.{bytes_eq}
@@ -7,6 +7,8 @@ use Rattle.serde_json.specs.Data.{Data, null, boolean, number, string, array, ob
 use Rattle.serde_json.specs.Find.{get, as_bool, as_number, as_str, as_array, as_u64}
 use Rattle.text_lengths.specs.declared.Position.{Position}
 use Rattle.text_lengths.specs.declared.Span.{Span}
+use Rattle.unit_text.specs.declared.kind.Kind.{Kind}
+use Rattle.unit_text.specs.declared.kind.Kind.TheVariants.{Mixed, Lf, Crlf}
 use Rattle.unit_text.specs.Text.{units_of}
 use Rattle.script_lines.specs.Reading.{◌>>=◌}
 
@@ -109,6 +111,25 @@ flag_of (Some d) = as_bool d
 -- a flag that is off where the field is absent
 abbrev pub flag_at : List ℕ → Data → Option Bool
 flag_at key d = flag_of (get key d)
+
+-- the kind of line ending that the word names
+abbrev pub kind_named : List ℕ → Option Kind
+kind_named word = if bytes_eq word (codes "lf") then Some Lf else
+    (if bytes_eq word (codes "crlf") then Some Crlf else None)
+
+abbrev pub kind_of : Data → Option Kind
+kind_of d = option_and_then kind_named (as_str d)
+
+abbrev pub kind_at : List ℕ → Data → Option Kind
+kind_at key d = option_and_then kind_of (get key d)
+
+abbrev pub optional_kind_of : Option Data → Option Kind
+optional_kind_of None = Some Mixed
+optional_kind_of (Some d) = kind_of d
+
+-- the kind that the field names; where it is absent any line endings may stand
+abbrev pub optional_kind_at : List ℕ → Data → Option Kind
+optional_kind_at key d = optional_kind_of (get key d)
 
 -- a line and a column
 abbrev pub position_of : Data → Data → Option Position

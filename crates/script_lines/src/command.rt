@@ -16,20 +16,25 @@ use serde_json::Value;
 use serde_json::error::Category;
 use std::alloc::Global;
 use text_lengths::{Position, Span};
-use unit_text::Units;
+use unit_text::{Kind, Units};
 
 /// One line of a script.
 #[derive(Drop)]
 pub enum Command {
     /// Puts a new document in place of the old one. Its brackets are those of the table, or of
-    /// the standard table.
+    /// the standard table, and its line endings are of the kind.
     Open {
         text: Units,
         brackets: Option<BracketTable>,
+        kind: Kind,
     },
     /// Changes the text.
     Edit {
         ops: LineOps,
+    },
+    /// Changes the line endings of the text to those of the kind.
+    Eol {
+        kind: Kind,
     },
     /// Removes decorations of the owner, by their ids, and adds new ones to it.
     Decorate {

@@ -13,7 +13,7 @@ mod shapes;
 use crate::command::Command;
 use crate::fields::LineFault;
 use decorations::{decorate_in, decos_in};
-use edit::{edit_in, open_in};
+use edit::{edit_in, eol_in, open_in};
 use serde_json::Value;
 use shapes::{bare, sole_number, sole_position, sole_span, two_numbers};
 use std::alloc::Global;
@@ -28,6 +28,7 @@ pub(crate) fn command_named(alloc: Global, name: &str, value: &Value) -> Result<
         "redo" => bare(value, Command::Redo),
         "stop" => bare(value, Command::Stop),
         "open" => open_in(alloc, value),
+        "eol" => eol_in(value),
         "size" => bare(value, Command::Size),
         "version" => bare(value, Command::Version),
         "line" => sole_number(value, "n").map(|n| Command::Line { n }),

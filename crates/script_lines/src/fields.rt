@@ -5,14 +5,14 @@ ghost use Rattle.std.specs.BTreeMap.{keys};
 ghost use Rattle.std.specs.List.{list_all};
 ghost use Rattle.serde_json.specs.View.{view, items_view};
 ghost use Rattle.script_lines.specs.Reading.{Reads, Passes};
-ghost use Rattle.script_lines.specs.Fields.{names_of, is_name, has_only, has_fields, whole_number, number_at, optional_number_at, text_of, text_at, span_in, span_from, span_at, position_of, positions_in, positions_at, position_in, flag_at};
+ghost use Rattle.script_lines.specs.Fields.{names_of, is_name, has_only, has_fields, whole_number, number_at, optional_number_at, text_of, text_at, span_in, span_from, span_at, position_of, positions_in, positions_at, position_in, flag_at, kind_named, kind_of, kind_at, optional_kind_at};
 
 use crate::items::Item;
 use serde_json::{Map, Value};
 use std::alloc::{AllocError, Global};
 use text_lengths::{Position, Span};
 use thiserror::Error;
-use unit_text::{Units, units_of};
+use unit_text::{Kind, Units, units_of};
 
 /// Why a line was not read as a command.
 #[derive(Clone, Copy, PartialEq, Eq, Debug, Error)]
@@ -198,5 +198,39 @@ pub(crate) fn flag_at(value: &Value, key: &str) -> Result<bool, LineFault>
     match value.get(key) {
         None => Ok(false),
         Some(field) => field.as_bool().ok_or(LineFault::Syntax),
+    }
+}
+
+pub(crate) fn kind_at(value: &Value, key: &str) -> Result<Kind, LineFault>
+    ensures { Reads result (kind_at key.now (view value.now)) }
+{
+    let field = value.get(key).ok_or(LineFault::Syntax)?;
+    kind_of(field)
+}
+
+/// The kind that the field names; `Mixed` where the field is absent.
+pub(crate) fn optional_kind_at(value: &Value, key: &str) -> Result<Kind, LineFault>
+    ensures { Reads result (optional_kind_at key.now (view value.now)) }
+{
+    match value.get(key) {
+        None => Ok(Kind::Mixed),
+        Some(field) => kind_of(field),
+    }
+}
+
+fn kind_of(value: &Value) -> Result<Kind, LineFault>
+    ensures { Reads result (kind_of (view value.now)) }
+{
+    let word = value.as_str().ok_or(LineFault::Syntax)?;
+    kind_named(word).ok_or(LineFault::Syntax)
+}
+
+fn kind_named(word: &str) -> Option<Kind>
+    ensures { result ≡ kind_named word.now }
+{
+    match word {
+        "lf" => Some(Kind::Lf),
+        "crlf" => Some(Kind::Crlf),
+        _ => None,
     }
 }

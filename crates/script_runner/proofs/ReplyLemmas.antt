@@ -15,7 +15,7 @@ use Rattle.bracket_rules.specs.declared.Status.{Status}
 use Rattle.bracket_rules.specs.declared.Status.TheVariants.{PairedOpening, PairedClosing, Unclosed, Unexpected}
 use Rattle.document_rules.specs.Refusals.{FlatRefusal, unknown, range, overlap, limit}
 use Rattle.bracket_rules.specs.Table.{standard_table}
-use Rattle.document_rules.specs.Document.{FlatState, flat_open, flat_edit, flat_undo, flat_redo, flat_decorate, flat_deco, flat_decos, flat_line, flat_value, flat_position, flat_offset, flat_line_count}
+use Rattle.document_rules.specs.Document.{FlatState, flat_open, flat_edit, flat_eol, flat_undo, flat_redo, flat_decorate, flat_deco, flat_decos, flat_line, flat_value, flat_position, flat_offset, flat_line_count}
 use Rattle.document_rules.specs.Brackets.{flat_brackets, flat_match, flat_level}
 use Rattle.document_rules.specs.Snapshots.{flat_snapshot, flat_peek_of, flat_close_of}
 use Rattle.document_rules.specs.Stops.{flat_stops}
@@ -207,8 +207,9 @@ flat_stops_answer (Ok columns) = flat_numbers columns
 flat_stops_answer (Err why) = flat_refusal why
 
 flat_step : (f : FlatState) (c : Command) → IsFlatReply (step f c).0
-flat_step f (command.Open text brackets) = flat_changed f (flat_open text (unwrap_or brackets standard_table))
+flat_step f (command.Open text brackets kind) = flat_changed f (flat_open text (unwrap_or brackets standard_table) kind)
 flat_step f (command.Edit ops) = flat_edited f (ops_at f ops)
+flat_step f (command.Eol kind) = flat_moved f (flat_eol f kind)
 flat_step f (command.Decorate owner remove add) = flat_decorated f (length add) (flat_decorate f owner remove add)
 flat_step f command.Undo = flat_moved f (flat_undo f)
 flat_step f command.Redo = flat_moved f (flat_redo f)

@@ -5,6 +5,7 @@ use Rattle.std.specs.Char.Utf16.{utf16_chars}
 use lib.Utf8.{encode}
 use Rattle.std.proofs.lemmas.Bool.{lt-ltb}
 use Rattle.script_lines.proofs.ReadExamples.{an_opening, an_edit, a_line, a_size, a_word_is_no_command}
+use Rattle.unit_text.specs.declared.kind.Kind.TheVariants.{Mixed}
 use Rattle.text_rules.specs.declared.Op.{Op}
 use Rattle.bracket_rules.specs.Table.{standard_table}
 use Rattle.document_rules.specs.Document.{FlatState, empty_document, new_document, after_batch}
@@ -48,12 +49,12 @@ abbrev line_line : List ℕ
 line_line = codes "{\"cmd\":\"line\",\"n\":1}"
 
 abbrev opened : FlatState
-opened = new_document (codes "ab\ncd") standard_table
+opened = new_document (codes "ab\ncd") standard_table Mixed
 
 abbrev edited : FlatState
 edited =
     let op : Op = record { span = record { start = 1; end = 4 }; text = codes "X"; force = false } in
-    after_batch opened (op ∷ []) (op ∷ [])
+    after_batch opened (op ∷ [])
 
 opened_turn : Turn empty_document open_line (codes "ok 1 5 2\n") opened
 unfolding digits

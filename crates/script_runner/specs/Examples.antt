@@ -1,8 +1,9 @@
 -- Worked examples of the definitions.
 use Rattle.std.specs.Prelude.{◌≡◌, ℕ, List, ◌∷◌, [], codes, refl, false, None}
+use Rattle.unit_text.specs.declared.kind.Kind.TheVariants.{Mixed, Lf, Crlf}
 use Rattle.document_rules.specs.Document.{FlatState, new_document, empty_document}
 use Rattle.bracket_rules.specs.Table.{standard_table}
-use Rattle.script_lines.specs.declared.command.Command.TheVariants.{Open, Edit, Undo, Version, Size, Line, Value, Offset, Brackets, Match, Level, Snapshot, Read, Close, Stops}
+use Rattle.script_lines.specs.declared.command.Command.TheVariants.{Open, Edit, Eol, Undo, Version, Size, Line, Value, Offset, Brackets, Match, Level, Snapshot, Read, Close, Stops}
 use Rattle.script_lines.specs.declared.command.Command.TheVariants as command
 use Rattle.script_lines.specs.declared.op.LineOp.{LineOp}
 use Rattle.script_lines.specs.declared.op.Place.TheVariants.{At, InRange}
@@ -11,6 +12,10 @@ use Rattle.std.specs.Char.Utf16.{utf16_chars}
 use lib.Utf8.{encode}
 use Rattle.script_runner.specs.Step.{step}
 use Rattle.script_runner.specs.Script.{all_lines, whole_lines, has_reply}
+
+-- a new document of this text, whose lines end as they came
+abbrev text : List ℕ → FlatState
+text units = new_document units standard_table Mixed
 
 two_lines_and_a_rest : all_lines (codes "ab\n\nc") ≡ codes "ab" ∷ [] ∷ codes "c" ∷ []
 two_lines_and_a_rest = refl
@@ -24,7 +29,7 @@ the_rest_is_no_whole_line = refl
 a_blank_line_has_no_reply : has_reply (codes " \t\r") ≡ false
 a_blank_line_has_no_reply = refl
 
-opened : step empty_document (Open (codes "ab\ncd") None) ≡ (codes "ok 1 5 2\n", new_document (codes "ab\ncd") standard_table)
+opened : step empty_document (Open (codes "ab\ncd") None Mixed) ≡ (codes "ok 1 5 2\n", text (codes "ab\ncd"))
 unfolding digits
 opened = refl
 
@@ -32,24 +37,24 @@ opened = refl
 abbrev over : ℕ → ℕ → List ℕ → LineOp
 over start end text = record { place = At (record { start = start; end = end }); text = text; force = false }
 
-edited_over_a_break : (step (new_document (codes "ab\ncd") standard_table) (Edit (over 1 4 (codes "X") ∷ []))).0 ≡ codes "ok 2 3 1\n"
+edited_over_a_break : (step (text (codes "ab\ncd")) (Edit (over 1 4 (codes "X") ∷ []))).0 ≡ codes "ok 2 3 1\n"
 unfolding digits
 edited_over_a_break = refl
 
-two_edits_that_overlap : step (new_document (codes "abcde") standard_table)
+two_edits_that_overlap : step (text (codes "abcde"))
     (Edit (over 1 4 [] ∷ over 3 3 [] ∷ []))
-    ≡ (codes "! overlap\n", new_document (codes "abcde") standard_table)
+    ≡ (codes "! overlap\n", text (codes "abcde"))
 two_edits_that_overlap = refl
 
-nothing_to_undo : step (new_document (codes "ab") standard_table) Undo ≡ (codes "ok none\n", new_document (codes "ab") standard_table)
+nothing_to_undo : step (text (codes "ab")) Undo ≡ (codes "ok none\n", text (codes "ab"))
 nothing_to_undo = refl
 
 versions_of_a_new_document : step empty_document Version ≡ (codes "ok 1 1\n", empty_document)
 unfolding digits
 versions_of_a_new_document = refl
 
-the_first_line : step (new_document (codes "aXd") standard_table) (Line 1)
-    ≡ (codes "ok \"aXd\"\n", new_document (codes "aXd") standard_table)
+the_first_line : step (text (codes "aXd")) (Line 1)
+    ≡ (codes "ok \"aXd\"\n", text (codes "aXd"))
 unfolding utf16_chars encode
 the_first_line = refl
 
@@ -65,40 +70,40 @@ in_range line column line' column' text = record {
   force = false;
 }
 
-edited_by_range : (step (new_document (codes "ab\ncd") standard_table) (Edit (in_range 1 2 2 2 (codes "X") ∷ []))).0
+edited_by_range : (step (text (codes "ab\ncd")) (Edit (in_range 1 2 2 2 (codes "X") ∷ []))).0
     ≡ codes "ok 2 3 1\n"
 unfolding digits
 edited_by_range = refl
 
-a_range_with_no_such_column : step (new_document (codes "ab\ncd") standard_table) (Edit (in_range 1 4 2 1 [] ∷ []))
-    ≡ (codes "! range\n", new_document (codes "ab\ncd") standard_table)
+a_range_with_no_such_column : step (text (codes "ab\ncd")) (Edit (in_range 1 4 2 1 [] ∷ []))
+    ≡ (codes "! range\n", text (codes "ab\ncd"))
 a_range_with_no_such_column = refl
 
-offset_after_a_break : step (new_document (codes "ab\r\ncd") standard_table) (Offset (record { line = 2; column = 1 }))
-    ≡ (codes "ok 4\n", new_document (codes "ab\r\ncd") standard_table)
+offset_after_a_break : step (text (codes "ab\r\ncd")) (Offset (record { line = 2; column = 1 }))
+    ≡ (codes "ok 4\n", text (codes "ab\r\ncd"))
 unfolding digits
 offset_after_a_break = refl
 
-position_inside_a_break : step (new_document (codes "ab\r\ncd") standard_table) (command.Position 3)
-    ≡ (codes "ok 1 4\n", new_document (codes "ab\r\ncd") standard_table)
+position_inside_a_break : step (text (codes "ab\r\ncd")) (command.Position 3)
+    ≡ (codes "ok 1 4\n", text (codes "ab\r\ncd"))
 unfolding digits
 position_inside_a_break = refl
 
-brackets_of_a_line : (step (new_document (codes "([)") standard_table) (Brackets 1 1)).0 ≡ codes "ok 1 1 1 0 o 0 1 2 1 1 u 1 1 3 1 0 c 0\n"
+brackets_of_a_line : (step (text (codes "([)")) (Brackets 1 1)).0 ≡ codes "ok 1 1 1 0 o 0 1 2 1 1 u 1 1 3 1 0 c 0\n"
 unfolding digits
 brackets_of_a_line = refl
 
-the_partner_of_a_bracket : (step (new_document (codes "([)") standard_table) (Match (record { line = 1; column = 1 }))).0
+the_partner_of_a_bracket : (step (text (codes "([)")) (Match (record { line = 1; column = 1 }))).0
     ≡ codes "ok 1 3 1\n"
 unfolding digits
 the_partner_of_a_bracket = refl
 
-level_between_brackets : (step (new_document (codes "([)") standard_table) (Level (record { line = 1; column = 3 }))).0 ≡ codes "ok 2\n"
+level_between_brackets : (step (text (codes "([)")) (Level (record { line = 1; column = 3 }))).0 ≡ codes "ok 2\n"
 unfolding digits
 level_between_brackets = refl
 
 abbrev hi : FlatState
-hi = new_document (codes "hi") standard_table
+hi = text (codes "hi")
 
 -- with a snapshot, which has id 1
 abbrev kept : FlatState
@@ -127,3 +132,21 @@ no_such_snapshot = refl
 
 no_such_line_has_stops : step hi (Stops 2) ≡ (codes "! range\n", hi)
 no_such_line_has_stops = refl
+
+-- `a` and `b`, which were opened with LF
+abbrev two_lines : FlatState
+two_lines = (step empty_document (Open (codes "a\r\nb") None Lf)).1
+
+opened_with_a_kind : (step empty_document (Open (codes "a\r\nb") None Lf)).0 ≡ codes "ok 1 3 2\n"
+unfolding digits
+opened_with_a_kind = refl
+
+other_endings : (step two_lines (Eol Crlf)).0 ≡ codes "ok 2 4 2\n"
+unfolding digits
+other_endings = refl
+
+the_same_endings : step two_lines (Eol Lf) ≡ (codes "ok none\n", two_lines)
+the_same_endings = refl
+
+no_place_inside_an_ending : (step (step two_lines (Eol Crlf)).1 (command.Position 2)).0 ≡ codes "! range\n"
+no_place_inside_an_ending = refl

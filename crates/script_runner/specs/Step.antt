@@ -6,11 +6,11 @@ use Rattle.text_rules.specs.declared.Op.{Op}
 use Rattle.decoration_rules.specs.declared.Deco.{Deco}
 use Rattle.std.specs.List.{flat_map}
 use Rattle.document_rules.specs.Refusals.{FlatRefusal, unknown, range, overlap, limit}
-use Rattle.document_rules.specs.Document.{FlatState, flat_open, flat_edit, flat_undo, flat_redo, flat_stop, flat_decorate, flat_deco, flat_decos, flat_line, flat_value, flat_position, flat_offset, flat_line_count}
+use Rattle.document_rules.specs.Document.{FlatState, flat_open, flat_edit, flat_eol, flat_undo, flat_redo, flat_stop, flat_decorate, flat_deco, flat_decos, flat_line, flat_value, flat_position, flat_offset, flat_line_count}
 use Rattle.document_rules.specs.Snapshots.{flat_snapshot, flat_peek_of, flat_skipped, flat_close_of}
 use Rattle.document_rules.specs.Stops.{flat_stops}
 use Rattle.script_lines.specs.declared.command.Command.{Command}
-use Rattle.script_lines.specs.declared.command.Command.TheVariants.{Open, Edit, Decorate, Undo, Redo, Stop, Size, Version, Line, Value, Offset, Decos, Brackets, Match, Level, Snapshot, Read, Close, Stops}
+use Rattle.script_lines.specs.declared.command.Command.TheVariants.{Open, Edit, Eol, Decorate, Undo, Redo, Stop, Size, Version, Line, Value, Offset, Decos, Brackets, Match, Level, Snapshot, Read, Close, Stops}
 use Rattle.script_lines.specs.declared.command.Command.TheVariants as command
 use Rattle.script_lines.specs.declared.op.LineOp.{LineOp}
 use Rattle.script_lines.specs.declared.op.Place.{Place}
@@ -159,8 +159,9 @@ edited_at f None = (refusal_reply refusal.Range, f)
 edited_at f (Some ops) = changed f (flat_edit f ops)
 
 abbrev pub step : FlatState → Command → List ℕ × FlatState
-step f (Open text brackets) = changed f (flat_open text (unwrap_or brackets standard_table))
+step f (Open text brackets kind) = changed f (flat_open text (unwrap_or brackets standard_table) kind)
 step f (Edit ops) = edited_at f (ops_at f ops)
+step f (Eol kind) = moved f (flat_eol f kind)
 step f (Decorate owner remove add) = decorated f (length add) (flat_decorate f owner remove add)
 step f Undo = moved f (flat_undo f)
 step f Redo = moved f (flat_redo f)

@@ -22,6 +22,7 @@ use model_core::{BracketTable, Model};
 use script_lines::{Command, LineOps, Refusal, Short, command_of, long_begin, long_end, long_text};
 use std::alloc::{AllocError, Global};
 use text_lengths::{Position, Span};
+use unit_text::Kind;
 
 /// Answers the line that these bytes end. One that lies whole in them is read where it lies.
 pub(crate) fn reply_at_end(session: &mut Session, line: &mut PartialLine, end: &[u8]) -> Outcome
@@ -67,8 +68,13 @@ fn carry_out(session: &mut Session, command: Command) -> Outcome
     ensures { Tells session.old command result session.new }
 {
     match command {
-        Command::Open { text, brackets } => open_reply(session, text.as_slice(), brackets),
+        Command::Open {
+            text,
+            brackets,
+            kind,
+        } => open_reply(session, text.as_slice(), brackets, kind),
         Command::Edit { ops } => edit_reply(session, ops),
+        Command::Eol { kind } => eol_reply(session, kind),
         Command::Decorate { owner, remove, add } => decorate_reply(session, owner, remove, add),
         Command::Undo => undo_reply(session),
         Command::Redo => redo_reply(session),
@@ -91,10 +97,15 @@ fn carry_out(session: &mut Session, command: Command) -> Outcome
     }
 }
 
-fn open_reply(session: &mut Session, text: &[u16], brackets: Option<BracketTable>) -> Outcome
-    ensures { Tells session.old (Command.Open text.now brackets) result session.new }
+fn open_reply(
+    session: &mut Session,
+    text: &[u16],
+    brackets: Option<BracketTable>,
+    kind: Kind,
+) -> Outcome
+    ensures { Tells session.old (Command.Open text.now brackets kind) result session.new }
 {
-    session.model.open_doc(text, table_of(brackets))?;
+    session.model.open_doc(text, table_of(brackets), kind)?;
     Ok(change_reply(&session.model))
 }
 
@@ -114,6 +125,13 @@ fn edit_reply(session: &mut Session, ops: LineOps) -> Outcome
     let ops = ops_at(session.alloc, &mut session.model, ops)?;
     session.model.edit(ops)?;
     Ok(change_reply(&session.model))
+}
+
+fn eol_reply(session: &mut Session, kind: Kind) -> Outcome
+    ensures { Tells session.old (Command.Eol kind) result session.new }
+{
+    let is_changed = session.model.set_eol(kind)?;
+    Ok(move_reply(is_changed, &session.model))
 }
 
 fn undo_reply(session: &mut Session) -> Outcome

@@ -17,3 +17,4 @@ pub mod Touched
 pub mod Spots
 pub mod AddedBreaks
 pub mod Along
+pub mod Whole

@@ -254,6 +254,50 @@ impl TextBuffer {
         dirty
     }
 
+    /// Puts this text, all of whose line endings are of the kind, in the place of the whole text, for which there is room. It takes
+    /// no memory.
+    pub fn recast(&mut self, kind: Kind, units: &[u16])
+        requires endings { IsOfKind kind units.now }
+        requires small { length units.now < 2 ^ 62 }
+        requires room { IsEnough self.old.room (need_of_edit units.now) }
+        ensures units { self.new.units ≡ units.now }
+        ensures kind { self.new.kind ≡ kind }
+        ensures pieces { length self.new.spans ≤ 1 }
+        ensures appended { unit_count self.new.buffers
+            ≤ unit_count self.old.buffers + length units.now + 8 }
+        ensures grown { Extends self.old.buffers self.new.buffers }
+        ensures spent { HasSpent (need_of_edit units.now) self.old.room self.new.room }
+    {
+        self.recast_again(kind, units, &mut None);
+    }
+
+    /// `recast`, of a text that may lie in the buffers since it was put in before: where it lies at the place, it is not appended.
+    /// The place tells then where it lies. Nothing rests on what it told.
+    pub fn recast_again(&mut self, kind: Kind, units: &[u16], place: &mut Option<ChunkSpan>)
+        requires endings { IsOfKind kind units.now }
+        requires small { length units.now < 2 ^ 62 }
+        requires room { IsEnough self.old.room (need_of_edit units.now) }
+        ensures units { self.new.units ≡ units.now }
+        ensures kind { self.new.kind ≡ kind }
+        ensures pieces { length self.new.spans ≤ 1 }
+        ensures appended { unit_count self.new.buffers
+            ≤ unit_count self.old.buffers + length units.now + 8 }
+        ensures grown { Extends self.old.buffers self.new.buffers }
+        ensures spent { HasSpent (need_of_edit units.now) self.old.room self.new.room }
+    {
+        let view = View {
+            pieces: &self.pieces,
+            chunks: &self.chunks,
+            remembered: &self.remembered,
+        };
+        let first = view.first_piece();
+        let len = view.len();
+        let added = put_some(&mut self.chunks, &[], units, &[], place);
+        let told = self.pieces.splice(first, 0, len, added, &self.chunks);
+        self.remembered.change_from(0, told);
+        self.kind = kind;
+    }
+
     /// A reader of its lines, for one after another.
     pub fn lines(&self) -> LineReader<'_>
         ensures { result ≡ self.now.units }

@@ -3,7 +3,7 @@
 ghost use Rattle.std.specs.Prelude.{◌≡◌, ◌+◌, ◌-◌, ◌<◌, ◌≤◌, ◌^◌, length, take, drop, slice_index, IfSome};
 ghost use Rattle.std.specs.Char.Utf16.{is_low_surrogate};
 ghost use Rattle.chunk_buffers.specs.Chunks.{units_at, part_of, LiesIn};
-ghost use Rattle.piece_tree.specs.Pieces.{pieces_of, unit_count, break_count_of, IsFound, HasUnit};
+ghost use Rattle.piece_tree.specs.Pieces.{pieces_of, unit_count, break_count_of, IsFound, HasUnit, StandsAt};
 ghost use Rattle.piece_tree.specs.Costs.{WithinLookUps};
 ghost use Rattle.unit_text.specs.Kinds.{IsOfKind, cuts_in};
 ghost use Rattle.unit_text.specs.Units.{cuts_pair};
@@ -86,6 +86,17 @@ impl View<'_> {
             Some(found) => found,
             None => piece_near(self.pieces, near, sought),
         }
+    }
+
+    /// The piece that has the first unit; None where the text has no unit.
+    pub(crate) fn first_piece(&self) -> Option<Found>
+        requires view { IsView self.now }
+        ensures { StandsAt (entries_in self.now) result 0 }
+    {
+        if self.len() == 0 {
+            return None;
+        }
+        Some(self.piece_at(&None, 0))
     }
 
     /// The piece that has what is sought: the piece nearby, one that is remembered, or else by a search.

@@ -1,12 +1,14 @@
-//! Texts that get the line endings of a kind, and a batch on a text of CR LF.
+//! Texts that get the line endings of a kind, a batch on a text of CR LF, and a text that changes its kind.
 
 use batch_rules::BatchError;
+use chunk_buffers::ChunkSpan;
 use edit_batches::{Batch, Op};
+use line_starts::count_breaks;
 use std::alloc::{AllocError, Global};
 use std::test::Fail;
-use text_buffer::TextBuffer;
+use text_buffer::{Need, TextBuffer};
 use text_lengths::Span;
-use unit_text::{Kind, Units, is_of_kind, norm_of};
+use unit_text::{Flat, Kind, Units, is_of_kind, norm_of};
 
 const A: u16 = 0x61;
 
@@ -71,5 +73,62 @@ fn a_batch_on_pairs(rt: HostRuntime) -> Result<(), Fail> {
     for op in batch.ops() {
         assert_eq!(rt; op.text.as_slice(), [13, 10].as_slice());
     }
+    Ok(())
+}
+
+/// Puts the units in the place of the whole text; an error where they are not of the kind.
+fn recast(
+    text: &mut TextBuffer,
+    kind: Kind,
+    units: &[u16],
+    place: &mut Option<ChunkSpan>,
+) -> Result<(), AllocError> {
+    if !is_of_kind(units, kind) {
+        return Err(AllocError);
+    }
+    text.reserve(Need {
+        edits: 1,
+        units: units.len() as u64,
+        breaks: count_breaks(units),
+    })?;
+    text.recast_again(kind, units, place);
+    Ok(())
+}
+
+fn units_in(alloc: Global, text: &TextBuffer) -> Result<Vec<u16>, AllocError> {
+    let mut units = Vec::new(alloc);
+    text.value(
+        Span {
+            start: 0,
+            end: text.len(),
+        },
+        &mut units,
+    )?;
+    Ok(units)
+}
+
+fn spans_of(alloc: Global, text: &TextBuffer) -> Result<Vec<ChunkSpan>, AllocError> {
+    let mut spans = Vec::new(alloc);
+    text.spans(&mut spans)?;
+    Ok(spans)
+}
+
+/// A text of CR LF becomes one of LF, and gets its pairs back where they lie still.
+#[test]
+fn a_text_of_another_kind(rt: HostRuntime) -> Result<(), Fail> {
+    let pairs = [A, 13, 10, B];
+    let mut text = text_of(rt.alloc(), &pairs, Kind::Crlf)?;
+    let spans = spans_of(rt.alloc(), &text)?;
+    recast(&mut text, Kind::Lf, &[A, 10, B], &mut None)?;
+    assert_eq!(rt; text.kind(), Kind::Lf);
+    assert_eq!(rt;
+        units_in(rt.alloc(), &text)?.as_slice(),
+        [A, 10, B].as_slice()
+    );
+    let mut place = spans.first().copied();
+    recast(&mut text, Kind::Crlf, &pairs, &mut place)?;
+    assert_eq!(rt; text.kind(), Kind::Crlf);
+    assert_eq!(rt; units_in(rt.alloc(), &text)?.as_slice(), pairs.as_slice());
+    assert_eq!(rt; spans_of(rt.alloc(), &text)?.as_slice(), spans.as_slice());
     Ok(())
 }

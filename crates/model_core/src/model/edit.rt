@@ -5,23 +5,23 @@ ghost use Rattle.std.specs.List.{All};
 ghost use Rattle.unit_text.specs.Units.{IsPaired};
 ghost use Rattle.document_rules.specs.Outcomes.{Changes};
 ghost use Rattle.document_rules.specs.Paired.{IsPairedState};
-ghost use Rattle.batch_rules.specs.Batches.{sorted_ops};
 ghost use Rattle.model_page.specs.LineMarks.{marked_backwards};
 ghost use Rattle.model_core.specs.Prepared.{need_of, Acts, ArePairedTexts, CanCommit, HasActed, IsChangeOf, IsEnough, PreparesEdit};
 ghost use Rattle.model_core.specs.State.{LeftAfter, KeptAfter, GrownAfter, KeepsParse};
-ghost use Rattle.document_rules.specs.Document.{greatest_version, flat_edit};
-ghost use Rattle.model_core.specs.Edited.{HasEdited, one_edit};
+ghost use Rattle.document_rules.specs.Document.{greatest_version, text_now, flat_edit};
+ghost use Rattle.model_core.specs.Edited.{HasEdited, one_edit, ops_as_done};
 
 use crate::errors::error_of;
 use crate::model::Model;
 use crate::ready::{Action, Ready};
+use crate::walk::keep;
 use document_rules::ModelError;
 use edit_batches::{Batch, sorted_ops};
 use model_page::{Change, PlacedBatch, Way, need_of};
 use std::alloc::{AllocError, Global};
 use text_lengths::{Span, raised};
 use text_rules::Op;
-use unit_text::Units;
+use unit_text::{Flat, Units};
 
 impl Model {
     /// Carries out the edits at once, which makes the next version. `Range` where a span is none of the text; else
@@ -37,8 +37,8 @@ impl Model {
             → IsPairedState self.old.document → IsPairedState self.new.document }
         ensures parsed { self.new.parsed ≡ self.old.parsed }
         ensures tree { self.new.tree ≡ self.old.tree }
-        ensures marks { LeftAfter result
-            (marked_backwards self.old.document.units (sorted_ops ops.items) self.old.marks)
+        ensures marks { LeftAfter result (marked_backwards self.old.document.units
+            (ops_as_done self.old.document ops.items) self.old.marks)
             self.old.marks self.new.marks }
         ensures fresh { KeptAfter (length ops.items) result self.old.fresh self.new.fresh }
         ensures pieces { GrownAfter (length ops.items) result self.old.pieces self.new.pieces }
@@ -84,20 +84,22 @@ impl Model {
         let inverse = batch
             .inverse(self.alloc, self.page.text())
             .map_err(|_| ModelError::Memory)?;
-        self.history.reserve().map_err(|_| ModelError::Memory)?;
-        self.page
-            .reserve(need_of(&batch))
-            .map_err(|_| ModelError::Memory)?;
         let change = Change::Ops {
             batch: PlacedBatch::of(self.alloc, batch),
             inverse: PlacedBatch::of(self.alloc, inverse),
         };
-        Ok(Ready::making(next, Action::Edit(change)))
+        self.history.reserve().map_err(|_| ModelError::Memory)?;
+        self.page
+            .reserve(need_of(&change, Way::On))
+            .map_err(|_| ModelError::Memory)?;
+        let kind = self.page.text().kind();
+        Ok(Ready::making(next, kind, Action::Make(change)))
     }
 
     /// Carries out what was prepared, which makes the next version, in the room that was made. It takes no memory. The
-    /// version is the one that it was prepared on; for an edit the rule takes the batch as it stands, and its inverse is
-    /// the one that was prepared; for an undo or redo there is a step. The tree of the last parse stays, and each line that
+    /// version and the kind of line ending are those that it was prepared on; for an edit the rule takes the batch as it stands, and its
+    /// inverse is the one that was prepared; for other line endings the text is the one that was prepared, and the kind another; for
+    /// an undo or redo there is a step. The tree of the last parse stays, and each line that
     /// is touched is marked as new.
     pub fn commit(&mut self, ready: Ready)
         requires can { CanCommit self.old ready }
@@ -108,25 +110,26 @@ impl Model {
     {
         let (version, action) = ready.into_parts();
         match action {
-            Action::Edit(change) => self.carry_out(change, version),
+            Action::Make(change) => self.carry_out(change, version),
             Action::Move(way) => self.follow(way, version),
         }
     }
 
-    // Carries out the batch, which makes this version.
+    // Makes the change, and with it this version.
     fn carry_out(&mut self, change: Change, version: u64)
         requires next { version ≡ self.old.document.version + 1 }
         requires last { version ≤ greatest_version }
-        requires change { IsChangeOf self.old.document.units change }
+        requires change { IsChangeOf (text_now self.old.document) change }
         requires room { IsEnough self.old.room
-            (need_of (Action.Edit change) self.old.document) }
-        ensures document { Acts (Action.Edit change) self.old.document self.new.document }
-        ensures parse { HasActed (Action.Edit change) self.old self.new }
+            (need_of (Action.Make change) self.old.document) }
+        ensures document { Acts (Action.Make change) self.old.document self.new.document }
+        ensures parse { HasActed (Action.Make change) self.old self.new }
     {
-        // The text of before is within its limit, too.
-        let _text = self.page.text();
-        self.page.apply(change.ops(Way::On), true);
-        self.history.push(change, self.alternative, version);
+        // The texts are within their limit, and that of before is of its kind.
+        let _before = self.page.text();
+        self.page.follow(&change, Way::On, true);
+        let _after = self.page.text();
+        keep(&mut self.history, change, self.alternative, version);
         self.version = version;
         self.alternative = version;
     }

@@ -15,6 +15,7 @@ use crate::walk::{alternative_after, has_next, next_step, pass_step};
 use document_rules::ModelError;
 use model_page::{Way, need_of_step};
 use text_lengths::raised;
+use unit_text::Flat;
 
 impl Model {
     /// Goes back to the text before the last step, as the next version, and answers whether there was one. `Limit`
@@ -105,7 +106,8 @@ impl Model {
         let next = raised(self.version, 1).ok_or(ModelError::Limit)?;
         let need = need_of_step(step, way).map_err(|_| ModelError::Memory)?;
         self.page.reserve(need).map_err(|_| ModelError::Memory)?;
-        Ok(Some(Ready::making(next, Action::Move(way))))
+        let kind = self.page.text().kind();
+        Ok(Some(Ready::making(next, kind, Action::Move(way))))
     }
 
     // Goes the step along the way that comes next, which makes this version.

@@ -1,14 +1,18 @@
 //! Opening a document.
 
-ghost use Rattle.std.specs.Prelude.{◌≡◌, ◌≤◌, ◌∷◌, [], false, length, replicate, None, OnOk, OnErr};
+ghost use Rattle.std.specs.Prelude.{◌≡◌, ◌≤◌, ◌∷◌, [], false, length, replicate, None, OnOk, OnErr, IfOk, IfErr};
 ghost use Rattle.unit_text.specs.Units.{IsPaired};
-ghost use Rattle.document_rules.specs.Outcomes.{Changes};
+ghost use Rattle.unit_text.specs.declared.kind.Kind.TheVariants.{Mixed};
+ghost use Rattle.unit_text.specs.Kinds.{normalized, IsOfKind};
+ghost use Rattle.batch_rules.specs.Batches.{most_units};
+ghost use Rattle.model_page.specs.State.{IsNew};
+ghost use Rattle.document_rules.specs.Outcomes.{Changes, RefusedFor};
 ghost use Rattle.bracket_rules.specs.Table.{standard_table};
 ghost use Rattle.document_rules.specs.Paired.{IsPairedState};
 ghost use Rattle.text_rules.specs.Lines.{lines_of};
 ghost use Rattle.mark_rules.specs.declared.Mark.TheVariants.{New};
 ghost use Rattle.model_core.specs.State.{LeftAfter};
-ghost use Rattle.document_rules.specs.Document.{new_document, flat_open};
+ghost use Rattle.document_rules.specs.Document.{new_document, unless_too_long, flat_open};
 
 use crate::model::Model;
 use bracket_scan::BracketTable;
@@ -18,11 +22,12 @@ use edit_stack::EditStack;
 use model_page::Page;
 use snapshots::Shelf;
 use std::alloc::Global;
+use unit_text::{Kind, is_of_kind, norm_of};
 
 impl Model {
     /// An empty document, of version 1.
     pub fn new(alloc: Global) -> Model
-        ensures document { result.document ≡ new_document [] standard_table }
+        ensures document { result.document ≡ new_document [] standard_table Mixed }
         ensures parsed { result.parsed ≡ None }
         ensures tree { result.tree ≡ None }
         ensures marks { result.marks ≡ New ∷ [] }
@@ -39,27 +44,27 @@ impl Model {
         }
     }
 
-    /// Puts a new document with this text and these brackets in place of the old one. A text above the limit is refused
-    /// with `Limit`, and with `Memory` one for which memory is short.
-    pub fn open_doc(&mut self, text: &[u16], table: BracketTable) -> Result<(), ModelError>
+    /// Puts a new document with this text and these brackets in place of the old one. The text gets the line endings of the
+    /// kind. One that is then above the limit is refused with `Limit`, and with `Memory` one for which memory is short.
+    pub fn open_doc(
+        &mut self,
+        text: &[u16],
+        table: BracketTable,
+        kind: Kind,
+    ) -> Result<(), ModelError>
         ensures document { Changes result self.old.document self.new.document
-            (flat_open text.now table) }
+            (flat_open text.now table kind) }
         ensures paired_state { IsPaired text.now → IsPairedState self.old.document
             → IsPairedState self.new.document }
         ensures parsed { LeftAfter result None self.old.parsed self.new.parsed }
         ensures tree { LeftAfter result None self.old.tree self.new.tree }
-        ensures marks { LeftAfter result (replicate (length (lines_of text.now)) New)
+        ensures marks { LeftAfter result (replicate (length (lines_of (normalized kind text.now))) New)
             self.old.marks self.new.marks }
         ensures fresh { LeftAfter result false self.old.fresh self.new.fresh }
         ensures pieces { OnOk result (self.new.pieces ≤ 1) }
         ensures kept_pieces { OnErr result (self.new.pieces ≡ self.old.pieces) }
     {
-        if text.len() as u64 > MOST_TEXT_UNITS {
-            return Err(ModelError::Limit);
-        }
-        let Ok(page) = Page::open(self.alloc, text, table) else {
-            return Err(ModelError::Memory);
-        };
+        let page = page_of(self.alloc, text, table, kind)?;
         self.page = page;
         self.version = 1;
         self.alternative = 1;
@@ -67,4 +72,36 @@ impl Model {
         self.shelf = Shelf::new(self.alloc);
         Ok(())
     }
+}
+
+// A page of the text with the line endings of the kind. A text that has them already is not copied.
+fn page_of(alloc: Global, text: &[u16], table: BracketTable, kind: Kind) -> Result<Page, ModelError>
+    ensures new { IfOk result (IsNew (normalized kind text.now) kind table) }
+    ensures fits { OnOk result (length (normalized kind text.now) ≤ most_units) }
+    ensures refused { IfErr result (λ e. RefusedFor e (flat_open text.now table kind)) }
+{
+    if is_of_kind(text, kind) {
+        return new_page(alloc, text, table, kind);
+    }
+    let mut units = Vec::new(alloc);
+    norm_of(text, kind, &mut units).map_err(|_| ModelError::Memory)?;
+    new_page(alloc, &units, table, kind)
+}
+
+// A page of the text, which is of the kind.
+fn new_page(
+    alloc: Global,
+    units: &[u16],
+    table: BracketTable,
+    kind: Kind,
+) -> Result<Page, ModelError>
+    requires { IsOfKind kind units.now }
+    ensures new { IfOk result (IsNew units.now kind table) }
+    ensures fits { OnOk result (length units.now ≤ most_units) }
+    ensures refused { IfErr result (λ e. RefusedFor e (unless_too_long units.now table kind)) }
+{
+    if units.len() as u64 > MOST_TEXT_UNITS {
+        return Err(ModelError::Limit);
+    }
+    Page::open(alloc, units, kind, table).map_err(|_| ModelError::Memory)
 }

@@ -1,7 +1,7 @@
 //! What a document is asked.
 
 ghost use Rattle.std.specs.Prelude.{◌≡◌, ◌-◌, length};
-ghost use Rattle.unit_text.specs.Units.{is_place};
+ghost use Rattle.unit_text.specs.Kinds.{IsOfKind, is_place_in};
 ghost use Rattle.text_buffer.specs.Costs.{WithinLookUps};
 ghost use Rattle.document_rules.specs.Outcomes.{Appends};
 ghost use Rattle.document_rules.specs.Document.{flat_line, flat_value, flat_position, flat_offset, flat_line_count};
@@ -14,7 +14,7 @@ use steps::Steps;
 use stops::stops;
 use text_lengths::{Position, Span};
 use text_rules::is_bad_span;
-use unit_text::Flat;
+use unit_text::{Flat, Kind};
 
 impl Model {
     /// How many units the text has.
@@ -24,9 +24,18 @@ impl Model {
         self.page.text().len()
     }
 
-    /// Whether the offset is a place of the text: none past its end, and none inside a pair of surrogates.
+    /// The kind of line ending that all those of the text are of.
+    pub fn kind(&self) -> Kind
+        ensures kind { result ≡ self.now.document.kind }
+        ensures endings { IsOfKind result self.now.document.units }
+    {
+        self.page.text().kind()
+    }
+
+    /// Whether the offset is a place of the text: none past its end, and none inside a pair of surrogates or, in a text of kind CR LF,
+    /// inside a line ending.
     pub fn is_place(&self, offset: u64) -> bool
-        ensures { result ≡ is_place self.now.document.units offset }
+        ensures { result ≡ is_place_in self.now.document.kind self.now.document.units offset }
     {
         self.page.text().is_place(offset)
     }

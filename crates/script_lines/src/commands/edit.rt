@@ -3,12 +3,13 @@
 ghost use Rattle.std.specs.Prelude.{◌≡◌};
 ghost use Rattle.serde_json.specs.View.{view, items_view};
 ghost use Rattle.script_lines.specs.Reading.{Reads};
-ghost use Rattle.script_lines.specs.EditCommands.{open_in, place_in, op_in, some_ops_in, edit_in};
+ghost use Rattle.script_lines.specs.EditCommands.{open_in, place_in, op_in, some_ops_in, edit_in, eol_in};
 
 use crate::bracket::optional_table_at;
 use crate::command::Command;
 use crate::fields::{
-    LineFault, expect_fields, expect_only, flag_at, positions_at, span_from, text_at,
+    LineFault, expect_fields, expect_only, flag_at, kind_at, optional_kind_at, positions_at,
+    span_from, text_at,
 };
 use crate::items::{Item, all_of};
 use crate::op::{LineOp, LineOps, Place};
@@ -18,10 +19,23 @@ use std::alloc::Global;
 pub(super) fn open_in(alloc: Global, value: &Value) -> Result<Command, LineFault>
     ensures { Reads result (open_in (view value.now)) }
 {
-    expect_fields(value, &["text", "brackets"])?;
+    expect_fields(value, &["text", "brackets", "eol"])?;
     let text = text_at(alloc, value, "text")?;
     let brackets = optional_table_at(alloc, value, "brackets")?;
-    Ok(Command::Open { text, brackets })
+    let kind = optional_kind_at(value, "eol")?;
+    Ok(Command::Open {
+        text,
+        brackets,
+        kind,
+    })
+}
+
+pub(super) fn eol_in(value: &Value) -> Result<Command, LineFault>
+    ensures { Reads result (eol_in (view value.now)) }
+{
+    expect_fields(value, &["kind"])?;
+    let kind = kind_at(value, "kind")?;
+    Ok(Command::Eol { kind })
 }
 
 pub(super) fn edit_in(alloc: Global, value: &Value) -> Result<Command, LineFault>

@@ -22,4 +22,5 @@ pub const EVERY_COMMAND: &str = r#"
 {"cmd":"stops","n":1} => ok 1 2 3 4
 {"cmd":"read","id":1,"count":4} => ok "(a)\r"
 {"cmd":"close","id":1} => ok
+{"cmd":"eol","kind":"crlf"} => ok 5 10 3
 "#;

@@ -1,6 +1,8 @@
 //! A flat document: one list of units that each edit copies, and that each question about brackets parses whole.
 use super::bracket_replies::{push_brackets, push_level, push_partner};
-use super::flat_lines::{line_content, line_count, line_starts};
+use super::flat_lines::{
+    CARRIAGE_RETURN, LINE_FEED, line_content, line_count, line_starts, with_breaks,
+};
 use super::whole_parse::whole_parse;
 use bracket_nodes::Node;
 use bracket_scan::BracketTable;
@@ -12,22 +14,31 @@ use std::alloc::{AllocError, Global};
 use std::mem::{replace, swap};
 use text_lengths::{Position, Span};
 use text_rules::is_bad_span;
-use unit_text::{Flat, Units};
+use unit_text::{Flat, Kind, Units};
 
 /// A document whose text is one list. It keeps one step of undo.
 #[derive(Drop)]
 pub struct OneList {
     alloc: Global,
     text: Units,
+    /// The kind of its line endings.
+    kind: Kind,
     /// Its brackets.
     table: BracketTable,
     version: u64,
-    /// The text on the other side of the last step: before it, or after it once it was undone.
-    other: Option<Units>,
+    /// What stands on the other side of the last step: before it, or after it once it was undone.
+    other: Option<Other>,
     is_undone: bool,
     /// Whether the next edit joins the last step.
     is_open: bool,
     was_refused: bool,
+}
+
+/// The text that a step leads to, and the kind of its line endings.
+#[derive(Drop)]
+struct Other {
+    text: Units,
+    kind: Kind,
 }
 
 impl OneList {
@@ -35,6 +46,7 @@ impl OneList {
         OneList {
             alloc,
             text: Units::from_vec(Vec::new(alloc)),
+            kind: Kind::Mixed,
             table: BracketTable::standard(),
             version: 1,
             other: None,
@@ -59,13 +71,21 @@ impl OneList {
     /// Carries out the line's command and appends its reply.
     pub fn answer(&mut self, line: &[u8], out: &mut Vec<u8>) -> Result<(), AllocError> {
         match command_of(self.alloc, line) {
-            Ok(Command::Open { text, brackets }) => {
-                self.text = text;
+            Ok(
+                Command::Open {
+                    text,
+                    brackets,
+                    kind,
+                },
+            ) => {
+                self.text = of_kind(self.alloc, text.as_slice(), kind)?;
+                self.kind = kind;
                 self.table = brackets.unwrap_or(BracketTable::standard());
                 self.version = 1;
                 self.show_change(out)
             }
             Ok(Command::Edit { ops }) => self.edit(ops, out),
+            Ok(Command::Eol { kind }) => self.change_kind(kind, out),
             Ok(Command::Undo) => self.step(true, out),
             Ok(Command::Redo) => self.step(false, out),
             Ok(query) => self.tell(query, out),
@@ -94,17 +114,36 @@ impl OneList {
             let Place::At(span) = op.place else {
                 return self.refuse(Refusal::Syntax, out);
             };
-            if is_bad_span(&self.text, span) {
+            if is_bad_span(&self.text, span) || self.cuts_break(span) {
                 return self.refuse(Refusal::Range, out);
             }
-            text = edited(self.alloc, text.as_slice(), span, op.text.as_slice())?;
+            let new = of_kind(self.alloc, op.text.as_slice(), self.kind)?;
+            text = edited(self.alloc, text.as_slice(), span, new.as_slice())?;
         }
         let before = replace(&mut self.text, text);
         if !self.is_open {
-            self.other = Some(before);
+            self.other = Some(Other {
+                text: before,
+                kind: self.kind,
+            });
             self.is_undone = false;
         }
         self.is_open = true;
+        self.after_change(out)
+    }
+
+    /// Gives each line the ending of the kind. That is a step of its own.
+    fn change_kind(&mut self, kind: Kind, out: &mut Vec<u8>) -> Result<(), AllocError> {
+        if kind == self.kind {
+            return out.extend_from_slice(Short::none().as_slice());
+        }
+        let text = of_kind(self.alloc, self.text.as_slice(), kind)?;
+        self.other = Some(Other {
+            text: replace(&mut self.text, text),
+            kind: replace(&mut self.kind, kind),
+        });
+        self.is_undone = false;
+        self.is_open = false;
         self.after_change(out)
     }
 
@@ -112,7 +151,8 @@ impl OneList {
     fn step(&mut self, is_undo: bool, out: &mut Vec<u8>) -> Result<(), AllocError> {
         match &mut self.other {
             Some(other) if self.is_undone != is_undo => {
-                swap(&mut self.text, other);
+                swap(&mut self.text, &mut other.text);
+                swap(&mut self.kind, &mut other.kind);
                 self.is_undone = is_undo;
                 self.is_open = false;
                 self.after_change(out)
@@ -152,7 +192,7 @@ impl OneList {
     }
 
     fn value(&mut self, span: Span, out: &mut Vec<u8>) -> Result<(), AllocError> {
-        if is_bad_span(&self.text, span) {
+        if is_bad_span(&self.text, span) || self.cuts_break(span) {
             return self.refuse(Refusal::Range, out);
         }
         let units = &self.text.as_slice()[span.start as usize..span.end as usize];
@@ -160,7 +200,7 @@ impl OneList {
     }
 
     fn position(&mut self, offset: u64, out: &mut Vec<u8>) -> Result<(), AllocError> {
-        if !self.text.is_place(offset) {
+        if !self.text.is_place(offset) || self.is_in_break(offset) {
             return self.refuse(Refusal::Range, out);
         }
         let (mut line, mut start) = (1_u64, 0);
@@ -182,6 +222,16 @@ impl OneList {
             None => self.refuse(Refusal::Range, out),
             Some(offset) => self.numbers(&[offset], out),
         }
+    }
+
+    /// Whether one of the two places stands inside a break.
+    fn cuts_break(&self, span: Span) -> bool {
+        self.is_in_break(span.start) || self.is_in_break(span.end)
+    }
+
+    /// Whether the place stands inside a break of a text of CR LF, where each LF ends one.
+    fn is_in_break(&self, place: u64) -> bool {
+        self.kind == Kind::Crlf && self.text.as_slice().get(place as usize) == Some(&LINE_FEED)
     }
 
     /// The offset of the position, where it is one of the text.
@@ -230,6 +280,15 @@ impl OneList {
     fn refuse(&mut self, reason: Refusal, out: &mut Vec<u8>) -> Result<(), AllocError> {
         self.was_refused = true;
         out.extend_from_slice(refusal(reason).as_slice())
+    }
+}
+
+/// The text with the line endings of the kind.
+fn of_kind(alloc: Global, units: &[u16], kind: Kind) -> Result<Units, AllocError> {
+    match kind {
+        Kind::Mixed => Units::copy_of(alloc, units),
+        Kind::Lf => with_breaks(alloc, units, &[LINE_FEED]),
+        Kind::Crlf => with_breaks(alloc, units, &[CARRIAGE_RETURN, LINE_FEED]),
     }
 }
 

@@ -2,10 +2,11 @@
 ghost use Rattle.std.specs.Prelude.{◌≤◌, ◌+◌, ◌<◌, length, IfSome};
 
 use std::alloc::{AllocError, Global};
+use unit_text::Units;
 
-const LINE_FEED: u16 = 10;
+pub const LINE_FEED: u16 = 10;
 
-const CARRIAGE_RETURN: u16 = 13;
+pub const CARRIAGE_RETURN: u16 = 13;
 
 /// The places after the breaks.
 pub fn line_starts(alloc: Global, units: &[u16]) -> Result<Vec<u64>, AllocError> {
@@ -40,6 +41,19 @@ pub fn line_content(units: &[u16], number: u64) -> Option<&[u16]> {
         rest = after?;
     }
     Some(first_line(rest).0)
+}
+
+/// The text with these units in the place of each break.
+pub fn with_breaks(alloc: Global, units: &[u16], break_units: &[u16]) -> Result<Units, AllocError> {
+    let mut text = Vec::new(alloc);
+    let mut rest = units;
+    while let (content, Some(after)) = first_line(rest) {
+        text.extend_from_slice(content)?;
+        text.extend_from_slice(break_units)?;
+        rest = after;
+    }
+    text.extend_from_slice(rest)?;
+    Ok(Units::from_vec(text))
 }
 
 /// The content of the first line, and the units after its break, if it has one.

@@ -12,8 +12,9 @@ struct Kind {
     name: &'static str,
     /// The text that the document is opened with: each of these, so many times.
     parts: &'static [(&'static str, u64)],
-    /// The member of `open` that names the pairs, if they are not the standard ones.
-    pairs: &'static str,
+    /// The members of `open` that name the pairs, if they are not the standard ones, and the kind of line ending, if it is
+    /// not any.
+    members: &'static str,
     /// What edits put in.
     texts: [&'static str; 8],
     /// How many scripts there are, and how many rounds each has.
@@ -28,15 +29,23 @@ const KINDS: &[Kind] = &[
     Kind {
         name: "breaks",
         parts: &[("a\\r\\nb", 1)],
-        pairs: "",
+        members: "",
         texts: ["a", "\\n", "\\r", "\\r\\n", "", EMOJI, "b\\nc", "\\n\\r"],
         scripts: 4,
         rounds: 60,
     },
     Kind {
+        name: "line endings of one kind",
+        parts: &[("a\\r\\nb\\r", 3)],
+        members: ",\"eol\":\"crlf\"",
+        texts: ["a", "\\n", "\\r", "\\r\\n", "", EMOJI, "(\\nc", "\\n\\r)"],
+        scripts: 2,
+        rounds: 60,
+    },
+    Kind {
         name: "standard brackets",
         parts: &[("f(x) { a[0] }\\n", 12)],
-        pairs: "",
+        members: "",
         texts: ["(", ")", "[", "}", "", "{\\n", "()", "]\\r\\n("],
         scripts: 3,
         rounds: 40,
@@ -45,7 +54,7 @@ const KINDS: &[Kind] = &[
     Kind {
         name: "brackets of several units",
         parts: &[("begin ((a)) do\\r\\nod end\\n", 8)],
-        pairs: ",\"brackets\":[[\"begin\",\"end\"],[\"do\",\"od\"],[\"(\",\")\"],[\"((\",\"))\"]]",
+        members: ",\"brackets\":[[\"begin\",\"end\"],[\"do\",\"od\"],[\"(\",\")\"],[\"((\",\"))\"]]",
         texts: ["begin", "end", "do", "o", "(", "))", "", "d\\n"],
         scripts: 3,
         rounds: 40,
@@ -54,7 +63,7 @@ const KINDS: &[Kind] = &[
     Kind {
         name: "more brackets than are kept open",
         parts: &[("([{([{([{\\n", 32), ("[({[({[({[({[()]})]})]})]})]\\n", 6)],
-        pairs: "",
+        members: "",
         texts: ["([", "[{(", "{(", "(", "(\\n", "{\\r\\n[", "", "}"],
         scripts: 2,
         rounds: 30,
@@ -96,14 +105,19 @@ impl Growing {
             push_times(part, *times, &mut line)?;
         }
         line.push('"')?;
-        line.push_str(kind.pairs)?;
+        line.push_str(kind.members)?;
         line.push_str("}\n")?;
         self.put(line.as_str())
     }
 
-    /// An edit, then questions; and now and then back to the text before the step and on again.
+    /// An edit, or now and then another kind of line ending, then questions; and now and then back to the text before the
+    /// step and on again.
     fn go_on(&mut self, kind: &Kind, round: u64) -> Result<(), AllocError> {
-        self.edit(kind)?;
+        match round % 15 {
+            4 | 7 => self.put("{\"cmd\":\"eol\",\"kind\":\"crlf\"}\n")?,
+            9 => self.put("{\"cmd\":\"eol\",\"kind\":\"lf\"}\n")?,
+            _ => self.edit(kind)?,
+        }
         self.ask()?;
         if round % 5 == 4 {
             self.put("{\"cmd\":\"undo\"}\n")?;

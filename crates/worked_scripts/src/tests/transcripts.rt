@@ -2,6 +2,7 @@
 
 mod batches;
 mod decorated;
+mod endings;
 mod kept;
 mod limits;
 mod nested;
@@ -9,6 +10,7 @@ mod texts;
 
 use batches::BATCHES;
 use decorated::{DECORATED, EACH_MODE, FOUR_MODES};
+use endings::ENDINGS;
 use kept::KEPT;
 use limits::LIMITS;
 use nested::NESTED;
@@ -20,13 +22,14 @@ use texts::TEXTS;
 
 /// The rows with which each script of a table begins, and the table. A blank line stands between two transcripts: a
 /// name, and a row for each line of the script, which has the reply behind `=>`.
-const TABLES: [(&str, &str); 7] = [
+const TABLES: [(&str, &str); 8] = [
     ("", TEXTS),
     ("", BATCHES),
     (FOUR_MODES, EACH_MODE),
     ("", DECORATED),
     ("", NESTED),
     ("", KEPT),
+    ("", ENDINGS),
     ("", LIMITS),
 ];
 

@@ -1,4 +1,4 @@
-use Rattle.std.proofs.Common.{◌≡◌, ◌∙◌, ◌≤◌, length, get_or, ap, subst, arith}
+use Rattle.std.proofs.Common.{◌≡◌, ◌≤◌, length, get_or, ap, subst, arith}
 use Rattle.std.proofs.lemmas.Grind.{common_steps}
 use Rattle.std.proofs.lemmas.List.Sums.{sum_by_more}
 use Rattle.std.proofs.lemmas.List.Elements.{All-get_or}
@@ -17,7 +17,7 @@ need_of-need-requires c =
     let is = get_or_from_slice_get cs c.loop-at.at change change c.change.ensures in
     let within = slice_get_within cs c.loop-at.at change c.change.ensures in
     let few = All-get_or (λ (d : Change). text_units (ops_by c.args.way d) ≤ most_units) cs c.loop-at.at change within c.requires in
-    rw (c.batch.ensures ∙ c.batch_for.ensures) (subst (λ (d : Change). text_units (ops_by c.args.way d) ≤ most_units) is few)
+    subst (λ (d : Change). text_units (ops_by c.args.way d) ≤ most_units) is few
 
 pub loop-at-preserved : goal.loop-at-preserved
 loop-at-preserved c =

@@ -1,22 +1,22 @@
-use Rattle.std.proofs.Common.{◌≡◌, ◌+◌, ◌≤◌, length, slice_get, Some, None, ap, sym, ◌∙◌, arith}
+use Rattle.std.proofs.Common.{◌≡◌, ◌+◌, ◌≤◌, length, slice_get, Some, None, Ok, refl, ap, sym, ◌∙◌, arith}
 use Rattle.std.proofs.lemmas.Grind.{common_steps}
 use Rattle.edit_stack.specs.Element.{step_of}
-use Rattle.document_rules.specs.Document.{greatest_version}
+use Rattle.document_rules.specs.Document.{FlatText, FlatState, greatest_version}
 use Rattle.snapshots.specs.Shown as shelves
-use Rattle.model_page.specs.Counts.{op_count, unit_count, breaks_along}
-use Rattle.model_page.specs.State.{is_fresh}
-use Rattle.model_page.specs.Ways.{changes_by, marked_along, marked_step}
+use Rattle.model_page.specs.Counts.{op_count, marking_count, unit_count, breaks_along}
+use Rattle.model_page.specs.State.{flat_text, is_fresh}
+use Rattle.model_page.specs.Ways.{text_by, changes_by, decorations_by, marked_along, marked_step}
 use Rattle.model_page.proofs.Staying.{marked_by_way, kept_as}
 use Rattle.model_core.specs.State.{ModelState}
-use Rattle.model_core.specs.Prepared.{next_op_count, next_unit_count, next_break_count}
+use Rattle.model_core.specs.Prepared.{next_op_count, next_marking_count, next_unit_count, next_break_count}
 use Rattle.model_core.specs.Ways.{next_steps, passed, alternative_after, flat_move}
 use Rattle.model_core.proofs.Shelving.{shown-grown, IsShelf-grown}
-use Rattle.model_core.proofs.Stepping.{IsStep, step_on, no_next_on}
+use Rattle.model_core.proofs.Stepping.{document_of, IsStep, step_on, no_next_on}
 use Rattle.model_core.proofs.model.Model.follow.Goals as goal
 use Rattle.model_core.proofs.model.Model.follow.Goals.{In-Some, After-lead}
 
 step_taken : (c : In-Some)
-    → IsStep c.args.way c.self.inside.page.text.units c.self.inside.version c.self.inside.alternative c.self.inside.page.decorations c.self.inside.page.table
+    → IsStep c.args.way (flat_text c.self.inside.page.text) c.self.inside.version c.self.inside.alternative c.self.inside.page.decorations c.self.inside.page.table
     (shelves.shown c.self.inside.page.text.buffers c.self.inside.shelf) c.self.inside.history.stack (step_of c.in-Some.step.now)
 step_taken c =
     let next : slice_get (next_steps c.args.way c.self.inside.history.stack) 0 ≡ Some (step_of c.in-Some.step.now) = grind (arith, common_steps) in
@@ -32,7 +32,7 @@ unreachable-requires c =
     let way = c.args.way in
     let none : slice_get (next_steps way m.history.stack) 0 ≡ None = grind (arith, common_steps) in
     let empty : length (next_steps way c.args.self.now.document.history) ≡ 0 =
-    sym (ap (λ (s : ModelState). length (next_steps way s.document.history)) c.self.view_is) ∙ ap length (no_next_on way m.page.text.units m.history.stack none) in
+    sym (ap (λ (s : ModelState). length (next_steps way s.document.history)) c.self.view_is) ∙ ap length (no_next_on way (flat_text m.page.text) m.history.stack none) in
     omega (arith, c.requires.some, empty)
 
 pub lead-requires : goal.lead-requires
@@ -66,7 +66,7 @@ invariant_of-self c =
     let step = step_taken (goal.at.invariant_of-self c).In-Some in
     let stack : c.pass_step.new.history.stack ≡ passed c.args.way m.history.stack = grind (arith, common_steps) in (
       c.requires.last,
-      rw (c.lead.ensures.units, stack) step.history,
+      rw (c.lead.ensures.text, stack) step.history,
       IsShelf-grown m.page.text.buffers c.lead.new.self.text.buffers m.shelf c.lead.ensures.grown.buffers c.self.invariant.2,
     )
 
@@ -81,8 +81,15 @@ returns-clause-document c =
     let version : c.args.version ≡ m.version + 1 = omega (arith, c.requires.next, ap (λ (s : ModelState). s.document.version) c.self.view_is) in
     let few : m.version + 1 ≤ greatest_version = omega (arith, version, c.requires.last) in
     let alternative : c.alternative_after-self-inside.result ≡ alternative_after way shown = grind (arith, common_steps) in
-    rw (c.lead.ensures.units, c.lead.ensures.decorations, c.lead.ensures.parse.table, stack, version, alternative, shelf_after after)
-    (sym (ap (λ (s : ModelState). flat_move way s.document) c.self.view_is) ∙ step.accepted few)
+    let text = text_by way (flat_text m.page.text) shown.changes in
+    let same : document_of (flat_text c.lead.new.self.text) c.args.version c.alternative_after-self-inside.result c.lead.new.self.decorations c.lead.new.self.table
+    (shelves.shown c.lead.new.self.text.buffers m.shelf) c.pass_step.new.history.stack
+    ≡ document_of text (m.version + 1) (alternative_after way shown) (decorations_by way m.page.decorations shown.changes) m.page.table
+    (shelves.shown m.page.text.buffers m.shelf) (passed way m.history.stack) =
+    ap (λ (t : FlatText). document_of t c.args.version c.alternative_after-self-inside.result c.lead.new.self.decorations c.lead.new.self.table
+    (shelves.shown c.lead.new.self.text.buffers m.shelf) c.pass_step.new.history.stack) c.lead.ensures.text
+    ∙ rw (c.lead.ensures.decorations, c.lead.ensures.parse.table, stack, version, alternative, shelf_after after) refl in
+    sym (ap (λ (s : ModelState). flat_move way s.document) c.self.view_is) ∙ step.accepted few ∙ ap (λ (f : FlatState). Ok (Some f)) (sym same)
 
 pub returns-clause-parse : goal.returns-clause-parse
 returns-clause-parse c =
@@ -92,13 +99,15 @@ returns-clause-parse c =
     let step = step_taken (goal.at.returns-clause-parse c).In-Some in
     let ops : op_count way changes ≡ next_op_count (next_steps way c.args.self.now.document.history) =
     sym step.ops ∙ ap (λ (s : ModelState). next_op_count (next_steps way s.document.history)) c.self.view_is in
+    let marking : marking_count way changes ≡ next_marking_count (next_steps way c.args.self.now.document.history) =
+    sym step.marking ∙ ap (λ (s : ModelState). next_marking_count (next_steps way s.document.history)) c.self.view_is in
     let fresh : is_fresh page ≡ c.args.self.now.fresh = ap (λ (s : ModelState). s.fresh) c.self.view_is in
     record {
       parsed = c.lead.ensures.parse.parsed ∙ ap (λ (s : ModelState). s.parsed) c.self.view_is;
       tree = c.lead.ensures.parse.tree ∙ ap (λ (s : ModelState). s.tree) c.self.view_is;
       marks = c.lead.ensures.marks ∙ sym (step.marks page.marks) ∙ ap (λ (s : ModelState). marked_step way s.marks (next_steps way s.document.history)) c.self.view_is;
-      fresh = kept_as (op_count way changes) (next_op_count (next_steps way c.args.self.now.document.history)) page.tree c.lead.new.self.tree page.marks
-          (marked_along way page.marks (changes_by way page.text.units changes)) c.lead.new.self.marks c.args.self.now.fresh ops c.lead.ensures.parse.tree c.lead.ensures.marks fresh
-          (marked_by_way way page.marks page.text.units changes step.lead);
+      fresh = kept_as (marking_count way changes) (next_marking_count (next_steps way c.args.self.now.document.history)) page.tree c.lead.new.self.tree page.marks
+          (marked_along way page.marks (changes_by way (flat_text page.text) changes)) c.lead.new.self.marks c.args.self.now.fresh marking c.lead.ensures.parse.tree c.lead.ensures.marks fresh
+          (marked_by_way way page.marks (flat_text page.text) changes step.lead);
       pieces = omega (arith, c.lead.ensures.grown.pieces, ops, ap (λ (s : ModelState). s.pieces) c.self.view_is);
     }

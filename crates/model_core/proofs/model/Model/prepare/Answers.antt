@@ -1,13 +1,12 @@
 use Rattle.std.proofs.Common.{◌≡◌, ◌+◌, ◌≤◌, ap, subst, arith}
 use Rattle.std.proofs.lemmas.Grind.{common_steps}
-use Rattle.unit_text.specs.declared.kind.Kind.TheVariants.{Mixed}
-use Rattle.batch_rules.specs.Batches.{checked_batch, inverse_from}
+use Rattle.batch_rules.specs.Batches.{checked_batch, ops_in, inverse_from}
 use Rattle.edit_batches.specs.Outcomes.{Checks}
 use Rattle.text_buffer.specs.Text.{Text}
 use Rattle.batch_rules.proofs.Standing.{accepted, text_units_applied}
 use Rattle.document_rules.specs.Document.{greatest_version}
 use Rattle.model_core.specs.State.{ModelState}
-use Rattle.model_page.specs.State.{PageState, IsUntouched}
+use Rattle.model_page.specs.State.{PageState, IsUntouched, flat_text}
 use Rattle.model_core.proofs.Untouched.{history_untouched, shelf_untouched, document_untouched}
 use Rattle.model_core.proofs.Preparing.{told_of_all, accepted_of_all, edit_ready}
 use Rattle.model_core.proofs.model.Model.prepare.Goals as goal
@@ -18,17 +17,15 @@ kept : (c : After-reserve-2) → IsUntouched c.self.inside.page c.reserve-2.new.
 kept c = subst (λ (page : PageState). IsUntouched page c.reserve-2.new.self) c.seek.ensures c.reserve-2.ensures.same
 
 -- what is told of the text of before
-told : (c : After-checked) → Checks c.checked.result (checked_batch Mixed c.seek.new.self.text.units c.in_ok-ops.ops.items)
-told c =
-    let seen = subst (λ (t : Text). Checks c.checked.result (checked_batch t.kind t.units c.in_ok-ops.ops.items)) c.text.ensures.text c.checked.ensures.rule in
-    subst (λ k. Checks c.checked.result (checked_batch k c.seek.new.self.text.units c.in_ok-ops.ops.items)) c.text.ensures.mixed seen
+told : (c : After-checked) → Checks c.checked.result (checked_batch c.seek.new.self.text.kind c.seek.new.self.text.units c.in_ok-ops.ops.items)
+told c = subst (λ (t : Text). Checks c.checked.result (checked_batch t.kind t.units c.in_ok-ops.ops.items)) c.text.ensures.text c.checked.ensures.rule
 
 pub need_of-requires : goal.need_of-requires
 need_of-requires c =
-    let x = c.seek.new.self.text.units in
-    let rule = accepted_of_all x c.args.ops.items c.in_ok-ops.ops.items c.in_ok-batch.batch c.checked.result (grind (arith, common_steps)) (told (goal.at.need_of-requires c).After-checked) (grind (arith, common_steps)) in
-    let ok = accepted Mixed x c.args.ops.items c.in_ok-batch.batch rule in
-    omega (arith, text_units_applied 0 x c.in_ok-batch.batch ok.standing, ok.fits)
+    let x = c.seek.new.self.text in
+    let rule = accepted_of_all (flat_text x) c.args.ops.items c.in_ok-ops.ops.items c.in_ok-batch.batch c.checked.result (grind (arith, common_steps)) (told (goal.at.need_of-requires c).After-checked) (grind (arith, common_steps)) in
+    let ok = accepted x.kind x.units (ops_in x.kind c.args.ops.items) c.in_ok-batch.batch rule in
+    rw c.of.ensures (omega (arith, text_units_applied 0 x.units c.in_ok-batch.batch ok.standing, ok.fits))
 
 pub invariant_of-self-in_err-map_err-2 : goal.invariant_of-self-in_err-map_err-2
 invariant_of-self-in_err-map_err-2 c =
@@ -67,16 +64,17 @@ returns-clause-document c =
 pub returns-clause-ready : goal.returns-clause-ready
 returns-clause-ready c =
     let m = c.self.inside in
-    let x = c.seek.new.self.text.units in
+    let x = c.seek.new.self.text in
     let sorted = c.in_ok-batch.batch in
     let text = c.reserve-2.ensures.same.units in
-    let rule = accepted_of_all x c.args.ops.items c.in_ok-ops.ops.items sorted c.checked.result (grind (arith, common_steps)) (told (goal.at.returns-clause-ready c).After-checked) (grind (arith, common_steps)) in
-    let inverse : c.in_ok-inverse.inverse ≡ inverse_from 0 0 x sorted = grind (arith, common_steps) in
+    let kind = c.reserve-2.ensures.same.kind in
+    let rule = accepted_of_all (flat_text x) c.args.ops.items c.in_ok-ops.ops.items sorted c.checked.result (grind (arith, common_steps)) (told (goal.at.returns-clause-ready c).After-checked) (grind (arith, common_steps)) in
+    let inverse : c.in_ok-inverse.inverse ≡ inverse_from 0 0 x.units sorted = grind (arith, common_steps) in
     let next : c.in_ok-next.next ≡ m.version + 1 = grind (arith, common_steps) in
     let last : c.in_ok-next.next ≤ greatest_version = grind (arith, common_steps) in
-    edit_ready _ c.args.ops.items sorted c.in_ok-inverse.inverse c.making.result (rw text rule) (rw text inverse)
+    edit_ready _ c.args.ops.items sorted c.in_ok-inverse.inverse c.making.result (rw (text, kind) rule) (rw text inverse)
     (rw (← c.of.ensures) (rw (← c.of-2.ensures) c.making.ensures.action))
-    (omega (arith, next, c.making.ensures.version)) (omega (arith, next, last))
+    (omega (arith, next, c.making.ensures.version)) (grind (arith, common_steps)) (omega (arith, next, last))
     (record {
       text = record {
         edits = grind (arith, common_steps);
@@ -89,10 +87,10 @@ returns-clause-ready c =
 
 pub returns-in_err-batch-clause-ready : goal.returns-in_err-batch-clause-ready
 returns-in_err-batch-clause-ready c =
-    let known = told_of_all c.seek.new.self.text.units c.args.ops.items c.in_ok-ops.ops.items c.checked.result (grind (arith, common_steps)) (told (goal.at.returns-in_err-batch-clause-ready c).After-checked) in
+    let known = told_of_all (flat_text c.seek.new.self.text) c.args.ops.items c.in_ok-ops.ops.items c.checked.result (grind (arith, common_steps)) (told (goal.at.returns-in_err-batch-clause-ready c).After-checked) in
     grind (arith, common_steps, known)
 
 pub returns-in_err-next-clause-ready : goal.returns-in_err-next-clause-ready
 returns-in_err-next-clause-ready c =
-    let known = told_of_all c.seek.new.self.text.units c.args.ops.items c.in_ok-ops.ops.items c.checked.result (grind (arith, common_steps)) (told (goal.at.returns-in_err-next-clause-ready c).After-checked) in
+    let known = told_of_all (flat_text c.seek.new.self.text) c.args.ops.items c.in_ok-ops.ops.items c.checked.result (grind (arith, common_steps)) (told (goal.at.returns-in_err-next-clause-ready c).After-checked) in
     grind (arith, common_steps, known)

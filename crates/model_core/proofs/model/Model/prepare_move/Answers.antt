@@ -5,7 +5,7 @@ use Rattle.document_rules.specs.Refusals.{limit}
 use Rattle.document_rules.specs.Document.{greatest_version}
 use Rattle.model_core.specs.State.{ModelState}
 use Rattle.model_page.specs.Needs.{need_along}
-use Rattle.model_page.specs.State.{HasRoom}
+use Rattle.model_page.specs.State.{HasRoom, flat_text}
 use Rattle.model_page.proofs.Turns.{few_by}
 use Rattle.model_core.specs.Ways.{next_steps, flat_move}
 use Rattle.model_core.proofs.Stepping.{IsStep, step_on, no_next_on}
@@ -16,7 +16,7 @@ use Rattle.model_core.proofs.model.Model.prepare_move.Goals as goal
 use Rattle.model_core.proofs.model.Model.prepare_move.Goals.{In-Some}
 
 step_taken : (c : In-Some)
-    → IsStep c.args.way c.self.inside.page.text.units c.self.inside.version c.self.inside.alternative c.self.inside.page.decorations c.self.inside.page.table
+    → IsStep c.args.way (flat_text c.self.inside.page.text) c.self.inside.version c.self.inside.alternative c.self.inside.page.decorations c.self.inside.page.table
     (shelves.shown c.self.inside.page.text.buffers c.self.inside.shelf) c.self.inside.history.stack (step_of c.in-Some.step.now)
 step_taken c =
     let next : slice_get (next_steps c.args.way c.self.inside.history.stack) 0 ≡ Some (step_of c.in-Some.step.now) = grind (arith, common_steps) in
@@ -26,12 +26,12 @@ pub returns-in_default-clause-ready : goal.returns-in_default-clause-ready
 returns-in_default-clause-ready c =
     let m = c.self.inside in
     let none : slice_get (next_steps c.args.way m.history.stack) 0 ≡ None = grind (arith, common_steps) in
-    sym (ap (λ (s : ModelState). next_steps c.args.way s.document.history) c.self.view_is) ∙ no_next_on c.args.way m.page.text.units m.history.stack none
+    sym (ap (λ (s : ModelState). next_steps c.args.way s.document.history) c.self.view_is) ∙ no_next_on c.args.way (flat_text m.page.text) m.history.stack none
 
 pub need_of_step-requires : goal.need_of_step-requires
 need_of_step-requires c =
     let step = step_taken (goal.at.need_of_step-requires c).In-Some in
-    few_by c.args.way c.self.inside.page.text.units (step_of c.in-Some.step.now).changes step.lead
+    few_by c.args.way (flat_text c.self.inside.page.text) (step_of c.in-Some.step.now).changes step.lead
 
 pub returns-in_err-next-clause-ready : goal.returns-in_err-next-clause-ready
 returns-in_err-next-clause-ready c =
@@ -84,14 +84,14 @@ returns-clause-ready c =
     let edits = step.ops in
     let units = step.units in
     let breaks = step.breaks in
-    move_ready way _ c.making.result c.making.ensures.action (omega (arith, next, c.making.ensures.version))
-    (rw same.units step.next)
+    move_ready way _ c.making.result c.making.ensures.action (omega (arith, next, c.making.ensures.version)) (grind (arith, common_steps))
+    (rw (same.units, same.kind) step.next)
     (record {
-      text = rw same.units (record {
+      text = rw (same.units, same.kind) (record {
         edits = omega (arith, edits, room.text.edits);
         units = omega (arith, edits, units, room.text.units);
         breaks = omega (arith, edits, breaks, room.text.breaks);
       });
-      marks = rw same.units (omega (arith, edits, room.marks));
+      marks = rw (same.units, same.kind) (omega (arith, edits, room.marks));
       changes = omega arith;
     })

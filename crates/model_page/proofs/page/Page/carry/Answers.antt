@@ -1,5 +1,5 @@
-use Rattle.std.proofs.Common.{◌≡◌, ◌<◌, ◌^◌, ◌+◌, ℕ, List, ◌++◌, length, map, drop, take, refl, ap, sym, subst, ◌∙◌, arith}
-use Rattle.unit_text.specs.declared.kind.Kind.TheVariants.{Mixed}
+use Rattle.std.proofs.Common.{◌≡◌, ◌<◌, ◌^◌, ◌+◌, ◌-◌, ℕ, List, ◌++◌, length, map, drop, take, ap, sym, subst, ◌∙◌, arith}
+use Rattle.unit_text.specs.Kinds.{IsOfKind}
 use Rattle.text_rules.specs.Dirty.{dirty_lines}
 use Rattle.text_rules.specs.Edits.{edited}
 use Rattle.text_rules.specs.Lines.{lines_of}
@@ -71,9 +71,9 @@ replace_again-dirty-requires-clause-small c =
 
 pub replace_again-dirty-requires-clause-kind : goal.replace_again-dirty-requires-clause-kind
 replace_again-dirty-requires-clause-kind c =
-    let was = ap (λ (p : PageState). p.text.kind) (sym c.self.view_is) ∙ c.self.invariant.mixed in
-    let mixed : c.loop-done.self-inside.text.kind ≡ Mixed = c.loop-done.invariant.text.kind ∙ was in
-    rw mixed refl
+    let turn = turn_now (goal.at.replace_again-dirty-requires-clause-kind c).After-index-ops-at in
+    let keeps = c.requires.keeps (length c.args.ops.now - (c.loop-done.done + 1)) in
+    rw (c.loop-done.invariant.text.kind, c.as_slice.ensures) (subst (IsOfKind c.args.self.now.text.kind) turn.leaves keeps)
 
 -- the answer of the edit
 dirty_is : (c : After-replace_again-dirty) → c.replace_again-dirty.result ≡ dirty_lines c.loop-done.self-inside.text.units c.index-ops-at.result.span c.index-ops-at.result.text
@@ -148,4 +148,4 @@ invariant_of-self c =
 pub returns : goal.returns
 returns c =
     let all = page_after c.args.self.now (page_of c.loop-done.self-inside) c.args.forces c.args.ops.now c.loop-done.done c.requires (omega arith) (omega arith) c.loop-done.invariant in
-    record { units = all.units; decorations = all.decorations; marks = all.marks; parse = all.parse; grown = all.grown; spent = all.spent }
+    record { text = all.text; decorations = all.decorations; marks = all.marks; parse = all.parse; grown = all.grown; spent = all.spent }

@@ -13,7 +13,7 @@ invariant_of-result c =
     let x = c.new.result.units in
     let len = length x in
     record {
-      mixed = c.new.ensures.kind;
+      endings = rw (c.new.ensures.units, c.new.ensures.kind) refl;
       fits = rw c.new.ensures.units (omega arith);
       inside = record {
         sound = c.new-2.ensures.sound;

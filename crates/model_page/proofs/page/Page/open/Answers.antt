@@ -18,8 +18,8 @@ invariant_of-result c =
     let lines = length (lines_of x) in
     let told = c.in_ok-text.ensures in
     record {
-      mixed = told.kind;
-      fits = rw told.units c.requires;
+      endings = rw (told.units, told.kind) c.requires.endings;
+      fits = rw told.units c.requires.fits;
       inside = record {
         sound = c.new.ensures.sound;
         inside = subst (λ (d : Decorations). LieIn len d.marks) (sym c.new.ensures.value) (All-nil (λ (mark : Mark). IsSpanIn mark.span len));

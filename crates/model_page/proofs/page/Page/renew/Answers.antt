@@ -11,7 +11,7 @@ invariant_of-self g c =
     let old = c.self.invariant in
     let told = c.in_ok-parsed.ensures.parsed in
     record {
-      mixed = old.mixed;
+      endings = old.endings;
       fits = old.fits;
       inside = old.inside;
       stays = stays_as _ c.put.new.self.tree _ c.put.new.self.marks m.table _ m.text.units c.put.ensures.tree c.put.ensures.marks refl

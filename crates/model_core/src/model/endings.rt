@@ -1,0 +1,72 @@
+//! The line endings of a document: another kind of them, prepared and set.
+
+ghost use Rattle.std.specs.Prelude.{◌≡◌, ◌≤◌};
+ghost use Rattle.document_rules.specs.Outcomes.{Moves};
+ghost use Rattle.document_rules.specs.Paired.{IsPairedState};
+ghost use Rattle.document_rules.specs.Document.{is_same_kind, flat_eol};
+ghost use Rattle.model_core.specs.Prepared.{PreparesEol};
+ghost use Rattle.model_core.specs.State.{AfterMove, KeepsParse};
+ghost use Rattle.model_page.specs.State.{GrownBy};
+
+use crate::errors::recast_error_of;
+use crate::model::Model;
+use crate::ready::{Action, Ready};
+use document_rules::ModelError;
+use model_page::{Change, PlacedRecast, Way, need_of};
+use recasts::Recast;
+use text_lengths::raised;
+use unit_text::{Flat, Kind};
+
+impl Model {
+    /// Changes the line endings of the text to those of the kind, as the next version, and answers whether they were of another one.
+    /// `Limit` where the new text or the version would pass its limit. It is a step of undo of its own. Decorations keep line and
+    /// column; the brackets need no new parse, since no line has another content.
+    pub fn set_eol(&mut self, kind: Kind) -> Result<bool, ModelError>
+        ensures document { Moves result self.old.document self.new.document
+            (flat_eol self.old.document kind) }
+        ensures paired_state { IsPairedState self.old.document → IsPairedState self.new.document }
+        ensures parsed { self.new.parsed ≡ self.old.parsed }
+        ensures tree { self.new.tree ≡ self.old.tree }
+        ensures marks { self.new.marks ≡ self.old.marks }
+        ensures fresh { self.new.fresh ≡ self.old.fresh }
+        ensures pieces { AfterMove result (GrownBy 1 self.old.pieces self.new.pieces)
+            (self.new.pieces ≡ self.old.pieces) }
+    {
+        let Some(ready) = self.prepare_eol(kind)? else {
+            return Ok(false);
+        };
+        self.commit(ready);
+        Ok(true)
+    }
+
+    /// Prepares to change the line endings to those of the kind, and makes room for it; None where they are of it. `Limit` where the
+    /// new text or the version would pass its limit. The document stays as it is.
+    pub fn prepare_eol(&mut self, kind: Kind) -> Result<Option<Ready>, ModelError>
+        ensures document { self.new.document ≡ self.old.document }
+        ensures parse { KeepsParse self.old self.new }
+        ensures ready { PreparesEol kind result self.new }
+    {
+        let old = self.page.text().kind();
+        if is_same_kind(kind, old) {
+            return Ok(None);
+        }
+        let recast = Recast::of(self.alloc, self.page.text(), kind).map_err(recast_error_of)?;
+        let next = raised(self.version, 1).ok_or(ModelError::Limit)?;
+        let change = Change::Endings(PlacedRecast::of(recast));
+        self.history.reserve().map_err(|_| ModelError::Memory)?;
+        self.page
+            .reserve(need_of(&change, Way::On))
+            .map_err(|_| ModelError::Memory)?;
+        Ok(Some(Ready::making(next, old, Action::Make(change))))
+    }
+}
+
+fn is_same_kind(kind: Kind, other: Kind) -> bool
+    ensures { result ≡ is_same_kind kind other }
+{
+    match kind {
+        Kind::Mixed => matches!(other, Kind::Mixed),
+        Kind::Lf => matches!(other, Kind::Lf),
+        Kind::Crlf => matches!(other, Kind::Crlf),
+    }
+}
