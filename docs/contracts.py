@@ -5,7 +5,7 @@ from typing import NamedTuple
 
 ROOT = Path(__file__).resolve().parent.parent
 IMPORT = re.compile(r"\s*(?:ghost )?use Rattle\.(\w+)\.specs\.([\w.]+?)\.\{(.*)\}")
-FUNCTION = re.compile(r"( *)(pub )?(?:pub\(\w+\) )?fn (\w+)")
+FUNCTION = re.compile(r'( *)(pub )?(?:pub\(\w+\) )?(?:extern "C" )?fn (\w+)')
 CLAUSE = re.compile(r" *(requires|ensures)\*? (?:(\w+) )?\{")
 OWNER = re.compile(r"(?:pub(?:\(\w+\))? )?(impl|trait)\b(?:<[^>]*>)? (.* for )?(\w+)")
 DOC = re.compile(r" */// ?(.*)")

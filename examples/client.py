@@ -28,6 +28,7 @@ PIECE = 1 << 16
 # What a line may have beside a text: 64 pairs of brackets, each unit as an escape, take the most.
 BESIDE = 1 << 15
 CHECKER = HERE.parent / "tools" / "check_lines.py"
+IN_PROCESS = "--library"  # what is told in place of a program
 
 Command = dict[str, Any]
 to_json = json.JSONEncoder(ensure_ascii=False, allow_nan=False, separators=(",", ":")).encode
@@ -201,9 +202,7 @@ class Client:
             if self.owed:
                 self.owed -= 1
                 continue
-            word, _, rest = reply.decode("utf-8").partition(" ")
-            command = waiting.popleft()
-            yield Refused(rest, command, self.line, why(rest, command)) if word == "!" else rest
+            yield answer_to(waiting.popleft(), reply, self.line)
 
     def numbers(self, cmd: str, **fields: object) -> list[int]:
         """The numbers of a reply that has nothing else; ValueError where it has, as `none`."""
@@ -256,6 +255,12 @@ class Client:
         return self.pipes.close()
 
 
+def answer_to(command: Command, reply: bytes, line: int) -> str | Refused:
+    """What stands behind `ok` in the reply to a command, or why it was refused."""
+    word, _, rest = reply.decode("utf-8").partition(" ")
+    return Refused(rest, command, line, why(rest, command)) if word == "!" else rest
+
+
 def line_of(command: Command) -> bytes:
     """The line of a command, in UTF-8 and without its LF; ValueError or TypeError where JSON or UTF-8 has none for it."""
     return to_json(command).encode("utf-8")
@@ -299,6 +304,11 @@ def checker() -> ModuleType:
     """The checker of script lines, of which this client needs nothing else."""
     sys.path.append(str(CHECKER.parent))
     return importlib.import_module(CHECKER.stem)
+
+
+def client_of(program: str) -> Client:
+    """A client on the program, or on a document of this process where the word is the one for that."""
+    return importlib.import_module("in_process").InProcess() if program == IN_PROCESS else Client(program)
 
 
 def program_of(words: list[str]) -> str:

@@ -15,6 +15,7 @@ Where a file's last line has no break, and where a buffer was emptied, neovim 0.
 the text; `flags = {allow_incremental_sync = false}` beside `cmd` lets it tell the whole text.
 
 examples/lsp_server.py [--test] [PROGRAM]     the program that ./build and .ci/run leave, where none is named
+examples/lsp_server.py [--test] --library     no program: the documents are in this process, by python/textmodel.py
 
 With --test it answers `lodvark/text` too, with the text that it holds of a document.
 """
@@ -25,7 +26,7 @@ import sys
 from collections.abc import Callable, Iterator
 from typing import Any
 
-from client import Bracket, Client, Ended, Refused, program_of
+from client import Bracket, Ended, Refused, client_of, program_of
 from lsp import Mirror, Range, place_of, range_at
 
 PARSE_ERROR = -32700
@@ -237,7 +238,7 @@ class Server:
         document = Document(uri, item.get("version"), None)
         self.documents[uri] = document
         with Following(self, document):
-            document.mirror = Mirror(Client(self.program))
+            document.mirror = Mirror(client_of(self.program))
             document.mirror.open(text)
 
     def did_change(self, params: Json) -> None:

@@ -2,6 +2,7 @@
 """Tests the language server through its stdio: recorded and generated changes, questions on brackets, and errors.
 
 examples/lsp_test.py EVENTS [PROGRAM]     the program that ./build and .ci/run leave, where none is named
+examples/lsp_test.py EVENTS --library     no program: the documents are in the server, by python/textmodel.py
 
 EVENTS, as lsp/events.json, is a JSON array of `textDocument/didOpen` and `textDocument/didChange` notifications of the Language
 Server Protocol, of one document.
@@ -16,7 +17,7 @@ from collections import deque
 from pathlib import Path
 from typing import Any
 
-from client import Client, check, program_of
+from client import check, client_of, program_of
 from lsp import Mirror
 from lsp_server import (
     INVALID_PARAMS,
@@ -183,7 +184,7 @@ def undo_all(events: list[Json], program: str) -> None:
     """Plays the changes without a server, and takes each of them back."""
     opened, *changed = (event["params"] for event in events)
     flat = Flat(opened["textDocument"]["text"])
-    with Client(program) as model:
+    with client_of(program) as model:
         mirror = Mirror(model)
         mirror.open(flat.text())
         texts = [flat.text()]

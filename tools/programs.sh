@@ -27,12 +27,14 @@ sources_sum() {
   } | sha256sum | cut -d ' ' -f 1
 }
 
-# Whether this program is there, and of the sources of now. The other words are the folders that it is made of.
+# Whether this program is there, and of the sources of now. The other words are the folders that it is made of. Beside an
+# installed one there are no sources.
 is_current() {
   local program=$1
   shift
-  [ -x "$program" ] && [ -r "$program.sources" ] \
-    && [ "$(cat "$program.sources")" = "$(cd "$top" && sources_sum "$@")" ]
+  [ -x "$program" ] || return
+  [ -e "$top/crates.txt" ] || return 0
+  [ -r "$program.sources" ] && [ "$(cat "$program.sources")" = "$(cd "$top" && sources_sum "$@")" ]
 }
 
 proved=$top/bin/textmodel

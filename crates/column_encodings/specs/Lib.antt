@@ -1,0 +1,2 @@
+pub mod Columns
+mod Examples

@@ -1,0 +1,4 @@
+mod Boxed
+mod Handles
+pub mod JoinedOps
+pub mod Refusals

@@ -1,0 +1,213 @@
+-- What the calls of C ask of the flat document.
+use Rattle.std.specs.Prelude.{ℕ, ◌+◌, ◌-◌, ◌==◌, ◌&&◌, ◌||◌, not, Bool, true, false, nat_lt, nat_le, if◌then◌else◌, List, [], ◌∷◌, length, map, take, drop, Option, Some, None, option_map, Result, Ok, Err}
+use Rattle.text_lengths.specs.declared.Position.{Position}
+use Rattle.text_lengths.specs.declared.Span.{Span}
+use Rattle.unit_text.specs.declared.kind.Kind.{Kind}
+use Rattle.unit_text.specs.declared.kind.Kind.TheVariants.{Mixed, Lf, Crlf}
+use Rattle.unit_text.specs.Kinds.{is_place_in}
+use Rattle.unit_text.specs.Text.{utf8_of}
+use Rattle.text_rules.specs.declared.Op.{Op}
+use Rattle.decoration_rules.specs.declared.NewDeco.{NewDeco}
+use Rattle.decoration_rules.specs.declared.Deco.{Deco}
+use Rattle.bracket_rules.specs.Table.{standard_table}
+use Rattle.bracket_rules.specs.declared.Entry.{Entry}
+use Rattle.bracket_rules.specs.declared.Status.{Status as State}
+use Rattle.bracket_rules.specs.declared.Status.TheVariants.{PairedOpening, PairedClosing, Unclosed, Unexpected}
+use Rattle.column_encodings.specs.declared.Encoding.{Encoding}
+use Rattle.column_encodings.specs.declared.Encoding.TheVariants.{Utf8, Utf16, Utf32}
+use Rattle.column_encodings.specs.Columns.{column_in, offset_of}
+use Rattle.document_rules.specs.Refusals.{FlatRefusal, range}
+use Rattle.document_rules.specs.Document.{FlatState, flat_open, flat_edit, flat_eol, flat_offset, flat_decos, flat_line}
+use Rattle.document_rules.specs.Brackets.{flat_brackets, flat_match}
+use Rattle.textmodel_c.specs.declared.edits.BatchOp.{BatchOp}
+use Rattle.textmodel_c.specs.declared.text.Place.{Place}
+use Rattle.textmodel_c.specs.declared.marks.NewDecoration.{NewDecoration}
+use Rattle.textmodel_c.specs.declared.marks.Decoration.{Decoration}
+use Rattle.textmodel_c.specs.declared.brackets.Bracket.{Bracket}
+use Rattle.textmodel_c.specs.declared.brackets.Partner.{Partner}
+
+abbrev pub at : ℕ → ℕ → Position
+at line column = record { line = line; column = column }
+
+abbrev pub span : ℕ → ℕ → Span
+span start end = record { start = start; end = end }
+
+abbrev pub place_of : Position → Place
+place_of p = record { line = p.line; column = p.column }
+
+-- an answer that is told otherwise
+abbrev pub told_as : {A B : Type 0} → (A → B) → Result A FlatRefusal → Result B FlatRefusal
+told_as tell (Ok x) = Ok (tell x)
+told_as tell (Err why) = Err why
+
+-- ---- kinds of line ending
+
+abbrev pub kind_of : ℕ → Option Kind
+kind_of number =
+    if number == 0 then Some Mixed else
+    (if number == 1 then Some Lf else
+    (if number == 2 then Some Crlf else None))
+
+abbrev pub number_of_kind : Kind → ℕ
+number_of_kind Mixed = 0
+number_of_kind Lf = 1
+number_of_kind Crlf = 2
+
+abbrev pub with_kind : {A : Type 0} → Option Kind → (Kind → Result A FlatRefusal) → Result A FlatRefusal
+with_kind None rule = Err range
+with_kind (Some kind) rule = rule kind
+
+-- a new document with the usual brackets
+abbrev pub flat_open_as : ℕ → List ℕ → Result FlatState FlatRefusal
+flat_open_as number text = with_kind (kind_of number) (flat_open text standard_table)
+
+abbrev pub flat_eol_as : FlatState → ℕ → Result (Option FlatState) FlatRefusal
+flat_eol_as f number = with_kind (kind_of number) (flat_eol f)
+
+-- ---- edits
+
+abbrev pub one_op : Span → List ℕ → Bool → List Op
+one_op span text force = record { span = span; text = text; force = force } ∷ []
+
+abbrev pub both_ends : Option ℕ → Option ℕ → Option Span
+both_ends (Some start) (Some end) = Some (span start end)
+both_ends (Some start) None = None
+both_ends None end = None
+
+abbrev pub span_between : FlatState → Position → Position → Option Span
+span_between f from to = both_ends (flat_offset f from) (flat_offset f to)
+
+abbrev pub flat_edit_in : FlatState → Option Span → List ℕ → Bool → Result FlatState FlatRefusal
+flat_edit_in f None text force = Err range
+flat_edit_in f (Some span) text force = flat_edit f (one_op span text force)
+
+-- from one position up to another
+abbrev pub flat_edit_at : Position → Position → List ℕ → Bool → FlatState → Result FlatState FlatRefusal
+flat_edit_at from to text force f = flat_edit_in f (span_between f from to) text force
+
+abbrev pub op_of : BatchOp → List ℕ → Op
+op_of op text = record { span = span op.start op.end; text = text; force = op.force }
+
+abbrev pub op_before : Op → Result (List Op) FlatRefusal → Result (List Op) FlatRefusal
+op_before op (Ok ops) = Ok (op ∷ ops)
+op_before op (Err why) = Err why
+
+-- the ops with their texts, which stand one after another and fill the joined one
+abbrev pub ops_of : List BatchOp → List ℕ → Result (List Op) FlatRefusal
+ops_of [] [] = Ok []
+ops_of [] (unit ∷ units) = Err range
+ops_of (op ∷ ops) text =
+    if nat_lt (length text) op.units then Err range
+    else op_before (op_of op (take op.units text)) (ops_of ops (drop op.units text))
+
+abbrev pub flat_edit_by : FlatState → Result (List Op) FlatRefusal → Result FlatState FlatRefusal
+flat_edit_by f (Err why) = Err why
+flat_edit_by f (Ok ops) = flat_edit f ops
+
+abbrev pub flat_edit_joined : FlatState → List BatchOp → List ℕ → Result FlatState FlatRefusal
+flat_edit_joined f batch text = flat_edit_by f (ops_of batch text)
+
+-- ---- what is read
+
+-- one fewer where the end is no place
+abbrev pub cut_back : FlatState → ℕ → ℕ → ℕ
+cut_back f offset end = if nat_lt offset end && not (is_place_in f.kind f.units end) then end - 1 else end
+
+-- where as many units end from an offset on as there is room for
+abbrev pub fitting_end : FlatState → ℕ → ℕ → ℕ
+fitting_end f offset room =
+    if nat_le (length f.units) offset || nat_le (length f.units - offset) room then length f.units
+    else cut_back f offset (offset + room)
+
+abbrev pub fitting_span : FlatState → ℕ → ℕ → Span
+fitting_span f offset room = span offset (fitting_end f offset room)
+
+-- the content of the line of this number, in UTF-8
+abbrev pub flat_line_utf8 : FlatState → ℕ → Result (List ℕ) FlatRefusal
+flat_line_utf8 f n = told_as utf8_of (flat_line f n)
+
+-- ---- decorations
+
+abbrev pub new_deco_of : NewDecoration → NewDeco
+new_deco_of new = record { span = span new.start new.end; stick = new.stick; collapse = new.collapse }
+
+abbrev pub decoration_of : Deco → Decoration
+decoration_of deco = record {
+  id = deco.id;
+  owner = deco.owner;
+  start = deco.span.start;
+  end = deco.span.end;
+  stick = deco.stick;
+  collapse = deco.collapse;
+}
+
+abbrev pub owner_of : ℕ → Bool → Option ℕ
+owner_of owner true = None
+owner_of owner false = Some owner
+
+abbrev pub flat_decoration_list : FlatState → Span → Option ℕ → Result (List Decoration) FlatRefusal
+flat_decoration_list f span owner = told_as (map decoration_of) (flat_decos f span owner)
+
+-- ---- brackets
+
+abbrev pub number_of_state : State → ℕ
+number_of_state PairedOpening = 0
+number_of_state PairedClosing = 1
+number_of_state Unclosed = 2
+number_of_state Unexpected = 3
+
+abbrev pub bracket_of : Entry → Bracket
+bracket_of entry = record {
+  line = entry.place.lines + 1;
+  column = entry.place.columns + 1;
+  units = entry.len;
+  kind = entry.kind;
+  level = entry.level;
+  state = number_of_state entry.status;
+}
+
+abbrev pub flat_bracket_list : FlatState → ℕ → ℕ → Result (List Bracket) FlatRefusal
+flat_bracket_list f from to = told_as (map bracket_of) (flat_brackets f from to)
+
+abbrev pub partner_of : Position × ℕ → Partner
+partner_of found = record { line = found.0.line; column = found.0.column; units = found.1 }
+
+abbrev pub flat_partner : FlatState → Position → Result (Option Partner) FlatRefusal
+flat_partner f p = told_as (option_map partner_of) (flat_match f p)
+
+-- ---- columns
+
+abbrev pub or_range : {A : Type 0} → Option A → Result A FlatRefusal
+or_range None = Err range
+or_range (Some x) = Ok x
+
+abbrev pub encoding_of : ℕ → Option Encoding
+encoding_of number =
+    if number == 8 then Some Utf8 else
+    (if number == 16 then Some Utf16 else
+    (if number == 32 then Some Utf32 else None))
+
+abbrev pub with_encoding : {A : Type 0} → Option Encoding → (Encoding → Result A FlatRefusal) → Result A FlatRefusal
+with_encoding None rule = Err range
+with_encoding (Some encoding) rule = rule encoding
+
+-- what is told of the content of a line, if there is such a line
+abbrev pub of_line : {A : Type 0} → (List ℕ → Option A) → Result (List ℕ) FlatRefusal → Result A FlatRefusal
+of_line tell (Err why) = Err why
+of_line tell (Ok content) = or_range (tell content)
+
+-- how many bytes, units or code points of its line stand before the position, whose column is no less than 1
+abbrev pub flat_column_in : FlatState → Encoding → Position → Result ℕ FlatRefusal
+flat_column_in f encoding p =
+    of_line (λ content. if p.column == 0 then None else column_in encoding content (p.column - 1)) (flat_line f p.line)
+
+-- the column of the place in the line before which so many stand
+abbrev pub flat_column_of : FlatState → Encoding → ℕ → ℕ → Result ℕ FlatRefusal
+flat_column_of f encoding line before =
+    of_line (λ content. option_map (λ offset. offset + 1) (offset_of encoding content before)) (flat_line f line)
+
+abbrev pub flat_column_as : FlatState → ℕ → Position → Result ℕ FlatRefusal
+flat_column_as f encoding p = with_encoding (encoding_of encoding) (λ e. flat_column_in f e p)
+
+abbrev pub flat_column_of_as : FlatState → ℕ → ℕ → ℕ → Result ℕ FlatRefusal
+flat_column_of_as f encoding line before = with_encoding (encoding_of encoding) (λ e. flat_column_of f e line before)

@@ -1,0 +1,44 @@
+-- How a call ended, and its number.
+use Rattle.std.specs.Prelude.{ℕ, Bool, true, false, Result, Ok as Accepted, Err, ⊤}
+use Rattle.document_rules.specs.declared.ModelError.{ModelError}
+use Rattle.document_rules.specs.declared.ModelError.TheVariants as error
+use Rattle.textmodel_c.specs.declared.status.Status.{Status}
+use Rattle.textmodel_c.specs.declared.status.Status.TheVariants.{Ok, Nothing, Unknown, Range, Overlap, Limit, Memory, Encoding, Empty, Short}
+
+abbrev pub number_of : Status → ℕ
+number_of Ok = 0
+number_of Nothing = 1
+number_of Unknown = 2
+number_of Range = 3
+number_of Overlap = 4
+number_of Limit = 5
+number_of Memory = 6
+number_of Encoding = 7
+number_of Empty = 8
+number_of Short = 9
+
+abbrev pub status_of_error : ModelError → Status
+status_of_error error.Unknown = Unknown
+status_of_error error.Range = Range
+status_of_error error.Overlap = Overlap
+status_of_error error.Limit = Limit
+status_of_error error.Memory = Memory
+
+abbrev pub status_of_done : Result ⊤ ModelError → Status
+status_of_done (Accepted x) = Ok
+status_of_done (Err e) = status_of_error e
+
+-- a call that answers whether there was anything to do
+abbrev pub status_of_step : Result Bool ModelError → Status
+status_of_step (Accepted true) = Ok
+status_of_step (Accepted false) = Nothing
+status_of_step (Err e) = status_of_error e
+
+abbrev pub status_of_given : {A : Type 0} → Result A ModelError → Status
+status_of_given (Accepted x) = Ok
+status_of_given (Err e) = status_of_error e
+
+-- what is answered, or else what was there
+abbrev pub given_or : {A : Type 0} → A → Result A ModelError → A
+given_or old (Accepted x) = x
+given_or old (Err e) = old

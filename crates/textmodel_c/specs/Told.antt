@@ -1,0 +1,206 @@
+-- What a call answers, and what it leaves of what the handle holds.
+use Rattle.std.specs.Prelude.{◌≡◌, ◌⊎◌, ℕ, ◌-◌, Bool, true, false, MatchBool, if◌then◌else◌, nat_le, List, ◌++◌, length, take, drop, min, Option, Some, None, Result, Ok, Err, IsUtf8, ⊤}
+use Rattle.std.specs.Str.Lossy.{utf8_valid_len}
+use Rattle.unit_text.specs.Text.{units_of}
+use Rattle.text_rules.specs.declared.Op.{Op}
+use Rattle.decoration_rules.specs.declared.NewDeco.{NewDeco}
+use Rattle.std.specs.declared.vec.Vec.{Vec}
+use Rattle.std.specs.declared.alloc.Global.{Global}
+use Rattle.document_rules.specs.declared.ModelError.{ModelError}
+use Rattle.document_rules.specs.Refusals.{FlatRefusal}
+use Rattle.document_rules.specs.Outcomes.{RefusedFor, Changes, Moves, ChangesWith, Gives}
+use Rattle.document_rules.specs.Document.{FlatState, empty_document, flat_decorate}
+use Rattle.document_rules.specs.Snapshots.{flat_peek_of, flat_skipped}
+use Rattle.script_runner.specs.Script.{Turn}
+use Rattle.script_runner.specs.Bytes.{bytes_of_outcome}
+use Rattle.script_runner.specs.declared.outcome.Reply.TheVariants.{Nothing}
+use Rattle.textmodel_c.specs.declared.status.Status.{Status}
+use Rattle.textmodel_c.specs.declared.status.Status.TheVariants as status
+use Rattle.textmodel_c.specs.declared.document.Document.{Document}
+use Rattle.textmodel_c.specs.Statuses.{number_of, status_of_error, status_of_done, status_of_step, status_of_given, given_or}
+use Rattle.textmodel_c.specs.Rules.{flat_open_as}
+
+-- ---- the handle
+
+-- A call on an empty handle answers that and leaves it empty. Any other leaves a document of which this holds.
+abbrev pub Leaves : ℕ → Option Document → Option Document → (Document → Document → Type 0) → Type 0
+Leaves n None None says = n ≡ number_of status.Empty
+Leaves n None (Some new) says = ⊥
+Leaves n (Some old) None says = ⊥
+Leaves n (Some old) (Some new) says = says old new
+
+-- the number is that of a status of which this holds
+abbrev pub Numbers : ℕ → (Status → Type 0) → Type 0
+Numbers n says = (s : Status) × (n ≡ number_of s) × says s
+
+-- a new empty document, or want of memory
+abbrev pub IsNewDocument : Option Document → Type 0
+IsNewDocument None = ⊥
+IsNewDocument (Some new) = (new.model.document ≡ empty_document) × (new.reply ≡ Ok Nothing)
+
+abbrev pub Made : ℕ → Option Document → Option Document → Type 0
+Made n old new =
+    ((n ≡ number_of status.Ok) × IsNewDocument new) ⊎ ((n ≡ number_of status.Memory) × (new ≡ old))
+
+abbrev pub Freed : ℕ → Option Document → Type 0
+Freed n None = n ≡ number_of status.Empty
+Freed n (Some old) = n ≡ number_of status.Ok
+
+-- ---- changes
+
+-- the document is changed by the rule, or refused for its reason; the reply is kept
+abbrev pub Changed : ℕ → (FlatState → Result FlatState FlatRefusal) → Document → Document → Type 0
+Changed n rule old new = (answer : Result ⊤ ModelError) × (n ≡ number_of (status_of_done answer))
+    × Changes answer old.model.document new.model.document (rule old.model.document) × (new.reply ≡ old.reply)
+
+-- the same of a rule that may find nothing to do
+abbrev pub Moved : ℕ → (FlatState → Result (Option FlatState) FlatRefusal) → Document → Document → Type 0
+Moved n rule old new = (answer : Result Bool ModelError) × (n ≡ number_of (status_of_step answer))
+    × Moves answer old.model.document new.model.document (rule old.model.document) × (new.reply ≡ old.reply)
+
+-- the same of a call that hands out a number
+abbrev pub ChangedWith : ℕ → ℕ → ℕ → (FlatState → ℕ) → (FlatState → Result FlatState FlatRefusal) → Document → Document → Type 0
+ChangedWith n out out' told rule old new = (answer : Result ℕ ModelError) × (n ≡ number_of (status_of_given answer))
+    × (out' ≡ given_or out answer)
+    × ChangesWith (told old.model.document) answer old.model.document new.model.document (rule old.model.document) × (new.reply ≡ old.reply)
+
+-- decorations of an owner go and new ones come, and the first new id is handed out
+abbrev pub Decorated : ℕ → ℕ → ℕ → ℕ → List ℕ → List NewDeco → Document → Document → Type 0
+Decorated n first first' owner remove add =
+    ChangedWith n first first' (λ f. f.decorations.next_id) (λ f. flat_decorate f owner remove add)
+
+-- a change that is never refused
+abbrev pub Becomes : ℕ → (FlatState → FlatState) → Document → Document → Type 0
+Becomes n rule old new = (n ≡ number_of status.Ok) × (new.model.document ≡ rule old.model.document) × (new.reply ≡ old.reply)
+
+-- a text in UTF-8 is opened; of one that is none it is told where its first fault is
+pub record OpenedUtf8 (s : Status) (kind : ℕ) (text : List ℕ) (bad bad' : ℕ) (old new : FlatState) : Type 0 where
+  pub opened : IsUtf8 text → (answer : Result ⊤ ModelError) × (s ≡ status_of_done answer)
+      × Changes answer old new (flat_open_as kind (units_of text)) × (bad' ≡ bad)
+  pub refused : (IsUtf8 text → ⊥) → (s ≡ status.Encoding) × (bad' ≡ utf8_valid_len text) × (new ≡ old)
+
+abbrev pub HasOpenedUtf8 : ℕ → ℕ → List ℕ → ℕ → ℕ → Document → Document → Type 0
+HasOpenedUtf8 n kind text bad bad' old new =
+    Numbers n (λ s. OpenedUtf8 s kind text bad bad' old.model.document new.model.document) × (new.reply ≡ old.reply)
+
+-- the ops of a batch, or want of memory
+abbrev pub GivesOps : Result (Vec Op Global) ModelError → Result (List Op) FlatRefusal → Type 0
+GivesOps (Ok ops) rule = rule ≡ Ok ops.items
+GivesOps (Err e) rule = RefusedFor e rule
+
+-- ---- answers
+
+-- what there is, is handed out; else what was there stays
+abbrev pub AskedOf : {A : Type 0} → ℕ → A → A → Option A → Type 0
+AskedOf n out out' None = (n ≡ number_of status.Nothing) × (out' ≡ out)
+AskedOf n out out' (Some x) = (n ≡ number_of status.Ok) × (out' ≡ x)
+
+abbrev pub Asked : {A : Type 0} → ℕ → Option Document → A → A → (FlatState → Option A) → Type 0
+Asked n None out out' rule = (n ≡ number_of status.Empty) × (out' ≡ out)
+Asked n (Some held) out out' rule = AskedOf n out out' (rule held.model.document)
+
+-- a question that is answered by the status
+abbrev pub Holds : ℕ → Option Document → (FlatState → Bool) → Type 0
+Holds n None rule = n ≡ number_of status.Empty
+Holds n (Some held) rule = n ≡ (if rule held.model.document then number_of status.Ok else number_of status.Nothing)
+
+-- so many are put at the front of a place, or there is no room for all
+abbrev pub Listed : {A : Type 0} → Status → List A → List A → List A → ℕ → Type 0
+Listed s found out out' count' = (count' ≡ length found)
+    × MatchBool (nat_le (length found) (length out)) ((s ≡ status.Ok) × (out' ≡ found ++ drop (length found) out))
+    ((s ≡ status.Short) × (out' ≡ out))
+
+abbrev pub ListedFor : {A : Type 0} → Result ⊤ ModelError → Status → List A → List A → List A → ℕ → ℕ → Type 0
+ListedFor (Ok x) s found out out' count count' = Listed s found out out' count'
+ListedFor (Err e) s found out out' count count' = (s ≡ status_of_error e) × (out' ≡ out) × (count' ≡ count)
+
+-- an accepted call found what the rule gives
+abbrev pub FoundFor : {A : Type 0} → Result ⊤ ModelError → List A → Result (List A) FlatRefusal → Type 0
+FoundFor (Ok x) found rule = rule ≡ Ok found
+FoundFor (Err e) found rule = RefusedFor e rule
+
+-- the list that the rule gives is handed out, or it is refused for the rule's reason
+abbrev pub Lists : {A : Type 0} → Status → List A → List A → ℕ → ℕ → Result (List A) FlatRefusal → Type 0
+Lists {A} s out out' count count' rule = (answer : Result ⊤ ModelError) × (found : List A)
+    × ListedFor answer s found out out' count count' × FoundFor answer found rule
+
+abbrev pub ListsHeld : {A : Type 0} → ℕ → Option Document → List A → List A → ℕ → ℕ → (FlatState → Result (List A) FlatRefusal) → Type 0
+ListsHeld n None out out' count count' rule = (n ≡ number_of status.Empty) × (out' ≡ out) × (count' ≡ count)
+ListsHeld n (Some held) out out' count count' rule = Numbers n (λ s. Lists s out out' count count' (rule held.model.document))
+
+-- what the rule gives is handed out, where there is anything
+abbrev pub status_of_found : {A : Type 0} → Result (Option A) ModelError → Status
+status_of_found (Ok (Some x)) = status.Ok
+status_of_found (Ok None) = status.Nothing
+status_of_found (Err e) = status_of_error e
+
+abbrev pub found_or : {A : Type 0} → A → Result (Option A) ModelError → A
+found_or old (Ok (Some x)) = x
+found_or old (Ok None) = old
+found_or old (Err e) = old
+
+abbrev pub FoundOut : {A : Type 0} → Status → A → A → Result (Option A) FlatRefusal → Type 0
+FoundOut {A} s out out' rule = (answer : Result (Option A) ModelError) × (s ≡ status_of_found answer)
+    × (out' ≡ found_or out answer) × Gives answer rule
+
+abbrev pub FoundHeld : {A : Type 0} → ℕ → Option Document → A → A → (FlatState → Result (Option A) FlatRefusal) → Type 0
+FoundHeld n None out out' rule = (n ≡ number_of status.Empty) × (out' ≡ out)
+FoundHeld n (Some held) out out' rule = Numbers n (λ s. FoundOut s out out' (rule held.model.document))
+
+abbrev pub GivenOut : {A : Type 0} → Status → A → A → Result A FlatRefusal → Type 0
+GivenOut {A} s out out' rule = (answer : Result A ModelError) × (s ≡ status_of_given answer)
+    × (out' ≡ given_or out answer) × Gives answer rule
+
+abbrev pub GivenHeld : {A : Type 0} → ℕ → Option Document → A → A → (FlatState → Result A FlatRefusal) → Type 0
+GivenHeld n None out out' rule = (n ≡ number_of status.Empty) × (out' ≡ out)
+GivenHeld n (Some held) out out' rule = Numbers n (λ s. GivenOut s out out' (rule held.model.document))
+
+-- the document and the reply are as they were
+abbrev pub KeepsText : Option Document → Option Document → Type 0
+KeepsText None None = ⊤
+KeepsText None (Some new) = ⊥
+KeepsText (Some old) None = ⊥
+KeepsText (Some old) (Some new) = (new.model.document ≡ old.model.document) × (new.reply ≡ old.reply)
+
+-- ---- snapshots
+
+-- what was read is passed
+abbrev pub PassedFor : Status → ℕ → ℕ → FlatState → FlatState → Type 0
+PassedFor status.Ok id count old new = new ≡ flat_skipped old id count
+PassedFor status.Nothing id count old new = new ≡ old
+PassedFor status.Unknown id count old new = new ≡ old
+PassedFor status.Range id count old new = new ≡ old
+PassedFor status.Overlap id count old new = new ≡ old
+PassedFor status.Limit id count old new = new ≡ old
+PassedFor status.Memory id count old new = new ≡ old
+PassedFor status.Encoding id count old new = new ≡ old
+PassedFor status.Empty id count old new = new ≡ old
+PassedFor status.Short id count old new = new ≡ old
+
+pub record Reads (s : Status) (id : ℕ) (out out' : List ℕ) (count count' : ℕ) (old new : FlatState) : Type 0 where
+  pub units : Lists s out out' count count' (flat_peek_of old id (length out))
+  pub passed : PassedFor s id count' old new
+
+abbrev pub HasRead : ℕ → ℕ → List ℕ → List ℕ → ℕ → ℕ → Document → Document → Type 0
+HasRead n id out out' count count' old new =
+    Numbers n (λ s. Reads s id out out' count count' old.model.document new.model.document) × (new.reply ≡ old.reply)
+
+-- ---- script lines
+
+-- the line is answered by the reply that is kept, and the length of its bytes is told
+pub record HasAnswered (n : ℕ) (line : List ℕ) (count : ℕ) (old new : Document) : Type 0 where
+  pub answered : n ≡ number_of status.Ok
+  pub turn : Turn old.model.document line (bytes_of_outcome new.reply) new.model.document
+  pub len : count ≡ length (bytes_of_outcome new.reply)
+
+-- as many bytes from a place on as there is room for are put at the front; none where the place is behind them
+abbrev pub CopiedFrom : Status → List ℕ → ℕ → List ℕ → List ℕ → ℕ → ℕ → Type 0
+CopiedFrom s bytes from out out' count count' =
+    MatchBool (nat_le from (length bytes))
+    ((s ≡ status.Ok) × (count' ≡ min (length bytes - from) (length out)) × (out' ≡ take count' (drop from bytes) ++ drop count' out))
+    ((s ≡ status.Range) × (out' ≡ out) × (count' ≡ count))
+
+abbrev pub RepliesHeld : ℕ → Option Document → ℕ → List ℕ → List ℕ → ℕ → ℕ → Type 0
+RepliesHeld n None from out out' count count' = (n ≡ number_of status.Empty) × (out' ≡ out) × (count' ≡ count)
+RepliesHeld n (Some held) from out out' count count' =
+    Numbers n (λ s. CopiedFrom s (bytes_of_outcome held.reply) from out out' count count')

@@ -1,0 +1,106 @@
+//! Script lines and their replies.
+
+ghost use Rattle.std.specs.Prelude.{◌≡◌, length, IfNone};
+ghost use Rattle.script_runner.specs.Script.{Turn};
+ghost use Rattle.script_runner.specs.Bytes.{bytes_of_outcome};
+ghost use Rattle.textmodel_c.specs.Told.{CopiedFrom, HasAnswered, Leaves, RepliesHeld};
+
+use crate::handle::Handle;
+use crate::status::Status;
+use model_core::Model;
+use script_lines::refusal;
+use script_runner::{Outcome, Refused, Session};
+use std::alloc::Global;
+use std::mem::replace;
+
+/// The version of this library: ten thousand times the major number, a hundred times the minor one, and the patch.
+#[unsafe(no_mangle)]
+pub extern "C" fn tm_version() -> u32
+    ensures { result ≡ 100 }
+{
+    100
+}
+
+fn answer(alloc: Global, model: &mut Model, line: &[u8]) -> Outcome
+    ensures { Turn model.old.document line.now (bytes_of_outcome result) model.new.document }
+{
+    let own = replace(model, Model::new(alloc));
+    let mut session = Session::of_model(alloc, own);
+    let outcome = session.answer(line);
+    *model = session.into_model();
+    outcome
+}
+
+// How many bytes are written for a line.
+fn reply_len(outcome: &Outcome) -> u64
+    ensures { result ≡ length (bytes_of_outcome outcome.now) }
+{
+    match outcome {
+        Ok(reply) => reply.as_slice().len() as u64,
+        Err(Refused(reason)) => refusal(*reason).as_slice().len() as u64,
+    }
+}
+
+/// Answers a script line, which comes without its LF, keeps the reply in the document, and tells how many bytes it has.
+#[unsafe(no_mangle)]
+pub extern "C" fn tm_answer(alloc: Global, handle: &mut Handle, line: &[u8], len: &mut u64) -> u32
+    ensures document { Leaves result handle.old.held handle.new.held
+        (HasAnswered result line.now len.new) }
+    ensures empty { IfNone handle.old.held (len.new ≡ len.old) }
+{
+    let Some(mut document) = handle.take(alloc) else {
+        return Status::Empty.number();
+    };
+    let outcome = answer(alloc, &mut document.model, line);
+    *len = reply_len(&outcome);
+    document.reply = outcome;
+    handle.put(document);
+    Status::Ok.number()
+}
+
+// Puts as many bytes from a place on as there is room for, and tells how many these are.
+fn copy_from(bytes: &[u8], from: u64, out: &mut [u8], count: &mut u64) -> Status
+    ensures { CopiedFrom result bytes.now from out.old out.new count.old count.new }
+{
+    if from > bytes.len() as u64 {
+        return Status::Range;
+    }
+    let (_, rest) = bytes.split_at(from as usize);
+    let n = rest.len().min(out.len());
+    let (source, _) = rest.split_at(n);
+    let (front, _) = out.split_at_mut(n);
+    front.copy_from_slice(source);
+    *count = n as u64;
+    Status::Ok
+}
+
+fn copy_reply(outcome: &Outcome, from: u64, out: &mut [u8], count: &mut u64) -> Status
+    ensures { CopiedFrom result (bytes_of_outcome outcome.now) from
+        out.old out.new count.old count.new }
+{
+    match outcome {
+        Ok(reply) => copy_from(reply.as_slice(), from, out, count),
+        Err(Refused(reason)) => copy_from(refusal(*reason).as_slice(), from, out, count),
+    }
+}
+
+/// As many bytes of the last reply as `out` has room for, from the byte at `from` on, and how many they are. `Range` where
+/// `from` is above the length of the reply.
+#[unsafe(no_mangle)]
+pub extern "C" fn tm_reply(
+    alloc: Global,
+    handle: &mut Handle,
+    from: u64,
+    out: &mut [u8],
+    count: &mut u64,
+) -> u32
+    ensures kept { handle.new.held ≡ handle.old.held }
+    ensures reply { RepliesHeld result handle.old.held from out.old out.new count.old count.new }
+{
+    let Some(document) = handle.take(alloc) else {
+        return Status::Empty.number();
+    };
+    let status = copy_reply(&document.reply, from, out, count);
+    handle.put(document);
+    status.number()
+}

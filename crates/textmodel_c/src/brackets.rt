@@ -1,0 +1,196 @@
+//! Brackets.
+
+ghost use Rattle.std.specs.Prelude.{◌≡◌, ◌+◌, ◌++◌, [], List, map, OnOk};
+ghost use Rattle.std.specs.List.{All};
+ghost use Rattle.document_rules.specs.Brackets.{flat_brackets, flat_match, flat_level, IsSmall};
+ghost use Rattle.textmodel_c.specs.Rules.{at, bracket_of, number_of_state, flat_bracket_list, flat_partner};
+ghost use Rattle.textmodel_c.specs.Told.{FoundFor, FoundHeld, FoundOut, GivenHeld, GivenOut, KeepsText, Lists, ListsHeld};
+
+use crate::handle::Handle;
+use crate::lists::hand_out_of;
+use crate::status::Status;
+use model_core::{Entry, Model, ModelError, Position};
+use std::alloc::{AllocError, Global};
+
+/// A bracket: where it starts, how many units it has, its kind by the place in the table, how many are open around it, and
+/// what it is: 0 an opening one that is closed later, 1 a closing one that closes an earlier one, 2 an opening one that
+/// none closes, 3 a closing one that closes none.
+#[repr(C)]
+#[derive(Clone, Copy)]
+pub struct Bracket {
+    pub line: u64,
+    pub column: u64,
+    pub units: u64,
+    pub kind: u64,
+    pub level: u64,
+    pub state: u32,
+}
+
+/// The other bracket of a pair.
+#[repr(C)]
+#[derive(Clone, Copy)]
+pub struct Partner {
+    pub line: u64,
+    pub column: u64,
+    pub units: u64,
+}
+
+fn number_of_state(state: model_core::Status) -> u32
+    ensures { result ≡ number_of_state state }
+{
+    match state {
+        model_core::Status::PairedOpening => 0,
+        model_core::Status::PairedClosing => 1,
+        model_core::Status::Unclosed => 2,
+        model_core::Status::Unexpected => 3,
+    }
+}
+
+fn bracket_of(entry: Entry) -> Bracket
+    requires { IsSmall entry.place }
+    ensures { result ≡ bracket_of entry }
+{
+    Bracket {
+        line: entry.place.lines + 1,
+        column: entry.place.columns + 1,
+        units: entry.len,
+        kind: entry.kind,
+        level: entry.level,
+        state: number_of_state(entry.status),
+    }
+}
+
+fn append_brackets(entries: &[Entry], out: &mut Vec<Bracket>) -> Result<(), AllocError>
+    requires { All (λ entry. IsSmall entry.place) entries.now }
+    ensures { OnOk result (out.new.items ≡ out.old.items ++ map bracket_of entries.now) }
+{
+    for entry in entries {
+        out.push(bracket_of(*entry))?;
+    }
+    Ok(())
+}
+
+fn brackets_in(
+    alloc: Global,
+    model: &mut Model,
+    from: u64,
+    to: u64,
+    out: &mut Vec<Bracket>,
+) -> Result<(), ModelError>
+    requires { out.old.items ≡ [] }
+    ensures found { FoundFor result out.new.items (flat_bracket_list model.old.document from to) }
+    ensures document { model.new.document ≡ model.old.document }
+{
+    let mut entries = Vec::new(alloc);
+    model.brackets_in(from, to, &mut entries)?;
+    append_brackets(&entries, out).map_err(|_| ModelError::Memory)
+}
+
+fn brackets_out(
+    alloc: Global,
+    model: &mut Model,
+    from: u64,
+    to: u64,
+    out: &mut [Bracket],
+    count: &mut u64,
+) -> Status
+    ensures brackets { Lists result out.old out.new count.old count.new
+        (flat_bracket_list model.old.document from to) }
+    ensures document { model.new.document ≡ model.old.document }
+{
+    let mut found = Vec::new(alloc);
+    let answer = brackets_in(alloc, model, from, to, &mut found);
+    hand_out_of(answer, &found, out, count)
+}
+
+/// The brackets of the lines `from` to `to`, both included, in the order of the text, and how many they are. `Range` where
+/// one of the lines is not there, or `from` is above `to`; `Short` where `out` has no room for all.
+#[unsafe(no_mangle)]
+pub extern "C" fn tm_brackets(
+    alloc: Global,
+    handle: &mut Handle,
+    from: u64,
+    to: u64,
+    out: &mut [Bracket],
+    count: &mut u64,
+) -> u32
+    ensures kept { KeepsText handle.old.held handle.new.held }
+    ensures brackets { ListsHeld result handle.old.held out.old out.new count.old count.new
+        (λ f. flat_bracket_list f from to) }
+{
+    let Some(mut document) = handle.take(alloc) else {
+        return Status::Empty.number();
+    };
+    let status = brackets_out(alloc, &mut document.model, from, to, out, count);
+    handle.put(document);
+    status.number()
+}
+
+fn match_out(model: &mut Model, at: Position, partner: &mut Partner) -> Status
+    ensures partner { FoundOut result partner.old partner.new (flat_partner model.old.document at) }
+    ensures document { model.new.document ≡ model.old.document }
+{
+    match model.match_at(at) {
+        Ok(Some((Position { line, column }, units))) => {
+            *partner = Partner {
+                line,
+                column,
+                units,
+            };
+            Status::Ok
+        }
+        Ok(None) => Status::Nothing,
+        Err(error) => Status::of_error(error),
+    }
+}
+
+/// The other bracket of a pair, where one of the two starts at the position; `Nothing` where none does. `Range` where the
+/// position is none of the text.
+#[unsafe(no_mangle)]
+pub extern "C" fn tm_match(
+    alloc: Global,
+    handle: &mut Handle,
+    line: u64,
+    column: u64,
+    partner: &mut Partner,
+) -> u32
+    ensures kept { KeepsText handle.old.held handle.new.held }
+    ensures partner { FoundHeld result handle.old.held partner.old partner.new
+        (λ f. flat_partner f (at line column)) }
+{
+    let Some(mut document) = handle.take(alloc) else {
+        return Status::Empty.number();
+    };
+    let status = match_out(&mut document.model, Position { line, column }, partner);
+    handle.put(document);
+    status.number()
+}
+
+fn level_out(model: &mut Model, at: Position, level: &mut u64) -> Status
+    ensures level { GivenOut result level.old level.new (flat_level model.old.document at) }
+    ensures document { model.new.document ≡ model.old.document }
+{
+    let answer = model.level_at(at);
+    Status::of_given(answer, level)
+}
+
+/// How many brackets are open after those that start before the position. `Range` where it is none of the text.
+#[unsafe(no_mangle)]
+pub extern "C" fn tm_level(
+    alloc: Global,
+    handle: &mut Handle,
+    line: u64,
+    column: u64,
+    level: &mut u64,
+) -> u32
+    ensures kept { KeepsText handle.old.held handle.new.held }
+    ensures level { GivenHeld result handle.old.held level.old level.new
+        (λ f. flat_level f (at line column)) }
+{
+    let Some(mut document) = handle.take(alloc) else {
+        return Status::Empty.number();
+    };
+    let status = level_out(&mut document.model, Position { line, column }, level);
+    handle.put(document);
+    status.number()
+}

@@ -1,0 +1,81 @@
+//! What C holds of a document.
+
+ghost use Rattle.std.specs.Prelude.{◌≡◌, Option, None, Some};
+ghost use Rattle.textmodel_c.specs.declared.document.Document.{Document};
+ghost use Rattle.textmodel_c.specs.Held.{handle_owns, held_coded};
+ghost use Rattle.std.specs.Option.{MatchOption};
+
+mod raw_box;
+
+use crate::document::Document;
+use crate::handle::raw_box::RawBox;
+use std::alloc::Global;
+use std::marker::Model;
+use std::mem::replace;
+use std::ptr::null_mut;
+
+/// A document on the heap, or nothing where the address is null.
+#[repr(C)]
+#[derive(Drop)]
+pub struct Handle {
+    at: *mut (),
+    alloc: Global,
+    pub ghost held: { Option Document } by { held_coded },
+}
+
+impl Model for Handle {
+    ghost also_owns = { λ h. handle_owns h.alloc h.at h.held };
+}
+
+impl Handle {
+    /// The handle of no document.
+    pub(crate) fn empty(alloc: Global) -> Handle
+        ensures { result.held ≡ None }
+    {
+        Handle {
+            at: null_mut(),
+            alloc,
+        }
+    }
+
+    fn of_raw(document: RawBox<Document, Global>) -> Handle
+        ensures { result.held ≡ Some document.value }
+    {
+        let RawBox { at, alloc } = document;
+        Handle {
+            at: at as *mut (),
+            alloc,
+        }
+    }
+
+    fn into_raw(self) -> Option<RawBox<Document, Global>>
+        ensures { MatchOption result (self.held ≡ None) (λ raw. self.held ≡ Some raw.value) }
+    {
+        let Handle { at, alloc } = self;
+        if at.is_null() {
+            return None;
+        }
+        Some(RawBox {
+            at: at as *mut Document,
+            alloc,
+        })
+    }
+
+    /// Takes the document out, and leaves the handle empty.
+    pub(crate) fn take(&mut self, alloc: Global) -> Option<Box<Document>>
+        ensures taken { MatchOption result (self.old.held ≡ None)
+            (λ document. self.old.held ≡ Some document.value) }
+        ensures left { self.new.held ≡ None }
+    {
+        let raw = replace(self, Handle::empty(alloc)).into_raw()?;
+        Some(raw.into_box())
+    }
+
+    /// Puts a document into the handle, which is empty.
+    pub(crate) fn put(&mut self, document: Box<Document>)
+        requires empty { self.old.held ≡ None }
+        ensures { self.new.held ≡ Some document.value }
+    {
+        *self = Handle::of_raw(RawBox::of(document));
+    }
+}

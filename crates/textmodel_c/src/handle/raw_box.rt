@@ -1,0 +1,34 @@
+//! A box by its address.
+
+ghost use Rattle.std.specs.Prelude.{◌≡◌};
+ghost use Rattle.std.specs.Box.Ownership.{box_owns};
+
+use std::alloc::Allocator;
+use std::marker::Model;
+
+/// A value on the heap that nothing frees.
+pub(crate) struct RawBox<T, A: Allocator> {
+    pub(crate) at: *mut T,
+    pub(crate) alloc: A,
+    pub(crate) ghost value: { T },
+}
+
+impl<T, A: Allocator> Model for RawBox<T, A> {
+    ghost also_owns = { λ raw. box_owns (A.dealloc_token raw.alloc) T.row raw.at raw.value };
+}
+
+impl<T: Drop, A: Allocator> RawBox<T, A> {
+    pub(crate) fn of(document: Box<T, A>) -> RawBox<T, A>
+        ensures { result.value ≡ document.value }
+    {
+        let (at, alloc) = Box::into_raw_with_allocator(document);
+        RawBox { at, alloc }
+    }
+
+    pub(crate) fn into_box(self) -> Box<T, A>
+        ensures { result.value ≡ self.value }
+    {
+        let RawBox { at, alloc } = self;
+        unsafe { Box::from_raw(alloc, at) }
+    }
+}

@@ -1,0 +1,17 @@
+//! The document for C. Each call takes a handle, answers a status, and changes nothing where that is an error; on an empty
+//! handle it answers `Empty`. Offsets count UTF-16 units from 0, lines and columns count from 1.
+#![tactic(auto)]
+
+mod answers;
+mod brackets;
+mod columns;
+mod document;
+mod edits;
+mod handle;
+mod lists;
+mod marks;
+mod readings;
+mod status;
+mod text;
+
+pub use handle::Handle;

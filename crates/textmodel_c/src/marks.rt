@@ -1,0 +1,210 @@
+//! Decorations.
+
+ghost use Rattle.std.specs.Prelude.{◌≡◌, ◌++◌, [], map, option_map, IfNone, IfOk, OnOk};
+ghost use Rattle.document_rules.specs.Document.{flat_deco};
+ghost use Rattle.model_core.specs.Decorating.{HasDecorated};
+ghost use Rattle.textmodel_c.specs.Rules.{decoration_of, new_deco_of, owner_of, span, flat_decoration_list};
+ghost use Rattle.textmodel_c.specs.Told.{Asked, Decorated, FoundFor, Leaves, Lists, ListsHeld};
+
+use crate::handle::Handle;
+use crate::lists::hand_out_of;
+use crate::status::Status;
+use model_core::{Deco, Model, ModelError, NewDeco, Span};
+use std::alloc::{AllocError, Global};
+
+/// A decoration that is to be added. Its mode is 0 where it grows at both ends, 1 where at none, 2 where by what is typed
+/// before it only, and 3 where by what is typed after it only.
+#[repr(C)]
+#[derive(Clone, Copy)]
+pub struct NewDecoration {
+    pub start: u64,
+    pub end: u64,
+    pub stick: u64,
+    pub collapse: bool,
+}
+
+/// A live decoration.
+#[repr(C)]
+#[derive(Clone, Copy)]
+pub struct Decoration {
+    pub id: u64,
+    pub owner: u64,
+    pub start: u64,
+    pub end: u64,
+    pub stick: u64,
+    pub collapse: bool,
+}
+
+fn new_deco_of(new: NewDecoration) -> NewDeco
+    ensures { result ≡ new_deco_of new }
+{
+    NewDeco {
+        span: Span {
+            start: new.start,
+            end: new.end,
+        },
+        stick: new.stick,
+        collapse: new.collapse,
+    }
+}
+
+fn decoration_of(deco: Deco) -> Decoration
+    ensures { result ≡ decoration_of deco }
+{
+    Decoration {
+        id: deco.id,
+        owner: deco.owner,
+        start: deco.span.start,
+        end: deco.span.end,
+        stick: deco.stick,
+        collapse: deco.collapse,
+    }
+}
+
+fn new_decos_of(alloc: Global, add: &[NewDecoration]) -> Result<Vec<NewDeco>, AllocError>
+    ensures { IfOk result (λ decos. decos.items ≡ map new_deco_of add.now) }
+{
+    let mut decos = Vec::with_capacity(alloc, add.len())?;
+    for new in add {
+        decos.push(new_deco_of(*new))?;
+    }
+    Ok(decos)
+}
+
+fn decorate(
+    alloc: Global,
+    model: &mut Model,
+    owner: u64,
+    remove: &[u64],
+    add: &[NewDecoration],
+) -> Result<u64, ModelError>
+    ensures { HasDecorated owner remove.now (map new_deco_of add.now) result
+        model.old.document model.new.document }
+{
+    let add = new_decos_of(alloc, add).map_err(|_| ModelError::Memory)?;
+    model.decorate(owner, remove, &add)
+}
+
+/// Takes decorations of an owner out and puts new ones in, all of it or none, and tells the first new id, or the next free
+/// one where nothing is added. `Unknown` where a named one is not live, has another owner or is named twice; else
+/// `Range` where a span is none of the text or a mode is above 3; else `Limit` where too many would be live, or an id
+/// would pass the greatest one.
+#[unsafe(no_mangle)]
+pub extern "C" fn tm_decorate(
+    alloc: Global,
+    handle: &mut Handle,
+    owner: u64,
+    remove: &[u64],
+    add: &[NewDecoration],
+    first: &mut u64,
+) -> u32
+    ensures document { Leaves result handle.old.held handle.new.held
+        (Decorated result first.old first.new owner remove.now (map new_deco_of add.now)) }
+    ensures empty { IfNone handle.old.held (first.new ≡ first.old) }
+{
+    let Some(mut document) = handle.take(alloc) else {
+        return Status::Empty.number();
+    };
+    let answer = decorate(alloc, &mut document.model, owner, remove, add);
+    handle.put(document);
+    Status::of_given(answer, first).number()
+}
+
+/// The live decoration of this id; `Nothing` where there is none.
+#[unsafe(no_mangle)]
+pub extern "C" fn tm_deco(
+    alloc: Global,
+    handle: &mut Handle,
+    id: u64,
+    decoration: &mut Decoration,
+) -> u32
+    ensures kept { handle.new.held ≡ handle.old.held }
+    ensures decoration { Asked result handle.old.held decoration.old decoration.new
+        (λ f. option_map decoration_of (flat_deco f id)) }
+{
+    let Some(document) = handle.take(alloc) else {
+        return Status::Empty.number();
+    };
+    let found = document.model.get_deco(id);
+    handle.put(document);
+    let Some(found) = found else {
+        return Status::Nothing.number();
+    };
+    *decoration = decoration_of(found);
+    Status::Ok.number()
+}
+
+fn append_decorations(decos: &[Deco], out: &mut Vec<Decoration>) -> Result<(), AllocError>
+    ensures { OnOk result (out.new.items ≡ out.old.items ++ map decoration_of decos.now) }
+{
+    for deco in decos {
+        out.push(decoration_of(*deco))?;
+    }
+    Ok(())
+}
+
+fn decorations_in(
+    alloc: Global,
+    model: &Model,
+    span: Span,
+    owner: Option<u64>,
+    out: &mut Vec<Decoration>,
+) -> Result<(), ModelError>
+    requires { out.old.items ≡ [] }
+    ensures { FoundFor result out.new.items
+        (flat_decoration_list model.now.document span owner) }
+{
+    let mut decos = Vec::new(alloc);
+    model.decos_in(span, owner, &mut decos)?;
+    append_decorations(&decos, out).map_err(|_| ModelError::Memory)
+}
+
+fn owner_of(owner: u64, any: bool) -> Option<u64>
+    ensures { result ≡ owner_of owner any }
+{
+    if any { None } else { Some(owner) }
+}
+
+fn decorations_out(
+    alloc: Global,
+    model: &Model,
+    span: Span,
+    owner: Option<u64>,
+    out: &mut [Decoration],
+    count: &mut u64,
+) -> Status
+    ensures { Lists result out.old out.new count.old count.new
+        (flat_decoration_list model.now.document span owner) }
+{
+    let mut found = Vec::new(alloc);
+    let answer = decorations_in(alloc, model, span, owner, &mut found);
+    hand_out_of(answer, &found, out, count)
+}
+
+/// The decorations that share a unit with the span from `start` up to `end`, or touch it, and how many they are: those of
+/// the owner, or all where `any` is set. `Range` where this is no span of the text; `Short` where `out` has no room for
+/// all.
+#[unsafe(no_mangle)]
+pub extern "C" fn tm_decos(
+    alloc: Global,
+    handle: &mut Handle,
+    start: u64,
+    end: u64,
+    owner: u64,
+    any: bool,
+    out: &mut [Decoration],
+    count: &mut u64,
+) -> u32
+    ensures kept { handle.new.held ≡ handle.old.held }
+    ensures decorations { ListsHeld result handle.old.held out.old out.new count.old count.new
+        (λ f. flat_decoration_list f (span start end) (owner_of owner any)) }
+{
+    let Some(document) = handle.take(alloc) else {
+        return Status::Empty.number();
+    };
+    let span = Span { start, end };
+    let owner = owner_of(owner, any);
+    let status = decorations_out(alloc, &document.model, span, owner, out, count);
+    handle.put(document);
+    status.number()
+}

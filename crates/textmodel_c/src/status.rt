@@ -1,0 +1,97 @@
+//! How a call ended.
+
+ghost use Rattle.std.specs.Prelude.{◌≡◌};
+ghost use Rattle.textmodel_c.specs.Statuses.{number_of, status_of_error, status_of_done, status_of_step, status_of_given, given_or};
+
+use model_core::ModelError;
+
+/// How a call ended: `Ok` or `Nothing`, or why it changed nothing.
+#[derive(Clone, Copy)]
+pub enum Status {
+    Ok,
+    /// There is no such step, decoration, partner, offset or position, or the kind is the same.
+    Nothing,
+    /// A named thing is not there.
+    Unknown,
+    /// A place, a line, a span, a kind or a mode is none.
+    Range,
+    /// Two edits of a batch overlap.
+    Overlap,
+    /// A limit would be passed.
+    Limit,
+    /// There was no memory for the call.
+    Memory,
+    /// The text is no UTF-8.
+    Encoding,
+    /// The handle holds no document.
+    Empty,
+    /// The place for the answer is too short.
+    Short,
+}
+
+impl Status {
+    /// The number that C has for the status.
+    pub(crate) fn number(self) -> u32
+        ensures { result ≡ number_of self }
+    {
+        match self {
+            Status::Ok => 0,
+            Status::Nothing => 1,
+            Status::Unknown => 2,
+            Status::Range => 3,
+            Status::Overlap => 4,
+            Status::Limit => 5,
+            Status::Memory => 6,
+            Status::Encoding => 7,
+            Status::Empty => 8,
+            Status::Short => 9,
+        }
+    }
+
+    pub(crate) fn of_error(error: ModelError) -> Status
+        ensures { result ≡ status_of_error error }
+    {
+        match error {
+            ModelError::Unknown => Status::Unknown,
+            ModelError::Range => Status::Range,
+            ModelError::Overlap => Status::Overlap,
+            ModelError::Limit => Status::Limit,
+            ModelError::Memory => Status::Memory,
+        }
+    }
+
+    /// The status of a call that answers nothing.
+    pub(crate) fn of_done(answer: Result<(), ModelError>) -> Status
+        ensures { result ≡ status_of_done answer }
+    {
+        match answer {
+            Ok(()) => Status::Ok,
+            Err(error) => Status::of_error(error),
+        }
+    }
+
+    /// The status of a call that answers whether there was anything to do.
+    pub(crate) fn of_step(answer: Result<bool, ModelError>) -> Status
+        ensures { result ≡ status_of_step answer }
+    {
+        match answer {
+            Ok(true) => Status::Ok,
+            Ok(false) => Status::Nothing,
+            Err(error) => Status::of_error(error),
+        }
+    }
+
+    /// The status of a call that answers a number, which is handed out.
+    pub(crate) fn of_given(answer: Result<u64, ModelError>, out: &mut u64) -> Status
+        ensures status { result ≡ status_of_given answer }
+        ensures given { out.new ≡ given_or out.old answer }
+    {
+        match answer {
+            Ok(number) => {
+                *out = number;
+                Status::Ok
+            }
+            Err(error) => Status::of_error(error),
+        }
+    }
+}
