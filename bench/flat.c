@@ -1,7 +1,7 @@
 /* A flat text model: what the program is measured beside, and its replies compared with.
  *
  * The text is one array of UTF-16 units that each edit moves. Lines are found by scanning it from its beginning, and
- * each question about brackets folds all of it; a snapshot and a change of the kind of line ending copy all of it. It
+ * each question about brackets folds all of it; a snapshot, an event and a change of the kind of line ending copy all of it. It
  * reads the lines that bench/run writes and those alone: fields in one order without blanks, texts of ASCII with `\n` and
  * `\r` as their escapes, the ops of an edit in rising order. Any other line is answered `! syntax`. What an `open` or an
  * edit lets go of is not freed. */
@@ -17,6 +17,8 @@ typedef struct { size_t start, end; Units text; } Op;
 typedef struct { size_t start; Units removed, added; bool begins, is_of_kind; Kind kind; } Change;
 typedef struct { Number id, owner, stick; size_t start, end; bool goes; } Mark;
 typedef struct { size_t at, line, col, level, partner; int kind; char status; } Bracket;
+/* A change that was sent: the version before it, and the whole text after it. */
+typedef struct { Number from; Units after; } Event;
 typedef struct {
     Units text;
     Kind kind;
@@ -30,6 +32,10 @@ typedef struct {
     size_t bracket_count, bracket_room;
     uint16_t *snapshots[MOST_SNAPSHOTS];  /* by id, the first of which is 1 */
     Number next_snapshot;
+    Units mirror;
+    Number mirror_version;  /* 0 where there is no mirror */
+    Event *sent;
+    size_t sent_count, sent_room;
 } Document;
 
 static bool refuse_range(void) { return printf("! range") > 0; }
@@ -416,6 +422,45 @@ static bool level(Document *document, const char **at) {
     return printf("ok %zu", open) > 0;
 }
 
+/* ---- a mirror: no line of it is asked for */
+
+static Units copied(Units units) {
+    Units copy = {.at = malloc(2 * units.length + 1), .length = units.length};
+    if (!copy.at) fail("no memory");
+    memcpy(copy.at, units.at, 2 * units.length);
+    return copy;
+}
+
+static bool mirror(Document *document, const char **at) {
+    if (!closes(at)) return false;
+    free(document->mirror.at);
+    document->mirror = copied(document->text);
+    document->mirror_version = document->version;
+    return printf("ok %lu", document->version) > 0;
+}
+
+static bool send_event(Document *document, const char **at) {
+    if (!closes(at)) return false;
+    if (document->version == 1) return printf("ok none") > 0;
+    document->sent = grown(document->sent, document->sent_count, &document->sent_room, sizeof(Event));
+    document->sent[document->sent_count++] = (Event){document->version - 1, copied(document->text)};
+    return printf("ok %zu %lu", document->sent_count, document->version - 1) > 0;
+}
+
+static bool deliver(Document *document, const char **at) {
+    Number n;
+    if (!number(at, &n) || !closes(at)) return false;
+    if (!document->mirror_version || n == 0 || n > document->sent_count) return printf("! unknown") > 0;
+    const Event *event = &document->sent[n - 1];
+    Number have = document->mirror_version;
+    if (event->from < have) return printf("ok old") > 0;
+    if (event->from > have) return printf("! gap %lu %lu", have, event->from) > 0;
+    free(document->mirror.at);
+    document->mirror = copied(event->after);
+    document->mirror_version = have + 1;
+    return printf("ok %lu %zu %zu", have + 1, document->mirror.length, line_count(&document->mirror)) > 0;
+}
+
 /* ---- the loop */
 
 /* What a line begins with, and what reads the rest and answers it: false where the rest is not as wanted. */
@@ -429,6 +474,8 @@ static const struct { const char *head; bool (*answer)(Document *, const char **
     {"{\"cmd\":\"stop\"", stop},                  {"{\"cmd\":\"size\"", size},
     {"{\"cmd\":\"decos\",", decos},              {"{\"cmd\":\"snapshot\"", snapshot},
     {"{\"cmd\":\"close\",\"id\":", close_snapshot}, {"{\"cmd\":\"eol\",\"kind\":", eol},
+    {"{\"cmd\":\"mirror\"", mirror},              {"{\"cmd\":\"send\"", send_event},
+    {"{\"cmd\":\"deliver\",\"n\":", deliver},
 };
 
 static bool answer(Document *document, const char *line) {

@@ -110,6 +110,19 @@ def snapshot_shapes(part: int) -> Iterator[Shape]:
     yield shape("snapshot, close: pieces", f"{100_000 // part:,}", [*plain(MILLION), batch(places, 1)], lines)
 
 
+def event_shapes(part: int) -> Iterator[Shape]:
+    """Typed units, each of which is sent, and events that a mirror takes."""
+    count, send = 10_000 // part, '{"cmd":"send"}'
+    typed = [line for at in range(1_000, 1_000 + count) for line in (edit(op(at, at, "x")), send)]
+    yield shape("type a unit, send it", f"{count:,}", plain(1_000), typed, counted={"event": count})
+    alone = [line for at in range(1_000, 1_000 + count) for line in (edit(op(at, at, "x")), '{"cmd":"version"}')]
+    yield shape("type a unit, ask the version", f"{count:,}", plain(1_000), alone, counted={"edit": count})
+    count, draw = 1_000 // part, random.Random(23)
+    taken = [f'{{"cmd":"deliver","n":{n}}}' for n in range(1, count + 1)]
+    sent = [line for _ in range(count) for line in (batch([draw.randrange(40_000)], 1), send)]
+    yield shape("deliver", f"{count:,}", [*plain(50_000), '{"cmd":"mirror"}', *sent], taken)
+
+
 def played_shapes(part: int) -> Iterator[Shape]:
     """The lines that `textmodel play COUNT 7` makes by itself."""
     for count in (20_000, 100_000, 160_000):
@@ -118,6 +131,8 @@ def played_shapes(part: int) -> Iterator[Shape]:
 
 def all_shapes(part: int) -> Iterator[Shape]:
     """Every shape, made as it is asked for; each size is divided by this."""
-    groups = (decoration_shapes, level_shapes, edited_shapes, played_shapes, undo_shapes, snapshot_shapes, parse_shapes)
+    groups = (
+        decoration_shapes, level_shapes, edited_shapes, played_shapes, undo_shapes, snapshot_shapes, event_shapes, parse_shapes,
+    )  # fmt: skip
     for group in groups:
         yield from group(part)

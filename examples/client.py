@@ -37,8 +37,8 @@ to_json = json.JSONEncoder(ensure_ascii=False, allow_nan=False, separators=(",",
 class Refused(Exception):
     """The program answered `! REASON`, and changed nothing. After `memory` the same call may be tried again.
 
-    `reason` is the word of the reply, `command` what was asked, `line` its number among the lines of this session, from 1, and
-    `why` more about it in words, or None.
+    `reason` is the word of the reply, with its numbers where it has some, `command` what was asked, `line` its number among the
+    lines of this session, from 1, and `why` more about it in words, or None.
     """
 
     def __init__(self, reason: str, command: Command, line: int, why: str | None = None) -> None:

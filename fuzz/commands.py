@@ -217,6 +217,10 @@ COMMANDS: dict[str, Fields] = {
     "brackets": fields(**{"from": number, "to": number}),
     "match": fields(line=number, col=number),
     "level": fields(line=number, col=number),
+    "mirror": fields(),
+    "send": fields(),
+    "deliver": fields(n=number),
+    "mirrored": fields(n=number),
 }
 
 

@@ -17,6 +17,7 @@ MOST_LINE_BYTES = 2**24
 MOST_UNITS = 2**40 - 1
 MOST_DECORATIONS = 2**20
 MOST_SNAPSHOTS = 1_000
+MOST_SENT = 65_536
 MOST_STICK = 3
 BLANKS = b" \t\r"
 UNJUDGED = b"?"  # in place of a reply of which the flat document knows nothing
@@ -294,21 +295,74 @@ class Document:
         return ""
 
 
+@dataclass(slots=True, frozen=True)
+class Mirror:
+    """A text that follows a document, and the version whose text it has."""
+
+    version: int
+    text: Text
+
+
+@dataclass(slots=True, frozen=True)
+class Event:
+    """A change, by the version before it and the whole text after it."""
+
+    before: int
+    after: str
+
+
 class Flat:
     """Answers the lines of a script."""
 
     def __init__(self) -> None:
-        self.document = Document()
+        self.begin(Document())
+
+    def begin(self, document: Document) -> None:
+        self.document = document
+        self.follower: Mirror | None = None
+        self.sent: list[Event] = []
 
     def open(self, units: str, pairs: Pairs | None, kind: str | None) -> str:
         text = Text(normalized(units, kind or MIXED), kind or MIXED)
         if len(text.units) > MOST_UNITS:
             raise Refused("limit")
-        self.document = Document(text, Table(pairs) if pairs else STANDARD_TABLE)
+        self.begin(Document(text, Table(pairs) if pairs else STANDARD_TABLE))
         return self.document.sizes()
 
+    def mirror(self) -> str:
+        self.follower = Mirror(self.document.version, Text(self.document.text.units))
+        return f" {self.follower.version}"
+
+    def send(self) -> str:
+        if self.document.version == 1:
+            return " none"
+        if len(self.sent) >= MOST_SENT:
+            raise Refused("limit")
+        event = Event(self.document.version - 1, self.document.text.units)
+        self.sent.append(event)
+        return f" {len(self.sent)} {event.before}"
+
+    def deliver(self, n: int) -> str:
+        if not self.follower or not 1 <= n <= len(self.sent):
+            raise Refused("unknown")
+        have, event = self.follower.version, self.sent[n - 1]
+        if event.before < have:
+            return " old"
+        if event.before > have:
+            raise Refused(f"gap {have} {event.before}")
+        self.follower = Mirror(have + 1, Text(event.after))
+        return f" {have + 1} {len(event.after)} {len(self.follower.text.starts)}"
+
+    def mirrored(self, n: int) -> str:
+        if not self.follower:
+            raise Refused("unknown")
+        text = self.follower.text
+        if not 1 <= n <= len(text.starts):
+            raise Refused("range")
+        return f" {quoted(text.units[text.starts[n - 1] : text.ends[n - 1]])}"
+
     def call_named(self, name: str) -> Callable[..., str | None]:
-        return self.open if name == "open" else getattr(self.document, METHODS.get(name, name))
+        return getattr(self if name in OF_ALL else self.document, METHODS.get(name, name))
 
     def reply(self, line: bytes) -> bytes | None:
         """The reply to a line without its LF; None where it has none."""
@@ -325,3 +379,4 @@ class Flat:
 
 
 METHODS = {"version": "versions"}
+OF_ALL = {"open", "mirror", "send", "deliver", "mirrored"}

@@ -1,8 +1,9 @@
-"""One script of lines at the limits that a script can reach: bytes of a line, decorations, snapshots, open brackets."""
+"""One script of lines at the limits that a script can reach: bytes of a line, decorations, snapshots, brackets, events."""
 MOST_LINE_BYTES = 2**24
 MOST_DECORATIONS = 2**20
 MOST_SNAPSHOTS = 1_000
 MOST_OPEN = 300
+MOST_EVENTS = 65_536
 
 
 def padded(line: bytes, size: int) -> bytes:
@@ -73,5 +74,13 @@ def many_brackets() -> list[bytes]:
     return lines
 
 
+def many_events() -> list[bytes]:
+    lines = [b'{"cmd":"open","text":"ab"}', b'{"cmd":"send"}', b'{"cmd":"mirror"}']
+    lines += [b'{"cmd":"edit","ops":[{"at":[0,1],"text":"xy"}]}', *[b'{"cmd":"send"}'] * (MOST_EVENTS + 1)]
+    lines += [b'{"cmd":"deliver","n":%d}' % event for event in (MOST_EVENTS + 1, MOST_EVENTS, 1)]
+    lines += [b'{"cmd":"mirrored","n":1}', b'{"cmd":"open","text":""}', b'{"cmd":"send"}', b'{"cmd":"deliver","n":1}']
+    return lines
+
+
 def lines() -> list[bytes]:
-    return [*long_lines(), *many_snapshots(), *many_brackets(), *many_decorations()]
+    return [*long_lines(), *many_snapshots(), *many_brackets(), *many_events(), *many_decorations()]

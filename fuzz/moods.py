@@ -11,6 +11,7 @@ WEIGHTS = {
     "line": 3, "value": 3, "offset": 4, "position": 5, "stops": 3,
     "snapshot": 2, "read": 3, "close": 1,
     "brackets": 6, "match": 5, "level": 5,
+    "mirror": 0.3, "send": 4, "deliver": 5, "mirrored": 1.5,
     "open": 1, "hostile": 4,
 }  # fmt: skip
 
@@ -25,7 +26,7 @@ class Mood(NamedTuple):
     """How large the texts are, how often each command comes, and how texts are made."""
 
     units: int  # the length that edits keep to
-    weights: dict[str, int]
+    weights: dict[str, float]
     alphabets: list[list[str]]
     with_brackets: int  # how often a bracket stands among the characters
     depth: int = 0  # how many brackets a new text opens in its first line, or some fewer
@@ -39,11 +40,12 @@ class Mood(NamedTuple):
     at_endings: float = 0.03  # how often new decorations stand around one line ending
 
 
-def more(**weights: int) -> dict[str, int]:
+def more(**weights: float) -> dict[str, float]:
     return WEIGHTS | weights
 
 
-FAR = {name: 1 for name in WEIGHTS} | {"edit": 150, "undo": 4, "redo": 4, "decos": 2}  # long runs without a question
+FAR = {name: 1 for name in WEIGHTS} | {"edit": 150, "undo": 4, "redo": 4, "decos": 2, "mirror": 0.1}  # long runs without a question
+FOLLOWED = more(edit=30, undo=12, redo=12, eol=4, mirror=1, send=40, deliver=50, mirrored=15)
 ENDED = more(eol=8, undo=15, redo=8, stop=8, version=6, decorate=25, deco=12, decos=12, position=12, value=8, open=3)
 
 MOODS = {
@@ -64,6 +66,7 @@ MOODS = {
     "ragged": (2, Mood(400, more(brackets=4, match=15, level=25), [BREAKS, LETTERS], 2, ragged=9, is_apart=True)),
     "capped": (1, Mood(300, more(brackets=2, match=15, level=25), [BREAKS, LETTERS], 0, MOST_OPEN, 9, is_apart=True)),
     "far": (1, Mood(600, FAR, [BREAKS, LETTERS], 3, ragged=1, ops=150)),
+    "followed": (5, Mood(30, FOLLOWED, [LETTERS, BREAKS, PAIRED], 1)),
     "swings": (1, Mood(60, more(undo=15, redo=15, stop=15, level=10, eol=5), [LETTERS, BREAKS, PAIRED], 3, run=60)),
     "pieces": (1, Mood(1500, more(edit=60, snapshot=15, read=30, close=12), [PAIRED, LETTERS, BREAKS], 1, ops=150)),
     "large": (1, Mood(4000, more(brackets=4, open=2, stops=1, hostile=1), [LETTERS, LETTERS, BREAKS, PAIRED], 2)),

@@ -308,6 +308,20 @@ class Writer:
     def close(self) -> str:
         return f'{{"cmd":"close","id":{self.snapshot()}}}'
 
+    def deliver(self) -> str:
+        """Mostly the next event, if it was sent; else one that comes again, too early or out of order, or none."""
+        sent, follower = self.flat.sent, self.flat.follower
+        n = self.draw.randint(0, len(sent) + 1) if self.chance(0.1) else self.draw.randint(1, max(1, len(sent)))
+        next_ones = [at for at, event in enumerate(sent, 1) if follower and event.before == follower.version]
+        if next_ones and self.chance(0.7):
+            n = self.draw.choice(next_ones)
+        return f'{{"cmd":"deliver","n":{self.draw.choice(ODD_NUMBERS) if self.chance(0.01) else n}}}'
+
+    def mirrored(self) -> str:
+        lines = len(self.flat.follower.text.starts) if self.flat.follower else 1
+        n = self.draw.choice([0, lines + 1, *ODD_NUMBERS]) if self.chance(0.04) else self.draw.randint(1, lines)
+        return f'{{"cmd":"mirrored","n":{n}}}'
+
 
 def apart(spans: list[tuple[int, int]]) -> list[tuple[int, int]]:
     """The same places as spans that do not overlap, some of which touch."""
@@ -335,7 +349,9 @@ MAKERS: dict[str, Callable[[Writer], str]] = {
     "brackets": Writer.brackets,
     "read": Writer.read,
     "close": Writer.close,
-    **{name: bare(name) for name in ("undo", "redo", "stop", "size", "version", "snapshot")},
+    "deliver": Writer.deliver,
+    "mirrored": Writer.mirrored,
+    **{name: bare(name) for name in ("undo", "redo", "stop", "size", "version", "snapshot", "mirror", "send")},
     **{name: about(Writer.ask_line, name) for name in ("line", "stops")},
     **{name: about(Writer.ask_position, name) for name in ("offset", "match", "level")},
 }

@@ -120,6 +120,7 @@ class Header(Case):
         "tm_document": textmodel.CHandle,
         "tm_place": textmodel.CPlace,
         "tm_op": textmodel.COp,
+        "tm_pair": textmodel.CPair,
         "tm_new_decoration": textmodel.CNewDecoration,
         "tm_decoration": textmodel.CDecoration,
         "tm_bracket": textmodel.CBracket,
@@ -376,6 +377,15 @@ class Brackets(Case):
         for first, last in [(0, 1), (2, 1), (1, 3), (-1, 1)]:
             self.no_place(document.brackets, first, last)
 
+    def test_brackets_of_its_own(self):
+        with Document("begin ab end", brackets=[("begin", "end"), ("<", ">")]) as document:
+            self.assertEqual(document.match(1, 10), (1, 1, 5))
+        for brackets in ([], [("(", "(")], [("", ")")], [("a\n", "b")], [("x" * 33, "y")]):
+            with self.assertRaises(ValueError):
+                Document("", brackets=brackets)
+        with self.assertRaises(EncodingError):
+            Document(b"\xff", brackets=[("(", ")")])
+
     def test_many(self):
         document = self.document("()" * 1000)
         self.assertEqual([it.column for it in document.brackets(1, 1)], [*range(1, 2001)])
@@ -531,6 +541,7 @@ class Caller:
 
     REASONS = {PlaceError: "range", MissingError: "unknown", OverlapError: "overlap", LimitError: "limit"}
     STATES = "ocux"
+    LINES_ALONE = {"mirror", "send", "deliver", "mirrored"}  # what the module has no call for
 
     def __init__(self, draw):
         self.draw = draw
@@ -539,7 +550,7 @@ class Caller:
 
     def reply(self, line, command):
         """The reply to a line, whose command is told where it is one. One in ten is answered as a line."""
-        if not command or self.draw.random() < 0.1:
+        if not command or command[0] in self.LINES_ALONE or self.draw.random() < 0.1:
             return self.answer(line, command)
         name, values = command
         try:

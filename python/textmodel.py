@@ -235,6 +235,10 @@ class COp(ctypes.Structure):
     _fields_ = [("start", U64), ("end", U64), ("units", U64), ("force", ctypes.c_bool)]
 
 
+class CPair(ctypes.Structure):
+    _fields_ = [("opening", U64), ("closing", U64)]
+
+
 class CNewDecoration(ctypes.Structure):
     _fields_ = [("start", U64), ("end", U64), ("stick", U64), ("collapse", ctypes.c_bool)]
 
@@ -271,6 +275,7 @@ CALLS = {
     "tm_free": [],
     "tm_open": [*TEXT, NUMBER],
     "tm_open_utf8": [*TEXT, NUMBER, ADDRESS],
+    "tm_open_with": [*TEXT, NUMBER, *TEXT, *TEXT],
     "tm_edit": [U64, U64, *TEXT, FLAG],
     "tm_edit_at": [U64, U64, U64, U64, *TEXT, FLAG],
     "tm_batch": [*TEXT, *TEXT],
@@ -341,6 +346,13 @@ def encoded(text: str) -> bytes:
     return text.encode(UTF_16, LONE)
 
 
+def decoded(text: bytes) -> str:
+    try:
+        return text.decode("utf-8")
+    except UnicodeDecodeError as error:
+        raise EncodingError(f"no UTF-8 at byte {error.start}", error.start) from None
+
+
 def number(value: int, what: str, error: Type[Exception] = PlaceError) -> int:
     """A number that can cross."""
     found = operator.index(value)
@@ -407,7 +419,8 @@ class Document:
     """A text, empty at first, or this one.
 
     `eol` is None where the line endings are as they come: LF, CR, and CR LF. `"lf"` and `"crlf"` are kinds of document whose
-    text, and all that is put into it, gets these endings. Brackets are `()`, `[]` and `{}`.
+    text, and all that is put into it, gets these endings. `brackets` are 1 to 64 pairs of an opening and a closing text, each of 1
+    to 32 units without CR or LF, all of them distinct; ValueError where they are not so. None are `()`, `[]` and `{}`.
 
     A `str` may have lone surrogates; `bytes` are UTF-8, and EncodingError tells where they are none. LimitError, where the
     text would have 2**40 units or more.
@@ -416,20 +429,27 @@ class Document:
     ClosedError.
     """
 
-    def __init__(self, text: Union[str, bytes] = "", eol: Optional[str] = None) -> None:
+    def __init__(
+        self,
+        text: Union[str, bytes] = "",
+        eol: Optional[str] = None,
+        brackets: Optional[Sequence[Tuple[str, str]]] = None,
+    ) -> None:
         kind = kind_number(eol)
         handle = CHandle()
         self._at, self._thread = ctypes.byref(handle), get_ident()
         check(LIBRARY.tm_make(self._at), "a document")
         self._end = weakref.finalize(self, LIBRARY.tm_free, self._at)
         try:
-            self._open(text, kind)
+            self._open(text, kind, brackets)
         except BaseException:
             self.close()
             raise
 
-    def _open(self, text: Union[str, bytes], kind: int) -> None:
-        if isinstance(text, bytes):
+    def _open(self, text: Union[str, bytes], kind: int, brackets: Optional[Sequence[Tuple[str, str]]]) -> None:
+        if brackets is not None:
+            status = self._open_with(decoded(text) if isinstance(text, bytes) else text, kind, brackets)
+        elif isinstance(text, bytes):
             bad = U64()
             status = LIBRARY.tm_open_utf8(self._at, text, len(text), kind, ctypes.byref(bad))
             if status == ENCODING:
@@ -438,6 +458,16 @@ class Document:
             data = encoded(text)
             status = LIBRARY.tm_open(self._at, data, len(data) // 2, kind)
         check(status, "the text")
+
+    def _open_with(self, text: str, kind: int, brackets: Sequence[Tuple[str, str]]) -> int:
+        data, joined = encoded(text), encoded("".join(opening + closing for opening, closing in brackets))
+        pairs = array(CPair, [CPair(units(opening), units(closing)) for opening, closing in brackets])
+        status = LIBRARY.tm_open_with(
+            self._at, data, len(data) // 2, kind, pairs, len(brackets), joined, len(joined) // 2
+        )
+        if status == RANGE:
+            raise ValueError("the brackets are none")
+        return status
 
     def close(self) -> None:
         """Frees the document; nothing is done where that was done before."""

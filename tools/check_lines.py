@@ -415,6 +415,10 @@ COMMANDS: dict[str, Fields] = {
     "read": fields(id=number, count=number),
     "close": fields(id=number),
     "stops": fields(n=number),
+    "mirror": fields(),
+    "send": fields(),
+    "deliver": fields(n=number),
+    "mirrored": fields(n=number),
 }
 
 

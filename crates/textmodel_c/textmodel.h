@@ -56,6 +56,12 @@ typedef struct tm_op {
   bool force;
 } tm_op;
 
+/* How many units the opening and the closing text of a pair of brackets have. */
+typedef struct tm_pair {
+  uint64_t opening;
+  uint64_t closing;
+} tm_pair;
+
 /* `stick` is 0 where it grows at both ends, 1 at none, 2 by what is typed before it only, 3 after it only. */
 typedef struct tm_new_decoration {
   uint64_t start;
@@ -100,11 +106,15 @@ uint32_t tm_free(tm_document *handle);
 
 /* ---- Opened and changed */
 
-/* A new document with this text, in place of the old one. `kind`: 0 for line endings as they come, 1 for LF, 2 for CR LF,
- * which the text then gets. RANGE where it is another number, LIMIT where the text would be too long, MEMORY. */
+/* A new document with this text and the brackets `()`, `[]` and `{}`, in place of the old one. `kind`: 0 for line endings as
+ * they come, 1 for LF, 2 for CR LF, which the text then gets. The mirror and the events of `tm_answer` go with the old one. RANGE where it is another number, LIMIT where the text would be too long, MEMORY. */
 uint32_t tm_open(tm_document *handle, const uint16_t *text, size_t text_len, uint32_t kind);
 
-/* The same of a text in UTF-8. ENCODING where it is none: `bad` is then how many bytes stand before the first fault. */
+/* The same with 1 to 64 pairs of brackets, whose texts stand one after another in `brackets`: each has 1 to 32 units without CR or
+ * LF, and all are distinct. RANGE also where they are not so, or do not fill it. */
+uint32_t tm_open_with(tm_document *handle, const uint16_t *text, size_t text_len, uint32_t kind, const tm_pair *pairs, size_t pairs_len, const uint16_t *brackets, size_t brackets_len);
+
+/* `tm_open` of a text in UTF-8. ENCODING where it is none: `bad` is then how many bytes stand before the first fault. */
 uint32_t tm_open_utf8(tm_document *handle, const uint8_t *text, size_t text_len, uint32_t kind, uint64_t *bad);
 
 /* The text takes the place of the units from `start` up to `end`. RANGE, LIMIT, MEMORY. */

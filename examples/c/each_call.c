@@ -74,6 +74,14 @@ static void text(tm_document *d) {
   STATUS(tm_line_utf8(d, 2, bytes, 16, &n), TM_OK);
   EQUAL(n, 4);
   EQUAL(memcmp(bytes, "\xF0\x9F\x98\x80", 4), 0);
+  static const tm_pair pairs[] = {{5, 3}, {1, 1}};
+  uint64_t level;
+  STATUS(tm_open_with(d, u"begin < end", 11, 0, pairs, 2, u"beginend<>", 9), TM_RANGE);
+  STATUS(tm_open_with(d, u"begin < end", 11, 0, pairs, 2, u"beginend<<", 10), TM_RANGE);
+  STATUS(tm_open_with(d, u"begin < end", 11, 0, NULL, 0, NULL, 0), TM_RANGE);
+  STATUS(tm_open_with(d, u"begin < end", 11, 0, pairs, 2, u"beginend<>", 10), TM_OK);
+  STATUS(tm_level(d, 1, 8, &level), TM_OK);
+  EQUAL(level, 2);
   STATUS(tm_open_utf8(d, (const uint8_t *)"ab\xFF", 3, 0, &bad), TM_ENCODING);
   EQUAL(bad, 2);
   STATUS(tm_open_utf8(d, (const uint8_t *)"f(x)\n[y]\n", 9, 1, &bad), TM_OK);
@@ -185,7 +193,7 @@ int main(void) {
   STATUS(tm_make(&d), TM_OK);
   STATUS(tm_free(&d), TM_OK);
   STATUS(tm_free(&d), TM_EMPTY);
-  EQUAL(tm_version(), 100);
+  EQUAL(tm_version(), 200);
   puts(failed ? "failed" : "ok");
   return failed;
 }

@@ -41,6 +41,11 @@ static uint32_t opened_utf8(tm_document *d) {
   return tm_open_utf8(d, (const uint8_t *)"a{b}\nc(d)\n", 10, 1, &bad);
 }
 
+static uint32_t opened_with(tm_document *d) {
+  static const tm_pair pairs[] = {{2, 2}, {1, 1}};
+  return tm_open_with(d, u"<<a>>\n(b)", 9, 2, pairs, 2, u"<<>>()", 6);
+}
+
 static uint32_t edited(tm_document *d) { return tm_edit(d, 1, 2, u"[[(", 3, false); }
 
 static uint32_t edited_at(tm_document *d) { return tm_edit_at(d, 2, 1, 2, 2, u"z\n(", 3, false); }
@@ -104,20 +109,25 @@ static uint32_t snapshot(tm_document *d) {
   return tm_snapshot(d, &id);
 }
 
-static uint32_t answered(tm_document *d) {
-  static const char line[] = "{\"cmd\":\"edit\",\"ops\":[{\"start\":1,\"end\":2,\"text\":\"(x\"}]}";
+static uint32_t answer(tm_document *d, const char *line) {
   uint8_t reply[64];
   uint64_t len, count;
-  uint32_t status = tm_answer(d, (const uint8_t *)line, sizeof line - 1, &len);
+  uint32_t status = tm_answer(d, (const uint8_t *)line, strlen(line), &len);
   if (status == TM_OK) status = tm_reply(d, 0, reply, 64, &count);
   return status == TM_OK && memcmp(reply, "! memory", 8) == 0 ? TM_MEMORY : status;
 }
+
+static uint32_t answered(tm_document *d) { return answer(d, "{\"cmd\":\"edit\",\"ops\":[{\"at\":[1,2],\"text\":\"(x\"}]}"); }
+static uint32_t mirror(tm_document *d) { return answer(d, "{\"cmd\":\"mirror\"}"); }
+static uint32_t sent(tm_document *d) { return answer(d, "{\"cmd\":\"send\"}"); }
+static uint32_t delivered(tm_document *d) { return answer(d, "{\"cmd\":\"deliver\",\"n\":1}"); }
 
 static uint32_t (*const calls[])(tm_document *) = {
     opened,       edited,      edited_at,       many_ops,     decorated, all_decorations, all_brackets,
     matched,      level,       snapshot,        long_text,    matched,   level,           undone,
     redone,       undone,      cursor_stops,    line_utf8,    answered,  other_endings,   all_decorations,
     all_brackets, opened_utf8, cursor_stops,    edited,       snapshot,  answered,        undone,
+    opened_with,  level,       mirror,          answered,     sent,      delivered,
 };
 enum { CALLS = sizeof calls / sizeof *calls };
 

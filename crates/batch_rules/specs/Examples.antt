@@ -1,9 +1,10 @@
 -- Worked examples of the definitions.
-use Rattle.std.specs.Prelude.{◌≡◌, ℕ, [], ◌∷◌, List, codes, true, false, Ok, Err, refl}
+use Rattle.std.specs.Prelude.{◌≡◌, ℕ, [], ◌∷◌, List, codes, true, false, Some, None, Ok, Err, refl}
 use Rattle.unit_text.specs.declared.kind.Kind.TheVariants.{Mixed, Crlf}
 use Rattle.text_rules.specs.declared.Op.{Op}
 use Rattle.batch_rules.specs.Refusals as refused
 use Rattle.batch_rules.specs.Batches.{sorted_ops, overlap, applied, checked_batch, inverse_of, edited_backwards, text_units}
+use Rattle.batch_rules.specs.Events.{first_misfit, after_batches}
 
 abbrev op : ℕ → ℕ → List ℕ → Op
 op start end text = record { span = record { start = start; end = end }; text = text; force = false }
@@ -51,3 +52,13 @@ texts_of_the_kind = refl
 
 a_place_inside_an_ending : checked_batch Crlf (codes "a\r\nb") (op 2 2 (codes "x") ∷ []) ≡ Err refused.range
 a_place_inside_an_ending = refl
+
+-- `X` before `ab`, and then `Y` at the end of what came of it
+two_batches_in_turn : after_batches (codes "ab") ((op 0 0 (codes "X") ∷ []) ∷ (op 3 3 (codes "Y") ∷ []) ∷ []) ≡ codes "XabY"
+two_batches_in_turn = refl
+
+each_fits_the_text_of_its_moment : first_misfit (codes "ab") ((op 0 0 (codes "X") ∷ []) ∷ (op 3 3 (codes "Y") ∷ []) ∷ []) ≡ None
+each_fits_the_text_of_its_moment = refl
+
+the_second_ends_above_the_text : first_misfit (codes "ab") ((op 0 1 [] ∷ []) ∷ (op 1 2 [] ∷ []) ∷ []) ≡ Some 2
+the_second_ends_above_the_text = refl

@@ -1,3 +1,4 @@
 pub mod Refusals
 pub mod Batches
+pub mod Events
 mod Examples

@@ -1,6 +1,6 @@
 -- The flat document: one list of units and one of decorations, changed by the rule of each call. What can be undone is
 -- kept as whole texts.
-use Rattle.std.specs.Prelude.{ℕ, ◌+◌, ◌-◌, ◌||◌, Bool, true, false, nat_lt, nat_le, if◌then◌else◌, List, [], ◌∷◌, length, map, take, drop, Option, Some, None, Result, Ok, Err}
+use Rattle.std.specs.Prelude.{ℕ, ◌+◌, ◌-◌, ◌||◌, Bool, true, false, nat_lt, nat_le, if◌then◌else◌, List, [], ◌∷◌, ◌++◌, length, map, take, drop, Option, Some, None, option_map, Result, Ok, Err}
 use Rattle.text_lengths.specs.declared.Position.{Position}
 use Rattle.text_lengths.specs.declared.Span.{Span}
 use Rattle.text_lengths.specs.declared.TheConstants.{GREATEST_NUMBER}
@@ -14,6 +14,7 @@ use Rattle.text_rules.specs.Edits.{is_bad_span}
 use Rattle.batch_rules.specs.Refusals.{BatchRefusal}
 use Rattle.batch_rules.specs.Refusals as refused
 use Rattle.batch_rules.specs.Batches.{most_units, checked_batch, applied_from, inverse_from}
+use Rattle.batch_rules.specs.Events.{EventState, whole_op}
 use Rattle.bracket_rules.specs.Table.{Table, standard_table}
 use Rattle.decoration_rules.specs.declared.Edit.{Edit}
 use Rattle.decoration_rules.specs.declared.NewDeco.{NewDeco}
@@ -49,6 +50,12 @@ pub record FlatChange : Type 0 where
   pub deed : Deed
   pub after : FlatText
 
+-- What the last change did: the whole text before it, and the batches that led from that to the text of now, in the order in
+-- which they were carried out. Which ops force decorations is told as it was when they were first made.
+pub record LastChange : Type 0 where
+  pub before : List ℕ
+  pub batches : List (List Op)
+
 pub record FlatState : Type 0 where
   pub units : List ℕ
   -- all line endings are of this kind
@@ -64,6 +71,8 @@ pub record FlatState : Type 0 where
   pub history : Stack FlatChange
   -- the texts of earlier moments that are read from their fronts
   pub shelf : FlatShelf
+  -- an edit, other line endings, an undo or a redo; none in a new document
+  pub last : Option LastChange
 
 -- a new document with this text, these brackets and this kind of line ending
 abbrev pub new_document : List ℕ → Table → Kind → FlatState
@@ -76,6 +85,7 @@ new_document units table kind = record {
   table = table;
   history = empty_stack;
   shelf = empty_shelf;
+  last = None;
 }
 
 -- the document before any text was opened
@@ -100,6 +110,20 @@ edit_of op = record { start = op.span.start; end = op.span.end; units = length o
 abbrev pub carried_by : Decorations → List Op → Decorations
 carried_by d ops = record d { marks = carried d.marks (map edit_of ops) }
 
+-- the batch that a deed was
+abbrev pub ops_on : FlatText → Deed → FlatText → List Op
+ops_on before (batch ops) after = ops
+ops_on before recast after = whole_op before.units after.units
+
+-- the batch that takes it back
+abbrev pub ops_back : FlatText → Deed → FlatText → List Op
+ops_back before (batch ops) after = inverse_from 0 0 before.units ops
+ops_back before recast after = whole_op after.units before.units
+
+-- these batches led from the text of the document to a new one
+abbrev pub leading : FlatState → List (List Op) → Option LastChange
+leading f batches = Some (record { before = f.units; batches = batches })
+
 -- the next version, with this text, after a deed that took it there
 abbrev pub after_deed : FlatState → Deed → FlatText → Decorations → FlatState
 after_deed f deed text decorations = record f {
@@ -109,6 +133,7 @@ after_deed f deed text decorations = record f {
   alternative = f.version + 1;
   decorations = decorations;
   history = pushed f.history (record { before = text_now f; deed = deed; after = text }) f.alternative (f.version + 1);
+  last = leading f (ops_on (text_now f) deed text ∷ []);
 }
 
 -- after a batch of ops that were checked
@@ -202,15 +227,25 @@ abbrev pub carried_on : Decorations → List FlatChange → Decorations
 carried_on d [] = d
 carried_on d (change ∷ changes) = carried_on (made_again d change.before change.deed change.after) changes
 
--- the next version, with the text and the alternative version of another moment
-abbrev pub returned : FlatState → FlatText → ℕ → Decorations → Stack FlatChange → FlatState
-returned f text alternative decorations history = record f {
+-- the batches that take the changes back, the last change first
+abbrev pub batches_back : List FlatChange → List (List Op)
+batches_back [] = []
+batches_back (change ∷ changes) = batches_back changes ++ ops_back change.before change.deed change.after ∷ []
+
+-- the batches of the changes, in their order
+abbrev pub batches_on : List FlatChange → List (List Op)
+batches_on changes = map (λ (change : FlatChange). ops_on change.before change.deed change.after) changes
+
+-- the next version, with the text and the alternative version of another moment, to which these batches led
+abbrev pub returned : FlatState → FlatText → ℕ → Decorations → Stack FlatChange → List (List Op) → FlatState
+returned f text alternative decorations history batches = record f {
   units = text.units;
   kind = text.kind;
   version = f.version + 1;
   alternative = alternative;
   decorations = decorations;
   history = history;
+  last = leading f batches;
 }
 
 abbrev pub unless_last_version : FlatState → FlatState → Result (Option FlatState) FlatRefusal
@@ -220,7 +255,8 @@ abbrev pub undone_step : FlatState → List (Step FlatChange) → Result (Option
 undone_step f [] = Ok None
 undone_step f (step ∷ steps) =
     unless_last_version f
-    (returned f (text_before (text_now f) step.changes) step.alt_before (carried_back f.decorations step.changes) (undone f.history))
+    (returned f (text_before (text_now f) step.changes) step.alt_before (carried_back f.decorations step.changes)
+    (undone f.history) (batches_back step.changes))
 
 -- back to the text before the last step; nothing where there is none
 abbrev pub flat_undo : FlatState → Result (Option FlatState) FlatRefusal
@@ -230,11 +266,16 @@ abbrev pub redone_step : FlatState → List (Step FlatChange) → Result (Option
 redone_step f [] = Ok None
 redone_step f (step ∷ steps) =
     unless_last_version f
-    (returned f (text_after (text_now f) step.changes) step.alt_after (carried_on f.decorations step.changes) (redone f.history))
+    (returned f (text_after (text_now f) step.changes) step.alt_after (carried_on f.decorations step.changes)
+    (redone f.history) (batches_on step.changes))
 
 -- on to the text after the step that was undone last; nothing where there is none
 abbrev pub flat_redo : FlatState → Result (Option FlatState) FlatRefusal
 flat_redo f = redone_step f f.history.redo
+
+-- the last change as an event by which another text can follow; none in a new document
+abbrev pub flat_event : FlatState → Option EventState
+flat_event f = option_map (λ (last : LastChange). record { from = f.version - 1; batches = last.batches }) f.last
 
 -- why decorations are not changed
 abbrev pub decoration_refusal : DecoRefusal → FlatRefusal

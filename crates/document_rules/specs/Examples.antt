@@ -15,7 +15,7 @@ use Rattle.document_rules.specs.Snapshots.{flat_snapshot, flat_peek_of, flat_ski
 use Rattle.document_rules.specs.Stops.{flat_stops}
 use Rattle.document_rules.specs.Brackets.{flat_brackets, flat_match, flat_level}
 use Rattle.document_rules.specs.Refusals.{FlatRefusal, unknown, range, overlap, limit}
-use Rattle.document_rules.specs.Document.{FlatText, FlatState, FlatChange, batch, recast, flat_open, flat_eol, new_document, after_batch, flat_edit, flat_undo, flat_redo, flat_decorate, flat_deco, flat_decos, carried_on, flat_line, flat_value, flat_position, flat_offset, flat_line_count, greatest_version}
+use Rattle.document_rules.specs.Document.{FlatText, FlatState, FlatChange, batch, recast, flat_open, flat_eol, new_document, after_batch, flat_edit, flat_undo, flat_redo, flat_decorate, flat_deco, flat_decos, carried_on, flat_line, flat_value, flat_position, flat_offset, flat_line_count, flat_event, greatest_version}
 
 abbrev op : ℕ → ℕ → List ℕ → Op
 op start end text = record { span = record { start = start; end = end }; text = text; force = false }
@@ -23,13 +23,17 @@ op start end text = record { span = record { start = start; end = end }; text = 
 abbrev mixed : List ℕ → FlatText
 mixed units = record { units = units; kind = Mixed }
 
--- a text of these two versions, with what can be undone and redone
-abbrev at_version : ℕ → ℕ → List ℕ → Stack FlatChange → FlatState
-at_version version alternative text history =
-    record (new_document text standard_table Mixed) { version = version; alternative = alternative; history = history }
+-- a text of these two versions, to which these batches led from another, with what can be undone and redone
+abbrev at_version : ℕ → ℕ → List ℕ → List (List Op) → List ℕ → Stack FlatChange → FlatState
+at_version version alternative before batches text history = record (new_document text standard_table Mixed) {
+  version = version;
+  alternative = alternative;
+  history = history;
+  last = Some (record { before = before; batches = batches });
+}
 
 an_edit_over_a_break : flat_edit (new_document (codes "ab\ncd") standard_table Mixed) (op 1 4 (codes "X") ∷ [])
-    ≡ Ok (at_version 2 2 (codes "aXd") (record {
+    ≡ Ok (at_version 2 2 (codes "ab\ncd") ((op 1 4 (codes "X") ∷ []) ∷ []) (codes "aXd") (record {
       undo = record {
         changes = record { before = mixed (codes "ab\ncd"); deed = batch (op 1 4 (codes "X") ∷ []); after = mixed (codes "aXd") } ∷ [];
         alt_before = 1;
@@ -57,14 +61,16 @@ one_edit = after_batch (new_document (codes "a") standard_table Mixed) (op 1 1 (
 
 -- ... and an undo has taken it back
 abbrev undone_edit : FlatState
-undone_edit = at_version 3 1 (codes "a") (record { undo = []; redo = one_edit.history.undo; is_open = false })
+undone_edit = at_version 3 1 (codes "ab") ((op 1 2 [] ∷ []) ∷ []) (codes "a")
+    (record { undo = []; redo = one_edit.history.undo; is_open = false })
 
 an_undo_goes_back_to_the_old_text : flat_undo one_edit
     ≡ Ok (Some undone_edit)
 an_undo_goes_back_to_the_old_text = refl
 
 a_redo_makes_the_step_again : flat_redo undone_edit
-    ≡ Ok (Some (at_version 4 2 (codes "ab") (record { undo = one_edit.history.undo; redo = []; is_open = false })))
+    ≡ Ok (Some (at_version 4 2 (codes "a") ((op 1 1 (codes "b") ∷ []) ∷ []) (codes "ab")
+    (record { undo = one_edit.history.undo; redo = []; is_open = false })))
 a_redo_makes_the_step_again = refl
 
 -- two edits without a stop are one step
@@ -72,8 +78,19 @@ abbrev two_edits : FlatState
 two_edits = after_batch one_edit (op 2 2 (codes "c") ∷ [])
 
 an_undo_takes_back_the_whole_step : flat_undo two_edits
-    ≡ Ok (Some (at_version 4 1 (codes "a") (record { undo = []; redo = two_edits.history.undo; is_open = false })))
+    ≡ Ok (Some (at_version 4 1 (codes "abc") ((op 2 3 [] ∷ []) ∷ (op 1 2 [] ∷ []) ∷ []) (codes "a")
+    (record { undo = []; redo = two_edits.history.undo; is_open = false })))
 an_undo_takes_back_the_whole_step = refl
+
+a_new_document_has_no_event : flat_event (new_document (codes "a") standard_table Mixed) ≡ None
+a_new_document_has_no_event = refl
+
+-- the second edit alone, from the version before it
+the_event_of_an_edit : flat_event two_edits ≡ Some (record { from = 2; batches = (op 2 2 (codes "c") ∷ []) ∷ [] })
+the_event_of_an_edit = refl
+
+the_event_of_an_undo : flat_event undone_edit ≡ Some (record { from = 2; batches = (op 1 2 [] ∷ []) ∷ [] })
+the_event_of_an_undo = refl
 
 no_undo_at_the_last_version : flat_undo (record one_edit { version = greatest_version }) ≡ Err limit
 no_undo_at_the_last_version = refl
@@ -243,7 +260,7 @@ a_text_gets_its_endings = refl
 
 -- ... and then with CR LF
 abbrev three_pairs : FlatState
-three_pairs = record (at_version 2 2 (codes "a\r\nb\r\nc") (record {
+three_pairs = record (at_version 2 2 (codes "a\nb\nc") ((op 0 5 (codes "a\r\nb\r\nc") ∷ []) ∷ []) (codes "a\r\nb\r\nc") (record {
   undo = record {
     changes = record {
       before = record { units = codes "a\nb\nc"; kind = Lf };
@@ -274,6 +291,7 @@ abbrev undone_endings : FlatState
 undone_endings = record three_lines {
   version = 3;
   history = record { undo = []; redo = three_pairs.history.undo; is_open = false };
+  last = Some (record { before = codes "a\r\nb\r\nc"; batches = (op 0 7 (codes "a\nb\nc") ∷ []) ∷ [] });
 }
 
 endings_are_taken_back : flat_undo three_pairs ≡ Ok (Some undone_endings)

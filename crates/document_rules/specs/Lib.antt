@@ -5,4 +5,5 @@ pub mod Paired
 pub mod Brackets
 pub mod Snapshots
 pub mod Stops
+pub mod Columns
 mod Examples

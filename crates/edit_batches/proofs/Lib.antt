@@ -1,3 +1,4 @@
 pub mod Keys
 pub mod Passes
 pub mod TextPasses
+pub mod Lengths

@@ -2,17 +2,19 @@
 
 ghost use Rattle.std.specs.Prelude.{◌≡◌, ℕ, ◌+◌, ◌<◌, ◌≤◌, ◌^◌, length, Err, IfOk, List};
 ghost use Rattle.batch_rules.specs.Batches.{most_units, applied_from, applied, checked_batch, ops_in, sorted_ops, inverse_from, text_units, StandFrom, FollowFrom};
+ghost use Rattle.batch_rules.specs.Events.{length_after, whole_op};
 ghost use Rattle.edit_batches.specs.Outcomes.{Checks};
 
-use crate::checks::{has_bad_span, is_too_long, overlap};
+use crate::checks::{has_bad_span, is_too_long, length_after, overlap};
 use crate::inverse::inverse_of;
 use crate::kinds::ops_in;
 use crate::order::sorted_ops;
 use batch_rules::BatchError;
 use std::alloc::{AllocError, Global};
 use std::marker::Model;
+use text_lengths::Span;
 use text_rules::Op;
-use unit_text::Flat;
+use unit_text::{Flat, Units};
 
 /// Edits of one text, in their order and without overlap. Contracts see the list of them.
 #[derive(Drop)]
@@ -91,4 +93,48 @@ impl Batch {
     {
         self.ops.iter().map(|op| op.text.len()).sum()
     }
+
+    /// The batch of one edit that puts these units in the place of a text of so many units.
+    pub fn of_whole(alloc: Global, len: u64, units: &[u16]) -> Result<Batch, AllocError>
+        ensures { (x : List ℕ) → length x ≡ len → IfOk result (λ b. b ≡ whole_op x units.now) }
+    {
+        let op = Op {
+            span: Span { start: 0, end: len },
+            text: Units::copy_of(alloc, units)?,
+            force: false,
+        };
+        let mut ops = Vec::with_capacity(alloc, 1)?;
+        ops.push(op)?;
+        Ok(Batch { ops })
+    }
+
+    /// A copy of the batch and of its texts.
+    pub fn copied(&self, alloc: Global) -> Result<Batch, AllocError>
+        ensures { IfOk result (λ b. b ≡ self.now) }
+    {
+        let ops = copies_of(alloc, &self.ops)?;
+        Ok(Batch { ops })
+    }
+
+    /// How long a text of so many units is after the batch; None where one of the edits ends above its length, or the new text would
+    /// have more units than a text may have.
+    pub fn length_after(&self, len: u64) -> Option<u64>
+        ensures { (x : List ℕ) → length x ≡ len → result ≡ length_after x self.now }
+    {
+        length_after(len, &self.ops)
+    }
+}
+
+fn copies_of(alloc: Global, ops: &[Op]) -> Result<Vec<Op>, AllocError>
+    ensures { IfOk result (λ copies. copies.items ≡ ops.now) }
+{
+    let mut copies = Vec::with_capacity(alloc, ops.len())?;
+    for op in ops {
+        copies.push(Op {
+            span: op.span,
+            text: Units::copy_of(alloc, op.text.as_slice())?,
+            force: op.force,
+        })?;
+    }
+    Ok(copies)
 }

@@ -1,7 +1,8 @@
 //! The tests of a batch.
 
-ghost use Rattle.std.specs.Prelude.{◌≡◌, nat_lt, length};
-ghost use Rattle.batch_rules.specs.Batches.{most_units, has_bad_span, overlap, applied_from, StandFrom};
+ghost use Rattle.std.specs.Prelude.{◌≡◌, nat_lt, length, List, ℕ};
+ghost use Rattle.batch_rules.specs.Batches.{most_units, has_bad_span, overlap, applied_from, StandFrom, FollowFrom};
+ghost use Rattle.batch_rules.specs.Events.{length_after};
 
 use text_rules::{MOST_TEXT_UNITS, Op, is_bad_span};
 use unit_text::Flat;
@@ -31,15 +32,26 @@ pub(crate) fn is_too_long<F: Flat>(ops: &[Op], text: &F) -> bool
     requires { StandFrom 0 (F.units text.now) ops.now }
     ensures { result ≡ nat_lt most_units (length (applied_from 0 (F.units text.now) ops.now)) }
 {
+    length_after(text.len(), ops).is_none()
+}
+
+/// How long a text of so many units is after the edits, which are in order and apart; None where one ends above its length,
+/// or the new text would have more units than a text may have.
+pub(crate) fn length_after(len: u64, ops: &[Op]) -> Option<u64>
+    requires { FollowFrom 0 ops.now }
+    ensures { (x : List ℕ) → length x ≡ len → result ≡ length_after x ops.now }
+{
     let mut at = 0;
     let mut room = MOST_TEXT_UNITS;
     for op in ops {
-        let kept = op.span.start - at;
-        if kept > room || op.text.len() > room - kept {
-            return true;
+        if op.span.end > len {
+            return None;
         }
-        room -= kept + op.text.len();
+        room = room
+            .checked_sub(op.span.start - at)?
+            .checked_sub(op.text.len())?;
         at = op.span.end;
     }
-    text.len() - at > room
+    let left = room.checked_sub(len - at)?;
+    Some(MOST_TEXT_UNITS - left)
 }

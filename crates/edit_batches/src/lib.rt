@@ -3,11 +3,13 @@
 
 mod batch;
 mod checks;
+mod event;
 mod inverse;
 mod kinds;
 mod order;
 
 pub use batch::Batch;
 pub use batch_rules::BatchError;
+pub use event::Event;
 pub use order::sorted_ops;
 pub use text_rules::{MOST_TEXT_UNITS, Op};

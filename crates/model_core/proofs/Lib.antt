@@ -1,5 +1,7 @@
 pub mod LineLemmas
 pub mod Histories
+pub mod LastChanges
+pub mod Taking
 pub mod Editing
 pub mod Stepping
 pub mod Inside

@@ -1,5 +1,5 @@
 -- A step that is undone or redone: what it leaves, and what the flat document has then.
-use Rattle.std.proofs.Common.{◌≡◌, ℕ, ◌+◌, ◌<◌, ◌≤◌, Bool, List, [], ◌∷◌, length, slice_get, Option, Result, Some, None, Ok, Err, is_some, refl, ap, sym, subst, ◌∙◌, arith}
+use Rattle.std.proofs.Common.{◌≡◌, ℕ, ◌+◌, ◌<◌, ◌≤◌, Bool, List, [], ◌∷◌, ◌++◌, length, slice_get, Option, Result, Some, None, Ok, Err, is_some, refl, ap, sym, subst, ◌∙◌, arith}
 use Rattle.std.specs.Prelude.{sum_by}
 use Rattle.std.proofs.lemmas.List.Sums.{sum_by-cons}
 use Rattle.std.specs.Option.{option_map}
@@ -14,28 +14,40 @@ use Rattle.document_rules.specs.Paired.{IsPairedState}
 use Rattle.document_rules.proofs.PairedStates.{IsPairedState-undo, IsPairedState-redo}
 use Rattle.document_rules.specs.Refusals.{limit}
 use Rattle.snapshot_rules.specs.Snapshots.{FlatShelf}
-use Rattle.document_rules.specs.Document.{FlatText, FlatChange, FlatState, greatest_version}
+use Rattle.document_rules.specs.Document.{FlatText, FlatChange, FlatState, greatest_version, batches_back, batches_on}
 use Rattle.model_page.specs.declared.change.Change.{Change}
 use Rattle.model_page.specs.declared.change.Change.TheVariants.{Ops, Endings}
 use Rattle.model_page.specs.declared.change.Way.{Way}
 use Rattle.model_page.specs.declared.change.Way.TheVariants.{Back, On}
 use Rattle.model_core.specs.Ways.{next_steps, passed, alternative_after, flat_move}
-use Rattle.model_page.specs.Ways.{text_by, changes_by, LeadBy, decorations_by, marked_along, marked_step}
+use Rattle.model_page.specs.Ways.{text_by, changes_by, LeadBy, decorations_by, batches_by, marked_along, marked_step}
 use Rattle.model_core.specs.Prepared.{ops_along, next_op_count, deed_marking, next_marking_count, next_unit_count, next_break_count}
-use Rattle.model_page.specs.Changes.{whole_op, ops_by, led, deed_of, text_back, changes_back, changes_on, Leads, LeadBack, LeadOn}
+use Rattle.batch_rules.specs.Events.{whole_op}
+use Rattle.model_page.specs.Changes.{ops_by, led, deed_of, text_back, changes_back, changes_on, Leads, LeadBack, LeadOn}
 use Rattle.model_page.specs.Counts.{text_breaks, op_count, unit_count, breaks_along, marking_ops, marking_count}
-use Rattle.model_core.specs.History.{undo_steps, redo_steps, history_of, IsHistory}
+use Rattle.model_core.specs.History.{undo_steps, redo_steps, history_of, latest_along, latest_steps, last_of, IsHistory}
+use Rattle.model_core.specs.declared.latest.Latest.{Latest}
 use Rattle.bracket_rules.specs.Table.{Table}
 use Rattle.decoration_rules.specs.Decorations.{Decorations}
 use Rattle.mark_rules.specs.declared.Mark.{Mark}
 use Rattle.model_page.proofs.Turns.{op_count-cons, marking_count-cons}
 use Rattle.model_page.proofs.Carries.{carried_back-kept, carried_on-kept}
 use Rattle.model_core.proofs.Histories.{text_before-back, text_after-on, history-undone, IsHistory-undone, history-redone, IsHistory-redone}
+use Rattle.model_core.proofs.LastChanges.{last-undone, last-redone}
 
 -- the flat document of a text and the kept batches
-abbrev pub document_of : FlatText → ℕ → ℕ → Decorations → Table → FlatShelf → Stack Change → FlatState
-document_of now version alternative d table shelf s =
-    record { units = now.units; kind = now.kind; version = version; alternative = alternative; decorations = d; table = table; history = history_of now s; shelf = shelf }
+abbrev pub document_of : FlatText → ℕ → ℕ → Decorations → Table → FlatShelf → Option Latest → Stack Change → FlatState
+document_of now version alternative d table shelf latest s = record {
+  units = now.units;
+  kind = now.kind;
+  version = version;
+  alternative = alternative;
+  decorations = d;
+  table = table;
+  history = history_of now s;
+  shelf = shelf;
+  last = last_of latest now s;
+}
 
 first_of : {A : Type 0} (xs : List A) (x : A) → slice_get xs 0 ≡ Some x → (rest : List A) × (xs ≡ x ∷ rest)
 first_of [] x is = absurd cc
@@ -57,6 +69,21 @@ same_ops_on : (before after : FlatText) (c : Change) → Leads before c after �
 same_ops_on before after (Ops ops inverse) leads = refl
 same_ops_on before after (Endings r) leads =
     ap (λ (t : FlatText). whole_op t.units after.units) (sym leads.kinds.0) ∙ ap (λ (t : FlatText). whole_op r.before t.units) (sym leads.kinds.1)
+
+-- so the batches of a step are the kept ones
+batches_back-kept : (after : FlatText) (cs : List Change) → LeadBack after cs → batches_back (changes_back after cs) ≡ batches_by Back cs
+batches_back-kept after [] lead = refl
+batches_back-kept after (c ∷ cs) lead =
+    let first : FlatChange = record { before = text_back after (c ∷ cs); deed = deed_of c; after = text_back after cs } in
+    ap (λ (batches : List (List Op)). batches ++ ops_along Back first ∷ []) (batches_back-kept after cs lead.1)
+    ∙ ap (λ (ops : List Op). batches_by Back cs ++ ops ∷ []) (same_ops_back (text_back after (c ∷ cs)) (text_back after cs) c lead.0)
+
+batches_on-kept : (before : FlatText) (cs : List Change) → LeadOn before cs → batches_on (changes_on before cs) ≡ batches_by On cs
+batches_on-kept before [] lead = refl
+batches_on-kept before (c ∷ cs) lead =
+    let after : FlatText = led On c before in
+    ap (λ (ops : List Op). ops ∷ batches_on (changes_on after cs)) (same_ops_on before after c lead.0)
+    ∙ ap (λ (batches : List (List Op)). ops_by On c ∷ batches) (batches_on-kept after cs lead.1)
 
 -- so many of them on the way on as on the way back
 as_many : (before after : FlatText) (c : Change) → Leads before c after → length (ops_by Back c) ≡ length (ops_by On c)
@@ -113,13 +140,14 @@ marking_on before (c ∷ cs) =
     omega (arith, sum_by-cons {X = FlatChange} (λ change. deed_marking change.deed) first (changes_on after cs), marking_count-cons On c cs, marking_at_on c, marking_on after cs)
 
 -- what a step does that comes next on the way
-pub record IsStep (way : Way) (now : FlatText) (version alternative : ℕ) (d : Decorations) (table : Table) (shelf : FlatShelf) (s : Stack Change) (step : Step Change) : Type 0 where
+pub record IsStep (way : Way) (now : FlatText) (version alternative : ℕ) (d : Decorations) (table : Table) (shelf : FlatShelf) (latest : Option Latest) (s : Stack Change) (step : Step Change) : Type 0 where
   pub lead : LeadBy way now step.changes
   pub history : IsHistory (text_by way now step.changes) (passed way s)
   pub accepted : version + 1 ≤ greatest_version
-      → flat_move way (document_of now version alternative d table shelf s) ≡ Ok (Some (document_of (text_by way now step.changes) (version + 1) (alternative_after way step) (decorations_by way d step.changes) table shelf (passed way s)))
-  pub refused : greatest_version < version + 1 → flat_move way (document_of now version alternative d table shelf s) ≡ Err limit
+      → flat_move way (document_of now version alternative d table shelf latest s) ≡ Ok (Some (document_of (text_by way now step.changes) (version + 1) (alternative_after way step) (decorations_by way d step.changes) table shelf (Some (latest_along way)) (passed way s)))
+  pub refused : greatest_version < version + 1 → flat_move way (document_of now version alternative d table shelf latest s) ≡ Err limit
   pub some : 0 < length (next_steps way s)
+  pub there : 0 < length (latest_steps (latest_along way) (passed way s))
   pub next : 0 < length (next_steps way (history_of now s))
   pub ops : next_op_count (next_steps way (history_of now s)) ≡ op_count way step.changes
   pub marking : next_marking_count (next_steps way (history_of now s)) ≡ marking_count way step.changes
@@ -127,16 +155,17 @@ pub record IsStep (way : Way) (now : FlatText) (version alternative : ℕ) (d : 
   pub breaks : next_break_count way (next_steps way (history_of now s)) ≡ breaks_along way step.changes
   pub marks : (ms : List Mark) → marked_step way ms (next_steps way (history_of now s)) ≡ marked_along way ms (changes_by way now step.changes)
 
-undo_first : (now : FlatText) (version alternative : ℕ) (d : Decorations) (table : Table) (shelf : FlatShelf) (step : Step Change) (rest redo : List (Step Change)) (is_open : Bool)
+undo_first : (now : FlatText) (version alternative : ℕ) (d : Decorations) (table : Table) (shelf : FlatShelf) (latest : Option Latest) (step : Step Change) (rest redo : List (Step Change)) (is_open : Bool)
     → IsHistory now (record { undo = step ∷ rest; redo = redo; is_open = is_open })
-    → IsStep Back now version alternative d table shelf (record { undo = step ∷ rest; redo = redo; is_open = is_open }) step
-undo_first now version alternative d table shelf step rest redo is_open old =
+    → IsStep Back now version alternative d table shelf latest (record { undo = step ∷ rest; redo = redo; is_open = is_open }) step
+undo_first now version alternative d table shelf latest step rest redo is_open old =
     record {
       lead = old.back.0;
       history = IsHistory-undone rest redo step now old.back old.on;
-      accepted = λ few. rw (lt-leb greatest_version version (omega (arith, few)), text_before-back step.changes now, carried_back-kept d now step.changes old.back.0, sym (history-undone rest redo step now old.back.0)) refl;
+      accepted = λ few. rw (lt-leb greatest_version version (omega (arith, few)), text_before-back step.changes now, carried_back-kept d now step.changes old.back.0, batches_back-kept now step.changes old.back.0, sym (last-undone rest redo step now old.back.0), sym (history-undone rest redo step now old.back.0)) refl;
       refused = λ last. rw (le-leb greatest_version version (omega (arith, last))) refl;
       some = omega arith;
+      there = omega arith;
       next = omega arith;
       ops = ops_back now step.changes old.back.0;
       marking = marking_back now step.changes old.back.0;
@@ -145,16 +174,17 @@ undo_first now version alternative d table shelf step rest redo is_open old =
       marks = λ ms. refl;
     }
 
-redo_first : (now : FlatText) (version alternative : ℕ) (d : Decorations) (table : Table) (shelf : FlatShelf) (step : Step Change) (undo rest : List (Step Change)) (is_open : Bool)
+redo_first : (now : FlatText) (version alternative : ℕ) (d : Decorations) (table : Table) (shelf : FlatShelf) (latest : Option Latest) (step : Step Change) (undo rest : List (Step Change)) (is_open : Bool)
     → IsHistory now (record { undo = undo; redo = step ∷ rest; is_open = is_open })
-    → IsStep On now version alternative d table shelf (record { undo = undo; redo = step ∷ rest; is_open = is_open }) step
-redo_first now version alternative d table shelf step undo rest is_open old =
+    → IsStep On now version alternative d table shelf latest (record { undo = undo; redo = step ∷ rest; is_open = is_open }) step
+redo_first now version alternative d table shelf latest step undo rest is_open old =
     record {
       lead = old.on.0;
       history = IsHistory-redone undo rest step is_open now old.back old.on;
-      accepted = λ few. rw (lt-leb greatest_version version (omega (arith, few)), text_after-on step.changes now, carried_on-kept d now step.changes old.on.0, sym (history-redone undo rest step is_open now old.on.0)) refl;
+      accepted = λ few. rw (lt-leb greatest_version version (omega (arith, few)), text_after-on step.changes now, carried_on-kept d now step.changes old.on.0, batches_on-kept now step.changes old.on.0, sym (last-redone undo rest step is_open now old.on.0), sym (history-redone undo rest step is_open now old.on.0)) refl;
       refused = λ last. rw (le-leb greatest_version version (omega (arith, last))) refl;
       some = omega arith;
+      there = omega arith;
       next = omega arith;
       ops = measured_on length now step.changes old.on.0;
       marking = marking_on now step.changes;
@@ -163,21 +193,16 @@ redo_first now version alternative d table shelf step undo rest is_open old =
       marks = λ ms. refl;
     }
 
-pub step_on : (way : Way) (now : FlatText) (version alternative : ℕ) (d : Decorations) (table : Table) (shelf : FlatShelf) (s : Stack Change) (step : Step Change)
-    → slice_get (next_steps way s) 0 ≡ Some step → IsHistory now s → IsStep way now version alternative d table shelf s step
-step_on Back now version alternative d table shelf s step next old =
+pub step_on : (way : Way) (now : FlatText) (version alternative : ℕ) (d : Decorations) (table : Table) (shelf : FlatShelf) (latest : Option Latest) (s : Stack Change) (step : Step Change)
+    → slice_get (next_steps way s) 0 ≡ Some step → IsHistory now s → IsStep way now version alternative d table shelf latest s step
+step_on Back now version alternative d table shelf latest s step next old =
     let split = first_of s.undo step next in
-    subst (λ u. IsHistory now (record { undo = u; redo = s.redo; is_open = s.is_open }) → IsStep Back now version alternative d table shelf (record { undo = u; redo = s.redo; is_open = s.is_open }) step)
-    (sym split.1) (undo_first now version alternative d table shelf step split.0 s.redo s.is_open) old
-step_on On now version alternative d table shelf s step next old =
+    subst (λ u. IsHistory now (record { undo = u; redo = s.redo; is_open = s.is_open }) → IsStep Back now version alternative d table shelf latest (record { undo = u; redo = s.redo; is_open = s.is_open }) step)
+    (sym split.1) (undo_first now version alternative d table shelf latest step split.0 s.redo s.is_open) old
+step_on On now version alternative d table shelf latest s step next old =
     let split = first_of s.redo step next in
-    subst (λ u. IsHistory now (record { undo = s.undo; redo = u; is_open = s.is_open }) → IsStep On now version alternative d table shelf (record { undo = s.undo; redo = u; is_open = s.is_open }) step)
-    (sym split.1) (redo_first now version alternative d table shelf step s.undo split.0 s.is_open) old
-
-pub no_step_on : (way : Way) (now : FlatText) (version alternative : ℕ) (d : Decorations) (table : Table) (shelf : FlatShelf) (s : Stack Change)
-    → slice_get (next_steps way s) 0 ≡ None → flat_move way (document_of now version alternative d table shelf s) ≡ Ok None
-no_step_on Back now version alternative d table shelf s none = rw (none_of s.undo none) refl
-no_step_on On now version alternative d table shelf s none = rw (none_of s.redo none) refl
+    subst (λ u. IsHistory now (record { undo = s.undo; redo = u; is_open = s.is_open }) → IsStep On now version alternative d table shelf latest (record { undo = s.undo; redo = u; is_open = s.is_open }) step)
+    (sym split.1) (redo_first now version alternative d table shelf latest step s.undo split.0 s.is_open) old
 
 pub no_next_on : (way : Way) (now : FlatText) (s : Stack Change) → slice_get (next_steps way s) 0 ≡ None → next_steps way (history_of now s) ≡ []
 no_next_on Back now s none = rw (none_of s.undo none) refl

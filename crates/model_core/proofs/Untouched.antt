@@ -1,10 +1,11 @@
 -- Where the page is as it was beside its room: the history and the snapshots stay with it, and the document shows the same.
-use Rattle.std.proofs.Common.{◌≡◌, ℕ}
+use Rattle.std.proofs.Common.{◌≡◌, ℕ, Option}
 use Rattle.document_rules.specs.Document.{FlatState}
 use Rattle.snapshots.specs.Shown.{Shown, shown}
 use Rattle.undo_rules.specs.Stack.{Stack}
 use Rattle.model_page.specs.declared.change.Change.{Change}
 use Rattle.model_page.specs.State.{PageState, IsUntouched, flat_text}
+use Rattle.model_core.specs.declared.latest.Latest.{Latest}
 use Rattle.model_core.specs.History.{IsHistory}
 use Rattle.model_core.specs.Shelving.{IsShelf}
 use Rattle.model_core.proofs.Shelving.{shown-grown, IsShelf-grown}
@@ -17,9 +18,9 @@ module _ (old new : PageState) (kept : IsUntouched old new) where
   pub shelf_untouched : (shelf : Shown) → IsShelf old.text.buffers shelf → IsShelf new.text.buffers shelf
   shelf_untouched shelf sound = IsShelf-grown old.text.buffers new.text.buffers shelf kept.buffers sound
 
-  pub document_untouched : (old_stack stack : Stack Change) → stack ≡ old_stack → (shelf : Shown) → IsShelf old.text.buffers shelf → (version alternative : ℕ) (now : FlatState)
-      → document_of (flat_text old.text) version alternative old.decorations old.table (shown old.text.buffers shelf) old_stack ≡ now
-      → document_of (flat_text new.text) version alternative new.decorations new.table (shown new.text.buffers shelf) stack ≡ now
-  document_untouched old_stack stack same shelf sound version alternative now was =
+  pub document_untouched : (old_stack stack : Stack Change) → stack ≡ old_stack → (shelf : Shown) → IsShelf old.text.buffers shelf → (version alternative : ℕ) (latest : Option Latest) (now : FlatState)
+      → document_of (flat_text old.text) version alternative old.decorations old.table (shown old.text.buffers shelf) latest old_stack ≡ now
+      → document_of (flat_text new.text) version alternative new.decorations new.table (shown new.text.buffers shelf) latest stack ≡ now
+  document_untouched old_stack stack same shelf sound version alternative latest now was =
       let shelves = shown-grown old.text.buffers new.text.buffers shelf kept.buffers sound in
       rw (kept.units, kept.kind, same, shelves, kept.decorations, kept.parse.table) was

@@ -1,10 +1,15 @@
 -- What the model keeps of the changes that it carried out, and the whole texts that they lead to and back from.
-use Rattle.std.specs.Prelude.{ℕ, Bool, true, false, if◌then◌else◌, List, [], ◌∷◌, ⊤}
+use Rattle.std.specs.Prelude.{ℕ, ◌≡◌, ◌<◌, Bool, true, false, if◌then◌else◌, List, [], ◌∷◌, length, Option, Some, None, ⊤}
 use Rattle.undo_rules.specs.Stack.{Step, Stack, pushed, stopped}
-use Rattle.document_rules.specs.Document.{FlatText, FlatChange}
+use Rattle.document_rules.specs.Document.{FlatText, FlatChange, LastChange}
 use Rattle.model_page.specs.declared.change.Change.{Change}
 use Rattle.model_page.specs.declared.change.Change.TheVariants.{Ops, Endings}
-use Rattle.model_page.specs.Changes.{text_back, text_on, changes_back, changes_on, LeadBack, LeadOn}
+use Rattle.model_page.specs.declared.change.Way.{Way}
+use Rattle.model_page.specs.declared.change.Way.TheVariants.{Back, On}
+use Rattle.model_page.specs.Changes.{ops_by, led, text_back, text_on, changes_back, changes_on, LeadBack, LeadOn}
+use Rattle.model_page.specs.Ways.{batches_by}
+use Rattle.model_core.specs.declared.latest.Latest.{Latest}
+use Rattle.model_core.specs.declared.latest.Latest.TheVariants.{Made, TakenBack, MadeAgain}
 
 -- the step, with these changes in place of its own
 abbrev pub step_with : Step Change → List FlatChange → Step FlatChange
@@ -47,3 +52,47 @@ is_alone (Endings r) = true
 abbrev pub kept_with : Stack Change → Change → ℕ → ℕ → Stack Change
 kept_with s change before after =
     if is_alone change then stopped (pushed (stopped s) change before after) else pushed s change before after
+
+-- ---- the last change
+
+-- that of a step that was gone along the way
+abbrev pub latest_along : Way → Latest
+latest_along Back = TakenBack
+latest_along On = MadeAgain
+
+-- the way on which its step comes next
+abbrev pub way_to : Latest → Way
+way_to Made = Back
+way_to TakenBack = On
+way_to MadeAgain = Back
+
+-- the last of the changes, which led to the text of now
+abbrev pub last_made : FlatText → List Change → Option LastChange
+last_made now [] = None
+last_made now (c ∷ []) = Some (record { before = (led Back c now).units; batches = ops_by On c ∷ [] })
+last_made now (c ∷ d ∷ cs) = last_made now (d ∷ cs)
+
+abbrev pub last_in : Latest → FlatText → List Change → Option LastChange
+last_in Made now cs = last_made now cs
+last_in TakenBack now cs = Some (record { before = (text_on now cs).units; batches = batches_by Back cs })
+last_in MadeAgain now cs = Some (record { before = (text_back now cs).units; batches = batches_by On cs })
+
+-- the list at whose front its step is
+abbrev pub latest_steps : {C : Type 0} → Latest → Stack C → List (Step C)
+latest_steps Made s = s.undo
+latest_steps TakenBack s = s.redo
+latest_steps MadeAgain s = s.undo
+
+abbrev pub last_of_steps : Latest → FlatText → List (Step Change) → Option LastChange
+last_of_steps latest now [] = None
+last_of_steps latest now (s ∷ ss) = last_in latest now s.changes
+
+-- what the last change did, if there was one
+abbrev pub last_of : Option Latest → FlatText → Stack Change → Option LastChange
+last_of None now s = None
+last_of (Some latest) now s = last_of_steps latest now (latest_steps latest s)
+
+-- the first version is that before any change, and the step of the last one is there
+abbrev pub HasLatest : Option Latest → ℕ → Stack Change → Type 0
+HasLatest None version s = version ≡ 1
+HasLatest (Some latest) version s = (1 < version) × (0 < length (latest_steps latest s))

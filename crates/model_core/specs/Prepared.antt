@@ -10,7 +10,7 @@ use Rattle.mark_rules.specs.declared.Mark.{Mark}
 use Rattle.undo_rules.specs.Stack.{Step}
 use Rattle.document_rules.specs.declared.ModelError.{ModelError}
 use Rattle.document_rules.specs.Outcomes.{RefusedFor}
-use Rattle.document_rules.specs.Document.{FlatText, Deed, FlatChange, FlatState, batch, recast, text_now, recast_to, after_batch, after_recast, flat_edit, is_same_kind, flat_eol}
+use Rattle.document_rules.specs.Document.{FlatText, Deed, FlatChange, FlatState, batch, recast, ops_on, ops_back, text_now, recast_to, after_batch, after_recast, flat_edit, is_same_kind, flat_eol}
 use Rattle.model_page.specs.declared.change.Change.{Change}
 use Rattle.model_page.specs.declared.change.Way.{Way}
 use Rattle.model_page.specs.declared.change.Way.TheVariants.{Back, On}
@@ -22,7 +22,7 @@ use Rattle.text_buffer.specs.declared.room.Need as text_need
 use Rattle.model_core.specs.Ways.{next_steps, flat_move}
 use Rattle.model_core.specs.Edited.{ops_as_done}
 use Rattle.model_page.specs.declared.change.Change.TheVariants.{Ops, Endings}
-use Rattle.model_page.specs.Changes.{whole_op, text_from, text_to, ops_by}
+use Rattle.model_page.specs.Changes.{text_from, text_to, ops_by}
 use Rattle.model_page.specs.Counts.{text_breaks, marking_ops}
 use Rattle.model_page.specs.LineMarks.{marks_over}
 use Rattle.model_page.specs.Needs.{need_of_ops}
@@ -41,10 +41,8 @@ pub record Prepared : Type 0 where
 
 -- the ops that lead along the change
 abbrev pub deed_ops : Way → FlatText → Deed → FlatText → List Op
-deed_ops Back before (batch ops) after = inverse_from 0 0 before.units ops
-deed_ops On before (batch ops) after = ops
-deed_ops Back before recast after = whole_op after.units before.units
-deed_ops On before recast after = whole_op before.units after.units
+deed_ops Back before deed after = ops_back before deed after
+deed_ops On before deed after = ops_on before deed after
 
 abbrev pub ops_along : Way → FlatChange → List Op
 ops_along way change = deed_ops way change.before change.deed change.after

@@ -2,6 +2,7 @@
 #![tactic(auto)]
 
 mod errors;
+mod latest;
 mod model;
 mod places;
 mod ready;
@@ -9,9 +10,11 @@ mod walk;
 
 pub use bracket_nodes::{Entry, Node, Status};
 pub use bracket_scan::{BracketTable, TableError};
+pub use column_encodings::Encoding;
 pub use decoration_rules::Sticky;
 pub use decorations::{Deco, NewDeco};
 pub use document_rules::ModelError;
+pub use edit_batches::{Batch, Event};
 pub use model::Model;
 pub use node_reuse::Parsed;
 pub use ready::Ready;

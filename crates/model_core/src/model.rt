@@ -1,14 +1,17 @@
 //! The document.
 
 mod brackets;
+mod columns;
 mod decorate;
 mod edit;
 mod endings;
+mod event;
 mod history;
 mod open;
 mod queries;
 mod snapshot;
 
+use crate::latest::Latest;
 use edit_stack::EditStack;
 use model_page::{Change, Page};
 use snapshots::Shelf;
@@ -23,6 +26,7 @@ pub struct Model {
     alternative: u64,
     history: EditStack<Change>,
     shelf: Shelf,
+    latest: Option<Latest>,
 }
 
 impl std::marker::Model for Model {
@@ -35,7 +39,7 @@ impl std::marker::Model for Model {
     ghost use Rattle.model_core.specs.State.{ModelState};
     ghost use Rattle.snapshots.specs.Shown.{shown};
     ghost use Rattle.model_core.specs.Shelving.{IsShelf};
-    ghost use Rattle.model_core.specs.History.{history_of, IsHistory};
+    ghost use Rattle.model_core.specs.History.{history_of, last_of, HasLatest, IsHistory};
 
     ghost Value = { ModelState };
 
@@ -51,6 +55,7 @@ impl std::marker::Model for Model {
         table = m.page.table;
         history = history_of (flat_text m.page.text) m.history.stack;
         shelf = shown m.page.text.buffers m.shelf;
+        last = last_of m.latest (flat_text m.page.text) m.history.stack;
       };
       parsed = m.page.parsed;
       tree = m.page.tree;
@@ -66,5 +71,6 @@ impl std::marker::Model for Model {
 
     ghost invariant = { λ m. (m.version ≤ greatest_version)
         × IsHistory (flat_text m.page.text) m.history.stack
-        × IsShelf m.page.text.buffers m.shelf };
+        × IsShelf m.page.text.buffers m.shelf
+        × HasLatest m.latest m.version m.history.stack };
 }

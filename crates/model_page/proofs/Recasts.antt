@@ -3,7 +3,7 @@ use Rattle.std.proofs.Common.{◌≡◌, ℕ, List, ◌++◌, length, ap, ◌∙
 use Rattle.std.proofs.lemmas.List.{drop_all}
 use Rattle.batch_rules.specs.Batches.{applied_from, text_units}
 use Rattle.line_starts.specs.Starts.{break_count}
-use Rattle.model_page.specs.Changes.{whole_op}
+use Rattle.batch_rules.specs.Events.{whole_op}
 use Rattle.model_page.specs.Counts.{text_breaks}
 
 -- the op that puts a text in the place of another leaves that text

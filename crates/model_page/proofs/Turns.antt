@@ -25,7 +25,7 @@ use Rattle.model_page.specs.Changes.{text_from, ops_by, kind_by, led, deed_of, t
 use Rattle.model_page.specs.Counts.{text_breaks, op_count, unit_count, breaks_along, marking_ops, marking_count}
 use Rattle.model_page.specs.Carrying.{decorations_over, decorations_back}
 use Rattle.model_page.specs.LineMarks.{marked_backwards, marks_over, marks_taken_back, marks_made_again, marked_back, marked_on}
-use Rattle.model_page.specs.Ways.{forces, text_by, changes_by, LeadBy, decorations_by, marked_along, place_at, rest_on}
+use Rattle.model_page.specs.Ways.{forces, text_by, changes_by, LeadBy, decorations_by, batches_by, marked_along, place_at, rest_on}
 
 -- the op whose turn it is, after so many others, on the text of the moment
 pub record IsTurn (x : List ℕ) (ops : List Op) (done : ℕ) (op : Op) (now : List ℕ) : Type 0 where
@@ -226,27 +226,46 @@ next_on c rest now lead = record {
   breaks = breaks_along-cons On c rest;
 }
 
+-- the changes that are left, after so many others: the one whose turn it is, and the rest
+left_back : (cs : List Change) (done : ℕ) (c : Change) → done < length cs → slice_get cs (place_at Back (length cs) done) ≡ Some c
+    → rest_on Back done cs ≡ rest_on Back (done + 1) cs ++ c ∷ []
+left_back cs done c inside is =
+    let at : ℕ = length cs - 1 - done in
+    let this : get_or cs at c ≡ c = get_or_from_slice_get cs at c c is in
+    let here : length cs - done ≡ suc at = omega arith in
+    let next : at ≡ length cs - (done + 1) = omega arith in
+    ap (λ (k : ℕ). take k cs) here ∙ take-suc cs at c (omega arith)
+    ∙ ap (λ d. take at cs ++ d ∷ []) this ∙ ap (λ (k : ℕ). take k cs ++ c ∷ []) next
+
+left_on : (cs : List Change) (done : ℕ) (c : Change) → done < length cs → slice_get cs done ≡ Some c → rest_on On done cs ≡ c ∷ rest_on On (done + 1) cs
+left_on cs done c inside is =
+    let this : c ≡ get_or cs done c = sym (get_or_from_slice_get cs done c c is) in
+    let next : suc done ≡ done + 1 = omega arith in
+    drop-cons cs done c inside ∙ ap (λ d. d ∷ drop (suc done) cs) (sym this) ∙ ap (λ (k : ℕ). c ∷ drop k cs) next
+
 -- the change whose turn it is, after so many others
 pub turn_by : (way : Way) (cs : List Change) (done : ℕ) (c : Change) (now : FlatText) → done < length cs
     → slice_get cs (place_at way (length cs) done) ≡ Some c → LeadBy way now (rest_on way done cs)
     → IsNext way (rest_on way done cs) c (rest_on way (done + 1) cs) now
 turn_by Back cs done c now inside is lead =
-    let at : ℕ = length cs - 1 - done in
-    let this : get_or cs at c ≡ c = get_or_from_slice_get cs at c c is in
-    let here : length cs - done ≡ suc at = omega arith in
-    let next : at ≡ length cs - (done + 1) = omega arith in
-    let cut : take (length cs - done) cs ≡ take (length cs - (done + 1)) cs ++ c ∷ [] =
-    ap (λ (k : ℕ). take k cs) here ∙ take-suc cs at c (omega arith)
-    ∙ ap (λ d. take at cs ++ d ∷ []) this ∙ ap (λ (k : ℕ). take k cs ++ c ∷ []) next in
-    subst (λ left. IsNext Back left c (take (length cs - (done + 1)) cs) now) (sym cut)
-    (next_back (take (length cs - (done + 1)) cs) c now (subst (LeadBack now) cut lead))
+    let cut = left_back cs done c inside is in
+    subst (λ left. IsNext Back left c (rest_on Back (done + 1) cs) now) (sym cut)
+    (next_back (rest_on Back (done + 1) cs) c now (subst (LeadBack now) cut lead))
 turn_by On cs done c now inside is lead =
-    let this : c ≡ get_or cs done c = sym (get_or_from_slice_get cs done c c is) in
-    let next : suc done ≡ done + 1 = omega arith in
-    let cut : drop done cs ≡ c ∷ drop (done + 1) cs =
-    drop-cons cs done c inside ∙ ap (λ d. d ∷ drop (suc done) cs) (sym this) ∙ ap (λ (k : ℕ). c ∷ drop k cs) next in
-    subst (λ left. IsNext On left c (drop (done + 1) cs) now) (sym cut)
-    (next_on c (drop (done + 1) cs) now (subst (LeadOn now) cut lead))
+    let cut = left_on cs done c inside is in
+    subst (λ left. IsNext On left c (rest_on On (done + 1) cs) now) (sym cut)
+    (next_on c (rest_on On (done + 1) cs) now (subst (LeadOn now) cut lead))
+
+-- its batch comes next
+batches_back-more : (cs : List Change) (c : Change) → batches_by Back (cs ++ c ∷ []) ≡ ops_by Back c ∷ batches_by Back cs
+batches_back-more [] c = refl
+batches_back-more (d ∷ cs) c = ap (λ (batches : List (List Op)). batches ++ ops_by Back d ∷ []) (batches_back-more cs c)
+
+pub batches_left : (way : Way) (cs : List Change) (done : ℕ) (c : Change) → done < length cs
+    → slice_get cs (place_at way (length cs) done) ≡ Some c
+    → batches_by way (rest_on way done cs) ≡ ops_by way c ∷ batches_by way (rest_on way (done + 1) cs)
+batches_left Back cs done c inside is = ap (batches_by Back) (left_back cs done c inside is) ∙ batches_back-more (rest_on Back (done + 1) cs) c
+batches_left On cs done c inside is = ap (batches_by On) (left_on cs done c inside is)
 
 -- all are left at first, and none at last
 pub all_left : (way : Way) (cs : List Change) → rest_on way 0 cs ≡ cs

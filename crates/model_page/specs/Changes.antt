@@ -1,8 +1,9 @@
 -- Changes that were carried out, and the texts that they lead to and back from.
-use Rattle.std.specs.Prelude.{ℕ, ◌≡◌, ◌≤◌, false, List, [], ◌∷◌, length, ⊤}
+use Rattle.std.specs.Prelude.{◌≡◌, ◌≤◌, List, [], ◌∷◌, length, ⊤}
 use Rattle.unit_text.specs.declared.kind.Kind.{Kind}
 use Rattle.text_rules.specs.declared.Op.{Op}
 use Rattle.batch_rules.specs.Batches.{most_units, applied_from, inverse_from, StandFrom, KeepsKind}
+use Rattle.batch_rules.specs.Events.{whole_op}
 use Rattle.recast_rules.specs.Recasts.{RecastState}
 use Rattle.document_rules.specs.Document.{FlatText, Deed, FlatChange, batch, recast}
 use Rattle.model_page.specs.declared.change.Change.{Change}
@@ -18,10 +19,6 @@ text_from On r = record { units = r.before; kind = r.from }
 abbrev pub text_to : Way → RecastState → FlatText
 text_to Back r = record { units = r.before; kind = r.from }
 text_to On r = record { units = r.after; kind = r.to }
-
--- one op that puts a text in the place of another, whole
-abbrev pub whole_op : List ℕ → List ℕ → List Op
-whole_op old new = record { span = record { start = 0; end = length old }; text = new; force = false } ∷ []
 
 -- the ops that lead a text along the change
 abbrev pub ops_by : Way → Change → List Op

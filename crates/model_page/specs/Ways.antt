@@ -1,5 +1,6 @@
 -- The two ways on which changes lead a page: an undo takes them back, a redo makes them again.
-use Rattle.std.specs.Prelude.{ℕ, ◌-◌, Bool, true, false, List, length, take, drop}
+use Rattle.std.specs.Prelude.{ℕ, ◌-◌, Bool, true, false, List, [], ◌∷◌, ◌++◌, length, take, drop}
+use Rattle.text_rules.specs.declared.Op.{Op}
 use Rattle.decoration_rules.specs.Decorations.{Decorations}
 use Rattle.mark_rules.specs.declared.Mark.{Mark}
 use Rattle.undo_rules.specs.Stack.{Step}
@@ -7,7 +8,7 @@ use Rattle.document_rules.specs.Document.{FlatText, FlatChange}
 use Rattle.model_page.specs.declared.change.Change.{Change}
 use Rattle.model_page.specs.declared.change.Way.{Way}
 use Rattle.model_page.specs.declared.change.Way.TheVariants.{Back, On}
-use Rattle.model_page.specs.Changes.{text_back, text_on, changes_back, changes_on, LeadBack, LeadOn}
+use Rattle.model_page.specs.Changes.{ops_by, text_back, text_on, changes_back, changes_on, LeadBack, LeadOn}
 use Rattle.model_page.specs.Carrying.{decorations_back, decorations_on}
 use Rattle.model_page.specs.LineMarks.{marked_back, marked_on, undone_marks, redone_marks}
 
@@ -15,6 +16,10 @@ use Rattle.model_page.specs.LineMarks.{marked_back, marked_on, undone_marks, red
 abbrev pub forces : Way → Bool
 forces Back = true
 forces On = false
+
+abbrev pub other : Way → Way
+other Back = On
+other On = Back
 
 abbrev pub text_by : Way → FlatText → List Change → FlatText
 text_by Back now cs = text_back now cs
@@ -41,6 +46,13 @@ marked_along On marks changes = marked_on marks changes
 abbrev pub marked_step : Way → List Mark → List (Step FlatChange) → List Mark
 marked_step Back marks steps = undone_marks marks steps
 marked_step On marks steps = redone_marks marks steps
+
+-- the batches that lead along the changes, in the order in which they are carried out: the last change is taken back first
+abbrev pub batches_by : Way → List Change → List (List Op)
+batches_by Back [] = []
+batches_by Back (c ∷ cs) = batches_by Back cs ++ ops_by Back c ∷ []
+batches_by On [] = []
+batches_by On (c ∷ cs) = ops_by On c ∷ batches_by On cs
 
 -- the place of the change that comes next of so many, after others: the last one is taken back first, the first one made again first
 abbrev pub place_at : Way → ℕ → ℕ → ℕ

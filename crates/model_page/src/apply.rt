@@ -1,10 +1,8 @@
 //! Ops and changes that are carried out.
 
-ghost use Rattle.std.specs.Prelude.{◌≡◌, ◌+◌, ◌<◌, ◌^◌, length};
-ghost use Rattle.unit_text.specs.declared.kind.Kind.TheVariants.{Mixed};
-ghost use Rattle.batch_rules.specs.Batches.{applied_from, text_units, StandFrom};
+ghost use Rattle.std.specs.Prelude.{◌≡◌, ◌<◌, length};
+ghost use Rattle.batch_rules.specs.Batches.{applied_from};
 ghost use Rattle.edit_stack.specs.Element.{step_of};
-ghost use Rattle.text_buffer.specs.Room as text_room;
 ghost use Rattle.document_rules.specs.Document.{carried_to};
 ghost use Rattle.model_page.specs.declared.change.Change.TheVariants.{Endings};
 ghost use Rattle.model_page.specs.Carrying.{edit_with, carried_with, decorations_over};
@@ -20,7 +18,6 @@ use crate::page::Page;
 use crate::placed::{Place, PlacedRecast, known, note};
 use decorations::Edit;
 use edit_stack::Element;
-use text_buffer::TextBuffer;
 use text_rules::Op;
 use unit_text::Flat;
 
@@ -117,7 +114,7 @@ impl Page {
 
 // The place of the change that comes next, after so many others: the last change is taken back first, and the first one made
 // again first.
-fn place_at(way: Way, count: usize, done: usize) -> usize
+pub(crate) fn place_at(way: Way, count: usize, done: usize) -> usize
     requires { done < count }
     ensures { result ≡ place_at way count done }
 {
@@ -135,22 +132,5 @@ fn edit_with(op: &Op, forces: bool) -> Edit
         end: op.span.end,
         units: op.text.len(),
         force: forces && op.force,
-    }
-}
-
-/// Carries out the ops on a text by itself, which has room for them. It takes no memory.
-pub fn apply_to_text(text: &mut TextBuffer, ops: &[Op])
-    requires standing { StandFrom 0 text.old.units ops.now }
-    requires mixed { text.old.kind ≡ Mixed }
-    requires small { length text.old.units + text_units ops.now < 2 ^ 62 }
-    requires room { text_room.IsEnough text.old.room (need_of_ops ops.now) }
-    ensures units { text.new.units ≡ applied_from 0 text.old.units ops.now }
-    ensures kind { text.new.kind ≡ text.old.kind }
-    ensures grown { HasGrown (length ops.now) text.old text.new }
-    ensures spent { text_room.HasSpent (need_of_ops ops.now) text.old.room text.new.room }
-{
-    for done in 0..ops.len() {
-        let op = &ops[ops.len() - 1 - done];
-        text.replace(op.span, op.text.as_slice());
     }
 }

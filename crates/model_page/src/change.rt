@@ -3,13 +3,13 @@
 ghost use Rattle.std.specs.Prelude.{◌≡◌, ◌+◌, ◌≤◌, ◌<◌, ◌^◌, IfOk, IfSome, length};
 ghost use Rattle.std.specs.List.{All};
 ghost use Rattle.edit_stack.specs.Element.{step_of};
-ghost use Rattle.batch_rules.specs.Batches.{most_units, text_units};
+ghost use Rattle.batch_rules.specs.Batches.{most_units, text_units, FollowFrom};
 ghost use Rattle.line_starts.specs.Starts.{break_count};
 ghost use Rattle.model_page.specs.declared.change.Change.TheVariants.{Ops};
 ghost use Rattle.model_page.specs.Changes.{ops_by};
 ghost use Rattle.model_page.specs.Counts.{text_breaks};
 ghost use Rattle.model_page.specs.Needs.{need_of_ops, need_along};
-ghost use Rattle.model_page.specs.Ways.{forces};
+ghost use Rattle.model_page.specs.Ways.{forces, other};
 
 use crate::placed::{PlacedBatch, PlacedRecast};
 use edit_batches::Batch;
@@ -34,6 +34,15 @@ impl Way {
         ensures { result ≡ forces self }
     {
         matches!(self, Way::Back)
+    }
+
+    pub(crate) fn other(self) -> Way
+        ensures { result ≡ other self }
+    {
+        match self {
+            Way::Back => Way::On,
+            Way::On => Way::Back,
+        }
     }
 }
 
@@ -75,8 +84,8 @@ pub fn need_of(change: &Change, way: Way) -> Need
 }
 
 // What the ops of the batch ask for.
-fn need_of_batch(batch: &Batch) -> Need
-    requires { text_units batch.now ≤ most_units }
+pub(crate) fn need_of_batch(batch: &Batch) -> Need
+    requires { FollowFrom 0 batch.now → text_units batch.now ≤ most_units }
     ensures { result ≡ need_of_ops batch.now }
 {
     Need {
@@ -117,7 +126,7 @@ pub fn need_of_step(step: &Element<Change>, way: Way) -> Result<Need, AllocError
 }
 
 // What both ask for together.
-fn joined(a: Need, b: Need) -> Option<Need>
+pub(crate) fn joined(a: Need, b: Need) -> Option<Need>
     ensures edits { IfSome result (λ need. need.edits ≡ a.edits + b.edits) }
     ensures units { IfSome result (λ need. need.units ≡ a.units + b.units) }
     ensures breaks { IfSome result (λ need. need.breaks ≡ a.breaks + b.breaks) }

@@ -5,12 +5,15 @@
 mod apply;
 mod brackets;
 mod change;
+mod events;
 mod last_parse;
 mod page;
 mod placed;
+mod plain;
 mod text_lines;
 
-pub use apply::apply_to_text;
 pub use change::{Change, Way, need_of, need_of_step};
+pub use events::{batch_along, batches_along};
 pub use page::Page;
 pub use placed::{PlacedBatch, PlacedRecast};
+pub use plain::{apply_to_text, need_of_batches};

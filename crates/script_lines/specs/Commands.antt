@@ -8,7 +8,7 @@ use Rattle.script_lines.specs.Rows.{Row, row, named_in, bare, of_number, of_two_
 use Rattle.script_lines.specs.EditCommands.{open_in, edit_in, eol_in}
 use Rattle.script_lines.specs.DecorationCommands.{decorate_in, decos_in}
 use Rattle.script_lines.specs.declared.command.Command.{Command}
-use Rattle.script_lines.specs.declared.command.Command.TheVariants.{Undo, Redo, Stop, Size, Version, Line, Stops, Value, Offset, Position, Deco, Brackets, Match, Level, Snapshot, Read, Close}
+use Rattle.script_lines.specs.declared.command.Command.TheVariants.{Undo, Redo, Stop, Size, Version, Line, Stops, Value, Offset, Position, Deco, Brackets, Match, Level, Snapshot, Read, Close, Mirror, Send, Deliver, Mirrored}
 
 -- every command there is
 abbrev pub commands : List Row
@@ -35,6 +35,10 @@ commands =
     ∷ row (codes "snapshot") (bare Snapshot)
     ∷ row (codes "read") (of_two_numbers Read (codes "id") (codes "count"))
     ∷ row (codes "close") (of_number Close (codes "id"))
+    ∷ row (codes "mirror") (bare Mirror)
+    ∷ row (codes "send") (bare Send)
+    ∷ row (codes "deliver") (of_number Deliver (codes "n"))
+    ∷ row (codes "mirrored") (of_number Mirrored (codes "n"))
     ∷ []
 
 -- the field `cmd` names the command

@@ -4,7 +4,8 @@ use Rattle.std.specs.Fmt.{digits}
 use Rattle.std.specs.Str.{chars}
 use Rattle.unit_text.specs.declared.kind.Kind.TheVariants.{Mixed, Lf, Crlf}
 use Rattle.serde_json.specs.Data.{Data, null, number, string, array, object, unsigned, Items, no_items, item, no_members, member}
-use Rattle.script_lines.specs.Replies.{ok_reply}
+use Rattle.script_lines.specs.declared.reason.Refusal.TheVariants.{Gap}
+use Rattle.script_lines.specs.Replies.{ok_reply, refusal_reply}
 use Rattle.script_lines.specs.Decorations.{new_deco_in}
 use Rattle.script_lines.specs.Commands.{command_in}
 use Rattle.script_lines.specs.declared.command.Command.TheVariants.{Open, Eol, Decorate, Decos, Match, Level, Read, Close, Stops}
@@ -12,6 +13,10 @@ use Rattle.script_lines.specs.declared.command.Command.TheVariants.{Open, Eol, D
 three_numbers : ok_reply (2 ∷ 3 ∷ 10 ∷ []) ≡ codes "ok 2 3 10\n"
 unfolding digits
 three_numbers = refl
+
+two_versions : refusal_reply (Gap 1 12) ≡ codes "! gap 1 12\n"
+unfolding digits
+two_versions = refl
 
 no_numbers : ok_reply [] ≡ codes "ok\n"
 no_numbers = refl

@@ -3,7 +3,7 @@ use Rattle.std.specs.Prelude.{ℕ, List, ◌∷◌, ◌++◌, codes, decimal}
 use Rattle.std.specs.List.{flat_map}
 use Rattle.unit_text.specs.Text.{quoted}
 use Rattle.script_lines.specs.declared.reason.Refusal.{Refusal}
-use Rattle.script_lines.specs.declared.reason.Refusal.TheVariants.{Syntax, Unknown, Range, Overlap, Limit, Memory}
+use Rattle.script_lines.specs.declared.reason.Refusal.TheVariants.{Syntax, Unknown, Range, Overlap, Limit, Memory, Gap}
 
 -- a blank and the number in plain decimals
 abbrev pub number_part : ℕ → List ℕ
@@ -16,6 +16,10 @@ ok_reply numbers = codes "ok" ++ flat_map number_part numbers ++ codes "\n"
 -- where there was nothing to do or to show
 abbrev pub none_reply : List ℕ
 none_reply = codes "ok none\n"
+
+-- where it came before
+abbrev pub old_reply : List ℕ
+old_reply = codes "ok old\n"
 
 -- a blank and the units as a JSON string
 abbrev pub text_part : List ℕ → List ℕ
@@ -32,3 +36,4 @@ refusal_reply Range = codes "! range\n"
 refusal_reply Overlap = codes "! overlap\n"
 refusal_reply Limit = codes "! limit\n"
 refusal_reply Memory = codes "! memory\n"
+refusal_reply (Gap have need) = codes "! gap" ++ number_part have ++ number_part need ++ codes "\n"

@@ -105,6 +105,18 @@ pub enum Command {
     Stops {
         n: u64,
     },
+    /// Begins a mirror at the text of now.
+    Mirror,
+    /// Sends the last change as an event.
+    Send,
+    /// Hands the sent event of this number, counted from 1, to the mirror.
+    Deliver {
+        n: u64,
+    },
+    /// Asks for the content of the mirror's line of this number, counted from 1.
+    Mirrored {
+        n: u64,
+    },
 }
 
 /// The command that the line spells. `Syntax` exactly where it spells none.

@@ -48,6 +48,10 @@ pub(crate) fn command_named(alloc: Global, name: &str, value: &Value) -> Result<
         "snapshot" => bare(value, Command::Snapshot),
         "read" => two_numbers(value, "id", "count").map(|(id, count)| Command::Read { id, count }),
         "close" => sole_number(value, "id").map(|id| Command::Close { id }),
+        "mirror" => bare(value, Command::Mirror),
+        "send" => bare(value, Command::Send),
+        "deliver" => sole_number(value, "n").map(|n| Command::Deliver { n }),
+        "mirrored" => sole_number(value, "n").map(|n| Command::Mirrored { n }),
         _ => Err(LineFault::Syntax),
     }
 }

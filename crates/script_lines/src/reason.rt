@@ -9,4 +9,6 @@ pub enum Refusal {
     Overlap,
     Limit,
     Memory,
+    /// Events before it are missing: the version of the mirror, and the one that the event needs.
+    Gap { have: u64, need: u64 },
 }

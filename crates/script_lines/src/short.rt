@@ -2,7 +2,7 @@
 
 ghost use Rattle.std.specs.Prelude.{◌≡◌, ◌≤◌, length};
 ghost use Rattle.arrayvec.specs.ArrayVec.{array_vec_len};
-ghost use Rattle.script_lines.specs.Replies.{number_part, ok_reply, none_reply, refusal_reply};
+ghost use Rattle.script_lines.specs.Replies.{number_part, ok_reply, none_reply, old_reply, refusal_reply};
 
 use crate::reason::Refusal;
 use arrayvec::ArrayVec;
@@ -46,6 +46,13 @@ impl Short {
         Short::from_text(b"ok none\n")
     }
 
+    /// `ok old`, where it came before.
+    pub fn old() -> Short
+        ensures { result ≡ old_reply }
+    {
+        Short::from_text(b"ok old\n")
+    }
+
     fn from_text(text: &[u8]) -> Short
         requires { length text.now ≤ 128 }
         ensures { result ≡ text.now }
@@ -73,7 +80,21 @@ pub fn refusal(r: Refusal) -> Short
         Refusal::Overlap => Short::from_text(b"! overlap\n"),
         Refusal::Limit => Short::from_text(b"! limit\n"),
         Refusal::Memory => Short::from_text(b"! memory\n"),
+        Refusal::Gap { have, need } => gap(have, need),
     }
+}
+
+fn gap(have: u64, need: u64) -> Short
+    ensures { result ≡ refusal_reply (Refusal.Gap have need) }
+{
+    let have = number_part(have);
+    let need = number_part(need);
+    let mut bytes = ArrayVec::new();
+    bytes.try_extend_from_slice(b"! gap").unwrap();
+    bytes.try_extend_from_slice(have.as_slice()).unwrap();
+    bytes.try_extend_from_slice(need.as_slice()).unwrap();
+    bytes.push(b'\n');
+    Short { bytes }
 }
 
 /// A blank and the number in plain decimals.

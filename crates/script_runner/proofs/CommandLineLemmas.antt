@@ -1,5 +1,5 @@
 -- What clap makes of words, and that it is what they are.
-use Rattle.std.proofs.Common.{◌≡◌, ◌∙◌, ◌||◌, if◌then◌else◌, ◌^◌, ◌<◌, ◌++◌, ℕ, Bool, true, false, List, [], ◌∷◌, Option, Some, None, refl, ap, sym, subst, codes, fold, length, map, slice_get, string_bytes, String, Global, ◌==◌, ◌≤◌, nat_le, Result, Ok, Err, option_and_then, arith}
+use Rattle.std.proofs.Common.{◌≡◌, ◌∙◌, if◌then◌else◌, ◌^◌, ◌<◌, ◌++◌, ℕ, Bool, true, false, List, [], ◌∷◌, Option, Some, None, refl, ap, sym, subst, codes, fold, length, map, slice_get, string_bytes, String, Global, ◌==◌, ◌≤◌, nat_le, Result, Ok, Err, option_and_then, arith}
 use Rattle.std.specs.Char.{digit_value, encode_utf8}
 use Rattle.std.specs.Str.{IsUtf8, bytes_eq, chars, encode_utf8_all}
 use Rattle.std.specs.Str.Parse.{IsNumeral, ParsesUnsigned, digits_value, starts_with_minus, without_leading_plus}

@@ -4,7 +4,7 @@ use Rattle.std.specs.Prelude.{MatchBool}
 use Rattle.std.specs.List.{All}
 use Rattle.std.proofs.lemmas.List.{append_cancel_left}
 use Rattle.std.proofs.lemmas.List.Elements.{All-nil, All-cons}
-use Rattle.document_rules.specs.Document.{FlatState}
+use Rattle.script_runner.specs.Session.{FlatSession}
 use Rattle.script_runner.specs.Step.{memory_reply, Answers, answered, out_of_memory}
 use Rattle.script_runner.specs.Script.{cut, IsInOneLine, IsOneLine, IsDecided, has_reply, turn, written, Turn, Transcript}
 use Rattle.script_runner.proofs.CutLemmas.{cut-append_break}
@@ -32,18 +32,18 @@ same_line reply reply' rest rest' (text, one, is) (text', one', is') e =
 memory_line : IsOneLine memory_reply
 memory_line = (codes "! memory", refl, refl)
 
-answer_line : (flat : List ℕ × FlatState) (old : FlatState) (reply : List ℕ) (new : FlatState) → IsFlatReply flat.0 → Answers flat old reply new → IsOneLine reply
+answer_line : (flat : List ℕ × FlatSession) (old : FlatSession) (reply : List ℕ) (new : FlatSession) → IsFlatReply flat.0 → Answers flat old reply new → IsOneLine reply
 answer_line flat old reply new good (answered is to) = subst IsOneLine (sym is) good.line
 answer_line flat old reply new good (out_of_memory is to) = subst IsOneLine (sym is) memory_line
 
-same_answer : (flat : List ℕ × FlatState) (old : FlatState) (reply : List ℕ) (new new' : FlatState) → IsFlatReply flat.0
+same_answer : (flat : List ℕ × FlatSession) (old : FlatSession) (reply : List ℕ) (new new' : FlatSession) → IsFlatReply flat.0
     → Answers flat old reply new → Answers flat old reply new' → new ≡ new'
 same_answer flat old reply new new' good (answered is to) (answered is' to') = to ∙ sym to'
 same_answer flat old reply new new' good (answered is to) (out_of_memory is' to') = absurd (good.sure (sym is ∙ is'))
 same_answer flat old reply new new' good (out_of_memory is to) (answered is' to') = absurd (good.sure (sym is' ∙ is))
 same_answer flat old reply new new' good (out_of_memory is to) (out_of_memory is' to') = to ∙ sym to'
 
-turn_line : (old : FlatState) (line reply : List ℕ) (new : FlatState) → Turn old line reply new → (reply ≡ []) ⊎ IsOneLine reply
+turn_line : (old : FlatSession) (line reply : List ℕ) (new : FlatSession) → Turn old line reply new → (reply ≡ []) ⊎ IsOneLine reply
 turn_line old line reply new turned =
     elim (has_reply line) as (λ b. MatchBool b (Answers (turn old line) old reply new) ((reply ≡ []) × (new ≡ old)) → (reply ≡ []) ⊎ IsOneLine reply) [
       | true ↦ λ answers. inr (answer_line (turn old line) old reply new (flat_turn old line) answers)
@@ -51,12 +51,12 @@ turn_line old line reply new turned =
     ] turned
 
 -- two turns of one line, by what was written from there on
-record IsSameTurn (reply reply' rest rest' : List ℕ) (new new' : FlatState) : Type 0 where
+record IsSameTurn (reply reply' rest rest' : List ℕ) (new new' : FlatSession) : Type 0 where
   pub replies : reply ≡ reply'
   pub rests : rest ≡ rest'
   pub ends : new ≡ new'
 
-same_replied : (flat : List ℕ × FlatState) (old : FlatState) (reply reply' rest rest' : List ℕ) (new new' : FlatState) → IsFlatReply flat.0
+same_replied : (flat : List ℕ × FlatSession) (old : FlatSession) (reply reply' rest rest' : List ℕ) (new new' : FlatSession) → IsFlatReply flat.0
     → Answers flat old reply new → Answers flat old reply' new' → reply ++ rest ≡ reply' ++ rest' → IsSameTurn reply reply' rest rest' new new'
 same_replied flat old reply reply' rest rest' new new' good first second e =
     let same = same_line reply reply' rest rest' (answer_line flat old reply new good first) (answer_line flat old reply' new' good second) e in
@@ -66,7 +66,7 @@ same_replied flat old reply reply' rest rest' new new' good first second e =
       ends = same_answer flat old reply new new' good first (subst (λ r. Answers flat old r new') (sym same.0) second);
     }
 
-same_nothing : (old : FlatState) (reply reply' rest rest' : List ℕ) (new new' : FlatState) → (reply ≡ []) × (new ≡ old) → (reply' ≡ []) × (new' ≡ old)
+same_nothing : (old : FlatSession) (reply reply' rest rest' : List ℕ) (new new' : FlatSession) → (reply ≡ []) × (new ≡ old) → (reply' ≡ []) × (new' ≡ old)
     → reply ++ rest ≡ reply' ++ rest' → IsSameTurn reply reply' rest rest' new new'
 same_nothing old reply reply' rest rest' new new' (is, to) (is', to') e = record {
   replies = is ∙ sym is';
@@ -74,7 +74,7 @@ same_nothing old reply reply' rest rest' new new' (is, to) (is', to') e = record
   ends = to ∙ sym to';
 }
 
-same_turn : (old : FlatState) (line reply reply' rest rest' : List ℕ) (new new' : FlatState) → Turn old line reply new → Turn old line reply' new'
+same_turn : (old : FlatSession) (line reply reply' rest rest' : List ℕ) (new new' : FlatSession) → Turn old line reply new → Turn old line reply' new'
     → reply ++ rest ≡ reply' ++ rest' → IsSameTurn reply reply' rest rest' new new'
 same_turn old line reply reply' rest rest' new new' first second e =
     elim (has_reply line) as (λ b. MatchBool b (Answers (turn old line) old reply new) ((reply ≡ []) × (new ≡ old))
@@ -83,7 +83,7 @@ same_turn old line reply reply' rest rest' new new' first second e =
       | false ↦ λ a b. same_nothing old reply reply' rest rest' new new' a b e
     ] first second
 
-same_transcript : (start : FlatState) (lines replies others : List (List ℕ)) (end other : FlatState) → Transcript start lines replies end
+same_transcript : (start : FlatSession) (lines replies others : List (List ℕ)) (end other : FlatSession) → Transcript start lines replies end
     → Transcript start lines others other → written others ≡ written replies → (others ≡ replies) × (other ≡ end)
 same_transcript start [] [] [] end other first second e = (refl, second ∙ sym first)
 same_transcript start [] (r ∷ rs) others end other first second e = absurd first
@@ -99,18 +99,18 @@ same_transcript start (l ∷ ls) (r ∷ rs) (o ∷ os) end other first second e 
 abbrev IsReply : List ℕ → Type 0
 IsReply reply = (reply ≡ []) ⊎ IsOneLine reply
 
-replied_lines : (start : FlatState) (lines replies : List (List ℕ)) (end : FlatState) → Transcript start lines replies end
+replied_lines : (start : FlatSession) (lines replies : List (List ℕ)) (end : FlatSession) → Transcript start lines replies end
     → All IsReply replies
 replied_lines start [] [] end t = All-nil IsReply
 replied_lines start [] (r ∷ rs) end t = absurd t
 replied_lines start (l ∷ ls) [] end t = absurd t
 replied_lines start (l ∷ ls) (r ∷ rs) end t = All-cons IsReply r rs (turn_line start l r t.0 t.1) (replied_lines t.0 ls rs end t.2)
 
-pub decided : (start : FlatState) (lines replies : List (List ℕ)) (end : FlatState) → Transcript start lines replies end → IsDecided start lines replies end
+pub decided : (start : FlatSession) (lines replies : List (List ℕ)) (end : FlatSession) → Transcript start lines replies end → IsDecided start lines replies end
 decided start lines replies end t = record {
   one_line = replied_lines start lines replies end t;
   only = λ others other also same. same_transcript start lines replies others end other t also same;
 }
 
-pub never_memory : (f : FlatState) (line : List ℕ) → (turn f line).0 ≡ memory_reply → ⊥
+pub never_memory : (f : FlatSession) (line : List ℕ) → (turn f line).0 ≡ memory_reply → ⊥
 never_memory f line = (flat_turn f line).sure

@@ -1,14 +1,15 @@
 -- How a script is answered, line by line and piece by piece.
-use Rattle.std.proofs.Common.{◌≡◌, ℕ, suc, ◌+◌, ◌≤◌, min, List, [], ◌∷◌, ◌++◌, length, append_assoc, refl, ap, sym, ◌∙◌, subst, arith}
+use Rattle.std.proofs.Common.{◌≡◌, ℕ, ◌+◌, ◌≤◌, min, List, [], ◌∷◌, ◌++◌, length, length-append, append_assoc, refl, ap, sym, ◌∙◌, subst, arith}
 use Rattle.std.specs.Str.{bytes_eq}
 use Rattle.std.proofs.lemmas.List.{append-nil}
 use Rattle.std.proofs.lemmas.List.Concat.{flat_map-append}
 use Rattle.std.proofs.lemmas.List.Sums.{sum_by-append, count_by-le-length}
-use Rattle.document_rules.specs.Document.{FlatState}
 use Rattle.script_streams.specs.Streams.{SinkState, TakenWhole, Rose, greatest_count}
 use Rattle.script_streams.proofs.StreamLaws.{Wrote-append, Wrote-nothing}
 use Rattle.script_runner.specs.declared.serving.Progress.{Progress}
-use Rattle.script_runner.specs.Session.{SessionState}
+use Rattle.script_runner.specs.declared.session.Session.{Session}
+use Rattle.script_runner.specs.Session.{FlatSession}
+use Rattle.script_runner.specs.Standing.{Turns, Replied}
 use Rattle.script_runner.specs.Script.{cut, is_refused, whole_lines, all_lines, written, IsInOneLine, Turn, Transcript}
 use Rattle.script_runner.specs.Progress.{IsLineSoFar, refusals, memory_refusals, Led, Went, Broken, Broke, LineAnswered, LineBroken, PieceAnswered, PieceBroken}
 use Rattle.script_runner.specs.Step.{memory_reply}
@@ -16,7 +17,7 @@ use Rattle.script_runner.proofs.CutLemmas.{cut-append_line, cut-append_break, le
 
 -- ---- transcripts
 
-pub Transcript-push : (start : FlatState) (lines : List (List ℕ)) (replies : List (List ℕ)) (mid : FlatState) (line reply : List ℕ) (end : FlatState)
+pub Transcript-push : (start : FlatSession) (lines : List (List ℕ)) (replies : List (List ℕ)) (mid : FlatSession) (line reply : List ℕ) (end : FlatSession)
     → Transcript start lines replies mid → Turn mid line reply end → Transcript start (lines ++ line ∷ []) (replies ++ reply ∷ []) end
 Transcript-push start [] [] mid line reply end before turn =
     (end, subst (λ s. Turn s line reply end) before turn, refl)
@@ -25,39 +26,46 @@ Transcript-push start (l ∷ lines) [] mid line reply end before turn = absurd b
 Transcript-push start (l ∷ lines) (r ∷ replies) mid line reply end before turn =
     (before.0, before.1, Transcript-push before.0 lines replies mid line reply end before.2 turn)
 
-length-Transcript : (start : FlatState) (lines replies : List (List ℕ)) (end : FlatState) → Transcript start lines replies end → length replies ≡ length lines
-length-Transcript start [] [] end t = refl
-length-Transcript start [] (r ∷ replies) end t = absurd t
-length-Transcript start (l ∷ lines) [] end t = absurd t
-length-Transcript start (l ∷ lines) (r ∷ replies) end t = ap suc (length-Transcript t.0 lines replies end t.2)
+pub Replied-nothing : (start : Session) → Replied start [] [] start
+Replied-nothing start = record { count = refl; told = λ flat stands. (flat, refl, stands) }
+
+pub Replied-push : (start : Session) (lines replies : List (List ℕ)) (mid : Session) (line reply : List ℕ) (end : Session)
+    → Replied start lines replies mid → Turns mid line reply end → Replied start (lines ++ line ∷ []) (replies ++ reply ∷ []) end
+Replied-push start lines replies mid line reply end before turn = record {
+  count = length-append replies (reply ∷ []) ∙ ap (λ n. n + 1) before.count ∙ sym (length-append lines (line ∷ []));
+  told = λ flat stands.
+      let was = before.told flat stands in
+      let now = turn was.0 was.2 in
+      (now.0, Transcript-push flat lines replies was.0 line reply now.0 was.1 now.1, now.2);
+}
 
 -- there are at most as many refusals as lines, and as lines as bytes
-pub few_refusals : (start : FlatState) (script : List ℕ) (replies : List (List ℕ)) (end : FlatState) → Transcript start (all_lines script) replies end
+pub few_refusals : (start : Session) (script : List ℕ) (replies : List (List ℕ)) (end : Session) → Replied start (all_lines script) replies end
     → refusals replies ≤ length script
-few_refusals start script replies end t = omega (arith, length-all_lines script, length-Transcript _ _ _ _ t, count_by-le-length is_refused replies)
+few_refusals start script replies end t = omega (arith, length-all_lines script, t.count, count_by-le-length is_refused replies)
 
-pub few_memory_refusals : (start : FlatState) (script : List ℕ) (replies : List (List ℕ)) (end : FlatState) → Transcript start (all_lines script) replies end
+pub few_memory_refusals : (start : Session) (script : List ℕ) (replies : List (List ℕ)) (end : Session) → Replied start (all_lines script) replies end
     → memory_refusals replies ≤ length script
 few_memory_refusals start script replies end t =
-    omega (arith, length-all_lines script, length-Transcript _ _ _ _ t, count_by-le-length (bytes_eq memory_reply) replies)
+    omega (arith, length-all_lines script, t.count, count_by-le-length (bytes_eq memory_reply) replies)
 
 -- ---- what led here
 
-pub Led-start : (start : SessionState) (progress : Progress) → IsLineSoFar progress.line [] → progress.refused ≡ 0 → progress.memory ≡ 0
+pub Led-start : (start : Session) (progress : Progress) → IsLineSoFar progress.line [] → progress.refused ≡ 0 → progress.memory ≡ 0
     → Led start [] [] start progress
 Led-start start progress line refused memory = record {
   replies = [];
-  transcript = refl;
+  transcript = Replied-nothing start;
   out_is = refl;
   line = line;
   refused = refused;
   memory = memory;
 }
 
-pub Went-nothing : (state : SessionState) (progress : Progress) → Went state progress [] [] state progress
+pub Went-nothing : (state : Session) (progress : Progress) → Went state progress [] [] state progress
 Went-nothing state progress start read out led = rw (append-nil read, append-nil out) led
 
-module _ (state state' state'' : SessionState) (progress progress' progress'' : Progress) (x y a b : List ℕ) where
+module _ (state state' state'' : Session) (progress progress' progress'' : Progress) (x y a b : List ℕ) where
   pub Went-append : Went state progress x a state' progress' → Went state' progress' y b state'' progress''
       → Went state progress (x ++ y) (a ++ b) state'' progress''
   Went-append first second start read out led =
@@ -68,7 +76,7 @@ module _ (state state' state'' : SessionState) (progress progress' progress'' : 
       rw (← append_assoc read x y, ← append_assoc out a b) (second start (read ++ x) (out ++ a) (first start read out led))
 
 -- the line goes on
-pub Went-line : (state : SessionState) (progress progress' : Progress) (bytes : List ℕ) → IsInOneLine bytes
+pub Went-line : (state : Session) (progress progress' : Progress) (bytes : List ℕ) → IsInOneLine bytes
     → ((line : List ℕ) → IsLineSoFar progress.line line → IsLineSoFar progress'.line (line ++ bytes))
     → progress'.refused ≡ progress.refused → progress'.memory ≡ progress.memory
     → Went state progress bytes [] state progress'
@@ -96,12 +104,12 @@ rest-break read end =
 pub counted_more : (n m a : ℕ) → n ≡ min a greatest_count → min (n + m) greatest_count ≡ min (a + m) greatest_count
 counted_more n m a is = omega arith
 
-module _ (end : List ℕ) (state state' : SessionState) (progress progress' : Progress) (out out' : SinkState) where
+module _ (end : List ℕ) (state state' : Session) (progress progress' : Progress) (out out' : SinkState) where
   pub Went-break : IsInOneLine end → (answered : LineAnswered end state progress state' progress' out out')
       → Went state progress (end ++ 10 ∷ []) answered.reply state' progress'
   Went-break one answered start read written_so_far led = record {
     replies = led.replies ++ answered.reply ∷ [];
-    transcript = rw (ended-break read end [] one) (Transcript-push _ _ _ _ _ _ _ led.transcript (answered.turn _ led.line));
+    transcript = rw (ended-break read end [] one) (Replied-push _ _ _ _ _ _ _ led.transcript (answered.turn _ led.line));
     out_is = rw (led.out_is, flat_map-append) (ap (λ x. written led.replies ++ x) (sym (append-nil answered.reply)));
     line = rw (rest-break read end) answered.line;
     refused = answered.refused ∙ counted_more progress.refused _ (refusals led.replies) led.refused
@@ -111,7 +119,7 @@ module _ (end : List ℕ) (state state' : SessionState) (progress progress' : Pr
   }
 
   -- the reply to the line that ends here broke off
-  pub broken_at : (broken : LineBroken end state progress state' out out') (start : SessionState) (read before : List ℕ) (lines others : List (List ℕ))
+  pub broken_at : (broken : LineBroken end state progress state' out out') (start : Session) (read before : List ℕ) (lines others : List (List ℕ))
       → lines ≡ whole_lines read ++ ((cut read).rest ++ end) ∷ others → Led start read before state progress
       → Broken start lines (before ++ broken.sink.front) state'
   broken_at broken start read before lines others lines_are led = record {
@@ -137,14 +145,14 @@ module _ (end : List ℕ) (state state' : SessionState) (progress progress' : Pr
 -- ---- a piece of the script
 
 -- of the piece, what stands before rest is answered
-pub record IsAnsweredTo (piece rest : List ℕ) (state : SessionState) (progress : Progress) (state' : SessionState) (progress' : Progress) (out out' : SinkState) : Type 0 where
+pub record IsAnsweredTo (piece rest : List ℕ) (state : Session) (progress : Progress) (state' : Session) (progress' : Progress) (out out' : SinkState) : Type 0 where
   pub consumed : List ℕ
   pub added : List ℕ
   pub whole : piece ≡ consumed ++ rest
   pub went : Went state progress consumed added state' progress'
   pub sink : TakenWhole out out' added
 
-pub answered_to_start : (piece : List ℕ) (state : SessionState) (progress : Progress) (out : SinkState) → IsAnsweredTo piece piece state progress state progress out out
+pub answered_to_start : (piece : List ℕ) (state : Session) (progress : Progress) (out : SinkState) → IsAnsweredTo piece piece state progress state progress out out
 answered_to_start piece state progress out = record {
   consumed = [];
   added = [];
@@ -153,9 +161,9 @@ answered_to_start piece state progress out = record {
   sink = record { wrote = Wrote-nothing out; faults = refl };
 }
 
-module _ (piece rest : List ℕ) (state : SessionState) (progress : Progress) (mid : SessionState) (progress' : Progress) (out out' : SinkState)
+module _ (piece rest : List ℕ) (state : Session) (progress : Progress) (mid : Session) (progress' : Progress) (out out' : SinkState)
     (before : IsAnsweredTo piece rest state progress mid progress' out out') (line : List ℕ) (one : IsInOneLine line) where
-  pub answered_to_line : (after : List ℕ) (state' : SessionState) (progress'' : Progress) (out'' : SinkState) → rest ≡ line ++ 10 ∷ after
+  pub answered_to_line : (after : List ℕ) (state' : Session) (progress'' : Progress) (out'' : SinkState) → rest ≡ line ++ 10 ∷ after
       → LineAnswered line mid progress' state' progress'' out' out'' → IsAnsweredTo piece after state progress state' progress'' out out''
   answered_to_line after state' progress'' out'' parts answered = record {
     consumed = before.consumed ++ (line ++ 10 ∷ []);
@@ -169,7 +177,7 @@ module _ (piece rest : List ℕ) (state : SessionState) (progress : Progress) (m
     };
   }
 
-  pub piece_broken : (after : List ℕ) (state' : SessionState) (out'' : SinkState) → rest ≡ line ++ 10 ∷ after
+  pub piece_broken : (after : List ℕ) (state' : Session) (out'' : SinkState) → rest ≡ line ++ 10 ∷ after
       → LineBroken line mid progress' state' out' out'' → PieceBroken piece state progress state' out out''
   piece_broken after state' out'' parts broken = record {
     added = before.added ++ broken.sink.front;

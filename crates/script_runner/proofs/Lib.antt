@@ -9,3 +9,5 @@ pub mod OpLemmas
 pub mod ReplyLemmas
 pub mod DecidedLemmas
 mod ScriptExamples
+mod StandingLemmas
+mod MirrorLemmas

@@ -1,6 +1,6 @@
 -- What playing a script comes to.
 use Rattle.std.proofs.Common.{◌≡◌, inl, inr, ℕ, ◌+◌, ◌%◌, ◌^◌, ◌<◌, ◌≤◌, List, length, sum, length-append, Option, Some, None, refl, ap, sym, ◌∙◌, subst, arith}
-use Rattle.document_rules.specs.Document.{empty_document, flat_line_count}
+use Rattle.document_rules.specs.Document.{flat_line_count}
 use Rattle.script_streams.specs.Streams.{SourceState, SinkState, Tally, tally_after, Gave, Rose}
 use Rattle.script_streams.specs.Fresh.{no_tally}
 use Rattle.script_play.specs.Script.{script, IsCount}
@@ -9,7 +9,9 @@ use Rattle.script_play.proofs.LengthLemmas.{length-script}
 use Rattle.script_runner.specs.declared.playing.Summary.{Summary}
 use Rattle.script_runner.specs.declared.serving.Served.{Served}
 use Rattle.script_runner.specs.declared.serving.Served.TheVariants.{Ended, ReadFault, WriteFault, TooLong}
-use Rattle.script_runner.specs.Session.{SessionState, new_session}
+use Rattle.script_runner.specs.declared.session.Session.{Session}
+use Rattle.script_runner.specs.Session.{new_session}
+use Rattle.script_runner.specs.Standing.{StandsFor}
 use Rattle.script_runner.specs.Script.{all_lines, written, Transcript}
 use Rattle.script_runner.specs.Serving.{Serves, ServedAll}
 use Rattle.script_runner.specs.Runs.{most_script_bytes}
@@ -26,7 +28,7 @@ gave_within : (left : Option (List ℕ)) (all read : List ℕ) → Gave (Some al
 gave_within None all read gave = absurd gave
 gave_within (Some rest) all read gave = omega (arith, ap length gave, length-append read rest)
 
-module _ (most : ℕ) (start end : SessionState) (src src' : SourceState) (out out' : SinkState) (all : List ℕ)
+module _ (most : ℕ) (start end : Session) (src src' : SourceState) (out out' : SinkState) (all : List ℕ)
     (left : src.left ≡ Some all) (few : length all < most) (no_read_fault : src'.faults ≡ 0) (no_write_fault : out'.faults ≡ 0) where
   -- a script within the limit is read to its end where no read and no write fails
   has_ended : (served : Served) → Serves served most start end src src' out out' → HasEnded served
@@ -40,16 +42,16 @@ module _ (most : ℕ) (start end : SessionState) (src src' : SourceState) (out o
 short_script : (count seed : ℕ) → IsCount count → length (script count seed) < most_script_bytes
 short_script count seed few = omega (arith, length-script count seed)
 
-module _ (count seed : ℕ) (end : SessionState) (src src' : SourceState) (before after : Tally) (left : src.left ≡ Some (script count seed)) where
+module _ (count seed : ℕ) (start end : Session) (new : StandsFor start new_session) (src src' : SourceState) (before after : Tally) (left : src.left ≡ Some (script count seed)) where
   -- a script that is played is read to its end
   pub play_ends : (served : Served) → IsCount count → src'.faults ≡ 0
-      → Serves served most_script_bytes new_session end src src' (tally_sink before) (tally_sink after) → HasEnded served
+      → Serves served most_script_bytes start end src src' (tally_sink before) (tally_sink after) → HasEnded served
   play_ends served few none serves =
-      has_ended most_script_bytes new_session end src src' (tally_sink before) (tally_sink after) (script count seed) left (short_script count seed few)
+      has_ended most_script_bytes start end src src' (tally_sink before) (tally_sink after) (script count seed) left (short_script count seed few)
       none refl served serves
 
   module _ (refused : ℕ) (fresh : before ≡ no_tally)
-      (served : ServedAll most_script_bytes new_session end src src' (tally_sink before) (tally_sink after) refused 0) where
+      (served : ServedAll most_script_bytes start end src src' (tally_sink before) (tally_sink after) refused 0) where
     whole : served.script ≡ script count seed
     whole = whole_script src'.left (script count seed) served.script (subst (λ l. Gave l src'.left served.script) left served.gave) served.nothing_left
 
@@ -73,25 +75,25 @@ module _ (count seed : ℕ) (end : SessionState) (src src' : SourceState) (befor
     sum_is = let summed : after.sum ≡ (before.sum + sum (written served.replies)) % 2 ^ 32 = ap (λ t. t.sum) tally_is in
         omega (arith, summed, sum_before)
 
-    sums_up : (s : Summary) → s.count ≡ count → s.refused ≡ refused → s.units ≡ length end.document.units → s.lines ≡ flat_line_count end.document
+    sums_up : (s : Summary) → s.count ≡ count → s.refused ≡ refused → s.units ≡ length end.model.document.units → s.lines ≡ flat_line_count end.model.document
         → s.bytes ≡ after.count → s.total ≡ after.sum → SumsUp s count seed
-    sums_up s count_kept refused_kept units lines bytes total = record {
+    sums_up s count_kept refused_kept units lines bytes total = let told = served.transcript.told new_session new in record {
       replies = served.replies;
-      end = end.document;
-      transcript = subst (λ x. Transcript empty_document (all_lines x) served.replies end.document) whole served.transcript;
+      end = told.0;
+      transcript = subst (λ x. Transcript new_session (all_lines x) served.replies told.0) whole told.1;
       had_memory = sym served.memory_is;
       count_is = count_kept;
       refused_is = refused_kept ∙ served.refused_is;
-      units_are = units;
-      lines_are = lines;
+      units_are = units ∙ ap (λ f. length f.units) (sym told.2.document);
+      lines_are = lines ∙ ap flat_line_count (sym told.2.document);
       bytes_are = bytes ∙ count_is;
       total_is = total ∙ sum_is;
     }
 
   -- where no reply is `! memory`, these are the numbers
   pub summed_up : (served : Served) (refused : ℕ) → served ≡ Ended refused 0 → before ≡ no_tally
-      → Serves served most_script_bytes new_session end src src' (tally_sink before) (tally_sink after)
-      → (s : Summary) → s.count ≡ count → s.refused ≡ refused → s.units ≡ length end.document.units → s.lines ≡ flat_line_count end.document
+      → Serves served most_script_bytes start end src src' (tally_sink before) (tally_sink after)
+      → (s : Summary) → s.count ≡ count → s.refused ≡ refused → s.units ≡ length end.model.document.units → s.lines ≡ flat_line_count end.model.document
       → s.bytes ≡ after.count → s.total ≡ after.sum → SumsUp s count seed
   summed_up served refused is fresh serves =
-      sums_up refused fresh (subst (λ served. Serves served most_script_bytes new_session end src src' (tally_sink before) (tally_sink after)) is serves)
+      sums_up refused fresh (subst (λ served. Serves served most_script_bytes start end src src' (tally_sink before) (tally_sink after)) is serves)

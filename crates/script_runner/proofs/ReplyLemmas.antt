@@ -1,5 +1,5 @@
 -- Each flat reply is one line, and none is `! memory`.
-use Rattle.std.proofs.Common.{◌≡◌, ℕ, zero, suc, ◌+◌, ◌/◌, ◌%◌, ◌≤◌, Bool, true, false, cond, ltb, eqb, List, [], ◌∷◌, ◌++◌, length, unwrap_or, Option, Some, None, Result, Ok, Err, codes, refl, ap, ◌∙◌, arith}
+use Rattle.std.proofs.Common.{◌≡◌, ℕ, zero, suc, ◌+◌, ◌-◌, ◌/◌, ◌%◌, ◌≤◌, ◌==◌, nat_lt, nat_le, Bool, true, false, cond, ltb, eqb, List, [], ◌∷◌, ◌++◌, length, unwrap_or, Option, Some, None, Result, Ok, Err, codes, refl, ap, ◌∙◌, arith}
 use Rattle.std.specs.List.{flat_map}
 use Rattle.std.specs.Fmt.{digits, digits_onto, digit_glyph}
 use Rattle.std.specs.Char.{digit_char}
@@ -15,7 +15,7 @@ use Rattle.bracket_rules.specs.declared.Status.{Status}
 use Rattle.bracket_rules.specs.declared.Status.TheVariants.{PairedOpening, PairedClosing, Unclosed, Unexpected}
 use Rattle.document_rules.specs.Refusals.{FlatRefusal, unknown, range, overlap, limit}
 use Rattle.bracket_rules.specs.Table.{standard_table}
-use Rattle.document_rules.specs.Document.{FlatState, flat_open, flat_edit, flat_eol, flat_undo, flat_redo, flat_decorate, flat_deco, flat_decos, flat_line, flat_value, flat_position, flat_offset, flat_line_count}
+use Rattle.document_rules.specs.Document.{FlatState, flat_open, flat_edit, flat_eol, flat_undo, flat_redo, flat_decorate, flat_deco, flat_decos, flat_line, flat_value, flat_position, flat_offset, flat_line_count, content_of}
 use Rattle.document_rules.specs.Brackets.{flat_brackets, flat_match, flat_level}
 use Rattle.document_rules.specs.Snapshots.{flat_snapshot, flat_peek_of, flat_close_of}
 use Rattle.document_rules.specs.Stops.{flat_stops}
@@ -23,9 +23,12 @@ use Rattle.script_lines.specs.declared.command.Command.{Command}
 use Rattle.script_lines.specs.declared.command.Command.TheVariants as command
 use Rattle.script_lines.specs.declared.reason.Refusal.TheVariants as refusal
 use Rattle.script_lines.specs.Commands.{command_of}
-use Rattle.script_lines.specs.Replies.{number_part, text_part, ok_reply, none_reply, text_reply, refusal_reply}
+use Rattle.script_lines.specs.Replies.{number_part, text_part, ok_reply, none_reply, old_reply, text_reply, refusal_reply}
 use Rattle.text_rules.specs.declared.Op.{Op}
-use Rattle.script_runner.specs.Step.{reason_of, memory_reply, ops_at, deco_numbers, changed, moved, decorated, edited_at, text_answer, offset_answer, position_answer, deco_answer, decos_answer, status_letter, entry_part, entries_reply, brackets_answer, match_answer, level_answer, snapshot_answer, read_answer, close_answer, stops_answer, step}
+use Rattle.text_rules.specs.Lines.{lines_of, line_at}
+use Rattle.mirror_rules.specs.Mirrors.{MirrorState, SentEvent}
+use Rattle.script_runner.specs.Session.{FlatSession}
+use Rattle.script_runner.specs.Step.{reason_of, memory_reply, ops_at, deco_numbers, changed, moved, decorated, edited_at, text_answer, offset_answer, position_answer, deco_answer, decos_answer, status_letter, entry_part, entries_reply, brackets_answer, match_answer, level_answer, snapshot_answer, read_answer, close_answer, stops_answer, opened, most_sent, send_answer, sent_at, followed, delivered, deliver_answer, mirrored_answer, step}
 use Rattle.script_runner.specs.Script.{after_byte, IsInOneLine, IsOneLine, commanded, is_too_long, turn}
 use Rattle.script_runner.proofs.CutLemmas.{cut-append_line}
 
@@ -206,38 +209,88 @@ flat_stops_answer : (rule : Result (List ℕ) FlatRefusal) → IsFlatReply (stop
 flat_stops_answer (Ok columns) = flat_numbers columns
 flat_stops_answer (Err why) = flat_refusal why
 
-flat_step : (f : FlatState) (c : Command) → IsFlatReply (step f c).0
-flat_step f (command.Open text brackets kind) = flat_changed f (flat_open text (unwrap_or brackets standard_table) kind)
-flat_step f (command.Edit ops) = flat_edited f (ops_at f ops)
-flat_step f (command.Eol kind) = flat_moved f (flat_eol f kind)
-flat_step f (command.Decorate owner remove add) = flat_decorated f (length add) (flat_decorate f owner remove add)
-flat_step f command.Undo = flat_moved f (flat_undo f)
-flat_step f command.Redo = flat_moved f (flat_redo f)
-flat_step f command.Stop = flat_numbers []
-flat_step f command.Version = flat_numbers (f.version ∷ f.alternative ∷ [])
-flat_step f command.Size = flat_numbers (length f.units ∷ flat_line_count f ∷ [])
-flat_step f (command.Line n) = flat_text_answer (flat_line f n)
-flat_step f (command.Value span) = flat_text_answer (flat_value f span)
-flat_step f (command.Offset p) = flat_offset_answer (flat_offset f p)
-flat_step f (command.Position offset) = flat_position_answer (flat_position f offset)
-flat_step f (command.Deco id) = flat_deco_answer (flat_deco f id)
-flat_step f (command.Decos span owner) = flat_decos_answer (flat_decos f span owner)
-flat_step f (command.Brackets from to) = flat_brackets_answer (flat_brackets f from to)
-flat_step f (command.Match p) = flat_match_answer (flat_match f p)
-flat_step f (command.Level p) = flat_level_answer (flat_level f p)
-flat_step f command.Snapshot = flat_snapshot_answer f (flat_snapshot f)
-flat_step f (command.Read id count) = flat_read_answer f id (flat_peek_of f id count)
-flat_step f (command.Close id) = flat_close_answer f (flat_close_of f id)
-flat_step f (command.Stops n) = flat_stops_answer (flat_stops f n)
+flat_old : IsFlatReply old_reply
+flat_old = record { line = (codes "ok old", refl, refl); sure = sure_by _ refl }
 
-flat_commanded : (f : FlatState) (c : Option Command) → IsFlatReply (commanded f c).0
+flat_gap : (have need : ℕ) → IsFlatReply (refusal_reply (refusal.Gap have need))
+flat_gap have need =
+    let front : List ℕ = codes "! gap" ++ number_part have in
+    record {
+      line = (
+        front ++ number_part need,
+        one-append front (number_part need)
+            (one-append (codes "! gap") (number_part have) refl (one-number_part have)) (one-number_part need),
+        refl,
+      );
+      sure = sure_by _ refl;
+    }
+
+flat_opened : (s : FlatSession) (rule : Result FlatState FlatRefusal) → IsFlatReply (opened s rule).0
+flat_opened s (Ok new) = flat_numbers (new.version ∷ length new.units ∷ flat_line_count new ∷ [])
+flat_opened s (Err why) = flat_refusal why
+
+flat_if : (b : Bool) (x y : List ℕ × FlatSession) → IsFlatReply x.0 → IsFlatReply y.0 → IsFlatReply (cond b x y).0
+flat_if true x y first second = first
+flat_if false x y first second = second
+
+flat_send : (s : FlatSession) → IsFlatReply (send_answer s).0
+flat_send s =
+    let sent : List ℕ × FlatSession = (
+      ok_reply ((length s.sent + 1) ∷ (s.document.version - 1) ∷ []),
+      record s { sent = s.sent ++ record { from = s.document.version - 1; after = s.document.units } ∷ [] },
+    ) in
+    flat_if (s.document.version == 1) (none_reply, s) _ flat_none
+    (flat_if (nat_le most_sent (length s.sent)) (refusal_reply refusal.Limit, s) sent (flat_refusal limit)
+    (flat_numbers ((length s.sent + 1) ∷ (s.document.version - 1) ∷ [])))
+
+flat_delivered : (s : FlatSession) (m : MirrorState) (e : SentEvent) → IsFlatReply (delivered s m e).0
+flat_delivered s m e =
+    let next : MirrorState = record { version = m.version + 1; units = e.after } in
+    flat_if (nat_lt e.from m.version) (old_reply, s) _ flat_old
+    (flat_if (nat_lt m.version e.from) (refusal_reply (refusal.Gap m.version e.from), s) (followed s next) (flat_gap m.version e.from)
+    (flat_numbers (next.version ∷ length next.units ∷ length (lines_of next.units) ∷ [])))
+
+flat_deliver : (s : FlatSession) (m : Option MirrorState) (e : Option SentEvent) → IsFlatReply (deliver_answer s m e).0
+flat_deliver s None e = flat_refusal unknown
+flat_deliver s (Some m) None = flat_refusal unknown
+flat_deliver s (Some m) (Some e) = flat_delivered s m e
+
+flat_mirrored : (m : Option MirrorState) (n : ℕ) → IsFlatReply (mirrored_answer m n)
+flat_mirrored None n = flat_refusal unknown
+flat_mirrored (Some m) n = flat_text_answer (content_of (line_at m.units n))
+
+flat_step : (s : FlatSession) (c : Command) → IsFlatReply (step s c).0
+flat_step s (command.Open text brackets kind) = flat_opened s (flat_open text (unwrap_or brackets standard_table) kind)
+flat_step s (command.Edit ops) = flat_edited s.document (ops_at s.document ops)
+flat_step s (command.Eol kind) = flat_moved s.document (flat_eol s.document kind)
+flat_step s (command.Decorate owner remove add) = flat_decorated s.document (length add) (flat_decorate s.document owner remove add)
+flat_step s command.Undo = flat_moved s.document (flat_undo s.document)
+flat_step s command.Redo = flat_moved s.document (flat_redo s.document)
+flat_step s command.Stop = flat_numbers []
+flat_step s command.Version = flat_numbers (s.document.version ∷ s.document.alternative ∷ [])
+flat_step s command.Size = flat_numbers (length s.document.units ∷ flat_line_count s.document ∷ [])
+flat_step s (command.Line n) = flat_text_answer (flat_line s.document n)
+flat_step s (command.Value span) = flat_text_answer (flat_value s.document span)
+flat_step s (command.Offset p) = flat_offset_answer (flat_offset s.document p)
+flat_step s (command.Position offset) = flat_position_answer (flat_position s.document offset)
+flat_step s (command.Deco id) = flat_deco_answer (flat_deco s.document id)
+flat_step s (command.Decos span owner) = flat_decos_answer (flat_decos s.document span owner)
+flat_step s (command.Brackets from to) = flat_brackets_answer (flat_brackets s.document from to)
+flat_step s (command.Match p) = flat_match_answer (flat_match s.document p)
+flat_step s (command.Level p) = flat_level_answer (flat_level s.document p)
+flat_step s command.Snapshot = flat_snapshot_answer s.document (flat_snapshot s.document)
+flat_step s (command.Read id count) = flat_read_answer s.document id (flat_peek_of s.document id count)
+flat_step s (command.Close id) = flat_close_answer s.document (flat_close_of s.document id)
+flat_step s (command.Stops n) = flat_stops_answer (flat_stops s.document n)
+flat_step s command.Mirror = flat_numbers (s.document.version ∷ [])
+flat_step s command.Send = flat_send s
+flat_step s (command.Deliver n) = flat_deliver s s.mirror (sent_at s.sent n)
+flat_step s (command.Mirrored n) = flat_mirrored s.mirror n
+
+flat_commanded : (f : FlatSession) (c : Option Command) → IsFlatReply (commanded f c).0
 flat_commanded f None = flat_syntax
 flat_commanded f (Some c) = flat_step f c
 
-flat_either : (b : Bool) (x y : List ℕ × FlatState) → IsFlatReply x.0 → IsFlatReply y.0 → IsFlatReply (cond b x y).0
-flat_either true x y first second = first
-flat_either false x y first second = second
-
 -- the flat reply to any line
-pub flat_turn : (f : FlatState) (line : List ℕ) → IsFlatReply (turn f line).0
-flat_turn f line = flat_either (is_too_long line) (refusal_reply refusal.Limit, f) (commanded f (command_of line)) (flat_refusal limit) (flat_commanded f (command_of line))
+pub flat_turn : (f : FlatSession) (line : List ℕ) → IsFlatReply (turn f line).0
+flat_turn f line = flat_if (is_too_long line) (refusal_reply refusal.Limit, f) (commanded f (command_of line)) (flat_refusal limit) (flat_commanded f (command_of line))

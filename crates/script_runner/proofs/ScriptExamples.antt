@@ -8,8 +8,10 @@ use Rattle.script_lines.proofs.ReadExamples.{an_opening, an_edit, a_line, a_size
 use Rattle.unit_text.specs.declared.kind.Kind.TheVariants.{Mixed}
 use Rattle.text_rules.specs.declared.Op.{Op}
 use Rattle.bracket_rules.specs.Table.{standard_table}
-use Rattle.document_rules.specs.Document.{FlatState, empty_document, new_document, after_batch}
-use Rattle.script_runner.specs.Session.{new_session}
+use Rattle.document_rules.specs.Document.{new_document, after_batch}
+use Rattle.script_runner.specs.declared.session.Session.{Session}
+use Rattle.script_runner.specs.Session.{FlatSession, session_of, new_session}
+use Rattle.script_runner.specs.Standing.{Turns}
 use Rattle.script_runner.specs.Step.{answered, out_of_memory}
 use Rattle.script_runner.specs.Script.{most_line_bytes, whole_lines, all_lines, Turn, Transcript}
 use Rattle.script_runner.specs.Progress.{Broken}
@@ -17,24 +19,24 @@ use Rattle.script_runner.specs.Serving.{lines_read}
 
 -- ---- lines
 
-a_blank_line_gets_nothing : Turn empty_document (codes " \t\r") [] empty_document
+a_blank_line_gets_nothing : Turn new_session (codes " \t\r") [] new_session
 a_blank_line_gets_nothing = (refl, refl)
 
 abbrev size_line : List ℕ
 size_line = codes "{\"cmd\":\"size\"}"
 
-size_is_told : Turn empty_document size_line (codes "ok 0 1\n") empty_document
+size_is_told : Turn new_session size_line (codes "ok 0 1\n") new_session
 unfolding digits
 size_is_told = rw a_size (answered refl refl)
 
-memory_may_be_wanting : Turn empty_document size_line (codes "! memory\n") empty_document
+memory_may_be_wanting : Turn new_session size_line (codes "! memory\n") new_session
 memory_may_be_wanting = out_of_memory refl refl
 
-no_command_is_told : Turn empty_document (codes "size") (codes "! syntax\n") empty_document
+no_command_is_told : Turn new_session (codes "size") (codes "! syntax\n") new_session
 no_command_is_told = rw a_word_is_no_command (answered refl refl)
 
 -- whatever its bytes are
-a_line_that_is_too_long : (f : FlatState) (line : List ℕ) → most_line_bytes < length line → Turn f line (codes "! limit\n") f
+a_line_that_is_too_long : (f : FlatSession) (line : List ℕ) → most_line_bytes < length line → Turn f line (codes "! limit\n") f
 a_line_that_is_too_long f line long = rw (lt-ltb most_line_bytes (length line) long) (answered refl refl)
 
 -- ---- the first example of the readme
@@ -48,15 +50,15 @@ edit_line = codes "{\"cmd\":\"edit\",\"ops\":[{\"at\":[1,4],\"text\":\"X\"}]}"
 abbrev line_line : List ℕ
 line_line = codes "{\"cmd\":\"line\",\"n\":1}"
 
-abbrev opened : FlatState
-opened = new_document (codes "ab\ncd") standard_table Mixed
+abbrev opened : FlatSession
+opened = session_of (new_document (codes "ab\ncd") standard_table Mixed)
 
-abbrev edited : FlatState
+abbrev edited : FlatSession
 edited =
     let op : Op = record { span = record { start = 1; end = 4 }; text = codes "X"; force = false } in
-    after_batch opened (op ∷ [])
+    session_of (after_batch opened.document (op ∷ []))
 
-opened_turn : Turn empty_document open_line (codes "ok 1 5 2\n") opened
+opened_turn : Turn new_session open_line (codes "ok 1 5 2\n") opened
 unfolding digits
 opened_turn = rw an_opening (answered refl refl)
 
@@ -77,24 +79,25 @@ four_lines : all_lines (codes "{\"cmd\":\"open\",\"text\":\"ab\\ncd\"}\n{\"cmd\"
 four_lines = refl
 
 -- its four lines are answered by these four replies
-the_first_example : Transcript empty_document (open_line ∷ edit_line ∷ line_line ∷ size_line ∷ [])
+the_first_example : Transcript new_session (open_line ∷ edit_line ∷ line_line ∷ size_line ∷ [])
     (codes "ok 1 5 2\n" ∷ codes "ok 2 3 1\n" ∷ codes "ok \"aXd\"\n" ∷ codes "ok 3 1\n" ∷ []) edited
 the_first_example = (opened, opened_turn, (edited, edited_turn, (edited, line_turn, (edited, size_turn, refl))))
 
 -- ---- after a failed write
 
 -- the first of two lines was answered, and of the second reply two bytes were written
-a_reply_is_cut : Broken new_session (whole_lines (codes "{\"cmd\":\"size\"}\n{\"cmd\":\"size\"}\n")) (codes "ok 0 1\nok") new_session
-a_reply_is_cut = record {
+a_reply_is_cut : (s : Session) → Turns s size_line (codes "ok 0 1\n") s
+    → Broken s (whole_lines (codes "{\"cmd\":\"size\"}\n{\"cmd\":\"size\"}\n")) (codes "ok 0 1\nok") s
+a_reply_is_cut s told = record {
   done = size_line ∷ [];
   line = size_line;
   others = [];
   lines_are = refl;
   replies = codes "ok 0 1\n" ∷ [];
-  mid = new_session;
-  transcript = (empty_document, size_is_told, refl);
+  mid = s;
+  transcript = record { count = refl; told = λ flat stands. let turn = told flat stands in (turn.0, (turn.0, turn.1, refl), turn.2) };
   reply = codes "ok 0 1\n";
-  turn = size_is_told;
+  turn = told;
   front = codes "ok";
   starts = (codes " 0 1\n", refl);
   out_is = refl;

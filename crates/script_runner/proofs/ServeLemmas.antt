@@ -10,13 +10,14 @@ use Rattle.script_streams.specs.Streams.{SourceState, SinkState, Wrote, Gave, Gi
 use Rattle.script_streams.proofs.StreamLaws.{Wrote-append, Wrote-nothing, Gave-append, Gave-nothing}
 use Rattle.script_runner.specs.declared.line.PartialLine.{PartialLine}
 use Rattle.script_runner.specs.declared.serving.Progress.{Progress}
-use Rattle.script_runner.specs.Session.{SessionState}
-use Rattle.script_runner.specs.Script.{cut, most_line_bytes, whole_lines, last_line, written, Turn}
+use Rattle.script_runner.specs.declared.session.Session.{Session}
+use Rattle.script_runner.specs.Standing.{Turns}
+use Rattle.script_runner.specs.Script.{cut, most_line_bytes, whole_lines, last_line, written}
 use Rattle.script_runner.specs.Progress.{IsLineSoFar, refusals, memory_refusals, Led, LineAnswered, LineBroken, PieceAnswered, PieceBroken, AnswersPiece}
 use Rattle.script_runner.specs.declared.serving.Served.{Served}
 use Rattle.script_runner.specs.declared.serving.Served.TheVariants.{Ended, ReadFault, WriteFault, TooLong}
 use Rattle.script_runner.specs.Serving.{Serves, Finishes, RoseBy, Finished, FinishBroken, ServedAll, ServedToReadFault, ServedToWriteFault, ServedToLimit}
-use Rattle.script_runner.proofs.LedLemmas.{Transcript-push, broken_at, few_refusals, few_memory_refusals, counted_more, Led-start}
+use Rattle.script_runner.proofs.LedLemmas.{Replied-push, broken_at, few_refusals, few_memory_refusals, counted_more, Led-start}
 
 -- ---- the last line
 
@@ -33,7 +34,7 @@ nothing_so_far line bytes so_far empty = nil_from_length bytes (no_bytes line.le
 some_bytes : (line : ℕ) (x : List ℕ) (most : ℕ) → line ≡ min (length x) (most + 1) → (line ≡ 0 → ⊥) → length x ≡ 0 → ⊥
 some_bytes line x most is some none = some (omega arith)
 
-pub finish_empty : (state : SessionState) (progress : Progress) (out : SinkState) → progress.line.len ≡ 0
+pub finish_empty : (state : Session) (progress : Progress) (out : SinkState) → progress.line.len ≡ 0
     → Finished state progress state out out progress.refused progress.memory
 finish_empty state progress out empty = record {
   added = [];
@@ -48,15 +49,15 @@ finish_empty state progress out empty = record {
   faults = refl;
 }
 
-module _ (state : SessionState) (progress : Progress) (state' : SessionState) (progress' : Progress) (out out' : SinkState) (some : progress.line.len ≡ 0 → ⊥) where
+module _ (state : Session) (progress : Progress) (state' : Session) (progress' : Progress) (out out' : SinkState) (some : progress.line.len ≡ 0 → ⊥) where
   pub finish_line : LineAnswered [] state progress state' progress' out out' → Finished state progress state' out out' progress'.refused progress'.memory
   finish_line answered = record {
     added = answered.reply;
     answered = λ start read before led. record {
       replies = led.replies ++ answered.reply ∷ [];
       transcript = rw (last_line_some (cut read).rest (some_bytes progress.line.len (cut read).rest most_line_bytes led.line.len some))
-          (Transcript-push _ _ _ _ _ _ _ led.transcript
-          (subst (λ line. Turn state.document line answered.reply state'.document) (append-nil (cut read).rest) (answered.turn _ led.line)));
+          (Replied-push _ _ _ _ _ _ _ led.transcript
+          (subst (λ line. Turns state line answered.reply state') (append-nil (cut read).rest) (answered.turn _ led.line)));
       out_is = rw (led.out_is, flat_map-append) (ap (λ x. written led.replies ++ x) (sym (append-nil answered.reply)));
       refused_is = answered.refused ∙ counted_more progress.refused _ (refusals led.replies) led.refused
           ∙ ap (λ n. min n greatest_count) (sym (sum_by-append _ led.replies (answered.reply ∷ [])));
@@ -83,7 +84,7 @@ counted_exactly : (n : ℕ) → n ≤ greatest_count → min n greatest_count �
 counted_exactly n within = omega arith
 
 -- so far these bytes were read and those written, and no fault came
-pub record IsServedTo (most left : ℕ) (start now : SessionState) (progress : Progress) (src src' : SourceState) (out out' : SinkState) : Type 0 where
+pub record IsServedTo (most left : ℕ) (start now : Session) (progress : Progress) (src src' : SourceState) (out out' : SinkState) : Type 0 where
   pub script : List ℕ
   pub added : List ℕ
   pub gave : Gave src.left src'.left script
@@ -95,7 +96,7 @@ pub record IsServedTo (most left : ℕ) (start now : SessionState) (progress : P
   pub source_faults : src'.faults ≡ src.faults
   pub sink_faults : out'.faults ≡ out.faults
 
-pub served_to_start : (most : ℕ) (start : SessionState) (progress : Progress) (src : SourceState) (out : SinkState)
+pub served_to_start : (most : ℕ) (start : Session) (progress : Progress) (src : SourceState) (out : SinkState)
     → IsLineSoFar progress.line [] → progress.refused ≡ 0 → progress.memory ≡ 0
     → IsServedTo most most start start progress src src out out
 served_to_start most start progress src out line refused memory = record {
@@ -118,7 +119,7 @@ rose_more : (a n b m c : ℕ) → RoseBy a n b → c ≡ min (b + m) greatest_co
 rose_more a n b m c (inl rose) is = rose_to a n m c (rw (← rose) is)
 rose_more a n b m c (inr top) is = inr (omega arith)
 
-module _ (most left : ℕ) (start now : SessionState) (progress : Progress) (src src' : SourceState) (out out' : SinkState)
+module _ (most left : ℕ) (start now : Session) (progress : Progress) (src src' : SourceState) (out out' : SinkState)
     (before : IsServedTo most left start now progress src src' out out') (src'' : SourceState) where
   -- a read failed
   pub served_to_read_fault : 0 < left → NotGiven src' src'' → ServedToReadFault most start now src src'' out out'
@@ -147,7 +148,7 @@ module _ (most left : ℕ) (start now : SessionState) (progress : Progress) (src
         (rose_more src.given (length before.script) src'.given n src''.given before.given given.given)
 
     -- some bytes came, and the lines that they complete are answered
-    pub served_to_more : 0 < n → n ≤ left → (now' : SessionState) (progress' : Progress) (out'' : SinkState)
+    pub served_to_more : 0 < n → n ≤ left → (now' : Session) (progress' : Progress) (out'' : SinkState)
         → PieceAnswered (take n buf) now progress now' progress' out' out''
         → IsServedTo most (left - n) start now' progress' src src'' out out''
     served_to_more some within now' progress' out'' answered = record {
@@ -164,7 +165,7 @@ module _ (most left : ℕ) (start now : SessionState) (progress : Progress) (src
     }
 
     -- some bytes came, and a reply was not written whole
-    pub served_to_write_fault : 0 < n → n ≤ left → (now' : SessionState) (out'' : SinkState) → PieceBroken (take n buf) now progress now' out' out''
+    pub served_to_write_fault : 0 < n → n ≤ left → (now' : Session) (out'' : SinkState) → PieceBroken (take n buf) now progress now' out' out''
         → ServedToWriteFault most start now' src src'' out out''
     served_to_write_fault some within now' out'' broken = record {
       script = before.script ++ take n buf;
@@ -189,7 +190,7 @@ module _ (most left : ℕ) (start now : SessionState) (progress : Progress) (src
       end_seen = given.ended ∙ and_from _ _ (eq-eqb n 0 none) (lt-ltb 0 (length buf) room)
 
       -- the end came, and the last line is answered
-      pub served_to_end : most < 2 ^ 64 → 0 < left → (now' : SessionState) (out'' : SinkState) (refused memory : ℕ)
+      pub served_to_end : most < 2 ^ 64 → 0 < left → (now' : Session) (out'' : SinkState) (refused memory : ℕ)
           → Finished now progress now' out' out'' refused memory → ServedAll most start now' src src'' out out'' refused memory
       served_to_end small more now' out'' refused memory finished =
           let answered = finished.answered start before.script before.added before.led in
@@ -213,7 +214,7 @@ module _ (most left : ℕ) (start now : SessionState) (progress : Progress) (src
           }
 
       -- the end came, and the reply to the last line was not written whole
-      pub served_to_broken_end : (now' : SessionState) (out'' : SinkState) → FinishBroken now progress now' out' out''
+      pub served_to_broken_end : (now' : Session) (out'' : SinkState) → FinishBroken now progress now' out' out''
           → ServedToWriteFault most start now' src src'' out out''
       served_to_broken_end now' out'' broken = record {
         script = before.script;
@@ -228,7 +229,7 @@ module _ (most left : ℕ) (start now : SessionState) (progress : Progress) (src
       }
 
 -- as many bytes were read as may be
-pub served_to_limit : (most left : ℕ) (start now : SessionState) (progress : Progress) (src src' : SourceState) (out out' : SinkState)
+pub served_to_limit : (most left : ℕ) (start now : Session) (progress : Progress) (src src' : SourceState) (out out' : SinkState)
     → left ≡ 0 → IsServedTo most left start now progress src src' out out' → ServedToLimit most start now src src' out out'
 served_to_limit most left start now progress src src' out out' none before = record {
   script = before.script;
@@ -244,7 +245,7 @@ served_to_limit most left start now progress src src' out out' none before = rec
 }
 
 -- how the script ended, where nothing more was given
-pub serves_end : (served : Served) (most left : ℕ) (start now now' : SessionState) (progress : Progress) (src src' src'' : SourceState) (out out' out'' : SinkState)
+pub serves_end : (served : Served) (most left : ℕ) (start now now' : Session) (progress : Progress) (src src' src'' : SourceState) (out out' out'' : SinkState)
     → IsServedTo most left start now progress src src' out out' → (n : ℕ) (buf : List ℕ) → Given n src' src'' buf → n ≡ 0 → 0 < length buf → most < 2 ^ 64 → 0 < left
     → Finishes served now progress now' out' out'' → Serves served most start now' src src'' out out''
 serves_end (Ended refused memory) most left start now now' progress src src' src'' out out' out'' before n buf given none room small more finished =
@@ -255,7 +256,7 @@ serves_end ReadFault most left start now now' progress src src' src'' out out' o
 serves_end TooLong most left start now now' progress src src' src'' out out' out'' before n buf given none room small more never = absurd never
 
 -- how a piece was answered, by the test of its result
-module _ (r : Result ⊤ Failed) (piece : List ℕ) (state : SessionState) (progress : Progress) (state' : SessionState) (progress' : Progress) (out out' : SinkState) where
+module _ (r : Result ⊤ Failed) (piece : List ℕ) (state : Session) (progress : Progress) (state' : Session) (progress' : Progress) (out out' : SinkState) where
   pub piece_broken_at_err : is_err r ≡ true → AnswersPiece r piece state progress state' progress' out out' → PieceBroken piece state progress state' out out'
   piece_broken_at_err e h = elim r as (λ r. is_err r ≡ true → AnswersPiece r piece state progress state' progress' out out' → PieceBroken piece state progress state' out out')
       [ Ok x ↦ λ e h. cc | Err failed ↦ λ e h. h ] e h

@@ -44,6 +44,7 @@ is_memory refusal.Unknown = false
 is_memory refusal.Range = false
 is_memory refusal.Overlap = false
 is_memory refusal.Limit = false
+is_memory (refusal.Gap have need) = false
 
 -- the line was refused for want of memory
 abbrev pub is_for_memory : Result Reply Refused → Bool

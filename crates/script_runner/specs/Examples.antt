@@ -1,21 +1,22 @@
 -- Worked examples of the definitions.
 use Rattle.std.specs.Prelude.{◌≡◌, ℕ, List, ◌∷◌, [], codes, refl, false, None}
 use Rattle.unit_text.specs.declared.kind.Kind.TheVariants.{Mixed, Lf, Crlf}
-use Rattle.document_rules.specs.Document.{FlatState, new_document, empty_document}
+use Rattle.document_rules.specs.Document.{new_document}
 use Rattle.bracket_rules.specs.Table.{standard_table}
-use Rattle.script_lines.specs.declared.command.Command.TheVariants.{Open, Edit, Eol, Undo, Version, Size, Line, Value, Offset, Brackets, Match, Level, Snapshot, Read, Close, Stops}
+use Rattle.script_lines.specs.declared.command.Command.TheVariants.{Open, Edit, Eol, Undo, Version, Size, Line, Value, Offset, Brackets, Match, Level, Snapshot, Read, Close, Stops, Mirror, Send, Deliver, Mirrored}
 use Rattle.script_lines.specs.declared.command.Command.TheVariants as command
 use Rattle.script_lines.specs.declared.op.LineOp.{LineOp}
 use Rattle.script_lines.specs.declared.op.Place.TheVariants.{At, InRange}
 use Rattle.std.specs.Fmt.{digits}
 use Rattle.std.specs.Char.Utf16.{utf16_chars}
 use lib.Utf8.{encode}
+use Rattle.script_runner.specs.Session.{FlatSession, session_of, new_session}
 use Rattle.script_runner.specs.Step.{step}
 use Rattle.script_runner.specs.Script.{all_lines, whole_lines, has_reply}
 
--- a new document of this text, whose lines end as they came
-abbrev text : List ℕ → FlatState
-text units = new_document units standard_table Mixed
+-- a session with a new document of this text, whose lines end as they came
+abbrev text : List ℕ → FlatSession
+text units = session_of (new_document units standard_table Mixed)
 
 two_lines_and_a_rest : all_lines (codes "ab\n\nc") ≡ codes "ab" ∷ [] ∷ codes "c" ∷ []
 two_lines_and_a_rest = refl
@@ -29,7 +30,7 @@ the_rest_is_no_whole_line = refl
 a_blank_line_has_no_reply : has_reply (codes " \t\r") ≡ false
 a_blank_line_has_no_reply = refl
 
-opened : step empty_document (Open (codes "ab\ncd") None Mixed) ≡ (codes "ok 1 5 2\n", text (codes "ab\ncd"))
+opened : step new_session (Open (codes "ab\ncd") None Mixed) ≡ (codes "ok 1 5 2\n", text (codes "ab\ncd"))
 unfolding digits
 opened = refl
 
@@ -49,7 +50,7 @@ two_edits_that_overlap = refl
 nothing_to_undo : step (text (codes "ab")) Undo ≡ (codes "ok none\n", text (codes "ab"))
 nothing_to_undo = refl
 
-versions_of_a_new_document : step empty_document Version ≡ (codes "ok 1 1\n", empty_document)
+versions_of_a_new_document : step new_session Version ≡ (codes "ok 1 1\n", new_session)
 unfolding digits
 versions_of_a_new_document = refl
 
@@ -58,7 +59,7 @@ the_first_line : step (text (codes "aXd")) (Line 1)
 unfolding utf16_chars encode
 the_first_line = refl
 
-size_of_a_new_document : step empty_document Size ≡ (codes "ok 0 1\n", empty_document)
+size_of_a_new_document : step new_session Size ≡ (codes "ok 0 1\n", new_session)
 unfolding digits
 size_of_a_new_document = refl
 
@@ -102,11 +103,11 @@ level_between_brackets : (step (text (codes "([)")) (Level (record { line = 1; c
 unfolding digits
 level_between_brackets = refl
 
-abbrev hi : FlatState
+abbrev hi : FlatSession
 hi = text (codes "hi")
 
 -- with a snapshot, which has id 1
-abbrev kept : FlatState
+abbrev kept : FlatSession
 kept = (step hi Snapshot).1
 
 the_first_snapshot : (step hi Snapshot).0 ≡ codes "ok 1\n"
@@ -134,10 +135,10 @@ no_such_line_has_stops : step hi (Stops 2) ≡ (codes "! range\n", hi)
 no_such_line_has_stops = refl
 
 -- `a` and `b`, which were opened with LF
-abbrev two_lines : FlatState
-two_lines = (step empty_document (Open (codes "a\r\nb") None Lf)).1
+abbrev two_lines : FlatSession
+two_lines = (step new_session (Open (codes "a\r\nb") None Lf)).1
 
-opened_with_a_kind : (step empty_document (Open (codes "a\r\nb") None Lf)).0 ≡ codes "ok 1 3 2\n"
+opened_with_a_kind : (step new_session (Open (codes "a\r\nb") None Lf)).0 ≡ codes "ok 1 3 2\n"
 unfolding digits
 opened_with_a_kind = refl
 
@@ -150,3 +151,45 @@ the_same_endings = refl
 
 no_place_inside_an_ending : (step (step two_lines (Eol Crlf)).1 (command.Position 2)).0 ≡ codes "! range\n"
 no_place_inside_an_ending = refl
+
+-- ---- a mirror
+
+-- `ab` and a mirror of it, then `x` before it and `y` behind it, each sent
+abbrev mirrored : FlatSession
+mirrored = (step (text (codes "ab")) Mirror).1
+
+abbrev after_both : FlatSession
+after_both =
+    let first = (step mirrored (Edit (over 0 0 (codes "x") ∷ []))).1 in
+    let second = (step (step first Send).1 (Edit (over 3 3 (codes "y") ∷ []))).1 in (step second Send).1
+
+a_mirror_of_now : (step (text (codes "ab")) Mirror).0 ≡ codes "ok 1\n"
+unfolding digits
+a_mirror_of_now = refl
+
+nothing_to_send : step (text (codes "ab")) Send ≡ (codes "ok none\n", text (codes "ab"))
+nothing_to_send = refl
+
+the_second_comes_first : step after_both (Deliver 2) ≡ (codes "! gap 1 2\n", after_both)
+unfolding digits
+the_second_comes_first = refl
+
+abbrev after_one : FlatSession
+after_one = (step after_both (Deliver 1)).1
+
+the_first_is_taken : (step after_both (Deliver 1)).0 ≡ codes "ok 2 3 1\n"
+unfolding digits
+the_first_is_taken = refl
+
+the_first_comes_again : step after_one (Deliver 1) ≡ (codes "ok old\n", after_one)
+the_first_comes_again = refl
+
+a_line_of_the_mirror : (step after_one (Mirrored 1)).0 ≡ codes "ok \"xab\"\n"
+unfolding utf16_chars encode
+a_line_of_the_mirror = refl
+
+no_such_event : step after_one (Deliver 3) ≡ (codes "! unknown\n", after_one)
+no_such_event = refl
+
+a_mirror_ends_with_its_document : step (step after_one (Open (codes "c") None Mixed)).1 (Mirrored 1) ≡ (codes "! unknown\n", text (codes "c"))
+a_mirror_ends_with_its_document = refl

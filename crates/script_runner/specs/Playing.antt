@@ -1,6 +1,6 @@
 -- What playing the script of a count and a seed does, by the status that the program ends with.
 use Rattle.std.specs.Prelude.{◌≡◌, ℕ, ◌^◌, ◌%◌, ◌<◌, List, ◌++◌, length, sum, codes, decimal, ⊤}
-use Rattle.document_rules.specs.Document.{FlatState, empty_document, flat_line_count}
+use Rattle.document_rules.specs.Document.{flat_line_count}
 use Rattle.script_streams.specs.Streams.{SinkState, TakenWhole, Cut}
 use Rattle.script_play.specs.Script.{script}
 use Rattle.script_runner.specs.declared.playing.Summary.{Summary}
@@ -8,6 +8,7 @@ use Rattle.script_runner.specs.declared.running.Status.{Status}
 use Rattle.script_runner.specs.declared.running.Status.TheVariants as status
 use Rattle.script_runner.specs.declared.serving.Served.{Served}
 use Rattle.script_runner.specs.declared.serving.Served.TheVariants.{Ended, ReadFault, WriteFault, TooLong}
+use Rattle.script_runner.specs.Session.{FlatSession, new_session}
 use Rattle.script_runner.specs.Script.{all_lines, written, Transcript}
 use Rattle.script_runner.specs.Progress.{refusals, memory_refusals}
 
@@ -26,15 +27,15 @@ line_of s = summary_line s.count s.refused s.units s.lines s.bytes s.total
 -- The lines of the script were answered one by one, none by `! memory`; and these are the numbers of that.
 pub record SumsUp (summary : Summary) (count seed : ℕ) : Type 0 where
   pub replies : List (List ℕ)
-  pub end : FlatState
-  pub transcript : Transcript empty_document (all_lines (script count seed)) replies end
+  pub end : FlatSession
+  pub transcript : Transcript new_session (all_lines (script count seed)) replies end
   pub had_memory : memory_refusals replies ≡ 0
   pub count_is : summary.count ≡ count
   -- how many replies begin with `!`
   pub refused_is : summary.refused ≡ refusals replies
   -- the text at the end
-  pub units_are : summary.units ≡ length end.units
-  pub lines_are : summary.lines ≡ flat_line_count end
+  pub units_are : summary.units ≡ length end.document.units
+  pub lines_are : summary.lines ≡ flat_line_count end.document
   -- the number and the sum of the bytes of all replies
   pub bytes_are : summary.bytes ≡ length (written replies) % 2 ^ 32
   pub total_is : summary.total ≡ sum (written replies) % 2 ^ 32

@@ -1,13 +1,14 @@
 -- What a run of the program does, by the status that it ends with.
 use Rattle.std.specs.Prelude.{◌≡◌, ℕ, suc, ◌+◌, ◌^◌, ◌≤◌, nat_lt, if◌then◌else◌, List, ◌++◌, length, Some, codes}
 use Rattle.std.specs.List.{list_any}
-use Rattle.document_rules.specs.Document.{FlatState, empty_document}
 use Rattle.script_streams.specs.Streams.{SourceState, SinkState, Wrote, Rose, StartsWith}
 use Rattle.script_runner.specs.declared.running.Status.{Status}
 use Rattle.script_runner.specs.declared.running.Status.TheVariants as status
 use Rattle.script_runner.specs.declared.serving.Served.{Served}
 use Rattle.script_runner.specs.declared.serving.Served.TheVariants.{Ended, ReadFault, WriteFault, TooLong}
-use Rattle.script_runner.specs.Session.{SessionState, new_session}
+use Rattle.script_runner.specs.declared.session.Session.{Session}
+use Rattle.script_runner.specs.Session.{FlatSession, new_session}
+use Rattle.script_runner.specs.Standing.{StandsFor}
 use Rattle.script_runner.specs.Script.{all_lines, written, is_refused, Transcript}
 use Rattle.script_runner.specs.Serving.{ServedAll, ServedToReadFault, ServedToWriteFault, ServedToLimit}
 
@@ -54,16 +55,16 @@ ShowsUsage status.TooLong err err' = ⊥
 -- what was taken grew by the replies to all lines of the script, and the status tells whether one begins with `!`
 pub record IsAnswered (script before after : List ℕ) (number : ℕ) : Type 0 where
   pub replies : List (List ℕ)
-  pub end : FlatState
-  pub transcript : Transcript empty_document (all_lines script) replies end
+  pub end : FlatSession
+  pub transcript : Transcript new_session (all_lines script) replies end
   pub grown : after ≡ before ++ written replies
   pub status : number ≡ (if list_any is_refused replies then 1 else 0)
 
 -- The replies to all lines of the script were written, and a sink that told what it took tells them too where it has room.
 pub record IsTold (script before : List ℕ) (out out' : SinkState) (number : ℕ) : Type 0 where
   pub replies : List (List ℕ)
-  pub end : FlatState
-  pub transcript : Transcript empty_document (all_lines script) replies end
+  pub end : FlatSession
+  pub transcript : Transcript new_session (all_lines script) replies end
   pub status : number ≡ (if list_any is_refused replies then 1 else 0)
   pub told : length before + length (written replies) ≤ out.room
       → out'.taken ≡ Some (before ++ written replies)
@@ -71,8 +72,14 @@ pub record IsTold (script before : List ℕ) (out out' : SinkState) (number : �
 -- the script was answered to its end, and this many replies begin with `!`
 pub record AnswersAll (src src' : SourceState) (out out' : SinkState) (refused : ℕ) : Type 0 where
   pub memory : ℕ
-  pub end : SessionState
-  pub served : ServedAll most_script_bytes new_session end src src' out out' refused memory
+  pub start : Session
+  pub end : Session
+  pub new : StandsFor start new_session
+  pub served : ServedAll most_script_bytes start end src src' out out' refused memory
+
+-- of some session that stands for the new one, and of the one at the end
+abbrev pub FromNew : (Session → Session → Type 0) → Type 0
+FromNew Was = (start : Session) × (end : Session) × StandsFor start new_session × Was start end
 
 abbrev pub Runs : Status → SourceState → SourceState → SinkState → SinkState → Type 0
 -- every line of the script was answered, and no reply begins with `!`
@@ -81,8 +88,8 @@ Runs status.Answered src src' out out' = AnswersAll src src' out out' 0
 Runs status.Refused src src' out out' = (more : ℕ) × AnswersAll src src' out out' (suc more)
 -- there was no memory to begin with, and nothing was read or written
 Runs status.Memory src src' out out' = (src' ≡ src) × (out' ≡ out)
-Runs status.ReadFault src src' out out' = (end : SessionState) × ServedToReadFault most_script_bytes new_session end src src' out out'
-Runs status.WriteFault src src' out out' = (end : SessionState) × ServedToWriteFault most_script_bytes new_session end src src' out out'
-Runs status.TooLong src src' out out' = (end : SessionState) × ServedToLimit most_script_bytes new_session end src src' out out'
+Runs status.ReadFault src src' out out' = FromNew (λ start end. ServedToReadFault most_script_bytes start end src src' out out')
+Runs status.WriteFault src src' out out' = FromNew (λ start end. ServedToWriteFault most_script_bytes start end src src' out out')
+Runs status.TooLong src src' out out' = FromNew (λ start end. ServedToLimit most_script_bytes start end src src' out out')
 -- the words `run` are a command
 Runs status.Usage src src' out out' = ⊥

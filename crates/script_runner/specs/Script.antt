@@ -1,11 +1,11 @@
 -- A script, line by line, and the replies that may answer it.
 use Rattle.std.specs.Prelude.{◌≡◌, ◌⊎◌, ℕ, codes, ◌^◌, ◌||◌, ◌==◌, nat_lt, not, Bool, false, MatchBool, if◌then◌else◌, List, [], ◌∷◌, ◌++◌, length, Option, Some, None}
 use Rattle.std.specs.List.{All, list_all, flat_map}
-use Rattle.document_rules.specs.Document.{FlatState}
 use Rattle.script_lines.specs.declared.reason.Refusal.TheVariants.{Syntax, Limit}
 use Rattle.script_lines.specs.declared.command.Command.{Command}
 use Rattle.script_lines.specs.Commands.{command_of}
 use Rattle.script_lines.specs.Replies.{refusal_reply}
+use Rattle.script_runner.specs.Session.{FlatSession}
 use Rattle.script_runner.specs.Step.{step, Answers}
 
 -- the lines that LF ends, and what comes after the last LF
@@ -54,27 +54,27 @@ is_blank_byte byte = byte == 32 || byte == 9 || byte == 13
 abbrev pub is_blank : List ℕ → Bool
 is_blank line = list_all is_blank_byte line
 
-abbrev pub commanded : FlatState → Option Command → List ℕ × FlatState
+abbrev pub commanded : FlatSession → Option Command → List ℕ × FlatSession
 commanded f None = (refusal_reply Syntax, f)
 commanded f (Some command) = step f command
 
--- the flat reply to a line that has one, and the document after it
-abbrev pub turn : FlatState → List ℕ → List ℕ × FlatState
+-- the flat reply to a line that has one, and the session after it
+abbrev pub turn : FlatSession → List ℕ → List ℕ × FlatSession
 turn f line = if is_too_long line then (refusal_reply Limit, f) else commanded f (command_of line)
 
 -- a blank line has no reply, unless it is too long
 abbrev pub has_reply : List ℕ → Bool
 has_reply line = is_too_long line || not (is_blank line)
 
--- a line is answered by the flat reply, or by `! memory` with the document as before; one that has no reply changes nothing
-abbrev pub Turn : FlatState → List ℕ → List ℕ → FlatState → Type 0
+-- a line is answered by the flat reply, or by `! memory` with all as before; one that has no reply changes nothing
+abbrev pub Turn : FlatSession → List ℕ → List ℕ → FlatSession → Type 0
 Turn old line reply new = MatchBool (has_reply line) (Answers (turn old line) old reply new) ((reply ≡ []) × (new ≡ old))
 
 -- these replies answer these lines, one by one
-abbrev pub Transcript : FlatState → List (List ℕ) → List (List ℕ) → FlatState → Type 0
+abbrev pub Transcript : FlatSession → List (List ℕ) → List (List ℕ) → FlatSession → Type 0
 Transcript old [] [] new = new ≡ old
 Transcript old (line ∷ lines) (reply ∷ replies) new =
-    (mid : FlatState) × Turn old line reply mid × Transcript mid lines replies new
+    (mid : FlatSession) × Turn old line reply mid × Transcript mid lines replies new
 Transcript old [] (reply ∷ replies) new = ⊥
 Transcript old (line ∷ lines) [] new = ⊥
 
@@ -87,10 +87,10 @@ abbrev pub IsOneLine : List ℕ → Type 0
 IsOneLine reply = (text : List ℕ) × IsInOneLine text × (reply ≡ text ++ codes "\n")
 
 -- What was written leaves no choice: each reply is one line, or nothing; and where other replies answer the same lines
--- from the same document, and the same bytes are written, they are the same replies, with the same document at the end.
-pub record IsDecided (start : FlatState) (lines replies : List (List ℕ)) (end : FlatState) : Type 0 where
+-- from the same session, and the same bytes are written, they are the same replies, with the same session at the end.
+pub record IsDecided (start : FlatSession) (lines replies : List (List ℕ)) (end : FlatSession) : Type 0 where
   pub one_line : All (λ reply. (reply ≡ []) ⊎ IsOneLine reply) replies
-  pub only : (others : List (List ℕ)) (other : FlatState) → Transcript start lines others other → written others ≡ written replies
+  pub only : (others : List (List ℕ)) (other : FlatSession) → Transcript start lines others other → written others ≡ written replies
       → (others ≡ replies) × (other ≡ end)
 
 -- the reply begins with `!`

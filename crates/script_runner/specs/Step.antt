@@ -1,16 +1,16 @@
--- One command on the flat document: its reply, and the document after it.
-use Rattle.std.specs.Prelude.{◌≡◌, ℕ, ◌+◌, List, [], ◌∷◌, ◌++◌, codes, unwrap_or, length, Option, Some, None, option_map, option_and_then, Result, Ok, Err}
+-- One command on the flat session: its reply, and the session after it.
+use Rattle.std.specs.Prelude.{◌≡◌, ℕ, ◌+◌, ◌-◌, ◌^◌, ◌==◌, nat_le, if◌then◌else◌, List, [], ◌∷◌, ◌++◌, codes, unwrap_or, length, slice_get, Option, Some, None, option_map, option_and_then, Result, Ok, Err}
 use Rattle.text_lengths.specs.declared.Position.{Position}
 use Rattle.text_lengths.specs.declared.Span.{Span}
 use Rattle.text_rules.specs.declared.Op.{Op}
 use Rattle.decoration_rules.specs.declared.Deco.{Deco}
 use Rattle.std.specs.List.{flat_map}
 use Rattle.document_rules.specs.Refusals.{FlatRefusal, unknown, range, overlap, limit}
-use Rattle.document_rules.specs.Document.{FlatState, flat_open, flat_edit, flat_eol, flat_undo, flat_redo, flat_stop, flat_decorate, flat_deco, flat_decos, flat_line, flat_value, flat_position, flat_offset, flat_line_count}
+use Rattle.document_rules.specs.Document.{FlatState, flat_open, flat_edit, flat_eol, flat_undo, flat_redo, flat_stop, flat_decorate, flat_deco, flat_decos, flat_line, flat_value, flat_position, flat_offset, flat_line_count, content_of}
 use Rattle.document_rules.specs.Snapshots.{flat_snapshot, flat_peek_of, flat_skipped, flat_close_of}
 use Rattle.document_rules.specs.Stops.{flat_stops}
 use Rattle.script_lines.specs.declared.command.Command.{Command}
-use Rattle.script_lines.specs.declared.command.Command.TheVariants.{Open, Edit, Eol, Decorate, Undo, Redo, Stop, Size, Version, Line, Value, Offset, Decos, Brackets, Match, Level, Snapshot, Read, Close, Stops}
+use Rattle.script_lines.specs.declared.command.Command.TheVariants.{Open, Edit, Eol, Decorate, Undo, Redo, Stop, Size, Version, Line, Value, Offset, Decos, Brackets, Match, Level, Snapshot, Read, Close, Stops, Mirror, Send, Deliver, Mirrored}
 use Rattle.script_lines.specs.declared.command.Command.TheVariants as command
 use Rattle.script_lines.specs.declared.op.LineOp.{LineOp}
 use Rattle.script_lines.specs.declared.op.Place.{Place}
@@ -22,7 +22,10 @@ use Rattle.bracket_rules.specs.declared.Entry.{Entry}
 use Rattle.bracket_rules.specs.declared.Status.{Status}
 use Rattle.bracket_rules.specs.declared.Status.TheVariants.{PairedOpening, PairedClosing, Unclosed, Unexpected}
 use Rattle.document_rules.specs.Brackets.{flat_brackets, flat_match, flat_level}
-use Rattle.script_lines.specs.Replies.{number_part, ok_reply, none_reply, text_reply, refusal_reply}
+use Rattle.script_lines.specs.Replies.{number_part, ok_reply, none_reply, old_reply, text_reply, refusal_reply}
+use Rattle.text_rules.specs.Lines.{lines_of, line_at}
+use Rattle.mirror_rules.specs.Mirrors.{MirrorState, SentEvent, by_version}
+use Rattle.script_runner.specs.Session.{FlatSession, session_of}
 
 -- how a reply names the refusal of a rule
 abbrev pub reason_of : FlatRefusal → Refusal
@@ -158,31 +161,93 @@ abbrev pub edited_at : FlatState → Option (List Op) → List ℕ × FlatState
 edited_at f None = (refusal_reply refusal.Range, f)
 edited_at f (Some ops) = changed f (flat_edit f ops)
 
-abbrev pub step : FlatState → Command → List ℕ × FlatState
-step f (Open text brackets kind) = changed f (flat_open text (unwrap_or brackets standard_table) kind)
-step f (Edit ops) = edited_at f (ops_at f ops)
-step f (Eol kind) = moved f (flat_eol f kind)
-step f (Decorate owner remove add) = decorated f (length add) (flat_decorate f owner remove add)
-step f Undo = moved f (flat_undo f)
-step f Redo = moved f (flat_redo f)
-step f Stop = (ok_reply [], flat_stop f)
-step f Version = (ok_reply (f.version ∷ f.alternative ∷ []), f)
-step f Size = (ok_reply (length f.units ∷ flat_line_count f ∷ []), f)
-step f (Line n) = (text_answer (flat_line f n), f)
-step f (Value span) = (text_answer (flat_value f span), f)
-step f (Offset p) = (offset_answer (flat_offset f p), f)
-step f (command.Position offset) = (position_answer (flat_position f offset), f)
-step f (command.Deco id) = (deco_answer (flat_deco f id), f)
-step f (Decos span owner) = (decos_answer (flat_decos f span owner), f)
-step f (Brackets from to) = (brackets_answer (flat_brackets f from to), f)
-step f (Match p) = (match_answer (flat_match f p), f)
-step f (Level p) = (level_answer (flat_level f p), f)
-step f Snapshot = snapshot_answer f (flat_snapshot f)
-step f (Read id count) = read_answer f id (flat_peek_of f id count)
-step f (Close id) = close_answer f (flat_close_of f id)
-step f (Stops n) = (stops_answer (flat_stops f n), f)
+-- ---- a mirror and its events
 
--- The reply is this one, and the document is as it says; or it is `! memory`, and the document is as before.
-pub data Answers (flat : List ℕ × FlatState) (old : FlatState) (reply : List ℕ) (new : FlatState) : Type 0 where
+-- an answer on the document leaves mirror and events
+abbrev pub within : FlatSession → List ℕ × FlatState → List ℕ × FlatSession
+within s answer = (answer.0, record s { document = answer.1 })
+
+-- a new document has no mirror, and nothing was sent of it
+abbrev pub opened : FlatSession → Result FlatState FlatRefusal → List ℕ × FlatSession
+opened s (Ok new) = (change_reply new, session_of new)
+opened s (Err why) = (refusal_reply (reason_of why), s)
+
+-- `ok VERSION`: a mirror of the text of now takes the place of the old one
+abbrev pub mirror_answer : FlatSession → List ℕ × FlatSession
+mirror_answer s =
+    (ok_reply (s.document.version ∷ []), record s { mirror = Some (record { version = s.document.version; units = s.document.units }) })
+
+-- so many events may be sent of one document
+abbrev pub most_sent : ℕ
+most_sent = 2 ^ 16
+
+-- `ok N FROM`: the last change is sent, as event N; or `ok none` in the first version
+abbrev pub send_answer : FlatSession → List ℕ × FlatSession
+send_answer s =
+    if s.document.version == 1 then (none_reply, s) else
+    (if nat_le most_sent (length s.sent) then (refusal_reply refusal.Limit, s) else (
+      ok_reply ((length s.sent + 1) ∷ (s.document.version - 1) ∷ []),
+      record s { sent = s.sent ++ record { from = s.document.version - 1; after = s.document.units } ∷ [] },
+    ))
+
+-- the event of this number, from 1 on
+abbrev pub sent_at : List SentEvent → ℕ → Option SentEvent
+sent_at sent n = if n == 0 then None else slice_get sent (n - 1)
+
+-- `ok VERSION UNITS LINES`
+abbrev pub mirror_reply : MirrorState → List ℕ
+mirror_reply m = ok_reply (m.version ∷ length m.units ∷ length (lines_of m.units) ∷ [])
+
+abbrev pub followed : FlatSession → MirrorState → List ℕ × FlatSession
+followed s m = (mirror_reply m, record s { mirror = Some m })
+
+-- the mirror goes on to the text after the event, where it has the version before it
+abbrev pub delivered : FlatSession → MirrorState → SentEvent → List ℕ × FlatSession
+delivered s m e =
+    by_version e.from m.version (old_reply, s) (refusal_reply (refusal.Gap m.version e.from), s)
+    (followed s (record { version = m.version + 1; units = e.after }))
+
+abbrev pub deliver_answer : FlatSession → Option MirrorState → Option SentEvent → List ℕ × FlatSession
+deliver_answer s None event = (refusal_reply refusal.Unknown, s)
+deliver_answer s (Some m) None = (refusal_reply refusal.Unknown, s)
+deliver_answer s (Some m) (Some e) = delivered s m e
+
+-- `ok "TEXT"`: the content of a line of the mirror
+abbrev pub mirrored_answer : Option MirrorState → ℕ → List ℕ
+mirrored_answer None n = refusal_reply refusal.Unknown
+mirrored_answer (Some m) n = text_answer (content_of (line_at m.units n))
+
+-- ---- each command
+
+abbrev pub step : FlatSession → Command → List ℕ × FlatSession
+step s (Open text brackets kind) = opened s (flat_open text (unwrap_or brackets standard_table) kind)
+step s (Edit ops) = within s (edited_at s.document (ops_at s.document ops))
+step s (Eol kind) = within s (moved s.document (flat_eol s.document kind))
+step s (Decorate owner remove add) = within s (decorated s.document (length add) (flat_decorate s.document owner remove add))
+step s Undo = within s (moved s.document (flat_undo s.document))
+step s Redo = within s (moved s.document (flat_redo s.document))
+step s Stop = within s (ok_reply [], flat_stop s.document)
+step s Version = (ok_reply (s.document.version ∷ s.document.alternative ∷ []), s)
+step s Size = (ok_reply (length s.document.units ∷ flat_line_count s.document ∷ []), s)
+step s (Line n) = (text_answer (flat_line s.document n), s)
+step s (Value span) = (text_answer (flat_value s.document span), s)
+step s (Offset p) = (offset_answer (flat_offset s.document p), s)
+step s (command.Position offset) = (position_answer (flat_position s.document offset), s)
+step s (command.Deco id) = (deco_answer (flat_deco s.document id), s)
+step s (Decos span owner) = (decos_answer (flat_decos s.document span owner), s)
+step s (Brackets from to) = (brackets_answer (flat_brackets s.document from to), s)
+step s (Match p) = (match_answer (flat_match s.document p), s)
+step s (Level p) = (level_answer (flat_level s.document p), s)
+step s Snapshot = within s (snapshot_answer s.document (flat_snapshot s.document))
+step s (Read id count) = within s (read_answer s.document id (flat_peek_of s.document id count))
+step s (Close id) = within s (close_answer s.document (flat_close_of s.document id))
+step s (Stops n) = (stops_answer (flat_stops s.document n), s)
+step s Mirror = mirror_answer s
+step s Send = send_answer s
+step s (Deliver n) = deliver_answer s s.mirror (sent_at s.sent n)
+step s (Mirrored n) = (mirrored_answer s.mirror n, s)
+
+-- The reply is this one, and what is kept is as it says; or it is `! memory`, and all is as before.
+pub data Answers {S : Type 0} (flat : List ℕ × S) (old : S) (reply : List ℕ) (new : S) : Type 0 where
   answered : reply ≡ flat.0 → new ≡ flat.1 → Answers flat old reply new
   out_of_memory : reply ≡ memory_reply → new ≡ old → Answers flat old reply new

@@ -2,24 +2,24 @@
 
 ghost use Rattle.std.specs.Prelude.{◌≡◌, ◌++◌, IfOk, OnOk};
 ghost use Rattle.std.specs.List.{All};
-ghost use Rattle.document_rules.specs.Brackets.{IsSmall};
-ghost use Rattle.script_runner.specs.Step.{status_letter, entry_part, entries_reply};
-ghost use Rattle.script_runner.specs.Told.{Tells};
+ghost use Rattle.document_rules.specs.Brackets.{flat_brackets, flat_match, flat_level, IsSmall};
+ghost use Rattle.script_runner.specs.Step.{status_letter, entry_part, entries_reply, brackets_answer, match_answer, level_answer};
+ghost use Rattle.script_runner.specs.Told.{TellsBy};
 ghost use Rattle.script_runner.specs.Bytes.{bytes_of};
 
 use crate::outcome::{Outcome, Reply};
-use crate::session::Session;
-use model_core::{Entry, Status};
-use script_lines::{Command, Short, long_begin, long_end, long_mark, long_number};
+use model_core::{Entry, Model, Status};
+use script_lines::{Short, long_begin, long_end, long_mark, long_number};
 use std::alloc::{AllocError, Global};
 use text_lengths::Position;
 
-pub(crate) fn brackets_reply(session: &mut Session, from: u64, to: u64) -> Outcome
-    ensures { Tells session.old (Command.Brackets from to) result session.new }
+pub(crate) fn brackets_reply(alloc: Global, model: &mut Model, from: u64, to: u64) -> Outcome
+    ensures { let f = model.old.document in
+        TellsBy (brackets_answer (flat_brackets f from to), f) f result model.new.document }
 {
-    let mut entries = Vec::new(session.alloc);
-    session.model.brackets_in(from, to, &mut entries)?;
-    Ok(list_reply(session.alloc, entries.as_slice())?)
+    let mut entries = Vec::new(alloc);
+    model.brackets_in(from, to, &mut entries)?;
+    Ok(list_reply(alloc, entries.as_slice())?)
 }
 
 fn list_reply(alloc: Global, entries: &[Entry]) -> Result<Reply, AllocError>
@@ -58,10 +58,11 @@ fn status_letter(status: Status) -> u8
     }
 }
 
-pub(crate) fn match_reply(session: &mut Session, p: Position) -> Outcome
-    ensures { Tells session.old (Command.Match p) result session.new }
+pub(crate) fn match_reply(model: &mut Model, p: Position) -> Outcome
+    ensures { let f = model.old.document in
+        TellsBy (match_answer (flat_match f p), f) f result model.new.document }
 {
-    match session.model.match_at(p)? {
+    match model.match_at(p)? {
         Some((partner, len)) => {
             Ok(Reply::Short(Short::ok(&[partner.line, partner.column, len])))
         }
@@ -69,9 +70,10 @@ pub(crate) fn match_reply(session: &mut Session, p: Position) -> Outcome
     }
 }
 
-pub(crate) fn level_reply(session: &mut Session, p: Position) -> Outcome
-    ensures { Tells session.old (Command.Level p) result session.new }
+pub(crate) fn level_reply(model: &mut Model, p: Position) -> Outcome
+    ensures { let f = model.old.document in
+        TellsBy (level_answer (flat_level f p), f) f result model.new.document }
 {
-    let level = session.model.level_at(p)?;
+    let level = model.level_at(p)?;
     Ok(Reply::Short(Short::ok(&[level])))
 }

@@ -4,6 +4,7 @@
 mod bracket_replies;
 mod decoration_replies;
 mod line;
+mod mirror_replies;
 mod ops;
 mod outcome;
 mod playing;

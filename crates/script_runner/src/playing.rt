@@ -56,7 +56,7 @@ fn sum_up(alloc: Global, count: u32, seed: u64, buf: &mut [u8]) -> Option<Summar
     let mut tally = TallySink::new();
     let served = serve(&mut session, &mut src, &mut tally, buf, MOST_SCRIPT_BYTES);
     let refused = refused_of(served)?;
-    let model = session.model();
+    let model = &session.model;
     Some(Summary {
         count,
         refused,

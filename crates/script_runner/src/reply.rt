@@ -1,19 +1,21 @@
 //! Commands carried out, and the replies to lines.
 
-ghost use Rattle.std.specs.Prelude.{◌≡◌, ◌++◌, ℕ, List, false, if◌then◌else◌, IfOk, unwrap_or};
+ghost use Rattle.std.specs.Prelude.{◌≡◌, ◌++◌, ◌∷◌, [], ℕ, List, if◌then◌else◌, IfOk, unwrap_or, length};
 ghost use Rattle.bracket_rules.specs.Table.{standard_table};
-ghost use Rattle.document_rules.specs.Document.{flat_offset, flat_position};
+ghost use Rattle.document_rules.specs.Document.{flat_eol, flat_undo, flat_redo, flat_stop, flat_line, flat_value, flat_offset, flat_position, flat_line_count};
 ghost use Rattle.script_lines.specs.Commands.{command_of};
-ghost use Rattle.script_lines.specs.Replies.{none_reply, text_reply};
-ghost use Rattle.script_runner.specs.Step.{change_reply, offset_answer, position_answer};
-ghost use Rattle.script_runner.specs.Script.{Turn, commanded, is_refused};
+ghost use Rattle.script_lines.specs.Replies.{ok_reply, none_reply, text_reply};
+ghost use Rattle.script_runner.specs.Step.{change_reply, edited_at, moved, ops_at, offset_answer, position_answer, text_answer};
+ghost use Rattle.script_runner.specs.Standing.{Turns};
+ghost use Rattle.script_runner.specs.Script.{commanded};
 ghost use Rattle.script_runner.specs.Progress.{IsLineSoFar};
-ghost use Rattle.script_runner.specs.Told.{Tells, TellsBy};
+ghost use Rattle.script_runner.specs.Told.{IsAccepted, Tells, TellsBy, TellsOf};
 ghost use Rattle.script_runner.specs.Bytes.{bytes_of, bytes_of_outcome};
 
 use crate::bracket_replies::{brackets_reply, level_reply, match_reply};
 use crate::decoration_replies::{deco_reply, decorate_reply, decos_reply};
 use crate::line::PartialLine;
+use crate::mirror_replies::{deliver_reply, mirror_reply, mirrored_reply, send_reply};
 use crate::ops::ops_at;
 use crate::outcome::{Outcome, Refused, Reply};
 use crate::session::Session;
@@ -27,9 +29,8 @@ use unit_text::Kind;
 /// Answers the line that these bytes end. One that lies whole in them is read where it lies.
 pub(crate) fn reply_at_end(session: &mut Session, line: &mut PartialLine, end: &[u8]) -> Outcome
     ensures turn { (bytes : List ℕ) → IsLineSoFar line.old bytes
-        → Turn session.old.document (bytes ++ end.now) (bytes_of_outcome result)
-        session.new.document }
-    ensures accepted { IfOk result (λ reply. is_refused (bytes_of reply) ≡ false) }
+        → Turns session.old (bytes ++ end.now) (bytes_of_outcome result) session.new }
+    ensures accepted { IsAccepted result }
 {
     if line.len == 0 {
         return session.answer(end);
@@ -41,8 +42,8 @@ pub(crate) fn reply_at_end(session: &mut Session, line: &mut PartialLine, end: &
 /// Answers the line as far as its bytes are known.
 fn reply_to_kept(session: &mut Session, line: &PartialLine) -> Outcome
     ensures turn { (bytes : List ℕ) → IsLineSoFar line.now bytes
-        → Turn session.old.document bytes (bytes_of_outcome result) session.new.document }
-    ensures accepted { IfOk result (λ reply. is_refused (bytes_of reply) ≡ false) }
+        → Turns session.old bytes (bytes_of_outcome result) session.new }
+    ensures accepted { IsAccepted result }
 {
     if line.is_too_long() {
         return Err(Refused(Refusal::Limit));
@@ -57,7 +58,7 @@ fn reply_to_kept(session: &mut Session, line: &PartialLine) -> Outcome
 }
 
 pub(crate) fn reply_to_bytes(session: &mut Session, line: &[u8]) -> Outcome
-    ensures { TellsBy (commanded session.old.document (command_of line.now))
+    ensures { TellsOf (λ flat. commanded flat (command_of line.now))
         session.old result session.new }
 {
     let command = command_of(session.alloc, line)?;
@@ -67,33 +68,39 @@ pub(crate) fn reply_to_bytes(session: &mut Session, line: &[u8]) -> Outcome
 fn carry_out(session: &mut Session, command: Command) -> Outcome
     ensures { Tells session.old command result session.new }
 {
+    let alloc = session.alloc;
+    let model = &mut session.model;
     match command {
         Command::Open {
             text,
             brackets,
             kind,
         } => open_reply(session, text.as_slice(), brackets, kind),
-        Command::Edit { ops } => edit_reply(session, ops),
-        Command::Eol { kind } => eol_reply(session, kind),
-        Command::Decorate { owner, remove, add } => decorate_reply(session, owner, remove, add),
-        Command::Undo => undo_reply(session),
-        Command::Redo => redo_reply(session),
-        Command::Stop => stop_reply(session),
-        Command::Version => versions_reply(session),
-        Command::Size => size_reply(session),
-        Command::Line { n } => line_reply(session, n),
-        Command::Value { at } => value_reply(session, at),
-        Command::Offset { p } => offset_reply(session, p),
-        Command::Position { offset } => position_reply(session, offset),
-        Command::Deco { id } => deco_reply(session, id),
-        Command::Decos { at, owner } => decos_reply(session, at, owner),
-        Command::Brackets { from, to } => brackets_reply(session, from, to),
-        Command::Match { p } => match_reply(session, p),
-        Command::Level { p } => level_reply(session, p),
-        Command::Snapshot => snapshot_reply(session),
-        Command::Read { id, count } => read_reply(session, id, count),
-        Command::Close { id } => close_reply(session, id),
-        Command::Stops { n } => stops_reply(session, n),
+        Command::Edit { ops } => edit_reply(alloc, model, ops),
+        Command::Eol { kind } => eol_reply(model, kind),
+        Command::Decorate { owner, remove, add } => decorate_reply(model, owner, remove, add),
+        Command::Undo => undo_reply(model),
+        Command::Redo => redo_reply(model),
+        Command::Stop => stop_reply(model),
+        Command::Version => versions_reply(model),
+        Command::Size => size_reply(model),
+        Command::Line { n } => line_reply(alloc, model, n),
+        Command::Value { at } => value_reply(alloc, model, at),
+        Command::Offset { p } => offset_reply(model, p),
+        Command::Position { offset } => position_reply(model, offset),
+        Command::Deco { id } => deco_reply(model, id),
+        Command::Decos { at, owner } => decos_reply(alloc, model, at, owner),
+        Command::Brackets { from, to } => brackets_reply(alloc, model, from, to),
+        Command::Match { p } => match_reply(model, p),
+        Command::Level { p } => level_reply(model, p),
+        Command::Snapshot => snapshot_reply(model),
+        Command::Read { id, count } => read_reply(alloc, model, id, count),
+        Command::Close { id } => close_reply(model, id),
+        Command::Stops { n } => stops_reply(alloc, model, n),
+        Command::Mirror => mirror_reply(session),
+        Command::Send => send_reply(session),
+        Command::Deliver { n } => deliver_reply(session, n),
+        Command::Mirrored { n } => mirrored_reply(session, n),
     }
 }
 
@@ -105,7 +112,7 @@ fn open_reply(
 ) -> Outcome
     ensures { Tells session.old (Command.Open text.now brackets kind) result session.new }
 {
-    session.model.open_doc(text, table_of(brackets), kind)?;
+    session.open_doc(text, table_of(brackets), kind)?;
     Ok(change_reply(&session.model))
 }
 
@@ -119,53 +126,60 @@ fn table_of(brackets: Option<BracketTable>) -> BracketTable
     }
 }
 
-fn edit_reply(session: &mut Session, ops: LineOps) -> Outcome
-    ensures { Tells session.old (Command.Edit ops) result session.new }
+fn edit_reply(alloc: Global, model: &mut Model, ops: LineOps) -> Outcome
+    ensures { let f = model.old.document in
+        TellsBy (edited_at f (ops_at f ops)) f result model.new.document }
 {
-    let ops = ops_at(session.alloc, &mut session.model, ops)?;
-    session.model.edit(ops)?;
-    Ok(change_reply(&session.model))
+    let ops = ops_at(alloc, model, ops)?;
+    model.edit(ops)?;
+    Ok(change_reply(model))
 }
 
-fn eol_reply(session: &mut Session, kind: Kind) -> Outcome
-    ensures { Tells session.old (Command.Eol kind) result session.new }
+fn eol_reply(model: &mut Model, kind: Kind) -> Outcome
+    ensures { let f = model.old.document in
+        TellsBy (moved f (flat_eol f kind)) f result model.new.document }
 {
-    let is_changed = session.model.set_eol(kind)?;
-    Ok(move_reply(is_changed, &session.model))
+    let is_changed = model.set_eol(kind)?;
+    Ok(move_reply(is_changed, model))
 }
 
-fn undo_reply(session: &mut Session) -> Outcome
-    ensures { Tells session.old Command.Undo result session.new }
+fn undo_reply(model: &mut Model) -> Outcome
+    ensures { let f = model.old.document in
+        TellsBy (moved f (flat_undo f)) f result model.new.document }
 {
-    let is_moved = session.model.undo()?;
-    Ok(move_reply(is_moved, &session.model))
+    let is_moved = model.undo()?;
+    Ok(move_reply(is_moved, model))
 }
 
-fn redo_reply(session: &mut Session) -> Outcome
-    ensures { Tells session.old Command.Redo result session.new }
+fn redo_reply(model: &mut Model) -> Outcome
+    ensures { let f = model.old.document in
+        TellsBy (moved f (flat_redo f)) f result model.new.document }
 {
-    let is_moved = session.model.redo()?;
-    Ok(move_reply(is_moved, &session.model))
+    let is_moved = model.redo()?;
+    Ok(move_reply(is_moved, model))
 }
 
-fn stop_reply(session: &mut Session) -> Outcome
-    ensures { Tells session.old Command.Stop result session.new }
+fn stop_reply(model: &mut Model) -> Outcome
+    ensures { let f = model.old.document in
+        TellsBy (ok_reply [], flat_stop f) f result model.new.document }
 {
-    session.model.stop();
+    model.stop();
     Ok(Reply::Short(Short::ok(&[])))
 }
 
-fn versions_reply(session: &Session) -> Outcome
-    ensures { Tells session.now Command.Version result session.now }
+fn versions_reply(model: &Model) -> Outcome
+    ensures { let f = model.now.document in
+        TellsBy (ok_reply (f.version ∷ f.alternative ∷ []), f) f result f }
 {
-    let (version, alternative) = session.model.versions();
+    let (version, alternative) = model.versions();
     Ok(Reply::Short(Short::ok(&[version, alternative])))
 }
 
-fn size_reply(session: &Session) -> Outcome
-    ensures { Tells session.now Command.Size result session.now }
+fn size_reply(model: &Model) -> Outcome
+    ensures { let f = model.now.document in
+        TellsBy (ok_reply (length f.units ∷ flat_line_count f ∷ []), f) f result f }
 {
-    Ok(Reply::Short(Short::ok(&[session.model.len(), session.model.line_count()])))
+    Ok(Reply::Short(Short::ok(&[model.len(), model.line_count()])))
 }
 
 fn change_reply(model: &Model) -> Reply
@@ -185,39 +199,36 @@ fn move_reply(is_moved: bool, model: &Model) -> Reply
     }
 }
 
-fn line_reply(session: &Session, n: u64) -> Outcome
-    ensures { Tells session.now (Command.Line n) result session.now }
+fn line_reply(alloc: Global, model: &Model, n: u64) -> Outcome
+    ensures { let f = model.now.document in TellsBy (text_answer (flat_line f n), f) f result f }
 {
-    let mut units = Vec::new(session.alloc);
-    session.model.line(n, &mut units)?;
-    Ok(text_reply(session.alloc, units.as_slice())?)
+    let mut units = Vec::new(alloc);
+    model.line(n, &mut units)?;
+    Ok(text_reply(alloc, units.as_slice())?)
 }
 
-fn value_reply(session: &Session, span: Span) -> Outcome
-    ensures { Tells session.now (Command.Value span) result session.now }
+fn value_reply(alloc: Global, model: &Model, span: Span) -> Outcome
+    ensures { let f = model.now.document in TellsBy (text_answer (flat_value f span), f) f result f }
 {
-    let mut units = Vec::new(session.alloc);
-    session.model.value(span, &mut units)?;
-    Ok(text_reply(session.alloc, units.as_slice())?)
+    let mut units = Vec::new(alloc);
+    model.value(span, &mut units)?;
+    Ok(text_reply(alloc, units.as_slice())?)
 }
 
-fn offset_reply(session: &Session, p: Position) -> Outcome
-    ensures answer { bytes_of_outcome result ≡ offset_answer (flat_offset session.now.document p) }
-    ensures accepted { IfOk result (λ reply. is_refused (bytes_of reply) ≡ false) }
+fn offset_reply(model: &Model, p: Position) -> Outcome
+    ensures answer { bytes_of_outcome result ≡ offset_answer (flat_offset model.now.document p) }
+    ensures accepted { IsAccepted result }
 {
-    let offset = session.model.offset(p).ok_or(Refused(Refusal::Range))?;
+    let offset = model.offset(p).ok_or(Refused(Refusal::Range))?;
     Ok(Reply::Short(Short::ok(&[offset])))
 }
 
-fn position_reply(session: &Session, offset: u64) -> Outcome
+fn position_reply(model: &Model, offset: u64) -> Outcome
     ensures answer { bytes_of_outcome result
-        ≡ position_answer (flat_position session.now.document offset) }
-    ensures accepted { IfOk result (λ reply. is_refused (bytes_of reply) ≡ false) }
+        ≡ position_answer (flat_position model.now.document offset) }
+    ensures accepted { IsAccepted result }
 {
-    let p = session
-        .model
-        .position(offset)
-        .ok_or(Refused(Refusal::Range))?;
+    let p = model.position(offset).ok_or(Refused(Refusal::Range))?;
     Ok(Reply::Short(Short::ok(&[p.line, p.column])))
 }
 

@@ -1,7 +1,7 @@
 //! What a run of the program does.
 
 ghost use Rattle.std.specs.Prelude.{◌≡◌, ◌≢◌, ◌≤◌, ◌<◌, ◌⊎◌, ℕ, List, Some, map, string_bytes, vec_len, IfOk, length};
-ghost use Rattle.document_rules.specs.Document.{FlatState};
+ghost use Rattle.script_runner.specs.Session.{FlatSession};
 ghost use Rattle.script_runner.specs.Step.{memory_reply};
 ghost use Rattle.script_runner.specs.Script.{turn, Transcript, IsDecided};
 ghost use Rattle.script_runner.specs.Words.{words_command};
@@ -71,8 +71,8 @@ pub fn run_words<S: Source, K: Sink, E: Sink>(
         → IsTold script before (K.state out.old) (K.state out.new) result }
 
     // What was written leaves no choice. A flat reply is never `! memory`, so the replies tell where memory was wanting.
-    ensures flat { (f : FlatState) (line : List ℕ) → (turn f line).0 ≢ memory_reply }
-    ensures decided { (start : FlatState) (lines replies : List (List ℕ)) (end : FlatState)
+    ensures flat { (f : FlatSession) (line : List ℕ) → (turn f line).0 ≢ memory_reply }
+    ensures decided { (start : FlatSession) (lines replies : List (List ℕ)) (end : FlatSession)
         → Transcript start lines replies end → IsDecided start lines replies end }
 
     // What stands at each status, for streams that tell and for others.

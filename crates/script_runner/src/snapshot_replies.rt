@@ -2,46 +2,52 @@
 
 ghost use Rattle.std.specs.Prelude.{◌≡◌, IfOk};
 ghost use Rattle.script_lines.specs.Replies.{ok_reply};
-ghost use Rattle.script_runner.specs.Told.{Tells};
+ghost use Rattle.document_rules.specs.Snapshots.{flat_snapshot, flat_peek_of, flat_close_of};
+ghost use Rattle.document_rules.specs.Stops.{flat_stops};
+ghost use Rattle.script_runner.specs.Step.{snapshot_answer, read_answer, close_answer, stops_answer};
+ghost use Rattle.script_runner.specs.Told.{TellsBy};
 ghost use Rattle.script_runner.specs.Bytes.{bytes_of};
 
 use crate::outcome::{Outcome, Reply};
 use crate::reply::text_reply;
-use crate::session::Session;
-use script_lines::{Command, Short, long_begin, long_end, long_number};
+use model_core::Model;
+use script_lines::{Short, long_begin, long_end, long_number};
 use std::alloc::{AllocError, Global};
 
-pub(crate) fn snapshot_reply(session: &mut Session) -> Outcome
-    ensures { Tells session.old Command.Snapshot result session.new }
+pub(crate) fn snapshot_reply(model: &mut Model) -> Outcome
+    ensures { let f = model.old.document in
+        TellsBy (snapshot_answer f (flat_snapshot f)) f result model.new.document }
 {
-    let id = session.model.snapshot()?;
+    let id = model.snapshot()?;
     Ok(Reply::Short(Short::ok(&[id])))
 }
 
 /// The units are passed only when the reply stands, so want of memory leaves the snapshot as it was.
-pub(crate) fn read_reply(session: &mut Session, id: u64, count: u64) -> Outcome
-    ensures { Tells session.old (Command.Read id count) result session.new }
+pub(crate) fn read_reply(alloc: Global, model: &mut Model, id: u64, count: u64) -> Outcome
+    ensures { let f = model.old.document in
+        TellsBy (read_answer f id (flat_peek_of f id count)) f result model.new.document }
 {
-    let mut units = Vec::new(session.alloc);
-    session.model.peek(id, count, &mut units)?;
-    let reply = text_reply(session.alloc, units.as_slice())?;
-    session.model.skip(id, units.len() as u64);
+    let mut units = Vec::new(alloc);
+    model.peek(id, count, &mut units)?;
+    let reply = text_reply(alloc, units.as_slice())?;
+    model.skip(id, units.len() as u64);
     Ok(reply)
 }
 
-pub(crate) fn close_reply(session: &mut Session, id: u64) -> Outcome
-    ensures { Tells session.old (Command.Close id) result session.new }
+pub(crate) fn close_reply(model: &mut Model, id: u64) -> Outcome
+    ensures { let f = model.old.document in
+        TellsBy (close_answer f (flat_close_of f id)) f result model.new.document }
 {
-    session.model.close(id)?;
+    model.close(id)?;
     Ok(Reply::Short(Short::ok(&[])))
 }
 
-pub(crate) fn stops_reply(session: &Session, n: u64) -> Outcome
-    ensures { Tells session.now (Command.Stops n) result session.now }
+pub(crate) fn stops_reply(alloc: Global, model: &Model, n: u64) -> Outcome
+    ensures { let f = model.now.document in TellsBy (stops_answer (flat_stops f n), f) f result f }
 {
-    let mut columns = Vec::new(session.alloc);
-    session.model.stops(n, &mut columns)?;
-    Ok(numbers_reply(session.alloc, columns.as_slice())?)
+    let mut columns = Vec::new(alloc);
+    model.stops(n, &mut columns)?;
+    Ok(numbers_reply(alloc, columns.as_slice())?)
 }
 
 fn numbers_reply(alloc: Global, numbers: &[u64]) -> Result<Reply, AllocError>

@@ -1,5 +1,5 @@
 -- The box of a document, and what a handle is laid out as.
-use Rattle.textmodel_c.proofs.Boxed.{◌≡◌, List, [], ◌∷◌, ◌++◌, refl, subst, Val, vnull, vstruct, vcons, vnil, of_list, Logic, Ura, Goal, Seq, Step, step, Item, ‵, ◌$◌, move, drop, fsplit, fjoin, fpick, fpack, feq_i, feq_l, RattleType, Valss, Ptr, RawPtr, null_ptr, ptr_val, nothing, within, shape, handle_tells, Fits, Bx}
+use Rattle.textmodel_c.proofs.Boxed.{◌≡◌, List, [], ◌∷◌, ◌++◌, refl, subst, Val, vnull, vstruct, vcons, vnil, of_list, Logic, Ura, Goal, Seq, Step, step, Item, ‵, ◌$◌, move, drop, fsplit, fjoin, fpick, fpack, feq_i, feq_l, RattleType, Valss, Ptr, RawPtr, null_ptr, nothing, within, shape, handle_tells, Fits, Bx}
 use denote.Struct.Owning.{to}
 use mir.Syntax.{impl, tnil, dnil}
 use Rattle.std.specs.Prelude.{Option, None}

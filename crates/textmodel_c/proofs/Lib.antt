@@ -1,4 +1,4 @@
 mod Boxed
 mod Handles
-pub mod JoinedOps
+pub mod JoinedTexts
 pub mod Refusals

@@ -1,5 +1,5 @@
 -- What a handle owns.
-use Rattle.std.specs.Prelude.{◌≡◌, Option, None, Some}
+use Rattle.std.specs.Prelude.{Option, None, Some}
 use base.Fml.{Fml, ftrue, ffalse}
 use Rattle.std.specs.Coded.{Coded, coded_option}
 use denote.RawPtr.{Ptr, null_ptr, block_ptr}

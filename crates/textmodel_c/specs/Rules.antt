@@ -9,17 +9,18 @@ use Rattle.unit_text.specs.Text.{utf8_of}
 use Rattle.text_rules.specs.declared.Op.{Op}
 use Rattle.decoration_rules.specs.declared.NewDeco.{NewDeco}
 use Rattle.decoration_rules.specs.declared.Deco.{Deco}
-use Rattle.bracket_rules.specs.Table.{standard_table}
+use Rattle.bracket_rules.specs.Table.{Table, is_table, standard_table}
 use Rattle.bracket_rules.specs.declared.Entry.{Entry}
 use Rattle.bracket_rules.specs.declared.Status.{Status as State}
 use Rattle.bracket_rules.specs.declared.Status.TheVariants.{PairedOpening, PairedClosing, Unclosed, Unexpected}
 use Rattle.column_encodings.specs.declared.Encoding.{Encoding}
 use Rattle.column_encodings.specs.declared.Encoding.TheVariants.{Utf8, Utf16, Utf32}
-use Rattle.column_encodings.specs.Columns.{column_in, offset_of}
 use Rattle.document_rules.specs.Refusals.{FlatRefusal, range}
 use Rattle.document_rules.specs.Document.{FlatState, flat_open, flat_edit, flat_eol, flat_offset, flat_decos, flat_line}
 use Rattle.document_rules.specs.Brackets.{flat_brackets, flat_match}
+use Rattle.document_rules.specs.Columns.{flat_column_in, flat_column_of}
 use Rattle.textmodel_c.specs.declared.edits.BatchOp.{BatchOp}
+use Rattle.textmodel_c.specs.declared.opening.PairUnits.{PairUnits}
 use Rattle.textmodel_c.specs.declared.text.Place.{Place}
 use Rattle.textmodel_c.specs.declared.marks.NewDecoration.{NewDecoration}
 use Rattle.textmodel_c.specs.declared.marks.Decoration.{Decoration}
@@ -39,6 +40,20 @@ place_of p = record { line = p.line; column = p.column }
 abbrev pub told_as : {A B : Type 0} → (A → B) → Result A FlatRefusal → Result B FlatRefusal
 told_as tell (Ok x) = Ok (tell x)
 told_as tell (Err why) = Err why
+
+-- ---- texts that stand one after another in one
+
+abbrev pub before_all : {A : Type 0} → A → Result (List A) FlatRefusal → Result (List A) FlatRefusal
+before_all x (Ok xs) = Ok (x ∷ xs)
+before_all x (Err why) = Err why
+
+-- what is made of each with its units of the joined text, where they fill it
+abbrev pub pieces_of : {A B : Type 0} → (A → ℕ) → (A → List ℕ → B) → List A → List ℕ → Result (List B) FlatRefusal
+pieces_of units make [] [] = Ok []
+pieces_of units make [] (unit ∷ text) = Err range
+pieces_of units make (x ∷ xs) text =
+    if nat_lt (length text) (units x) then Err range
+    else before_all (make x (take (units x) text)) (pieces_of units make xs (drop (units x) text))
 
 -- ---- kinds of line ending
 
@@ -60,6 +75,26 @@ with_kind (Some kind) rule = rule kind
 -- a new document with the usual brackets
 abbrev pub flat_open_as : ℕ → List ℕ → Result FlatState FlatRefusal
 flat_open_as number text = with_kind (kind_of number) (flat_open text standard_table)
+
+-- the two texts of a pair, joined
+abbrev pub pair_of : PairUnits → List ℕ → List ℕ × List ℕ
+pair_of pair text = (take pair.opening text, drop pair.opening text)
+
+abbrev pub pairs_of : List PairUnits → List ℕ → Result (List (List ℕ × List ℕ)) FlatRefusal
+pairs_of pairs text = pieces_of (λ (pair : PairUnits). pair.opening + pair.closing) pair_of pairs text
+
+abbrev pub table_or_range : Result Table FlatRefusal → Result Table FlatRefusal
+table_or_range (Err why) = Err why
+table_or_range (Ok pairs) = if is_table pairs then Ok pairs else Err range
+
+abbrev pub with_table : {A : Type 0} → Result Table FlatRefusal → (Table → Result A FlatRefusal) → Result A FlatRefusal
+with_table (Err why) rule = Err why
+with_table (Ok table) rule = rule table
+
+-- a new document with brackets of its own
+abbrev pub flat_open_with : ℕ → List PairUnits → List ℕ → List ℕ → Result FlatState FlatRefusal
+flat_open_with number pairs brackets text =
+    with_kind (kind_of number) (λ kind. with_table (table_or_range (pairs_of pairs brackets)) (λ table. flat_open text table kind))
 
 abbrev pub flat_eol_as : FlatState → ℕ → Result (Option FlatState) FlatRefusal
 flat_eol_as f number = with_kind (kind_of number) (flat_eol f)
@@ -88,17 +123,9 @@ flat_edit_at from to text force f = flat_edit_in f (span_between f from to) text
 abbrev pub op_of : BatchOp → List ℕ → Op
 op_of op text = record { span = span op.start op.end; text = text; force = op.force }
 
-abbrev pub op_before : Op → Result (List Op) FlatRefusal → Result (List Op) FlatRefusal
-op_before op (Ok ops) = Ok (op ∷ ops)
-op_before op (Err why) = Err why
-
 -- the ops with their texts, which stand one after another and fill the joined one
 abbrev pub ops_of : List BatchOp → List ℕ → Result (List Op) FlatRefusal
-ops_of [] [] = Ok []
-ops_of [] (unit ∷ units) = Err range
-ops_of (op ∷ ops) text =
-    if nat_lt (length text) op.units then Err range
-    else op_before (op_of op (take op.units text)) (ops_of ops (drop op.units text))
+ops_of batch text = pieces_of (λ (op : BatchOp). op.units) op_of batch text
 
 abbrev pub flat_edit_by : FlatState → Result (List Op) FlatRefusal → Result FlatState FlatRefusal
 flat_edit_by f (Err why) = Err why
@@ -177,10 +204,6 @@ flat_partner f p = told_as (option_map partner_of) (flat_match f p)
 
 -- ---- columns
 
-abbrev pub or_range : {A : Type 0} → Option A → Result A FlatRefusal
-or_range None = Err range
-or_range (Some x) = Ok x
-
 abbrev pub encoding_of : ℕ → Option Encoding
 encoding_of number =
     if number == 8 then Some Utf8 else
@@ -190,21 +213,6 @@ encoding_of number =
 abbrev pub with_encoding : {A : Type 0} → Option Encoding → (Encoding → Result A FlatRefusal) → Result A FlatRefusal
 with_encoding None rule = Err range
 with_encoding (Some encoding) rule = rule encoding
-
--- what is told of the content of a line, if there is such a line
-abbrev pub of_line : {A : Type 0} → (List ℕ → Option A) → Result (List ℕ) FlatRefusal → Result A FlatRefusal
-of_line tell (Err why) = Err why
-of_line tell (Ok content) = or_range (tell content)
-
--- how many bytes, units or code points of its line stand before the position, whose column is no less than 1
-abbrev pub flat_column_in : FlatState → Encoding → Position → Result ℕ FlatRefusal
-flat_column_in f encoding p =
-    of_line (λ content. if p.column == 0 then None else column_in encoding content (p.column - 1)) (flat_line f p.line)
-
--- the column of the place in the line before which so many stand
-abbrev pub flat_column_of : FlatState → Encoding → ℕ → ℕ → Result ℕ FlatRefusal
-flat_column_of f encoding line before =
-    of_line (λ content. option_map (λ offset. offset + 1) (offset_of encoding content before)) (flat_line f line)
 
 abbrev pub flat_column_as : FlatState → ℕ → Position → Result ℕ FlatRefusal
 flat_column_as f encoding p = with_encoding (encoding_of encoding) (λ e. flat_column_in f e p)

@@ -1,17 +1,18 @@
 -- What a call answers, and what it leaves of what the handle holds.
-use Rattle.std.specs.Prelude.{◌≡◌, ◌⊎◌, ℕ, ◌-◌, Bool, true, false, MatchBool, if◌then◌else◌, nat_le, List, ◌++◌, length, take, drop, min, Option, Some, None, Result, Ok, Err, IsUtf8, ⊤}
+use Rattle.std.specs.Prelude.{◌≡◌, ◌⊎◌, ℕ, ◌-◌, Bool, MatchBool, if◌then◌else◌, nat_le, List, [], ◌++◌, length, take, drop, min, Option, Some, None, Result, Ok, Err, IsUtf8, ⊤}
 use Rattle.std.specs.Str.Lossy.{utf8_valid_len}
 use Rattle.unit_text.specs.Text.{units_of}
-use Rattle.text_rules.specs.declared.Op.{Op}
 use Rattle.decoration_rules.specs.declared.NewDeco.{NewDeco}
 use Rattle.std.specs.declared.vec.Vec.{Vec}
 use Rattle.std.specs.declared.alloc.Global.{Global}
 use Rattle.document_rules.specs.declared.ModelError.{ModelError}
 use Rattle.document_rules.specs.Refusals.{FlatRefusal}
 use Rattle.document_rules.specs.Outcomes.{RefusedFor, Changes, Moves, ChangesWith, Gives}
-use Rattle.document_rules.specs.Document.{FlatState, empty_document, flat_decorate}
+use Rattle.document_rules.specs.Document.{FlatState, flat_decorate}
 use Rattle.document_rules.specs.Snapshots.{flat_peek_of, flat_skipped}
-use Rattle.script_runner.specs.Script.{Turn}
+use Rattle.script_runner.specs.declared.session.Session.{Session}
+use Rattle.script_runner.specs.Session.{new_session}
+use Rattle.script_runner.specs.Standing.{StandsFor, Turns}
 use Rattle.script_runner.specs.Bytes.{bytes_of_outcome}
 use Rattle.script_runner.specs.declared.outcome.Reply.TheVariants.{Nothing}
 use Rattle.textmodel_c.specs.declared.status.Status.{Status}
@@ -36,7 +37,7 @@ Numbers n says = (s : Status) × (n ≡ number_of s) × says s
 -- a new empty document, or want of memory
 abbrev pub IsNewDocument : Option Document → Type 0
 IsNewDocument None = ⊥
-IsNewDocument (Some new) = (new.model.document ≡ empty_document) × (new.reply ≡ Ok Nothing)
+IsNewDocument (Some new) = StandsFor new.session new_session × (new.reply ≡ Ok Nothing)
 
 abbrev pub Made : ℕ → Option Document → Option Document → Type 0
 Made n old new =
@@ -48,21 +49,45 @@ Freed n (Some old) = n ≡ number_of status.Ok
 
 -- ---- changes
 
+-- the last reply, the mirror and the events that were sent
+pub record KeepsRest (old new : Document) : Type 0 where
+  pub reply : new.reply ≡ old.reply
+  pub mirror : new.session.mirror ≡ old.session.mirror
+  pub sent : new.session.sent.items ≡ old.session.sent.items
+
+-- a new document has no mirror, and nothing was sent of it; where none was opened they stay
+abbrev pub RenewsFollowers : Result ⊤ ModelError → Session → Session → Type 0
+RenewsFollowers (Ok x) old new = (new.mirror ≡ None) × (new.sent.items ≡ [])
+RenewsFollowers (Err e) old new = (new.mirror ≡ old.mirror) × (new.sent.items ≡ old.sent.items)
+
+pub record Opens (answer : Result ⊤ ModelError) (old new : Session) (rule : Result FlatState FlatRefusal) : Type 0 where
+  pub document : Changes answer old.model.document new.model.document rule
+  pub followers : RenewsFollowers answer old new
+
+-- a new document takes the place of the old one, or is refused for the rule's reason; the reply is kept
+abbrev pub Opened : ℕ → Result FlatState FlatRefusal → Document → Document → Type 0
+Opened n rule old new = (answer : Result ⊤ ModelError) × (n ≡ number_of (status_of_done answer))
+    × Opens answer old.session new.session rule × (new.reply ≡ old.reply)
+
 -- the document is changed by the rule, or refused for its reason; the reply is kept
 abbrev pub Changed : ℕ → (FlatState → Result FlatState FlatRefusal) → Document → Document → Type 0
 Changed n rule old new = (answer : Result ⊤ ModelError) × (n ≡ number_of (status_of_done answer))
-    × Changes answer old.model.document new.model.document (rule old.model.document) × (new.reply ≡ old.reply)
+    × Changes answer old.session.model.document new.session.model.document (rule old.session.model.document)
+    × KeepsRest old new
 
 -- the same of a rule that may find nothing to do
 abbrev pub Moved : ℕ → (FlatState → Result (Option FlatState) FlatRefusal) → Document → Document → Type 0
 Moved n rule old new = (answer : Result Bool ModelError) × (n ≡ number_of (status_of_step answer))
-    × Moves answer old.model.document new.model.document (rule old.model.document) × (new.reply ≡ old.reply)
+    × Moves answer old.session.model.document new.session.model.document (rule old.session.model.document)
+    × KeepsRest old new
 
 -- the same of a call that hands out a number
 abbrev pub ChangedWith : ℕ → ℕ → ℕ → (FlatState → ℕ) → (FlatState → Result FlatState FlatRefusal) → Document → Document → Type 0
 ChangedWith n out out' told rule old new = (answer : Result ℕ ModelError) × (n ≡ number_of (status_of_given answer))
     × (out' ≡ given_or out answer)
-    × ChangesWith (told old.model.document) answer old.model.document new.model.document (rule old.model.document) × (new.reply ≡ old.reply)
+    × ChangesWith (told old.session.model.document) answer
+    old.session.model.document new.session.model.document (rule old.session.model.document)
+    × KeepsRest old new
 
 -- decorations of an owner go and new ones come, and the first new id is handed out
 abbrev pub Decorated : ℕ → ℕ → ℕ → ℕ → List ℕ → List NewDeco → Document → Document → Type 0
@@ -71,22 +96,22 @@ Decorated n first first' owner remove add =
 
 -- a change that is never refused
 abbrev pub Becomes : ℕ → (FlatState → FlatState) → Document → Document → Type 0
-Becomes n rule old new = (n ≡ number_of status.Ok) × (new.model.document ≡ rule old.model.document) × (new.reply ≡ old.reply)
+Becomes n rule old new = (n ≡ number_of status.Ok) × (new.session.model.document ≡ rule old.session.model.document) × KeepsRest old new
 
 -- a text in UTF-8 is opened; of one that is none it is told where its first fault is
-pub record OpenedUtf8 (s : Status) (kind : ℕ) (text : List ℕ) (bad bad' : ℕ) (old new : FlatState) : Type 0 where
+pub record OpenedUtf8 (s : Status) (kind : ℕ) (text : List ℕ) (bad bad' : ℕ) (old new : Session) : Type 0 where
   pub opened : IsUtf8 text → (answer : Result ⊤ ModelError) × (s ≡ status_of_done answer)
-      × Changes answer old new (flat_open_as kind (units_of text)) × (bad' ≡ bad)
+      × Opens answer old new (flat_open_as kind (units_of text)) × (bad' ≡ bad)
   pub refused : (IsUtf8 text → ⊥) → (s ≡ status.Encoding) × (bad' ≡ utf8_valid_len text) × (new ≡ old)
 
 abbrev pub HasOpenedUtf8 : ℕ → ℕ → List ℕ → ℕ → ℕ → Document → Document → Type 0
 HasOpenedUtf8 n kind text bad bad' old new =
-    Numbers n (λ s. OpenedUtf8 s kind text bad bad' old.model.document new.model.document) × (new.reply ≡ old.reply)
+    Numbers n (λ s. OpenedUtf8 s kind text bad bad' old.session new.session) × (new.reply ≡ old.reply)
 
--- the ops of a batch, or want of memory
-abbrev pub GivesOps : Result (Vec Op Global) ModelError → Result (List Op) FlatRefusal → Type 0
-GivesOps (Ok ops) rule = rule ≡ Ok ops.items
-GivesOps (Err e) rule = RefusedFor e rule
+-- what the rule gives, or its reason; or want of memory
+abbrev pub GivesAll : {A : Type 0} → Result (Vec A Global) ModelError → Result (List A) FlatRefusal → Type 0
+GivesAll (Ok xs) rule = rule ≡ Ok xs.items
+GivesAll (Err e) rule = RefusedFor e rule
 
 -- ---- answers
 
@@ -97,12 +122,12 @@ AskedOf n out out' (Some x) = (n ≡ number_of status.Ok) × (out' ≡ x)
 
 abbrev pub Asked : {A : Type 0} → ℕ → Option Document → A → A → (FlatState → Option A) → Type 0
 Asked n None out out' rule = (n ≡ number_of status.Empty) × (out' ≡ out)
-Asked n (Some held) out out' rule = AskedOf n out out' (rule held.model.document)
+Asked n (Some held) out out' rule = AskedOf n out out' (rule held.session.model.document)
 
 -- a question that is answered by the status
 abbrev pub Holds : ℕ → Option Document → (FlatState → Bool) → Type 0
 Holds n None rule = n ≡ number_of status.Empty
-Holds n (Some held) rule = n ≡ (if rule held.model.document then number_of status.Ok else number_of status.Nothing)
+Holds n (Some held) rule = n ≡ (if rule held.session.model.document then number_of status.Ok else number_of status.Nothing)
 
 -- so many are put at the front of a place, or there is no room for all
 abbrev pub Listed : {A : Type 0} → Status → List A → List A → List A → ℕ → Type 0
@@ -126,7 +151,7 @@ Lists {A} s out out' count count' rule = (answer : Result ⊤ ModelError) × (fo
 
 abbrev pub ListsHeld : {A : Type 0} → ℕ → Option Document → List A → List A → ℕ → ℕ → (FlatState → Result (List A) FlatRefusal) → Type 0
 ListsHeld n None out out' count count' rule = (n ≡ number_of status.Empty) × (out' ≡ out) × (count' ≡ count)
-ListsHeld n (Some held) out out' count count' rule = Numbers n (λ s. Lists s out out' count count' (rule held.model.document))
+ListsHeld n (Some held) out out' count count' rule = Numbers n (λ s. Lists s out out' count count' (rule held.session.model.document))
 
 -- what the rule gives is handed out, where there is anything
 abbrev pub status_of_found : {A : Type 0} → Result (Option A) ModelError → Status
@@ -145,7 +170,7 @@ FoundOut {A} s out out' rule = (answer : Result (Option A) ModelError) × (s ≡
 
 abbrev pub FoundHeld : {A : Type 0} → ℕ → Option Document → A → A → (FlatState → Result (Option A) FlatRefusal) → Type 0
 FoundHeld n None out out' rule = (n ≡ number_of status.Empty) × (out' ≡ out)
-FoundHeld n (Some held) out out' rule = Numbers n (λ s. FoundOut s out out' (rule held.model.document))
+FoundHeld n (Some held) out out' rule = Numbers n (λ s. FoundOut s out out' (rule held.session.model.document))
 
 abbrev pub GivenOut : {A : Type 0} → Status → A → A → Result A FlatRefusal → Type 0
 GivenOut {A} s out out' rule = (answer : Result A ModelError) × (s ≡ status_of_given answer)
@@ -153,44 +178,33 @@ GivenOut {A} s out out' rule = (answer : Result A ModelError) × (s ≡ status_o
 
 abbrev pub GivenHeld : {A : Type 0} → ℕ → Option Document → A → A → (FlatState → Result A FlatRefusal) → Type 0
 GivenHeld n None out out' rule = (n ≡ number_of status.Empty) × (out' ≡ out)
-GivenHeld n (Some held) out out' rule = Numbers n (λ s. GivenOut s out out' (rule held.model.document))
+GivenHeld n (Some held) out out' rule = Numbers n (λ s. GivenOut s out out' (rule held.session.model.document))
 
 -- the document and the reply are as they were
 abbrev pub KeepsText : Option Document → Option Document → Type 0
 KeepsText None None = ⊤
 KeepsText None (Some new) = ⊥
 KeepsText (Some old) None = ⊥
-KeepsText (Some old) (Some new) = (new.model.document ≡ old.model.document) × (new.reply ≡ old.reply)
+KeepsText (Some old) (Some new) = (new.session.model.document ≡ old.session.model.document) × KeepsRest old new
 
 -- ---- snapshots
 
--- what was read is passed
-abbrev pub PassedFor : Status → ℕ → ℕ → FlatState → FlatState → Type 0
-PassedFor status.Ok id count old new = new ≡ flat_skipped old id count
-PassedFor status.Nothing id count old new = new ≡ old
-PassedFor status.Unknown id count old new = new ≡ old
-PassedFor status.Range id count old new = new ≡ old
-PassedFor status.Overlap id count old new = new ≡ old
-PassedFor status.Limit id count old new = new ≡ old
-PassedFor status.Memory id count old new = new ≡ old
-PassedFor status.Encoding id count old new = new ≡ old
-PassedFor status.Empty id count old new = new ≡ old
-PassedFor status.Short id count old new = new ≡ old
-
+-- what was read is passed, and nothing else changes
 pub record Reads (s : Status) (id : ℕ) (out out' : List ℕ) (count count' : ℕ) (old new : FlatState) : Type 0 where
   pub units : Lists s out out' count count' (flat_peek_of old id (length out))
-  pub passed : PassedFor s id count' old new
+  pub passed : s ≡ status.Ok → new ≡ flat_skipped old id count'
+  pub kept : (s ≡ status.Ok → ⊥) → new ≡ old
 
 abbrev pub HasRead : ℕ → ℕ → List ℕ → List ℕ → ℕ → ℕ → Document → Document → Type 0
 HasRead n id out out' count count' old new =
-    Numbers n (λ s. Reads s id out out' count count' old.model.document new.model.document) × (new.reply ≡ old.reply)
+    Numbers n (λ s. Reads s id out out' count count' old.session.model.document new.session.model.document) × KeepsRest old new
 
 -- ---- script lines
 
 -- the line is answered by the reply that is kept, and the length of its bytes is told
 pub record HasAnswered (n : ℕ) (line : List ℕ) (count : ℕ) (old new : Document) : Type 0 where
   pub answered : n ≡ number_of status.Ok
-  pub turn : Turn old.model.document line (bytes_of_outcome new.reply) new.model.document
+  pub turn : Turns old.session line (bytes_of_outcome new.reply) new.session
   pub len : count ≡ length (bytes_of_outcome new.reply)
 
 -- as many bytes from a place on as there is room for are put at the front; none where the place is behind them

@@ -1,34 +1,35 @@
 //! Script lines and their replies.
 
 ghost use Rattle.std.specs.Prelude.{◌≡◌, length, IfNone};
-ghost use Rattle.script_runner.specs.Script.{Turn};
 ghost use Rattle.script_runner.specs.Bytes.{bytes_of_outcome};
+ghost use Rattle.script_runner.specs.Standing.{Turns};
 ghost use Rattle.textmodel_c.specs.Told.{CopiedFrom, HasAnswered, Leaves, RepliesHeld};
 
+use crate::document::Document;
 use crate::handle::Handle;
 use crate::status::Status;
-use model_core::Model;
 use script_lines::refusal;
-use script_runner::{Outcome, Refused, Session};
+use script_runner::{Outcome, Refused};
 use std::alloc::Global;
-use std::mem::replace;
 
 /// The version of this library: ten thousand times the major number, a hundred times the minor one, and the patch.
 #[unsafe(no_mangle)]
 pub extern "C" fn tm_version() -> u32
-    ensures { result ≡ 100 }
+    ensures { result ≡ 200 }
 {
-    100
+    200
 }
 
-fn answer(alloc: Global, model: &mut Model, line: &[u8]) -> Outcome
-    ensures { Turn model.old.document line.now (bytes_of_outcome result) model.new.document }
+// Answers the line, and keeps what came of it; how many bytes are written for it.
+fn answer(document: &mut Document, line: &[u8]) -> u64
+    ensures turn { Turns document.old.session line.now
+        (bytes_of_outcome document.new.reply) document.new.session }
+    ensures len { result ≡ length (bytes_of_outcome document.new.reply) }
 {
-    let own = replace(model, Model::new(alloc));
-    let mut session = Session::of_model(alloc, own);
-    let outcome = session.answer(line);
-    *model = session.into_model();
-    outcome
+    let outcome = document.session.answer(line);
+    let len = reply_len(&outcome);
+    document.reply = outcome;
+    len
 }
 
 // How many bytes are written for a line.
@@ -51,9 +52,7 @@ pub extern "C" fn tm_answer(alloc: Global, handle: &mut Handle, line: &[u8], len
     let Some(mut document) = handle.take(alloc) else {
         return Status::Empty.number();
     };
-    let outcome = answer(alloc, &mut document.model, line);
-    *len = reply_len(&outcome);
-    document.reply = outcome;
+    *len = answer(&mut document, line);
     handle.put(document);
     Status::Ok.number()
 }

@@ -121,7 +121,7 @@ pub extern "C" fn tm_brackets(
     let Some(mut document) = handle.take(alloc) else {
         return Status::Empty.number();
     };
-    let status = brackets_out(alloc, &mut document.model, from, to, out, count);
+    let status = brackets_out(alloc, &mut document.session.model, from, to, out, count);
     handle.put(document);
     status.number()
 }
@@ -161,7 +161,11 @@ pub extern "C" fn tm_match(
     let Some(mut document) = handle.take(alloc) else {
         return Status::Empty.number();
     };
-    let status = match_out(&mut document.model, Position { line, column }, partner);
+    let status = match_out(
+        &mut document.session.model,
+        Position { line, column },
+        partner,
+    );
     handle.put(document);
     status.number()
 }
@@ -190,7 +194,11 @@ pub extern "C" fn tm_level(
     let Some(mut document) = handle.take(alloc) else {
         return Status::Empty.number();
     };
-    let status = level_out(&mut document.model, Position { line, column }, level);
+    let status = level_out(
+        &mut document.session.model,
+        Position { line, column },
+        level,
+    );
     handle.put(document);
     status.number()
 }

@@ -7,8 +7,7 @@ ghost use Rattle.textmodel_c.specs.Told.{GivenHeld};
 
 use crate::handle::Handle;
 use crate::status::Status;
-use column_encodings::{Encoding, column_in, offset_of};
-use model_core::{Model, ModelError, Position};
+use model_core::{Encoding, Model, ModelError, Position};
 use std::alloc::Global;
 
 /// What a column of this number counts.
@@ -23,14 +22,11 @@ fn encoding_of(number: u32) -> Option<Encoding>
     }
 }
 
-fn column_as(alloc: Global, model: &Model, encoding: u32, at: Position) -> Result<u64, ModelError>
+fn column_as(model: &Model, encoding: u32, at: Position) -> Result<u64, ModelError>
     ensures { Gives result (flat_column_as model.now.document encoding at) }
 {
     let encoding = encoding_of(encoding).ok_or(ModelError::Range)?;
-    let mut content = Vec::new(alloc);
-    model.line(at.line, &mut content)?;
-    let before = at.column.checked_sub(1).ok_or(ModelError::Range)?;
-    column_in(encoding, &content, before).ok_or(ModelError::Range)
+    model.column_in(encoding, at)
 }
 
 /// How many bytes of UTF-8, units of UTF-16 or code points of its line stand before the position, by `encoding`, which is 8, 16 or
@@ -51,25 +47,16 @@ pub extern "C" fn tm_column(
     let Some(document) = handle.take(alloc) else {
         return Status::Empty.number();
     };
-    let answer = column_as(alloc, &document.model, encoding, Position { line, column });
+    let answer = column_as(&document.session.model, encoding, Position { line, column });
     handle.put(document);
     Status::of_given(answer, before).number()
 }
 
-fn column_of_as(
-    alloc: Global,
-    model: &Model,
-    encoding: u32,
-    line: u64,
-    before: u64,
-) -> Result<u64, ModelError>
+fn column_of_as(model: &Model, encoding: u32, line: u64, before: u64) -> Result<u64, ModelError>
     ensures { Gives result (flat_column_of_as model.now.document encoding line before) }
 {
     let encoding = encoding_of(encoding).ok_or(ModelError::Range)?;
-    let mut content = Vec::new(alloc);
-    model.line(line, &mut content)?;
-    let offset = offset_of(encoding, &content, before).ok_or(ModelError::Range)?;
-    Ok(offset + 1)
+    model.column_of(encoding, line, before)
 }
 
 /// The column of the place in the line before which so many bytes, units or code points stand, by `encoding`, which is 8, 16 or
@@ -90,7 +77,7 @@ pub extern "C" fn tm_column_of(
     let Some(document) = handle.take(alloc) else {
         return Status::Empty.number();
     };
-    let answer = column_of_as(alloc, &document.model, encoding, line, before);
+    let answer = column_of_as(&document.session.model, encoding, line, before);
     handle.put(document);
     Status::of_given(answer, column).number()
 }

@@ -1,11 +1,10 @@
 //! What a handle holds.
 
-use model_core::Model;
-use script_runner::Outcome;
+use script_runner::{Outcome, Session};
 
-/// A document, and what came of the last script line.
+/// A document with what follows it, and what came of the last script line.
 #[derive(Drop)]
 pub struct Document {
-    pub model: Model,
+    pub session: Session,
     pub reply: Outcome,
 }

@@ -1,17 +1,16 @@
-//! Opening, edits, undo and redo, and line endings.
+//! Edits, undo and redo, and line endings.
 
-ghost use Rattle.std.specs.Prelude.{◌≡◌, IfOk, IfNone};
+ghost use Rattle.std.specs.Prelude.{◌≡◌, IfOk};
 ghost use Rattle.document_rules.specs.Outcomes.{Changes, Moves};
 ghost use Rattle.document_rules.specs.Document.{flat_edit, flat_undo, flat_redo, flat_stop};
-ghost use Rattle.textmodel_c.specs.Rules.{at, span, kind_of, one_op, op_of, ops_of, span_between, flat_open_as, flat_edit_at, flat_edit_joined, flat_eol_as};
-ghost use Rattle.textmodel_c.specs.Told.{Becomes, Changed, GivesOps, HasOpenedUtf8, Leaves, Moved, OpenedUtf8};
+ghost use Rattle.textmodel_c.specs.Rules.{at, span, one_op, op_of, ops_of, span_between, flat_edit_at, flat_edit_joined, flat_eol_as};
+ghost use Rattle.textmodel_c.specs.Told.{Becomes, Changed, GivesAll, Leaves, Moved};
 
 use crate::handle::Handle;
+use crate::opening::kind_of;
 use crate::status::Status;
-use model_core::{BracketTable, Model, ModelError, Op, Position, Span, Units, units_of};
+use model_core::{Model, ModelError, Op, Position, Span, Units};
 use std::alloc::{AllocError, Global};
-use std::str::from_utf8;
-use unit_text::Kind;
 
 /// An op of a batch: so many units of the joined texts take the place of those from `start` up to `end`. `force` moves
 /// decorations at the place to its end, whatever their stickiness.
@@ -22,82 +21,6 @@ pub struct BatchOp {
     pub end: u64,
     pub units: u64,
     pub force: bool,
-}
-
-/// The kind of line ending of this number.
-fn kind_of(number: u32) -> Option<Kind>
-    ensures { result ≡ kind_of number }
-{
-    match number {
-        0 => Some(Kind::Mixed),
-        1 => Some(Kind::Lf),
-        2 => Some(Kind::Crlf),
-        _ => None,
-    }
-}
-
-fn open_as(model: &mut Model, text: &[u16], kind: u32) -> Result<(), ModelError>
-    ensures { Changes result model.old.document model.new.document
-        (flat_open_as kind text.now) }
-{
-    let kind = kind_of(kind).ok_or(ModelError::Range)?;
-    model.open_doc(text, BracketTable::standard(), kind)
-}
-
-/// Puts a new document with this text in place of the old one, with the brackets `()`, `[]` and `{}`. `kind` is 0 for
-/// line endings as they come, 1 for LF and 2 for CR LF, which the text then gets. `Range` where it is another number,
-/// else `Limit` where the text would be too long.
-#[unsafe(no_mangle)]
-pub extern "C" fn tm_open(alloc: Global, handle: &mut Handle, text: &[u16], kind: u32) -> u32
-    ensures document { Leaves result handle.old.held handle.new.held
-        (Changed result (λ _. flat_open_as kind text.now)) }
-{
-    let Some(mut document) = handle.take(alloc) else {
-        return Status::Empty.number();
-    };
-    let answer = open_as(&mut document.model, text, kind);
-    handle.put(document);
-    Status::of_done(answer).number()
-}
-
-fn open_utf8(alloc: Global, model: &mut Model, text: &[u8], kind: u32, bad: &mut u64) -> Status
-    ensures { OpenedUtf8 result kind text.now bad.old bad.new
-        model.old.document model.new.document }
-{
-    let text = match from_utf8(text) {
-        Ok(text) => text,
-        Err(error) => {
-            *bad = error.valid_up_to() as u64;
-            return Status::Encoding;
-        }
-    };
-    let mut units = Vec::new(alloc);
-    if units_of(text, &mut units).is_err() {
-        return Status::Memory;
-    }
-    Status::of_done(open_as(model, &units, kind))
-}
-
-/// `tm_open` of a text in UTF-8. `Encoding` where it is none: `bad` is then how many bytes stand before the first that is
-/// at fault, and is left alone else.
-#[unsafe(no_mangle)]
-pub extern "C" fn tm_open_utf8(
-    alloc: Global,
-    handle: &mut Handle,
-    text: &[u8],
-    kind: u32,
-    bad: &mut u64,
-) -> u32
-    ensures document { Leaves result handle.old.held handle.new.held
-        (HasOpenedUtf8 result kind text.now bad.old bad.new) }
-    ensures empty { IfNone handle.old.held (bad.new ≡ bad.old) }
-{
-    let Some(mut document) = handle.take(alloc) else {
-        return Status::Empty.number();
-    };
-    let status = open_utf8(alloc, &mut document.model, text, kind, bad);
-    handle.put(document);
-    status.number()
 }
 
 fn one_op(alloc: Global, span: Span, text: &[u16], force: bool) -> Result<Vec<Op>, AllocError>
@@ -142,7 +65,7 @@ pub extern "C" fn tm_edit(
         return Status::Empty.number();
     };
     let span = Span { start, end };
-    let answer = edit_span(alloc, &mut document.model, span, text, force);
+    let answer = edit_span(alloc, &mut document.session.model, span, text, force);
     handle.put(document);
     Status::of_done(answer).number()
 }
@@ -195,14 +118,14 @@ pub extern "C" fn tm_edit_at(
         line: end_line,
         column: end_column,
     };
-    let answer = edit_between(alloc, &mut document.model, from, to, text, force);
+    let answer = edit_between(alloc, &mut document.session.model, from, to, text, force);
     handle.put(document);
     Status::of_done(answer).number()
 }
 
 // The ops with their texts, which stand one after another in the joined one and fill it.
 fn ops_of(alloc: Global, batch: &[BatchOp], text: &[u16]) -> Result<Vec<Op>, ModelError>
-    ensures { GivesOps result (ops_of batch.now text.now) }
+    ensures { GivesAll result (ops_of batch.now text.now) }
 {
     let mut ops = Vec::with_capacity(alloc, batch.len()).map_err(|_| ModelError::Memory)?;
     let mut rest = text;
@@ -263,7 +186,7 @@ pub extern "C" fn tm_batch(
     let Some(mut document) = handle.take(alloc) else {
         return Status::Empty.number();
     };
-    let answer = edit_joined(alloc, &mut document.model, batch, text);
+    let answer = edit_joined(alloc, &mut document.session.model, batch, text);
     handle.put(document);
     Status::of_done(answer).number()
 }
@@ -277,7 +200,7 @@ pub extern "C" fn tm_undo(alloc: Global, handle: &mut Handle) -> u32
     let Some(mut document) = handle.take(alloc) else {
         return Status::Empty.number();
     };
-    let answer = document.model.undo();
+    let answer = document.session.model.undo();
     handle.put(document);
     Status::of_step(answer).number()
 }
@@ -291,7 +214,7 @@ pub extern "C" fn tm_redo(alloc: Global, handle: &mut Handle) -> u32
     let Some(mut document) = handle.take(alloc) else {
         return Status::Empty.number();
     };
-    let answer = document.model.redo();
+    let answer = document.session.model.redo();
     handle.put(document);
     Status::of_step(answer).number()
 }
@@ -304,7 +227,7 @@ pub extern "C" fn tm_stop(alloc: Global, handle: &mut Handle) -> u32
     let Some(mut document) = handle.take(alloc) else {
         return Status::Empty.number();
     };
-    document.model.stop();
+    document.session.model.stop();
     handle.put(document);
     Status::Ok.number()
 }
@@ -328,7 +251,7 @@ pub extern "C" fn tm_set_eol(alloc: Global, handle: &mut Handle, kind: u32) -> u
     let Some(mut document) = handle.take(alloc) else {
         return Status::Empty.number();
     };
-    let answer = set_kind(&mut document.model, kind);
+    let answer = set_kind(&mut document.session.model, kind);
     handle.put(document);
     Status::of_step(answer).number()
 }

@@ -10,6 +10,7 @@ mod edits;
 mod handle;
 mod lists;
 mod marks;
+mod opening;
 mod readings;
 mod status;
 mod text;

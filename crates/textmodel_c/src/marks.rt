@@ -105,7 +105,7 @@ pub extern "C" fn tm_decorate(
     let Some(mut document) = handle.take(alloc) else {
         return Status::Empty.number();
     };
-    let answer = decorate(alloc, &mut document.model, owner, remove, add);
+    let answer = decorate(alloc, &mut document.session.model, owner, remove, add);
     handle.put(document);
     Status::of_given(answer, first).number()
 }
@@ -125,7 +125,7 @@ pub extern "C" fn tm_deco(
     let Some(document) = handle.take(alloc) else {
         return Status::Empty.number();
     };
-    let found = document.model.get_deco(id);
+    let found = document.session.model.get_deco(id);
     handle.put(document);
     let Some(found) = found else {
         return Status::Nothing.number();
@@ -204,7 +204,7 @@ pub extern "C" fn tm_decos(
     };
     let span = Span { start, end };
     let owner = owner_of(owner, any);
-    let status = decorations_out(alloc, &document.model, span, owner, out, count);
+    let status = decorations_out(alloc, &document.session.model, span, owner, out, count);
     handle.put(document);
     status.number()
 }

@@ -22,7 +22,7 @@ pub extern "C" fn tm_snapshot(alloc: Global, handle: &mut Handle, id: &mut u64) 
     let Some(mut document) = handle.take(alloc) else {
         return Status::Empty.number();
     };
-    let answer = document.model.snapshot();
+    let answer = document.session.model.snapshot();
     handle.put(document);
     Status::of_given(answer, id).number()
 }
@@ -58,7 +58,7 @@ pub extern "C" fn tm_read(
     let Some(mut document) = handle.take(alloc) else {
         return Status::Empty.number();
     };
-    let status = read_out(alloc, &mut document.model, id, out, count);
+    let status = read_out(alloc, &mut document.session.model, id, out, count);
     handle.put(document);
     status.number()
 }
@@ -72,7 +72,7 @@ pub extern "C" fn tm_close(alloc: Global, handle: &mut Handle, id: u64) -> u32
     let Some(mut document) = handle.take(alloc) else {
         return Status::Empty.number();
     };
-    let answer = document.model.close(id);
+    let answer = document.session.model.close(id);
     handle.put(document);
     Status::of_done(answer).number()
 }
@@ -102,7 +102,7 @@ pub extern "C" fn tm_stops(
     let Some(document) = handle.take(alloc) else {
         return Status::Empty.number();
     };
-    let status = stops_out(alloc, &document.model, n, out, count);
+    let status = stops_out(alloc, &document.session.model, n, out, count);
     handle.put(document);
     status.number()
 }

@@ -11,7 +11,7 @@ use crate::handle::Handle;
 use crate::lists::hand_out_of;
 use crate::status::Status;
 use model_core::{Model, ModelError, Position, Span, utf8_of};
-use script_runner::Reply;
+use script_runner::{Reply, Session};
 use std::alloc::Global;
 use unit_text::Kind;
 
@@ -29,7 +29,7 @@ pub extern "C" fn tm_make(alloc: Global, handle: &mut Handle) -> u32
     ensures { Made result handle.old.held handle.new.held }
 {
     let document = Document {
-        model: Model::new(alloc),
+        session: Session::new(alloc),
         reply: Ok(Reply::Nothing),
     };
     let Ok(document) = Box::new(alloc, document) else {
@@ -63,7 +63,7 @@ pub extern "C" fn tm_len(alloc: Global, handle: &mut Handle, len: &mut u64) -> u
     let Some(document) = handle.take(alloc) else {
         return Status::Empty.number();
     };
-    *len = document.model.len();
+    *len = document.session.model.len();
     handle.put(document);
     Status::Ok.number()
 }
@@ -78,7 +78,7 @@ pub extern "C" fn tm_line_count(alloc: Global, handle: &mut Handle, count: &mut 
     let Some(document) = handle.take(alloc) else {
         return Status::Empty.number();
     };
-    *count = document.model.line_count();
+    *count = document.session.model.line_count();
     handle.put(document);
     Status::Ok.number()
 }
@@ -103,7 +103,7 @@ pub extern "C" fn tm_kind(alloc: Global, handle: &mut Handle, kind: &mut u32) ->
     let Some(document) = handle.take(alloc) else {
         return Status::Empty.number();
     };
-    *kind = number_of_kind(document.model.kind());
+    *kind = number_of_kind(document.session.model.kind());
     handle.put(document);
     Status::Ok.number()
 }
@@ -125,7 +125,7 @@ pub extern "C" fn tm_versions(
     let Some(document) = handle.take(alloc) else {
         return Status::Empty.number();
     };
-    (*version, *alternative) = document.model.versions();
+    (*version, *alternative) = document.session.model.versions();
     handle.put(document);
     Status::Ok.number()
 }
@@ -140,7 +140,7 @@ pub extern "C" fn tm_can_undo(alloc: Global, handle: &mut Handle) -> u32
     let Some(document) = handle.take(alloc) else {
         return Status::Empty.number();
     };
-    let can = document.model.can_undo();
+    let can = document.session.model.can_undo();
     handle.put(document);
     Status::of_step(Ok(can)).number()
 }
@@ -155,7 +155,7 @@ pub extern "C" fn tm_can_redo(alloc: Global, handle: &mut Handle) -> u32
     let Some(document) = handle.take(alloc) else {
         return Status::Empty.number();
     };
-    let can = document.model.can_redo();
+    let can = document.session.model.can_redo();
     handle.put(document);
     Status::of_step(Ok(can)).number()
 }
@@ -175,7 +175,7 @@ pub extern "C" fn tm_position(
     let Some(document) = handle.take(alloc) else {
         return Status::Empty.number();
     };
-    let found = document.model.position(offset);
+    let found = document.session.model.position(offset);
     handle.put(document);
     let Some(Position { line, column }) = found else {
         return Status::Nothing.number();
@@ -200,7 +200,7 @@ pub extern "C" fn tm_offset(
     let Some(document) = handle.take(alloc) else {
         return Status::Empty.number();
     };
-    let found = document.model.offset(Position { line, column });
+    let found = document.session.model.offset(Position { line, column });
     handle.put(document);
     let Some(found) = found else {
         return Status::Nothing.number();
@@ -235,7 +235,13 @@ pub extern "C" fn tm_value(
     let Some(document) = handle.take(alloc) else {
         return Status::Empty.number();
     };
-    let status = value_out(alloc, &document.model, Span { start, end }, out, count);
+    let status = value_out(
+        alloc,
+        &document.session.model,
+        Span { start, end },
+        out,
+        count,
+    );
     handle.put(document);
     status.number()
 }
@@ -265,7 +271,7 @@ pub extern "C" fn tm_line(
     let Some(document) = handle.take(alloc) else {
         return Status::Empty.number();
     };
-    let status = line_out(alloc, &document.model, n, out, count);
+    let status = line_out(alloc, &document.session.model, n, out, count);
     handle.put(document);
     status.number()
 }
@@ -308,8 +314,8 @@ pub extern "C" fn tm_read_into(
     let Some(document) = handle.take(alloc) else {
         return Status::Empty.number();
     };
-    let span = fitting_span(&document.model, offset, out.len() as u64);
-    let status = value_out(alloc, &document.model, span, out, count);
+    let span = fitting_span(&document.session.model, offset, out.len() as u64);
+    let status = value_out(alloc, &document.session.model, span, out, count);
     handle.put(document);
     status.number()
 }
@@ -348,7 +354,7 @@ pub extern "C" fn tm_line_utf8(
     let Some(document) = handle.take(alloc) else {
         return Status::Empty.number();
     };
-    let status = line_utf8_out(alloc, &document.model, n, out, count);
+    let status = line_utf8_out(alloc, &document.session.model, n, out, count);
     handle.put(document);
     status.number()
 }

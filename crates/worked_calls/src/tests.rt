@@ -5,6 +5,7 @@ mod documents;
 mod library;
 mod lines;
 mod long_texts;
+mod mirrors;
 mod nodes;
 mod parts;
 mod prepared;

@@ -12,6 +12,7 @@ ghost use Rattle.document_rules.specs.Document.{greatest_version, text_now, flat
 ghost use Rattle.model_core.specs.Edited.{HasEdited, one_edit, ops_as_done};
 
 use crate::errors::error_of;
+use crate::latest::Latest;
 use crate::model::Model;
 use crate::ready::{Action, Ready};
 use crate::walk::keep;
@@ -132,6 +133,7 @@ impl Model {
         keep(&mut self.history, change, self.alternative, version);
         self.version = version;
         self.alternative = version;
+        self.latest = Some(Latest::Made);
     }
 }
 

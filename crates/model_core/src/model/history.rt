@@ -9,6 +9,7 @@ ghost use Rattle.model_core.specs.Going.{HasGone};
 ghost use Rattle.model_core.specs.State.{KeepsParse};
 ghost use Rattle.document_rules.specs.Document.{greatest_version, flat_stop, flat_undo, flat_redo};
 
+use crate::latest::Latest;
 use crate::model::Model;
 use crate::ready::{Action, Ready};
 use crate::walk::{alternative_after, has_next, next_step, pass_step};
@@ -127,6 +128,7 @@ impl Model {
         self.version = version;
         self.alternative = alternative_after(step, way);
         pass_step(&mut self.history, way);
+        self.latest = Some(Latest::along(way));
     }
 
     /// The next edit begins a step of undo.

@@ -41,6 +41,7 @@ impl Model {
             alternative: 1,
             history: EditStack::new(alloc),
             shelf: Shelf::new(alloc),
+            latest: None,
         }
     }
 
@@ -70,6 +71,7 @@ impl Model {
         self.alternative = 1;
         self.history = EditStack::new(self.alloc);
         self.shelf = Shelf::new(self.alloc);
+        self.latest = None;
         Ok(())
     }
 }

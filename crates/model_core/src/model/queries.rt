@@ -1,6 +1,7 @@
 //! What a document is asked.
 
-ghost use Rattle.std.specs.Prelude.{◌≡◌, ◌-◌, length};
+ghost use Rattle.std.specs.Prelude.{◌≡◌, ◌-◌, ◌≤◌, ◌++◌, length, OnOk, OnErr};
+ghost use Rattle.batch_rules.specs.Batches.{most_units};
 ghost use Rattle.unit_text.specs.Kinds.{IsOfKind, is_place_in};
 ghost use Rattle.text_buffer.specs.Costs.{WithinLookUps};
 ghost use Rattle.document_rules.specs.Outcomes.{Appends};
@@ -9,6 +10,7 @@ ghost use Rattle.document_rules.specs.Stops.{flat_stops};
 
 use crate::model::Model;
 use document_rules::ModelError;
+use std::alloc::AllocError;
 use std::sync::ledger::Ledger;
 use steps::Steps;
 use stops::stops;
@@ -78,6 +80,17 @@ impl Model {
             return Err(ModelError::Range);
         }
         text.value(span, out).map_err(|_| ModelError::Memory)
+    }
+
+    /// Appends the whole text, which has no more units than a text may have. An error leaves `out` as it was.
+    pub fn text(&self, out: &mut Vec<u16>) -> Result<(), AllocError>
+        ensures text { OnOk result
+            (out.new.items ≡ out.old.items ++ self.now.document.units) }
+        ensures err { OnErr result (out.new.items ≡ out.old.items) }
+        ensures fits { length self.now.document.units ≤ most_units }
+    {
+        let text = self.page.text();
+        text.copy(0, text.len(), out)
     }
 
     /// The position of the offset, or None where it is no place of the text.

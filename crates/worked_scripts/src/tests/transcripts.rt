@@ -3,6 +3,7 @@
 mod batches;
 mod decorated;
 mod endings;
+mod followed;
 mod kept;
 mod limits;
 mod nested;
@@ -11,6 +12,7 @@ mod texts;
 use batches::BATCHES;
 use decorated::{DECORATED, EACH_MODE, FOUR_MODES};
 use endings::ENDINGS;
+use followed::FOLLOWED;
 use kept::KEPT;
 use limits::LIMITS;
 use nested::NESTED;
@@ -22,7 +24,7 @@ use texts::TEXTS;
 
 /// The rows with which each script of a table begins, and the table. A blank line stands between two transcripts: a
 /// name, and a row for each line of the script, which has the reply behind `=>`.
-const TABLES: [(&str, &str); 8] = [
+const TABLES: [(&str, &str); 9] = [
     ("", TEXTS),
     ("", BATCHES),
     (FOUR_MODES, EACH_MODE),
@@ -30,6 +32,7 @@ const TABLES: [(&str, &str); 8] = [
     ("", NESTED),
     ("", KEPT),
     ("", ENDINGS),
+    ("", FOLLOWED),
     ("", LIMITS),
 ];
 

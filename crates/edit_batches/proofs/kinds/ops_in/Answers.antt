@@ -1,4 +1,4 @@
-use Rattle.std.proofs.Common.{rules, ◌≡◌, ◌≤◌, ◌<◌, ◌++◌, ◌∙◌, length, map, take, drop, get_or, set, sym, ap, arith}
+use Rattle.std.proofs.Common.{rules, ◌≡◌, ◌≤◌, ◌<◌, ◌++◌, ◌∙◌, length, map, take, drop, get_or, set, sym, ap}
 use Rattle.std.proofs.lemmas.List.{take_all, drop_all, append-nil}
 use Rattle.batch_rules.specs.Batches.{op_in}
 use Rattle.batch_rules.proofs.Answers.{ops_in-map}

@@ -1,6 +1,5 @@
 use Rattle.std.proofs.Common.{rules}
 use Rattle.std.proofs.lemmas.List.Sorted.{answers_always}
-use Rattle.text_rules.specs.declared.Op.{Op}
 use Rattle.batch_rules.proofs.Order.{sorted_ops_by}
 use Rattle.edit_batches.proofs.Keys.{is_less, is_less_is}
 use Rattle.edit_batches.proofs.order.sorted_ops.Goals as goal

@@ -1,6 +1,6 @@
-use Rattle.std.proofs.Common.{◌≡◌, ◌≤◌, length, drop}
+use Rattle.std.proofs.Common.{◌≡◌, drop}
 use Rattle.textmodel_c.specs.Rules.{ops_of}
-use Rattle.textmodel_c.proofs.JoinedOps.{found_before}
+use Rattle.textmodel_c.proofs.JoinedTexts.{found_before}
 use Rattle.textmodel_c.proofs.edits.ops_of.Given as goal
 
 abbrev pub invariant-loop-op : goal.invariant-loop-op

@@ -1,4 +1,4 @@
-use Rattle.std.proofs.Common.{◌≡◌, ◌+◌, ◌≤◌, true, length, refl, ap, sym, subst, ◌∙◌, arith}
+use Rattle.std.proofs.Common.{◌≡◌, ◌+◌, ◌<◌, ◌≤◌, Some, true, length, refl, ap, sym, subst, ◌∙◌, arith}
 use Rattle.batch_rules.specs.Batches.{most_units}
 use Rattle.document_rules.specs.Document.{FlatText, FlatState, greatest_version, text_now}
 use Rattle.snapshots.specs.Shown as shelves
@@ -10,11 +10,13 @@ use Rattle.model_page.specs.LineMarks.{marks_over}
 use Rattle.model_page.specs.State.{flat_text, is_fresh}
 use Rattle.model_page.proofs.Staying.{marked_over, kept_as}
 use Rattle.model_page.proofs.Turns.{fit_on}
+use Rattle.model_core.specs.declared.latest.Latest.TheVariants.{Made}
 use Rattle.model_core.specs.History.{kept_with}
 use Rattle.model_core.specs.Prepared.{IsChangeOf, Makes}
 use Rattle.model_core.specs.State.{ModelState}
 use Rattle.model_core.proofs.Editing.{change_leads, can_follow_change, made_document}
 use Rattle.model_core.proofs.Histories.{IsHistory-kept}
+use Rattle.model_core.proofs.LastChanges.{from_one, HasLatest-kept}
 use Rattle.model_core.proofs.Shelving.{shown-grown, IsShelf-grown}
 use Rattle.model_core.proofs.Stepping.{document_of}
 use Rattle.model_core.proofs.model.Model.carry_out.Goals as goal
@@ -52,6 +54,8 @@ keep-requires c = omega (arith, c.requires.room.changes, ap (λ (s : ModelState)
 pub invariant_of-self : goal.invariant_of-self
 invariant_of-self c =
     let m = c.self.inside in
+    let first = from_one m.latest m.version m.history.stack c.self.invariant.3 in
+    let later : 1 < c.args.version = omega (arith, first, c.requires.next, ap (λ (s : ModelState). s.document.version) c.self.view_is) in
     let after = (goal.at.invariant_of-self c).After-text-after in
     let is = change_of (goal.at.invariant_of-self c).After-text-before in
     let text = flat_text m.page.text in
@@ -59,6 +63,7 @@ invariant_of-self c =
       c.requires.last,
       rw (c.follow.ensures.text, c.keep.ensures) history,
       IsShelf-grown m.page.text.buffers c.follow.new.self.text.buffers m.shelf c.follow.ensures.grown.buffers c.self.invariant.2,
+      rw c.keep.ensures (HasLatest-kept m.history.stack c.args.change m.alternative c.args.version c.args.version later),
     )
 
 pub returns-clause-document : goal.returns-clause-document
@@ -70,17 +75,17 @@ returns-clause-document c =
     let text = flat_text m.page.text in
     let next : c.args.version ≡ m.version + 1 = omega (arith, c.requires.next, ap (λ (s : ModelState). s.document.version) c.self.view_is) in
     let few : m.version + 1 ≤ greatest_version = omega (arith, next, c.requires.last) in
-    let made = made_document text change is (leads after is) m.history.stack m.page.decorations m.page.table
+    let made = made_document text change is (leads after is) m.latest m.history.stack m.page.decorations m.page.table
     (shelves.shown m.page.text.buffers m.shelf) m.version m.alternative few in
     let new : FlatState = document_of (flat_text c.follow.new.self.text) c.args.version c.args.version c.follow.new.self.decorations c.follow.new.self.table
-    (shelves.shown c.follow.new.self.text.buffers m.shelf) c.keep.new.history.stack in
+    (shelves.shown c.follow.new.self.text.buffers m.shelf) (Some Made) c.keep.new.history.stack in
     let told : FlatState = document_of (led On change text) (m.version + 1) (m.version + 1) (decorations_over true On change m.page.decorations) m.page.table
-    (shelves.shown m.page.text.buffers m.shelf) (kept_with m.history.stack change m.alternative (m.version + 1)) in
+    (shelves.shown m.page.text.buffers m.shelf) (Some Made) (kept_with m.history.stack change m.alternative (m.version + 1)) in
     let same : new ≡ told =
     ap (λ (t : FlatText). document_of t c.args.version c.args.version c.follow.new.self.decorations c.follow.new.self.table
-    (shelves.shown c.follow.new.self.text.buffers m.shelf) c.keep.new.history.stack) c.follow.ensures.text
-    ∙ rw (c.follow.ensures.decorations, c.follow.ensures.parse.table, c.keep.ensures, shelf_after after, next) refl in
-    let old : FlatState = document_of text m.version m.alternative m.page.decorations m.page.table (shelves.shown m.page.text.buffers m.shelf) m.history.stack in
+    (shelves.shown c.follow.new.self.text.buffers m.shelf) (Some Made) c.keep.new.history.stack) c.follow.ensures.text
+    ∙ rw (c.follow.ensures.decorations, c.follow.ensures.parse.table, c.keep.ensures, shelf_after after, next) (refl {a = told}) in
+    let old : FlatState = document_of text m.version m.alternative m.page.decorations m.page.table (shelves.shown m.page.text.buffers m.shelf) m.latest m.history.stack in
     let makes : Makes change old new = subst (Makes change old) (sym same) made in
     subst (λ (s : ModelState). Makes change s.document new) c.self.view_is makes
 

@@ -10,7 +10,7 @@ invariant_of-self c =
     let old = c.self.invariant in
     let shelf = IsShelf-closed m.page.text.buffers m.shelf c.close.new.self (c.close.ensures.inside m.page.text.buffers old.2.inside) old.2
     c.close.result c.args.id (c.close.ensures.change m.page.text.buffers) in
-    (old.0, old.1, shelf)
+    (old.0, old.1, shelf, old.3)
 
 pub returns-clause-paired_state : goal.returns-clause-paired_state
 returns-clause-paired_state c =

@@ -13,4 +13,5 @@ invariant_of-self c =
       old.0,
       subst (λ (x : FlatText). IsHistory x m.history.stack) (sym (ap (λ (p : PageState). flat_text p.text) same)) old.1,
       subst (λ (buffers : List (List ℕ)). IsShelf buffers m.shelf) (sym (ap (λ (p : PageState). p.text.buffers) same)) old.2,
+      old.3,
     )

@@ -8,19 +8,21 @@ use Rattle.model_page.specs.State.{flat_text, is_fresh}
 use Rattle.model_page.specs.Ways.{text_by, changes_by, decorations_by, marked_along, marked_step}
 use Rattle.model_page.proofs.Staying.{marked_by_way, kept_as}
 use Rattle.model_core.specs.State.{ModelState}
+use Rattle.model_core.specs.History.{latest_along}
 use Rattle.model_core.specs.Prepared.{next_op_count, next_marking_count, next_unit_count, next_break_count}
 use Rattle.model_core.specs.Ways.{next_steps, passed, alternative_after, flat_move}
 use Rattle.model_core.proofs.Shelving.{shown-grown, IsShelf-grown}
+use Rattle.model_core.proofs.LastChanges.{from_one}
 use Rattle.model_core.proofs.Stepping.{document_of, IsStep, step_on, no_next_on}
 use Rattle.model_core.proofs.model.Model.follow.Goals as goal
 use Rattle.model_core.proofs.model.Model.follow.Goals.{In-Some, After-lead}
 
 step_taken : (c : In-Some)
     → IsStep c.args.way (flat_text c.self.inside.page.text) c.self.inside.version c.self.inside.alternative c.self.inside.page.decorations c.self.inside.page.table
-    (shelves.shown c.self.inside.page.text.buffers c.self.inside.shelf) c.self.inside.history.stack (step_of c.in-Some.step.now)
+    (shelves.shown c.self.inside.page.text.buffers c.self.inside.shelf) c.self.inside.latest c.self.inside.history.stack (step_of c.in-Some.step.now)
 step_taken c =
     let next : slice_get (next_steps c.args.way c.self.inside.history.stack) 0 ≡ Some (step_of c.in-Some.step.now) = grind (arith, common_steps) in
-    step_on c.args.way _ _ _ _ _ _ c.self.inside.history.stack _ next c.self.invariant.1
+    step_on c.args.way _ _ _ _ _ _ c.self.inside.latest c.self.inside.history.stack _ next c.self.invariant.1
 
 shelf_after : (c : After-lead)
     → shelves.shown c.lead.new.self.text.buffers c.self.inside.shelf ≡ shelves.shown c.self.inside.page.text.buffers c.self.inside.shelf
@@ -63,11 +65,14 @@ pass_step-requires c = (step_taken (goal.at.pass_step-requires c).In-Some).some
 pub invariant_of-self : goal.invariant_of-self
 invariant_of-self c =
     let m = c.self.inside in
+    let first = from_one m.latest m.version m.history.stack c.self.invariant.3 in
+    let next = ap (λ (s : ModelState). s.document.version) c.self.view_is in
     let step = step_taken (goal.at.invariant_of-self c).In-Some in
     let stack : c.pass_step.new.history.stack ≡ passed c.args.way m.history.stack = grind (arith, common_steps) in (
       c.requires.last,
       rw (c.lead.ensures.text, stack) step.history,
       IsShelf-grown m.page.text.buffers c.lead.new.self.text.buffers m.shelf c.lead.ensures.grown.buffers c.self.invariant.2,
+      rw (c.along.ensures, stack) (omega (arith, first), step.there),
     )
 
 pub returns-clause-document : goal.returns-clause-document
@@ -83,12 +88,12 @@ returns-clause-document c =
     let alternative : c.alternative_after-self-inside.result ≡ alternative_after way shown = grind (arith, common_steps) in
     let text = text_by way (flat_text m.page.text) shown.changes in
     let same : document_of (flat_text c.lead.new.self.text) c.args.version c.alternative_after-self-inside.result c.lead.new.self.decorations c.lead.new.self.table
-    (shelves.shown c.lead.new.self.text.buffers m.shelf) c.pass_step.new.history.stack
+    (shelves.shown c.lead.new.self.text.buffers m.shelf) (Some c.along.result) c.pass_step.new.history.stack
     ≡ document_of text (m.version + 1) (alternative_after way shown) (decorations_by way m.page.decorations shown.changes) m.page.table
-    (shelves.shown m.page.text.buffers m.shelf) (passed way m.history.stack) =
+    (shelves.shown m.page.text.buffers m.shelf) (Some (latest_along way)) (passed way m.history.stack) =
     ap (λ (t : FlatText). document_of t c.args.version c.alternative_after-self-inside.result c.lead.new.self.decorations c.lead.new.self.table
-    (shelves.shown c.lead.new.self.text.buffers m.shelf) c.pass_step.new.history.stack) c.lead.ensures.text
-    ∙ rw (c.lead.ensures.decorations, c.lead.ensures.parse.table, stack, version, alternative, shelf_after after) refl in
+    (shelves.shown c.lead.new.self.text.buffers m.shelf) (Some c.along.result) c.pass_step.new.history.stack) c.lead.ensures.text
+    ∙ rw (c.lead.ensures.decorations, c.lead.ensures.parse.table, stack, version, alternative, shelf_after after, c.along.ensures) refl in
     sym (ap (λ (s : ModelState). flat_move way s.document) c.self.view_is) ∙ step.accepted few ∙ ap (λ (f : FlatState). Ok (Some f)) (sym same)
 
 pub returns-clause-parse : goal.returns-clause-parse

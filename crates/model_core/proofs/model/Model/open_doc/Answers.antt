@@ -1,4 +1,4 @@
-use Rattle.std.proofs.Common.{◌≡◌, sym, subst, arith}
+use Rattle.std.proofs.Common.{◌≡◌, refl, sym, subst, arith}
 use Rattle.undo_rules.specs.Stack.{Stack}
 use Rattle.snapshots.specs.Shown.{Shown, shown}
 use Rattle.document_rules.specs.Paired.{ArePairedSteps, IsPairedShelf}
@@ -17,6 +17,7 @@ invariant_of-self c =
       omega arith,
       subst (IsHistory (flat_text page.text)) (sym c.new.ensures) (record { back = tt; on = tt }),
       IsShelf-none page.text.buffers c.new-2.result c.new-2.ensures,
+      refl,
     )
 
 pub returns-clause-paired_state : goal.returns-clause-paired_state

@@ -17,6 +17,7 @@ invariant_of-self-in_err-map_err-2 c =
       c.self.invariant.0,
       history_untouched m.page c.reserve-2.new.self same m.history.stack c.reserve.new.self.stack stack c.self.invariant.1,
       shelf_untouched m.page c.reserve-2.new.self same m.shelf c.self.invariant.2,
+      rw stack c.self.invariant.3,
     )
 
 pub returns-in_err-map_err-2-clause-document : goal.returns-in_err-map_err-2-clause-document
@@ -24,7 +25,7 @@ returns-in_err-map_err-2-clause-document c =
     let m = c.self.inside in
     let stack : c.reserve.new.self.stack ≡ m.history.stack = grind (arith, common_steps) in
     document_untouched m.page c.reserve-2.new.self c.reserve-2.ensures.same m.history.stack c.reserve.new.self.stack stack
-    m.shelf c.self.invariant.2 m.version m.alternative _ (ap (λ (s : ModelState). s.document) c.self.view_is)
+    m.shelf c.self.invariant.2 m.version m.alternative m.latest _ (ap (λ (s : ModelState). s.document) c.self.view_is)
 
 pub invariant_of-self-2 : goal.invariant_of-self-2
 invariant_of-self-2 c =
@@ -34,6 +35,7 @@ invariant_of-self-2 c =
       c.self.invariant.0,
       history_untouched m.page c.reserve-2.new.self same m.history.stack c.reserve.new.self.stack stack c.self.invariant.1,
       shelf_untouched m.page c.reserve-2.new.self same m.shelf c.self.invariant.2,
+      rw stack c.self.invariant.3,
     )
 
 pub returns-clause-document : goal.returns-clause-document
@@ -41,7 +43,7 @@ returns-clause-document c =
     let m = c.self.inside in
     let stack : c.reserve.new.self.stack ≡ m.history.stack = grind (arith, common_steps) in
     document_untouched m.page c.reserve-2.new.self c.reserve-2.ensures.same m.history.stack c.reserve.new.self.stack stack
-    m.shelf c.self.invariant.2 m.version m.alternative _ (ap (λ (s : ModelState). s.document) c.self.view_is)
+    m.shelf c.self.invariant.2 m.version m.alternative m.latest _ (ap (λ (s : ModelState). s.document) c.self.view_is)
 
 pub returns-clause-ready : goal.returns-clause-ready
 returns-clause-ready c =

@@ -17,10 +17,10 @@ use Rattle.model_core.proofs.model.Model.prepare_move.Goals.{In-Some}
 
 step_taken : (c : In-Some)
     → IsStep c.args.way (flat_text c.self.inside.page.text) c.self.inside.version c.self.inside.alternative c.self.inside.page.decorations c.self.inside.page.table
-    (shelves.shown c.self.inside.page.text.buffers c.self.inside.shelf) c.self.inside.history.stack (step_of c.in-Some.step.now)
+    (shelves.shown c.self.inside.page.text.buffers c.self.inside.shelf) c.self.inside.latest c.self.inside.history.stack (step_of c.in-Some.step.now)
 step_taken c =
     let next : slice_get (next_steps c.args.way c.self.inside.history.stack) 0 ≡ Some (step_of c.in-Some.step.now) = grind (arith, common_steps) in
-    step_on c.args.way _ _ _ _ _ _ c.self.inside.history.stack _ next c.self.invariant.1
+    step_on c.args.way _ _ _ _ _ _ c.self.inside.latest c.self.inside.history.stack _ next c.self.invariant.1
 
 pub returns-in_default-clause-ready : goal.returns-in_default-clause-ready
 returns-in_default-clause-ready c =
@@ -48,13 +48,14 @@ invariant_of-self c =
       c.self.invariant.0,
       history_untouched m.page c.reserve.new.self same m.history.stack m.history.stack refl c.self.invariant.1,
       shelf_untouched m.page c.reserve.new.self same m.shelf c.self.invariant.2,
+      c.self.invariant.3,
     )
 
 pub returns-in_err-map_err-clause-document : goal.returns-in_err-map_err-clause-document
 returns-in_err-map_err-clause-document c =
     let m = c.self.inside in
     document_untouched m.page c.reserve.new.self c.reserve.ensures.same m.history.stack m.history.stack refl
-    m.shelf c.self.invariant.2 m.version m.alternative _ (ap (λ (s : ModelState). s.document) c.self.view_is)
+    m.shelf c.self.invariant.2 m.version m.alternative m.latest _ (ap (λ (s : ModelState). s.document) c.self.view_is)
 
 pub invariant_of-self-2 : goal.invariant_of-self-2
 invariant_of-self-2 c =
@@ -63,13 +64,14 @@ invariant_of-self-2 c =
       c.self.invariant.0,
       history_untouched m.page c.reserve.new.self same m.history.stack m.history.stack refl c.self.invariant.1,
       shelf_untouched m.page c.reserve.new.self same m.shelf c.self.invariant.2,
+      c.self.invariant.3,
     )
 
 pub returns-clause-document : goal.returns-clause-document
 returns-clause-document c =
     let m = c.self.inside in
     document_untouched m.page c.reserve.new.self c.reserve.ensures.same m.history.stack m.history.stack refl
-    m.shelf c.self.invariant.2 m.version m.alternative _ (ap (λ (s : ModelState). s.document) c.self.view_is)
+    m.shelf c.self.invariant.2 m.version m.alternative m.latest _ (ap (λ (s : ModelState). s.document) c.self.view_is)
 
 pub returns-clause-ready : goal.returns-clause-ready
 returns-clause-ready c =

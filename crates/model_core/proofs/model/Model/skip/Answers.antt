@@ -11,7 +11,7 @@ invariant_of-self c =
     let old = c.self.invariant in
     let shelf = IsShelf-skipped m.page.text.buffers m.shelf c.skip.new.self (c.skip.ensures.inside m.page.text.buffers old.2.inside) old.2
     c.args.id c.args.n (c.skip.ensures.change m.page.text.buffers old.2.inside) in
-    (old.0, old.1, shelf)
+    (old.0, old.1, shelf, old.3)
 
 pub returns-clause-paired_state : goal.returns-clause-paired_state
 returns-clause-paired_state c =

@@ -18,7 +18,7 @@ invariant_of-self c =
     let lie : All (LiesIn m.page.text.buffers) c.spans.new.out.items = subst (All (LiesIn m.page.text.buffers)) (sym spans) inside in
     let shelf = IsShelf-taken m.page.text.buffers m.shelf c.take.new.self (c.take.ensures.inside m.page.text.buffers old.2.inside lie) old.2
     c.take.result (spelled m.page.text.buffers c.spans.new.out.items) (c.take.ensures.change m.page.text.buffers) in
-    (old.0, old.1, shelf)
+    (old.0, old.1, shelf, old.3)
 
 pub returns-clause-paired_state : goal.returns-clause-paired_state
 returns-clause-paired_state c =

@@ -1,5 +1,5 @@
 -- `empty` makes a handle of the null pointer, which owns nothing.
-use Rattle.textmodel_c.proofs.Boxed.{T, has_ty, ◌≡◌, List, [], ◌∷◌, ◌++◌, refl, sym, subst, lit<, inst_fn, Val, SProp, ent, emp, id⊢, ftrue, fsep, WpFn, ‵, raw, ◌⊛◌, ◌$◌, ◌∵◌, !, qed, by, move, keep, drop, split, fsplit, fjoin, suffices, use0, lit, no_more, and_then, returns, enter, alloc_all, pass_all, free_all, look_at, get, sets, agg, fact, fact_i, tables, yes, plain, null_ptr, nothing, Stays, stay_dropped, walk_of, Goes-dropped, handle_tells, and_tt, α, proved_at, leaves}
+use Rattle.textmodel_c.proofs.Boxed.{has_ty, ◌≡◌, List, [], ◌∷◌, ◌++◌, refl, sym, subst, lit<, Val, SProp, ent, emp, id⊢, ftrue, fsep, WpFn, ‵, raw, ◌⊛◌, ◌$◌, ◌∵◌, !, qed, by, move, keep, drop, split, fsplit, fjoin, suffices, use0, lit, no_more, and_then, returns, enter, alloc_all, pass_all, free_all, look_at, get, sets, agg, fact, fact_i, tables, yes, plain, null_ptr, nothing, Stays, stay_dropped, walk_of, Goes-dropped, handle_tells, and_tt, α, proved_at, leaves}
 use Rattle.std.specs.Prelude.{None}
 use Rattle.std.specs.contracts.alloc.Global as heap
 use Rattle.textmodel_c.proofs.Handles.{E, Held, handle_at, null_word, null_in}

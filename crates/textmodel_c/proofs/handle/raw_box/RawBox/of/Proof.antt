@@ -1,5 +1,5 @@
 -- `of` takes both parts from `Box::into_raw_with_allocator`, and what they own with them.
-use Rattle.textmodel_c.proofs.Boxed.{◌≡◌, List, [], ◌∷◌, ◌++◌, refl, sym, ap, ◌∙◌, subst, a_type, dcons, dnil, inst_fn, bare, Val, vptr, vstruct, of_list, SProp, ent, emp, never, id⊢, fst∗, ftrue, fsep, flft, WpFn, sem, Item, ‵, raw, ◌⊛◌, some, later, ◌$◌, ◌∵◌, !, qed, by, move, keep, drop, split, split3, join, fsplit, fjoin, fpick, pick, suffices, use0, use1, await, rewrite, feq_l, stop, fld, of_opd, no_more, and_then, returns, enter, alloc_all, pass_all, free_all, look_at, get, get_in, sets, lands_as, agg, sub, whole, fact, fact_i, ◌⊑◌, tables, no, RattleType, plain, Ptr, RawPtr, block_ptr, null_ptr, ptr_val, in_a_block, nothing, only, heard, bounded, Tuple, triple_of, calls_at, Stays, stay_dropped, walk_of, Goes-blank, handle_tells, token, fm, box_owns, Bx, D, P, R, B, τ, word, box_typed, box_out, box_in, proved_at, leaves, form, Raw, raw_of}
+use Rattle.textmodel_c.proofs.Boxed.{◌≡◌, List, [], ◌∷◌, ◌++◌, refl, sym, ap, ◌∙◌, subst, a_type, dcons, dnil, inst_fn, bare, Val, vstruct, of_list, SProp, ent, emp, never, id⊢, fst∗, ftrue, fsep, flft, WpFn, sem, Item, ‵, raw, ◌⊛◌, some, later, ◌$◌, ◌∵◌, !, qed, by, move, keep, drop, split, split3, join, fsplit, fjoin, fpick, pick, suffices, use0, use1, await, rewrite, feq_l, stop, fld, of_opd, no_more, and_then, returns, enter, alloc_all, pass_all, free_all, look_at, get, get_in, sets, lands_as, agg, sub, whole, fact, fact_i, ◌⊑◌, tables, no, RattleType, plain, Ptr, RawPtr, block_ptr, null_ptr, ptr_val, in_a_block, nothing, only, heard, bounded, Tuple, triple_of, calls_at, Stays, stay_dropped, walk_of, Goes-blank, handle_tells, token, fm, box_owns, Bx, D, P, R, B, τ, word, box_typed, box_out, box_in, proved_at, leaves, form, Raw, raw_of}
 use Rattle.std_alloc.specs.contracts.boxed.Box.into_raw_with_allocator as into_raw
 use Rattle.std_alloc.proofs.boxed.Box.into_raw_with_allocator.Met.{met}
 use Rattle.textmodel_c.specs.contracts.handle.raw_box.RawBox.of as f

@@ -1,0 +1,52 @@
+//! A change of a text, by which another text can follow it.
+
+ghost use Rattle.std.specs.Prelude.{◌≡◌, ◌<◌};
+ghost use Rattle.text_lengths.specs.declared.TheConstants.{GREATEST_NUMBER};
+
+use crate::batch::Batch;
+use std::marker::Model;
+
+/// A change of a text: the version before it, which is below the greatest number, and the batches that were carried out, in their
+/// order. An undo or a redo may have several.
+#[derive(Drop)]
+pub struct Event {
+    from: u64,
+    batches: Vec<Batch>,
+}
+
+impl Model for Event {
+    ghost use Rattle.std.specs.Prelude.{◌<◌};
+    ghost use Rattle.text_lengths.specs.declared.TheConstants.{GREATEST_NUMBER};
+    ghost use Rattle.batch_rules.specs.Events.{EventState};
+
+    ghost Value = { EventState };
+
+    ghost view = { λ e. record { from = e.from; batches = e.batches.items } };
+
+    ghost invariant = { λ e. e.from < GREATEST_NUMBER };
+}
+
+impl Event {
+    pub fn new(from: u64, batches: Vec<Batch>) -> Event
+        requires { from < GREATEST_NUMBER }
+        ensures from { result.from ≡ from }
+        ensures batches { result.batches ≡ batches.items }
+    {
+        Event { from, batches }
+    }
+
+    /// The version before the change.
+    pub fn from(&self) -> u64
+        ensures from { result ≡ self.now.from }
+        ensures below { result < GREATEST_NUMBER }
+    {
+        self.from
+    }
+
+    /// The batches, in the order in which they were carried out.
+    pub fn batches(&self) -> &[Batch]
+        ensures { result.now ≡ self.now.batches }
+    {
+        self.batches.as_slice()
+    }
+}

@@ -1,0 +1,3 @@
+pub mod Misfits
+pub mod Carries
+pub mod Following

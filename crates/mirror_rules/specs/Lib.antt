@@ -1,0 +1,3 @@
+pub mod Mirrors
+pub mod Following
+mod Examples

@@ -1,0 +1,66 @@
+//! A mirror that follows a document by its events. A function that owns a document has one way out.
+
+use super::documents::open;
+use mirror_model::{Event, Mirror, Tally};
+use model_core::Model;
+use std::alloc::{AllocError, Global};
+use std::test::Fail;
+
+/// Of two events the second comes first, the first comes twice, and the second again.
+#[test]
+fn events_come_in_another_order_and_again(rt: HostRuntime) -> Result<(), Fail> {
+    let mut mirror = Mirror::of_text(rt.alloc(), 1, &[0x61, 0x62])?;
+    let events = second_first_first_second(rt.alloc())?;
+    let told = mirror.follow(&events);
+    let wanted = Tally {
+        applied: 2,
+        old: 1,
+        gaps: 1,
+    };
+    assert_eq!(rt; told, Ok(wanted));
+    let mut line = Vec::new(rt.alloc());
+    if mirror.line_count() == 1 {
+        mirror.line(1, &mut line)?;
+    }
+    assert_eq!(rt; line.as_slice(), [0x78, 0x61, 0x62, 0x79].as_slice());
+    assert_eq!(rt; (mirror.version(), mirror.len()), (3, 4));
+    Ok(())
+}
+
+/// The events by which `x` comes before `ab`, and `y` behind it.
+fn second_first_first_second(alloc: Global) -> Result<Vec<Event>, Fail> {
+    let mut model = Model::new(alloc);
+    events_of_two_edits(alloc, &mut model)
+}
+
+fn events_of_two_edits(alloc: Global, model: &mut Model) -> Result<Vec<Event>, Fail> {
+    open(model, &[0x61, 0x62])?;
+    model.insert(0, &[0x78])?;
+    let mut firsts = twice(alloc, model)?;
+    model.insert(3, &[0x79])?;
+    let mut seconds = twice(alloc, model)?;
+    let mut events = Vec::new(alloc);
+    move_one(&mut seconds, &mut events)?;
+    move_one(&mut firsts, &mut events)?;
+    move_one(&mut firsts, &mut events)?;
+    move_one(&mut seconds, &mut events)?;
+    Ok(events)
+}
+
+/// The last change as an event, two times.
+fn twice(alloc: Global, model: &Model) -> Result<Vec<Event>, AllocError> {
+    let mut events = Vec::new(alloc);
+    for _ in 0..2 {
+        if let Some(event) = model.last_event()? {
+            events.push(event)?;
+        }
+    }
+    Ok(events)
+}
+
+fn move_one(from: &mut Vec<Event>, to: &mut Vec<Event>) -> Result<(), AllocError> {
+    if let Some(event) = from.pop() {
+        to.push(event)?;
+    }
+    Ok(())
+}
