@@ -1,0 +1,144 @@
+//! Marks that were checked.
+
+ghost use Rattle.std.specs.Prelude.{◌≡◌, ◌↔◌, ◌<◌, ◌≤◌, true, false, IfSome, IfOk};
+ghost use Rattle.bracket_rules.specs.declared.TheConstants.{MOST_BRACKET_UNITS};
+ghost use Rattle.hiding_rules.specs.Marks.{marks, no_marks, are_marks};
+ghost use Rattle.hiding_rules.specs.declared.Within.TheVariants.{Comment};
+ghost use Rattle.hiding_rules.specs.Hidden.{code, block, block_opening, block_closing, marked, hidden_in_code, hidden_in_block, hidden};
+
+use crate::hidden::{hidden_in_string, marked, one_unit, quoted};
+use crate::rules::{are_quotes, has_block_texts, has_line_text};
+use arrayvec::ArrayVec;
+use hiding_rules::{LineState, Stretch, Within};
+use std::marker::Model;
+use thiserror::Error;
+use unit_text::Units;
+
+/// Why no marks were made.
+#[derive(Clone, Copy, PartialEq, Eq, Debug, Error)]
+pub enum HidingError {
+    /// A text is empty, has more than 32 units or a line break; or there are more than 8 quotes,
+    /// one is a line break, a backslash or a surrogate, or two are equal.
+    #[error("these are no marks of comments and strings")]
+    BadMarks,
+}
+
+/// What begins and ends comments and strings: a text that begins a line comment, two that begin
+/// and end a block comment, and units that begin and end a string.
+#[derive(Drop)]
+pub struct Hiding {
+    line: Option<Units>,
+    block: Option<(Units, Units)>,
+    quotes: ArrayVec<u16, 8>,
+}
+
+impl Model for Hiding {
+    ghost use Rattle.std.specs.Prelude.{IsTrue};
+    ghost use Rattle.hiding_rules.specs.Marks.{Marks, marks, are_marks};
+
+    ghost Value = { Marks };
+
+    ghost view = { λ h. marks h.line h.block h.quotes.items };
+
+    ghost invariant = { λ h. IsTrue (are_marks (marks h.line h.block h.quotes.items)) };
+}
+
+impl Hiding {
+    /// No marks, which hide nothing.
+    pub fn none() -> Hiding
+        ensures { result ≡ no_marks }
+    {
+        Hiding {
+            line: None,
+            block: None,
+            quotes: ArrayVec::new(),
+        }
+    }
+
+    /// These marks. They are kept as they are, so no memory is wanted.
+    pub fn new(
+        line: Option<Units>,
+        block: Option<(Units, Units)>,
+        quotes: &[u16],
+    ) -> Result<Hiding, HidingError>
+        ensures ok { IfOk result (λ hiding. hiding ≡ marks line block quotes.now) }
+        ensures bad { (result ≡ Err HidingError.BadMarks) ↔ (are_marks (marks line block quotes.now) ≡ false) }
+    {
+        if !has_line_text(&line) || !has_block_texts(&block) || !are_quotes(quotes) {
+            return Err(HidingError::BadMarks);
+        }
+        let mut kept = ArrayVec::new();
+        kept.try_extend_from_slice(quotes).unwrap();
+        Ok(Hiding {
+            line,
+            block,
+            quotes: kept,
+        })
+    }
+
+    /// The stretch at the front of these units that no bracket stands in, at a place within this.
+    /// None in code, where no mark stands there.
+    pub fn hidden(&self, within: Within, units: &[u16]) -> Option<Stretch>
+        ensures stretch { result ≡ hidden self.now within units.now }
+        ensures some { IfSome result (λ s. 0 < s.units) }
+        ensures few { IfSome result (λ s. s.units ≤ MOST_BRACKET_UNITS) }
+        ensures marks { are_marks self.now ≡ true }
+    {
+        // What it holds are marks.
+        let _quotes = &self.quotes;
+        match within {
+            Within::State(LineState::Code) => self.hidden_in_code(units),
+            Within::State(LineState::Block) => Some(self.hidden_in_block(units)),
+            Within::Comment => Some(one_unit(Within::Comment)),
+            Within::String(quote) => Some(hidden_in_string(quote, units)),
+        }
+    }
+
+    fn hidden_in_code(&self, units: &[u16]) -> Option<Stretch>
+        ensures { result ≡ hidden_in_code self.now units.now }
+    {
+        if let Some(comment) = self.line_comment(units) {
+            return Some(comment);
+        }
+        if let Some(comment) = self.block_comment(units) {
+            return Some(comment);
+        }
+        quoted(self.quotes.as_slice(), units)
+    }
+
+    fn hidden_in_block(&self, units: &[u16]) -> Stretch
+        ensures { result ≡ hidden_in_block self.now units.now }
+    {
+        match self.block_end(units) {
+            Some(end) => end,
+            None => one_unit(Within::State(LineState::Block)),
+        }
+    }
+
+    fn line_comment(&self, units: &[u16]) -> Option<Stretch>
+        ensures { result ≡ marked self.now.line Comment units.now }
+    {
+        match &self.line {
+            Some(text) => marked(text, Within::Comment, units),
+            None => None,
+        }
+    }
+
+    fn block_comment(&self, units: &[u16]) -> Option<Stretch>
+        ensures { result ≡ marked (block_opening self.now) block units.now }
+    {
+        match &self.block {
+            Some(texts) => marked(&texts.0, Within::State(LineState::Block), units),
+            None => None,
+        }
+    }
+
+    fn block_end(&self, units: &[u16]) -> Option<Stretch>
+        ensures { result ≡ marked (block_closing self.now) code units.now }
+    {
+        match &self.block {
+            Some(texts) => marked(&texts.1, Within::State(LineState::Code), units),
+            None => None,
+        }
+    }
+}

@@ -1,0 +1,12 @@
+//! The marks of a document that hide brackets: checked once, and then asked what they hide at the
+//! front of some units.
+#![tactic(auto)]
+
+mod hidden;
+mod hiding;
+mod rules;
+mod texts;
+
+pub use hiding::{Hiding, HidingError};
+pub use hiding_rules::{LineState, Stretch, Within};
+pub use texts::is_bracket_text;

@@ -1,0 +1,4 @@
+pub mod NoMarks
+pub mod InLine
+pub mod Sizes
+pub mod Settling

@@ -1,0 +1,113 @@
+-- The tokens of a line whose brackets comments and strings hide, and how the line ends.
+use Rattle.std.specs.Prelude.{ℕ, zero, suc, ◌-◌, ◌==◌, nat_eq, if◌then◌else◌, List, [], ◌∷◌, ◌++◌, length, Option, Some, None, option_map, unwrap_or}
+use Rattle.std.specs.List.{starts_with, list_any}
+use Rattle.std.specs.Option.{option_to_list, option_or}
+use Rattle.bracket_rules.specs.declared.Token.{Token}
+use Rattle.bracket_rules.specs.Table.{Table, longest, units_after_first}
+use Rattle.hiding_rules.specs.declared.LineState.{LineState}
+use Rattle.hiding_rules.specs.declared.LineState.TheVariants.{Code, Block}
+use Rattle.hiding_rules.specs.declared.Within.{Within}
+use Rattle.hiding_rules.specs.declared.Within.TheVariants.{State, Comment, String}
+use Rattle.hiding_rules.specs.declared.Stretch.{Stretch}
+use Rattle.hiding_rules.specs.declared.TheConstants.{BACKSLASH}
+use Rattle.hiding_rules.specs.Marks.{Marks}
+
+abbrev pub code : Within
+code = State Code
+
+abbrev pub block : Within
+block = State Block
+
+-- strings and line comments end with their line
+abbrev pub ending : Within → LineState
+ending (State state) = state
+ending Comment = Code
+ending (String opened) = Code
+
+-- ---- what hides the units at the front
+
+abbrev pub stretch : ℕ → Within → Stretch
+stretch units behind = record { units = units; behind = behind }
+
+abbrev pub one_unit : Within → Stretch
+one_unit behind = stretch 1 behind
+
+-- the mark, if there is one and it stands there; it leads to this
+abbrev pub marked : Option (List ℕ) → Within → List ℕ → Option Stretch
+marked None behind units = None
+marked (Some text) behind units = if starts_with nat_eq units text then Some (stretch (length text) behind) else None
+
+abbrev pub quoted : List ℕ → List ℕ → Option Stretch
+quoted quotes [] = None
+quoted quotes (u ∷ units) = if list_any (λ q. u == q) quotes then Some (one_unit (String u)) else None
+
+abbrev pub block_opening : Marks → Option (List ℕ)
+block_opening m = option_map (λ texts. texts.0) m.block
+
+abbrev pub block_closing : Marks → Option (List ℕ)
+block_closing m = option_map (λ texts. texts.1) m.block
+
+-- the first of these that stands there
+abbrev pub hidden_in_code : Marks → List ℕ → Option Stretch
+hidden_in_code m units =
+    option_or (marked m.line Comment units)
+    (option_or (marked (block_opening m) block units) (quoted m.quotes units))
+
+abbrev pub hidden_in_block : Marks → List ℕ → Stretch
+hidden_in_block m units = unwrap_or (marked (block_closing m) code units) (one_unit block)
+
+-- a backslash takes the unit behind it along
+abbrev pub hidden_in_string : ℕ → List ℕ → Stretch
+hidden_in_string opened [] = one_unit (String opened)
+hidden_in_string opened (u ∷ units) =
+    if u == BACKSLASH then stretch 2 (String opened)
+    else if u == opened then one_unit code
+    else one_unit (String opened)
+
+-- the stretch at the front of these units that no bracket stands in; none where the front is no mark and no part of a
+-- comment or a string
+abbrev pub hidden : Marks → Within → List ℕ → Option Stretch
+hidden m (State Code) units = hidden_in_code m units
+hidden m (State Block) units = Some (hidden_in_block m units)
+hidden m Comment units = Some (one_unit Comment)
+hidden m (String opened) units = Some (hidden_in_string opened units)
+
+-- ---- a line
+
+-- the tokens of a line that no comment and no string hides, and the state in which it ends
+pub record Scanned : Type 0 where
+  pub tokens : List Token
+  pub state : LineState
+
+abbrev pub scanned : List Token → LineState → Scanned
+scanned tokens state = record { tokens = tokens; state = state }
+
+abbrev pub after : Option Token → Scanned → Scanned
+after token s = scanned (option_to_list token ++ s.tokens) s.state
+
+-- what stands at the front of some units: a token, or none; how many units it takes up behind its first one; and in what the
+-- place behind it lies
+pub record Front : Type 0 where
+  pub token : Option Token
+  pub after_first : ℕ
+  pub behind : Within
+
+-- what hides it comes before what stands there
+abbrev pub front_of : Option Stretch → Option Token → Front
+front_of (Some s) found = record { token = None; after_first = s.units - 1; behind = s.behind }
+front_of None found = record { token = found; after_first = units_after_first found; behind = code }
+
+abbrev pub front : Marks → Table → ℕ → Within → List ℕ → Front
+front m table at within units = front_of (hidden m within units) (longest at 0 table units)
+
+-- of the units from place `at` on, the first `passed` of which belong to what stands before
+abbrev pub scanned_from : Marks → Table → ℕ → ℕ → Within → List ℕ → Scanned
+scanned_from m table at passed within [] = scanned [] (ending within)
+scanned_from m table at (suc passed) within (u ∷ units) = scanned_from m table (suc at) passed within units
+scanned_from m table at zero within (u ∷ units) =
+    let f = front m table at within (u ∷ units) in
+    after f.token (scanned_from m table (suc at) f.after_first f.behind units)
+
+-- of a line that begins in this state
+abbrev pub hidden_scan : Marks → Table → LineState → List ℕ → Scanned
+hidden_scan m table state line = scanned_from m table 0 0 (State state) line

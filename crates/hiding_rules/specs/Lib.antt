@@ -1,0 +1,5 @@
+pub mod Marks
+pub mod Hidden
+pub mod Rows
+pub mod States
+mod Examples

@@ -1,0 +1,64 @@
+-- The states in which the lines of a text begin, and which lines are scanned again where a part of them is known.
+use Rattle.std.specs.Prelude.{◌≡◌, ℕ, suc, Bool, true, false, not, if◌then◌else◌, List, [], ◌∷◌, Option, Some, None, IfSome, ⊤}
+use Rattle.bracket_rules.specs.Table.{Table}
+use Rattle.hiding_rules.specs.declared.LineState.{LineState}
+use Rattle.hiding_rules.specs.declared.LineState.TheVariants.{Code, Block}
+use Rattle.hiding_rules.specs.Marks.{Marks}
+use Rattle.hiding_rules.specs.Hidden.{hidden_scan}
+
+abbrev pub states_from : Marks → Table → LineState → List (List ℕ) → List LineState
+states_from m table state [] = []
+states_from m table state (x ∷ lines) = state ∷ states_from m table (hidden_scan m table state x).state lines
+
+-- each line begins as the line before it ended, and the first one in code
+abbrev pub line_states : Marks → Table → List (List ℕ) → List LineState
+line_states m table lines = states_from m table Code lines
+
+-- ---- lines of which some were scanned before
+
+-- how a line began and ended when it was last scanned
+pub record Known : Type 0 where
+  pub begins : LineState
+  pub ends : LineState
+
+abbrev pub same_state : LineState → LineState → Bool
+same_state Code Code = true
+same_state Block Block = true
+same_state Code Block = false
+same_state Block Code = false
+
+-- a line that is not new, and begins in another state than when it was last scanned
+abbrev pub is_restarted : Option Known → LineState → Bool
+is_restarted None state = false
+is_restarted (Some known) state = not (same_state known.begins state)
+
+abbrev pub is_scanned : Option Known → LineState → Bool
+is_scanned None state = true
+is_scanned (Some known) state = is_restarted (Some known) state
+
+abbrev pub numbered_if : Bool → ℕ → List ℕ → List ℕ
+numbered_if wanted n rest = if wanted then n ∷ rest else rest
+
+-- the numbers of the lines that are scanned, where the first line has number n; each line is new or known, and begins so
+abbrev pub scanned_lines : ℕ → List (Option Known) → List LineState → List ℕ
+scanned_lines n [] states = []
+scanned_lines n (k ∷ known) [] = []
+scanned_lines n (k ∷ known) (s ∷ states) = numbered_if (is_scanned k s) n (scanned_lines (suc n) known states)
+
+-- each known line leads from the state in which it began to the one in which it ended
+abbrev pub Lead : Marks → Table → List (Option Known) → List (List ℕ) → Type 0
+Lead m table [] lines = ⊤
+Lead m table (k ∷ known) [] = ⊤
+Lead m table (k ∷ known) (x ∷ lines) = IfSome k (λ l. (hidden_scan m table l.begins x).state ≡ l.ends) × Lead m table known lines
+
+-- the state in which a line ends, by what is known of it where it begins as it did
+abbrev pub end_of : Marks → Table → Option Known → LineState → List ℕ → LineState
+end_of m table None state x = (hidden_scan m table state x).state
+end_of m table (Some known) state x = if same_state known.begins state then known.ends else (hidden_scan m table state x).state
+
+-- the states of the lines, where only new and restarted lines are scanned
+abbrev pub settled_from : Marks → Table → LineState → List (Option Known) → List (List ℕ) → List LineState
+settled_from m table state [] lines = []
+settled_from m table state (k ∷ known) [] = []
+settled_from m table state (k ∷ known) (x ∷ lines) =
+    state ∷ settled_from m table (end_of m table k state x) known lines
