@@ -25,7 +25,7 @@ class Shaped(NamedTuple):
         if shape.first:
             return f"x{self.last / self.first:.2f}"
         grown = (self.last - self.first) * 1024
-        return ", ".join(f"{grown / count:,.1f} a {name}" for name, count in shape.counted.items())
+        return ", ".join(f"{grown / count:,.1f} per {name}" for name, count in shape.counted.items())
 
     def cells(self, shape: Shape, before: "Shaped | None") -> list[str]:
         """The columns of a program, with the growth since the row before, if that is of the same kind."""

@@ -115,8 +115,8 @@ def event_shapes(part: int) -> Iterator[Shape]:
     count, send = 10_000 // part, '{"cmd":"send"}'
     typed = [line for at in range(1_000, 1_000 + count) for line in (edit(op(at, at, "x")), send)]
     yield shape("type a unit, send it", f"{count:,}", plain(1_000), typed, counted={"event": count})
-    alone = [line for at in range(1_000, 1_000 + count) for line in (edit(op(at, at, "x")), '{"cmd":"version"}')]
-    yield shape("type a unit, ask the version", f"{count:,}", plain(1_000), alone, counted={"edit": count})
+    alone = [line for at in range(1_000, 1_000 + count) for line in (edit(op(at, at, "x")), '{"cmd":"size"}')]
+    yield shape("type a unit, ask the size", f"{count:,}", plain(1_000), alone, counted={"edit": count})
     count, draw = 1_000 // part, random.Random(23)
     taken = [f'{{"cmd":"deliver","n":{n}}}' for n in range(1, count + 1)]
     sent = [line for _ in range(count) for line in (batch([draw.randrange(40_000)], 1), send)]
