@@ -2,3 +2,4 @@ pub mod NoMarks
 pub mod InLine
 pub mod Sizes
 pub mod Settling
+pub mod Runs

@@ -1,5 +1,5 @@
 -- The states in which the lines of a text begin, and which lines are scanned again where a part of them is known.
-use Rattle.std.specs.Prelude.{◌≡◌, ℕ, suc, Bool, true, false, not, if◌then◌else◌, List, [], ◌∷◌, Option, Some, None, IfSome, ⊤}
+use Rattle.std.specs.Prelude.{◌≡◌, ℕ, suc, Bool, true, false, not, if◌then◌else◌, List, [], ◌∷◌, map, Option, Some, None, IfSome, ⊤}
 use Rattle.bracket_rules.specs.Table.{Table}
 use Rattle.hiding_rules.specs.declared.LineState.{LineState}
 use Rattle.hiding_rules.specs.declared.LineState.TheVariants.{Code, Block}
@@ -13,6 +13,11 @@ states_from m table state (x ∷ lines) = state ∷ states_from m table (hidden_
 -- each line begins as the line before it ended, and the first one in code
 abbrev pub line_states : Marks → Table → List (List ℕ) → List LineState
 line_states m table lines = states_from m table Code lines
+
+-- the state behind some lines, the first of which begins in this one
+abbrev pub state_behind : Marks → Table → LineState → List (List ℕ) → LineState
+state_behind m table state [] = state
+state_behind m table state (x ∷ lines) = state_behind m table (hidden_scan m table state x).state lines
 
 -- ---- lines of which some were scanned before
 
@@ -62,3 +67,11 @@ settled_from m table state [] lines = []
 settled_from m table state (k ∷ known) [] = []
 settled_from m table state (k ∷ known) (x ∷ lines) =
     state ∷ settled_from m table (end_of m table k state x) known lines
+
+-- lines that were scanned one behind another, from the one state to the other: each begins as the line before it ended
+abbrev pub AreChained : LineState → List Known → LineState → Type 0
+AreChained from [] to = from ≡ to
+AreChained from (k ∷ known) to = (k.begins ≡ from) × AreChained k.ends known to
+
+abbrev pub all_known : List Known → List (Option Known)
+all_known known = map (λ k. Some k) known
