@@ -1,4 +1,5 @@
 """The scripts that bench/run times: each case is made from a seed of its own, so that it is the same in every run."""
+import json
 import random
 from collections.abc import Iterator
 from functools import lru_cache, partial
@@ -85,11 +86,11 @@ def decorate(remove: list[int], add: list[tuple[int, int]]) -> str:
     return f'{{"cmd":"decorate","owner":7,"remove":[{",".join(map(str, remove))}],"add":[{new}]}}'
 
 
-def opened(text: str) -> Lines:
-    """Lines that make a document of this text."""
-    chunks = [text[start : start + CHUNK].replace("\n", "\\n") for start in range(0, len(text), CHUNK)]
+def opened(text: str, marks: str = "") -> Lines:
+    """Lines that make a document of this text, with these marks of comments and strings."""
+    chunks = [json.dumps(text[start : start + CHUNK])[1:-1] for start in range(0, len(text), CHUNK)]
     later = [edit(op(start * CHUNK, start * CHUNK, chunk)) for start, chunk in enumerate(chunks) if start > 0]
-    return [f'{{"cmd":"open","text":"{chunks[0]}"}}', *later]
+    return [f'{{"cmd":"open","text":"{chunks[0]}"{marks}}}', *later]
 
 
 @lru_cache(maxsize=1)
@@ -324,6 +325,60 @@ def parse_cases() -> Iterator[Case]:
     yield Case("first parse, 45,000 brackets", "1 MB", opened(text), lines, refused, 1)
 
 
+# ---- comments and strings
+
+
+C_MARKS = ',"marks":{"line":"//","block":["/*","*/"],"quotes":["\\"","\'"]}'
+MARKED = {"no marks": "", "marks": C_MARKS}
+C_WIDTH = 64  # of a line of C, with its ending
+TAILS = ["  // some words (or more)", '  puts("some words");', "  a = b; c = 'd';"]
+BLOCK_TAIL = "  /* some words */"
+
+
+def of_c(units: int, with_blocks: bool) -> tuple[str, int]:
+    """A text of C, and how many lines it has: brackets in each, up to eleven open, and few in comments, in pairs also where
+    nothing hides them. Some of the block comments, if it has any, go over two lines."""
+    tails = [*TAILS, BLOCK_TAIL if with_blocks else TAILS[0]]
+    code = ["  " * depth + "if(x[i]) {" for depth in range(10)] + ["  " * depth + "}" for depth in reversed(range(10))]
+    block = [line.ljust(31) + tails[number % 4] for number, line in enumerate(code)]
+    if with_blocks:
+        block[9:11] = [code[9].ljust(31) + "  /* some words (or", "more) */".ljust(18) + "}"]
+    count = units // C_WIDTH // len(block) * len(block)
+    return "".join(block[number % len(block)].ljust(C_WIDTH - 1) + "\n" for number in range(count)), count
+
+
+def inserts(last: int, rounds: int) -> Pair:
+    """In turn a balanced text put into the code of a random line, and the level and the match at another place."""
+    draw, lines, refused = random.Random(12), [], []
+    for _ in range(rounds):
+        line = draw.randrange(1, last)
+        turn = [tuple([edit(op_in_line(line, start, 31, "([{x}])"))] for start in (31, 32))]
+        for good, bad in turn + [questions(command, last, 1, draw) for command in ("level", "match")]:
+            lines += good
+            refused += bad
+    return lines, refused
+
+
+def hidden_cases(scale: Scale) -> Iterator[Case]:
+    """Texts with comments and strings, with and without their marks; and a block mark in front of all lines."""
+    rounds = scale.count // 25
+    for units, flat in scale.nested:
+        text, last = of_c(units, True)
+        for way, marks in MARKED.items():
+            lines, refused = ([asked("level", last, 1)] for asked in (at, nowhere))
+            yield Case(f"first parse of {size_of(units)} of C", way, opened(text, marks), lines, refused, 1)
+        for way, marks in MARKED.items():
+            setup = [*opened(text, marks), at("level", 1, 1)]
+            yield Case(f"insert in {size_of(units)} of C, level, match", way, setup, *inserts(last, rounds), 3 * flat)
+    text, last = of_c(42_000 * C_WIDTH, False)
+    setup, level = [*opened(text, C_MARKS), at("level", 1, 1)], (at("level", last, 1), nowhere("level", last, 1))
+    typed, taken = [edit(op(start, 0, "/*")) for start in (0, 1)], [edit(op(*span, "")) for span in ((0, 2), (2, 0))]
+    lines, refused = ([put, asked, out, asked] * 50 for put, asked, out in zip(typed, level, taken))
+    yield Case("/* typed first, level, taken out", "42,000", setup, lines, refused, 8)
+    for way, before in (("code", []), ("comment", [typed[0], level[0]])):
+        yield Case("insert in 42,000, level, match", way, setup + before, *inserts(last, rounds), 30)
+
+
 # ---- lines
 
 
@@ -347,7 +402,7 @@ def line_cases(scale: Scale) -> Iterator[Case]:
 
 def all_cases(scale: Scale) -> Iterator[Case]:
     """Every case, made as it is asked for."""
-    for group in (text_cases, undo_cases, decoration_cases, kind_cases, nested_cases):
+    for group in (text_cases, undo_cases, decoration_cases, kind_cases, nested_cases, hidden_cases):
         yield from group(scale)
     yield from parse_cases()
     yield from line_cases(scale)

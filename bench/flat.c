@@ -1,15 +1,16 @@
 /* A flat text model: what the program is measured beside, and its replies compared with.
  *
  * The text is one array of UTF-16 units that each edit moves. Lines are found by scanning it from its beginning, and
- * each question about brackets folds all of it; a snapshot, an event and a change of the kind of line ending copy all of it. It
- * reads the lines that bench/run writes and those alone: fields in one order without blanks, texts of ASCII with `\n` and
- * `\r` as their escapes, the ops of an edit in rising order. Any other line is answered `! syntax`. What an `open` or an
- * edit lets go of is not freed. */
+ * each question about brackets folds all of it, with its comments and strings where the document has the marks of C; a snapshot,
+ * an event and a change of the kind of line ending copy all of it. It reads the lines that bench/run writes and those alone:
+ * fields in one order without blanks, no marks but those of C, texts of ASCII with `\n`, `\r`, `\"` and `\\` as their escapes,
+ * the ops of an edit in rising order. Any other line is answered `! syntax`. What an `open` or an edit lets go of is not freed. */
 #include "flat_fields.h"
 
 enum { MOST_OPEN = 300, MOST_SNAPSHOTS = 1000, BUFFER_BYTES = 1 << 16 };
 
 static const size_t NOWHERE = SIZE_MAX;
+static const char C_MARKS[] = ",\"marks\":{\"line\":\"//\",\"block\":[\"/*\",\"*/\"],\"quotes\":[\"\\\"\",\"'\"]}";
 
 typedef struct { size_t start, end; Units text; } Op;
 /* A replacement that was made, with both texts; `begins` where it is the first of its step. Or a change of the kind of
@@ -22,6 +23,7 @@ typedef struct { Number from; Units after; } Event;
 typedef struct {
     Units text;
     Kind kind;
+    bool is_of_c;
     Number version, next_id;
     Change *changes;
     size_t done, total, change_room;
@@ -214,9 +216,12 @@ static bool next_version(Document *document) {
 static bool open_text(Document *document, const char **at) {
     Units units;
     Kind of = MIXED;
-    if (!text(at, &units) || (word(at, ",\"eol\":") && !kind(at, &of)) || !closes(at)) return false;
+    if (!text(at, &units)) return false;
+    bool is_of_c = word(at, C_MARKS);
+    if ((word(at, ",\"eol\":") && !kind(at, &of)) || !closes(at)) return false;
     units = normalized(units, of);
-    *document = (Document){.text = units, .kind = of, .next_id = 1, .next_snapshot = 1, .begins = true};
+    *document =
+        (Document){.text = units, .kind = of, .is_of_c = is_of_c, .next_id = 1, .next_snapshot = 1, .begins = true};
     return next_version(document);
 }
 
@@ -369,11 +374,51 @@ static void close_bracket(Bracket *all, size_t here, const size_t *stack, size_t
     all[here].level = *open;
 }
 
+static bool stands(const Units *text, size_t at, const char *mark) {
+    return at + 1 < text->length && text->at[at] == mark[0] && text->at[at + 1] == mark[1];
+}
+
+/* What a place lies in, by the marks of C. A string is named by its quote. */
+enum { CODE = 0, LINE_COMMENT = '/', BLOCK_COMMENT = '*' };
+
+static size_t hidden_in_code(const Units *text, size_t at, uint16_t *within) {
+    if (stands(text, at, "//") || stands(text, at, "/*")) return *within = text->at[at + 1], 2;
+    if (text->at[at] != '"' && text->at[at] != '\'') return 0;
+    return *within = text->at[at], 1;
+}
+
+static size_t hidden_in_block(const Units *text, size_t at, uint16_t *within) {
+    return stands(text, at, "*/") ? *within = CODE, 2 : 1;
+}
+
+static size_t hidden_in_string(const Units *text, size_t at, uint16_t *within) {
+    uint16_t unit = text->at[at];
+    if (unit == '\\') return at + 1 < text->length && !is_of_break(text->at[at + 1]) ? 2 : 1;
+    if (unit == *within) *within = CODE;
+    return 1;
+}
+
+/* How many units from this place on are no code, and what the place behind them lies in. A break is code. */
+static size_t hidden(const Units *text, size_t at, uint16_t *within) {
+    if (is_of_break(text->at[at])) return *within = *within == BLOCK_COMMENT ? BLOCK_COMMENT : CODE, 0;
+    switch (*within) {
+    case CODE: return hidden_in_code(text, at, within);
+    case LINE_COMMENT: return 1;
+    case BLOCK_COMMENT: return hidden_in_block(text, at, within);
+    default: return hidden_in_string(text, at, within);
+    }
+}
+
 static void fold(Document *document) {
-    size_t stack[MOST_OPEN], open = 0, line = 1, start = 0, here = 0;
+    size_t stack[MOST_OPEN], open = 0, line = 1, start = 0, here = 0, passed;
+    uint16_t within = CODE;
     for (size_t at = 0; at < document->text.length; at++) {
         uint16_t unit = document->text.at[at];
         if (ends_break(&document->text, at)) line++, start = at + 1;
+        if (document->is_of_c && (passed = hidden(&document->text, at, &within)) > 0) {
+            at += passed - 1;
+            continue;
+        }
         int code = unit < sizeof CODES ? CODES[unit] : 0;
         bool opens = code % 2 == 1;
         if (code == 0 || (opens && open == MOST_OPEN)) continue;

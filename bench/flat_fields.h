@@ -25,7 +25,8 @@ static uint16_t unit(const char **at) {
     if (**at < ' ') fail("a text has more than ASCII");
     if (**at != '\\') return (uint16_t)**at;
     ++*at;
-    if (**at != 'n' && **at != 'r') fail("a text has another escape than those of breaks");
+    if (**at == '"' || **at == '\\') return (uint16_t)**at;
+    if (**at != 'n' && **at != 'r') fail("a text has another escape than those of breaks, quotes and backslashes");
     return **at == 'n' ? '\n' : '\r';
 }
 

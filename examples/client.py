@@ -25,12 +25,13 @@ PROVED = HERE.parent / "bin" / "textmodel"
 SECONDS = 10.0
 MOST_BYTES = 1 << 24  # of a line, its LF not counted
 PIECE = 1 << 16
-# What a line may have beside a text: 64 pairs of brackets, each unit as an escape, take the most.
+# What a line may have beside a text: 64 pairs of brackets and all marks, each unit as an escape, take the most.
 BESIDE = 1 << 15
 CHECKER = HERE.parent / "tools" / "check_lines.py"
 IN_PROCESS = "--library"  # what is told in place of a program
 
 Command = dict[str, Any]
+Marks = dict[str, str | list[str]]
 to_json = json.JSONEncoder(ensure_ascii=False, allow_nan=False, separators=(",", ":")).encode
 
 
@@ -212,17 +213,20 @@ class Client:
         """The text of a reply that is a JSON string, as those of `line`, `value` and `read` are. It has no surrogate."""
         return json.loads(self.ask(cmd, **fields))
 
-    def open(self, text: str, brackets: list[list[str]] | None = None) -> list[int]:
+    def open(self, text: str, brackets: list[list[str]] | None = None, marks: Marks | None = None) -> list[int]:
         """Opens a text of any size in place of the document; its version, units and lines.
 
-        `brackets` are 1 to 64 pairs of an opening and a closing text; None are `()`, `[]` and `{}`.
+        `brackets` are 1 to 64 pairs of an opening and a closing text; None are `()`, `[]` and `{}`. `marks` say what begins and
+        ends comments and strings, in which brackets are text: `line` is a text, `block` a list of two, and `quotes` a list of
+        texts of one unit, each if wanted.
 
         A text that is too long for one line of the script is opened with its first part, and edits append the others. Its version
         is then the number of parts and not 1, and the first step of undo takes the appended parts away; later edits are
         steps of their own. Where an appended part is refused, as with `limit`, the document has the parts before it.
         """
         first, *others = parts(text)
-        state = self.numbers("open", text=first, **({} if brackets is None else {"brackets": brackets}))
+        given = {name: value for name, value in (("brackets", brackets), ("marks", marks)) if value is not None}
+        state = self.numbers("open", text=first, **given)
         for part in others:
             state = self.numbers("edit", ops=[replace(state[1], state[1], part)])
         if others:
@@ -355,6 +359,10 @@ def edit_a_document(model: Client) -> None:
 
     model.ask("undo")
     check("line 2 after an undo", model.text("line", n=2), "    g[x")
+
+    # What stands in a comment or a string is no bracket.
+    model.open("f(')'); // (\n", marks={"line": "//", "block": ["/*", "*/"], "quotes": ['"', "'"]})
+    check("brackets of line 1", [(it.column, it.status) for it in model.brackets(1, 1)], [(2, "o"), (6, "c")])
 
 
 def main() -> None:

@@ -46,7 +46,9 @@ def cut_texts() -> None:
         check(f"parts of {len(text)} characters", "".join(cut) == text, True)
         check("each fits", all(len(to_json(part).encode()) <= 40 for part in cut), True)
     op = {"cmd": "edit", "ops": [replace(2**40, 2**40, "")]}
-    opened = {"cmd": "open", "text": "", "brackets": [["\x01" * 32] * 2] * 64}
+    mark, quotes = "\x01" * 32, ["\x01"] * 8
+    marks = {"line": mark, "block": [mark] * 2, "quotes": quotes}
+    opened = {"cmd": "open", "text": "", "brackets": [[mark] * 2] * 64, "marks": marks}
     check("room beside a part", max(len(line_of(op)), len(line_of(opened))) <= BESIDE, True)
 
 

@@ -1,8 +1,10 @@
 """The brackets of a whole text, parsed afresh."""
 import re
 from bisect import bisect_left, bisect_right
+from collections.abc import Iterator
 from dataclasses import dataclass, field
 
+from hiding import Hiding, tokens_in_view
 from texts import Text
 
 MOST_OPEN = 300
@@ -77,9 +79,14 @@ class Parse:
         return self.levels[before - 1] if before else 0
 
 
-def parse(text: Text, table: Table) -> Parse:
-    """Reads the text. No bracket has a break in it, so none goes over a line's end."""
+def parse(text: Text, table: Table, hiding: Hiding | None) -> Parse:
+    """Reads the text."""
     done = Parse()
-    for found in table.token.finditer(text.units):
-        done.take(found.start(), len(found[0]), *table.kinds[found[0]])
+    for at, token in tokens_in_view(text, table.token, hiding) if hiding else tokens_of(text, table):
+        done.take(at, len(token), *table.kinds[token])
     return done
+
+
+def tokens_of(text: Text, table: Table) -> Iterator[tuple[int, str]]:
+    """All brackets, and where they start. None has a break in it, so none goes over a line's end."""
+    return ((found.start(), found[0]) for found in table.token.finditer(text.units))

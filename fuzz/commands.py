@@ -6,12 +6,14 @@ from dataclasses import dataclass
 from typing import Any
 
 from brackets import Pairs
-from texts import ENDINGS, units_of
+from hiding import BACKSLASH, Hiding, Pair
+from texts import ENDINGS, is_high, is_low, units_of
 
 MOST_NUMBER = 2**64 - 1
 MOST_NESTING = 127
 MOST_PAIRS = 64
 MOST_BRACKET_UNITS = 32
+MOST_QUOTES = 8
 
 STRING = re.compile(r'"(?:[^"\\]|\\.)*"')
 ESCAPE = re.compile(r"\\(?:u([0-9a-fA-F]{4})|.)")
@@ -136,9 +138,38 @@ def pairs(value: Any) -> Pairs:
     texts = [text for pair in found for text in pair]
     if not 1 <= len(found) <= MOST_PAIRS or any(len(pair) != 2 for pair in found) or len(set(texts)) != len(texts):
         raise Refused("syntax")
-    if any(not 1 <= len(text) <= MOST_BRACKET_UNITS or "\r" in text or "\n" in text for text in texts):
+    if not all(map(is_bracket_text, texts)):
         raise Refused("syntax")
     return found
+
+
+def is_bracket_text(units: str) -> bool:
+    return 1 <= len(units) <= MOST_BRACKET_UNITS and "\r" not in units and "\n" not in units
+
+
+def mark(value: Any) -> str:
+    """What begins or ends a comment. It may have what a bracket may."""
+    units = text(value)
+    if not is_bracket_text(units):
+        raise Refused("syntax")
+    return units
+
+
+def block(value: Any) -> Pair:
+    if len(listed(value)) != 2:
+        raise Refused("syntax")
+    return mark(value[0]), mark(value[1])
+
+
+def quotes(value: Any) -> str:
+    found = [text(item) for item in listed(value)]
+    if len(found) > MOST_QUOTES or len(set(found)) != len(found) or not all(map(is_quote, found)):
+        raise Refused("syntax")
+    return "".join(found)
+
+
+def is_quote(units: str) -> bool:
+    return len(units) == 1 and units not in f"\r\n{BACKSLASH}" and not is_high(units) and not is_low(units)
 
 
 @dataclass(slots=True, frozen=True)
@@ -164,6 +195,15 @@ def fields(optional: dict[str, Reader] | None = None, **needed: Reader) -> Field
 
 OP = fields({"at": span, "range": positions, "force": flag}, text=text)
 NEW_DECORATION = fields({"collapse": flag}, at=span, stick=number)
+
+
+MARKS = fields({"line": mark, "block": block, "quotes": quotes})
+
+
+def marks(value: Any) -> Hiding:
+    """What begins and ends comments and strings in a new document."""
+    line, block, quotes = MARKS.read(value)
+    return Hiding(line, block, quotes or "")
 
 
 @dataclass(slots=True, frozen=True)
@@ -195,7 +235,7 @@ def new_decorations(value: Any) -> list[tuple[list[int], int, bool]]:
 
 
 COMMANDS: dict[str, Fields] = {
-    "open": fields({"brackets": pairs, "eol": kind}, text=text),
+    "open": fields({"brackets": pairs, "marks": marks, "eol": kind}, text=text),
     "edit": fields(ops=ops),
     "undo": fields(),
     "redo": fields(),

@@ -1,4 +1,5 @@
-"""The flat document: one list of units, decorations moved edit by edit, undo by kept texts, brackets parsed afresh.
+"""The flat document: one list of units, decorations moved edit by edit, undo by kept texts, brackets parsed afresh, and
+what hides some of them read afresh too.
 
 It shares nothing with the program: what is right is what `docs/SCRIPT.md` says, done in the plainest way.
 """
@@ -10,6 +11,7 @@ from typing import Any
 import clusters
 from brackets import STANDARD, Entry, Pairs, Parse, Table, parse
 from commands import LineOp, Refused, command_of
+from hiding import Hiding
 from moves import Decoration, Op, applied, carried, inverse, recast, unforced
 from texts import MIXED, Text, cuts_pair, normalized, quoted
 
@@ -56,6 +58,7 @@ class Document:
 
     text: Text = field(default_factory=lambda: Text(""))
     table: Table = STANDARD_TABLE
+    hiding: Hiding | None = None
     decorations: dict[int, Decoration] = field(default_factory=dict)
     next_decoration: int = 1
     undo_steps: list[Step] = field(default_factory=list)
@@ -244,7 +247,7 @@ class Document:
 
     def parsed(self) -> Parse:
         if not self.kept_parse or self.kept_parse[0] is not self.text:
-            self.kept_parse = self.text, parse(self.text, self.table)
+            self.kept_parse = self.text, parse(self.text, self.table, self.hiding)
         return self.kept_parse[1]
 
     def brackets(self, first: int, last: int) -> str:
@@ -322,11 +325,11 @@ class Flat:
         self.follower: Mirror | None = None
         self.sent: list[Event] = []
 
-    def open(self, units: str, pairs: Pairs | None, kind: str | None) -> str:
+    def open(self, units: str, pairs: Pairs | None, hiding: Hiding | None, kind: str | None) -> str:
         text = Text(normalized(units, kind or MIXED), kind or MIXED)
         if len(text.units) > MOST_UNITS:
             raise Refused("limit")
-        self.begin(Document(text, Table(pairs) if pairs else STANDARD_TABLE))
+        self.begin(Document(text, Table(pairs) if pairs else STANDARD_TABLE, hiding))
         return self.document.sizes()
 
     def mirror(self) -> str:

@@ -14,10 +14,11 @@ NUMBERS = [
 ]  # fmt: skip
 VALUES: list[Any] = [
     None, True, False, -1, 0.5, 2**64, "1", "", "lf", [], {}, [1], [1, 2], [[1, 2]], [1, 2, 3], {"at": [0, 0]},
+    "//", ["a"], ["a", "a"], ["/*", "*/"], {"line": "a"},
 ]  # fmt: skip
 KEYS = [
     "x", "cmd", "text", "at", "range", "force", "n", "owner", "id", "collapse", "stick", "brackets", "eol", "kind", "",
-    "Cmd",
+    "Cmd", "marks", "line", "block", "quotes",
 ]  # fmt: skip
 WHOLE = [
     b"[]", b"{}", b"1", b'"size"', b"null", b"{", b"}", b"[" * 128, b"[" * 127 + b"]" * 127, b"[" * 5000,
@@ -39,6 +40,20 @@ WHOLE = [
     b'{"cmd":"open","text":"","eol":"mixed"}', b'{"cmd":"open","text":"","eol":"lf","kind":"lf"}', b'{"cmd":"eol"}',
     b'{"cmd":"open","text":"\\n","eol":"cr","eol":"crlf"}', b'{"cmd":"eol","kind":"LF"}', b'{"cmd":"eol","eol":"lf"}',
     b'{"cmd":"eol","kind":"\\u006cf"}', b'{"cmd":"eol","kind":"lf","at":[0,0]}', b'{"cmd":"eol","kind":"lf\\u0000"}',
+    b'{"cmd":"open","text":"","marks":null}', b'{"cmd":"open","text":"","marks":[]}',
+    b'{"cmd":"open","text":"(","marks":{}}', b'{"cmd":"open","text":"(","marks":{"quotes":[]}}',
+    b'{"cmd":"open","text":"","marks":{"line":""}}', b'{"cmd":"open","text":"","marks":{"line":null}}',
+    b'{"cmd":"open","text":"","marks":{"lines":"//"}}', b'{"cmd":"open","text":"","marks":{"line":"//","cmd":"open"}}',
+    b'{"cmd":"open","text":"","line":"//"}', b'{"cmd":"open","text":"","marks":{"block":["/*"]}}',
+    b'{"cmd":"open","text":"","marks":{"block":["/*","*/","*/"]}}',
+    b'{"cmd":"open","text":"","marks":{"line":1,"line":"//"}}', b'{"cmd":"open","text":"","marks":{"line":"\\u000a"}}',
+    b'{"cmd":"open","text":"","marks":{"quotes":["\\""," \\\\"]}}',
+    b'{"cmd":"open","text":"","marks":{"quotes":["\\\\"]}}', b'{"cmd":"open","text":"","marks":{"quotes":["ab"]}}',
+    b'{"cmd":"open","text":"","marks":{"quotes":[""]}}', b'{"cmd":"open","text":"","marks":{"quotes":["\\u0061","a"]}}',
+    b'{"cmd":"open","text":"","marks":{"quotes":["a",null]}}',
+    b'{"cmd":"open","text":"","marks":{"quotes":["\\ud83d"]}}',
+    b'{"cmd":"open","text":"","marks":{"quotes":["\\ud83d\\ude00"]}}',
+    b'{"cmd":"open","text":"","marks":{"quotes":["1","2","3","4","5","6","7","8","9"]}}', b'{"cmd":"size","marks":{}}',
     b'{"cmd":1,"cmd":"size"}', b'{"cmd":"undo","cmd":"size"}',
     b'{"cmd":1e999,"cmd":"size"}', b'{"cmd":"\\ud800","cmd":"size"}', b"", b" ", b"\t \r", b"\r", b"\x0b", b"\x0c",
     b"\xc2\xa0", b"// x", b"{\"cmd\":\"size\"/**/}",

@@ -1,9 +1,12 @@
-"""One script of lines at the limits that a script can reach: bytes of a line, decorations, snapshots, brackets, events."""
+"""One script of lines at the limits that a script can reach: bytes of a line, decorations, snapshots, brackets and what
+hides them, events."""
 MOST_LINE_BYTES = 2**24
 MOST_DECORATIONS = 2**20
 MOST_SNAPSHOTS = 1_000
 MOST_OPEN = 300
 MOST_EVENTS = 65_536
+MOST_BRACKET_UNITS = 32
+MOST_QUOTES = 8
 
 
 def padded(line: bytes, size: int) -> bytes:
@@ -74,6 +77,32 @@ def many_brackets() -> list[bytes]:
     return lines
 
 
+def marked(units: int, quotes: int, text: bytes) -> bytes:
+    """A new document with marks of so many units, and so many quotes."""
+    few = b",".join(b'"%d"' % quote for quote in range(quotes))
+    marks = b'"line":"%b","block":["%b","%b"],"quotes":[%b]' % (b"#" * units, b"<" * units, b">" * units, few)
+    return b'{"cmd":"open","marks":{%b},"text":"%b"}' % (marks, text)
+
+
+def typed_in_front(text: bytes) -> bytes:
+    return b'{"cmd":"edit","ops":[{"at":[0,0],"text":"%b"}]}' % text
+
+
+def many_hidden() -> list[bytes]:
+    most = (MOST_BRACKET_UNITS, MOST_QUOTES)
+    opening, closing, many = b"<" * MOST_BRACKET_UNITS, b">" * MOST_BRACKET_UNITS, b"(" * 100_000
+    level = b'{"cmd":"level","line":3,"col":%d}' % (MOST_OPEN + 2)
+    lines = [marked(*most, b""), marked(MOST_BRACKET_UNITS + 1, 0, b""), marked(1, MOST_QUOTES + 1, b"")]
+    for front in (b"7" + many, b"#" * MOST_BRACKET_UNITS + many, opening + many + closing):
+        lines += [marked(*most, front + b"\\n\\n" + b"(" * (MOST_OPEN + 1)), level]
+        lines += [typed_in_front(opening), level, b'{"cmd":"undo"}', level]
+    lines += [marked(1, 1, b"(\\n\\n" * 100_000 + b")"), b'{"cmd":"brackets","from":100000,"to":100002}']
+    for front in (b"<", b"\\n0", b"#"):
+        lines += [typed_in_front(front), b'{"cmd":"brackets","from":199999,"to":200001}', b'{"cmd":"undo"}']
+        lines += [b'{"cmd":"match","line":200001,"col":1}']
+    return lines
+
+
 def many_events() -> list[bytes]:
     lines = [b'{"cmd":"open","text":"ab"}', b'{"cmd":"send"}', b'{"cmd":"mirror"}']
     lines += [b'{"cmd":"edit","ops":[{"at":[0,1],"text":"xy"}]}', *[b'{"cmd":"send"}'] * (MOST_EVENTS + 1)]
@@ -83,4 +112,4 @@ def many_events() -> list[bytes]:
 
 
 def lines() -> list[bytes]:
-    return [*long_lines(), *many_snapshots(), *many_brackets(), *many_events(), *many_decorations()]
+    return [*long_lines(), *many_snapshots(), *many_brackets(), *many_hidden(), *many_events(), *many_decorations()]

@@ -4,6 +4,7 @@ from typing import NamedTuple
 
 import clusters
 from brackets import MOST_OPEN, STANDARD, Pairs
+from hiding import BACKSLASH, Hiding
 
 WEIGHTS = {
     "edit": 30, "undo": 8, "redo": 8, "stop": 4, "version": 3, "size": 1, "eol": 2,
@@ -19,7 +20,7 @@ BREAKS = ["\r", "\n", "\r\n"]
 LETTERS = ["a", "b"]
 PAIRED = ["\U0001f600", "\U0001d4b3"]
 JOINED = [*clusters.CLASSES]
-QUOTED = ['"', "\\", "\t", "\x01", "\x7f", "\u2028", "\ufeff", "/"]
+QUOTED = ['"', BACKSLASH, "\t", "\x01", "\x7f", "\u2028", "\ufeff", "/"]
 
 
 class Mood(NamedTuple):
@@ -37,6 +38,9 @@ class Mood(NamedTuple):
     run: int = 0  # how many an undo and a redo may be in turn, or undos and then as many redos
     is_apart: bool = False  # edits keep to the front, and questions to the end
     of_kind: float = 0.3  # how often a new text has a kind of line ending
+    hidden: float = 0.25  # how often a new text has marks of comments and strings
+    strewn: float = 1  # how often such marks stand among the characters, where there are any
+    curtains: float = 0.1  # how often an edit is of one such mark
     at_endings: float = 0.03  # how often new decorations stand around one line ending
 
 
@@ -46,6 +50,7 @@ def more(**weights: float) -> dict[str, float]:
 
 FAR = {name: 1 for name in WEIGHTS} | {"edit": 150, "undo": 4, "redo": 4, "decos": 2, "mirror": 0.1}  # long runs without a question
 FOLLOWED = more(edit=30, undo=12, redo=12, eol=4, mirror=1, send=40, deliver=50, mirrored=15)
+ASKED = more(brackets=12, match=10, level=25, undo=12, redo=8, stop=8, decorate=1, deco=1, decos=1)
 ENDED = more(eol=8, undo=15, redo=8, stop=8, version=6, decorate=25, deco=12, decos=12, position=12, value=8, open=3)
 
 MOODS = {
@@ -69,6 +74,11 @@ MOODS = {
     "followed": (5, Mood(30, FOLLOWED, [LETTERS, BREAKS, PAIRED], 1)),
     "swings": (1, Mood(60, more(undo=15, redo=15, stop=15, level=10, eol=5), [LETTERS, BREAKS, PAIRED], 3, run=60)),
     "pieces": (1, Mood(1500, more(edit=60, snapshot=15, read=30, close=12), [PAIRED, LETTERS, BREAKS], 1, ops=150)),
+    "comments": (8, Mood(60, ASKED, [BREAKS, LETTERS], 8, hidden=1, curtains=0.5)),
+    "curtains": (4, Mood(300, ASKED, [BREAKS, BREAKS, LETTERS], 6, hidden=1, strewn=0.2, curtains=0.6)),
+    "covers": (3, Mood(200, ASKED, [BREAKS, LETTERS], 4, ragged=2, is_apart=True, hidden=1, strewn=0.3, curtains=0.6)),
+    "stripes": (1, Mood(1500, ASKED, [BREAKS, BREAKS, LETTERS], 3, hidden=1, curtains=0.4)),
+    "asleep": (0.5, Mood(500, FAR, [BREAKS, LETTERS], 4, ragged=1, hidden=1, strewn=0.5, curtains=0.5)),
     "large": (1, Mood(4000, more(brackets=4, open=2, stops=1, hostile=1), [LETTERS, LETTERS, BREAKS, PAIRED], 2)),
 }
 
@@ -86,6 +96,30 @@ TABLES: list[Pairs] = [
     tuple((f"<{kind}", f">{kind}") for kind in range(64)),
 ]
 
+C_LIKE = Hiding("//", ("/*", "*/"), "\"'")
+HIDINGS = [
+    C_LIKE,
+    C_LIKE,
+    Hiding("#", quotes="\"'`"),
+    Hiding("--", ("{-", "-}"), '"'),
+    Hiding(";", ("#|", "|#"), '"'),
+    Hiding(None, ("(*", "*)"), "'"),
+    Hiding("/", ("/*", "*/"), "/*"),
+    Hiding("/*/", ("/*", "*/"), "/"),
+    Hiding("//", ("/", "//"), "*"),
+    Hiding("((", ("(", ")"), ")"),
+    Hiding("[", ("[[", "]]"), "{"),
+    Hiding(None, ("/", "/"), "'"),
+    Hiding("ab", ("a", "ba"), "ab"),
+    Hiding("b", quotes="a"),
+    Hiding(BACKSLASH, (BACKSLASH * 2, "\\a"), "b"),
+    Hiding("\U0001f600", ("\U0001d4b3", "\U0001f600"), "\u0301"),
+    Hiding("begin", ("be", "end"), "n"),
+    Hiding("x" * 32, ("x" * 31, "xx"), "y"),
+    Hiding("\U0001f600" * 16, ("x" * 32, "y" * 32), "12345678"),
+    Hiding("\0", ("\t", "\u2028"), "\ufeff\0 "),
+]
+
 
 def drawn_mood(draw: Random) -> Mood:
     weights, moods = zip(*MOODS.values())
@@ -97,15 +131,33 @@ def drawn_table(draw: Random) -> Pairs:
     return STANDARD if draw.random() < 0.6 else draw.choice(TABLES)
 
 
-def drawn_alphabet(draw: Random, mood: Mood, table: Pairs) -> list[str]:
-    """Few kinds of characters, so that equal ones meet, and some brackets."""
+def drawn_hiding(draw: Random, mood: Mood) -> Hiding | None:
+    """The marks of a new text, mostly all three kinds, if it has any."""
+    if draw.random() >= mood.hidden:
+        return None
+    line, block, quotes = (part if draw.random() < 0.85 else None for part in draw.choice(HIDINGS))
+    return Hiding(line, block, quotes or "")
+
+
+def mark_texts(hiding: Hiding | None) -> list[str]:
+    """The marks, a part of one, one behind a backslash, which takes a quote along, and what ends a line."""
+    if not hiding:
+        return []
+    marks = [*filter(None, [hiding.line, *(hiding.block or ()), *hiding.quotes])]
+    parts = [part for mark in marks if len(mark) > 1 for part in (mark[0], mark[1:])]
+    return [*marks * 3, *parts, *(BACKSLASH + mark for mark in marks), BACKSLASH, *BREAKS]
+
+
+def drawn_alphabet(draw: Random, mood: Mood, table: Pairs, hiding: Hiding | None) -> list[str]:
+    """Few kinds of characters, so that equal ones meet, some brackets, and some marks that hide them."""
     alphabet = []
     for group in draw.sample(mood.alphabets, k=min(len(mood.alphabets), 3)):
         alphabet += draw.choices(group, k=draw.randint(1, 4))
     texts = [text for pair in draw.choices(table, k=2) for text in pair]
     nests = [nest(draw, table) for _ in range(mood.with_brackets // 2)]
     torn = draw.choices([rag(draw, table) for _ in range(2)], k=mood.ragged)
-    return alphabet + draw.choices(texts, k=mood.with_brackets) + nests + torn
+    marks = draw.choices(mark_texts(hiding), k=draw.randint(0, 5)) if hiding and draw.random() < mood.strewn else []
+    return alphabet + draw.choices(texts, k=mood.with_brackets) + nests + torn + marks
 
 
 def nest(draw: Random, table: Pairs) -> str:

@@ -3,18 +3,27 @@ import json
 from collections.abc import Callable
 from itertools import accumulate
 from random import Random
-from typing import NamedTuple
+from typing import Any, NamedTuple
 
 import hostile
 from brackets import STANDARD
 from flat import UNJUDGED, Document, Flat
-from moods import Mood, drawn_alphabet, drawn_mood, drawn_table, opened_brackets
-from texts import ENDINGS
+from hiding import Hiding
+from moods import Mood, drawn_alphabet, drawn_hiding, drawn_mood, drawn_table, mark_texts, opened_brackets
+from texts import ENDINGS, units_of
 
 ODD_NUMBERS = [0, 1, 2, 2**31, 2**32, 2**53 + 1, 2**63 - 1, 2**63, 2**64 - 1, 2**64]
 NO_TABLES = [
     [], [["a", "a"]], [["", "b"]], [["a"]], [["a", "b", "c"]], [["a\r", "b"]], [["a", "\nb"]], [["x" * 33, "y"]],
     [["a", "b"], ["b", "c"]], [[chr(64 + n), chr(256 + n)] for n in range(65)], [["\U0001f600" * 17, "y"]], "()", [1],
+]  # fmt: skip
+NO_MARKS = [
+    None, [], "//", {"line": ""}, {"line": None}, {"line": ["//"]}, {"line": "x" * 33}, {"line": "\U0001f600" * 17},
+    {"line": "a\n"}, {"lines": "//"}, {"line": "//", "strings": []}, {"block": None}, {"block": []}, {"block": ["/*"]},
+    {"block": ["/*", "*/", "*/"]}, {"block": ["/*", ""]}, {"block": ["", "*/"]}, {"block": ["\r", "*/"]},
+    {"block": ["/*", "y" * 33]}, {"block": ["/*", 1]}, {"block": "/**/"}, {"quotes": None}, {"quotes": '"'},
+    {"quotes": [1]}, {"quotes": [""]}, {"quotes": ["''"]}, {"quotes": ['"', "'", '"']}, {"quotes": ["\\"]}, {"quotes": ["\n"]},
+    {"quotes": ["\r"]}, {"quotes": ["\U0001f600"]}, {"quotes": [*"123456789"]}, {"quotes": {}},
 ]  # fmt: skip
 NO_CHANGES = [
     '{"cmd":"eol"}', '{"cmd":"eol","eol":"lf"}', '{"cmd":"eol","kind":"lf","n":1}', '{"cmd":"eol","kind":"crlf","text":""}',
@@ -45,6 +54,7 @@ class Writer:
         self.draw = Random(seed)
         self.flat = Flat()
         self.table = drawn_table(self.draw)
+        self.hiding: Hiding | None = None
         self.place = 0  # where something happened last
         self.coming: list[str] = []  # the commands that come next
         self.set_mood(drawn_mood(self.draw))
@@ -55,7 +65,7 @@ class Writer:
 
     def set_mood(self, mood: Mood) -> None:
         self.mood = mood
-        self.alphabet = drawn_alphabet(self.draw, mood, self.table)
+        self.alphabet = drawn_alphabet(self.draw, mood, self.table, self.hiding)
         self.names = list(mood.weights)
         self.sums = list(accumulate(mood.weights.values()))
 
@@ -180,17 +190,29 @@ class Writer:
     # ---- lines
 
     def open(self) -> str:
+        mood = drawn_mood(self.draw)
         self.table = drawn_table(self.draw)
-        self.set_mood(drawn_mood(self.draw))
+        self.hiding = drawn_hiding(self.draw, mood)
+        self.set_mood(mood)
         self.place = 0
-        opening = opened_brackets(self.draw, self.mood, self.table)
-        text = self.spelled(opening + self.text(self.mood.units))
-        self.mood = self.mood._replace(units=self.mood.units + len(opening))
-        kind = f',"eol":{self.kind()}' if self.chance(self.mood.of_kind) else ""
-        if self.table is STANDARD and self.chance(0.8):
-            return f'{{"cmd":"open","text":{text}{kind}}}'
-        table = self.draw.choice(NO_TABLES) if self.chance(0.05) else self.table
-        return f'{{"cmd":"open","text":{text},"brackets":{json.dumps(table, ensure_ascii=self.chance(0.5))}{kind}}}'
+        opening = opened_brackets(self.draw, mood, self.table)
+        fields = [f'"text":{self.spelled(opening + self.text(mood.units))}']
+        self.mood = mood._replace(units=mood.units + len(opening))
+        if self.table is not STANDARD or self.chance(0.2):
+            table = self.draw.choice(NO_TABLES) if self.chance(0.05) else self.table
+            fields.append(f'"brackets":{json.dumps(table, ensure_ascii=self.chance(0.5))}')
+        if self.hiding:
+            fields.append(f'"marks":{json.dumps(self.marks(self.hiding), ensure_ascii=self.chance(0.5))}')
+        if self.chance(mood.of_kind):
+            fields.append(f'"eol":{self.kind()}')
+        return f'{{"cmd":"open",{",".join(fields)}}}'
+
+    def marks(self, hiding: Hiding) -> Any:
+        """The marks as a line has them; now and then none that may be."""
+        if self.chance(0.06):
+            return self.draw.choice(NO_MARKS)
+        found = {name: part for name, part in hiding._asdict().items() if part}
+        return found | ({"quotes": [*hiding.quotes]} if hiding.quotes or self.chance(0.3) else {})
 
     def kind(self) -> str:
         """A kind of line ending, mostly another than that of the text; now and then none."""
@@ -205,6 +227,8 @@ class Writer:
         return f'{{"cmd":"eol","kind":{self.kind()}}}'
 
     def edit(self) -> str:
+        if self.hiding and self.chance(self.mood.curtains):
+            return f'{{"cmd":"edit","ops":[{self.op_of_a_mark()}]}}'
         many = self.mood.ops if self.chance(0.03) else min(self.mood.ops, 5)
         count = 1 if self.chance(0.7) else self.draw.randint(2, many)
         spans = [self.span_in_front() if self.is_apart() else self.span() for _ in range(count)]
@@ -225,6 +249,18 @@ class Writer:
             positions = [*self.document.position_of(start), *self.document.position_of(end)]
             return f'{{"range":{json.dumps(positions)},"text":{text}{force}}}'
         return f'{{"at":[{start},{end}],"text":{text}{force}}}'
+
+    def op_of_a_mark(self) -> str:
+        """Takes out a mark that stands in the text, or a part of one, often the first; or puts one in, often in front."""
+        opening, text = (self.hiding.block or (None, None))[0], self.document.text
+        mark = opening if opening and self.chance(0.4) else self.draw.choice(mark_texts(self.hiding))
+        in_front = self.is_apart() or self.chance(0.5)
+        start = end = self.whole(self.few() if in_front else self.draw.randint(0, len(text.units)))
+        at = text.units.find(units_of(mark), 0 if in_front else start)
+        if at >= 0 and self.chance(0.85):
+            start, end, mark = at, at + len(units_of(mark)), ""
+        self.place = start
+        return f'{{"at":[{start},{end}],"text":{self.spelled(mark)}}}'
 
     def decorate(self) -> str:
         owner = self.draw.choice([1, 1, 1, 2, 2, 3, *ODD_NUMBERS[:-1]]) if self.chance(0.2) else self.draw.randint(1, 2)

@@ -460,6 +460,16 @@ class Answers(Case):
         self.assertEqual(document.answer(b'{"cmd":"open","text":"\\ud83d\\ude00"}'), b"ok 1 2 1\n")
         self.assertEqual(str(document), SMILE)
 
+    def test_marks(self):
+        document = self.document("")
+        line = b'{"cmd":"open","text":"f(\\")\\") // )","marks":{"line":"//","quotes":["\\""]}}'
+        self.assertEqual(document.answer(line), b"ok 1 11 1\n")
+        self.assertEqual([it.column for it in document.brackets(1, 1)], [2, 6])
+        document.edit(0, 0, "//")
+        self.assertEqual((document.brackets(1, 1), document.level(1, 9)), ([], 0))
+        document.undo()
+        self.assertEqual(document.match(1, 2), (1, 6, 1))
+
     def test_what_is_no_command(self):
         document = self.document("a")
         for line in ("", " ", b"\t\r"):
@@ -570,8 +580,8 @@ class Caller:
     def moved(self, was_there):
         return self.sizes() if was_there else " none"
 
-    def open(self, text, pairs, kind):
-        if pairs:
+    def open(self, text, pairs, hiding, kind):
+        if pairs or hiding is not None:
             return None
         self.document.close()
         self.document = Document(text, kind)

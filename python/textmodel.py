@@ -420,7 +420,8 @@ class Document:
 
     `eol` is None where the line endings are as they come: LF, CR, and CR LF. `"lf"` and `"crlf"` are kinds of document whose
     text, and all that is put into it, gets these endings. `brackets` are 1 to 64 pairs of an opening and a closing text, each of 1
-    to 32 units without CR or LF, all of them distinct; ValueError where they are not so. None are `()`, `[]` and `{}`.
+    to 32 units without CR or LF, all of them distinct; ValueError where they are not so. None are `()`, `[]` and `{}`. No call takes
+    marks of comments and strings, in which brackets are text: `answer` does, with the line of an `open`.
 
     A `str` may have lone surrogates; `bytes` are UTF-8, and EncodingError tells where they are none. LimitError, where the
     text would have 2**40 units or more.

@@ -22,6 +22,7 @@ MOST_NUMBER = 2**64 - 1
 MOST_NESTING = 127
 MOST_PAIRS = 64
 MOST_BRACKET_UNITS = 32
+MOST_QUOTES = 8
 KINDS = ("lf", "crlf")
 USAGE, UNREADABLE = 2, 4
 SHOWN = 40
@@ -353,19 +354,65 @@ def new_decoration(node: Node, name: str) -> None:
     NEW_DECORATION.check(node, name)
 
 
-def pair(node: Node, name: str) -> None:
-    if node.kind != "array" or len(node.value) != 2:
-        raise Fault(node.at, f"{name} is no array of two texts, an opening and a closing one")
-    check_items(node, name, bracket)
+def pair_of(check: Check) -> Check:
+    """An array of two such texts."""
+    def check_pair(node: Node, name: str) -> None:
+        if node.kind != "array" or len(node.value) != 2:
+            raise Fault(node.at, f"{name} is no array of two texts, an opening and a closing one")
+        check_items(node, name, check)
+
+    return check_pair
 
 
-def bracket(node: Node, name: str) -> None:
+def units_of(node: Node) -> int:
+    return len(node.value.encode("utf-16-le")) // 2
+
+
+def in_line(called: str) -> Check:
+    """A text that may stand in a line: a bracket, or a mark of comments."""
+    def check(node: Node, name: str) -> None:
+        text(node, name)
+        if not 1 <= (units := units_of(node)) <= MOST_BRACKET_UNITS:
+            raise Fault(node.at, f"{name} has {units} units, and a {called} has 1 to {MOST_BRACKET_UNITS}")
+        if "\r" in node.value or "\n" in node.value:
+            raise Fault(node.at, f"{name} has a CR or LF, and no {called} has")
+
+    return check
+
+
+bracket, mark = in_line("bracket"), in_line("mark")
+
+
+def quote(node: Node, name: str) -> None:
     text(node, name)
-    units = len(node.value.encode("utf-16-le")) // 2
-    if not 1 <= units <= MOST_BRACKET_UNITS:
-        raise Fault(node.at, f"{name} has {units} units, and a bracket has 1 to {MOST_BRACKET_UNITS}")
-    if "\r" in node.value or "\n" in node.value:
-        raise Fault(node.at, f"{name} has a CR or LF, and no bracket has")
+    if (units := units_of(node)) != 1:
+        raise Fault(node.at, f"{name} has {units} units, and a quote has 1")
+    if node.value in "\r\n\\":
+        raise Fault(node.at, f"{name} is a CR, an LF or a backslash, and no quote is")
+
+
+def check_differ(nodes: Iterable[Node], name: str) -> None:
+    found = set()
+    for node in nodes:
+        if node.value in found:
+            raise Fault(node.at, f"{name} has the text `{shown(node.value)}` twice")
+        found.add(node.value)
+
+
+def quotes(node: Node, name: str) -> None:
+    list_of(quote, "an array of quotes")(node, name)
+    if len(node.value) > MOST_QUOTES:
+        raise Fault(node.at, f"{name} has {len(node.value)} quotes, and at most {MOST_QUOTES} are wanted")
+    check_differ(node.value, name)
+
+
+MARKS = fields({"line": mark, "block": pair_of(mark), "quotes": quotes})
+
+
+def marks(node: Node, name: str) -> None:
+    if node.kind != "object":
+        wrong(node, name, "an object")
+    MARKS.check(node, name)
 
 
 def kind(node: Node, name: str) -> None:
@@ -378,18 +425,14 @@ def kind(node: Node, name: str) -> None:
 
 
 def pairs(node: Node, name: str) -> None:
-    list_of(pair, "an array of pairs")(node, name)
+    list_of(pair_of(bracket), "an array of pairs")(node, name)
     if not 1 <= len(node.value) <= MOST_PAIRS:
         raise Fault(node.at, f"{name} has {len(node.value)} pairs, and 1 to {MOST_PAIRS} are wanted")
-    found = set()
-    for each in (half for both in node.value for half in both.value):
-        if each.value in found:
-            raise Fault(each.at, f"{name} has the text `{shown(each.value)}` twice")
-        found.add(each.value)
+    check_differ((half for both in node.value for half in both.value), name)
 
 
 COMMANDS: dict[str, Fields] = {
-    "open": fields({"brackets": pairs, "eol": kind}, text=text),
+    "open": fields({"brackets": pairs, "marks": marks, "eol": kind}, text=text),
     "edit": fields(ops=list_of(op, "an array of one op or more", least=1)),
     "undo": fields(),
     "redo": fields(),

@@ -7,4 +7,6 @@ mod starts;
 mod table;
 
 pub use bracket_rules::Token;
+pub use hiding_marks::{Hiding, HidingError};
+pub use hiding_rules::LineState;
 pub use table::{BracketTable, TableError};

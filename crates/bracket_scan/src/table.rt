@@ -4,6 +4,8 @@ ghost use Rattle.bracket_rules.specs.Table.{is_table, standard_table, longest, t
 ghost use Rattle.bracket_scan.specs.Starts.{IsWithin};
 ghost use Rattle.bracket_scan.specs.Texts.{Dispatches};
 
+mod hidden;
+
 use crate::rules::is_table;
 use crate::starts::{BUCKETS, Start, longest_among, starts_in};
 use bracket_rules::Token;

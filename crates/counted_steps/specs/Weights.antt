@@ -2,7 +2,7 @@
 use Rattle.std.proofs.Common.{ℕ, suc, ◌+◌, ◌*◌, ◌<◌, ◌≤◌, ◌^◌, List, [], ◌∷◌, length, sum, arith}
 use Rattle.std.specs.Prelude.{All}
 use Rattle.std.proofs.lemmas.List.Sums.{sum_by-cons}
-use Rattle.node_reuse.specs.Texts.{text_weights}
+use Rattle.line_states.specs.Lines.{text_weights}
 
 abbrev AreShort : List (List ℕ) → Type 0
 AreShort lines = All (λ (line : List ℕ). length line < 2 ^ 16) lines

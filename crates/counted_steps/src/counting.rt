@@ -6,7 +6,7 @@ use std::sync::ledger::Ledger;
 use steps::Steps;
 use text_lengths::Length;
 
-/// What a reader sees of an old text, and how often it asked.
+/// What a reader sees of an old text, and how often it asked for what stands there.
 #[derive(Drop)]
 pub(crate) struct Counting<'c, O> {
     pub old: O,
@@ -25,6 +25,10 @@ impl<O: Old> Old for Counting<'_, O> {
     ) -> Option<NodeRef<'_>> {
         *self.calls = self.calls.saturating_add(1);
         self.old.longest_at(place, opened, level, steps)
+    }
+
+    fn is_kept(&mut self, line: u64) -> bool {
+        self.old.is_kept(line)
     }
 
     fn token_at<L: Ledger>(&mut self, place: Length, steps: &mut Steps<L>) -> Option<Token> {

@@ -1,7 +1,9 @@
 //! How often a reparse asks the old text.
 
-ghost use Rattle.std.specs.Prelude.{◌≡◌, ◌+◌, ◌*◌, ◌<◌, ◌≤◌, IfOk, IfSome, IfNone};
-ghost use Rattle.bracket_rules.specs.Rows.{text_rows};
+ghost use Rattle.std.specs.Prelude.{◌≡◌, ◌+◌, ◌*◌, ◌<◌, ◌≤◌, length, IfOk, OnOk, IfSome, IfNone};
+ghost use Rattle.hiding_rules.specs.Hidden.{plain_scanner};
+ghost use Rattle.hiding_rules.specs.Rows.{hidden_rows};
+ghost use Rattle.mark_rules.specs.Marks.{clean_marks};
 ghost use Rattle.bracket_tree_rules.specs.Told.{IsTreeOf};
 ghost use Rattle.bracket_tree_rules.specs.Tree.{nesting, highest};
 ghost use Rattle.node_reuse.specs.Paying.{most_steps};
@@ -14,8 +16,8 @@ use crate::shapes::{Shape, line_of};
 use crate::text_lines::TextLines;
 use bracket_nodes::Node;
 use bracket_rules::MOST_OPEN;
-use bracket_scan::BracketTable;
-use line_hunks::Hunks;
+use bracket_scan::{BracketTable, Hiding};
+use line_states::States;
 use node_reuse::{OldReader, Parsed, reparse};
 use std::alloc::{AllocError, Global};
 use std::marker::Brand;
@@ -81,7 +83,7 @@ pub(crate) fn measure(
     measure_in::<Brand>(alloc, text, line, Blank::new(1))
 }
 
-#[tactic(auto, using(crate::proofs::Edits::edit_laws))]
+#[tactic(auto, using(crate::proofs::Edits::laws))]
 fn measure_in<L: Ledger>(
     alloc: Global,
     mut text: TextLines,
@@ -94,50 +96,54 @@ fn measure_in<L: Ledger>(
     let mut steps = Steps::<L>::new(blank);
     let mut tokens = Vec::new(alloc);
     table.scan(line.as_slice(), &mut tokens)?;
-    let parsed = first_parse(alloc, &table, &mut text, &mut steps)?;
+    let (parsed, mut states) = first_parse(alloc, &table, &mut text, &mut steps)?;
     // It tells that the tree meets the rules of nodes.
     let _length = parsed.tree().length();
-    let hunks = edit_middle(alloc, &mut text, line)?;
+    edit_middle(&mut text, &mut states, line)?;
+    let settled = states.in_code();
     let mut calls = 0;
     let old = Counting {
-        old: OldReader::new(alloc, Some(parsed.tree()), &hunks),
+        old: OldReader::new(alloc, Some(parsed.tree()), &settled),
         calls: &mut calls,
     };
-    reparse(alloc, old, &hunks, &table, &mut text, &mut steps)?;
+    let hiding = Hiding::none();
+    reparse(alloc, old, &settled, &table, &hiding, &mut text, &mut steps)?;
     Ok(Measured::new(parsed.tree(), tokens.len() as u64, calls))
 }
 
-/// The parse of a text that was not parsed before.
+/// The parse of a text that was not parsed before, and the states of its lines.
+#[tactic(auto, using(crate::proofs::Edits::laws))]
 fn first_parse<L: Ledger>(
     alloc: Global,
     table: &BracketTable,
     text: &mut TextLines,
     steps: &mut Steps<L>,
-) -> Result<Parsed, AllocError>
-    ensures tree { IfOk result (λ parsed.
-        IsTreeOf (text_rows table.now text.old.lines.items) parsed.tree) }
-    ensures tight { IfOk result (λ parsed. IsTight parsed.tree) }
+) -> Result<(Parsed, States), AllocError>
+    ensures tree { IfOk result (λ first.
+        IsTreeOf (hidden_rows (plain_scanner table.now) text.old.lines.items) first.0.tree) }
+    ensures tight { IfOk result (λ first. IsTight first.0.tree) }
+    ensures marks { IfOk result (λ first.
+        first.1.marks ≡ clean_marks (length text.old.lines.items)) }
     ensures lines { text.new.lines.items ≡ text.old.lines.items }
 {
-    let mut hunks = Hunks::new(alloc);
-    hunks.reserve(1)?;
-    hunks.edit(1, 1, text.count());
-    let old = OldReader::new(alloc, None, &hunks);
-    reparse(alloc, old, &hunks, table, text, steps)
+    let mut states = States::all_new(alloc, text.count());
+    let settled = states.in_code();
+    let old = OldReader::new(alloc, None, &settled);
+    let parsed = reparse(alloc, old, &settled, table, &Hiding::none(), text, steps)?;
+    let left = settled.into_states();
+    states.adopt(left);
+    Ok((parsed, states))
 }
 
 /// Puts the line in the middle of the text, which was parsed, and marks it.
 #[tactic(auto, using(crate::proofs::Edits::length_clean))]
-fn edit_middle(alloc: Global, text: &mut TextLines, line: Units) -> Result<Hunks, AllocError>
-    ensures { IfOk result (λ hunks.
-        IsMarkedEdit text.old.lines.items text.new.lines.items hunks.marks) }
+fn edit_middle(text: &mut TextLines, states: &mut States, line: Units) -> Result<(), AllocError>
+    requires { states.old.marks ≡ clean_marks (length text.old.lines.items) }
+    ensures { OnOk result
+        (IsMarkedEdit text.old.lines.items text.new.lines.items states.new.marks) }
 {
-    let count = text.count();
-    let middle = count / 2 + 1;
-    let mut hunks = Hunks::new(alloc);
-    hunks.reserve(1)?;
-    hunks.clean(count);
-    hunks.edit(middle, 1, 1);
-    text.put(middle, line)?;
-    Ok(hunks)
+    let middle = text.count() / 2 + 1;
+    states.reserve(1)?;
+    states.edit(middle, 1, 1);
+    text.put(middle, line)
 }

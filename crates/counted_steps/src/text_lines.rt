@@ -3,7 +3,7 @@
 ghost use Rattle.std.specs.Prelude.{◌≡◌, ◌+◌, ◌≤◌, ◌<◌, ◌^◌, ◌++◌, ◌∷◌, [], All, length, IfOk, OnOk};
 ghost use Rattle.reuse_rules.specs.Edits.{IsEdited};
 
-use node_reuse::Lines;
+use line_states::Lines;
 use std::alloc::{AllocError, Global};
 use steps::Trail;
 use unit_text::Units;

@@ -15,7 +15,7 @@ use Rattle.batch_rules.specs.Batches.{most_units, checked_batch, ops_in, applied
 use Rattle.batch_rules.proofs.Order.{All-sorted_ops}
 use Rattle.batch_rules.proofs.Pairs.{HasPairedText, IsPaired-applied}
 use Rattle.batch_rules.proofs.Standing.{accepted}
-use Rattle.bracket_rules.specs.Table.{Table}
+use Rattle.hiding_rules.specs.Hidden.{Scanner}
 use Rattle.decoration_rules.specs.Refusals.{DecoRefusal}
 use Rattle.decoration_rules.specs.declared.NewDeco.{NewDeco}
 use Rattle.decoration_rules.specs.Decorations.{Decorations, decorated}
@@ -156,9 +156,9 @@ accepted_move : (refused : Bool) (new f : FlatState) (e : FlatRefusal) → (if r
 accepted_move true new f e same h = absurd cc
 accepted_move false new f e same h = let is : new ≡ f = cc in subst IsPairedState is h
 
-pub opened_paired : (text : List ℕ) (table : Table) (kind : Kind) (f : FlatState) → flat_open text table kind ≡ Ok f → IsPaired text → IsPairedState f
-opened_paired text table kind f e h =
-    accepted_value (nat_lt most_units (length (normalized kind text))) (new_document (normalized kind text) table kind) f limit e
+pub opened_paired : (text : List ℕ) (scanner : Scanner) (kind : Kind) (f : FlatState) → flat_open text scanner kind ≡ Ok f → IsPaired text → IsPairedState f
+opened_paired text scanner kind f e h =
+    accepted_value (nat_lt most_units (length (normalized kind text))) (new_document (normalized kind text) scanner kind) f limit e
     (record { units = IsPaired-normalized kind text h; undo = All-nil IsPairedStep; redo = All-nil IsPairedStep; shelf = All-nil HasPairedRest })
 
 after_deed_paired : (f : FlatState) (deed : Deed) (text : FlatText) (d : Decorations) → IsPairedState f → IsPairedDeed deed → IsPaired text.units
@@ -237,10 +237,10 @@ moved_paired (Ok true) old new rule done by_rule h = by_rule new done
 moved_paired (Ok false) old new rule done by_rule h = subst IsPairedState (sym done.1) h
 moved_paired (Err e) old new rule done by_rule h = subst IsPairedState (sym done.0) h
 
-pub IsPairedState-open : (result : Result ⊤ ModelError) (old new : FlatState) (text : List ℕ) (table : Table) (kind : Kind) → Changes result old new (flat_open text table kind)
+pub IsPairedState-open : (result : Result ⊤ ModelError) (old new : FlatState) (text : List ℕ) (scanner : Scanner) (kind : Kind) → Changes result old new (flat_open text scanner kind)
     → IsPaired text → IsPairedState old → IsPairedState new
-IsPairedState-open result old new text table kind done text_paired =
-    changed_paired result old new (flat_open text table kind) done (λ f e. opened_paired text table kind f e text_paired)
+IsPairedState-open result old new text scanner kind done text_paired =
+    changed_paired result old new (flat_open text scanner kind) done (λ f e. opened_paired text scanner kind f e text_paired)
 
 pub IsPairedState-edit : (result : Result ⊤ ModelError) (old new : FlatState) (ops : List Op) → Changes result old new (flat_edit old ops)
     → All HasPairedText ops → IsPairedState old → IsPairedState new

@@ -10,10 +10,14 @@ use Rattle.text_rules.specs.Lines.{Line, lines_of, line_feed, carriage_return, b
 use Rattle.batch_rules.specs.Batches.{most_units}
 use Rattle.bracket_rules.specs.declared.Entry.{Entry}
 use Rattle.bracket_rules.specs.declared.Token.{Token}
-use Rattle.bracket_rules.specs.Table.{Table, is_table, tokens_of, AreInLine}
+use Rattle.bracket_rules.specs.Table.{is_table, AreInLine}
 use Rattle.bracket_rules.specs.Parse.{Bracket, Spot, Judged, Event, opens, too_deep, closes, unexpected, event, stack_after, judged_opening, spot_at, first_closer, Story, told, parse, bracket_story, entries_of, bracket_entries, is_between, entries_between, same_place, partner_at, bracket_partner}
-use Rattle.bracket_rules.specs.Rows.{next_line, brackets_at, placed, text_rows, text_brackets}
-use Rattle.bracket_rules.proofs.Tokens.{tokens_of-in_line}
+use Rattle.bracket_rules.specs.Rows.{next_line, brackets_at, placed}
+use Rattle.hiding_rules.specs.declared.LineState.{LineState}
+use Rattle.hiding_rules.specs.Hidden.{Scanner, hidden_scan}
+use Rattle.hiding_rules.specs.States.{line_states}
+use Rattle.hiding_rules.specs.Rows.{lines_by, broken, hidden_brackets}
+use Rattle.hiding_rules.proofs.InLine.{hidden_tokens_in_line}
 use Rattle.document_rules.specs.Brackets.{line_contents, IsSmall}
 
 -- ---- contents of lines
@@ -161,37 +165,45 @@ module _ (P : Length → Type 0) where
         let last = start_within (t.at + t.len) columns ts in_line.3 in
         (within _ h (omega arith), Stand-brackets_at p (t.at + t.len) columns ts h e k in_line.3)
 
-    Stand-placed : (table : Table) (p : Length) (contents : List (List ℕ)) → is_table table ≡ true → p.columns ≡ 0
-        → p.lines + length contents ≤ suc most → AreShort most contents → Stand (placed p (text_rows table contents))
-    Stand-placed table p [] h e few short = tt
-    Stand-placed table p (x ∷ []) h e few short =
-        Stand-append (brackets_at p (tokens_of table x)) [] (Stand-brackets_at p 0 (length x) (tokens_of table x) (omega arith) e short.0 (tokens_of-in_line table x h)) tt
-    Stand-placed table p (x ∷ y ∷ contents) h e few short =
-        Stand-append (brackets_at p (tokens_of table x)) (placed (next_line p) (text_rows table (y ∷ contents)))
-        (Stand-brackets_at p 0 (length x) (tokens_of table x) (omega arith) e short.0 (tokens_of-in_line table x h))
-        (Stand-placed table (next_line p) (y ∷ contents) h refl (omega arith) short.1)
+    Stand-line : (by : Scanner) (state : LineState) (p : Length) (x : List ℕ) → is_table by.table ≡ true → p.lines ≤ most → p.columns ≡ 0 → length x ≤ most
+        → Stand (brackets_at p (hidden_scan by state x).tokens)
+    Stand-line by state p x h k e short =
+        Stand-brackets_at p 0 (length x) (hidden_scan by state x).tokens k e short (hidden_tokens_in_line by h state x)
+
+    Stand-placed : (by : Scanner) (states : List LineState) (p : Length) (contents : List (List ℕ)) → is_table by.table ≡ true → p.columns ≡ 0
+        → p.lines + length contents ≤ suc most → AreShort most contents → Stand (placed p (broken (lines_by by states contents)))
+    Stand-placed by [] p contents h e few short = tt
+    Stand-placed by (s ∷ states) p [] h e few short = tt
+    Stand-placed by (s ∷ []) p (x ∷ contents) h e few short =
+        Stand-append (brackets_at p (hidden_scan by s x).tokens) [] (Stand-line by s p x h (omega arith) e short.0) tt
+    Stand-placed by (s ∷ t ∷ states) p (x ∷ []) h e few short =
+        Stand-append (brackets_at p (hidden_scan by s x).tokens) [] (Stand-line by s p x h (omega arith) e short.0) tt
+    Stand-placed by (s ∷ t ∷ states) p (x ∷ y ∷ contents) h e few short =
+        Stand-append (brackets_at p (hidden_scan by s x).tokens) (placed (next_line p) (broken (lines_by by (t ∷ states) (y ∷ contents))))
+        (Stand-line by s p x h (omega arith) e short.0)
+        (Stand-placed by (t ∷ states) (next_line p) (y ∷ contents) h refl (omega arith) short.1)
 
 -- ---- the places of a text's brackets
 
 IsSmall-within : (units : ℕ) → units ≤ most_units → (place : Length) → place.lines ≤ units → place.columns ≤ units → IsSmall place
 IsSmall-within units h place lines columns = record { lines = omega arith; columns = omega arith }
 
-story_small : (table : Table) (x : List ℕ) → is_table table ≡ true → length x ≤ most_units → Tell IsSmall (bracket_story (text_brackets table (line_contents x)))
-story_small table x h k =
+story_small : (by : Scanner) (x : List ℕ) → is_table by.table ≡ true → length x ≤ most_units → Tell IsSmall (bracket_story (hidden_brackets by (line_contents x)))
+story_small by x h k =
     let few = lines_few x in
     let count : length (lines_of x) ≤ suc (length x) = few.count in
     let contents : no_length.lines + length (line_contents x) ≤ suc (length x) = omega (arith, length-map (lines_of x) (λ line. line.content)) in
-    let brackets = Stand-placed IsSmall (length x) (IsSmall-within (length x) k) table no_length (line_contents x) h refl contents few.short in
-    (Keeps-parse IsSmall [] (text_brackets table (line_contents x)) tt brackets).entries
+    let brackets = Stand-placed IsSmall (length x) (IsSmall-within (length x) k) by (line_states by (line_contents x)) no_length (line_contents x) h refl contents few.short in
+    (Keeps-parse IsSmall [] (hidden_brackets by (line_contents x)) tt brackets).entries
 
-pub entries_small : (table : Table) (x : List ℕ) → is_table table ≡ true → length x ≤ most_units → (from to : ℕ)
-    → All (λ (e : Entry). IsSmall e.place) (entries_between from to (bracket_entries (text_brackets table (line_contents x))))
-entries_small table x h k from to =
-    let brackets : List Bracket = text_brackets table (line_contents x) in
+pub entries_small : (by : Scanner) (x : List ℕ) → is_table by.table ≡ true → length x ≤ most_units → (from to : ℕ)
+    → All (λ (e : Entry). IsSmall e.place) (entries_between from to (bracket_entries (hidden_brackets by (line_contents x))))
+entries_small by x h k from to =
+    let brackets : List Bracket = hidden_brackets by (line_contents x) in
     All-filter (is_between from to) (λ (e : Entry). IsSmall e.place) (bracket_entries brackets)
-    (All-entries_of IsSmall (bracket_story brackets) (story_small table x h k))
+    (All-entries_of IsSmall (bracket_story brackets) (story_small by x h k))
 
-pub partner_small : (table : Table) (x : List ℕ) → is_table table ≡ true → length x ≤ most_units → (p : Length) (s : Spot)
-    → bracket_partner (text_brackets table (line_contents x)) p ≡ Some s → IsSmall s.place
-partner_small table x h k p s e =
-    subst (Holds IsSmall) e (Holds-partner_at IsSmall p (bracket_story (text_brackets table (line_contents x))) (story_small table x h k))
+pub partner_small : (by : Scanner) (x : List ℕ) → is_table by.table ≡ true → length x ≤ most_units → (p : Length) (s : Spot)
+    → bracket_partner (hidden_brackets by (line_contents x)) p ≡ Some s → IsSmall s.place
+partner_small by x h k p s e =
+    subst (Holds IsSmall) e (Holds-partner_at IsSmall p (bracket_story (hidden_brackets by (line_contents x))) (story_small by x h k))

@@ -6,7 +6,7 @@ use Rattle.text_rules.specs.Lines.{lines_of}
 use Rattle.text_rules.specs.Positions.{is_position}
 use Rattle.bracket_rules.specs.declared.Entry.{Entry}
 use Rattle.bracket_rules.specs.Parse.{Bracket, bracket_entries, entries_between, bracket_partner, bracket_level}
-use Rattle.bracket_rules.specs.Rows.{text_brackets}
+use Rattle.hiding_rules.specs.Rows.{hidden_brackets}
 use Rattle.document_rules.specs.Refusals.{FlatRefusal, range}
 use Rattle.document_rules.specs.Document.{FlatState, flat_line_count}
 
@@ -14,9 +14,9 @@ use Rattle.document_rules.specs.Document.{FlatState, flat_line_count}
 abbrev pub line_contents : List ℕ → List (List ℕ)
 line_contents x = map (λ line. line.content) (lines_of x)
 
--- all brackets of the text, in its order
+-- all brackets of the text that no comment and no string hides, in its order
 abbrev pub brackets_of : FlatState → List Bracket
-brackets_of f = text_brackets f.table (line_contents f.units)
+brackets_of f = hidden_brackets f.scanner (line_contents f.units)
 
 -- a place whose numbers are so small that one may be added to them
 pub record IsSmall (place : Length) : Type 0 where

@@ -15,7 +15,7 @@ use Rattle.batch_rules.specs.Refusals.{BatchRefusal}
 use Rattle.batch_rules.specs.Refusals as refused
 use Rattle.batch_rules.specs.Batches.{most_units, checked_batch, applied_from, inverse_from}
 use Rattle.batch_rules.specs.Events.{EventState, whole_op}
-use Rattle.bracket_rules.specs.Table.{Table, standard_table}
+use Rattle.hiding_rules.specs.Hidden.{Scanner, standard_scanner}
 use Rattle.decoration_rules.specs.declared.Edit.{Edit}
 use Rattle.decoration_rules.specs.declared.NewDeco.{NewDeco}
 use Rattle.decoration_rules.specs.declared.Deco.{Deco}
@@ -66,7 +66,7 @@ pub record FlatState : Type 0 where
   pub alternative : ℕ
   pub decorations : Decorations
   -- which texts are brackets
-  pub table : Table
+  pub scanner : Scanner
   -- what can be undone and redone
   pub history : Stack FlatChange
   -- the texts of earlier moments that are read from their fronts
@@ -75,14 +75,14 @@ pub record FlatState : Type 0 where
   pub last : Option LastChange
 
 -- a new document with this text, these brackets and this kind of line ending
-abbrev pub new_document : List ℕ → Table → Kind → FlatState
-new_document units table kind = record {
+abbrev pub new_document : List ℕ → Scanner → Kind → FlatState
+new_document units scanner kind = record {
   units = units;
   kind = kind;
   version = 1;
   alternative = 1;
   decorations = no_decorations;
-  table = table;
+  scanner = scanner;
   history = empty_stack;
   shelf = empty_shelf;
   last = None;
@@ -90,14 +90,14 @@ new_document units table kind = record {
 
 -- the document before any text was opened
 abbrev pub empty_document : FlatState
-empty_document = new_document [] standard_table Mixed
+empty_document = new_document [] standard_scanner Mixed
 
-abbrev pub unless_too_long : List ℕ → Table → Kind → Result FlatState FlatRefusal
-unless_too_long units table kind = if nat_lt most_units (length units) then Err limit else Ok (new_document units table kind)
+abbrev pub unless_too_long : List ℕ → Scanner → Kind → Result FlatState FlatRefusal
+unless_too_long units scanner kind = if nat_lt most_units (length units) then Err limit else Ok (new_document units scanner kind)
 
 -- a new document, whose text gets the line endings of its kind
-abbrev pub flat_open : List ℕ → Table → Kind → Result FlatState FlatRefusal
-flat_open text table kind = unless_too_long (normalized kind text) table kind
+abbrev pub flat_open : List ℕ → Scanner → Kind → Result FlatState FlatRefusal
+flat_open text scanner kind = unless_too_long (normalized kind text) scanner kind
 
 abbrev pub text_now : FlatState → FlatText
 text_now f = record { units = f.units; kind = f.kind }

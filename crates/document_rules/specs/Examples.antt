@@ -5,7 +5,7 @@ use Rattle.text_rules.specs.declared.Op.{Op}
 use Rattle.decoration_rules.specs.declared.Deco.{Deco}
 use Rattle.decoration_rules.specs.declared.Mark.{Mark}
 use Rattle.decoration_rules.specs.declared.Sticky.TheVariants.{AlwaysGrows}
-use Rattle.bracket_rules.specs.Table.{standard_table}
+use Rattle.hiding_rules.specs.Hidden.{standard_scanner}
 use Rattle.bracket_rules.specs.declared.Entry.{Entry}
 use Rattle.bracket_rules.specs.declared.Status.{Status}
 use Rattle.bracket_rules.specs.declared.Status.TheVariants.{PairedOpening, PairedClosing, Unclosed, Unexpected}
@@ -25,14 +25,14 @@ mixed units = record { units = units; kind = Mixed }
 
 -- a text of these two versions, to which these batches led from another, with what can be undone and redone
 abbrev at_version : ℕ → ℕ → List ℕ → List (List Op) → List ℕ → Stack FlatChange → FlatState
-at_version version alternative before batches text history = record (new_document text standard_table Mixed) {
+at_version version alternative before batches text history = record (new_document text standard_scanner Mixed) {
   version = version;
   alternative = alternative;
   history = history;
   last = Some (record { before = before; batches = batches });
 }
 
-an_edit_over_a_break : flat_edit (new_document (codes "ab\ncd") standard_table Mixed) (op 1 4 (codes "X") ∷ [])
+an_edit_over_a_break : flat_edit (new_document (codes "ab\ncd") standard_scanner Mixed) (op 1 4 (codes "X") ∷ [])
     ≡ Ok (at_version 2 2 (codes "ab\ncd") ((op 1 4 (codes "X") ∷ []) ∷ []) (codes "aXd") (record {
       undo = record {
         changes = record { before = mixed (codes "ab\ncd"); deed = batch (op 1 4 (codes "X") ∷ []); after = mixed (codes "aXd") } ∷ [];
@@ -44,20 +44,20 @@ an_edit_over_a_break : flat_edit (new_document (codes "ab\ncd") standard_table M
     }))
 an_edit_over_a_break = refl
 
-an_edit_past_the_end : flat_edit (new_document (codes "ab") standard_table Mixed) (op 1 3 (codes "X") ∷ []) ≡ Err range
+an_edit_past_the_end : flat_edit (new_document (codes "ab") standard_scanner Mixed) (op 1 3 (codes "X") ∷ []) ≡ Err range
 an_edit_past_the_end = refl
 
-two_edits_that_overlap : flat_edit (new_document (codes "abcde") standard_table Mixed) (op 1 4 [] ∷ op 3 3 [] ∷ []) ≡ Err overlap
+two_edits_that_overlap : flat_edit (new_document (codes "abcde") standard_scanner Mixed) (op 1 4 [] ∷ op 3 3 [] ∷ []) ≡ Err overlap
 two_edits_that_overlap = refl
 
-an_edit_at_the_last_version : flat_edit (record (new_document (codes "ab") standard_table Mixed) { version = greatest_version })
+an_edit_at_the_last_version : flat_edit (record (new_document (codes "ab") standard_scanner Mixed) { version = greatest_version })
     (op 1 2 (codes "X") ∷ [])
     ≡ Err limit
 an_edit_at_the_last_version = refl
 
 -- "a", after an edit has put "b" behind it
 abbrev one_edit : FlatState
-one_edit = after_batch (new_document (codes "a") standard_table Mixed) (op 1 1 (codes "b") ∷ [])
+one_edit = after_batch (new_document (codes "a") standard_scanner Mixed) (op 1 1 (codes "b") ∷ [])
 
 -- ... and an undo has taken it back
 abbrev undone_edit : FlatState
@@ -82,7 +82,7 @@ an_undo_takes_back_the_whole_step : flat_undo two_edits
     (record { undo = []; redo = two_edits.history.undo; is_open = false })))
 an_undo_takes_back_the_whole_step = refl
 
-a_new_document_has_no_event : flat_event (new_document (codes "a") standard_table Mixed) ≡ None
+a_new_document_has_no_event : flat_event (new_document (codes "a") standard_scanner Mixed) ≡ None
 a_new_document_has_no_event = refl
 
 -- the second edit alone, from the version before it
@@ -102,9 +102,9 @@ mark_at start end =
 
 -- "ab" with a decoration at its one inner place
 abbrev decorated_text : FlatState
-decorated_text = record (new_document (codes "ab") standard_table Mixed) { decorations = record { marks = mark_at 1 1 ∷ []; next_id = 2 } }
+decorated_text = record (new_document (codes "ab") standard_scanner Mixed) { decorations = record { marks = mark_at 1 1 ∷ []; next_id = 2 } }
 
-a_decoration_of_one_place : flat_decorate (new_document (codes "ab") standard_table Mixed) 1 []
+a_decoration_of_one_place : flat_decorate (new_document (codes "ab") standard_scanner Mixed) 1 []
     (record { span = record { start = 1; end = 1 }; stick = 0; collapse = false } ∷ [])
     ≡ Ok decorated_text
 a_decoration_of_one_place = refl
@@ -153,55 +153,55 @@ a_redo_forces_nothing : carried_on decorated_text.decorations
     ≡ record { marks = mark_at 1 2 ∷ []; next_id = 2 }
 a_redo_forces_nothing = refl
 
-nothing_to_undo : flat_undo (new_document (codes "ab") standard_table Mixed) ≡ Ok None
+nothing_to_undo : flat_undo (new_document (codes "ab") standard_scanner Mixed) ≡ Ok None
 nothing_to_undo = refl
 
-the_second_line : flat_line (new_document (codes "ab\ncd") standard_table Mixed) 2 ≡ Ok (codes "cd")
+the_second_line : flat_line (new_document (codes "ab\ncd") standard_scanner Mixed) 2 ≡ Ok (codes "cd")
 the_second_line = refl
 
-an_empty_text_has_a_line : flat_line_count (new_document (codes "") standard_table Mixed) ≡ 1
+an_empty_text_has_a_line : flat_line_count (new_document (codes "") standard_scanner Mixed) ≡ 1
 an_empty_text_has_a_line = refl
 
-units_of_a_span : flat_value (new_document (codes "abcd") standard_table Mixed) (record { start = 1; end = 3 }) ≡ Ok (codes "bc")
+units_of_a_span : flat_value (new_document (codes "abcd") standard_scanner Mixed) (record { start = 1; end = 3 }) ≡ Ok (codes "bc")
 units_of_a_span = refl
 
-a_span_past_the_end : flat_value (new_document (codes "abcd") standard_table Mixed) (record { start = 1; end = 5 }) ≡ Err range
+a_span_past_the_end : flat_value (new_document (codes "abcd") standard_scanner Mixed) (record { start = 1; end = 5 }) ≡ Err range
 a_span_past_the_end = refl
 
-position_inside_a_break : flat_position (new_document (codes "a\r\nb") standard_table Mixed) 2 ≡ Some (record { line = 1; column = 3 })
+position_inside_a_break : flat_position (new_document (codes "a\r\nb") standard_scanner Mixed) 2 ≡ Some (record { line = 1; column = 3 })
 position_inside_a_break = refl
 
-no_position_past_the_end : flat_position (new_document (codes "ab") standard_table Mixed) 3 ≡ None
+no_position_past_the_end : flat_position (new_document (codes "ab") standard_scanner Mixed) 3 ≡ None
 no_position_past_the_end = refl
 
-no_offset_inside_a_break : flat_offset (new_document (codes "a\r\nb") standard_table Mixed) (record { line = 1; column = 3 }) ≡ None
+no_offset_inside_a_break : flat_offset (new_document (codes "a\r\nb") standard_scanner Mixed) (record { line = 1; column = 3 }) ≡ None
 no_offset_inside_a_break = refl
 
 abbrev entry : ℕ → ℕ → Status → ℕ → Entry
 entry column kind status level =
     record { place = record { lines = 0; columns = column }; len = 1; kind = kind; status = status; level = level }
 
-brackets_of_one_line : flat_brackets (new_document (codes "([)]{") standard_table Mixed) 1 1
+brackets_of_one_line : flat_brackets (new_document (codes "([)]{") standard_scanner Mixed) 1 1
     ≡ Ok (entry 0 0 PairedOpening 0 ∷ entry 1 1 Unclosed 1 ∷ entry 2 0 PairedClosing 0 ∷ entry 3 1 Unexpected 0 ∷ entry 4 2 Unclosed 0 ∷ [])
 brackets_of_one_line = refl
 
-no_second_line_of_brackets : flat_brackets (new_document (codes "()") standard_table Mixed) 1 2 ≡ Err range
+no_second_line_of_brackets : flat_brackets (new_document (codes "()") standard_scanner Mixed) 1 2 ≡ Err range
 no_second_line_of_brackets = refl
 
-the_partner_of_the_first : flat_match (new_document (codes "([)]{") standard_table Mixed) (record { line = 1; column = 1 })
+the_partner_of_the_first : flat_match (new_document (codes "([)]{") standard_scanner Mixed) (record { line = 1; column = 1 })
     ≡ Ok (Some (record { line = 1; column = 3 }, 1))
 the_partner_of_the_first = refl
 
-an_unclosed_one_has_no_partner : flat_match (new_document (codes "([)]{") standard_table Mixed) (record { line = 1; column = 2 }) ≡ Ok None
+an_unclosed_one_has_no_partner : flat_match (new_document (codes "([)]{") standard_scanner Mixed) (record { line = 1; column = 2 }) ≡ Ok None
 an_unclosed_one_has_no_partner = refl
 
-level_inside_two : flat_level (new_document (codes "([)]{") standard_table Mixed) (record { line = 1; column = 3 }) ≡ Ok 2
+level_inside_two : flat_level (new_document (codes "([)]{") standard_scanner Mixed) (record { line = 1; column = 3 }) ≡ Ok 2
 level_inside_two = refl
 
-level_after_a_pair : flat_level (new_document (codes "([)]{") standard_table Mixed) (record { line = 1; column = 4 }) ≡ Ok 0
+level_after_a_pair : flat_level (new_document (codes "([)]{") standard_scanner Mixed) (record { line = 1; column = 4 }) ≡ Ok 0
 level_after_a_pair = refl
 
-level_at_the_end : flat_level (new_document (codes "([)]{") standard_table Mixed) (record { line = 1; column = 6 }) ≡ Ok 1
+level_at_the_end : flat_level (new_document (codes "([)]{") standard_scanner Mixed) (record { line = 1; column = 6 }) ≡ Ok 1
 level_at_the_end = refl
 
 -- the one snapshot, of which this is left to read
@@ -210,9 +210,9 @@ one_snapshot rest = record { snapshots = record { id = 1; rest = rest } ∷ []; 
 
 -- `hi`, which was put on the shelf
 abbrev hi : FlatState
-hi = record (new_document (codes "hi") standard_table Mixed) { shelf = one_snapshot (codes "hi") }
+hi = record (new_document (codes "hi") standard_scanner Mixed) { shelf = one_snapshot (codes "hi") }
 
-a_snapshot_of_the_text_of_now : flat_snapshot (new_document (codes "hi") standard_table Mixed) ≡ Ok hi
+a_snapshot_of_the_text_of_now : flat_snapshot (new_document (codes "hi") standard_scanner Mixed) ≡ Ok hi
 a_snapshot_of_the_text_of_now = refl
 
 -- ... and then became `Xhi`
@@ -227,7 +227,7 @@ what_was_read_is_read_once = refl
 
 -- of `a` and two surrogates that are a pair, two units end inside it
 abbrev smile : FlatState
-smile = record (new_document [] standard_table Mixed) { shelf = one_snapshot (97 ∷ 0xD83D ∷ 0xDE00 ∷ []) }
+smile = record (new_document [] standard_scanner Mixed) { shelf = one_snapshot (97 ∷ 0xD83D ∷ 0xDE00 ∷ []) }
 
 a_unit_before_a_pair : EndsBesidePairs smile 1 1
 a_unit_before_a_pair = refl
@@ -242,20 +242,20 @@ a_read_of_one_unit : flat_peek_of hi 1 1 ≡ Err range
 a_read_of_one_unit = refl
 
 a_snapshot_is_closed : flat_close_of hi 1
-    ≡ Ok (record (new_document (codes "hi") standard_table Mixed) { shelf = record { snapshots = []; next_id = 2 } })
+    ≡ Ok (record (new_document (codes "hi") standard_scanner Mixed) { shelf = record { snapshots = []; next_id = 2 } })
 a_snapshot_is_closed = refl
 
-no_snapshot_to_close : flat_close_of (new_document (codes "hi") standard_table Mixed) 1 ≡ Err unknown
+no_snapshot_to_close : flat_close_of (new_document (codes "hi") standard_scanner Mixed) 1 ≡ Err unknown
 no_snapshot_to_close = refl
 
-no_stops_past_the_last_line : flat_stops (new_document (codes "hi") standard_table Mixed) 2 ≡ Err range
+no_stops_past_the_last_line : flat_stops (new_document (codes "hi") standard_scanner Mixed) 2 ≡ Err range
 no_stops_past_the_last_line = refl
 
 -- `a\r\nb\rc`, which is opened with LF, and a decoration at its second line
 abbrev three_lines : FlatState
-three_lines = record (new_document (codes "a\nb\nc") standard_table Lf) { decorations = record { marks = mark_at 2 3 ∷ []; next_id = 2 } }
+three_lines = record (new_document (codes "a\nb\nc") standard_scanner Lf) { decorations = record { marks = mark_at 2 3 ∷ []; next_id = 2 } }
 
-a_text_gets_its_endings : flat_open (codes "a\r\nb\rc") standard_table Lf ≡ Ok (new_document (codes "a\nb\nc") standard_table Lf)
+a_text_gets_its_endings : flat_open (codes "a\r\nb\rc") standard_scanner Lf ≡ Ok (new_document (codes "a\nb\nc") standard_scanner Lf)
 a_text_gets_its_endings = refl
 
 -- ... and then with CR LF
@@ -300,7 +300,7 @@ endings_are_taken_back = refl
 -- a decoration inside a CR LF goes to the end of its line
 abbrev inside_a_pair : FlatState
 inside_a_pair =
-    record (new_document (codes "a\r\nb") standard_table Mixed) { decorations = record { marks = mark_at 2 2 ∷ []; next_id = 2 } }
+    record (new_document (codes "a\r\nb") standard_scanner Mixed) { decorations = record { marks = mark_at 2 2 ∷ []; next_id = 2 } }
 
 it_goes_to_the_end_of_its_line : stands_back_at (flat_eol inside_a_pair Lf) ≡ Some (deco 1 1)
 it_goes_to_the_end_of_its_line = refl

@@ -2,7 +2,7 @@
 
 ghost use Rattle.std.specs.Prelude.{◌≡◌, ◌↔◌, ◌<◌, ◌≤◌, true, false, IfSome, IfOk};
 ghost use Rattle.bracket_rules.specs.declared.TheConstants.{MOST_BRACKET_UNITS};
-ghost use Rattle.hiding_rules.specs.Marks.{marks, no_marks, are_marks};
+ghost use Rattle.hiding_rules.specs.Marks.{marks, no_marks, has_block, is_none, are_marks};
 ghost use Rattle.hiding_rules.specs.declared.Within.TheVariants.{Comment};
 ghost use Rattle.hiding_rules.specs.Hidden.{code, block, block_opening, block_closing, marked, hidden_in_code, hidden_in_block, hidden};
 
@@ -74,6 +74,20 @@ impl Hiding {
             block,
             quotes: kept,
         })
+    }
+
+    /// Whether there are no marks.
+    pub fn is_none(&self) -> bool
+        ensures { result ≡ is_none self.now }
+    {
+        self.line.is_none() && self.block.is_none() && self.quotes.is_empty()
+    }
+
+    /// Whether there are marks of a block comment. Where there are none, each line begins in code.
+    pub fn has_block(&self) -> bool
+        ensures { result ≡ has_block self.now }
+    {
+        self.block.is_some()
     }
 
     /// The stretch at the front of these units that no bracket stands in, at a place within this.

@@ -3,14 +3,13 @@ use Rattle.std.proofs.Common.{◌≡◌, ℕ, zero, suc, ◌+◌, ◌-◌, ◌<�
 use Rattle.std.specs.Option.{option_to_list}
 use Rattle.bracket_rules.specs.declared.Token.{Token}
 use Rattle.bracket_rules.specs.declared.TheConstants.{MOST_PAIRS}
-use Rattle.bracket_rules.specs.Table.{Table, is_table, AreInLine}
+use Rattle.bracket_rules.specs.Table.{is_table, AreInLine}
 use Rattle.bracket_rules.proofs.Tokens.{IsThere, longest-there}
 use Rattle.hiding_rules.specs.declared.LineState.{LineState}
 use Rattle.hiding_rules.specs.declared.Within.{Within}
 use Rattle.hiding_rules.specs.declared.Within.TheVariants.{State}
 use Rattle.hiding_rules.specs.declared.Stretch.{Stretch}
-use Rattle.hiding_rules.specs.Marks.{Marks}
-use Rattle.hiding_rules.specs.Hidden.{hidden, Front, front_of, front, scanned_from, hidden_scan}
+use Rattle.hiding_rules.specs.Hidden.{Scanner, hidden, Front, front_of, front, scanned_from, hidden_scan}
 
 -- what stands at the front, if it is a token, is one at place `at` of at most so many units, and takes up its units
 abbrev Fits : ℕ → ℕ → Front → Type 0
@@ -21,7 +20,7 @@ front_fits at most (Some s) found there = tt
 front_fits at most None None there = tt
 front_fits at most None (Some t) there = (there, refl)
 
-module _ (m : Marks) (table : Table) (checked : is_table table ≡ true) where
+module _ (by : Scanner) (checked : is_table by.table ≡ true) where
   -- from each column on that what stands before does not take up
   abbrev StandFrom : ℕ → ℕ → ℕ → List Token → Type 0
   StandFrom at passed n tokens = (c : ℕ) → c ≤ at + passed → c ≤ n → AreInLine c n tokens
@@ -41,15 +40,15 @@ module _ (m : Marks) (table : Table) (checked : is_table table ≡ true) where
           (omega arith, some, found.0.kind, behind (t.at + t.len) (omega arith) (omega arith))
 
   scanned_stand : (at passed n : ℕ) (within : Within) (units : List ℕ) → length units + at ≡ n
-      → StandFrom at passed n (scanned_from m table at passed within units).tokens
+      → StandFrom at passed n (scanned_from by at passed within units).tokens
   scanned_stand at passed n within [] ends c here most = most
   scanned_stand at (suc passed) n within (u ∷ units) ends c here most =
       scanned_stand (suc at) passed n within units (omega arith) c (omega arith) most
   scanned_stand at zero n within (u ∷ units) ends c here most =
-      let f : Front = front m table at within (u ∷ units) in
-      let fits : Fits at (suc (length units)) f = front_fits at (suc (length units)) (hidden m within (u ∷ units)) _ (longest-there at table (u ∷ units) checked) in
+      let f : Front = front by at within (u ∷ units) in
+      let fits : Fits at (suc (length units)) f = front_fits at (suc (length units)) (hidden by.marks within (u ∷ units)) _ (longest-there at by.table (u ∷ units) checked) in
       let behind = scanned_stand (suc at) f.after_first n f.behind units (omega arith) in
       front_stands at n f (length units) _ (omega arith) fits behind c here most
 
-  pub hidden_tokens_in_line : (state : LineState) (line : List ℕ) → AreInLine 0 (length line) (hidden_scan m table state line).tokens
+  pub hidden_tokens_in_line : (state : LineState) (line : List ℕ) → AreInLine 0 (length line) (hidden_scan by state line).tokens
   hidden_tokens_in_line state line = scanned_stand 0 0 (length line) (State state) line (omega arith) 0 (omega arith) (omega arith)

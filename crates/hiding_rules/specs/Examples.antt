@@ -6,7 +6,7 @@ use Rattle.bracket_rules.specs.Parse.{bracket}
 use Rattle.hiding_rules.specs.declared.LineState.{LineState}
 use Rattle.hiding_rules.specs.declared.LineState.TheVariants.{Code, Block}
 use Rattle.hiding_rules.specs.Marks.{Marks, marks, no_marks, are_marks}
-use Rattle.hiding_rules.specs.Hidden.{Scanned, scanned, hidden_scan}
+use Rattle.hiding_rules.specs.Hidden.{Scanner, scanner, Scanned, scanned, hidden_scan}
 use Rattle.hiding_rules.specs.Rows.{hidden_brackets}
 use Rattle.hiding_rules.specs.States.{Known, line_states, scanned_lines}
 
@@ -14,8 +14,11 @@ use Rattle.hiding_rules.specs.States.{Known, line_states, scanned_lines}
 abbrev like_c : Marks
 like_c = marks (Some (codes "//")) (Some (codes "/*", codes "*/")) (codes "\"'")
 
+abbrev c_scanner : Scanner
+c_scanner = scanner standard_table like_c
+
 abbrev scan : LineState → List ℕ → Scanned
-scan state line = hidden_scan like_c standard_table state line
+scan state line = hidden_scan c_scanner state line
 
 a_line_comment : scan Code (codes "( // )") ≡ scanned (token 0 1 0 true ∷ []) Code
 a_line_comment = refl
@@ -45,7 +48,7 @@ no_line_comment_in_a_block : scan Block (codes "// */(") ≡ scanned (token 5 1 
 no_line_comment_in_a_block = refl
 
 states_of_four_lines :
-    line_states like_c standard_table (codes "/*" ∷ codes "(" ∷ codes "*/" ∷ codes "y" ∷ []) ≡ Code ∷ Block ∷ Block ∷ Code ∷ []
+    line_states c_scanner (codes "/*" ∷ codes "(" ∷ codes "*/" ∷ codes "y" ∷ []) ≡ Code ∷ Block ∷ Block ∷ Code ∷ []
 states_of_four_lines = refl
 
 -- `x` was there in place of `/*`, so all lines began and ended in code
@@ -58,12 +61,12 @@ lines_scanned_again = refl
 
 -- `( /* )` and `) */ )`; then without the opening mark
 brackets_around_a_comment :
-    hidden_brackets like_c standard_table (codes "( /* )" ∷ codes ") */ )" ∷ [])
+    hidden_brackets c_scanner (codes "( /* )" ∷ codes ") */ )" ∷ [])
     ≡ bracket no_length 1 0 true ∷ bracket (length_of 1 5) 1 0 false ∷ []
 brackets_around_a_comment = refl
 
 brackets_of_a_comment_that_is_none :
-    hidden_brackets like_c standard_table (codes "(  )" ∷ codes ") */ )" ∷ [])
+    hidden_brackets c_scanner (codes "(  )" ∷ codes ") */ )" ∷ [])
     ≡ bracket no_length 1 0 true ∷ bracket (length_of 0 3) 1 0 false ∷ bracket (length_of 1 0) 1 0 false
     ∷ bracket (length_of 1 5) 1 0 false ∷ []
 brackets_of_a_comment_that_is_none = refl

@@ -3,14 +3,14 @@ use Rattle.std.specs.Prelude.{ℕ, zero, suc, ◌-◌, ◌==◌, nat_eq, if◌th
 use Rattle.std.specs.List.{starts_with, list_any}
 use Rattle.std.specs.Option.{option_to_list, option_or}
 use Rattle.bracket_rules.specs.declared.Token.{Token}
-use Rattle.bracket_rules.specs.Table.{Table, longest, units_after_first}
+use Rattle.bracket_rules.specs.Table.{Table, longest, standard_table, units_after_first}
 use Rattle.hiding_rules.specs.declared.LineState.{LineState}
 use Rattle.hiding_rules.specs.declared.LineState.TheVariants.{Code, Block}
 use Rattle.hiding_rules.specs.declared.Within.{Within}
 use Rattle.hiding_rules.specs.declared.Within.TheVariants.{State, Comment, String}
 use Rattle.hiding_rules.specs.declared.Stretch.{Stretch}
 use Rattle.hiding_rules.specs.declared.TheConstants.{BACKSLASH}
-use Rattle.hiding_rules.specs.Marks.{Marks}
+use Rattle.hiding_rules.specs.Marks.{Marks, no_marks}
 
 abbrev pub code : Within
 code = State Code
@@ -74,6 +74,21 @@ hidden m (String opened) units = Some (hidden_in_string opened units)
 
 -- ---- a line
 
+-- what the lines of a text are scanned by: its brackets, and what hides them
+pub record Scanner : Type 0 where
+  pub table : Table
+  pub marks : Marks
+
+abbrev pub scanner : Table → Marks → Scanner
+scanner table marks = record { table = table; marks = marks }
+
+-- nothing is hidden
+abbrev pub plain_scanner : Table → Scanner
+plain_scanner table = scanner table no_marks
+
+abbrev pub standard_scanner : Scanner
+standard_scanner = plain_scanner standard_table
+
 -- the tokens of a line that no comment and no string hides, and the state in which it ends
 pub record Scanned : Type 0 where
   pub tokens : List Token
@@ -97,17 +112,17 @@ abbrev pub front_of : Option Stretch → Option Token → Front
 front_of (Some s) found = record { token = None; after_first = s.units - 1; behind = s.behind }
 front_of None found = record { token = found; after_first = units_after_first found; behind = code }
 
-abbrev pub front : Marks → Table → ℕ → Within → List ℕ → Front
-front m table at within units = front_of (hidden m within units) (longest at 0 table units)
+abbrev pub front : Scanner → ℕ → Within → List ℕ → Front
+front by at within units = front_of (hidden by.marks within units) (longest at 0 by.table units)
 
 -- of the units from place `at` on, the first `passed` of which belong to what stands before
-abbrev pub scanned_from : Marks → Table → ℕ → ℕ → Within → List ℕ → Scanned
-scanned_from m table at passed within [] = scanned [] (ending within)
-scanned_from m table at (suc passed) within (u ∷ units) = scanned_from m table (suc at) passed within units
-scanned_from m table at zero within (u ∷ units) =
-    let f = front m table at within (u ∷ units) in
-    after f.token (scanned_from m table (suc at) f.after_first f.behind units)
+abbrev pub scanned_from : Scanner → ℕ → ℕ → Within → List ℕ → Scanned
+scanned_from by at passed within [] = scanned [] (ending within)
+scanned_from by at (suc passed) within (u ∷ units) = scanned_from by (suc at) passed within units
+scanned_from by at zero within (u ∷ units) =
+    let f = front by at within (u ∷ units) in
+    after f.token (scanned_from by (suc at) f.after_first f.behind units)
 
 -- of a line that begins in this state
-abbrev pub hidden_scan : Marks → Table → LineState → List ℕ → Scanned
-hidden_scan m table state line = scanned_from m table 0 0 (State state) line
+abbrev pub hidden_scan : Scanner → LineState → List ℕ → Scanned
+hidden_scan by state line = scanned_from by 0 0 (State state) line

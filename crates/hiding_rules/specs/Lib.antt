@@ -1,5 +1,5 @@
 pub mod Marks
 pub mod Hidden
-pub mod Rows
 pub mod States
+pub mod Rows
 mod Examples

@@ -1,6 +1,6 @@
 -- What begins and ends comments and strings: the texts that a "language configuration" of Visual Studio Code names as its line
 -- comment and its block comment, and the units that are its quotes.
-use Rattle.std.specs.Prelude.{ℕ, Bool, true, not, ◌&&◌, ◌==◌, nat_le, List, [], ◌∷◌, length, Option, Some, None}
+use Rattle.std.specs.Prelude.{ℕ, Bool, true, not, ◌&&◌, ◌==◌, nat_le, List, [], ◌∷◌, length, Option, Some, None, is_some}
 use Rattle.std.specs.List.{list_all, list_any}
 use Rattle.std.specs.Char.Utf16.{is_high_surrogate, is_low_surrogate}
 use Rattle.bracket_rules.specs.Table.{is_bracket_text, is_in_line}
@@ -19,6 +19,14 @@ marks line block quotes = record { line = line; block = block; quotes = quotes }
 
 abbrev pub no_marks : Marks
 no_marks = marks None None []
+
+-- a comment may begin in one line and end in another
+abbrev pub has_block : Marks → Bool
+has_block m = is_some m.block
+
+-- nothing begins a comment or a string
+abbrev pub is_none : Marks → Bool
+is_none m = not (is_some m.line) && not (has_block m) && length m.quotes == 0
 
 -- ---- which marks there may be
 

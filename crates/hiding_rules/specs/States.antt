@@ -1,23 +1,21 @@
 -- The states in which the lines of a text begin, and which lines are scanned again where a part of them is known.
 use Rattle.std.specs.Prelude.{◌≡◌, ℕ, suc, Bool, true, false, not, if◌then◌else◌, List, [], ◌∷◌, map, Option, Some, None, IfSome, ⊤}
-use Rattle.bracket_rules.specs.Table.{Table}
 use Rattle.hiding_rules.specs.declared.LineState.{LineState}
 use Rattle.hiding_rules.specs.declared.LineState.TheVariants.{Code, Block}
-use Rattle.hiding_rules.specs.Marks.{Marks}
-use Rattle.hiding_rules.specs.Hidden.{hidden_scan}
+use Rattle.hiding_rules.specs.Hidden.{Scanner, hidden_scan}
 
-abbrev pub states_from : Marks → Table → LineState → List (List ℕ) → List LineState
-states_from m table state [] = []
-states_from m table state (x ∷ lines) = state ∷ states_from m table (hidden_scan m table state x).state lines
+abbrev pub states_from : Scanner → LineState → List (List ℕ) → List LineState
+states_from by state [] = []
+states_from by state (x ∷ lines) = state ∷ states_from by (hidden_scan by state x).state lines
 
 -- each line begins as the line before it ended, and the first one in code
-abbrev pub line_states : Marks → Table → List (List ℕ) → List LineState
-line_states m table lines = states_from m table Code lines
+abbrev pub line_states : Scanner → List (List ℕ) → List LineState
+line_states by lines = states_from by Code lines
 
 -- the state behind some lines, the first of which begins in this one
-abbrev pub state_behind : Marks → Table → LineState → List (List ℕ) → LineState
-state_behind m table state [] = state
-state_behind m table state (x ∷ lines) = state_behind m table (hidden_scan m table state x).state lines
+abbrev pub state_behind : Scanner → LineState → List (List ℕ) → LineState
+state_behind by state [] = state
+state_behind by state (x ∷ lines) = state_behind by (hidden_scan by state x).state lines
 
 -- ---- lines of which some were scanned before
 
@@ -51,22 +49,22 @@ scanned_lines n (k ∷ known) [] = []
 scanned_lines n (k ∷ known) (s ∷ states) = numbered_if (is_scanned k s) n (scanned_lines (suc n) known states)
 
 -- each known line leads from the state in which it began to the one in which it ended
-abbrev pub Lead : Marks → Table → List (Option Known) → List (List ℕ) → Type 0
-Lead m table [] lines = ⊤
-Lead m table (k ∷ known) [] = ⊤
-Lead m table (k ∷ known) (x ∷ lines) = IfSome k (λ l. (hidden_scan m table l.begins x).state ≡ l.ends) × Lead m table known lines
+abbrev pub Lead : Scanner → List (Option Known) → List (List ℕ) → Type 0
+Lead by [] lines = ⊤
+Lead by (k ∷ known) [] = ⊤
+Lead by (k ∷ known) (x ∷ lines) = IfSome k (λ l. (hidden_scan by l.begins x).state ≡ l.ends) × Lead by known lines
 
 -- the state in which a line ends, by what is known of it where it begins as it did
-abbrev pub end_of : Marks → Table → Option Known → LineState → List ℕ → LineState
-end_of m table None state x = (hidden_scan m table state x).state
-end_of m table (Some known) state x = if same_state known.begins state then known.ends else (hidden_scan m table state x).state
+abbrev pub end_of : Scanner → Option Known → LineState → List ℕ → LineState
+end_of by None state x = (hidden_scan by state x).state
+end_of by (Some known) state x = if same_state known.begins state then known.ends else (hidden_scan by state x).state
 
 -- the states of the lines, where only new and restarted lines are scanned
-abbrev pub settled_from : Marks → Table → LineState → List (Option Known) → List (List ℕ) → List LineState
-settled_from m table state [] lines = []
-settled_from m table state (k ∷ known) [] = []
-settled_from m table state (k ∷ known) (x ∷ lines) =
-    state ∷ settled_from m table (end_of m table k state x) known lines
+abbrev pub settled_from : Scanner → LineState → List (Option Known) → List (List ℕ) → List LineState
+settled_from by state [] lines = []
+settled_from by state (k ∷ known) [] = []
+settled_from by state (k ∷ known) (x ∷ lines) =
+    state ∷ settled_from by (end_of by k state x) known lines
 
 -- lines that were scanned one behind another, from the one state to the other: each begins as the line before it ended
 abbrev pub AreChained : LineState → List Known → LineState → Type 0

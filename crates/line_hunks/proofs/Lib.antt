@@ -5,3 +5,4 @@ pub mod Finding
 pub mod Pushing
 pub mod Popping
 pub mod PlaceLaws
+pub mod Appending

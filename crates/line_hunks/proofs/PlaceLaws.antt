@@ -106,7 +106,7 @@ module _ (marks : List Mark) (n : ℕ) (place : Place) (is : IsPlace marks n pla
       ∙ get_or_at lower here (marks_from (later_mark here 1) (left - 1) ++ is.upper) New (n - 1) before-here
       )
 
-  rest-here : drop (n - 1) marks ≡ marks_from (later_mark place.run.first place.before) (place.run.lines - place.before) ++ is.upper
+  pub rest-here : drop (n - 1) marks ≡ marks_from (later_mark place.run.first place.before) (place.run.lines - place.before) ++ is.upper
   rest-here =
       ap (drop (n - 1)) from-here
       ∙ drop_at (is.lower ++ marks_from place.run.first place.before)

@@ -4,4 +4,5 @@ pub mod Adding
 pub mod Sides
 pub mod Runs
 pub mod Places
+pub mod Numbers
 pub mod Hunks

@@ -1,8 +1,9 @@
 //! The marks of a text's lines.
 
-ghost use Rattle.std.specs.Prelude.{◌≡◌, ◌+◌, ◌-◌, ◌^◌, ◌<◌, ◌≤◌, [], ◌∷◌, drop, length, false, not, OnOk, IfSome, IfNone};
+ghost use Rattle.std.specs.Prelude.{◌≡◌, ◌+◌, ◌-◌, ◌^◌, ◌<◌, ◌≤◌, [], ◌∷◌, ◌++◌, drop, length, replicate, false, not, OnOk, OnErr, IfSome, IfNone};
 ghost use Rattle.mark_rules.specs.declared.Mark.TheVariants.{New};
-ghost use Rattle.mark_rules.specs.Marks.{clean_marks, edited_marks, mark_at, kept_run, has_new, SpansNew, Rises};
+ghost use Rattle.mark_rules.specs.Marks.{clean_marks, edited_marks, kept_marks, mark_at, kept_run, has_new, SpansNew, Rises};
+ghost use Rattle.line_hunks.specs.Numbers.{AreNumbers};
 
 use crate::runs::Runs;
 use mark_rules::Mark;
@@ -40,13 +41,35 @@ impl Hunks {
     pub fn new(alloc: Global) -> Hunks
         ensures { result.marks ≡ New ∷ [] }
     {
+        Hunks::all_new(alloc, 1)
+    }
+
+    /// So many new lines. Takes no memory.
+    pub fn all_new(alloc: Global, lines: u64) -> Hunks
+        requires some { 1 ≤ lines }
+        requires fits { lines < 2 ^ 62 }
+        ensures { result.marks ≡ replicate lines New }
+    {
         Hunks {
-            runs: Runs::new(alloc),
+            runs: Runs::all_new(alloc, lines),
         }
     }
 
-    /// Makes room for so many edits. Only this takes memory. An error leaves the marks as they were, and room that was
-    /// there stays.
+    /// So many lines that are kept one after another, from this number on. Takes no memory.
+    pub fn all_kept(alloc: Global, first: u64, lines: u64) -> Hunks
+        requires first { 1 ≤ first }
+        requires some { 1 ≤ lines }
+        requires fits { lines < 2 ^ 62 }
+        requires range { first + lines ≤ 2 ^ 62 }
+        ensures { result.marks ≡ kept_marks first lines }
+    {
+        Hunks {
+            runs: Runs::all_kept(alloc, first, lines),
+        }
+    }
+
+    /// Makes room for so many edits. Only this and a push take memory. An error leaves the marks as they were, and room
+    /// that was there stays.
     pub fn reserve(&mut self, edits: u64) -> Result<(), AllocError>
         ensures room { OnOk result (edits ≤ self.new.spare) }
         ensures marks { self.new.marks ≡ self.old.marks }
@@ -79,6 +102,36 @@ impl Hunks {
         self.runs.clean(lines);
     }
 
+    /// More new lines behind the last one. An error leaves the marks as they were.
+    pub fn push_new(&mut self, lines: u64) -> Result<(), AllocError>
+        requires some { 1 ≤ lines }
+        requires fits { length self.old.marks + lines < 2 ^ 62 }
+        ensures ok { OnOk result (self.new.marks ≡ self.old.marks ++ replicate lines New) }
+        ensures err { OnErr result (self.new.marks ≡ self.old.marks) }
+        ensures room { self.old.spare ≤ self.new.spare + 1 }
+    {
+        self.runs.reserve(1)?;
+        self.runs.push_new(lines);
+        Ok(())
+    }
+
+    /// Lines that are kept one after another, from this number on, behind the last one, which is new. An error leaves the
+    /// marks as they were.
+    pub fn push_kept(&mut self, first: u64, lines: u64) -> Result<(), AllocError>
+        requires some { 1 ≤ lines }
+        requires fits { length self.old.marks + lines < 2 ^ 62 }
+        requires range { first + lines ≤ 2 ^ 62 }
+        requires new { mark_at (length self.old.marks) self.old.marks ≡ New }
+        requires rises { Rises (self.old.marks ++ kept_marks first lines) }
+        ensures ok { OnOk result (self.new.marks ≡ self.old.marks ++ kept_marks first lines) }
+        ensures err { OnErr result (self.new.marks ≡ self.old.marks) }
+        ensures room { self.old.spare ≤ self.new.spare + 1 }
+    {
+        self.runs.reserve(1)?;
+        self.runs.push_kept(first, lines);
+        Ok(())
+    }
+
     /// How many lines the text has.
     pub fn lines(&self) -> u64
         ensures lines { result ≡ length self.now.marks }
@@ -95,6 +148,7 @@ impl Hunks {
         requires within { n ≤ length self.now.marks }
         ensures mark { result.0 ≡ mark_at n self.now.marks }
         ensures kept { result.1 ≡ kept_run (drop (n - 1) self.now.marks) }
+        ensures range { AreNumbers result.0 result.1 }
     {
         let place = self.runs.place(n);
         let (_before, rest) = place.run.split(place.before);

@@ -1,9 +1,9 @@
 //! The runs of a text, with a gap where it was edited last.
 
-ghost use Rattle.std.specs.Prelude.{◌≡◌, ◌+◌, ◌-◌, ◌*◌, ◌^◌, ◌<◌, ◌≤◌, ◌∷◌, [], OnOk};
+ghost use Rattle.std.specs.Prelude.{◌≡◌, ◌+◌, ◌-◌, ◌*◌, ◌^◌, ◌<◌, ◌≤◌, ◌++◌, [], not, replicate, OnOk};
 ghost use Rattle.mark_rules.specs.declared.Mark.TheVariants.{New};
-ghost use Rattle.mark_rules.specs.Marks.{clean_marks, edited_marks};
-ghost use Rattle.line_hunks.specs.Run.{lines_in};
+ghost use Rattle.mark_rules.specs.Marks.{clean_marks, edited_marks, kept_marks, mark_at};
+ghost use Rattle.line_hunks.specs.Run.{is_new, run_marks, lines_in, IsInRange};
 ghost use Rattle.line_hunks.specs.Runs.{all_marks, line_count, IsWhole};
 
 use crate::edges::{set_back, set_front, take_lines};
@@ -20,16 +20,35 @@ pub(crate) struct Runs {
 }
 
 impl Runs {
-    /// One new line.
-    pub(crate) fn new(alloc: Global) -> Runs
+    /// So many lines that are all new.
+    pub(crate) fn all_new(alloc: Global, lines: u64) -> Runs
+        requires some { 1 ≤ lines }
+        requires fits { lines < 2 ^ 62 }
         ensures whole { IsWhole result }
-        ensures marks { all_marks result ≡ New ∷ [] }
+        ensures marks { all_marks result ≡ replicate lines New }
     {
         Runs {
             sides: Sides::new(alloc),
             gap: Run {
                 first: Mark::New,
-                lines: 1,
+                lines,
+            },
+        }
+    }
+
+    /// So many lines that are kept one after another, from this number on.
+    pub(crate) fn all_kept(alloc: Global, first: u64, lines: u64) -> Runs
+        requires some { 1 ≤ lines }
+        requires fits { lines < 2 ^ 62 }
+        requires range { first + lines ≤ 2 ^ 62 }
+        ensures whole { IsWhole result }
+        ensures marks { all_marks result ≡ kept_marks first lines }
+    {
+        Runs {
+            sides: Sides::new(alloc),
+            gap: Run {
+                first: Mark::Kept(first),
+                lines,
             },
         }
     }
@@ -127,5 +146,74 @@ impl Runs {
         self.seek(before);
         let skipped = before - self.sides.front_lines();
         self.replace(skipped, old, new);
+    }
+    /// The run of the last line becomes the gap.
+    fn seek_end(&mut self)
+        requires whole { IsWhole self.old }
+        requires room { 0 < self.old.sides.room }
+        ensures whole { IsWhole self.new }
+        ensures marks { all_marks self.new ≡ all_marks self.old }
+        ensures lines { line_count self.new ≡ line_count self.old }
+        ensures last { self.new.sides.back ≡ [] }
+        ensures room { self.new.sides.room ≡ self.old.sides.room }
+    {
+        let last = self.lines() - 1;
+        self.seek(last);
+    }
+
+    /// A run of the other kind goes behind the last one, which is the gap.
+    fn put_last(&mut self, run: Run)
+        requires whole { IsWhole self.old }
+        requires room { 0 < self.old.sides.room }
+        requires last { self.old.sides.back ≡ [] }
+        requires other { is_new self.old.gap.first ≡ not (is_new run.first) }
+        requires some { 0 < run.lines }
+        requires range { IsInRange run }
+        requires fits { line_count self.old + run.lines < 2 ^ 62 }
+        ensures whole { IsWhole self.new }
+        ensures marks { all_marks self.new ≡ all_marks self.old ++ run_marks run }
+        ensures room { self.old.sides.room ≤ self.new.sides.room + 1 }
+    {
+        self.sides.push_front(self.gap);
+        self.gap = run;
+    }
+
+    /// More new lines behind the last one.
+    pub(crate) fn push_new(&mut self, lines: u64)
+        requires whole { IsWhole self.old }
+        requires room { 0 < self.old.sides.room }
+        requires some { 1 ≤ lines }
+        requires fits { line_count self.old + lines < 2 ^ 62 }
+        ensures whole { IsWhole self.new }
+        ensures marks { all_marks self.new ≡ all_marks self.old ++ replicate lines New }
+        ensures room { self.old.sides.room ≤ self.new.sides.room + 1 }
+    {
+        self.seek_end();
+        match self.gap.first {
+            Mark::New => self.gap.lines += lines,
+            Mark::Kept(_) => self.put_last(Run {
+                first: Mark::New,
+                lines,
+            }),
+        }
+    }
+
+    /// Lines that are kept one after another, from this number on, behind the last one, which is new.
+    pub(crate) fn push_kept(&mut self, first: u64, lines: u64)
+        requires whole { IsWhole self.old }
+        requires room { 0 < self.old.sides.room }
+        requires some { 1 ≤ lines }
+        requires fits { line_count self.old + lines < 2 ^ 62 }
+        requires range { first + lines ≤ 2 ^ 62 }
+        requires new { mark_at (line_count self.old) (all_marks self.old) ≡ New }
+        ensures whole { IsWhole self.new }
+        ensures marks { all_marks self.new ≡ all_marks self.old ++ kept_marks first lines }
+        ensures room { self.old.sides.room ≤ self.new.sides.room + 1 }
+    {
+        self.seek_end();
+        self.put_last(Run {
+            first: Mark::Kept(first),
+            lines,
+        });
     }
 }

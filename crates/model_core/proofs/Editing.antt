@@ -26,7 +26,7 @@ use Rattle.model_page.specs.Changes.{text_from, text_to, led, ops_by, Leads}
 use Rattle.model_page.specs.Needs.{need_of_ops}
 use Rattle.model_page.specs.State.{PageState, flat_text, HasRoom, CanFollow}
 use Rattle.model_page.proofs.Recasts.{applied-whole}
-use Rattle.bracket_rules.specs.Table.{Table}
+use Rattle.hiding_rules.specs.Hidden.{Scanner}
 use Rattle.decoration_rules.specs.Decorations.{Decorations}
 use Rattle.model_core.specs.declared.latest.Latest.{Latest}
 use Rattle.model_core.specs.declared.latest.Latest.TheVariants.{Made}
@@ -89,24 +89,24 @@ can_follow_change page (Endings r) is endings room = (is.before, room)
 -- ---- what the flat document has then
 
 batch_document : (text : FlatText) (ops inverse : List Op) → IsBatchOf text ops inverse → Leads text (Ops ops inverse) (led On (Ops ops inverse) text)
-    → (latest : Option Latest) (s : Stack Change) (d : Decorations) (table : Table) (shelf : FlatShelf) (version alternative : ℕ) → version + 1 ≤ greatest_version
-    → flat_edit (document_of text version alternative d table shelf latest s) ops
-    ≡ Ok (document_of (led On (Ops ops inverse) text) (version + 1) (version + 1) (decorations_over true On (Ops ops inverse) d) table shelf (Some Made)
+    → (latest : Option Latest) (s : Stack Change) (d : Decorations) (scanner : Scanner) (shelf : FlatShelf) (version alternative : ℕ) → version + 1 ≤ greatest_version
+    → flat_edit (document_of text version alternative d scanner shelf latest s) ops
+    ≡ Ok (document_of (led On (Ops ops inverse) text) (version + 1) (version + 1) (decorations_over true On (Ops ops inverse) d) scanner shelf (Some Made)
     (kept_with s (Ops ops inverse) alternative (version + 1)))
-batch_document text ops inverse is leads latest s d table shelf version alternative few =
+batch_document text ops inverse is leads latest s d scanner shelf version alternative few =
     let below : nat_le greatest_version version ≡ false = lt-leb greatest_version version (omega (arith, few)) in
     let history = history-pushed s (Ops ops inverse) text (led On (Ops ops inverse) text) alternative (version + 1) leads in
     let last = last-kept s (Ops ops inverse) text (led On (Ops ops inverse) text) alternative (version + 1) leads in
     rw (is.accepted, below, history, last) refl
 
 recast_document : (x : List ℕ) (from to : Kind) → is_same_kind to from ≡ false → length (normalized to x) ≤ most_units
-    → (latest : Option Latest) (s : Stack Change) (d : Decorations) (table : Table) (shelf : FlatShelf) (version alternative : ℕ) → version + 1 ≤ greatest_version
+    → (latest : Option Latest) (s : Stack Change) (d : Decorations) (scanner : Scanner) (shelf : FlatShelf) (version alternative : ℕ) → version + 1 ≤ greatest_version
     → let c : Change = Endings (record { before = x; from = from; after = normalized to x; to = to }) in
     let text : FlatText = record { units = x; kind = from } in
     Leads text c (led On c text)
-    → flat_eol (document_of text version alternative d table shelf latest s) to
-    ≡ Ok (Some (document_of (led On c text) (version + 1) (version + 1) (decorations_over true On c d) table shelf (Some Made) (kept_with s c alternative (version + 1))))
-recast_document x from to other fits latest s d table shelf version alternative few leads =
+    → flat_eol (document_of text version alternative d scanner shelf latest s) to
+    ≡ Ok (Some (document_of (led On c text) (version + 1) (version + 1) (decorations_over true On c d) scanner shelf (Some Made) (kept_with s c alternative (version + 1))))
+recast_document x from to other fits latest s d scanner shelf version alternative few leads =
     let y : List ℕ = normalized to x in
     let c : Change = Endings (record { before = x; from = from; after = y; to = to }) in
     let text : FlatText = record { units = x; kind = from } in
@@ -125,20 +125,20 @@ same_recast text r is =
     ∙ ap (λ (y : List ℕ). record { before = text.units; from = text.kind; after = y; to = r.to }) after
 
 pub made_document : (text : FlatText) (c : Change) → IsChangeOf text c → Leads text c (led On c text)
-    → (latest : Option Latest) (s : Stack Change) (d : Decorations) (table : Table) (shelf : FlatShelf) (version alternative : ℕ) → version + 1 ≤ greatest_version
-    → Makes c (document_of text version alternative d table shelf latest s)
-    (document_of (led On c text) (version + 1) (version + 1) (decorations_over true On c d) table shelf (Some Made) (kept_with s c alternative (version + 1)))
-made_document text (Ops ops inverse) is leads latest s d table shelf version alternative few =
-    batch_document text ops inverse is leads latest s d table shelf version alternative few
-made_document text (Endings r) is leads latest s d table shelf version alternative few =
+    → (latest : Option Latest) (s : Stack Change) (d : Decorations) (scanner : Scanner) (shelf : FlatShelf) (version alternative : ℕ) → version + 1 ≤ greatest_version
+    → Makes c (document_of text version alternative d scanner shelf latest s)
+    (document_of (led On c text) (version + 1) (version + 1) (decorations_over true On c d) scanner shelf (Some Made) (kept_with s c alternative (version + 1)))
+made_document text (Ops ops inverse) is leads latest s d scanner shelf version alternative few =
+    batch_document text ops inverse is leads latest s d scanner shelf version alternative few
+made_document text (Endings r) is leads latest s d scanner shelf version alternative few =
     let same = same_recast text r is in
     let r' : RecastState = record { before = text.units; from = text.kind; after = normalized r.to text.units; to = r.to } in
     let leads' : Leads text (Endings r') (led On (Endings r') text) = subst (λ (q : RecastState). Leads text (Endings q) (led On (Endings q) text)) same leads in
-    subst (λ (q : RecastState). flat_eol (document_of text version alternative d table shelf latest s) r.to
-    ≡ Ok (Some (document_of (led On (Endings q) text) (version + 1) (version + 1) (decorations_over true On (Endings q) d) table shelf (Some Made) (kept_with s (Endings q) alternative (version + 1)))))
+    subst (λ (q : RecastState). flat_eol (document_of text version alternative d scanner shelf latest s) r.to
+    ≡ Ok (Some (document_of (led On (Endings q) text) (version + 1) (version + 1) (decorations_over true On (Endings q) d) scanner shelf (Some Made) (kept_with s (Endings q) alternative (version + 1)))))
     (sym same)
     (recast_document text.units text.kind r.to is.other (omega (arith, leads'.fits_after, ap length (applied-whole text.units (normalized r.to text.units))))
-    latest s d table shelf version alternative few leads')
+    latest s d scanner shelf version alternative few leads')
 
 pub edited_paired : (text : FlatText) (ops sorted : List Op) → checked_batch text.kind text.units ops ≡ Ok sorted → IsPaired text.units → All HasPairedText ops
     → IsPaired (applied_from 0 text.units sorted)

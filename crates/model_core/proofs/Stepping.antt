@@ -27,7 +27,7 @@ use Rattle.model_page.specs.Changes.{ops_by, led, deed_of, text_back, changes_ba
 use Rattle.model_page.specs.Counts.{text_breaks, op_count, unit_count, breaks_along, marking_ops, marking_count}
 use Rattle.model_core.specs.History.{undo_steps, redo_steps, history_of, latest_along, latest_steps, last_of, IsHistory}
 use Rattle.model_core.specs.declared.latest.Latest.{Latest}
-use Rattle.bracket_rules.specs.Table.{Table}
+use Rattle.hiding_rules.specs.Hidden.{Scanner}
 use Rattle.decoration_rules.specs.Decorations.{Decorations}
 use Rattle.mark_rules.specs.declared.Mark.{Mark}
 use Rattle.model_page.proofs.Turns.{op_count-cons, marking_count-cons}
@@ -36,14 +36,14 @@ use Rattle.model_core.proofs.Histories.{text_before-back, text_after-on, history
 use Rattle.model_core.proofs.LastChanges.{last-undone, last-redone}
 
 -- the flat document of a text and the kept batches
-abbrev pub document_of : FlatText → ℕ → ℕ → Decorations → Table → FlatShelf → Option Latest → Stack Change → FlatState
-document_of now version alternative d table shelf latest s = record {
+abbrev pub document_of : FlatText → ℕ → ℕ → Decorations → Scanner → FlatShelf → Option Latest → Stack Change → FlatState
+document_of now version alternative d scanner shelf latest s = record {
   units = now.units;
   kind = now.kind;
   version = version;
   alternative = alternative;
   decorations = d;
-  table = table;
+  scanner = scanner;
   history = history_of now s;
   shelf = shelf;
   last = last_of latest now s;
@@ -140,12 +140,12 @@ marking_on before (c ∷ cs) =
     omega (arith, sum_by-cons {X = FlatChange} (λ change. deed_marking change.deed) first (changes_on after cs), marking_count-cons On c cs, marking_at_on c, marking_on after cs)
 
 -- what a step does that comes next on the way
-pub record IsStep (way : Way) (now : FlatText) (version alternative : ℕ) (d : Decorations) (table : Table) (shelf : FlatShelf) (latest : Option Latest) (s : Stack Change) (step : Step Change) : Type 0 where
+pub record IsStep (way : Way) (now : FlatText) (version alternative : ℕ) (d : Decorations) (scanner : Scanner) (shelf : FlatShelf) (latest : Option Latest) (s : Stack Change) (step : Step Change) : Type 0 where
   pub lead : LeadBy way now step.changes
   pub history : IsHistory (text_by way now step.changes) (passed way s)
   pub accepted : version + 1 ≤ greatest_version
-      → flat_move way (document_of now version alternative d table shelf latest s) ≡ Ok (Some (document_of (text_by way now step.changes) (version + 1) (alternative_after way step) (decorations_by way d step.changes) table shelf (Some (latest_along way)) (passed way s)))
-  pub refused : greatest_version < version + 1 → flat_move way (document_of now version alternative d table shelf latest s) ≡ Err limit
+      → flat_move way (document_of now version alternative d scanner shelf latest s) ≡ Ok (Some (document_of (text_by way now step.changes) (version + 1) (alternative_after way step) (decorations_by way d step.changes) scanner shelf (Some (latest_along way)) (passed way s)))
+  pub refused : greatest_version < version + 1 → flat_move way (document_of now version alternative d scanner shelf latest s) ≡ Err limit
   pub some : 0 < length (next_steps way s)
   pub there : 0 < length (latest_steps (latest_along way) (passed way s))
   pub next : 0 < length (next_steps way (history_of now s))
@@ -155,10 +155,10 @@ pub record IsStep (way : Way) (now : FlatText) (version alternative : ℕ) (d : 
   pub breaks : next_break_count way (next_steps way (history_of now s)) ≡ breaks_along way step.changes
   pub marks : (ms : List Mark) → marked_step way ms (next_steps way (history_of now s)) ≡ marked_along way ms (changes_by way now step.changes)
 
-undo_first : (now : FlatText) (version alternative : ℕ) (d : Decorations) (table : Table) (shelf : FlatShelf) (latest : Option Latest) (step : Step Change) (rest redo : List (Step Change)) (is_open : Bool)
+undo_first : (now : FlatText) (version alternative : ℕ) (d : Decorations) (scanner : Scanner) (shelf : FlatShelf) (latest : Option Latest) (step : Step Change) (rest redo : List (Step Change)) (is_open : Bool)
     → IsHistory now (record { undo = step ∷ rest; redo = redo; is_open = is_open })
-    → IsStep Back now version alternative d table shelf latest (record { undo = step ∷ rest; redo = redo; is_open = is_open }) step
-undo_first now version alternative d table shelf latest step rest redo is_open old =
+    → IsStep Back now version alternative d scanner shelf latest (record { undo = step ∷ rest; redo = redo; is_open = is_open }) step
+undo_first now version alternative d scanner shelf latest step rest redo is_open old =
     record {
       lead = old.back.0;
       history = IsHistory-undone rest redo step now old.back old.on;
@@ -174,10 +174,10 @@ undo_first now version alternative d table shelf latest step rest redo is_open o
       marks = λ ms. refl;
     }
 
-redo_first : (now : FlatText) (version alternative : ℕ) (d : Decorations) (table : Table) (shelf : FlatShelf) (latest : Option Latest) (step : Step Change) (undo rest : List (Step Change)) (is_open : Bool)
+redo_first : (now : FlatText) (version alternative : ℕ) (d : Decorations) (scanner : Scanner) (shelf : FlatShelf) (latest : Option Latest) (step : Step Change) (undo rest : List (Step Change)) (is_open : Bool)
     → IsHistory now (record { undo = undo; redo = step ∷ rest; is_open = is_open })
-    → IsStep On now version alternative d table shelf latest (record { undo = undo; redo = step ∷ rest; is_open = is_open }) step
-redo_first now version alternative d table shelf latest step undo rest is_open old =
+    → IsStep On now version alternative d scanner shelf latest (record { undo = undo; redo = step ∷ rest; is_open = is_open }) step
+redo_first now version alternative d scanner shelf latest step undo rest is_open old =
     record {
       lead = old.on.0;
       history = IsHistory-redone undo rest step is_open now old.back old.on;
@@ -193,16 +193,16 @@ redo_first now version alternative d table shelf latest step undo rest is_open o
       marks = λ ms. refl;
     }
 
-pub step_on : (way : Way) (now : FlatText) (version alternative : ℕ) (d : Decorations) (table : Table) (shelf : FlatShelf) (latest : Option Latest) (s : Stack Change) (step : Step Change)
-    → slice_get (next_steps way s) 0 ≡ Some step → IsHistory now s → IsStep way now version alternative d table shelf latest s step
-step_on Back now version alternative d table shelf latest s step next old =
+pub step_on : (way : Way) (now : FlatText) (version alternative : ℕ) (d : Decorations) (scanner : Scanner) (shelf : FlatShelf) (latest : Option Latest) (s : Stack Change) (step : Step Change)
+    → slice_get (next_steps way s) 0 ≡ Some step → IsHistory now s → IsStep way now version alternative d scanner shelf latest s step
+step_on Back now version alternative d scanner shelf latest s step next old =
     let split = first_of s.undo step next in
-    subst (λ u. IsHistory now (record { undo = u; redo = s.redo; is_open = s.is_open }) → IsStep Back now version alternative d table shelf latest (record { undo = u; redo = s.redo; is_open = s.is_open }) step)
-    (sym split.1) (undo_first now version alternative d table shelf latest step split.0 s.redo s.is_open) old
-step_on On now version alternative d table shelf latest s step next old =
+    subst (λ u. IsHistory now (record { undo = u; redo = s.redo; is_open = s.is_open }) → IsStep Back now version alternative d scanner shelf latest (record { undo = u; redo = s.redo; is_open = s.is_open }) step)
+    (sym split.1) (undo_first now version alternative d scanner shelf latest step split.0 s.redo s.is_open) old
+step_on On now version alternative d scanner shelf latest s step next old =
     let split = first_of s.redo step next in
-    subst (λ u. IsHistory now (record { undo = s.undo; redo = u; is_open = s.is_open }) → IsStep On now version alternative d table shelf latest (record { undo = s.undo; redo = u; is_open = s.is_open }) step)
-    (sym split.1) (redo_first now version alternative d table shelf latest step s.undo split.0 s.is_open) old
+    subst (λ u. IsHistory now (record { undo = s.undo; redo = u; is_open = s.is_open }) → IsStep On now version alternative d scanner shelf latest (record { undo = s.undo; redo = u; is_open = s.is_open }) step)
+    (sym split.1) (redo_first now version alternative d scanner shelf latest step s.undo split.0 s.is_open) old
 
 pub no_next_on : (way : Way) (now : FlatText) (s : Stack Change) → slice_get (next_steps way s) 0 ≡ None → next_steps way (history_of now s) ≡ []
 no_next_on Back now s none = rw (none_of s.undo none) refl

@@ -19,8 +19,8 @@ module _ (old new : PageState) (kept : IsUntouched old new) where
   shelf_untouched shelf sound = IsShelf-grown old.text.buffers new.text.buffers shelf kept.buffers sound
 
   pub document_untouched : (old_stack stack : Stack Change) → stack ≡ old_stack → (shelf : Shown) → IsShelf old.text.buffers shelf → (version alternative : ℕ) (latest : Option Latest) (now : FlatState)
-      → document_of (flat_text old.text) version alternative old.decorations old.table (shown old.text.buffers shelf) latest old_stack ≡ now
-      → document_of (flat_text new.text) version alternative new.decorations new.table (shown new.text.buffers shelf) latest stack ≡ now
+      → document_of (flat_text old.text) version alternative old.decorations old.scanner (shown old.text.buffers shelf) latest old_stack ≡ now
+      → document_of (flat_text new.text) version alternative new.decorations new.scanner (shown new.text.buffers shelf) latest stack ≡ now
   document_untouched old_stack stack same shelf sound version alternative latest now was =
       let shelves = shown-grown old.text.buffers new.text.buffers shelf kept.buffers sound in
-      rw (kept.units, kept.kind, same, shelves, kept.decorations, kept.parse.table) was
+      rw (kept.units, kept.kind, same, shelves, kept.decorations, kept.parse.scanner) was

@@ -27,6 +27,7 @@ pub record HasEdited (ops : List Op) (result : Result ⊤ ModelError) (old new :
   pub paired_state : All (λ (op : Op). IsPaired op.text) ops → IsPairedState old.document → IsPairedState new.document
   pub parsed : new.parsed ≡ old.parsed
   pub tree : new.tree ≡ old.tree
+  pub states : new.states ≡ old.states
   pub marks : LeftAfter result (marked_backwards old.document.units (ops_as_done old.document ops) old.marks) old.marks new.marks
   pub fresh : KeptAfter (length ops) result old.fresh new.fresh
   pub pieces : GrownAfter (length ops) result old.pieces new.pieces

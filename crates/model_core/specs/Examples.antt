@@ -5,7 +5,9 @@ use Rattle.unit_text.specs.declared.kind.Kind.TheVariants.{Mixed, Lf}
 use Rattle.text_rules.specs.declared.Op.{Op}
 use Rattle.mark_rules.specs.declared.Mark.TheVariants.{New}
 use Rattle.undo_rules.specs.Stack.{Step}
-use Rattle.bracket_rules.specs.Table.{standard_table}
+use Rattle.hiding_rules.specs.declared.LineState.TheVariants.{Code}
+use Rattle.hiding_rules.specs.Hidden.{standard_scanner}
+use Rattle.line_states.specs.Settling.{borders}
 use Rattle.document_rules.specs.Document.{FlatChange, batch, recast, new_document}
 use Rattle.model_page.specs.declared.change.Change.{Change}
 use Rattle.model_page.specs.declared.change.Way.TheVariants.{Back, On}
@@ -109,10 +111,11 @@ four_breaks_are_one_too_few enough = omega (arith, enough.text.breaks)
 -- a document of one line, with room for one edit that puts one unit in
 abbrev six_letters : ModelState
 six_letters = record {
-  document = new_document (codes "abcdef") standard_table Mixed;
+  document = new_document (codes "abcdef") standard_scanner Mixed;
   parsed = None;
   tree = None;
   marks = New ∷ [];
+  states = borders [] Code;
   fresh = false;
   pieces = 1;
   room = record { text = record { edits = 1; units = 66; breaks = 2 }; marks = 1; changes = 1 };

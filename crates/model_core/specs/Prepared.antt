@@ -148,6 +148,7 @@ marking_count (Move way) f = next_marking_count (next_steps way f.history)
 pub record HasActed (action : Action) (old new : ModelState) : Type 0 where
   pub parsed : new.parsed ≡ old.parsed
   pub tree : new.tree ≡ old.tree
+  pub states : new.states ≡ old.states
   pub marks : new.marks ≡ marks_after action old.document old.marks
   pub fresh : KeptBy (marking_count action old.document) old.fresh new.fresh
   pub pieces : GrownBy (need_of action old.document).text.edits old.pieces new.pieces

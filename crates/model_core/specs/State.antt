@@ -4,11 +4,11 @@ use Rattle.text_buffer.specs.Room as text_room
 use Rattle.bracket_tree_rules.specs.Tree.{Tree}
 use Rattle.mark_rules.specs.declared.Mark.{Mark}
 use Rattle.mark_rules.specs.Marks.{clean_marks}
-use Rattle.node_reuse.specs.Texts.{new_lines}
+use Rattle.line_states.specs.Settling.{Borders}
 use Rattle.node_reuse.specs.ParsedTree.{ParsedTree}
 use Rattle.document_rules.specs.declared.ModelError.{ModelError}
 use Rattle.document_rules.specs.Document.{FlatState}
-use Rattle.model_page.specs.Staying.{HasAsked, KeptBy}
+use Rattle.model_page.specs.Staying.{HasAsked, KeptBy, lines_to_ask}
 use Rattle.model_page.specs.State.{GrownBy}
 
 -- the room that was made for changes
@@ -34,6 +34,8 @@ pub record ModelState : Type 0 where
   pub tree : Option Tree
   -- what each line of the text of now is to that parse; new, where there was none
   pub marks : List Mark
+  -- in which states the lines of that parse began
+  pub states : Borders
   -- whether that tree is the one of the text of now
   pub fresh : Bool
   -- in how many pieces the text lies
@@ -67,6 +69,7 @@ AfterMove (Err e) moved same = same
 pub record HasMoved (ops marking : ℕ) (left : List Mark) (result : Result Bool ModelError) (old new : ModelState) : Type 0 where
   pub parsed : new.parsed ≡ old.parsed
   pub tree : new.tree ≡ old.tree
+  pub states : new.states ≡ old.states
   pub marks : AfterMove result (new.marks ≡ left) (new.marks ≡ old.marks)
   pub fresh : AfterMove result (KeptBy marking old.fresh new.fresh) (new.fresh ≡ old.fresh)
   pub pieces : AfterMove result (GrownBy ops old.pieces new.pieces) (new.pieces ≡ old.pieces)
@@ -76,12 +79,13 @@ pub record KeepsParse (old new : ModelState) : Type 0 where
   pub parsed : new.parsed ≡ old.parsed
   pub tree : new.tree ≡ old.tree
   pub marks : new.marks ≡ old.marks
+  pub states : new.states ≡ old.states
   pub fresh : new.fresh ≡ old.fresh
   pub pieces : new.pieces ≡ old.pieces
   pub room : KeepsRoom old.room new.room
 
 -- What a question about brackets leaves: it parses the text where the tree is not that of the text of now, asks for the
--- new lines alone, and keeps each line then. An error leaves all as it was. Room that was there stays.
+-- lines alone that are new or begin in another state, and keeps each line then. An error leaves all as it was. Room that was there stays.
 pub record Renews {A : Type 0} (result : Result A ModelError) (old new : ModelState) : Type 0 where
   pub document : new.document ≡ old.document
   pub pieces : new.pieces ≡ old.pieces
@@ -89,10 +93,12 @@ pub record Renews {A : Type 0} (result : Result A ModelError) (old new : ModelSt
   pub same : old.fresh ≡ true → new.parsed ≡ old.parsed
   pub same_tree : old.fresh ≡ true → new.tree ≡ old.tree
   pub same_marks : old.fresh ≡ true → new.marks ≡ old.marks
-  pub asked : old.fresh ≡ false → OnOk result (HasAsked new.parsed (length (new_lines old.marks)))
+  pub same_states : old.fresh ≡ true → new.states ≡ old.states
+  pub asked : old.fresh ≡ false → OnOk result (HasAsked new.parsed (length (lines_to_ask old.states old.marks old.document.scanner old.document.units)))
   pub lines : OnOk result (new.marks ≡ clean_marks (length old.marks))
   pub fresh : OnOk result (new.fresh ≡ true)
   pub parsed : OnErr result (new.parsed ≡ old.parsed)
   pub tree : OnErr result (new.tree ≡ old.tree)
   pub marks : OnErr result (new.marks ≡ old.marks)
+  pub states : OnErr result (new.states ≡ old.states)
   pub kept : OnErr result (new.fresh ≡ old.fresh)

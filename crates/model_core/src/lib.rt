@@ -9,7 +9,7 @@ mod ready;
 mod walk;
 
 pub use bracket_nodes::{Entry, Node, Status};
-pub use bracket_scan::{BracketTable, TableError};
+pub use bracket_scan::{BracketTable, Hiding, HidingError, TableError};
 pub use column_encodings::Encoding;
 pub use decoration_rules::Sticky;
 pub use decorations::{Deco, NewDeco};

@@ -52,7 +52,7 @@ impl std::marker::Model for Model {
         version = m.version;
         alternative = m.alternative;
         decorations = m.page.decorations;
-        table = m.page.table;
+        scanner = m.page.scanner;
         history = history_of (flat_text m.page.text) m.history.stack;
         shelf = shown m.page.text.buffers m.shelf;
         last = last_of m.latest (flat_text m.page.text) m.history.stack;
@@ -60,6 +60,7 @@ impl std::marker::Model for Model {
       parsed = m.page.parsed;
       tree = m.page.tree;
       marks = m.page.marks;
+      states = m.page.states;
       fresh = is_fresh m.page;
       pieces = length m.page.text.spans;
       room = record {

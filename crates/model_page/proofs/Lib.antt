@@ -5,6 +5,8 @@ pub mod TextLines
 pub mod DirtyEdits
 pub mod EditedMarks
 pub mod Marking
+pub mod LastLines
+pub mod SettledLines
 pub mod Staying
 pub mod Recasts
 pub mod Pages

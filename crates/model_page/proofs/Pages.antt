@@ -47,7 +47,7 @@ page_before page forces ops sound =
       marks = sym (ap (λ o. marked_backwards page.text.units o page.marks) none);
       lines = sound.stays.count;
       spare = omega arith;
-      parse = record { table = refl; parsed = refl; tree = refl };
+      parse = record { scanner = refl; parsed = refl; tree = refl; states = refl };
     }
 
 -- what all of them leave
@@ -83,9 +83,10 @@ module _ (old now : PageState) (forces : Bool) (ops : List Op) (done : ℕ) (can
         endings = rw (after.text.units, after.text.kind) keeps;
         fits = rw units can.fits;
         inside = after.inside;
-        stays = subst (λ table. StaysWith now.tree now.marks table now.text.units) (sym done.parse.table)
-            (stays_as old.tree now.tree (marked_backwards old.text.units ops old.marks) now.marks old.table (applied_from 0 old.text.units ops) now.text.units
-            done.parse.tree done.marks units (stays_applied old.tree old.marks old.table old.text.units ops can.standing sound.stays));
+        stays = subst (λ by. StaysWith now.tree now.marks now.states by now.text.units) (sym done.parse.scanner)
+            (stays_as old.tree now.tree (marked_backwards old.text.units ops old.marks) now.marks old.states now.states old.scanner
+            (applied_from 0 old.text.units ops) now.text.units done.parse.tree done.marks done.parse.states units
+            (stays_applied old.tree old.marks old.states old.scanner old.text.units ops can.standing sound.stays));
       }
 
 -- ---- the changes of a step
@@ -107,7 +108,7 @@ way_begins way page cs left all can =
       text = refl;
       decorations = refl;
       marks = refl;
-      parse = record { table = refl; parsed = refl; tree = refl };
+      parse = record { scanner = refl; parsed = refl; tree = refl; states = refl };
       pieces = omega arith;
       buffers = Extends-refl page.text.buffers;
       can = can;
@@ -150,9 +151,10 @@ module _ (way : Way) (old now : PageState) (cs left : List Change) (c : Change) 
             ∙ ap (λ ms. marked_along way ms (changes_by way (led way c (flat_text now.text)) rest)) done.marks
             ∙ sym (next.marks now.marks) ∙ before.marks;
         parse = record {
-          table = done.parse.table ∙ before.parse.table;
+          scanner = done.parse.scanner ∙ before.parse.scanner;
           parsed = done.parse.parsed ∙ before.parse.parsed;
           tree = done.parse.tree ∙ before.parse.tree;
+          states = done.parse.states ∙ before.parse.states;
         };
         pieces = omega (arith, before.pieces, done.grown.pieces, next.ops);
         buffers = Extends-trans old.text.buffers now.text.buffers new.text.buffers before.buffers done.grown.buffers;
@@ -207,30 +209,34 @@ pub nothing_to_renew : {A E : Type 0} (result : Result A E) (page : PageState) �
 nothing_to_renew (Ok x) page sound fresh = record {
   text = refl;
   decorations = refl;
-  table = refl;
+  scanner = refl;
   room = omega arith;
   same = λ is. refl;
   same_tree = λ is. refl;
   same_marks = λ is. refl;
+  same_states = λ is. refl;
   asked = λ stale. cc;
-  lines = clean_where_fresh page.tree page.marks page.table page.text.units fresh sound.stays;
+  lines = clean_where_fresh page.tree page.marks page.states page.scanner page.text.units fresh sound.stays;
   fresh = fresh;
   parsed = tt;
   tree = tt;
   marks = tt;
+  states = tt;
 }
 nothing_to_renew (Err e) page sound fresh = record {
   text = refl;
   decorations = refl;
-  table = refl;
+  scanner = refl;
   room = omega arith;
   same = λ is. refl;
   same_tree = λ is. refl;
   same_marks = λ is. refl;
+  same_states = λ is. refl;
   asked = λ stale. tt;
   lines = tt;
   fresh = tt;
   parsed = refl;
   tree = refl;
   marks = refl;
+  states = refl;
 }

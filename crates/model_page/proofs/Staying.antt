@@ -9,17 +9,25 @@ use Rattle.text_rules.specs.Dirty.{first_dirty, old_dirty, new_dirty}
 use Rattle.text_rules.specs.Edits.{edited}
 use Rattle.batch_rules.specs.Batches.{applied_from, StandFrom, edited_backwards}
 use Rattle.batch_rules.proofs.Backwards.{backwards_is_one_pass, backwards_step}
-use Rattle.bracket_rules.specs.Table.{Table, is_table}
-use Rattle.bracket_rules.specs.Rows.{Row, text_rows}
+use Rattle.bracket_rules.specs.Table.{is_table}
+use Rattle.bracket_rules.specs.Rows.{Row}
 use Rattle.bracket_tree_rules.specs.Told.{IsTreeOf}
 use Rattle.bracket_tree_rules.specs.Tree.{Tree, tree_rows, IsTree}
+use Rattle.hiding_rules.specs.declared.LineState.{LineState}
+use Rattle.hiding_rules.specs.declared.LineState.TheVariants.{Code}
+use Rattle.hiding_rules.specs.Hidden.{Scanner}
+use Rattle.hiding_rules.specs.Rows.{broken, hidden_rows}
+use Rattle.hiding_rules.specs.States.{Lead}
+use Rattle.hiding_rules.proofs.Rows.{length-states_from, length-hidden_rows}
+use Rattle.hiding_rules.proofs.NoBlock.{states_are_code}
+use Rattle.line_states.specs.Settling.{Borders, borders, known_lines}
 use Rattle.mark_rules.specs.declared.Mark.{Mark}
 use Rattle.mark_rules.specs.declared.Mark.TheVariants.{New}
 use Rattle.mark_rules.specs.Marks.{clean_marks, has_new}
 use Rattle.mark_rules.proofs.MarkLaws.{length-kept_marks, has_new-kept_marks}
 use Rattle.reuse_rules.specs.Agreement.{Agrees}
 use Rattle.reuse_rules.specs.Edits.{IsEdited}
-use Rattle.reuse_rules.proofs.EditedLines.{Agrees-edited, Agrees-clean, length-text_rows}
+use Rattle.reuse_rules.proofs.EditedLines.{Agrees-edited, Agrees-clean}
 use Rattle.node_reuse.specs.Texts.{IsTight}
 use Rattle.node_reuse.specs.Reading.{AgreesIfThere}
 use Rattle.document_rules.specs.Brackets.{line_contents}
@@ -33,48 +41,54 @@ use Rattle.model_page.specs.Changes.{ops_by, led, text_back, changes_back, chang
 use Rattle.model_page.specs.Counts.{marking_ops, marking_count}
 use Rattle.model_page.specs.Ways.{changes_by, LeadBy, marked_along}
 use Rattle.model_page.specs.LineMarks.{marked_by, marked_backwards, marks_over, marked_back, marked_on}
-use Rattle.model_page.specs.Staying.{fresh_tree, IsKept, KeptBy, StaysWith}
+use Rattle.model_page.specs.Staying.{fresh_tree, IsKept, KeptBy, last_lines, StaysWith, AreStatesOf}
+use Rattle.model_page.proofs.LastLines.{last_lines_edited, clean_lines, Lead-new, Lead-edited, Lead-clean}
 use Rattle.model_page.proofs.DirtyEdits.{lines_edited, IsEdited-map, length-after}
 use Rattle.model_page.proofs.EditedMarks.{length-edited_marks, has_new-edited, AllNew-replicate, AllNew-edited, clean_where_kept}
 use Rattle.model_page.proofs.Turns.{IsFit, fit_back, fit_on, marks_back, marks_on, marking_count-cons}
 
 -- ---- trees of the text of now
 
-no_tree : (table : Table) (x : List ℕ) (tree : Option Tree) (b : Bool) → b ≡ true → IsKept (cond b None tree) table x
-no_tree table x tree true e = tt
-no_tree table x tree false e = absurd cc
+no_tree : (by : Scanner) (x : List ℕ) (tree : Option Tree) (b : Bool) → b ≡ true → IsKept (cond b None tree) by x
+no_tree by x tree true e = tt
+no_tree by x tree false e = absurd cc
 
-never_tree : (table : Table) (x : List ℕ) (b : Bool) → IsKept (cond b None None) table x
-never_tree table x true = tt
-never_tree table x false = tt
+never_tree : (by : Scanner) (x : List ℕ) (b : Bool) → IsKept (cond b None None) by x
+never_tree by x true = tt
+never_tree by x false = tt
 
-the_tree : (table : Table) (x : List ℕ) (tree : Option Tree) (b : Bool) → b ≡ false → IsKept tree table x → IsKept (cond b None tree) table x
-the_tree table x tree true e kept = absurd cc
-the_tree table x tree false e kept = kept
+the_tree : (by : Scanner) (x : List ℕ) (tree : Option Tree) (b : Bool) → b ≡ false → IsKept tree by x → IsKept (cond b None tree) by x
+the_tree by x tree true e kept = absurd cc
+the_tree by x tree false e kept = kept
 
 -- before any parse each line is new
-pub stays_unparsed : (table : Table) (x : List ℕ) (lines : ℕ) → lines ≡ length (lines_of x) → StaysWith None (replicate lines New) table x
-stays_unparsed table x lines count = record {
+pub stays_unparsed : (last : Borders) (by : Scanner) (x : List ℕ) (lines : ℕ) → last ≡ borders [] Code → lines ≡ length (lines_of x)
+    → StaysWith None (replicate lines New) last by x
+stays_unparsed last by x lines none count = record {
   count = length-replicate lines New ∙ count;
   agrees = AllNew-replicate lines;
-  kept = never_tree table x (has_new (replicate lines New));
+  lead = Lead-new by last lines (line_contents x);
+  plain = λ _. ap (λ (b : Borders). b.begins) none ∙ sym (ap (λ (b : Borders). replicate (length b.begins) Code) none);
+  kept = never_tree by x (has_new (replicate lines New));
 }
 
--- of the same tree, marks and text
-pub stays_as : (old_tree tree : Option Tree) (old_marks marks : List Mark) (table : Table) (old_text x : List ℕ) → tree ≡ old_tree → marks ≡ old_marks → x ≡ old_text
-    → StaysWith old_tree old_marks table old_text → StaysWith tree marks table x
-stays_as old_tree tree old_marks marks table old_text x trees are texts stays =
-    subst (λ t. StaysWith t marks table x) (sym trees) (subst (λ ms. StaysWith old_tree ms table x) (sym are) (subst (StaysWith old_tree old_marks table) (sym texts) stays))
+-- of the same tree, marks, states and text
+pub stays_as : (old_tree tree : Option Tree) (old_marks marks : List Mark) (old_last last : Borders) (by : Scanner) (old_text x : List ℕ)
+    → tree ≡ old_tree → marks ≡ old_marks → last ≡ old_last → x ≡ old_text
+    → StaysWith old_tree old_marks old_last by old_text → StaysWith tree marks last by x
+stays_as old_tree tree old_marks marks old_last last by old_text x trees are states texts stays =
+    subst (λ t. StaysWith t marks last by x) (sym trees) (subst (λ ms. StaysWith old_tree ms last by x) (sym are)
+    (subst (λ b. StaysWith old_tree old_marks b by x) (sym states) (subst (StaysWith old_tree old_marks old_last by) (sym texts) stays)))
 
-kept_recast : (tree : Option Tree) (table : Table) (x y : List ℕ) → HaveSameContents x y → IsKept tree table x → IsKept tree table y
-kept_recast None table x y same kept = tt
-kept_recast (Some t) table x y same kept =
-    (kept.0, subst (λ (contents : List (List ℕ)). IsTreeOf (text_rows table contents) t) same kept.1)
+kept_recast : (tree : Option Tree) (by : Scanner) (x y : List ℕ) → HaveSameContents x y → IsKept tree by x → IsKept tree by y
+kept_recast None by x y same kept = tt
+kept_recast (Some t) by x y same kept =
+    (kept.0, subst (λ (contents : List (List ℕ)). IsTreeOf (hidden_rows by contents) t) same kept.1)
 
 -- of a text whose lines hold the same
-pub stays_recast : (tree : Option Tree) (marks : List Mark) (table : Table) (x y : List ℕ) → HaveSameContents x y → StaysWith tree marks table x
-    → StaysWith tree marks table y
-stays_recast tree marks table x y same stays = record {
+pub stays_recast : (tree : Option Tree) (marks : List Mark) (last : Borders) (by : Scanner) (x y : List ℕ) → HaveSameContents x y
+    → StaysWith tree marks last by x → StaysWith tree marks last by y
+stays_recast tree marks last by x y same stays = record {
   count = omega (
     arith,
     stays.count,
@@ -82,8 +96,10 @@ stays_recast tree marks table x y same stays = record {
     length-map (lines_of y) (λ (line : Line). line.content),
     ap length same,
   );
-  agrees = subst (λ (contents : List (List ℕ)). AgreesIfThere tree marks (text_rows table contents)) same stays.agrees;
-  kept = kept_recast (fresh_tree tree marks) table x y same stays.kept;
+  agrees = subst (λ (contents : List (List ℕ)). AgreesIfThere tree marks (broken (last_lines last marks by contents))) same stays.agrees;
+  lead = subst (Lead by (known_lines last marks)) same stays.lead;
+  plain = stays.plain;
+  kept = kept_recast (fresh_tree tree marks) by x y same stays.kept;
 }
 
 -- ---- an op
@@ -116,21 +132,38 @@ module _ (x : List ℕ) (op : Op) (ordered : op.span.start ≤ op.span.end) (wit
   unfolding first old new
   some_new marks = has_new-edited first old new marks lines.more
 
-  agrees_if_there : (tree : Option Tree) (marks : List Mark) (table : Table) → AgreesIfThere tree marks (text_rows table (line_contents x))
-      → AgreesIfThere tree (marked_by x op marks) (text_rows table (line_contents (edited x op)))
-  unfolding first old new
-  agrees_if_there None marks table agrees = AllNew-edited first old new marks agrees
-  agrees_if_there (Some t) marks table agrees = record {
-    tree = agrees.tree;
-    tight = agrees.tight;
-    rows = Agrees-edited (tree_rows t) table first old new marks (line_contents x) (line_contents (edited x op)) contents agrees.rows;
-  }
+  counted : (marks : List Mark) → length marks ≡ length (lines_of x) → length marks ≡ length (line_contents x)
+  counted marks count = count ∙ sym (length-map (lines_of x) (λ (line : Line). line.content))
 
-  pub stays_edited : (tree : Option Tree) (marks : List Mark) (table : Table) → StaysWith tree marks table x → StaysWith tree (marked_by x op marks) table (edited x op)
-  stays_edited tree marks table stays = record {
+  agrees_if_there : (tree : Option Tree) (marks : List Mark) (last : Borders) (by : Scanner) → length marks ≡ length (lines_of x)
+      → AgreesIfThere tree marks (broken (last_lines last marks by (line_contents x)))
+      → AgreesIfThere tree (marked_by x op marks) (broken (last_lines last (marked_by x op marks) by (line_contents (edited x op))))
+  unfolding first old new
+  agrees_if_there None marks last by count agrees = AllNew-edited first old new marks agrees
+  agrees_if_there (Some t) marks last by count agrees =
+      let same = counted marks count in
+      let rows = last_lines_edited last by first old new marks (line_contents x) (line_contents (edited x op)) contents same in
+      record {
+        tree = agrees.tree;
+        tight = agrees.tight;
+        rows = Agrees-edited (tree_rows t) first old new marks (last_lines last marks by (line_contents x))
+            (last_lines last (marked_by x op marks) by (line_contents (edited x op))) rows agrees.rows;
+      }
+
+  lead_if_known : (marks : List Mark) (last : Borders) (by : Scanner) → length marks ≡ length (lines_of x) → Lead by (known_lines last marks) (line_contents x)
+      → Lead by (known_lines last (marked_by x op marks)) (line_contents (edited x op))
+  unfolding first old new
+  lead_if_known marks last by count lead =
+      Lead-edited last by first old new marks (line_contents x) (line_contents (edited x op)) contents (counted marks count) lead
+
+  pub stays_edited : (tree : Option Tree) (marks : List Mark) (last : Borders) (by : Scanner) → StaysWith tree marks last by x
+      → StaysWith tree (marked_by x op marks) last by (edited x op)
+  stays_edited tree marks last by stays = record {
     count = as_many marks stays.count;
-    agrees = agrees_if_there tree marks table stays.agrees;
-    kept = no_tree table (edited x op) tree (has_new (marked_by x op marks)) (some_new marks);
+    agrees = agrees_if_there tree marks last by stays.count stays.agrees;
+    lead = lead_if_known marks last by stays.count stays.lead;
+    plain = stays.plain;
+    kept = no_tree by (edited x op) tree (has_new (marked_by x op marks)) (some_new marks);
   }
 
 -- ---- a batch
@@ -138,17 +171,17 @@ module _ (x : List ℕ) (op : Op) (ordered : op.span.start ≤ op.span.end) (wit
 op_within : (at : ℕ) (x : List ℕ) (op : Op) (ops : List Op) → StandFrom at x (op ∷ ops) → op.span.end ≤ length (edited_backwards x ops)
 op_within at x op ops standing = (backwards_step at x (op ∷ ops) 0 op standing (omega arith)).within
 
-stays_backwards : (tree : Option Tree) (marks : List Mark) (table : Table) (at : ℕ) (x : List ℕ) (ops : List Op) → StandFrom at x ops → StaysWith tree marks table x
-    → StaysWith tree (marked_backwards x ops marks) table (edited_backwards x ops)
-stays_backwards tree marks table at x [] standing stays = stays
-stays_backwards tree marks table at x (op ∷ ops) standing stays =
-    stays_edited (edited_backwards x ops) op standing.1 (op_within at x op ops standing) tree (marked_backwards x ops marks) table
-    (stays_backwards tree marks table op.span.end x ops standing.2 stays)
+stays_backwards : (tree : Option Tree) (marks : List Mark) (last : Borders) (by : Scanner) (at : ℕ) (x : List ℕ) (ops : List Op) → StandFrom at x ops
+    → StaysWith tree marks last by x → StaysWith tree (marked_backwards x ops marks) last by (edited_backwards x ops)
+stays_backwards tree marks last by at x [] standing stays = stays
+stays_backwards tree marks last by at x (op ∷ ops) standing stays =
+    stays_edited (edited_backwards x ops) op standing.1 (op_within at x op ops standing) tree (marked_backwards x ops marks) last by
+    (stays_backwards tree marks last by op.span.end x ops standing.2 stays)
 
-pub stays_applied : (tree : Option Tree) (marks : List Mark) (table : Table) (x : List ℕ) (ops : List Op) → StandFrom 0 x ops → StaysWith tree marks table x
-    → StaysWith tree (marked_backwards x ops marks) table (applied_from 0 x ops)
-stays_applied tree marks table x ops standing stays =
-    subst (StaysWith tree (marked_backwards x ops marks) table) (backwards_is_one_pass x ops standing) (stays_backwards tree marks table 0 x ops standing stays)
+pub stays_applied : (tree : Option Tree) (marks : List Mark) (last : Borders) (by : Scanner) (x : List ℕ) (ops : List Op) → StandFrom 0 x ops
+    → StaysWith tree marks last by x → StaysWith tree (marked_backwards x ops marks) last by (applied_from 0 x ops)
+stays_applied tree marks last by x ops standing stays =
+    subst (StaysWith tree (marked_backwards x ops marks) last by) (backwards_is_one_pass x ops standing) (stays_backwards tree marks last by 0 x ops standing stays)
 
 -- ---- a step
 
@@ -234,29 +267,37 @@ kept_as n ops old_tree tree before after marks was count trees are old marked =
 
 -- ---- a parse
 
-pub stays_parsed : (t : Tree) (marks : List Mark) (table : Table) (x : List ℕ) → length marks ≡ length (lines_of x) → is_table table ≡ true → IsTree t
-    → IsTreeOf (text_rows table (line_contents x)) t → IsTight t → StaysWith (Some t) (clean_marks (length marks)) table x
-stays_parsed t marks table x count rule good tells tight =
-    let rows : List Row = text_rows table (line_contents x) in
-    let as_contents : length (line_contents x) ≡ length marks = length-map (lines_of x) (λ (line : Line). line.content) ∙ sym count in
-    let as_rows : length rows ≡ length marks = length-text_rows table (line_contents x) ∙ as_contents in
+pub stays_parsed : (t : Tree) (marks : List Mark) (by : Scanner) (x : List ℕ) (states : Borders) → length marks ≡ length (lines_of x) → is_table by.table ≡ true
+    → IsTree t → IsTreeOf (hidden_rows by (line_contents x)) t → IsTight t → AreStatesOf by x states
+    → StaysWith (Some t) (clean_marks (length marks)) states by x
+stays_parsed t marks by x states count rule good tells tight are =
+    let contents : List (List ℕ) = line_contents x in
+    let rows : List Row = hidden_rows by contents in
+    let as_contents : length contents ≡ length marks = length-map (lines_of x) (λ (line : Line). line.content) ∙ sym count in
+    let as_rows : length rows ≡ length marks = length-hidden_rows by contents ∙ as_contents in
+    let same : broken (last_lines states (clean_marks (length marks)) by contents) ≡ rows =
+    ap (λ n. broken (last_lines states (clean_marks n) by contents)) (sym as_contents) ∙ ap broken (clean_lines by contents states are.begins) in
     record {
       count = length-kept_marks 1 (length marks) ∙ count;
       agrees = record {
         tree = good;
         tight = tight;
-        rows = subst (λ old. Agrees old (clean_marks (length marks)) rows) (sym tells.spells) (subst (λ n. Agrees rows (clean_marks n) rows) as_rows (Agrees-clean rows));
+        rows = subst (λ now. Agrees (tree_rows t) (clean_marks (length marks)) now) (sym same)
+            (subst (λ old. Agrees old (clean_marks (length marks)) rows) (sym tells.spells) (subst (λ n. Agrees rows (clean_marks n) rows) as_rows (Agrees-clean rows)));
       };
-      kept = the_tree table x (Some t) (has_new (clean_marks (length marks))) (has_new-kept_marks 1 (length marks)) (rule, tells);
+      lead = subst (λ n. Lead by (known_lines states (clean_marks n)) contents) as_contents (Lead-clean by contents states are.begins are.ends);
+      plain = λ without. are.begins ∙ states_are_code by without contents
+          ∙ ap (λ n. replicate n Code) (sym (length-states_from by Code contents)) ∙ sym (ap (λ (begins : List LineState). replicate (length begins) Code) are.begins);
+      kept = the_tree by x (Some t) (has_new (clean_marks (length marks))) (has_new-kept_marks 1 (length marks)) (rule, tells);
     }
 
-clean_if : (tree : Option Tree) (marks : List Mark) (table : Table) (x : List ℕ) (b : Bool) → has_new marks ≡ b → is_some (cond b None tree) ≡ true → StaysWith tree marks table x
-    → marks ≡ clean_marks (length marks)
-clean_if tree marks table x true e some stays = absurd cc
-clean_if None marks table x false e some stays = absurd cc
-clean_if (Some t) marks table x false e some stays = clean_where_kept marks e stays.agrees.rows.rises stays.agrees.rows.begins
+clean_if : (tree : Option Tree) (marks : List Mark) (last : Borders) (by : Scanner) (x : List ℕ) (b : Bool) → has_new marks ≡ b
+    → is_some (cond b None tree) ≡ true → StaysWith tree marks last by x → marks ≡ clean_marks (length marks)
+clean_if tree marks last by x true e some stays = absurd cc
+clean_if None marks last by x false e some stays = absurd cc
+clean_if (Some t) marks last by x false e some stays = clean_where_kept marks e stays.agrees.rows.rises stays.agrees.rows.begins
 
 -- where the tree is that of the text, each line is kept as itself
-pub clean_where_fresh : (tree : Option Tree) (marks : List Mark) (table : Table) (x : List ℕ) → is_some (fresh_tree tree marks) ≡ true → StaysWith tree marks table x
-    → marks ≡ clean_marks (length marks)
-clean_where_fresh tree marks table x some stays = clean_if tree marks table x (has_new marks) refl some stays
+pub clean_where_fresh : (tree : Option Tree) (marks : List Mark) (last : Borders) (by : Scanner) (x : List ℕ) → is_some (fresh_tree tree marks) ≡ true
+    → StaysWith tree marks last by x → marks ≡ clean_marks (length marks)
+clean_where_fresh tree marks last by x some stays = clean_if tree marks last by x (has_new marks) refl some stays

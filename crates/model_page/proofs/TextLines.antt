@@ -5,7 +5,7 @@ use Rattle.std.proofs.lemmas.List.{get_or-map, length-map}
 use Rattle.std.proofs.lemmas.Option.{slice_get-get_or}
 use Rattle.text_rules.specs.Lines.{Line, lines_of, line_at}
 use Rattle.text_rules.proofs.Breaks.{line_count_is}
-use Rattle.node_reuse.specs.Texts.{content_at}
+use Rattle.line_states.specs.Lines.{content_at}
 use Rattle.document_rules.specs.Brackets.{line_contents}
 
 -- ---- one line

@@ -5,7 +5,8 @@ use Rattle.unit_text.specs.Kinds.{IsOfKind}
 use Rattle.text_rules.specs.declared.Op.{Op}
 use Rattle.text_rules.specs.Lines.{lines_of}
 use Rattle.batch_rules.specs.Batches.{most_units, applied_from, StandFrom, KeepsKind}
-use Rattle.bracket_rules.specs.Table.{Table}
+use Rattle.hiding_rules.specs.Hidden.{Scanner}
+use Rattle.line_states.specs.Settling.{Borders}
 use Rattle.bracket_tree_rules.specs.Tree.{Tree}
 use Rattle.chunk_buffers.specs.Chunks.{Extends}
 use Rattle.decoration_rules.specs.Decorations.{Decorations, no_decorations}
@@ -14,7 +15,6 @@ use Rattle.mark_rules.specs.declared.Mark.{Mark}
 use Rattle.mark_rules.specs.declared.Mark.TheVariants.{New}
 use Rattle.mark_rules.specs.Marks.{clean_marks}
 use Rattle.node_reuse.specs.ParsedTree.{ParsedTree}
-use Rattle.node_reuse.specs.Texts.{new_lines}
 use Rattle.text_buffer.specs.Text.{Text}
 use Rattle.text_buffer.specs.Room as text_room
 use Rattle.text_buffer.specs.declared.room.Need.{Need}
@@ -24,19 +24,22 @@ use Rattle.model_page.specs.declared.change.Way.{Way}
 use Rattle.model_page.specs.Changes.{ops_by, text_from}
 use Rattle.model_page.specs.Carrying.{AreIn}
 use Rattle.model_page.specs.Needs.{need_of_ops, need_along}
-use Rattle.model_page.specs.Staying.{fresh_tree, HasAsked, StaysWith}
+use Rattle.model_page.specs.Staying.{fresh_tree, HasAsked, StaysWith, lines_to_ask}
 use Rattle.model_page.specs.Ways.{LeadBy}
 
 pub record PageState : Type 0 where
   pub text : Text
   pub decorations : Decorations
-  pub table : Table
+  -- its brackets, and what hides them
+  pub scanner : Scanner
   -- the last parse, be it of the text of now or of an earlier one: its tree, and how many lines it asked for
   pub parsed : Option ParsedTree
   -- its bracket tree
   pub tree : Option Tree
   -- what each line of the text of now is to that parse; new, where there was none
   pub marks : List Mark
+  -- in which states the lines of that parse began
+  pub states : Borders
   -- for how many edits of the marks there is room
   pub spare : ℕ
 
@@ -50,19 +53,19 @@ pub record IsPage (page : PageState) : Type 0 where
   pub endings : IsOfKind page.text.kind page.text.units
   pub fits : length page.text.units ≤ most_units
   pub inside : AreIn (length page.text.units) page.decorations
-  pub stays : StaysWith page.tree page.marks page.table page.text.units
+  pub stays : StaysWith page.tree page.marks page.states page.scanner page.text.units
 
 -- whether the tree of the last parse is that of the text of now
 abbrev pub is_fresh : PageState → Bool
 is_fresh page = is_some (fresh_tree page.tree page.marks)
 
 -- a page of these units of this kind, with these brackets and no decoration, which was not parsed yet
-pub record IsNew (x : List ℕ) (endings : Kind) (brackets : Table) (page : PageState) : Type 0 where
+pub record IsNew (x : List ℕ) (endings : Kind) (by : Scanner) (page : PageState) : Type 0 where
   pub units : page.text.units ≡ x
   pub kind : page.text.kind ≡ endings
   pub pieces : length page.text.spans ≤ 1
   pub decorations : page.decorations ≡ no_decorations
-  pub table : page.table ≡ brackets
+  pub scanner : page.scanner ≡ by
   pub parsed : page.parsed ≡ None
   pub tree : page.tree ≡ None
   pub marks : page.marks ≡ replicate (length (lines_of x)) New
@@ -95,11 +98,12 @@ pub record HasGrown (ops : ℕ) (old new : Text) : Type 0 where
   pub pieces : GrownBy ops (length old.spans) (length new.spans)
   pub buffers : Extends old.buffers new.buffers
 
--- the last parse, and the brackets that it went by
+-- the last parse, and what it went by
 pub record KeepsParse (old new : PageState) : Type 0 where
-  pub table : new.table ≡ old.table
+  pub scanner : new.scanner ≡ old.scanner
   pub parsed : new.parsed ≡ old.parsed
   pub tree : new.tree ≡ old.tree
+  pub states : new.states ≡ old.states
 
 -- the page is as it was, beside the room for edits
 pub record IsUntouched (old new : PageState) : Type 0 where
@@ -134,18 +138,21 @@ pub record CanLead (way : Way) (page : PageState) (cs : List Change) : Type 0 wh
 -- ---- a parse
 
 -- The tree is that of the text of now, and each line is kept then. The text was parsed where the tree was not its own, and the
--- new lines alone were asked for. An error comes only there, and leaves all as it was. Room that was there stays.
+-- lines alone that are new or begin in another state were asked for. An error comes only there, and leaves all as it was. Room that
+-- was there stays.
 pub record Renews {A E : Type 0} (result : Result A E) (old new : PageState) : Type 0 where
   pub text : new.text ≡ old.text
   pub decorations : new.decorations ≡ old.decorations
-  pub table : new.table ≡ old.table
+  pub scanner : new.scanner ≡ old.scanner
   pub room : old.spare ≤ new.spare
   pub same : is_fresh old ≡ true → new.parsed ≡ old.parsed
   pub same_tree : is_fresh old ≡ true → new.tree ≡ old.tree
   pub same_marks : is_fresh old ≡ true → new.marks ≡ old.marks
-  pub asked : is_fresh old ≡ false → OnOk result (HasAsked new.parsed (length (new_lines old.marks)))
+  pub same_states : is_fresh old ≡ true → new.states ≡ old.states
+  pub asked : is_fresh old ≡ false → OnOk result (HasAsked new.parsed (length (lines_to_ask old.states old.marks old.scanner old.text.units)))
   pub lines : OnOk result (new.marks ≡ clean_marks (length old.marks))
   pub fresh : OnOk result (is_fresh new ≡ true)
   pub parsed : OnErr result (new.parsed ≡ old.parsed)
   pub tree : OnErr result (new.tree ≡ old.tree)
   pub marks : OnErr result (new.marks ≡ old.marks)
+  pub states : OnErr result (new.states ≡ old.states)

@@ -2,7 +2,7 @@
 use Rattle.std.proofs.Common.{ℕ, ◌+◌, ◌<◌, ◌≤◌, ◌==◌, ◌^◌, Bool, true, false, ◌&&◌, ◌||◌, if◌then◌else◌, List, [], ◌∷◌, length, map, sum, arith}
 use Rattle.std.proofs.lemmas.List.Sums.{sum_by-cons}
 use Rattle.text_rules.specs.Lines.{Line, lines_of, line_feed, carriage_return, begins_with, in_first_line, in_first_break}
-use Rattle.node_reuse.specs.Texts.{text_weights}
+use Rattle.line_states.specs.Lines.{text_weights}
 use Rattle.document_rules.specs.Brackets.{line_contents}
 
 -- the contents of lines, and one for each break between them

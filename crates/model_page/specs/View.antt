@@ -1,4 +1,5 @@
 -- What of its fields a page shows.
+use Rattle.hiding_rules.specs.Hidden.{scanner}
 use Rattle.model_page.specs.declared.page.Page.TheInside.{Inside}
 use Rattle.model_page.specs.State.{PageState}
 
@@ -6,9 +7,10 @@ abbrev pub page_of : Inside → PageState
 page_of p = record {
   text = p.text;
   decorations = p.decorations;
-  table = p.table;
+  scanner = scanner p.table p.hiding;
   parsed = p.last.parsed;
   tree = p.last.tree;
   marks = p.last.marks;
+  states = p.last.states;
   spare = p.last.spare;
 }

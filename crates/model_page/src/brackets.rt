@@ -6,18 +6,16 @@ ghost use Rattle.bracket_rules.specs.Table.{is_table};
 ghost use Rattle.model_page.specs.Counting.{TakesFewSteps};
 ghost use Rattle.model_page.specs.Entries.{entries_in};
 ghost use Rattle.model_page.specs.State.{Renews, is_fresh};
-ghost use Rattle.model_page.specs.Staying.{fresh_tree, IsKept, IsParseOf, StaysWith};
+ghost use Rattle.model_page.specs.Staying.{fresh_tree, AreStatesOf, IsKept, IsParseOf};
 
-use crate::last_parse::LastParse;
 use crate::page::Page;
 use crate::text_lines::TextLines;
 use bracket_nodes::{Entry, Node};
-use bracket_scan::BracketTable;
+use line_states::LineStates;
 use node_reuse::{Parsed, reparse};
 use std::alloc::{AllocError, Global};
 use std::sync::ledger::Ledger;
 use steps::Steps;
-use text_buffer::TextBuffer;
 
 impl Page {
     /// The last parse, be it of the text of now or of an earlier one. None before the first one.
@@ -38,7 +36,7 @@ impl Page {
     pub fn tree(&self) -> &Node
         requires { is_fresh self.now ≡ true }
         ensures tree { fresh_tree self.now.tree self.now.marks ≡ Some result.now }
-        ensures kept { IsKept (Some result.now) self.now.table self.now.text.units }
+        ensures kept { IsKept (Some result.now) self.now.scanner self.now.text.units }
     {
         self.last.fresh().unwrap()
     }
@@ -48,13 +46,13 @@ impl Page {
     pub fn renew<L: Ledger>(&mut self, steps: &mut Steps<L>) -> Result<(), AllocError>
         ensures parse { Renews result self.old self.new }
         ensures sure { is_fresh self.old ≡ true → OnErr result ⊥ }
-        ensures steps { TakesFewSteps self.old.tree self.old.marks
-            self.old.table self.old.text.units steps.old steps.new }
+        ensures steps { TakesFewSteps self.old.tree self.old.states self.old.marks
+            self.old.scanner self.old.text.units steps.old steps.new }
         ensures no_step { is_fresh self.old ≡ true → steps.new ≡ steps.old }
     {
         if !self.is_fresh() {
-            let parsed = parse_again(self.alloc, &self.last, &self.table, &self.text, steps)?;
-            self.last.put(parsed);
+            let (parsed, states) = self.parse_again(steps)?;
+            self.last.put(parsed, states);
         }
         Ok(())
     }
@@ -71,43 +69,40 @@ impl Page {
     ) -> Result<(), AllocError>
         ensures ok { OnOk result (out.new.items ≡ out.old.items ++ entries_in self.old from to) }
         ensures err { OnErr result (out.new.items ≡ out.old.items) }
-        ensures table { OnOk result (is_table self.old.table ≡ true) }
+        ensures table { OnOk result (is_table self.old.scanner.table ≡ true) }
         ensures parse { Renews result self.old self.new }
-        ensures steps { TakesFewSteps self.old.tree self.old.marks
-            self.old.table self.old.text.units steps.old steps.new }
+        ensures steps { TakesFewSteps self.old.tree self.old.states self.old.marks
+            self.old.scanner self.old.text.units steps.old steps.new }
         ensures no_step { is_fresh self.old ≡ true → steps.new ≡ steps.old }
     {
         if let Some(tree) = self.last.fresh() {
             return tree.entries(from, to, out);
         }
-        let parsed = parse_again(self.alloc, &self.last, &self.table, &self.text, steps)?;
+        let (parsed, states) = self.parse_again(steps)?;
         parsed.tree().entries(from, to, out)?;
-        self.last.put(parsed);
+        self.last.put(parsed, states);
         Ok(())
     }
-}
 
-// The parse of the text by the table, with what may be taken over of the last one. It asks for the new lines alone. Each
-// call that asks the old tree for a node or a bracket is a step.
-fn parse_again<L: Ledger>(
-    alloc: Global,
-    last: &LastParse,
-    table: &BracketTable,
-    text: &TextBuffer,
-    steps: &mut Steps<L>,
-) -> Result<Parsed, AllocError>
-    requires stays { StaysWith last.now.tree last.now.marks table.now text.now.units }
-    ensures parsed { IfOk result (IsParseOf table.now text.now.units last.now.marks) }
-    ensures steps { TakesFewSteps last.now.tree last.now.marks
-        table.now text.now.units steps.old steps.new }
-{
-    let mut lines = TextLines::new(text);
-    reparse(
-        alloc,
-        last.old(alloc),
-        last.hunks(),
-        table,
-        &mut lines,
-        steps,
-    )
+    // The parse of the text, with what may be taken over of the last one, and the states of its lines. It asks for the
+    // lines alone that are new or begin in another state. Each call that asks the old tree for a node or a bracket is a
+    // step.
+    fn parse_again<L: Ledger>(
+        &self,
+        steps: &mut Steps<L>,
+    ) -> Result<(Parsed, LineStates), AllocError>
+        ensures parsed { IfOk result (λ new. IsParseOf self.now.scanner self.now.text.units
+            self.now.states self.now.marks new.0) }
+        ensures states { IfOk result (λ new.
+            AreStatesOf self.now.scanner self.now.text.units new.1) }
+        ensures steps { TakesFewSteps self.now.tree self.now.states self.now.marks
+            self.now.scanner self.now.text.units steps.old steps.new }
+    {
+        let (table, hiding) = (&self.table, &self.hiding);
+        let mut lines = TextLines::new(&self.text);
+        let settled = self.last.settle(self.alloc, table, hiding, &mut lines)?;
+        let old = self.last.old(self.alloc, &settled);
+        let parsed = reparse(self.alloc, old, &settled, table, hiding, &mut lines, steps)?;
+        Ok((parsed, settled.into_states()))
+    }
 }

@@ -8,10 +8,16 @@ ghost use Rattle.text_rules.specs.Lines.{lines_of};
 ghost use Rattle.bracket_tree_rules.specs.Tree.{IsTree};
 ghost use Rattle.mark_rules.specs.declared.Mark.TheVariants.{New};
 ghost use Rattle.mark_rules.specs.Marks.{clean_marks, edited_marks};
-ghost use Rattle.model_page.specs.Staying.{fresh_tree};
+ghost use Rattle.document_rules.specs.Brackets.{line_contents};
+ghost use Rattle.hiding_rules.specs.declared.LineState.TheVariants.{Code};
+ghost use Rattle.hiding_rules.specs.Hidden.{scanner};
+ghost use Rattle.line_states.specs.Settling.{borders};
+ghost use Rattle.model_page.specs.Staying.{fresh_tree, AreSettled, StaysWith};
 
+use crate::text_lines::TextLines;
 use bracket_nodes::Node;
-use line_hunks::Hunks;
+use bracket_scan::{BracketTable, Hiding};
+use line_states::{LineStates, Settled, States};
 use node_reuse::{OldReader, Parsed};
 use std::alloc::{AllocError, Global};
 use std::marker::Model;
@@ -23,7 +29,7 @@ use unit_text::Kind;
 #[derive(Drop)]
 pub(crate) struct LastParse {
     parsed: Option<Parsed>,
-    hunks: Hunks,
+    states: States,
 }
 
 impl Model for LastParse {
@@ -39,8 +45,9 @@ impl Model for LastParse {
     ghost view = { λ p. record {
       parsed = p.parsed;
       tree = parsed_tree p.parsed;
-      marks = p.hunks.marks;
-      spare = p.hunks.spare;
+      marks = p.states.marks;
+      states = p.states.last;
+      spare = p.states.spare;
     } };
 }
 
@@ -50,28 +57,27 @@ impl LastParse {
         ensures parsed { result.parsed ≡ None }
         ensures tree { result.tree ≡ None }
         ensures marks { result.marks ≡ New ∷ [] }
+        ensures states { result.states ≡ borders [] Code }
     {
         LastParse {
             parsed: None,
-            hunks: Hunks::new(alloc),
+            states: States::new(alloc),
         }
     }
 
     /// No parse, for a text of so many lines.
-    pub(crate) fn of_new_lines(alloc: Global, lines: u64) -> Result<LastParse, AllocError>
+    pub(crate) fn of_new_lines(alloc: Global, lines: u64) -> LastParse
         requires some { 1 ≤ lines }
         requires fits { lines < 2 ^ 62 }
-        ensures parsed { IfOk result (λ last. last.parsed ≡ None) }
-        ensures tree { IfOk result (λ last. last.tree ≡ None) }
-        ensures marks { IfOk result (λ last. last.marks ≡ replicate lines New) }
+        ensures parsed { result.parsed ≡ None }
+        ensures tree { result.tree ≡ None }
+        ensures marks { result.marks ≡ replicate lines New }
+        ensures states { result.states ≡ borders [] Code }
     {
-        let mut hunks = Hunks::new(alloc);
-        hunks.reserve(1)?;
-        hunks.edit(1, 1, lines);
-        Ok(LastParse {
+        LastParse {
             parsed: None,
-            hunks,
-        })
+            states: States::all_new(alloc, lines),
+        }
     }
 
     /// Makes room for so many edits. An error leaves parse and marks as they were, and room that was there stays.
@@ -81,8 +87,9 @@ impl LastParse {
         ensures parsed { self.new.parsed ≡ self.old.parsed }
         ensures tree { self.new.tree ≡ self.old.tree }
         ensures marks { self.new.marks ≡ self.old.marks }
+        ensures states { self.new.states ≡ self.old.states }
     {
-        self.hunks.reserve(edits)
+        self.states.reserve(edits)
     }
 
     /// Marks the lines that an edit of the text touched, as it answered. There is room for it.
@@ -98,15 +105,16 @@ impl LastParse {
         ensures room { self.old.spare ≤ self.new.spare + 1 }
         ensures parsed { self.new.parsed ≡ self.old.parsed }
         ensures tree { self.new.tree ≡ self.old.tree }
+        ensures states { self.new.states ≡ self.old.states }
     {
-        self.hunks.edit(dirty.first, dirty.old, dirty.new);
+        self.states.edit(dirty.first, dirty.old, dirty.new);
     }
 
     /// The tree, where it is that of the text of now.
     pub(crate) fn fresh(&self) -> Option<&Node>
         ensures { option_copied result ≡ fresh_tree self.now.tree self.now.marks }
     {
-        if self.hunks.is_clean() {
+        if self.states.hunks().is_clean() {
             self.tree()
         } else {
             None
@@ -120,19 +128,33 @@ impl LastParse {
         self.parsed.as_ref()
     }
 
-    /// The tree of the last parse, under the marks.
-    pub(crate) fn old(&self, alloc: Global) -> OldReader<'_>
-        ensures tree { result.tree ≡ self.now.tree }
-        ensures marks { result.marks ≡ self.now.marks }
+    /// The lines of the text of now, settled for a parse. Where no comment goes on from line to line all begin in code: none
+    /// is asked for, and no memory is wanted.
+    pub(crate) fn settle<'s>(
+        &'s self,
+        alloc: Global,
+        table: &BracketTable,
+        hiding: &Hiding,
+        lines: &mut TextLines<'_>,
+    ) -> Result<Settled<'s>, AllocError>
+        requires stays { StaysWith self.now.tree self.now.marks self.now.states
+            (scanner table.now hiding.now) lines.old.lines }
+        ensures settled { IfOk result (AreSettled (scanner table.now hiding.now) lines.old.lines
+            self.now.states self.now.marks) }
+        ensures contents { line_contents lines.new.lines ≡ line_contents lines.old.lines }
     {
-        OldReader::new(alloc, self.tree(), &self.hunks)
+        if !hiding.has_block() {
+            return Ok(self.states.in_code());
+        }
+        self.states.settle(alloc, table, hiding, lines)
     }
 
-    /// What each line of the text of now is to the last parse.
-    pub(crate) fn hunks(&self) -> &Hunks
-        ensures { result.now.marks ≡ self.now.marks }
+    /// The tree of the last parse, under the marks of settled lines.
+    pub(crate) fn old<'s>(&'s self, alloc: Global, settled: &'s Settled<'s>) -> OldReader<'s>
+        ensures tree { result.tree ≡ self.now.tree }
+        ensures marks { result.marks ≡ settled.now.marks }
     {
-        &self.hunks
+        OldReader::new(alloc, self.tree(), settled)
     }
 
     fn tree(&self) -> Option<&Node>
@@ -144,19 +166,20 @@ impl LastParse {
         }
     }
 
-    /// Puts the parse of the text of now in place of the old one.
-    pub(crate) fn put(&mut self, parsed: Parsed)
+    /// Puts the parse of the text of now, and the states of its lines, in place of the old ones.
+    pub(crate) fn put(&mut self, parsed: Parsed, states: LineStates)
+        requires { length states.begins ≡ length self.old.marks }
         ensures parsed { self.new.parsed ≡ Some parsed }
         ensures tree { self.new.tree ≡ Some parsed.tree }
         ensures marks { self.new.marks ≡ clean_marks (length self.old.marks) }
+        ensures states { self.new.states ≡ states }
         ensures fresh { fresh_tree self.new.tree self.new.marks ≡ Some parsed.tree }
         ensures rules { IsTree parsed.tree }
         ensures room { self.old.spare ≤ self.new.spare }
     {
         // It tells that the tree meets the rules of nodes.
         let _length = parsed.tree().length();
-        let lines = self.hunks.lines();
-        self.hunks.clean(lines);
+        self.states.adopt(states);
         self.parsed = Some(parsed);
     }
 }
@@ -176,8 +199,9 @@ pub(crate) fn unparsed(
     ensures tree { IfOk result (λ made. made.1.tree ≡ None) }
     ensures marks { IfOk result (λ made.
         made.1.marks ≡ replicate (length (lines_of units.now)) New) }
+    ensures states { IfOk result (λ made. made.1.states ≡ borders [] Code) }
 {
     let text = TextBuffer::of_units(alloc, units, kind)?;
-    let last = LastParse::of_new_lines(alloc, text.line_count())?;
+    let last = LastParse::of_new_lines(alloc, text.line_count());
     Ok((text, last))
 }

@@ -2,7 +2,7 @@
 
 ghost use Rattle.std.specs.Prelude.{◌≡◌, ◌≤◌, ◌&&◌, [], None, Some, length, if◌then◌else◌, IfOk, OnOk};
 ghost use Rattle.batch_rules.specs.Batches.{most_units};
-ghost use Rattle.bracket_rules.specs.Table.{standard_table};
+ghost use Rattle.hiding_rules.specs.Hidden.{scanner, standard_scanner};
 ghost use Rattle.decoration_rules.specs.Decorations.{Decorates, decorated};
 ghost use Rattle.unit_text.specs.declared.kind.Kind.TheVariants.{Mixed};
 ghost use Rattle.unit_text.specs.Kinds.{IsOfKind};
@@ -11,7 +11,7 @@ ghost use Rattle.model_page.specs.Carrying.{AreIn};
 ghost use Rattle.model_page.specs.State.{HasRoom, IsNew, IsUntouched, KeepsRoom};
 
 use crate::last_parse::{LastParse, unparsed};
-use bracket_scan::BracketTable;
+use bracket_scan::{BracketTable, Hiding};
 use decorations::{DecoError, DecoSet, NewDeco};
 use std::alloc::{AllocError, Global};
 use std::marker::Model;
@@ -30,6 +30,7 @@ pub struct Page {
     pub(crate) text: TextBuffer,
     pub(crate) decorations: DecoSet,
     pub(crate) table: BracketTable,
+    pub(crate) hiding: Hiding,
     pub(crate) last: LastParse,
 }
 
@@ -53,7 +54,7 @@ impl Model for Page {
 impl Page {
     /// An empty text, with the standard brackets.
     pub fn new(alloc: Global) -> Page
-        ensures page { IsNew [] Mixed standard_table result }
+        ensures page { IsNew [] Mixed standard_scanner result }
         ensures pieces { length result.text.spans ≡ 0 }
     {
         Page {
@@ -61,20 +62,22 @@ impl Page {
             text: TextBuffer::new(alloc),
             decorations: DecoSet::new(alloc),
             table: BracketTable::standard(),
+            hiding: Hiding::none(),
             last: LastParse::none(alloc),
         }
     }
 
-    /// The text of these units, all of whose line endings are of the kind, with these brackets.
+    /// The text of these units, all of whose line endings are of the kind, with these brackets, which comments and strings hide.
     pub fn open(
         alloc: Global,
         units: &[u16],
         kind: Kind,
         table: BracketTable,
+        hiding: Hiding,
     ) -> Result<Page, AllocError>
         requires fits { length units.now ≤ most_units }
         requires endings { IsOfKind kind units.now }
-        ensures { IfOk result (IsNew units.now kind table) }
+        ensures { IfOk result (IsNew units.now kind (scanner table hiding)) }
     {
         let (text, last) = unparsed(alloc, units, kind)?;
         Ok(Page {
@@ -82,6 +85,7 @@ impl Page {
             text,
             decorations: DecoSet::new(alloc),
             table,
+            hiding,
             last,
         })
     }

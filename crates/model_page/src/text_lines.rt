@@ -2,7 +2,7 @@
 
 ghost use Rattle.std.specs.Prelude.{◌≡◌, ◌<◌, ◌^◌, [], length};
 
-use node_reuse::Lines;
+use line_states::Lines;
 use std::alloc::AllocError;
 use steps::Trail;
 use text_buffer::{LineReader, TextBuffer};

@@ -6,9 +6,14 @@ use Rattle.text_lengths.specs.declared.Length.{Length}
 use Rattle.text_lengths.specs.Length.{length_of}
 use Rattle.bracket_rules.specs.declared.Token.{Token}
 use Rattle.bracket_rules.specs.declared.TheConstants.{MOST_OPEN}
-use Rattle.bracket_rules.specs.Table.{Table, is_table, tokens_of}
-use Rattle.bracket_rules.specs.Rows.{Row, HasRow, row, empty_row, glue, text_rows}
-use Rattle.bracket_rules.proofs.Tokens.{tokens_of-in_line}
+use Rattle.bracket_rules.specs.Table.{is_table, AreInLine}
+use Rattle.bracket_rules.specs.Rows.{Row, HasRow, row, empty_row, glue}
+use Rattle.hiding_rules.specs.declared.LineState.TheVariants.{Code}
+use Rattle.hiding_rules.specs.Hidden.{Scanner, hidden_scan}
+use Rattle.hiding_rules.specs.States.{line_states}
+use Rattle.hiding_rules.specs.Rows.{line_by, lines_by, broken, hidden_rows}
+use Rattle.hiding_rules.proofs.InLine.{hidden_tokens_in_line}
+use Rattle.hiding_rules.proofs.Rows.{length-broken, length-states_from, length-lines_by, line_by-at}
 use Rattle.bracket_tree_rules.specs.Tree.{text}
 use Rattle.bracket_tree_rules.specs.Weights.{glue_weights, AreCovered}
 use Rattle.bracket_tree_rules.specs.Places.{rows_from}
@@ -78,25 +83,20 @@ fresh_over now weights p n left f same last end =
 
 -- ---- a line is entered
 
-pub length-text_rows : (table : Table) (xs : List (List ℕ)) → length (text_rows table xs) ≡ length xs
-length-text_rows table [] = refl
-length-text_rows table (x ∷ []) = refl
-length-text_rows table (x ∷ y ∷ xs) = ap suc (length-text_rows table (y ∷ xs))
-
 -- the row of a line, and those that follow it
-text_row : (table : Table) (xs : List (List ℕ)) (i : ℕ) → i < length xs
-    → drop i (text_rows table xs)
-    ≡ rows_before 0 (tokens_of table (get_or xs i [])) (length (get_or xs i [])) (drop (suc i) (text_rows table xs))
-text_row table [] i h = absurd (omega arith)
-text_row table (x ∷ []) zero h =
-    let columns : length x ≡ length x - 0 = omega arith in
-    ap (λ (ts : List Token). row ts (length x) ∷ []) (sym (moved_back-zero (tokens_of table x)))
-    ∙ ap (λ (n : ℕ). row (moved_back 0 (tokens_of table x)) n ∷ []) columns
-text_row table (x ∷ []) (suc i) h = absurd (omega arith)
-text_row table (x ∷ y ∷ xs) zero h =
-    ap (λ (ts : List Token). row ts 0 ∷ text_rows table (y ∷ xs)) (sym (moved_back-zero (tokens_of table x)))
-    ∙ sym (before_more 0 (tokens_of table x) (length x) (text_rows table (y ∷ xs)) (some_row (text_rows table (y ∷ xs)) (omega (arith, length-text_rows table (y ∷ xs)))))
-text_row table (x ∷ y ∷ xs) (suc i) h = text_row table (y ∷ xs) i (omega arith)
+broken_row : (rows : List Row) (i : ℕ) → i < length rows
+    → drop i (broken rows)
+    ≡ rows_before 0 (get_or rows i empty_row).brackets (get_or rows i empty_row).columns (drop (suc i) (broken rows))
+broken_row [] i h = absurd (omega arith)
+broken_row (r ∷ []) zero h =
+    let columns : r.columns ≡ r.columns - 0 = omega arith in
+    ap (λ (ts : List Token). row ts r.columns ∷ []) (sym (moved_back-zero r.brackets))
+    ∙ ap (λ (n : ℕ). row (moved_back 0 r.brackets) n ∷ []) columns
+broken_row (r ∷ []) (suc i) h = absurd (omega arith)
+broken_row (r ∷ s ∷ rows) zero h =
+    ap (λ (ts : List Token). row ts 0 ∷ broken (s ∷ rows)) (sym (moved_back-zero r.brackets))
+    ∙ sym (before_more 0 r.brackets r.columns (broken (s ∷ rows)) (some_row (broken (s ∷ rows)) (omega (arith, length-broken (s ∷ rows)))))
+broken_row (r ∷ s ∷ rows) (suc i) h = broken_row (s ∷ rows) i (omega arith)
 
 weight-more : (r : Row) (rows : List Row) → 0 < length rows → slice_index (row_weights (r ∷ rows)) 0 ≡ brackets_end 0 r.brackets + 1
 weight-more r [] h = absurd (omega arith)
@@ -106,29 +106,48 @@ weight-later : (r : Row) (rows : List Row) (i : ℕ) → 0 < length rows → sli
 weight-later r [] i h = absurd (omega arith)
 weight-later r (s ∷ rows) i h = refl
 
-text_weight : (table : Table) (xs : List (List ℕ)) (i : ℕ) → i < length xs
-    → slice_index (row_weights (text_rows table xs)) i
-    ≡ weight_before 0 (tokens_of table (get_or xs i [])) (length (get_or xs i [])) (drop (suc i) (text_rows table xs))
-text_weight table [] i h = absurd (omega arith)
-text_weight table (x ∷ []) zero h = refl
-text_weight table (x ∷ []) (suc i) h = absurd (omega arith)
-text_weight table (x ∷ y ∷ xs) zero h =
-    let some : 0 < length (text_rows table (y ∷ xs)) = omega (arith, length-text_rows table (y ∷ xs)) in
-    weight-more (row (tokens_of table x) 0) (text_rows table (y ∷ xs)) some
-    ∙ sym (some_break 0 (length x) (tokens_of table x) (text_rows table (y ∷ xs)) some)
-text_weight table (x ∷ y ∷ xs) (suc i) h =
-    weight-later (row (tokens_of table x) 0) (text_rows table (y ∷ xs)) i (omega (arith, length-text_rows table (y ∷ xs)))
-    ∙ text_weight table (y ∷ xs) i (omega arith)
+broken_weight : (rows : List Row) (i : ℕ) → i < length rows
+    → slice_index (row_weights (broken rows)) i
+    ≡ weight_before 0 (get_or rows i empty_row).brackets (get_or rows i empty_row).columns (drop (suc i) (broken rows))
+broken_weight [] i h = absurd (omega arith)
+broken_weight (r ∷ []) zero h = refl
+broken_weight (r ∷ []) (suc i) h = absurd (omega arith)
+broken_weight (r ∷ s ∷ rows) zero h =
+    let some : 0 < length (broken (s ∷ rows)) = omega (arith, length-broken (s ∷ rows)) in
+    weight-more (row r.brackets 0) (broken (s ∷ rows)) some
+    ∙ sym (some_break 0 r.columns r.brackets (broken (s ∷ rows)) some)
+broken_weight (r ∷ s ∷ rows) (suc i) h =
+    weight-later (row r.brackets 0) (broken (s ∷ rows)) i (omega (arith, length-broken (s ∷ rows)))
+    ∙ broken_weight (s ∷ rows) i (omega arith)
+
+-- the start of a line of these rows
+row_start : (rows : List Row) (i : ℕ) → i < length rows
+    → AreInLine 0 (get_or rows i empty_row).columns (get_or rows i empty_row).brackets
+    → Reached (broken rows) (length_of i 0) (rows_from (length_of i 0) (broken rows))
+    → IsFresh (broken rows) (row_weights (broken rows)) (length_of i 0) (get_or rows i empty_row).brackets (get_or rows i empty_row).columns
+row_start rows i h in_line r =
+    let ahead : drop i (broken rows) ≡ rows_from (length_of i 0) (broken rows) =
+    Reached-line (broken rows) i (rows_from (length_of i 0) (broken rows)) r in
+    record {
+      reached = subst (Reached (broken rows) (length_of i 0)) (sym ahead ∙ broken_row rows i h) r;
+      line = in_line;
+      weight = broken_weight rows i h;
+    }
+
+-- the tokens of line i, from 0
+abbrev pub tokens_at : Scanner → List (List ℕ) → ℕ → List Token
+tokens_at by xs i = (hidden_scan by (get_or (line_states by xs) i Code) (get_or xs i [])).tokens
 
 -- at the start of a line its tokens are those of its content
-pub fresh_start : (table : Table) (xs : List (List ℕ)) (i : ℕ) → is_table table ≡ true → i < length xs
-    → Reached (text_rows table xs) (length_of i 0) (rows_from (length_of i 0) (text_rows table xs))
-    → IsFresh (text_rows table xs) (row_weights (text_rows table xs)) (length_of i 0) (tokens_of table (get_or xs i [])) (length (get_or xs i []))
-fresh_start table xs i is h r =
-    let now = text_rows table xs in
-    let ahead : drop i now ≡ rows_from (length_of i 0) now = Reached-line now i (rows_from (length_of i 0) now) r in
-    record {
-      reached = subst (Reached now (length_of i 0)) (sym ahead ∙ text_row table xs i h) r;
-      line = tokens_of-in_line table (get_or xs i []) is;
-      weight = text_weight table xs i h;
-    }
+pub fresh_start : (by : Scanner) (xs : List (List ℕ)) (i : ℕ) → is_table by.table ≡ true → i < length xs
+    → Reached (hidden_rows by xs) (length_of i 0) (rows_from (length_of i 0) (hidden_rows by xs))
+    → IsFresh (hidden_rows by xs) (row_weights (hidden_rows by xs)) (length_of i 0) (tokens_at by xs i) (length (get_or xs i []))
+fresh_start by xs i is h r =
+    let states = line_states by xs in
+    let rows = lines_by by states xs in
+    let as_many = length-states_from by Code xs in
+    let counted = length-lines_by by states xs as_many in
+    let at : get_or rows i empty_row ≡ line_by by (get_or states i Code) (get_or xs i []) = line_by-at by states xs i as_many h in
+    let in_line = subst (λ (x : Row). AreInLine 0 x.columns x.brackets) (sym at) (hidden_tokens_in_line by is (get_or states i Code) (get_or xs i [])) in
+    subst (λ (x : Row). IsFresh (broken rows) (row_weights (broken rows)) (length_of i 0) x.brackets x.columns) at
+    (row_start rows i (omega (arith, h, counted)) in_line r)

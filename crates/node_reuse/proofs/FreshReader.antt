@@ -24,7 +24,8 @@ use Rattle.node_reuse.specs.Ahead.{ahead_at, fresh_left, IsFresh}
 use Rattle.node_reuse.specs.Reading.{IsInLine, left_by, left_at}
 use Rattle.node_reuse.specs.Reader.{Sight, sight_rows, sight_weights, mark_of, unasked, new_lines_at, Asked, asking_at, seen_at, tokens_left, StandsAt, ReadsOn}
 use Rattle.node_reuse.proofs.FreshSteps.{IsBeforeMore, gap_next, gap_given, bracket_next, bracket_given, break_next}
-use Rattle.node_reuse.proofs.FreshLines.{break_given, fresh_over, length-text_rows}
+use Rattle.hiding_rules.proofs.Rows.{length-hidden_rows}
+use Rattle.node_reuse.proofs.FreshLines.{break_given, fresh_over}
 use Rattle.node_reuse.proofs.LightLines.{length-row_weights}
 use Rattle.node_reuse.proofs.KeptSteps.{reached_within}
 use Rattle.node_reuse.proofs.KeptEnds.{lighter}
@@ -35,17 +36,17 @@ use Rattle.node_reuse.proofs.Unasked.{none_unasked}
 
 -- so much is left at the two places: these weights and what is left at the second are within what is left at the first
 covered_left : (s : Sight) (p q : Length) (l m : ℕ) (weights : List ℕ)
-    → left_at s.old.tree s.marks (sight_weights s) p ≡ l → left_at s.old.tree s.marks (sight_weights s) q ≡ m
+    → left_at s.old.tree s.old.marks (sight_weights s) p ≡ l → left_at s.old.tree s.old.marks (sight_weights s) q ≡ m
     → AreCovered (glue_weights weights (m ∷ drop (suc q.lines) (sight_weights s))) (l ∷ drop (suc p.lines) (sight_weights s))
-    → AreCovered (glue_weights weights (left_at s.old.tree s.marks (sight_weights s) q ∷ drop (suc q.lines) (sight_weights s)))
-    (left_at s.old.tree s.marks (sight_weights s) p ∷ drop (suc p.lines) (sight_weights s))
+    → AreCovered (glue_weights weights (left_at s.old.tree s.old.marks (sight_weights s) q ∷ drop (suc q.lines) (sight_weights s)))
+    (left_at s.old.tree s.old.marks (sight_weights s) p ∷ drop (suc p.lines) (sight_weights s))
 covered_left s p q l m weights e f h =
-    subst (λ (x : ℕ). AreCovered (glue_weights weights (left_at s.old.tree s.marks (sight_weights s) q ∷ drop (suc q.lines) (sight_weights s)))
+    subst (λ (x : ℕ). AreCovered (glue_weights weights (left_at s.old.tree s.old.marks (sight_weights s) q ∷ drop (suc q.lines) (sight_weights s)))
     (x ∷ drop (suc p.lines) (sight_weights s))) (sym e)
     (subst (λ (x : ℕ). AreCovered (glue_weights weights (x ∷ drop (suc q.lines) (sight_weights s))) (l ∷ drop (suc p.lines) (sight_weights s))) (sym f) h)
 
 pub node_seen : (s : Sight) (asked : Asked) (p q : Length) (from to : Line) (kinds level l m : ℕ) (t : Tree)
-    → left_at s.old.tree s.marks (sight_weights s) p ≡ l → left_at s.old.tree s.marks (sight_weights s) q ≡ m
+    → left_at s.old.tree s.old.marks (sight_weights s) p ≡ l → left_at s.old.tree s.old.marks (sight_weights s) q ≡ m
     → GivesNode (ahead_at (sight_rows s) (sight_weights s) p l) (ahead_at (sight_rows s) (sight_weights s) q m) kinds level t
     → GivesNode (seen_at s asked p from) (seen_at s asked q to) kinds level t
 node_seen s asked p q from to kinds level l m t e f g = record {
@@ -58,7 +59,7 @@ node_seen s asked p q from to kinds level l m t e f g = record {
 }
 
 pub bracket_seen : (s : Sight) (asked : Asked) (p q : Length) (from to : Line) (k w l m : ℕ) (opening : Bool)
-    → left_at s.old.tree s.marks (sight_weights s) p ≡ l → left_at s.old.tree s.marks (sight_weights s) q ≡ m
+    → left_at s.old.tree s.old.marks (sight_weights s) p ≡ l → left_at s.old.tree s.old.marks (sight_weights s) q ≡ m
     → GivesBracket (ahead_at (sight_rows s) (sight_weights s) p l) (ahead_at (sight_rows s) (sight_weights s) q m) k w opening
     → GivesBracket (seen_at s asked p from) (seen_at s asked q to) k w opening
 bracket_seen s asked p q from to k w l m opening e f g = record {
@@ -70,18 +71,18 @@ bracket_seen s asked p q from to k w l m opening e f g = record {
 }
 
 -- the same lines are left
-pub asks_same : (s : Sight) (asked : Asked) (p q : Length) (from to : Line) → unasked s.marks q to.scanned ≡ unasked s.marks p from.scanned
+pub asks_same : (s : Sight) (asked : Asked) (p q : Length) (from to : Line) → unasked s.old.marks q to.scanned ≡ unasked s.old.marks p from.scanned
     → to.asked ≡ from.asked → AsksOn (asking_at s asked p from) (asking_at s asked q to)
 asks_same s asked p q from to left count = record {
   contents = refl;
   asked = ap (λ (x : List ℕ). asked.lines ++ x) left;
-  count = ap (λ (n : ℕ). n + length (unasked s.marks q to.scanned)) count ∙ ap (λ (x : List ℕ). from.asked + length x) left;
+  count = ap (λ (n : ℕ). n + length (unasked s.old.marks q to.scanned)) count ∙ ap (λ (x : List ℕ). from.asked + length x) left;
   borrows = refl;
 }
 
 -- a reader in a line stands within the text
 pub lines_within : (s : Sight) (p : Length) (line : Line) → StandsAt s p line → p.lines < length s.contents
-lines_within s p line h = omega (arith, reached_within (sight_rows s) p (rows_from p (sight_rows s)) h.reached, length-text_rows s.table s.contents)
+lines_within s p line h = omega (arith, reached_within (sight_rows s) p (rows_from p (sight_rows s)) h.reached, length-hidden_rows s.by s.contents)
 
 pub same_count : (s : Sight) → length (sight_weights s) ≡ length (sight_rows s)
 same_count s = length-row_weights (sight_rows s)
@@ -91,24 +92,24 @@ same_count s = length-row_weights (sight_rows s)
 pub fresh_line : (s : Sight) (p : Length) (line : Line) → StandsAt s p line → line.scanned ≡ true
     → IsFresh (sight_rows s) (sight_weights s) p (tokens_left line) line.columns
 fresh_line s p line h e =
-    subst (λ (b : Bool). IsInLine New s.old.tree s.marks (sight_rows s) (sight_weights s) p b (tokens_left line) line.columns) e
-    (subst (λ (m : Mark). IsInLine m s.old.tree s.marks (sight_rows s) (sight_weights s) p line.scanned (tokens_left line) line.columns) (h.is_new e)
+    subst (λ (b : Bool). IsInLine New s.old.tree s.old.marks (sight_rows s) (sight_weights s) p b (tokens_left line) line.columns) e
+    (subst (λ (m : Mark). IsInLine m s.old.tree s.old.marks (sight_rows s) (sight_weights s) p line.scanned (tokens_left line) line.columns) (h.is_new e)
     h.in_line)
 
-left_new : (s : Sight) (p : Length) → mark_of s p ≡ New → left_at s.old.tree s.marks (sight_weights s) p ≡ fresh_left (sight_weights s) p
+left_new : (s : Sight) (p : Length) → mark_of s p ≡ New → left_at s.old.tree s.old.marks (sight_weights s) p ≡ fresh_left (sight_weights s) p
 left_new s p e = ap (λ (m : Mark). left_by m s.old.tree (sight_weights s) p) e
 
-unasked_scanned : (s : Sight) (p : Length) (b : Bool) → b ≡ true → unasked s.marks p b ≡ new_lines_at (suc p.lines) s.marks
-unasked_scanned s p b e = ap (unasked s.marks p) e
+unasked_scanned : (s : Sight) (p : Length) (b : Bool) → b ≡ true → unasked s.old.marks p b ≡ new_lines_at (suc p.lines) s.old.marks
+unasked_scanned s p b e = ap (unasked s.old.marks p) e
 
-pub unasked_unscanned : (s : Sight) (p : Length) (b : Bool) → b ≡ false → unasked s.marks p b ≡ new_lines_at p.lines s.marks
-unasked_unscanned s p b e = ap (unasked s.marks p) e
+pub unasked_unscanned : (s : Sight) (p : Length) (b : Bool) → b ≡ false → unasked s.old.marks p b ≡ new_lines_at p.lines s.old.marks
+unasked_unscanned s p b e = ap (unasked s.old.marks p) e
 
 -- the reader comes to another column of the line
 module _ (s : Sight) (p : Length) (line : Line) (h : StandsAt s p line) (e : line.scanned ≡ true)
     (c : ℕ) (to : Line) (scanned : to.scanned ≡ true) (counted : to.asked ≡ line.asked)
     (f : IsFresh (sight_rows s) (sight_weights s) (length_of p.lines c) (tokens_left to) to.columns) where
-  column_unasked : unasked s.marks (length_of p.lines c) to.scanned ≡ unasked s.marks p line.scanned
+  column_unasked : unasked s.old.marks (length_of p.lines c) to.scanned ≡ unasked s.old.marks p line.scanned
   column_unasked = unasked_scanned s (length_of p.lines c) to.scanned scanned ∙ sym (unasked_scanned s p line.scanned e)
 
   column_stands : StandsAt s (length_of p.lines c) to
@@ -117,15 +118,15 @@ module _ (s : Sight) (p : Length) (line : Line) (h : StandsAt s p line) (e : lin
     reached =
         subst (Reached (sight_rows s) (length_of p.lines c)) (sym (Reached-rows (sight_rows s) (length_of p.lines c) _ f.reached)) f.reached;
     in_line =
-        subst (λ (m : Mark). IsInLine m s.old.tree s.marks (sight_rows s) (sight_weights s) (length_of p.lines c) to.scanned (tokens_left to) to.columns)
+        subst (λ (m : Mark). IsInLine m s.old.tree s.old.marks (sight_rows s) (sight_weights s) (length_of p.lines c) to.scanned (tokens_left to) to.columns)
         (sym (h.is_new e))
-        (subst (λ (b : Bool). IsInLine New s.old.tree s.marks (sight_rows s) (sight_weights s) (length_of p.lines c) b (tokens_left to) to.columns) (sym scanned) f);
+        (subst (λ (b : Bool). IsInLine New s.old.tree s.old.marks (sight_rows s) (sight_weights s) (length_of p.lines c) b (tokens_left to) to.columns) (sym scanned) f);
     is_new = λ _. h.is_new e;
-    asked = ap (λ (n : ℕ). n + length (unasked s.marks (length_of p.lines c) to.scanned)) counted
+    asked = ap (λ (n : ℕ). n + length (unasked s.old.marks (length_of p.lines c) to.scanned)) counted
         ∙ ap (λ (x : List ℕ). line.asked + length x) column_unasked ∙ h.asked;
   }
 
-  column_left : left_at s.old.tree s.marks (sight_weights s) (length_of p.lines c) ≡ fresh_left (sight_weights s) (length_of p.lines c)
+  column_left : left_at s.old.tree s.old.marks (sight_weights s) (length_of p.lines c) ≡ fresh_left (sight_weights s) (length_of p.lines c)
   column_left = left_new s (length_of p.lines c) (h.is_new e)
 
 pub fresh_gap : (s : Sight) (p : Length) (line : Line) (d kinds level : ℕ) → level ≤ MOST_OPEN → StandsAt s p line → line.scanned ≡ true
@@ -163,7 +164,7 @@ before_none (t ∷ ts) = tt
 pub before_end : (s : Sight) (p : Length) (ts : List Token) → length s.contents ≤ suc p.lines → IsBeforeMore ts (drop (suc p.lines) (sight_rows s))
 before_end s p ts last =
     subst (IsBeforeMore ts) (sym (nil_from_length (drop (suc p.lines) (sight_rows s))
-    (omega (arith, length-drop (suc p.lines) (sight_rows s), length-text_rows s.table s.contents)))) (before_none ts)
+    (omega (arith, length-drop (suc p.lines) (sight_rows s), length-hidden_rows s.by s.contents)))) (before_none ts)
 
 pub fresh_bracket : (s : Sight) (p : Length) (line to : Line) (t : Token) (kinds level : ℕ) → StandsAt s p line → line.scanned ≡ true
     → tokens_left line ≡ t ∷ tokens_left to → t.at ≤ p.columns → to.scanned ≡ true → to.asked ≡ line.asked → to.columns ≡ line.columns
@@ -189,27 +190,27 @@ fresh_bracket s p line to t kinds level h e split at scanned counted columns =
 
 pub start_stands : (s : Sight) (p q : Length) (line to : Line) → StandsAt s p line → q.columns ≡ 0
     → Reached (sight_rows s) q (rows_from q (sight_rows s)) → to.scanned ≡ false → to.asked ≡ line.asked
-    → unasked s.marks q to.scanned ≡ unasked s.marks p line.scanned → StandsAt s q to
+    → unasked s.old.marks q to.scanned ≡ unasked s.old.marks p line.scanned → StandsAt s q to
 start_stands s p q line to h start r scanned counted left = record {
   sound = h.sound;
   reached = r;
   in_line =
-      subst (λ (b : Bool). IsInLine (mark_of s q) s.old.tree s.marks (sight_rows s) (sight_weights s) q b (tokens_left to) to.columns) (sym scanned)
-      (line_starts s.old.tree s.marks (sight_rows s) (sight_weights s) q (tokens_left to) to.columns h.sound.stays (same_count s) start r);
+      subst (λ (b : Bool). IsInLine (mark_of s q) s.old.tree s.old.marks (sight_rows s) (sight_weights s) q b (tokens_left to) to.columns) (sym scanned)
+      (line_starts s.old.tree s.old.marks (sight_rows s) (sight_weights s) q (tokens_left to) to.columns h.sound.stays (same_count s) start r);
   is_new = λ k. let clash : true ≡ false = sym k ∙ scanned in cc;
-  asked = ap (λ (n : ℕ). n + length (unasked s.marks q to.scanned)) counted ∙ ap (λ (x : List ℕ). line.asked + length x) left ∙ h.asked;
+  asked = ap (λ (n : ℕ). n + length (unasked s.old.marks q to.scanned)) counted ∙ ap (λ (x : List ℕ). line.asked + length x) left ∙ h.asked;
 }
 
 -- what gives a node that ends at the start of a line, where that line may weigh more than what is left of it
 pub node_seen_at_start : (s : Sight) (asked : Asked) (p q : Length) (from to : Line) (kinds level l : ℕ) (t : Tree) (line : Line) → StandsAt s p line
-    → q.columns ≡ 0 → left_at s.old.tree s.marks (sight_weights s) p ≡ l
+    → q.columns ≡ 0 → left_at s.old.tree s.old.marks (sight_weights s) p ≡ l
     → GivesNode (ahead_at (sight_rows s) (sight_weights s) p l) (ahead_at (sight_rows s) (sight_weights s) q (fresh_left (sight_weights s) q)) kinds level t
     → GivesNode (seen_at s asked p from) (seen_at s asked q to) kinds level t
 node_seen_at_start s asked p q from to kinds level l t line h start e g =
-    let left = left_at s.old.tree s.marks (sight_weights s) q in
+    let left = left_at s.old.tree s.old.marks (sight_weights s) q in
     node_seen s asked p q from to kinds level l left t e refl
     (lighter (ahead_at (sight_rows s) (sight_weights s) p l) (ahead_at (sight_rows s) (sight_weights s) q (fresh_left (sight_weights s) q)) kinds level t left
-    (start_is_light s.old.tree s.marks (sight_rows s) (sight_weights s) q h.sound.stays start) g)
+    (start_is_light s.old.tree s.old.marks (sight_rows s) (sight_weights s) q h.sound.stays start) g)
 
 pub fresh_break : (s : Sight) (p : Length) (line to : Line) (kinds level : ℕ) → level ≤ MOST_OPEN → StandsAt s p line → line.scanned ≡ true
     → tokens_left line ≡ [] → suc p.lines < length s.contents → to.scanned ≡ false → to.asked ≡ line.asked
@@ -220,10 +221,10 @@ fresh_break s p line to kinds level room h e none more scanned counted =
     let q = length_of (suc p.lines) 0 in
     let here : IsFresh rows weights p [] line.columns =
     subst (λ (ts : List Token). IsFresh rows weights p ts line.columns) none (fresh_line s p line h e) in
-    let count : suc p.lines < length rows = omega (arith, length-text_rows s.table s.contents) in
+    let count : suc p.lines < length rows = omega (arith, length-hidden_rows s.by s.contents) in
     let r : Reached rows q (drop (suc p.lines) rows) = break_next rows weights p line.columns here count in
     let reached : Reached rows q (rows_from q rows) = subst (Reached rows q) (sym (Reached-rows rows q (drop (suc p.lines) rows) r)) r in
-    let left : unasked s.marks q to.scanned ≡ unasked s.marks p line.scanned =
+    let left : unasked s.old.marks q to.scanned ≡ unasked s.old.marks p line.scanned =
     unasked_unscanned s q to.scanned scanned ∙ sym (unasked_scanned s p line.scanned e) in
     record {
       comes = λ asked. node_seen_at_start s asked p q line to kinds level (fresh_left weights p) (text (length_of 1 0)) line h refl
@@ -242,9 +243,9 @@ fresh_end s p line kinds level h e none last end =
     let here : IsFresh rows weights p [] line.columns =
     subst (λ (ts : List Token). IsFresh rows weights p ts line.columns) none (fresh_line s p line h e) in
     let over : IsOver (ahead_at rows weights p 0) =
-    fresh_over rows weights p line.columns 0 here (same_count s) (omega (arith, length-text_rows s.table s.contents)) end in
+    fresh_over rows weights p line.columns 0 here (same_count s) (omega (arith, length-hidden_rows s.by s.contents)) end in
     let count = h.sound.counted in
-    let asked_all : unasked s.marks p line.scanned ≡ [] = unasked_scanned s p line.scanned e ∙ none_unasked s.marks (suc p.lines) (omega arith) in
+    let asked_all : unasked s.old.marks p line.scanned ≡ [] = unasked_scanned s p line.scanned e ∙ none_unasked s.old.marks (suc p.lines) (omega arith) in
     record {
       comes = λ asked. record { over = record { empty = over.empty; last = over.last; asked = asked_all }; rows = refl; weights = refl };
       asks = λ asked. asks_same s asked p p line line refl refl;

@@ -5,9 +5,15 @@ use Rattle.std.specs.Prelude.{slice_index, slice_index_or}
 use Rattle.text_lengths.specs.declared.Length.{Length}
 use Rattle.text_lengths.specs.Length.{length_of, no_length}
 use Rattle.bracket_rules.specs.declared.Token.{Token}
-use Rattle.bracket_rules.specs.Rows.{Row, next_line, text_rows}
-use Rattle.bracket_rules.specs.Table.{Table, is_table, tokens_of, AreInLine}
-use Rattle.bracket_rules.proofs.Tokens.{tokens_of-in_line}
+use Rattle.bracket_rules.specs.Rows.{Row, next_line}
+use Rattle.bracket_rules.specs.Table.{is_table, AreInLine}
+use Rattle.hiding_rules.specs.declared.LineState.{LineState}
+use Rattle.hiding_rules.specs.declared.LineState.TheVariants.{Code}
+use Rattle.hiding_rules.specs.Hidden.{Scanner, hidden_scan}
+use Rattle.hiding_rules.specs.States.{line_states}
+use Rattle.hiding_rules.specs.Rows.{lines_by, broken, hidden_rows}
+use Rattle.hiding_rules.proofs.InLine.{hidden_tokens_in_line}
+use Rattle.hiding_rules.proofs.Rows.{length-states_from}
 use Rattle.bracket_tree_rules.specs.Tree.{Tree, tree_length, tree_rows, IsTree}
 use Rattle.bracket_tree_rules.specs.Weights.{tree_weights, AreCovered}
 use Rattle.bracket_tree_rules.specs.Leaves.{Leaf, leaves, weight_from, weights_from, line_weight}
@@ -16,7 +22,8 @@ use Rattle.bracket_tree_rules.proofs.PartedLeaves.{lines_weigh}
 use Rattle.mark_rules.specs.declared.Mark.{Mark}
 use Rattle.mark_rules.specs.declared.Mark.TheVariants.{Kept, New}
 use Rattle.reuse_rules.specs.Agreement.{Alike, Agrees}
-use Rattle.node_reuse.specs.Texts.{brackets_end, row_weights, text_weights, IsTight, IsLightBy}
+use Rattle.line_states.specs.Lines.{text_weights}
+use Rattle.node_reuse.specs.Texts.{brackets_end, row_weights, IsTight, IsLightBy}
 
 -- ---- the weights of rows
 
@@ -100,12 +107,22 @@ brackets_end-within : (column columns : ℕ) (ts : List Token) → AreInLine col
 brackets_end-within column columns [] h = h
 brackets_end-within column columns (t ∷ ts) h = brackets_end-within (t.at + t.len) columns ts h.3
 
-pub rows_are_covered : (table : Table) (xs : List (List ℕ)) → is_table table ≡ true → AreCovered (row_weights (text_rows table xs)) (text_weights xs)
-rows_are_covered table [] is = tt
-rows_are_covered table (x ∷ []) is = (omega arith, tt)
-rows_are_covered table (x ∷ y ∷ []) is =
-    let within = brackets_end-within 0 (length x) (tokens_of table x) (tokens_of-in_line table x is) in
-    (omega arith, rows_are_covered table (y ∷ []) is)
-rows_are_covered table (x ∷ y ∷ z ∷ xs) is =
-    let within = brackets_end-within 0 (length x) (tokens_of table x) (tokens_of-in_line table x is) in
-    (omega arith, rows_are_covered table (y ∷ z ∷ xs) is)
+line_within : (by : Scanner) (state : LineState) (x : List ℕ) → is_table by.table ≡ true → brackets_end 0 (hidden_scan by state x).tokens ≤ length x
+line_within by state x is = brackets_end-within 0 (length x) (hidden_scan by state x).tokens (hidden_tokens_in_line by is state x)
+
+lines_are_covered : (by : Scanner) (states : List LineState) (xs : List (List ℕ)) → is_table by.table ≡ true → length states ≡ length xs
+    → AreCovered (row_weights (broken (lines_by by states xs))) (text_weights xs)
+lines_are_covered by [] [] is same = tt
+lines_are_covered by [] (x ∷ xs) is same = absurd (omega (arith, same))
+lines_are_covered by (s ∷ states) [] is same = absurd (omega (arith, same))
+lines_are_covered by (s ∷ []) (x ∷ []) is same = (omega arith, tt)
+lines_are_covered by (s ∷ []) (x ∷ y ∷ xs) is same = absurd (omega (arith, same))
+lines_are_covered by (s ∷ t ∷ states) (x ∷ []) is same = absurd (omega (arith, same))
+lines_are_covered by (s ∷ t ∷ []) (x ∷ y ∷ []) is same = (omega (arith, line_within by s x is), lines_are_covered by (t ∷ []) (y ∷ []) is refl)
+lines_are_covered by (s ∷ t ∷ []) (x ∷ y ∷ z ∷ xs) is same = absurd (omega (arith, same))
+lines_are_covered by (s ∷ t ∷ u ∷ states) (x ∷ y ∷ []) is same = absurd (omega (arith, same))
+lines_are_covered by (s ∷ t ∷ u ∷ states) (x ∷ y ∷ z ∷ xs) is same =
+    (omega (arith, line_within by s x is), lines_are_covered by (t ∷ u ∷ states) (y ∷ z ∷ xs) is (omega (arith, same)))
+
+pub rows_are_covered : (by : Scanner) (xs : List (List ℕ)) → is_table by.table ≡ true → AreCovered (row_weights (hidden_rows by xs)) (text_weights xs)
+rows_are_covered by xs is = lines_are_covered by (line_states by xs) xs is (length-states_from by Code xs)

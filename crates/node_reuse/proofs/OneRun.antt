@@ -18,7 +18,7 @@ use Rattle.reuse_rules.specs.Prices.{Costs, price}
 use Rattle.reuse_rules.specs.Ways.{run_price, runs_price, lines_price, way_price, IsOneRun}
 use Rattle.reuse_rules.proofs.Prices.{IsUpTo}
 use Rattle.reuse_rules.proofs.KeptRuns.{kept_run_mark}
-use Rattle.node_reuse.specs.Texts.{new_from, new_lines}
+use Rattle.line_states.specs.Lines.{new_from, new_lines}
 use Rattle.node_reuse.proofs.KeptSteps.{rows_count}
 
 -- ---- lines that are kept up to the last one

@@ -7,7 +7,7 @@ use Rattle.text_lengths.specs.declared.Length.{Length}
 use Rattle.text_lengths.specs.Length.{length_of}
 use Rattle.text_lengths.proofs.Lengths.{same_length}
 use Rattle.bracket_rules.specs.declared.Token.{Token}
-use Rattle.bracket_rules.specs.Table.{Table, tokens_of}
+use Rattle.hiding_rules.specs.Hidden.{Scanner}
 use Rattle.bracket_tree_rules.specs.Places.{rows_from}
 use Rattle.bracket_nodes.specs.declared.parser.Next.{Next}
 use Rattle.bracket_nodes.specs.declared.parser.Next.TheVariants.{End, Ready, Bracket}
@@ -17,12 +17,14 @@ use Rattle.mark_rules.specs.declared.Mark.{Mark}
 use Rattle.mark_rules.specs.declared.Mark.TheVariants.{Kept, New}
 use Rattle.reuse_rules.specs.Following.{Reached}
 use Rattle.node_reuse.specs.declared.line.Line.{Line}
-use Rattle.node_reuse.specs.Texts.{content_at}
+use Rattle.line_states.specs.Lines.{content_at}
+use Rattle.line_states.specs.Settling.{SettledState}
+use Rattle.node_reuse.specs.Texts.{line_tokens}
 use Rattle.node_reuse.specs.Ahead.{IsFresh}
 use Rattle.node_reuse.specs.Reading.{IsInLine}
 use Rattle.node_reuse.specs.OldText.{OldText}
-use Rattle.node_reuse.specs.Reader.{Sight, sight, IsKept, IsLast, sight_rows, sight_weights, mark_of, new_lines_at, unasked, asked_if, Asked, asked_so, asking_at, seen_at, tokens_left, StandsAt, ReadsOn}
-use Rattle.node_reuse.proofs.FreshLines.{fresh_start}
+use Rattle.node_reuse.specs.Reader.{Sight, sight, IsKept, IsLast, sight_rows, sight_weights, mark_of, new_lines_at, unasked, asked_if, Asked, asked_so, asking_at, seen_at, tokens_left, StandsAt, Stands, ReadsOn}
+use Rattle.node_reuse.proofs.FreshLines.{tokens_at, fresh_start}
 use Rattle.node_reuse.proofs.FreshReader.{asks_same, lines_within, unasked_unscanned}
 use Rattle.node_reuse.proofs.Unasked.{new_unasked, new_count}
 
@@ -42,7 +44,7 @@ pub reads_asks : {E : Type 0} (r : Result Next E) (s : Sight) (asked : Asked) (p
     → IfOk r (ReadsOn s p from q to kinds level) → OnErr r (q ≡ p) → OnErr r (to ≡ from) → AsksOn (asking_at s asked p from) (asking_at s asked q to)
 reads_asks (Ok n) s asked p q from to kinds level h place line = h.asks asked
 reads_asks (Err e) s asked p q from to kinds level h place line =
-    asks_same s asked p q from to (ap (λ (x : Length). unasked s.marks x to.scanned) place ∙ ap (λ (l : Line). unasked s.marks p l.scanned) line)
+    asks_same s asked p q from to (ap (λ (x : Length). unasked s.old.marks x to.scanned) place ∙ ap (λ (l : Line). unasked s.old.marks p l.scanned) line)
     (ap (λ (l : Line). l.asked) line)
 
 -- what comes does not rest on which lines were asked for before
@@ -62,47 +64,48 @@ comes_from_if (Err e) s asked before p from start new kinds level h = tt
 -- ---- a line is entered
 
 entered_in_line : (s : Sight) (p : Length) (line to : Line) → StandsAt s p line → line.scanned ≡ false → mark_of s p ≡ New
-    → tokens_left to ≡ tokens_of s.table (content_at (p.lines + 1) s.contents) → to.columns ≡ length (content_at (p.lines + 1) s.contents)
+    → tokens_left to ≡ line_tokens s.by s.contents (p.lines + 1) → to.columns ≡ length (content_at (p.lines + 1) s.contents)
     → IsFresh (sight_rows s) (sight_weights s) p (tokens_left to) to.columns
 entered_in_line s p line to h unscanned new tokens columns =
     let start : p.columns ≡ 0 =
-    subst (λ (b : Bool). IsInLine New s.old.tree s.marks (sight_rows s) (sight_weights s) p b (tokens_left line) line.columns) unscanned
-    (subst (λ (m : Mark). IsInLine m s.old.tree s.marks (sight_rows s) (sight_weights s) p line.scanned (tokens_left line) line.columns) new h.in_line) in
+    subst (λ (b : Bool). IsInLine New s.old.tree s.old.marks (sight_rows s) (sight_weights s) p b (tokens_left line) line.columns) unscanned
+    (subst (λ (m : Mark). IsInLine m s.old.tree s.old.marks (sight_rows s) (sight_weights s) p line.scanned (tokens_left line) line.columns) new h.in_line) in
     let place : p ≡ length_of p.lines 0 = same_length p (length_of p.lines 0) refl start in
     let reached : Reached (sight_rows s) (length_of p.lines 0) (rows_from (length_of p.lines 0) (sight_rows s)) =
     subst (λ (x : Length). Reached (sight_rows s) x (rows_from x (sight_rows s))) place h.reached in
+    let tokens_here : line_tokens s.by s.contents (p.lines + 1) ≡ tokens_at s.by s.contents p.lines = ap (tokens_at s.by s.contents) (omega arith) in
     let content : content_at (p.lines + 1) s.contents ≡ get_or s.contents p.lines [] = ap (λ (i : ℕ). get_or s.contents i []) (omega arith) in
-    let fresh : IsFresh (sight_rows s) (sight_weights s) (length_of p.lines 0) (tokens_of s.table (get_or s.contents p.lines [])) (length (get_or s.contents p.lines [])) =
-    fresh_start s.table s.contents p.lines h.sound.table (lines_within s p line h) reached in
+    let fresh : IsFresh (sight_rows s) (sight_weights s) (length_of p.lines 0) (tokens_at s.by s.contents p.lines) (length (get_or s.contents p.lines [])) =
+    fresh_start s.by s.contents p.lines h.sound.table (lines_within s p line h) reached in
     subst (λ (x : Length). IsFresh (sight_rows s) (sight_weights s) x (tokens_left to) to.columns) (sym place)
     (subst (λ (n : ℕ). IsFresh (sight_rows s) (sight_weights s) (length_of p.lines 0) (tokens_left to) n) (sym (columns ∙ ap length content))
     (subst (λ (ts : List Token). IsFresh (sight_rows s) (sight_weights s) (length_of p.lines 0) ts (length (get_or s.contents p.lines [])))
-    (sym (tokens ∙ ap (tokens_of s.table) content)) fresh))
+    (sym (tokens ∙ tokens_here)) fresh))
 
 entered_stands : (s : Sight) (p : Length) (line to : Line) → StandsAt s p line → line.scanned ≡ false → mark_of s p ≡ New
-    → tokens_left to ≡ tokens_of s.table (content_at (p.lines + 1) s.contents) → to.columns ≡ length (content_at (p.lines + 1) s.contents)
+    → tokens_left to ≡ line_tokens s.by s.contents (p.lines + 1) → to.columns ≡ length (content_at (p.lines + 1) s.contents)
     → to.scanned ≡ true → to.asked ≡ line.asked + 1 → StandsAt s p to
 entered_stands s p line to h unscanned new tokens columns scanned counted =
     let count = h.sound.counted in
-    let within : p.lines < length s.marks = omega (arith, lines_within s p line h) in
-    let before : unasked s.marks p line.scanned ≡ suc p.lines ∷ new_lines_at (suc p.lines) s.marks =
-    unasked_unscanned s p line.scanned unscanned ∙ new_unasked s.marks p.lines within new in
-    let one : length (unasked s.marks p line.scanned) ≡ suc (length (new_lines_at (suc p.lines) s.marks)) = ap length before in
-    let after : length (unasked s.marks p to.scanned) ≡ length (new_lines_at (suc p.lines) s.marks) = ap (λ (b : Bool). length (unasked s.marks p b)) scanned in
+    let within : p.lines < length s.old.marks = omega (arith, lines_within s p line h) in
+    let before : unasked s.old.marks p line.scanned ≡ suc p.lines ∷ new_lines_at (suc p.lines) s.old.marks =
+    unasked_unscanned s p line.scanned unscanned ∙ new_unasked s.old.marks p.lines within new in
+    let one : length (unasked s.old.marks p line.scanned) ≡ suc (length (new_lines_at (suc p.lines) s.old.marks)) = ap length before in
+    let after : length (unasked s.old.marks p to.scanned) ≡ length (new_lines_at (suc p.lines) s.old.marks) = ap (λ (b : Bool). length (unasked s.old.marks p b)) scanned in
     let was = h.asked in
     record {
       sound = h.sound;
       reached = h.reached;
       in_line =
-          subst (λ (m : Mark). IsInLine m s.old.tree s.marks (sight_rows s) (sight_weights s) p to.scanned (tokens_left to) to.columns) (sym new)
-          (subst (λ (b : Bool). IsInLine New s.old.tree s.marks (sight_rows s) (sight_weights s) p b (tokens_left to) to.columns) (sym scanned)
+          subst (λ (m : Mark). IsInLine m s.old.tree s.old.marks (sight_rows s) (sight_weights s) p to.scanned (tokens_left to) to.columns) (sym new)
+          (subst (λ (b : Bool). IsInLine New s.old.tree s.old.marks (sight_rows s) (sight_weights s) p b (tokens_left to) to.columns) (sym scanned)
           (entered_in_line s p line to h unscanned new tokens columns));
       is_new = λ _. new;
       asked = omega arith;
     }
 
 pub entered_if : {A E : Type 0} (r : Result A E) (s : Sight) (p : Length) (n : ℕ) (line to : Line) → p.lines + 1 ≡ n → StandsAt s p line → line.scanned ≡ false
-    → mark_of s p ≡ New → OnOk r (tokens_left to ≡ tokens_of s.table (content_at n s.contents)) → OnOk r (to.columns ≡ length (content_at n s.contents))
+    → mark_of s p ≡ New → OnOk r (tokens_left to ≡ line_tokens s.by s.contents n) → OnOk r (to.columns ≡ length (content_at n s.contents))
     → OnOk r (to.scanned ≡ true) → to.asked ≡ line.asked + length (asked_if to.scanned n) → OnOk r (StandsAt s p to)
 entered_if (Ok x) s p n line to e h unscanned new tokens columns scanned counted =
     entered_stands s p line to h unscanned new (rw e tokens) (rw e columns) scanned
@@ -120,62 +123,69 @@ entered_asks s p n line to old new borrows number h unscanned new_mark e f = rec
   borrows = refl;
 }
   where
-    left : unasked s.marks p line.scanned ≡ new_lines_at p.lines s.marks
+    left : unasked s.old.marks p line.scanned ≡ new_lines_at p.lines s.old.marks
     left = unasked_unscanned s p line.scanned unscanned
 
-    first : new_lines_at p.lines s.marks ≡ suc p.lines ∷ new_lines_at (suc p.lines) s.marks
+    first : new_lines_at p.lines s.old.marks ≡ suc p.lines ∷ new_lines_at (suc p.lines) s.old.marks
     first =
         let count = h.sound.counted in
-        let within : p.lines < length s.marks = omega (arith, lines_within s p line h) in
-        new_unasked s.marks p.lines within new_mark
+        let within : p.lines < length s.old.marks = omega (arith, lines_within s p line h) in
+        new_unasked s.old.marks p.lines within new_mark
 
-    told : (b : Bool) → new ≡ old ++ asked_if b n → new ++ unasked s.marks p b ≡ old ++ unasked s.marks p line.scanned
-    told false g = ap (λ (x : List ℕ). x ++ new_lines_at p.lines s.marks) (g ∙ append-nil old) ∙ ap (λ (x : List ℕ). old ++ x) (sym left)
+    told : (b : Bool) → new ≡ old ++ asked_if b n → new ++ unasked s.old.marks p b ≡ old ++ unasked s.old.marks p line.scanned
+    told false g = ap (λ (x : List ℕ). x ++ new_lines_at p.lines s.old.marks) (g ∙ append-nil old) ∙ ap (λ (x : List ℕ). old ++ x) (sym left)
     told true g =
         let on : n ≡ suc p.lines = omega arith in
-        ap (λ (x : List ℕ). x ++ new_lines_at (suc p.lines) s.marks) (g ∙ ap (λ (m : ℕ). old ++ m ∷ []) on)
-        ∙ append_assoc old (suc p.lines ∷ []) (new_lines_at (suc p.lines) s.marks) ∙ ap (λ (x : List ℕ). old ++ x) (sym (left ∙ first))
+        ap (λ (x : List ℕ). x ++ new_lines_at (suc p.lines) s.old.marks) (g ∙ ap (λ (m : ℕ). old ++ m ∷ []) on)
+        ∙ append_assoc old (suc p.lines ∷ []) (new_lines_at (suc p.lines) s.old.marks) ∙ ap (λ (x : List ℕ). old ++ x) (sym (left ∙ first))
 
     counted : (b : Bool) → to.asked ≡ line.asked + length (asked_if b n)
-        → to.asked + length (unasked s.marks p b) ≡ line.asked + length (unasked s.marks p line.scanned)
-    counted false g = let same : length (unasked s.marks p line.scanned) ≡ length (new_lines_at p.lines s.marks) = ap length left in omega arith
+        → to.asked + length (unasked s.old.marks p b) ≡ line.asked + length (unasked s.old.marks p line.scanned)
+    counted false g = let same : length (unasked s.old.marks p line.scanned) ≡ length (new_lines_at p.lines s.old.marks) = ap length left in omega arith
     counted true g =
-        let all : length (unasked s.marks p line.scanned) ≡ suc (length (new_lines_at (suc p.lines) s.marks)) = ap length (left ∙ first) in
+        let all : length (unasked s.old.marks p line.scanned) ≡ suc (length (new_lines_at (suc p.lines) s.old.marks)) = ap length (left ∙ first) in
         omega arith
+
+-- the lines that it reads are settled as before
+pub still_settled : {A E : Type 0} (r : Result A E) (s : Sight) (settled : SettledState) (p q : Length) (from to : Line) → Stands s settled p from
+    → OnOk r (StandsAt s q to) → OnOk r (Stands s settled q to)
+still_settled (Ok x) s settled p q from to h at = record { at = at; marks = h.marks; states = h.states }
+still_settled (Err e) s settled p q from to h at = tt
 
 -- ---- a call in a new line, whose lines have the same contents afterwards
 
 -- what came next, from this line on, which was entered, to that one
-pub record NextInNew {E : Type 0} (r : Result Next E) (before after : Sight) (asked told : Asked) (p q : Length) (start to : Line) (kinds level : ℕ) : Type 0 where
+pub record NextInNew {E : Type 0} (r : Result Next E) (before after : Sight) (settled : SettledState) (asked told : Asked) (p q : Length) (start to : Line)
+    (kinds level : ℕ) : Type 0 where
   pub comes : IfOk r (Comes (seen_at before asked p start) (seen_at after told q to) kinds level)
-  pub stands : OnOk r (StandsAt after q to)
+  pub stands : OnOk r (Stands after settled q to)
   pub asks : AsksOn (asking_at before asked p start) (asking_at after told q to)
 
-pub new_call : {E : Type 0} (r : Result Next E) (table : Table) (before after : List (List ℕ)) (old : OldText) (marks : List Mark) → after ≡ before
-    → (asked told borrows : List ℕ) (p q : Length) (start from to : Line) (kinds level : ℕ)
-    → IfOk r (ReadsOn (sight table before old marks) p from q to kinds level) → OnErr r (q ≡ p) → OnErr r (to ≡ from)
-    → AsksOn (asking_at (sight table before old marks) (asked_so asked borrows) p start)
-    (asking_at (sight table before old marks) (asked_so told borrows) p from)
-    → NextInNew r (sight table before old marks) (sight table after old marks) (asked_so asked borrows) (asked_so told borrows) p q start to kinds level
-new_call r table before after old marks same asked told borrows p q start from to kinds level reads place line entered =
-    let s = sight table before old marks in
+pub new_call : {E : Type 0} (r : Result Next E) (by : Scanner) (before after : List (List ℕ)) (old : OldText) (settled : SettledState) → after ≡ before
+    → (asked told borrows : List ℕ) (p q : Length) (start from to : Line) (kinds level : ℕ) → Stands (sight by before old) settled p start
+    → IfOk r (ReadsOn (sight by before old) p from q to kinds level) → OnErr r (q ≡ p) → OnErr r (to ≡ from)
+    → AsksOn (asking_at (sight by before old) (asked_so asked borrows) p start)
+    (asking_at (sight by before old) (asked_so told borrows) p from)
+    → NextInNew r (sight by before old) (sight by after old) settled (asked_so asked borrows) (asked_so told borrows) p q start to kinds level
+new_call r by before after old settled same asked told borrows p q start from to kinds level stands reads place line entered =
+    let s = sight by before old in
     let was = asked_so asked borrows in
     let now = asked_so told borrows in
-    subst (λ (x : List (List ℕ)). NextInNew r s (sight table x old marks) was now p q start to kinds level) (sym same)
+    subst (λ (x : List (List ℕ)). NextInNew r s (sight by x old) settled was now p q start to kinds level) (sym same)
     (record {
       comes = comes_from_if r s now was p from start (seen_at s now q to) kinds level (reads_comes r s now p q from to kinds level reads);
-      stands = reads_stands r s p q from to kinds level reads;
+      stands = still_settled r s settled p q start to stands (reads_stands r s p q from to kinds level reads);
       asks =
           AsksOn-then (asking_at s was p start) (asking_at s now p from) (asking_at s now q to) entered
           (reads_asks r s now p q from to kinds level reads place line);
     })
 
 -- a line that was not entered, whatever was asked for
-pub failed_asks : (table : Table) (before after : List (List ℕ)) (old : OldText) (marks : List Mark) → after ≡ before → (asked told : Asked) (p : Length) (from to : Line)
-    → AsksOn (asking_at (sight table before old marks) asked p from) (asking_at (sight table before old marks) told p to)
-    → AsksOn (asking_at (sight table before old marks) asked p from) (asking_at (sight table after old marks) told p to)
-failed_asks table before after old marks same asked told p from to h =
-    subst (λ (x : List (List ℕ)). AsksOn (asking_at (sight table before old marks) asked p from) (asking_at (sight table x old marks) told p to)) (sym same) h
+pub failed_asks : (by : Scanner) (before after : List (List ℕ)) (old : OldText) → after ≡ before → (asked told : Asked) (p : Length) (from to : Line)
+    → AsksOn (asking_at (sight by before old) asked p from) (asking_at (sight by before old) told p to)
+    → AsksOn (asking_at (sight by before old) asked p from) (asking_at (sight by after old) told p to)
+failed_asks by before after old same asked told p from to h =
+    subst (λ (x : List (List ℕ)). AsksOn (asking_at (sight by before old) asked p from) (asking_at (sight by x old) told p to)) (sym same) h
 
 -- ---- the last line
 
@@ -193,9 +203,9 @@ last_line s p count same within = either (eqb_tells (p.lines + 1) count)
 pub entered_kept : (s : Sight) (p : Length) (line : Line) → StandsAt s p line → line.scanned ≡ false → 0 < p.columns → IsKept s p
 entered_kept s p line h unscanned within =
     by (mark_of s p) refl
-    (subst (λ (b : Bool). IsInLine (mark_of s p) s.old.tree s.marks (sight_rows s) (sight_weights s) p b (tokens_left line) line.columns) unscanned h.in_line)
+    (subst (λ (b : Bool). IsInLine (mark_of s p) s.old.tree s.old.marks (sight_rows s) (sight_weights s) p b (tokens_left line) line.columns) unscanned h.in_line)
   where
-    by : (m : Mark) → mark_of s p ≡ m → IsInLine m s.old.tree s.marks (sight_rows s) (sight_weights s) p false (tokens_left line) line.columns → IsKept s p
+    by : (m : Mark) → mark_of s p ≡ m → IsInLine m s.old.tree s.old.marks (sight_rows s) (sight_weights s) p false (tokens_left line) line.columns → IsKept s p
     by (Kept i) e in_it = (i, e)
     by New e in_it = absurd (let start : p.columns ≡ 0 = in_it in omega arith)
 
@@ -203,11 +213,11 @@ entered_kept s p line h unscanned within =
 
 -- the number of the reader's line, and of the lines that it asked for
 pub record HasNumbers (s : Sight) (p : Length) (line : Line) : Type 0 where
-  pub within : p.lines < length s.marks
-  pub asked : line.asked ≤ length s.marks
+  pub within : p.lines < length s.old.marks
+  pub asked : line.asked ≤ length s.old.marks
 
 pub has_numbers : {s : Sight} {p : Length} {line : Line} → StandsAt s p line → HasNumbers s p line
 has_numbers {s} {p} {line} h =
     let count = h.sound.counted in
     let told = h.asked in
-    record { within = omega (arith, lines_within s p line h); asked = omega (arith, new_count s.marks) }
+    record { within = omega (arith, lines_within s p line h); asked = omega (arith, new_count s.old.marks) }

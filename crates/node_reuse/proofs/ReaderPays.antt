@@ -6,7 +6,7 @@ use Rattle.text_lengths.specs.Length.{length_of, no_length, length_plus, is_befo
 use Rattle.text_lengths.proofs.Lengths.{same_length}
 use Rattle.bracket_rules.specs.declared.Token.{Token}
 use Rattle.bracket_rules.specs.declared.TheConstants.{MOST_OPEN}
-use Rattle.bracket_rules.specs.Table.{Table, tokens_of}
+use Rattle.hiding_rules.specs.Hidden.{Scanner}
 use Rattle.bracket_rules.specs.Parse.{Bracket}
 use Rattle.bracket_tree_rules.specs.Tree.{Tree, text, wide, tree_length, nesting}
 use Rattle.bracket_tree_rules.specs.Places.{HasNode, lines_touched}
@@ -25,7 +25,7 @@ use Rattle.reuse_rules.proofs.Prices.{bracket_price}
 use Rattle.reuse_rules.proofs.Ways.{price_at_start}
 use Rattle.reuse_rules.proofs.Walks.{node_pays_at, bracket_pays_at}
 use Rattle.node_reuse.specs.declared.line.Line.{Line}
-use Rattle.node_reuse.specs.Texts.{content_at}
+use Rattle.node_reuse.specs.Texts.{line_tokens}
 use Rattle.node_reuse.specs.OldText.{OldText, IsReusable, IsLongestReusable, NoneReusable, IsOldToken, HasOldBracket}
 use Rattle.node_reuse.specs.Reading.{StaysIfThere}
 use Rattle.node_reuse.specs.Reader.{Sight, sight, sight_rows, sight_weights, IsKept, mark_of, new_lines_at, unasked, tokens_left, StandsAt}
@@ -36,7 +36,7 @@ use Rattle.node_reuse.proofs.KeptReader.{FollowsOld, following, run_left}
 use Rattle.node_reuse.proofs.FreshReader.{lines_within}
 use Rattle.node_reuse.proofs.Unasked.{new_unasked}
 
-inside_marks : (s : Sight) (p : Length) (line : Line) → StandsAt s p line → p.lines < length s.marks
+inside_marks : (s : Sight) (p : Length) (line : Line) → StandsAt s p line → p.lines < length s.old.marks
 inside_marks s p line h = omega (arith, h.sound.counted, lines_within s p line h)
 
 -- ---- brackets
@@ -70,9 +70,9 @@ module _ (s : Sight) (p : Length) (line : Line) (steps kinds level : ℕ) (h : S
   unfolding t
   there = ap (λ (o : OldText). o.tree) followed.whole
 
-  way : (c : Costs) (q : Length) → way_price_in c s.old.tree s.marks q ≡ way_price c t s.marks q
+  way : (c : Costs) (q : Length) → way_price_in c s.old.tree s.old.marks q ≡ way_price c t s.old.marks q
   unfolding t
-  way c q = ap (λ (o : Option Tree). way_price_in c o s.marks q) there
+  way c q = ap (λ (o : Option Tree). way_price_in c o s.old.marks q) there
 
   paired : all_paired t ≡ true
   unfolding t
@@ -82,8 +82,8 @@ module _ (s : Sight) (p : Length) (line : Line) (steps kinds level : ℕ) (h : S
   unfolding t
   deep = let same : nesting_in s.old.tree ≡ nesting followed.tree = ap nesting_in there in omega (arith, room.room, same)
 
-  same_tokens : (q : Length) → unasked s.marks q line.scanned ≡ unasked s.marks p line.scanned → tokens_ahead s q line ≡ tokens_ahead s p line
-  same_tokens q e = ap (λ (lines : List ℕ). tokens_read line.scanned line + token_count s.table s.contents lines) e
+  same_tokens : (q : Length) → unasked s.old.marks q line.scanned ≡ unasked s.old.marks p line.scanned → tokens_ahead s q line ≡ tokens_ahead s p line
+  same_tokens q e = ap (λ (lines : List ℕ). tokens_read line.scanned line + token_count s.by s.contents lines) e
 
   pub kept_node_pays : (n : Tree) → IsLongestReusable s.old p kinds level n
       → PaysOn (paying_at s steps p line) (paying_at s (steps + 1) (length_plus p (tree_length n)) line)
@@ -91,15 +91,15 @@ module _ (s : Sight) (p : Length) (line : Line) (steps kinds level : ℕ) (h : S
   kept_node_pays n longest =
       let whole = followed.whole in
       let l = followed.line in
-      let r : Reusable t s.marks p kinds level n = subst (λ (o : OldText). IsReusable o p kinds level n) whole longest.reusable in
-      let best : (m : Tree) → Reusable t s.marks p kinds level m → is_before (tree_length n) (tree_length m) ≡ false =
+      let r : Reusable t s.old.marks p kinds level n = subst (λ (o : OldText). IsReusable o p kinds level n) whole longest.reusable in
+      let best : (m : Tree) → Reusable t s.old.marks p kinds level m → is_before (tree_length n) (tree_length m) ≡ false =
       λ m other. longest.longest m (subst (λ (o : OldText). IsReusable o p kinds level m) (sym whole) other) in
       let node : HasNode no_length t (length_of l p.columns) n =
-      subst (λ (m : ℕ). HasNode no_length t (length_of m p.columns) n) (same_line s.marks p r.line l r.kept followed.follows.follows.kept) r.node in
-      let pays = λ (c : Costs). node_pays_at c t s.marks p l (inside_marks s p line h) followed.follows.follows.kept kinds level followed.follows.tree paired deep n node
+      subst (λ (m : ℕ). HasNode no_length t (length_of m p.columns) n) (same_line s.old.marks p r.line l r.kept followed.follows.follows.kept) r.node in
+      let pays = λ (c : Costs). node_pays_at c t s.old.marks p l (inside_marks s p line h) followed.follows.follows.kept kinds level followed.follows.tree paired deep n node
       r.taken best in
       let q = length_plus p (tree_length n) in
-      let all : (tree_length n).lines ≤ kept_run (drop p.lines s.marks) = lines_in (tree_length n).lines (tree_length n).columns r.taken.within in
+      let all : (tree_length n).lines ≤ kept_run (drop p.lines s.old.marks) = lines_in (tree_length n).lines (tree_length n).columns r.taken.within in
       let left = same_tokens q (run_left s p q line.scanned (tree_length n).lines scanned refl all) in
       record {
         known = refl;
@@ -108,7 +108,7 @@ module _ (s : Sight) (p : Length) (line : Line) (steps kinds level : ℕ) (h : S
         deepest = refl;
       }
     where
-      lines_in : (lines columns : ℕ) → lines_touched lines columns ≤ kept_run (drop p.lines s.marks) → lines ≤ kept_run (drop p.lines s.marks)
+      lines_in : (lines columns : ℕ) → lines_touched lines columns ≤ kept_run (drop p.lines s.old.marks) → lines ≤ kept_run (drop p.lines s.old.marks)
       lines_in lines zero g = g
       lines_in lines (suc columns) g = omega (arith, g)
 
@@ -120,13 +120,13 @@ module _ (s : Sight) (p : Length) (line : Line) (steps kinds level : ℕ) (h : S
       let whole = followed.whole in
       let l = followed.line in
       let b : Bracket = o.bracket in
-      let stands : IsOldBracket t s.marks p b = subst (λ (x : OldText). HasOldBracket x p b) whole o.stands in
-      let empty : (m : Tree) → Reusable t s.marks p kinds level m → ⊥ =
+      let stands : IsOldBracket t s.old.marks p b = subst (λ (x : OldText). HasOldBracket x p b) whole o.stands in
+      let empty : (m : Tree) → Reusable t s.old.marks p kinds level m → ⊥ =
       λ m other. none m (subst (λ (x : OldText). IsReusable x p kinds level m) (sym whole) other) in
       let place : b.place ≡ length_of l p.columns =
-      stands.place ∙ ap (λ (m : ℕ). length_of m p.columns) (same_line s.marks p stands.line l stands.kept followed.follows.follows.kept) in
+      stands.place ∙ ap (λ (m : ℕ). length_of m p.columns) (same_line s.old.marks p stands.line l stands.kept followed.follows.follows.kept) in
       let fits = bracket_fits no_length t b followed.follows.tree stands.bracket in
-      let pays = λ (c : Costs). bracket_pays_at c t s.marks p l (inside_marks s p line h) followed.follows.follows.kept kinds level followed.follows.tree paired deep b
+      let pays = λ (c : Costs). bracket_pays_at c t s.old.marks p l (inside_marks s p line h) followed.follows.follows.kept kinds level followed.follows.tree paired deep b
       empty stands place fits.wide in
       let q = length_plus p (wide b.len) in
       let left = same_tokens q (run_left s p q line.scanned 0 scanned refl (omega arith)) in
@@ -160,7 +160,7 @@ fresh_gap_pays : (s : Sight) (p q : Length) (line : Line) (steps d : ℕ) → St
     → q.lines ≡ p.lines → q.columns ≡ d → PaysOn (paying_at s steps p line) (paying_at s steps q line)
 fresh_gap_pays s p q line steps d h scanned lines column =
     subst (λ (x : Length). PaysOn (paying_at s steps p line) (paying_at s steps x line)) (sym (same_length q (length_of p.lines d) lines column))
-    (let way = λ (c : Costs). new_way c s.old.tree s.marks p d (inside_marks s p line h) (h.is_new scanned) in
+    (let way = λ (c : Costs). new_way c s.old.tree s.old.marks p d (inside_marks s p line h) (h.is_new scanned) in
     record {
       known = refl;
       pays = omega (arith, way calls);
@@ -179,14 +179,14 @@ pub fresh_bracket_pays : (s : Sight) (p : Length) (line to : Line) (t : Token) (
     → tokens_left line ≡ t ∷ tokens_left to
     → PaysFor (paying_at s steps p line) (paying_at s steps (length_of p.lines (p.columns + t.len)) to) (NextBracket t.kind t.len t.opening)
 fresh_bracket_pays s p line to t steps h scanned same split =
-    let way = λ (c : Costs). new_way c s.old.tree s.marks p (p.columns + t.len) (inside_marks s p line h) (h.is_new scanned) in
+    let way = λ (c : Costs). new_way c s.old.tree s.old.marks p (p.columns + t.len) (inside_marks s p line h) (h.is_new scanned) in
     let old = paying_at s steps p line in
     let q = length_of p.lines (p.columns + t.len) in
     let new = paying_at s steps q to in
-    let before : tokens_ahead s p line ≡ length (tokens_left line) + token_count s.table s.contents (new_lines_at (suc p.lines) s.marks) =
-    ap (λ (b : Bool). tokens_read b line + token_count s.table s.contents (unasked s.marks p b)) scanned in
-    let after : tokens_ahead s q to ≡ length (tokens_left to) + token_count s.table s.contents (new_lines_at (suc p.lines) s.marks) =
-    ap (λ (b : Bool). tokens_read b to + token_count s.table s.contents (unasked s.marks q b)) same in
+    let before : tokens_ahead s p line ≡ length (tokens_left line) + token_count s.by s.contents (new_lines_at (suc p.lines) s.old.marks) =
+    ap (λ (b : Bool). tokens_read b line + token_count s.by s.contents (unasked s.old.marks p b)) scanned in
+    let after : tokens_ahead s q to ≡ length (tokens_left to) + token_count s.by s.contents (new_lines_at (suc p.lines) s.old.marks) =
+    ap (λ (b : Bool). tokens_read b to + token_count s.by s.contents (unasked s.old.marks q b)) same in
     let one : length (tokens_left line) ≡ suc (length (tokens_left to)) = ap length split in
     pays_for t.opening old new t.kind t.len
     (record { known = refl; pays = omega (arith, way calls); opens = omega (arith, way openings, before, after, one); deepest = refl })
@@ -210,51 +210,51 @@ break_way c (Some old) marks p rises inside e = starts (drop (suc p.lines) marks
     starts : (ms : List Mark) → RisesFrom 1 ms → lines_price c old 0 ms ≡ runs_price c old 0 ms
     starts = price_at_start c old
 
-kept_rise : (s : Sight) (p : Length) (line : Line) → StandsAt s p line → (old : Tree) → s.old.tree ≡ Some old → RisesFrom 1 s.marks
+kept_rise : (s : Sight) (p : Length) (line : Line) → StandsAt s p line → (old : Tree) → s.old.tree ≡ Some old → RisesFrom 1 s.old.marks
 kept_rise s p line h old e =
-    (subst (λ (o : Option Tree). StaysIfThere o s.marks (sight_rows s) (sight_weights s)) e h.sound.stays).agrees.rises
+    (subst (λ (o : Option Tree). StaysIfThere o s.old.marks (sight_rows s) (sight_weights s)) e h.sound.stays).agrees.rises
 
 pub fresh_break_pays : (s : Sight) (p : Length) (line to : Line) (steps : ℕ) → StandsAt s p line → line.scanned ≡ true → to.scanned ≡ false
     → tokens_left line ≡ [] → PaysOn (paying_at s steps p line) (paying_at s steps (length_of (suc p.lines) 0) to)
 fresh_break_pays s p line to steps h scanned left none =
-    let way = λ (c : Costs). break_way c s.old.tree s.marks p (kept_rise s p line h) (inside_marks s p line h) (h.is_new scanned) in
+    let way = λ (c : Costs). break_way c s.old.tree s.old.marks p (kept_rise s p line h) (inside_marks s p line h) (h.is_new scanned) in
     let q = length_of (suc p.lines) 0 in
-    let before : tokens_ahead s p line ≡ length (tokens_left line) + token_count s.table s.contents (new_lines_at (suc p.lines) s.marks) =
-    ap (λ (b : Bool). tokens_read b line + token_count s.table s.contents (unasked s.marks p b)) scanned in
-    let after : tokens_ahead s q to ≡ 0 + token_count s.table s.contents (new_lines_at (suc p.lines) s.marks) =
-    ap (λ (b : Bool). tokens_read b to + token_count s.table s.contents (unasked s.marks q b)) left in
+    let before : tokens_ahead s p line ≡ length (tokens_left line) + token_count s.by s.contents (new_lines_at (suc p.lines) s.old.marks) =
+    ap (λ (b : Bool). tokens_read b line + token_count s.by s.contents (unasked s.old.marks p b)) scanned in
+    let after : tokens_ahead s q to ≡ 0 + token_count s.by s.contents (new_lines_at (suc p.lines) s.old.marks) =
+    ap (λ (b : Bool). tokens_read b to + token_count s.by s.contents (unasked s.old.marks q b)) left in
     record { known = refl; pays = omega (arith, way calls); opens = omega (arith, way openings, before, after); deepest = refl }
 
 -- ---- a line is entered
 
 pub entered_pays : (s : Sight) (p : Length) (line to : Line) (steps : ℕ) → StandsAt s p line → line.scanned ≡ false → to.scanned ≡ true → mark_of s p ≡ New
-    → tokens_left to ≡ tokens_of s.table (content_at (p.lines + 1) s.contents) → PaysOn (paying_at s steps p line) (paying_at s steps p to)
+    → tokens_left to ≡ line_tokens s.by s.contents (p.lines + 1) → PaysOn (paying_at s steps p line) (paying_at s steps p to)
 entered_pays s p line to steps h unscanned scanned new tokens =
-    let first : new_lines_at p.lines s.marks ≡ suc p.lines ∷ new_lines_at (suc p.lines) s.marks = new_unasked s.marks p.lines (inside_marks s p line h) new in
-    let before : tokens_ahead s p line ≡ 0 + token_count s.table s.contents (suc p.lines ∷ new_lines_at (suc p.lines) s.marks) =
-    ap (λ (b : Bool). tokens_read b line + token_count s.table s.contents (unasked s.marks p b)) unscanned
-    ∙ ap (λ (lines : List ℕ). 0 + token_count s.table s.contents lines) first in
-    let after : tokens_ahead s p to ≡ length (tokens_left to) + token_count s.table s.contents (new_lines_at (suc p.lines) s.marks) =
-    ap (λ (b : Bool). tokens_read b to + token_count s.table s.contents (unasked s.marks p b)) scanned in
+    let first : new_lines_at p.lines s.old.marks ≡ suc p.lines ∷ new_lines_at (suc p.lines) s.old.marks = new_unasked s.old.marks p.lines (inside_marks s p line h) new in
+    let before : tokens_ahead s p line ≡ 0 + token_count s.by s.contents (suc p.lines ∷ new_lines_at (suc p.lines) s.old.marks) =
+    ap (λ (b : Bool). tokens_read b line + token_count s.by s.contents (unasked s.old.marks p b)) unscanned
+    ∙ ap (λ (lines : List ℕ). 0 + token_count s.by s.contents lines) first in
+    let after : tokens_ahead s p to ≡ length (tokens_left to) + token_count s.by s.contents (new_lines_at (suc p.lines) s.old.marks) =
+    ap (λ (b : Bool). tokens_read b to + token_count s.by s.contents (unasked s.old.marks p b)) scanned in
     let at : p.lines + 1 ≡ suc p.lines = omega arith in
-    let here : length (tokens_left to) ≡ length (tokens_of s.table (content_at (suc p.lines) s.contents)) =
-    ap length tokens ∙ ap (λ (n : ℕ). length (tokens_of s.table (content_at n s.contents))) at in
+    let here : length (tokens_left to) ≡ length (line_tokens s.by s.contents (suc p.lines)) =
+    ap length tokens ∙ ap (λ (n : ℕ). length (line_tokens s.by s.contents n)) at in
     record { known = refl; pays = omega arith; opens = omega (arith, before, after, here); deepest = refl }
 
 pub entered_pays_if : {A E : Type 0} (r : Result A E) (s : Sight) (p : Length) (n : ℕ) (line to : Line) (steps : ℕ) → p.lines + 1 ≡ n → StandsAt s p line
-    → line.scanned ≡ false → mark_of s p ≡ New → OnOk r (tokens_left to ≡ tokens_of s.table (content_at n s.contents)) → OnOk r (to.scanned ≡ true)
+    → line.scanned ≡ false → mark_of s p ≡ New → OnOk r (tokens_left to ≡ line_tokens s.by s.contents n) → OnOk r (to.scanned ≡ true)
     → OnOk r (PaysOn (paying_at s steps p line) (paying_at s steps p to))
 entered_pays_if (Ok x) s p n line to steps e h unscanned new tokens scanned = entered_pays s p line to steps h unscanned scanned new (rw e tokens)
 entered_pays_if (Err x) s p n line to steps e h unscanned new tokens scanned = tt
 
 -- a call in a new line, whose lines have the same contents afterwards
-pub new_pays : {E : Type 0} (r : Result Next E) (table : Table) (before after : List (List ℕ)) (old : OldText) (marks : List Mark) → after ≡ before
+pub new_pays : {E : Type 0} (r : Result Next E) (by : Scanner) (before after : List (List ℕ)) (old : OldText) → after ≡ before
     → (steps : ℕ) (p q : Length) (start from to : Line)
-    → PaysOn (paying_at (sight table before old marks) steps p start) (paying_at (sight table before old marks) steps p from)
-    → IfOk r (PaysFor (paying_at (sight table before old marks) steps p from) (paying_at (sight table before old marks) steps q to))
-    → IfOk r (PaysFor (paying_at (sight table before old marks) steps p start) (paying_at (sight table after old marks) steps q to))
-new_pays (Err e) table before after old marks same steps p q start from to entered read = tt
-new_pays (Ok n) table before after old marks same steps p q start from to entered read =
-    let s = sight table before old marks in
-    subst (λ (x : List (List ℕ)). PaysFor (paying_at s steps p start) (paying_at (sight table x old marks) steps q to) n) (sym same)
+    → PaysOn (paying_at (sight by before old) steps p start) (paying_at (sight by before old) steps p from)
+    → IfOk r (PaysFor (paying_at (sight by before old) steps p from) (paying_at (sight by before old) steps q to))
+    → IfOk r (PaysFor (paying_at (sight by before old) steps p start) (paying_at (sight by after old) steps q to))
+new_pays (Err e) by before after old same steps p q start from to entered read = tt
+new_pays (Ok n) by before after old same steps p q start from to entered read =
+    let s = sight by before old in
+    subst (λ (x : List (List ℕ)). PaysFor (paying_at s steps p start) (paying_at (sight by x old) steps q to) n) (sym same)
     (PaysFor-then (paying_at s steps p start) (paying_at s steps p from) (paying_at s steps q to) n entered read)

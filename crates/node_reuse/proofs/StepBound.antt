@@ -15,7 +15,7 @@ use Rattle.reuse_rules.specs.Ways.{way_price, IsOneRun}
 use Rattle.reuse_rules.proofs.Prices.{IsUpTo, end_of}
 use Rattle.reuse_rules.proofs.PriceBounds.{way_bound, price_from_start, price_to_end, none_opens, calls_bound, openings_bound}
 use Rattle.node_reuse.specs.declared.line.Line.{Line}
-use Rattle.node_reuse.specs.Texts.{new_lines}
+use Rattle.line_states.specs.Lines.{new_lines}
 use Rattle.node_reuse.specs.Reading.{AgreesWith, AgreesIfThere}
 use Rattle.node_reuse.specs.Reader.{Sight, sight_rows, unasked}
 use Rattle.node_reuse.specs.Paying.{all_paired_in, nesting_in, way_price_in, token_count, tokens_read, tokens_ahead, paying_at, most_steps, TakesFewSteps}
@@ -55,33 +55,33 @@ within_bound n h =
     grind (arith, four)
 
 module _ (s : Sight) (line : Line) (steps : ℕ) (old : Tree) (there : s.old.tree ≡ Some old) (paired : all_paired old ≡ true)
-    (agrees : AgreesIfThere s.old.tree s.marks (sight_rows s)) (one : IsOneRun (new_lines s.marks)) where
-  agreed : AgreesWith old s.marks (sight_rows s)
-  agreed = subst (λ (o : Option Tree). AgreesIfThere o s.marks (sight_rows s)) there agrees
+    (agrees : AgreesIfThere s.old.tree s.old.marks (sight_rows s)) (one : IsOneRun (new_lines s.old.marks)) where
+  agreed : AgreesWith old s.old.marks (sight_rows s)
+  agreed = subst (λ (o : Option Tree). AgreesIfThere o s.old.marks (sight_rows s)) there agrees
 
-  start_room : 2 * nesting old + token_count s.table s.contents (new_lines s.marks) ≤ MOST_OPEN → line.scanned ≡ false
+  start_room : 2 * nesting old + token_count s.by s.contents (new_lines s.old.marks) ≤ MOST_OPEN → line.scanned ≡ false
       → HasRoom (paying_at s steps no_length line) 0
   start_room room unscanned =
       let deep : nesting_in s.old.tree ≡ nesting old = ap nesting_in there in
-      let way : way_price_in openings s.old.tree s.marks no_length ≡ way_price openings old s.marks no_length =
-      ap (λ (o : Option Tree). way_price_in openings o s.marks no_length) there in
-      let tokens : tokens_ahead s no_length line ≡ 0 + token_count s.table s.contents (new_lines s.marks) =
-      ap (λ (b : Bool). tokens_read b line + token_count s.table s.contents (unasked s.marks no_length b)) unscanned in
+      let way : way_price_in openings s.old.tree s.old.marks no_length ≡ way_price openings old s.old.marks no_length =
+      ap (λ (o : Option Tree). way_price_in openings o s.old.marks no_length) there in
+      let tokens : tokens_ahead s no_length line ≡ 0 + token_count s.by s.contents (new_lines s.old.marks) =
+      ap (λ (b : Bool). tokens_read b line + token_count s.by s.contents (unasked s.old.marks no_length b)) unscanned in
       record {
         known = ap all_paired_in there ∙ paired;
-        room = omega (arith, deep, way, tokens, way_openings old s.marks (sight_rows s) agreed one, room);
+        room = omega (arith, deep, way, tokens, way_openings old s.old.marks (sight_rows s) agreed one, room);
       }
 
   steps_within : (after d : ℕ) → after ≤ steps + (paying_at s steps no_length line).due → after ≤ steps + most_steps (nesting old) (highest old) d
   steps_within after d spent =
-      let way : way_price_in calls s.old.tree s.marks no_length ≡ way_price calls old s.marks no_length =
-      ap (λ (o : Option Tree). way_price_in calls o s.marks no_length) there in
-      omega (arith, spent, way, way_calls old s.marks (sight_rows s) agreed one, within_bound (nesting old) (highest old))
+      let way : way_price_in calls s.old.tree s.old.marks no_length ≡ way_price calls old s.old.marks no_length =
+      ap (λ (o : Option Tree). way_price_in calls o s.old.marks no_length) there in
+      omega (arith, spent, way, way_calls old s.old.marks (sight_rows s) agreed one, within_bound (nesting old) (highest old))
 
 -- a reader that was at the start, and spends no more than is due there if it has room, takes few steps
-pub few_steps : (s : Sight) (line : Line) (from to : ℕ) → AgreesIfThere s.old.tree s.marks (sight_rows s) → line.scanned ≡ false
+pub few_steps : (s : Sight) (line : Line) (from to : ℕ) → AgreesIfThere s.old.tree s.old.marks (sight_rows s) → line.scanned ≡ false
     → (HasRoom (paying_at s from no_length line) 0 → to ≤ from + (paying_at s from no_length line).due)
-    → TakesFewSteps s.old s.table s.contents (new_lines s.marks) from to
+    → TakesFewSteps s.old s.by s.contents (new_lines s.old.marks) from to
 few_steps s line from to agrees unscanned spends = λ old there paired one room.
-    steps_within s line from old there paired agrees one to (token_count s.table s.contents (new_lines s.marks))
+    steps_within s line from old there paired agrees one to (token_count s.by s.contents (new_lines s.old.marks))
     (spends (start_room s line from old there paired agrees one room unscanned))

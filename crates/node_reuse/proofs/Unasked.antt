@@ -4,7 +4,7 @@ use Rattle.std.proofs.lemmas.List.{drop-drop, drop_all}
 use Rattle.mark_rules.specs.declared.Mark.{Mark}
 use Rattle.mark_rules.specs.declared.Mark.TheVariants.{Kept, New}
 use Rattle.mark_rules.specs.Marks.{mark_at, numbered, kept_run}
-use Rattle.node_reuse.specs.Texts.{new_from, new_lines}
+use Rattle.line_states.specs.Lines.{new_from, new_lines}
 use Rattle.node_reuse.specs.Reader.{new_lines_at}
 
 -- ---- kept lines are not asked for

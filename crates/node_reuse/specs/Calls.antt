@@ -1,7 +1,7 @@
 -- What the calls of a reader promise, whatever text it reads.
 use Rattle.std.specs.Prelude.{◌≡◌, ℕ, ◌+◌, ◌≤◌, Bool, false, List, Result, IfOk, OnOk}
 use Rattle.text_lengths.specs.declared.Length.{Length}
-use Rattle.bracket_rules.specs.Table.{Table}
+use Rattle.hiding_rules.specs.Hidden.{Scanner}
 use Rattle.bracket_rules.specs.declared.TheConstants.{MOST_OPEN}
 use Rattle.bracket_nodes.specs.declared.parser.Next.{Next}
 use Rattle.bracket_nodes.specs.Source.{AsksOn}
@@ -15,8 +15,8 @@ use Rattle.node_reuse.specs.Paying.{paying_at}
 -- ---- line n is entered, which is new: these are the contents of the lines
 
 -- where the reader stood in it, it stands in it
-abbrev pub StandsOnEntry : {A E : Type 0} → Table → List (List ℕ) → ℕ → Line → Line → Result A E → Type 0
-StandsOnEntry table contents n line line' result = (s : Sight) (p : Length) → s.table ≡ table → s.contents ≡ contents → p.lines + 1 ≡ n
+abbrev pub StandsOnEntry : {A E : Type 0} → Scanner → List (List ℕ) → ℕ → Line → Line → Result A E → Type 0
+StandsOnEntry by contents n line line' result = (s : Sight) (p : Length) → s.by ≡ by → s.contents ≡ contents → p.lines + 1 ≡ n
     → mark_of s p ≡ New → StandsAt s p line → OnOk result (StandsAt s p line')
 
 -- the line is asked for, if it was not
@@ -26,8 +26,8 @@ AsksOnEntry n asked asked' line line' = (s : Sight) (p : Length) (borrows : List
     → AsksOn (asking_at s (asked_so asked borrows) p line) (asking_at s (asked_so asked' borrows) p line')
 
 -- no step is taken
-abbrev pub PaysOnEntry : {A E : Type 0} → Table → List (List ℕ) → ℕ → Line → Line → Result A E → Type 0
-PaysOnEntry table contents n line line' result = (s : Sight) (p : Length) (steps : ℕ) → s.table ≡ table → s.contents ≡ contents
+abbrev pub PaysOnEntry : {A E : Type 0} → Scanner → List (List ℕ) → ℕ → Line → Line → Result A E → Type 0
+PaysOnEntry by contents n line line' result = (s : Sight) (p : Length) (steps : ℕ) → s.by ≡ by → s.contents ≡ contents
     → p.lines + 1 ≡ n → mark_of s p ≡ New → StandsAt s p line
     → OnOk result (PaysOn (paying_at s steps p line) (paying_at s steps p line'))
 

@@ -6,7 +6,8 @@ use Rattle.bracket_rules.specs.Table.{standard_table}
 use Rattle.bracket_rules.specs.Rows.{text_rows}
 use Rattle.bracket_tree_rules.specs.Tree.{Tree, text, two, tree_rows}
 use Rattle.bracket_tree_rules.specs.Weights.{tree_weights}
-use Rattle.node_reuse.specs.Texts.{text_weights, row_weights, new_lines}
+use Rattle.line_states.specs.Lines.{text_weights, new_lines}
+use Rattle.node_reuse.specs.Texts.{row_weights}
 use Rattle.node_reuse.specs.Reader.{unasked}
 
 -- lines 2 and 3 of five became three lines

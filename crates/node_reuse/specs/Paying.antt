@@ -1,7 +1,6 @@
 -- What a reader of the text of now pays: a step for each call that asks the old text.
 use Rattle.std.specs.Prelude.{◌≡◌, ℕ, ◌+◌, ◌*◌, ◌≤◌, Bool, true, false, if◌then◌else◌, List, [], ◌∷◌, length, Option, Some, None, refl}
 use Rattle.text_lengths.specs.declared.Length.{Length}
-use Rattle.bracket_rules.specs.Table.{Table, tokens_of}
 use Rattle.bracket_rules.specs.declared.TheConstants.{MOST_OPEN}
 use Rattle.bracket_tree_rules.specs.Tree.{Tree, nesting, highest}
 use Rattle.bracket_nodes.specs.Paying.{Paying}
@@ -10,7 +9,8 @@ use Rattle.reuse_rules.specs.Prices.{Costs, calls, openings, all_paired}
 use Rattle.reuse_rules.specs.Ways.{way_price, IsOneRun}
 use Rattle.node_reuse.specs.declared.line.Line.{Line}
 use Rattle.node_reuse.specs.OldText.{OldText}
-use Rattle.node_reuse.specs.Texts.{content_at}
+use Rattle.hiding_rules.specs.Hidden.{Scanner}
+use Rattle.node_reuse.specs.Texts.{line_tokens}
 use Rattle.node_reuse.specs.Reader.{Sight, unasked, tokens_left}
 
 -- ---- the old tree
@@ -30,16 +30,16 @@ way_price_in costs (Some old) marks p = way_price costs old marks p
 -- ---- new lines
 
 -- the tokens of the lines of these numbers
-abbrev pub token_count : Table → List (List ℕ) → List ℕ → ℕ
-token_count table contents [] = 0
-token_count table contents (n ∷ lines) = length (tokens_of table (content_at n contents)) + token_count table contents lines
+abbrev pub token_count : Scanner → List (List ℕ) → List ℕ → ℕ
+token_count by contents [] = 0
+token_count by contents (n ∷ lines) = length (line_tokens by contents n) + token_count by contents lines
 
 abbrev pub tokens_read : Bool → Line → ℕ
 tokens_read scanned line = if scanned then length (tokens_left line) else 0
 
 -- the tokens that are left of the line that is read, where it was scanned, and those of the lines to ask for
 abbrev pub tokens_ahead : Sight → Length → Line → ℕ
-tokens_ahead s p line = tokens_read line.scanned line + token_count s.table s.contents (unasked s.marks p line.scanned)
+tokens_ahead s p line = tokens_read line.scanned line + token_count s.by s.contents (unasked s.old.marks p line.scanned)
 
 -- ---- what is paid
 
@@ -48,8 +48,8 @@ abbrev pub paying_at : Sight → ℕ → Length → Line → Paying
 paying_at s steps p line = record {
   known = all_paired_in s.old.tree;
   paid = steps;
-  due = 2 + way_price_in calls s.old.tree s.marks p;
-  opens = way_price_in openings s.old.tree s.marks p + tokens_ahead s p line;
+  due = 2 + way_price_in calls s.old.tree s.old.marks p;
+  opens = way_price_in openings s.old.tree s.old.marks p + tokens_ahead s p line;
   deepest = nesting_in s.old.tree;
 }
 
@@ -62,9 +62,9 @@ most_steps nesting height tokens = tokens + 16 * ((nesting + 1) * (height + 1))
 
 -- Where each bracket of the old tree is one of a pair, the lines that are asked for are one run, and its tokens leave room for
 -- the old pairs, no more steps are taken than that.
-abbrev pub TakesFewSteps : OldText → Table → List (List ℕ) → List ℕ → ℕ → ℕ → Type 0
-TakesFewSteps old table contents asked from to = (tree : Tree) → old.tree ≡ Some tree → all_paired tree ≡ true → IsOneRun asked
-    → let tokens = token_count table contents asked in
+abbrev pub TakesFewSteps : OldText → Scanner → List (List ℕ) → List ℕ → ℕ → ℕ → Type 0
+TakesFewSteps old by contents asked from to = (tree : Tree) → old.tree ≡ Some tree → all_paired tree ≡ true → IsOneRun asked
+    → let tokens = token_count by contents asked in
     2 * nesting tree + tokens ≤ MOST_OPEN → to ≤ from + most_steps (nesting tree) (highest tree) tokens
 
 pairs_in_one_another : most_steps 1 3 2 ≡ 130

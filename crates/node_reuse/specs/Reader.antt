@@ -3,8 +3,12 @@ use Rattle.std.specs.Prelude.{◌≡◌, ℕ, suc, ◌+◌, ◌<◌, Bool, true,
 use Rattle.std.specs.Borrow.{MutBor}
 use Rattle.text_lengths.specs.declared.Length.{Length}
 use Rattle.bracket_rules.specs.declared.Token.{Token}
-use Rattle.bracket_rules.specs.Rows.{Row, text_rows}
-use Rattle.bracket_rules.specs.Table.{Table, is_table}
+use Rattle.bracket_rules.specs.Rows.{Row}
+use Rattle.bracket_rules.specs.Table.{is_table}
+use Rattle.hiding_rules.specs.Hidden.{Scanner}
+use Rattle.hiding_rules.specs.Rows.{hidden_rows}
+use Rattle.hiding_rules.specs.States.{line_states}
+use Rattle.line_states.specs.Settling.{SettledState}
 use Rattle.bracket_tree_rules.specs.Places.{rows_from}
 use Rattle.bracket_nodes.specs.declared.parser.Next.{Next}
 use Rattle.bracket_nodes.specs.Source.{Ahead, Asking, Comes, AsksOn}
@@ -14,29 +18,29 @@ use Rattle.mark_rules.specs.Marks.{mark_at}
 use Rattle.reuse_rules.specs.Following.{Reached}
 use Rattle.node_reuse.specs.declared.line.Line.{Line}
 use Rattle.node_reuse.specs.OldText.{OldText}
-use Rattle.node_reuse.specs.Texts.{row_weights, new_from, new_lines}
+use Rattle.line_states.specs.Lines.{new_from, new_lines}
+use Rattle.node_reuse.specs.Texts.{row_weights}
 use Rattle.node_reuse.specs.Reading.{StaysIfThere, IsInLine, left_at}
 
 -- ---- what is read
 
--- the text of now by a table, an old text, and what the lines of now are to it
+-- the text of now, by what its lines are scanned, and an old text, which tells what they are to it
 pub record Sight : Type 0 where
-  pub table : Table
+  pub by : Scanner
   pub contents : List (List ℕ)
   pub old : OldText
-  pub marks : List Mark
 
-abbrev pub sight : Table → List (List ℕ) → OldText → List Mark → Sight
-sight table contents old marks = record { table = table; contents = contents; old = old; marks = marks }
+abbrev pub sight : Scanner → List (List ℕ) → OldText → Sight
+sight by contents old = record { by = by; contents = contents; old = old }
 
 abbrev pub sight_rows : Sight → List Row
-sight_rows s = text_rows s.table s.contents
+sight_rows s = hidden_rows s.by s.contents
 
 abbrev pub sight_weights : Sight → List ℕ
 sight_weights s = row_weights (sight_rows s)
 
 abbrev pub mark_of : Sight → Length → Mark
-mark_of s p = mark_at (p.lines + 1) s.marks
+mark_of s p = mark_at (p.lines + 1) s.old.marks
 
 -- the line of place p is kept
 abbrev pub IsKept : Sight → Length → Type 0
@@ -73,7 +77,7 @@ abbrev pub asking_at : Sight → Asked → Length → Line → Asking
 asking_at s asked p line = record {
   contents = s.contents;
   asked = asked.lines;
-  left = unasked s.marks p line.scanned;
+  left = unasked s.old.marks p line.scanned;
   count = line.asked;
   borrows = asked.borrows;
 }
@@ -83,7 +87,7 @@ asking_at s asked p line = record {
 abbrev pub seen_at : Sight → Asked → Length → Line → Ahead
 seen_at s asked p line = record {
   rows = rows_from p (sight_rows s);
-  line = left_at s.old.tree s.marks (sight_weights s) p;
+  line = left_at s.old.tree s.old.marks (sight_weights s) p;
   later = drop (suc p.lines) (sight_weights s);
   asking = asking_at s asked p line;
 }
@@ -91,20 +95,19 @@ seen_at s asked p line = record {
 abbrev pub tokens_left : Line → List Token
 tokens_left line = drop line.next line.tokens.items
 
--- what is read belongs together: the marks are those of the old text, and tell of each line, and its tree agrees under them
+-- what is read belongs together: the marks tell of each line, and the old tree agrees under them
 pub record IsSound (s : Sight) : Type 0 where
-  pub table : is_table s.table ≡ true
-  pub same_marks : s.old.marks ≡ s.marks
-  pub counted : length s.marks ≡ length s.contents
-  pub stays : StaysIfThere s.old.tree s.marks (sight_rows s) (sight_weights s)
+  pub table : is_table s.by.table ≡ true
+  pub counted : length s.old.marks ≡ length s.contents
+  pub stays : StaysIfThere s.old.tree s.old.marks (sight_rows s) (sight_weights s)
 
 -- the reader stands at place p, and this is what it knows of its line
 pub record StandsAt (s : Sight) (p : Length) (line : Line) : Type 0 where
   pub sound : IsSound s
   pub reached : Reached (sight_rows s) p (rows_from p (sight_rows s))
-  pub in_line : IsInLine (mark_of s p) s.old.tree s.marks (sight_rows s) (sight_weights s) p line.scanned (tokens_left line) line.columns
+  pub in_line : IsInLine (mark_of s p) s.old.tree s.old.marks (sight_rows s) (sight_weights s) p line.scanned (tokens_left line) line.columns
   pub is_new : line.scanned ≡ true → mark_of s p ≡ New
-  pub asked : line.asked + length (unasked s.marks p line.scanned) ≡ length (new_lines s.marks)
+  pub asked : line.asked + length (unasked s.old.marks p line.scanned) ≡ length (new_lines s.old.marks)
 
 -- the line of place p is the last one, or it is not
 abbrev pub IsLast : Sight → Length → Bool → Type 0
@@ -116,3 +119,9 @@ pub record ReadsOn (s : Sight) (p : Length) (from : Line) (q : Length) (to : Lin
   pub comes : (asked : Asked) → Comes (seen_at s asked p from) (seen_at s asked q to) opened level next
   pub asks : (asked : Asked) → AsksOn (asking_at s asked p from) (asking_at s asked q to)
   pub stands : StandsAt s q to
+
+-- it stands there, and the lines that it reads were settled: each begins in its state, and a restarted one is as a new one
+pub record Stands (s : Sight) (settled : SettledState) (p : Length) (line : Line) : Type 0 where
+  pub at : StandsAt s p line
+  pub marks : s.old.marks ≡ settled.marks
+  pub states : settled.states.begins ≡ line_states s.by s.contents

@@ -4,13 +4,12 @@
 mod fresh;
 mod kept;
 mod line;
-mod lines;
 mod marks;
 mod old;
 mod parsed;
 mod reader;
 
 pub use bracket_rules::Token;
-pub use lines::Lines;
+pub use line_states::Lines;
 pub use old::{Old, OldReader};
 pub use parsed::{Parsed, reparse};

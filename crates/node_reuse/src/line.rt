@@ -1,12 +1,15 @@
 // The line of a text that is read.
 ghost use Rattle.std.specs.Prelude.{◌≡◌, ◌+◌, ◌^◌, ◌<◌, ◌≤◌, ◌++◌, ◌∷◌, [], drop, true, false, length, IfOk, OnOk, IfSome, IfNone};
-ghost use Rattle.bracket_rules.specs.Table.{is_table, tokens_of};
-ghost use Rattle.node_reuse.specs.Texts.{content_at};
+ghost use Rattle.bracket_rules.specs.Table.{is_table};
+ghost use Rattle.hiding_rules.specs.Hidden.{scanner};
+ghost use Rattle.hiding_rules.specs.States.{line_states};
+ghost use Rattle.line_states.specs.Lines.{content_at};
+ghost use Rattle.node_reuse.specs.Texts.{line_tokens};
 ghost use Rattle.node_reuse.specs.Reader.{asked_if, tokens_left};
 
-use crate::lines::Lines;
 use bracket_rules::Token;
-use bracket_scan::BracketTable;
+use bracket_scan::{BracketTable, Hiding};
+use line_states::{Lines, Settled};
 use std::alloc::{AllocError, Global};
 
 // What a reader knows of the line that it reads. Each line is read into the same buffers.
@@ -58,20 +61,31 @@ pub(crate) fn first_line(alloc: Global, table: &BracketTable) -> Result<Line, Al
     })
 }
 
+// By what the lines of a text are scanned, and in which state each begins.
+#[derive(Clone, Copy)]
+pub(crate) struct LineRules<'a> {
+    pub table: &'a BracketTable,
+    pub hiding: &'a Hiding,
+    pub settled: &'a Settled<'a>,
+}
+
 // Asks for line `n` once, from 1, and scans it. After an error it is scanned if it was asked for, but then nothing is
 // known of it.
 pub(crate) fn scan<Q: Lines>(
-    table: &BracketTable,
+    rules: LineRules<'_>,
     lines: &mut Q,
     n: u64,
     line: &mut Line,
 ) -> Result<(), AllocError>
     requires first { 1 ≤ n }
     requires there { n ≤ length (Q.state lines.old).contents }
+    requires states { rules.settled.now.states.begins
+        ≡ line_states (scanner rules.table.now rules.hiding.now) (Q.state lines.old).contents }
     requires count { line.old.asked + 1 < 2 ^ 64 }
     requires unscanned { line.old.scanned ≡ false }
-    ensures tokens { OnOk result
-        (tokens_left line.new ≡ tokens_of table.now (content_at n (Q.state lines.old).contents)) }
+    ensures tokens { OnOk result (tokens_left line.new
+        ≡ line_tokens (scanner rules.entry.table.now rules.entry.hiding.now)
+        (Q.state lines.old).contents n) }
     ensures columns { OnOk result
         (line.new.columns ≡ length (content_at n (Q.state lines.old).contents)) }
     ensures scanned { OnOk result (line.new.scanned ≡ true) }
@@ -88,5 +102,9 @@ pub(crate) fn scan<Q: Lines>(
     line.columns = line.content.len() as u64;
     line.next = 0;
     line.tokens.clear();
-    table.scan(&line.content, &mut line.tokens)
+    let state = rules.settled.state(n);
+    rules
+        .table
+        .scan_from(rules.hiding, state, &line.content, &mut line.tokens)?;
+    Ok(())
 }

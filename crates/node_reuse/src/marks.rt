@@ -43,14 +43,6 @@ impl<'h> LineMarks<'h> {
         }
     }
 
-    // How many lines there are.
-    pub fn lines(&self) -> u64
-        ensures lines { result ≡ length self.now }
-        ensures fits { result < 2 ^ 62 }
-    {
-        self.hunks.lines()
-    }
-
     // The mark of a line, and how many lines from it on are kept one after another. At most one look-up.
     pub fn at(&mut self, line: u64) -> (Mark, u64)
         requires { line < length self.old }

@@ -11,7 +11,7 @@ ghost use Rattle.node_reuse.specs.OldText.{IsOldPlace, IsNewLine, Fits64, IsLong
 use crate::marks::LineMarks;
 use bracket_nodes::{Kinds, Node, NodeReader, NodeRef};
 use bracket_rules::Token;
-use line_hunks::Hunks;
+use line_states::Settled;
 use mark_rules::Mark;
 use std::alloc::Global;
 use std::marker::Model;
@@ -19,11 +19,14 @@ use std::sync::ledger::Ledger;
 use steps::Steps;
 use text_lengths::Length;
 
-/// An old text, from a place of the text of now. Lines are counted from 0. No other call leads to the nodes of an old
-/// text. Each takes one step, and leaves the text as it was; none fails for want of memory.
+/// An old text, from a place of the text of now. Lines are counted from 0. Only `longest_at` and `token_at` lead to the
+/// nodes of an old text, and each takes one step. All leave the text as it was; none fails for want of memory.
 pub trait Old {
     ghost use Rattle.std.specs.Borrow.{sem};
     ghost use Rattle.std.specs.Io.BufRead.{Rests};
+    ghost use Rattle.std.specs.Prelude.{true, false, ℕ};
+    ghost use Rattle.mark_rules.specs.declared.Mark.TheVariants.{Kept, New};
+    ghost use Rattle.mark_rules.specs.Marks.{mark_at};
     ghost use Rattle.node_reuse.specs.OldText.{OldText, Fits64, IsLongestReusable, NoneReusable, IsOldToken, NoOldBracket};
 
     ghost text: { Self → OldText };
@@ -45,6 +48,14 @@ pub trait Old {
             Fits64 (length_plus place (tree_length (node_of node)))) }
         ensures step { steps.new ≡ steps.old + 1 }
         ensures* same { sem 𝓛 (Rests Self.row self.entry (λ after. text after ≡ text self.old)) };
+
+    /// Whether this line is kept: an old line stands in its place, with the brackets that it has now. No step.
+    fn is_kept(&mut self, line: u64) -> bool
+        requires { line < length (text self.old).marks }
+        ensures kept { result ≡ true → (i : ℕ)
+            × (mark_at (line + 1) (text self.old).marks ≡ Kept i) }
+        ensures new { result ≡ false → mark_at (line + 1) (text self.old).marks ≡ New }
+        ensures same { text self.new ≡ text self.old };
 
     /// The old bracket at this place of the text of now, as one of its line; none where the line is new.
     fn token_at<L: Ledger>(&mut self, place: Length, steps: &mut Steps<L>) -> Option<Token>
@@ -81,16 +92,16 @@ impl<'a> Model for OldReader<'a> {
 }
 
 impl<'a> OldReader<'a> {
-    /// The reader of this tree, under these marks.
-    pub fn new(alloc: Global, tree: Option<&'a Node>, hunks: &'a Hunks) -> OldReader<'a>
+    /// The reader of this tree, under the marks of lines that were settled.
+    pub fn new(alloc: Global, tree: Option<&'a Node>, settled: &'a Settled<'a>) -> OldReader<'a>
         ensures tree { result.tree ≡ option_copied tree.entry }
-        ensures marks { result.marks ≡ hunks.now.marks }
+        ensures marks { result.marks ≡ settled.now.marks }
     {
         let tree = match tree {
             Some(tree) => Some(NodeReader::new(alloc, tree)),
             None => None,
         };
-        let marks = LineMarks::new(hunks);
+        let marks = LineMarks::new(settled.hunks());
         OldReader { tree, marks }
     }
 
@@ -167,6 +178,13 @@ impl Old for OldReader<'_> {
         steps.tick();
         let found = self.node_at(place, opened, level);
         self.lent(found)
+    }
+
+    fn is_kept(&mut self, line: u64) -> bool {
+        match self.marks.at(line).0 {
+            Mark::Kept(_) => true,
+            Mark::New => false,
+        }
     }
 
     fn token_at<L: Ledger>(&mut self, place: Length, steps: &mut Steps<L>) -> Option<Token> {

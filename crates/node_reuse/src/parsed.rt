@@ -1,22 +1,23 @@
 //! The parse of a text whose lines changed in part.
 
 ghost use Rattle.std.specs.Prelude.{◌≡◌, ◌<◌, ◌++◌, true, length, IfOk, OnOk, OnErr};
-ghost use Rattle.bracket_rules.specs.Rows.{text_rows};
 ghost use Rattle.bracket_rules.specs.Table.{is_table};
+ghost use Rattle.hiding_rules.specs.Hidden.{scanner};
+ghost use Rattle.hiding_rules.specs.Rows.{hidden_rows};
+ghost use Rattle.hiding_rules.specs.States.{line_states};
 ghost use Rattle.bracket_tree_rules.specs.Told.{IsTreeOf};
 ghost use Rattle.bracket_tree_rules.specs.Weights.{tree_weights, AreCovered};
 ghost use Rattle.node_reuse.specs.Paying.{TakesFewSteps};
 ghost use Rattle.node_reuse.specs.Reading.{AgreesIfThere};
-ghost use Rattle.node_reuse.specs.Texts.{text_weights, new_lines, AsksFront, IsTight};
+ghost use Rattle.line_states.specs.Lines.{text_weights, new_lines, AsksFront};
+ghost use Rattle.node_reuse.specs.Texts.{IsTight};
 
-use crate::line::first_line;
-use crate::lines::Lines;
-use crate::marks::LineMarks;
+use crate::line::{LineRules, first_line};
 use crate::old::Old;
 use crate::reader::Reader;
 use bracket_nodes::{Node, parse};
-use bracket_scan::BracketTable;
-use line_hunks::Hunks;
+use bracket_scan::{BracketTable, Hiding};
+use line_states::{Lines, Settled};
 use std::alloc::{AllocError, Global};
 use std::marker::Model;
 use std::sync::ledger::Ledger;
@@ -56,49 +57,55 @@ impl Parsed {
     }
 }
 
-/// The tree of a text of now by the table, with what may be taken over of an old text that agrees with it under the
-/// marks. Each new line is asked for once, in order, and no kept line is. Each look into the old text is a step. In no
-/// line the tree's leaves weigh more than its units, and one for its break.
+/// The tree of a text of now, whose lines were settled, by the table and what hides brackets, with what may be taken over
+/// of an old text that agrees with it under the marks. Each line that is new or restarted is asked for once, in order, and
+/// no other line is. Each look into the nodes of the old text is a step. In no line the tree's leaves weigh more than its
+/// units, and one for its break.
 ///
-/// An error is want of memory: some of the new lines were asked for then, and nothing else was changed.
+/// An error is want of memory: some of those lines were asked for then, and nothing else was changed.
 pub fn reparse<O: Old + Drop, Q: Lines, L: Ledger>(
     alloc: Global,
     mut old: O,
-    hunks: &Hunks,
+    settled: &Settled<'_>,
     table: &BracketTable,
+    hiding: &Hiding,
     lines: &mut Q,
     steps: &mut Steps<L>,
 ) -> Result<Parsed, AllocError>
     requires some { 0 < length (Q.state lines.old).contents }
-    requires marks { (O.text old).marks ≡ hunks.now.marks }
-    requires count { length hunks.now.marks ≡ length (Q.state lines.old).contents }
-    requires agrees { AgreesIfThere (O.text old).tree hunks.now.marks
-        (text_rows table.now (Q.state lines.old).contents) }
+    requires marks { (O.text old).marks ≡ settled.now.marks }
+    requires count { length settled.now.marks ≡ length (Q.state lines.old).contents }
+    requires states { settled.now.states.begins
+        ≡ line_states (scanner table.now hiding.now) (Q.state lines.old).contents }
+    requires agrees { AgreesIfThere (O.text old).tree settled.now.marks
+        (hidden_rows (scanner table.now hiding.now) (Q.state lines.old).contents) }
     ensures tree { IfOk result (λ parsed.
-        IsTreeOf (text_rows table.now (Q.state lines.old).contents) parsed.tree) }
+        IsTreeOf (hidden_rows (scanner table.now hiding.now) (Q.state lines.old).contents) parsed.tree) }
     ensures tight { IfOk result (λ parsed. IsTight parsed.tree) }
     ensures light { IfOk result (λ parsed.
         AreCovered (tree_weights parsed.tree) (text_weights (Q.state lines.old).contents)) }
     ensures table { OnOk result (is_table table.now ≡ true) }
     ensures asked { OnOk result
-        ((Q.state lines.new).asked ≡ (Q.state lines.old).asked ++ new_lines hunks.now.marks) }
-    ensures count { IfOk result (λ parsed. parsed.asked ≡ length (new_lines hunks.now.marks)) }
-    ensures front { OnErr result (AsksFront (new_lines hunks.now.marks)
+        ((Q.state lines.new).asked ≡ (Q.state lines.old).asked ++ new_lines settled.now.marks) }
+    ensures count { IfOk result (λ parsed. parsed.asked ≡ length (new_lines settled.now.marks)) }
+    ensures front { OnErr result (AsksFront (new_lines settled.now.marks)
         (Q.state lines.old).asked (Q.state lines.new).asked) }
     ensures contents { (Q.state lines.new).contents ≡ (Q.state lines.old).contents }
-    ensures steps { TakesFewSteps (O.text old) table.now (Q.state lines.old).contents
-        (new_lines hunks.now.marks) steps.old steps.new }
+    ensures steps { TakesFewSteps (O.text old) (scanner table.now hiding.now) (Q.state lines.old).contents
+        (new_lines settled.now.marks) steps.old steps.new }
 {
     let mut line = first_line(alloc, table)?;
-    let mut marks = LineMarks::new(hunks);
     let place = Length {
         lines: 0,
         columns: 0,
     };
     let mut reader = Reader {
         text: &mut old,
-        marks: &mut marks,
-        table,
+        rules: LineRules {
+            table,
+            hiding,
+            settled,
+        },
         lines,
         steps,
         place,

@@ -3,8 +3,9 @@ use Rattle.std.proofs.Common.{◌≡◌, ℕ, zero, suc, ◌+◌, ◌-◌, ◌<�
 use Rattle.std.specs.Prelude.{slice_index_or, replicate}
 use Rattle.std.proofs.lemmas.Bool.{cases_lt}
 use Rattle.std.proofs.lemmas.List.{length-drop, length-take, length-append, length-replicate, drop-drop, get_or-drop, get_or-take, get_or_append_left, get_or-append_right}
-use Rattle.bracket_rules.specs.Rows.{Row, text_rows}
-use Rattle.bracket_rules.specs.Table.{Table}
+use Rattle.bracket_rules.specs.Rows.{Row, empty_row}
+use Rattle.hiding_rules.specs.Rows.{broken}
+use Rattle.hiding_rules.proofs.Rows.{length-broken, drop-broken}
 use Rattle.mark_rules.specs.declared.Mark.{Mark}
 use Rattle.mark_rules.specs.declared.Mark.TheVariants.{Kept, New}
 use Rattle.mark_rules.specs.Marks.{mark_at, kept_marks, clean_marks, edited_marks}
@@ -14,26 +15,14 @@ use Rattle.reuse_rules.specs.Edits.{IsEdited}
 
 -- ---- rows of lines
 
-pub length-text_rows : (table : Table) (lines : List (List ℕ)) → length (text_rows table lines) ≡ length lines
-length-text_rows table [] = refl
-length-text_rows table (x ∷ []) = refl
-length-text_rows table (x ∷ y ∷ lines) = ap suc (length-text_rows table (y ∷ lines))
-
-drop-text_rows : (table : Table) (j : ℕ) (lines : List (List ℕ)) → drop j (text_rows table lines) ≡ text_rows table (drop j lines)
-drop-text_rows table zero lines = refl
-drop-text_rows table (suc j) [] = refl
-drop-text_rows table (suc zero) (x ∷ []) = refl
-drop-text_rows table (suc (suc j)) (x ∷ []) = refl
-drop-text_rows table (suc j) (x ∷ y ∷ lines) = drop-text_rows table j (y ∷ lines)
-
 -- a line that is not the last has the same row, whatever follows
-alike_before : (table : Table) (old : List Row) (x y y' : List ℕ) (lines lines' : List (List ℕ))
-    → Alike 1 old (text_rows table (x ∷ y ∷ lines)) → Alike 1 old (text_rows table (x ∷ y' ∷ lines'))
-alike_before table [] x y y' lines lines' h = elim h [ ]
-alike_before table (r ∷ []) x y y' [] lines' h = elim h.1.0 [ ]
-alike_before table (r ∷ []) x y y' (z ∷ lines) lines' h = elim h.1.0 [ ]
-alike_before table (r ∷ s ∷ old) x y y' lines [] h = (h.0, (tt, tt))
-alike_before table (r ∷ s ∷ old) x y y' lines (z ∷ lines') h = (h.0, (tt, tt))
+alike_before : (old : List Row) (x y y' : Row) (lines lines' : List Row)
+    → Alike 1 old (broken (x ∷ y ∷ lines)) → Alike 1 old (broken (x ∷ y' ∷ lines'))
+alike_before [] x y y' lines lines' h = elim h [ ]
+alike_before (r ∷ []) x y y' [] lines' h = elim h.1.0 [ ]
+alike_before (r ∷ []) x y y' (z ∷ lines) lines' h = elim h.1.0 [ ]
+alike_before (r ∷ s ∷ old) x y y' lines [] h = (h.0, (tt, tt))
+alike_before (r ∷ s ∷ old) x y y' lines (z ∷ lines') h = (h.0, (tt, tt))
 
 -- ---- marks of lines
 
@@ -71,24 +60,24 @@ begins_edited (suc a) n m (New ∷ marks) h k b = tt
 begins_edited (suc a) n m (Kept i ∷ marks) h k b = b
 
 -- a line before the edited ones is the same one, and more follows in both texts
-alike_in_front : (table : Table) (old : List Row) (a j n m : ℕ) (before after : List (List ℕ)) → j < a → 1 ≤ n → 1 ≤ m
+alike_in_front : (old : List Row) (a j n m : ℕ) (before after : List Row) → j < a → 1 ≤ n → 1 ≤ m
     → a + n ≤ length before → a + m ≤ length after → take a after ≡ take a before
-    → Alike 1 old (text_rows table (drop j before)) → Alike 1 old (text_rows table (drop j after))
-alike_in_front table old zero j n m before after h k l f g e d = absurd (omega arith)
-alike_in_front table old (suc a) j n m [] after h k l f g e d = absurd (omega arith)
-alike_in_front table old (suc a) j n m (x ∷ before) [] h k l f g e d = absurd (omega arith)
-alike_in_front table old (suc a) (suc j) n m (x ∷ before) (y ∷ after) h k l f g e d =
-    alike_in_front table old a j n m before after (omega arith) k l (omega arith) (omega arith) (ap (drop 1) e) d
-alike_in_front table old (suc a) zero n m (x ∷ []) (y ∷ after) h k l f g e d = absurd (omega arith)
-alike_in_front table old (suc a) zero n m (x ∷ z ∷ before) (y ∷ []) h k l f g e d = absurd (omega arith)
-alike_in_front table old (suc a) zero n m (x ∷ z ∷ before) (y ∷ w ∷ after) h k l f g e d =
-    let same : y ≡ x = ap (λ (lines : List (List ℕ)). slice_index_or lines 0 []) e in
-    subst (λ (u : List ℕ). Alike 1 old (text_rows table (u ∷ w ∷ after))) (sym same) (alike_before table old x z w before after d)
+    → Alike 1 old (broken (drop j before)) → Alike 1 old (broken (drop j after))
+alike_in_front old zero j n m before after h k l f g e d = absurd (omega arith)
+alike_in_front old (suc a) j n m [] after h k l f g e d = absurd (omega arith)
+alike_in_front old (suc a) j n m (x ∷ before) [] h k l f g e d = absurd (omega arith)
+alike_in_front old (suc a) (suc j) n m (x ∷ before) (y ∷ after) h k l f g e d =
+    alike_in_front old a j n m before after (omega arith) k l (omega arith) (omega arith) (ap (drop 1) e) d
+alike_in_front old (suc a) zero n m (x ∷ []) (y ∷ after) h k l f g e d = absurd (omega arith)
+alike_in_front old (suc a) zero n m (x ∷ z ∷ before) (y ∷ []) h k l f g e d = absurd (omega arith)
+alike_in_front old (suc a) zero n m (x ∷ z ∷ before) (y ∷ w ∷ after) h k l f g e d =
+    let same : y ≡ x = ap (λ (lines : List Row). slice_index_or lines 0 empty_row) e in
+    subst (λ (u : Row). Alike 1 old (broken (u ∷ w ∷ after))) (sym same) (alike_before old x z w before after d)
 
-module _ (old : List Row) (table : Table) (first n m : ℕ) (marks : List Mark) (before after : List (List ℕ))
-    (edit : IsEdited first n m before after) (agrees : Agrees old marks (text_rows table before)) where
+module _ (old : List Row) (first n m : ℕ) (marks : List Mark) (before after : List Row)
+    (edit : IsEdited first n m before after) (agrees : Agrees old marks (broken before)) where
   as_many : length marks ≡ length before
-  as_many = agrees.count ∙ length-text_rows table before
+  as_many = agrees.count ∙ length-broken before
 
   marks_behind : List Mark
   marks_behind = replicate m New ++ drop (first - 1 + n) marks
@@ -117,24 +106,24 @@ module _ (old : List Row) (table : Table) (first n m : ℕ) (marks : List Mark) 
       ap length parts ∙ omega arith
 
   -- rows of lines that are dropped as far
-  same_rows : (old' : List Row) (j k : ℕ) (xs ys : List (List ℕ)) → drop j xs ≡ drop k ys
-      → Alike 1 old' (drop k (text_rows table ys)) → Alike 1 old' (drop j (text_rows table xs))
+  same_rows : (old' : List Row) (j k : ℕ) (xs ys : List Row) → drop j xs ≡ drop k ys
+      → Alike 1 old' (drop k (broken ys)) → Alike 1 old' (drop j (broken xs))
   same_rows old' j k xs ys e h =
       subst (λ (rows : List Row). Alike 1 old' rows)
-      (drop-text_rows table k ys ∙ ap (text_rows table) (sym e) ∙ sym (drop-text_rows table j xs)) h
+      (drop-broken k ys ∙ ap broken (sym e) ∙ sym (drop-broken j xs)) h
 
   in_front : (j i : ℕ) → mark_at (j + 1) (edited_marks first n m marks) ≡ Kept (i + 1) → j < first - 1
-      → Alike 1 (drop i old) (drop j (text_rows table after))
+      → Alike 1 (drop i old) (drop j (broken after))
   in_front j i e h =
       let room = inside in
       let there : slice_index_or marks j New ≡ Kept (i + 1) = sym (mark_before (first - 1) j marks marks_behind h (omega arith)) ∙ at_mark j i e in
       let was = agrees.kept j i (omega arith) (ap (λ (k : ℕ). slice_index_or marks k New) (omega arith) ∙ there) in
-      subst (λ (rows : List Row). Alike 1 (drop i old) rows) (sym (drop-text_rows table j after))
-      (alike_in_front table (drop i old) (first - 1) j n m before after h edit.some edit.more edit.within edit.there edit.front
-      (subst (λ (rows : List Row). Alike 1 (drop i old) rows) (drop-text_rows table j before) was))
+      subst (λ (rows : List Row). Alike 1 (drop i old) rows) (sym (drop-broken j after))
+      (alike_in_front (drop i old) (first - 1) j n m before after h edit.some edit.more edit.within edit.there edit.front
+      (subst (λ (rows : List Row). Alike 1 (drop i old) rows) (drop-broken j before) was))
 
   behind_edit : (j i : ℕ) → j < length (edited_marks first n m marks) → mark_at (j + 1) (edited_marks first n m marks) ≡ Kept (i + 1)
-      → first - 1 + m ≤ j → Alike 1 (drop i old) (drop j (text_rows table after))
+      → first - 1 + m ≤ j → Alike 1 (drop i old) (drop j (broken after))
   unfolding marks_behind
   behind_edit j i l e h =
       let room = inside in
@@ -159,7 +148,7 @@ module _ (old : List Row) (table : Table) (first n m : ℕ) (marks : List Mark) 
       (sym (mark_behind (first - 1) j marks marks_behind (omega arith) h) ∙ at_mark j i e)
 
   kept_edited : (j i : ℕ) → j < length (edited_marks first n m marks) → mark_at (j + 1) (edited_marks first n m marks) ≡ Kept (i + 1)
-      → Alike 1 (drop i old) (drop j (text_rows table after))
+      → Alike 1 (drop i old) (drop j (broken after))
   kept_edited j i l e = elim (cases_lt j (first - 1)) [
     | inl h ↦ in_front j i e h
     | inr h ↦ elim (cases_lt j (first - 1 + m)) [ inl k ↦ absurd (in_edit j i e h k) | inr k ↦ behind_edit j i l e k ]
@@ -189,17 +178,17 @@ module _ (old : List Row) (table : Table) (first n m : ℕ) (marks : List Mark) 
       ]
 
   -- the rows after the edit agree with the old text under the marks that it leaves
-  pub Agrees-edited : Agrees old (edited_marks first n m marks) (text_rows table after)
+  pub Agrees-edited : Agrees old (edited_marks first n m marks) (broken after)
   Agrees-edited =
       let room = inside in
       let long = length-edited in
       let counted = as_many in
       let left = length-drop (first - 1 + m) after in
-      let same = ap (λ (lines : List (List ℕ)). length lines) edit.rest in
+      let same = ap (λ (lines : List Row). length lines) edit.rest in
       let was = length-drop (first - 1 + n) before in
       let there : first - 1 + m ≤ length after = edit.there in
       let within : first - 1 + n ≤ length before = edit.within in
-      let rows = length-text_rows table after in
+      let rows = length-broken after in
       record {
         count = omega arith;
         rises = Rises-edited first n m marks (omega (arith, edit.more)) agrees.rises;

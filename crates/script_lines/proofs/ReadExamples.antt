@@ -2,12 +2,13 @@
 use Rattle.std.specs.Prelude.{◌≡◌, false, [], ◌∷◌, Some, None, codes, refl}
 use Rattle.std.specs.Str.{is_utf8, chars}
 use Rattle.serde_json.proofs.OnLiterals.{serde_json_on_literals}
+use Rattle.hiding_rules.specs.Marks.{marks}
 use Rattle.unit_text.specs.declared.kind.Kind.TheVariants.{Mixed, Crlf}
 use Rattle.script_lines.specs.declared.command.Command.TheVariants.{Open, Edit, Eol, Line, Size}
 use Rattle.script_lines.specs.declared.op.Place.TheVariants.{At}
 use Rattle.script_lines.specs.Commands.{command_of}
 
-pub an_opening : command_of (codes "{\"cmd\":\"open\",\"text\":\"ab\\ncd\"}") ≡ Some (Open (codes "ab\ncd") None Mixed)
+pub an_opening : command_of (codes "{\"cmd\":\"open\",\"text\":\"ab\\ncd\"}") ≡ Some (Open (codes "ab\ncd") None None Mixed)
 unfolding command_of is_utf8 chars serde_json_on_literals
 an_opening = refl
 
@@ -16,9 +17,14 @@ pub an_edit : command_of (codes "{\"cmd\":\"edit\",\"ops\":[{\"at\":[1,4],\"text
 unfolding command_of is_utf8 chars serde_json_on_literals
 an_edit = refl
 
-pub an_opening_with_eol : command_of (codes "{\"cmd\":\"open\",\"text\":\"ab\",\"eol\":\"crlf\"}") ≡ Some (Open (codes "ab") None Crlf)
+pub an_opening_with_eol : command_of (codes "{\"cmd\":\"open\",\"text\":\"ab\",\"eol\":\"crlf\"}") ≡ Some (Open (codes "ab") None None Crlf)
 unfolding command_of is_utf8 chars serde_json_on_literals
 an_opening_with_eol = refl
+
+pub an_opening_with_quotes : command_of (codes "{\"cmd\":\"open\",\"text\":\"\",\"marks\":{\"quotes\":[\"\\\"\"]}}")
+    ≡ Some (Open [] None (Some (marks None None (codes "\""))) Mixed)
+unfolding command_of is_utf8 chars serde_json_on_literals
+an_opening_with_quotes = refl
 
 pub an_eol : command_of (codes "{\"cmd\":\"eol\",\"kind\":\"crlf\"}") ≡ Some (Eol Crlf)
 unfolding command_of is_utf8 chars serde_json_on_literals

@@ -19,6 +19,14 @@ pair_of ds = two_of two_texts ds
 abbrev pub pair_in : Data → Option (List ℕ × List ℕ)
 pair_in d = option_and_then pair_of (as_array d)
 
+abbrev pub optional_pair_of : Option Data → Option (Option (List ℕ × List ℕ))
+optional_pair_of None = Some None
+optional_pair_of (Some d) = option_map Some (pair_in d)
+
+-- two texts, or none where the field is absent
+abbrev pub optional_pair_at : List ℕ → Data → Option (Option (List ℕ × List ℕ))
+optional_pair_at key d = optional_pair_of (get key d)
+
 -- the pairs, where they are a table
 abbrev pub table_of : Table → Option Table
 table_of pairs = if is_table pairs then Some pairs else None

@@ -8,6 +8,7 @@ use Rattle.script_lines.specs.declared.op.Place.TheVariants.{At, InRange}
 use Rattle.script_lines.specs.Reading.{◌>>=◌}
 use Rattle.script_lines.specs.Fields.{has_only, has_fields, all_of, text_at, span_from, positions_at, flag_at, kind_at, optional_kind_at}
 use Rattle.script_lines.specs.Brackets.{optional_table_at}
+use Rattle.script_lines.specs.Marks.{optional_marks_at}
 use Rattle.script_lines.specs.declared.command.Command.{Command}
 use Rattle.script_lines.specs.declared.command.Command.TheVariants.{Open, Edit, Eol}
 
@@ -15,13 +16,14 @@ abbrev pub open_of : Data → Option Command
 open_of d = do
   text ← text_at (codes "text") d
   brackets ← optional_table_at (codes "brackets") d
+  marks ← optional_marks_at (codes "marks") d
   kind ← optional_kind_at (codes "eol") d
-  Some (Open text brackets kind)
+  Some (Open text brackets marks kind)
 
--- `{"cmd":"open","text":TEXT}`, with `"brackets":[[OPENING,CLOSING],..]` if the brackets are not those of the standard table, and
--- with `"eol":"lf"` or `"eol":"crlf"` if all line endings are to be of that kind
+-- `{"cmd":"open","text":TEXT}`, with `"brackets":[[OPENING,CLOSING],..]` if the brackets are not those of the standard table, with
+-- `"marks":MARKS` if comments and strings hide some, and with `"eol":"lf"` or `"eol":"crlf"` if all line endings are to be of that kind
 abbrev pub open_in : Data → Option Command
-open_in d = if has_fields (codes "text" ∷ codes "brackets" ∷ codes "eol" ∷ []) d then open_of d else None
+open_in d = if has_fields (codes "text" ∷ codes "brackets" ∷ codes "marks" ∷ codes "eol" ∷ []) d then open_of d else None
 
 -- where an op stands, by its field `at` where it has one: at a span of offsets, or in a range of positions
 abbrev pub place_of : Option Data → Data → Option Place

@@ -1,13 +1,15 @@
 -- Worked examples of the definitions.
-use Rattle.std.specs.Prelude.{◌≡◌, ℕ, false, List, ◌∷◌, [], Some, None, codes, refl}
+use Rattle.std.specs.Prelude.{◌≡◌, ℕ, false, List, ◌∷◌, [], Option, Some, None, codes, refl}
 use Rattle.std.specs.Fmt.{digits}
 use Rattle.std.specs.Str.{chars}
 use Rattle.unit_text.specs.declared.kind.Kind.TheVariants.{Mixed, Lf, Crlf}
+use Rattle.hiding_rules.specs.Marks.{Marks, marks, no_marks}
 use Rattle.serde_json.specs.Data.{Data, null, number, string, array, object, unsigned, Items, no_items, item, no_members, member}
 use Rattle.script_lines.specs.declared.reason.Refusal.TheVariants.{Gap}
 use Rattle.script_lines.specs.Replies.{ok_reply, refusal_reply}
 use Rattle.script_lines.specs.Decorations.{new_deco_in}
 use Rattle.script_lines.specs.Commands.{command_in}
+use Rattle.script_lines.specs.declared.command.Command.{Command}
 use Rattle.script_lines.specs.declared.command.Command.TheVariants.{Open, Eol, Decorate, Decos, Match, Level, Read, Close, Stops}
 
 three_numbers : ok_reply (2 ∷ 3 ∷ 10 ∷ []) ≡ codes "ok 2 3 10\n"
@@ -86,12 +88,12 @@ open_with brackets = object (member (codes "brackets") brackets
     (member (codes "cmd") (string (codes "open")) (member (codes "text") (string []) no_members)))
 
 open_without_brackets : command_in (object (member (codes "cmd") (string (codes "open")) (member (codes "text") (string []) no_members)))
-    ≡ Some (Open [] None Mixed)
+    ≡ Some (Open [] None None Mixed)
 unfolding chars
 open_without_brackets = refl
 
 pairs_in_their_order : command_in (open_with (array (item (pair (codes "<") (codes "<<")) (item (pair (codes "(") (codes ")")) no_items))))
-    ≡ Some (Open [] (Some ((60 ∷ [], 60 ∷ 60 ∷ []) ∷ (40 ∷ [], 41 ∷ []) ∷ [])) Mixed)
+    ≡ Some (Open [] (Some ((60 ∷ [], 60 ∷ 60 ∷ []) ∷ (40 ∷ [], 41 ∷ []) ∷ [])) None Mixed)
 unfolding chars
 pairs_in_their_order = refl
 
@@ -119,6 +121,72 @@ match_at_position = refl
 level_at_position : command_in (at_position (codes "level")) ≡ Some (Level (record { line = 2; column = 3 }))
 level_at_position = refl
 
+-- ---- marks
+
+-- `{"cmd":"open","marks":MARKS,"text":""}`
+abbrev open_with_marks : Data → Data
+open_with_marks given = object (member (codes "cmd") (string (codes "open"))
+    (member (codes "marks") given (member (codes "text") (string []) no_members)))
+
+abbrev marked : Marks → Option Command
+marked m = Some (Open [] None (Some m) Mixed)
+
+-- `{KEY:VALUE}`
+abbrev only : List ℕ → Data → Data
+only key value = object (member key value no_members)
+
+abbrev quotes : List ℕ → Data
+quotes text = only (codes "quotes") (array (item (string text) no_items))
+
+no_marks_at_all : command_in (open_with_marks (object no_members)) ≡ marked no_marks
+unfolding chars
+no_marks_at_all = refl
+
+no_quotes : command_in (open_with_marks (only (codes "quotes") (array no_items))) ≡ marked no_marks
+unfolding chars
+no_quotes = refl
+
+-- `{"block":["/*","*/"],"line":"//","quotes":["\"","'"]}`
+all_marks : command_in (open_with_marks (object (member (codes "block") (pair (codes "/*") (codes "*/"))
+    (member (codes "line") (string (codes "//"))
+    (member (codes "quotes") (array (item (string (codes "\"")) (item (string (codes "'")) no_items))) no_members)))))
+    ≡ marked (marks (Some (codes "//")) (Some (codes "/*", codes "*/")) (codes "\"'"))
+unfolding chars
+all_marks = refl
+
+empty_line_mark : command_in (open_with_marks (only (codes "line") (string []))) ≡ None
+unfolding chars
+empty_line_mark = refl
+
+null_line_mark : command_in (open_with_marks (only (codes "line") null)) ≡ None
+unfolding chars
+null_line_mark = refl
+
+three_block_marks : command_in (open_with_marks (only (codes "block")
+    (array (item (string (codes "a")) (item (string (codes "b")) (item (string (codes "c")) no_items)))))) ≡ None
+unfolding chars
+three_block_marks = refl
+
+quote_of_no_unit : command_in (open_with_marks (quotes [])) ≡ None
+unfolding chars
+quote_of_no_unit = refl
+
+quote_of_two_units : command_in (open_with_marks (quotes (codes "''"))) ≡ None
+unfolding chars
+quote_of_two_units = refl
+
+backslash_as_a_quote : command_in (open_with_marks (quotes (codes "\\"))) ≡ None
+unfolding chars
+backslash_as_a_quote = refl
+
+another_mark : command_in (open_with_marks (only (codes "strings") (array no_items))) ≡ None
+unfolding chars
+another_mark = refl
+
+null_marks : command_in (open_with_marks null) ≡ None
+unfolding chars
+null_marks = refl
+
 -- ---- line endings
 
 -- `{"cmd":"open","eol":EOL,"text":""}`
@@ -126,11 +194,11 @@ abbrev open_with_eol : Data → Data
 open_with_eol eol = object (member (codes "cmd") (string (codes "open"))
     (member (codes "eol") eol (member (codes "text") (string []) no_members)))
 
-open_with_lf : command_in (open_with_eol (string (codes "lf"))) ≡ Some (Open [] None Lf)
+open_with_lf : command_in (open_with_eol (string (codes "lf"))) ≡ Some (Open [] None None Lf)
 unfolding chars
 open_with_lf = refl
 
-open_with_crlf : command_in (open_with_eol (string (codes "crlf"))) ≡ Some (Open [] None Crlf)
+open_with_crlf : command_in (open_with_eol (string (codes "crlf"))) ≡ Some (Open [] None None Crlf)
 unfolding chars
 open_with_crlf = refl
 

@@ -88,6 +88,14 @@ text_of d = option_map units_of (as_str d)
 abbrev pub text_at : List ℕ → Data → Option (List ℕ)
 text_at key d = option_and_then text_of (get key d)
 
+abbrev pub optional_text_of : Option Data → Option (Option (List ℕ))
+optional_text_of None = Some None
+optional_text_of (Some d) = option_map Some (text_of d)
+
+-- a text, or none where the field is absent
+abbrev pub optional_text_at : List ℕ → Data → Option (Option (List ℕ))
+optional_text_at key d = optional_text_of (get key d)
+
 abbrev pub span_of : Data → Data → Option Span
 span_of a b = do
   start ← whole_number a

@@ -2,6 +2,7 @@ pub mod Reading
 pub mod Fields
 pub mod Decorations
 pub mod Brackets
+pub mod Marks
 pub mod Rows
 pub mod EditCommands
 pub mod DecorationCommands

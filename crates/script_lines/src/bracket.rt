@@ -3,7 +3,7 @@
 ghost use Rattle.std.specs.Prelude.{◌≡◌};
 ghost use Rattle.serde_json.specs.View.{view, items_view};
 ghost use Rattle.script_lines.specs.Reading.{Reads};
-ghost use Rattle.script_lines.specs.Brackets.{pair_of, pair_in, table_of, table_in, optional_table_at};
+ghost use Rattle.script_lines.specs.Brackets.{pair_of, pair_in, optional_pair_at, table_of, table_in, optional_table_at};
 
 use crate::fields::{LineFault, text_of};
 use crate::items::{Item, list_in};
@@ -50,6 +50,22 @@ impl Item for (Units, Units) {
 
     fn item_in(alloc: Global, value: &Value) -> Result<(Units, Units), LineFault> {
         pair_in(alloc, value)
+    }
+}
+
+pub(crate) fn optional_pair_at(
+    alloc: Global,
+    value: &Value,
+    key: &str,
+) -> Result<Option<(Units, Units)>, LineFault>
+    ensures { Reads result (optional_pair_at key.now (view value.now)) }
+{
+    match value.get(key) {
+        None => Ok(None),
+        Some(field) => {
+            let pair = pair_in(alloc, field)?;
+            Ok(Some(pair))
+        }
     }
 }
 

@@ -12,6 +12,7 @@ use crate::fields::LineFault;
 use crate::lists::{Ids, NewDecos};
 use crate::op::LineOps;
 use bracket_scan::BracketTable;
+use hiding_marks::Hiding;
 use serde_json::Value;
 use serde_json::error::Category;
 use std::alloc::Global;
@@ -22,10 +23,12 @@ use unit_text::{Kind, Units};
 #[derive(Drop)]
 pub enum Command {
     /// Puts a new document in place of the old one. Its brackets are those of the table, or of
-    /// the standard table, and its line endings are of the kind.
+    /// the standard table; its comments and strings, which hide brackets, are those of the marks,
+    /// if there are any; and its line endings are of the kind.
     Open {
         text: Units,
         brackets: Option<BracketTable>,
+        marks: Option<Hiding>,
         kind: Kind,
     },
     /// Changes the text.

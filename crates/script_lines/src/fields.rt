@@ -5,7 +5,7 @@ ghost use Rattle.std.specs.BTreeMap.{keys};
 ghost use Rattle.std.specs.List.{list_all};
 ghost use Rattle.serde_json.specs.View.{view, items_view};
 ghost use Rattle.script_lines.specs.Reading.{Reads, Passes};
-ghost use Rattle.script_lines.specs.Fields.{names_of, is_name, has_only, has_fields, whole_number, number_at, optional_number_at, text_of, text_at, span_in, span_from, span_at, position_of, positions_in, positions_at, position_in, flag_at, kind_named, kind_of, kind_at, optional_kind_at};
+ghost use Rattle.script_lines.specs.Fields.{names_of, is_name, has_only, has_fields, whole_number, number_at, optional_number_at, text_of, text_at, optional_text_at, span_in, span_from, span_at, position_of, positions_in, positions_at, position_in, flag_at, kind_named, kind_of, kind_at, optional_kind_at};
 
 use crate::items::Item;
 use serde_json::{Map, Value};
@@ -121,6 +121,22 @@ pub(crate) fn text_at(alloc: Global, value: &Value, key: &str) -> Result<Units, 
 {
     let field = value.get(key).ok_or(LineFault::Syntax)?;
     text_of(alloc, field)
+}
+
+pub(crate) fn optional_text_at(
+    alloc: Global,
+    value: &Value,
+    key: &str,
+) -> Result<Option<Units>, LineFault>
+    ensures { Reads result (optional_text_at key.now (view value.now)) }
+{
+    match value.get(key) {
+        None => Ok(None),
+        Some(field) => {
+            let text = text_of(alloc, field)?;
+            Ok(Some(text))
+        }
+    }
 }
 
 pub(crate) fn text_of(alloc: Global, value: &Value) -> Result<Units, LineFault>

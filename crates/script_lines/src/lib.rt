@@ -9,6 +9,7 @@ mod fields;
 mod items;
 mod lists;
 mod long;
+mod marks;
 mod op;
 mod reason;
 mod short;

@@ -14,7 +14,6 @@ use Rattle.bracket_rules.specs.declared.Entry.{Entry}
 use Rattle.bracket_rules.specs.declared.Status.{Status}
 use Rattle.bracket_rules.specs.declared.Status.TheVariants.{PairedOpening, PairedClosing, Unclosed, Unexpected}
 use Rattle.document_rules.specs.Refusals.{FlatRefusal, unknown, range, overlap, limit}
-use Rattle.bracket_rules.specs.Table.{standard_table}
 use Rattle.document_rules.specs.Document.{FlatState, flat_open, flat_edit, flat_eol, flat_undo, flat_redo, flat_decorate, flat_deco, flat_decos, flat_line, flat_value, flat_position, flat_offset, flat_line_count, content_of}
 use Rattle.document_rules.specs.Brackets.{flat_brackets, flat_match, flat_level}
 use Rattle.document_rules.specs.Snapshots.{flat_snapshot, flat_peek_of, flat_close_of}
@@ -28,7 +27,7 @@ use Rattle.text_rules.specs.declared.Op.{Op}
 use Rattle.text_rules.specs.Lines.{lines_of, line_at}
 use Rattle.mirror_rules.specs.Mirrors.{MirrorState, SentEvent}
 use Rattle.script_runner.specs.Session.{FlatSession}
-use Rattle.script_runner.specs.Step.{reason_of, memory_reply, ops_at, deco_numbers, changed, moved, decorated, edited_at, text_answer, offset_answer, position_answer, deco_answer, decos_answer, status_letter, entry_part, entries_reply, brackets_answer, match_answer, level_answer, snapshot_answer, read_answer, close_answer, stops_answer, opened, most_sent, send_answer, sent_at, followed, delivered, deliver_answer, mirrored_answer, step}
+use Rattle.script_runner.specs.Step.{reason_of, memory_reply, ops_at, deco_numbers, changed, moved, decorated, edited_at, text_answer, offset_answer, position_answer, deco_answer, decos_answer, status_letter, entry_part, entries_reply, brackets_answer, match_answer, level_answer, snapshot_answer, read_answer, close_answer, stops_answer, opened, most_sent, send_answer, sent_at, followed, delivered, deliver_answer, mirrored_answer, scanner_for, step}
 use Rattle.script_runner.specs.Script.{after_byte, IsInOneLine, IsOneLine, commanded, is_too_long, turn}
 use Rattle.script_runner.proofs.CutLemmas.{cut-append_line}
 
@@ -260,7 +259,7 @@ flat_mirrored None n = flat_refusal unknown
 flat_mirrored (Some m) n = flat_text_answer (content_of (line_at m.units n))
 
 flat_step : (s : FlatSession) (c : Command) → IsFlatReply (step s c).0
-flat_step s (command.Open text brackets kind) = flat_opened s (flat_open text (unwrap_or brackets standard_table) kind)
+flat_step s (command.Open text brackets marks kind) = flat_opened s (flat_open text (scanner_for brackets marks) kind)
 flat_step s (command.Edit ops) = flat_edited s.document (ops_at s.document ops)
 flat_step s (command.Eol kind) = flat_moved s.document (flat_eol s.document kind)
 flat_step s (command.Decorate owner remove add) = flat_decorated s.document (length add) (flat_decorate s.document owner remove add)

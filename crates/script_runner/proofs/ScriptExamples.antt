@@ -7,7 +7,7 @@ use Rattle.std.proofs.lemmas.Bool.{lt-ltb}
 use Rattle.script_lines.proofs.ReadExamples.{an_opening, an_edit, a_line, a_size, a_word_is_no_command}
 use Rattle.unit_text.specs.declared.kind.Kind.TheVariants.{Mixed}
 use Rattle.text_rules.specs.declared.Op.{Op}
-use Rattle.bracket_rules.specs.Table.{standard_table}
+use Rattle.hiding_rules.specs.Hidden.{standard_scanner}
 use Rattle.document_rules.specs.Document.{new_document, after_batch}
 use Rattle.script_runner.specs.declared.session.Session.{Session}
 use Rattle.script_runner.specs.Session.{FlatSession, session_of, new_session}
@@ -51,7 +51,7 @@ abbrev line_line : List ℕ
 line_line = codes "{\"cmd\":\"line\",\"n\":1}"
 
 abbrev opened : FlatSession
-opened = session_of (new_document (codes "ab\ncd") standard_table Mixed)
+opened = session_of (new_document (codes "ab\ncd") standard_scanner Mixed)
 
 abbrev edited : FlatSession
 edited =

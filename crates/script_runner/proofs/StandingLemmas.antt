@@ -9,7 +9,7 @@ use Rattle.unit_text.specs.Kinds.{normalized}
 use Rattle.batch_rules.specs.Refusals.{BatchRefusal}
 use Rattle.batch_rules.specs.Batches.{most_units, checked_batch}
 use Rattle.batch_rules.specs.Events.{EventState}
-use Rattle.bracket_rules.specs.Table.{Table}
+use Rattle.hiding_rules.specs.Hidden.{Scanner}
 use Rattle.decoration_rules.specs.Refusals.{DecoRefusal}
 use Rattle.decoration_rules.specs.Decorations.{Decorations}
 use Rattle.snapshot_rules.specs.Refusals.{ShelfRefusal}
@@ -232,17 +232,17 @@ module _ (old new : Session) (outcome : Result Reply Refused) (mirror : new.mirr
 
 -- ---- a new document
 
-new_by : (units : List ℕ) (table : Table) (kind : Kind) (is_long : Bool) (new : FlatState)
-    → cond is_long (Err limit) (Ok (new_document units table kind)) ≡ Ok new → (new.version ≡ 1) × (new.last ≡ None)
-new_by units table kind true new is = absurd cc
-new_by units table kind false new is =
-    let same : new_document units table kind ≡ new = cc in
+new_by : (units : List ℕ) (scanner : Scanner) (kind : Kind) (is_long : Bool) (new : FlatState)
+    → cond is_long (Err limit) (Ok (new_document units scanner kind)) ≡ Ok new → (new.version ≡ 1) × (new.last ≡ None)
+new_by units scanner kind true new is = absurd cc
+new_by units scanner kind false new is =
+    let same : new_document units scanner kind ≡ new = cc in
     (ap (λ (f : FlatState). f.version) (sym same), ap (λ (f : FlatState). f.last) (sym same))
 
 -- a document that was opened has no change behind it
-pub opened_new : (units : List ℕ) (table : Table) (kind : Kind) (new : FlatState) → unless_too_long units table kind ≡ Ok new
+pub opened_new : (units : List ℕ) (scanner : Scanner) (kind : Kind) (new : FlatState) → unless_too_long units scanner kind ≡ Ok new
     → (new.version ≡ 1) × (new.last ≡ None)
-opened_new units table kind new is = new_by units table kind (nat_lt most_units (length units)) new is
+opened_new units scanner kind new is = new_by units scanner kind (nat_lt most_units (length units)) new is
 
 pub stands_new : (s : Session) → s.model.document.version ≡ 1 → s.model.document.last ≡ None → s.mirror ≡ None → s.sent.items ≡ []
     → StandsFor s (session_of s.model.document)
@@ -267,11 +267,11 @@ stands_fresh s document mirror sent =
     subst (λ (f : FlatState). StandsFor s (session_of f)) document known
 
 -- a document was opened
-pub tells_opened : (old new : Session) (text : List ℕ) (table : Table) (kind : Kind) (reply : Reply) → flat_open text table kind ≡ Ok new.model.document
+pub tells_opened : (old new : Session) (text : List ℕ) (scanner : Scanner) (kind : Kind) (reply : Reply) → flat_open text scanner kind ≡ Ok new.model.document
     → new.mirror ≡ None → new.sent.items ≡ [] → bytes_of reply ≡ change_reply new.model.document
-    → TellsOf (λ s. opened s (flat_open text table kind)) old (Ok reply) new
-tells_opened old new text table kind reply rule mirror sent bytes =
-    let first = opened_new (normalized kind text) table kind new.model.document rule in
+    → TellsOf (λ s. opened s (flat_open text scanner kind)) old (Ok reply) new
+tells_opened old new text scanner kind reply rule mirror sent bytes =
+    let first = opened_new (normalized kind text) scanner kind new.model.document rule in
     record {
       answer = λ flat stands. (
         session_of new.model.document,

@@ -1,9 +1,10 @@
 -- Worked examples of the definitions.
-use Rattle.std.specs.Prelude.{◌≡◌, ℕ, List, ◌∷◌, [], codes, refl, false, None}
+use Rattle.std.specs.Prelude.{◌≡◌, ℕ, List, ◌∷◌, [], codes, refl, false, Some, None, Ok}
 use Rattle.unit_text.specs.declared.kind.Kind.TheVariants.{Mixed, Lf, Crlf}
+use Rattle.bracket_rules.specs.declared.Status.TheVariants.{PairedClosing}
 use Rattle.document_rules.specs.Document.{new_document}
-use Rattle.bracket_rules.specs.Table.{standard_table}
-use Rattle.script_lines.specs.declared.command.Command.TheVariants.{Open, Edit, Eol, Undo, Version, Size, Line, Value, Offset, Brackets, Match, Level, Snapshot, Read, Close, Stops, Mirror, Send, Deliver, Mirrored}
+use Rattle.hiding_rules.specs.Hidden.{standard_scanner}
+use Rattle.script_lines.specs.declared.command.Command.TheVariants.{Open, Edit, Eol, Undo, Version, Size, Line, Value, Offset, Snapshot, Read, Close, Stops, Mirror, Send, Deliver, Mirrored}
 use Rattle.script_lines.specs.declared.command.Command.TheVariants as command
 use Rattle.script_lines.specs.declared.op.LineOp.{LineOp}
 use Rattle.script_lines.specs.declared.op.Place.TheVariants.{At, InRange}
@@ -11,12 +12,12 @@ use Rattle.std.specs.Fmt.{digits}
 use Rattle.std.specs.Char.Utf16.{utf16_chars}
 use lib.Utf8.{encode}
 use Rattle.script_runner.specs.Session.{FlatSession, session_of, new_session}
-use Rattle.script_runner.specs.Step.{step}
+use Rattle.script_runner.specs.Step.{brackets_answer, match_answer, level_answer, step}
 use Rattle.script_runner.specs.Script.{all_lines, whole_lines, has_reply}
 
 -- a session with a new document of this text, whose lines end as they came
 abbrev text : List ℕ → FlatSession
-text units = session_of (new_document units standard_table Mixed)
+text units = session_of (new_document units standard_scanner Mixed)
 
 two_lines_and_a_rest : all_lines (codes "ab\n\nc") ≡ codes "ab" ∷ [] ∷ codes "c" ∷ []
 two_lines_and_a_rest = refl
@@ -30,7 +31,7 @@ the_rest_is_no_whole_line = refl
 a_blank_line_has_no_reply : has_reply (codes " \t\r") ≡ false
 a_blank_line_has_no_reply = refl
 
-opened : step new_session (Open (codes "ab\ncd") None Mixed) ≡ (codes "ok 1 5 2\n", text (codes "ab\ncd"))
+opened : step new_session (Open (codes "ab\ncd") None None Mixed) ≡ (codes "ok 1 5 2\n", text (codes "ab\ncd"))
 unfolding digits
 opened = refl
 
@@ -90,18 +91,20 @@ position_inside_a_break : step (text (codes "ab\r\ncd")) (command.Position 3)
 unfolding digits
 position_inside_a_break = refl
 
-brackets_of_a_line : (step (text (codes "([)")) (Brackets 1 1)).0 ≡ codes "ok 1 1 1 0 o 0 1 2 1 1 u 1 1 3 1 0 c 0\n"
+-- how brackets are told, whatever text they are of
+a_bracket_is_told :
+    brackets_answer (Ok (record { place = record { lines = 0; columns = 2 }; len = 1; kind = 0; status = PairedClosing; level = 0 } ∷ []))
+    ≡ codes "ok 1 3 1 0 c 0\n"
 unfolding digits
-brackets_of_a_line = refl
+a_bracket_is_told = refl
 
-the_partner_of_a_bracket : (step (text (codes "([)")) (Match (record { line = 1; column = 1 }))).0
-    ≡ codes "ok 1 3 1\n"
+a_partner_is_told : match_answer (Ok (Some (record { line = 1; column = 3 }, 1))) ≡ codes "ok 1 3 1\n"
 unfolding digits
-the_partner_of_a_bracket = refl
+a_partner_is_told = refl
 
-level_between_brackets : (step (text (codes "([)")) (Level (record { line = 1; column = 3 }))).0 ≡ codes "ok 2\n"
+a_level_is_told : level_answer (Ok 2) ≡ codes "ok 2\n"
 unfolding digits
-level_between_brackets = refl
+a_level_is_told = refl
 
 abbrev hi : FlatSession
 hi = text (codes "hi")
@@ -136,9 +139,9 @@ no_such_line_has_stops = refl
 
 -- `a` and `b`, which were opened with LF
 abbrev two_lines : FlatSession
-two_lines = (step new_session (Open (codes "a\r\nb") None Lf)).1
+two_lines = (step new_session (Open (codes "a\r\nb") None None Lf)).1
 
-opened_with_a_kind : (step new_session (Open (codes "a\r\nb") None Lf)).0 ≡ codes "ok 1 3 2\n"
+opened_with_a_kind : (step new_session (Open (codes "a\r\nb") None None Lf)).0 ≡ codes "ok 1 3 2\n"
 unfolding digits
 opened_with_a_kind = refl
 
@@ -191,5 +194,5 @@ a_line_of_the_mirror = refl
 no_such_event : step after_one (Deliver 3) ≡ (codes "! unknown\n", after_one)
 no_such_event = refl
 
-a_mirror_ends_with_its_document : step (step after_one (Open (codes "c") None Mixed)).1 (Mirrored 1) ≡ (codes "! unknown\n", text (codes "c"))
+a_mirror_ends_with_its_document : step (step after_one (Open (codes "c") None None Mixed)).1 (Mirrored 1) ≡ (codes "! unknown\n", text (codes "c"))
 a_mirror_ends_with_its_document = refl

@@ -17,7 +17,9 @@ use Rattle.script_lines.specs.declared.op.Place.{Place}
 use Rattle.script_lines.specs.declared.op.Place.TheVariants.{At, InRange}
 use Rattle.script_lines.specs.declared.reason.Refusal.{Refusal}
 use Rattle.script_lines.specs.declared.reason.Refusal.TheVariants as refusal
-use Rattle.bracket_rules.specs.Table.{standard_table}
+use Rattle.bracket_rules.specs.Table.{Table, standard_table}
+use Rattle.hiding_rules.specs.Hidden.{Scanner, scanner}
+use Rattle.hiding_rules.specs.Marks.{Marks, no_marks}
 use Rattle.bracket_rules.specs.declared.Entry.{Entry}
 use Rattle.bracket_rules.specs.declared.Status.{Status}
 use Rattle.bracket_rules.specs.declared.Status.TheVariants.{PairedOpening, PairedClosing, Unclosed, Unexpected}
@@ -219,8 +221,12 @@ mirrored_answer (Some m) n = text_answer (content_of (line_at m.units n))
 
 -- ---- each command
 
+-- the table that is asked for, or the standard one, with the marks that are asked for, or none
+abbrev pub scanner_for : Option Table → Option Marks → Scanner
+scanner_for brackets marks = scanner (unwrap_or brackets standard_table) (unwrap_or marks no_marks)
+
 abbrev pub step : FlatSession → Command → List ℕ × FlatSession
-step s (Open text brackets kind) = opened s (flat_open text (unwrap_or brackets standard_table) kind)
+step s (Open text brackets marks kind) = opened s (flat_open text (scanner_for brackets marks) kind)
 step s (Edit ops) = within s (edited_at s.document (ops_at s.document ops))
 step s (Eol kind) = within s (moved s.document (flat_eol s.document kind))
 step s (Decorate owner remove add) = within s (decorated s.document (length add) (flat_decorate s.document owner remove add))

@@ -2,6 +2,7 @@
 
 ghost use Rattle.std.specs.Prelude.{◌≡◌, ◌++◌, ◌∷◌, [], ℕ, List, if◌then◌else◌, IfOk, unwrap_or, length};
 ghost use Rattle.bracket_rules.specs.Table.{standard_table};
+ghost use Rattle.hiding_rules.specs.Marks.{no_marks};
 ghost use Rattle.document_rules.specs.Document.{flat_eol, flat_undo, flat_redo, flat_stop, flat_line, flat_value, flat_offset, flat_position, flat_line_count};
 ghost use Rattle.script_lines.specs.Commands.{command_of};
 ghost use Rattle.script_lines.specs.Replies.{ok_reply, none_reply, text_reply};
@@ -20,7 +21,7 @@ use crate::ops::ops_at;
 use crate::outcome::{Outcome, Refused, Reply};
 use crate::session::Session;
 use crate::snapshot_replies::{close_reply, read_reply, snapshot_reply, stops_reply};
-use model_core::{BracketTable, Model};
+use model_core::{BracketTable, Hiding, Model};
 use script_lines::{Command, LineOps, Refusal, Short, command_of, long_begin, long_end, long_text};
 use std::alloc::{AllocError, Global};
 use text_lengths::{Position, Span};
@@ -74,8 +75,9 @@ fn carry_out(session: &mut Session, command: Command) -> Outcome
         Command::Open {
             text,
             brackets,
+            marks,
             kind,
-        } => open_reply(session, text.as_slice(), brackets, kind),
+        } => open_reply(session, text.as_slice(), brackets, marks, kind),
         Command::Edit { ops } => edit_reply(alloc, model, ops),
         Command::Eol { kind } => eol_reply(model, kind),
         Command::Decorate { owner, remove, add } => decorate_reply(model, owner, remove, add),
@@ -108,11 +110,12 @@ fn open_reply(
     session: &mut Session,
     text: &[u16],
     brackets: Option<BracketTable>,
+    marks: Option<Hiding>,
     kind: Kind,
 ) -> Outcome
-    ensures { Tells session.old (Command.Open text.now brackets kind) result session.new }
+    ensures { Tells session.old (Command.Open text.now brackets marks kind) result session.new }
 {
-    session.open_doc(text, table_of(brackets), kind)?;
+    session.open_doc(text, table_of(brackets), kind, hiding_of(marks))?;
     Ok(change_reply(&session.model))
 }
 
@@ -123,6 +126,16 @@ fn table_of(brackets: Option<BracketTable>) -> BracketTable
     match brackets {
         Some(table) => table,
         None => BracketTable::standard(),
+    }
+}
+
+/// The marks that are asked for, or none.
+fn hiding_of(marks: Option<Hiding>) -> Hiding
+    ensures { result ≡ unwrap_or marks no_marks }
+{
+    match marks {
+        Some(hiding) => hiding,
+        None => Hiding::none(),
     }
 }
 

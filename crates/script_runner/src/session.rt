@@ -1,6 +1,7 @@
 //! What is kept from one line to the next.
 
 ghost use Rattle.std.specs.Prelude.{◌≡◌, [], None, OnOk, OnErr};
+ghost use Rattle.hiding_rules.specs.Hidden.{scanner};
 ghost use Rattle.document_rules.specs.Document.{flat_open};
 ghost use Rattle.document_rules.specs.Outcomes.{Changes};
 ghost use Rattle.script_runner.specs.Session.{new_session};
@@ -12,7 +13,7 @@ use crate::line::{MOST_LINE_BYTES, is_blank};
 use crate::outcome::{Outcome, Refused, Reply};
 use crate::reply::reply_to_bytes;
 use mirror_model::Mirror;
-use model_core::{BracketTable, Event, Kind, Model, ModelError};
+use model_core::{BracketTable, Event, Hiding, Kind, Model, ModelError};
 use script_lines::Refusal;
 use std::alloc::Global;
 
@@ -46,15 +47,16 @@ impl Session {
         text: &[u16],
         table: BracketTable,
         kind: Kind,
+        hiding: Hiding,
     ) -> Result<(), ModelError>
         ensures document { Changes result self.old.model.document self.new.model.document
-            (flat_open text.now table kind) }
+            (flat_open text.now (scanner table hiding) kind) }
         ensures mirror { OnOk result (self.new.mirror ≡ None) }
         ensures sent { OnOk result (self.new.sent.items ≡ []) }
         ensures kept_mirror { OnErr result (self.new.mirror ≡ self.old.mirror) }
         ensures kept_sent { OnErr result (self.new.sent.items ≡ self.old.sent.items) }
     {
-        self.model.open_doc(text, table, kind)?;
+        self.model.open_doc(text, table, kind, hiding)?;
         self.mirror = None;
         self.sent = Vec::new(self.alloc);
         Ok(())

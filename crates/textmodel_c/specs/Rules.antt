@@ -9,7 +9,8 @@ use Rattle.unit_text.specs.Text.{utf8_of}
 use Rattle.text_rules.specs.declared.Op.{Op}
 use Rattle.decoration_rules.specs.declared.NewDeco.{NewDeco}
 use Rattle.decoration_rules.specs.declared.Deco.{Deco}
-use Rattle.bracket_rules.specs.Table.{Table, is_table, standard_table}
+use Rattle.bracket_rules.specs.Table.{Table, is_table}
+use Rattle.hiding_rules.specs.Hidden.{plain_scanner, standard_scanner}
 use Rattle.bracket_rules.specs.declared.Entry.{Entry}
 use Rattle.bracket_rules.specs.declared.Status.{Status as State}
 use Rattle.bracket_rules.specs.declared.Status.TheVariants.{PairedOpening, PairedClosing, Unclosed, Unexpected}
@@ -74,7 +75,7 @@ with_kind (Some kind) rule = rule kind
 
 -- a new document with the usual brackets
 abbrev pub flat_open_as : ℕ → List ℕ → Result FlatState FlatRefusal
-flat_open_as number text = with_kind (kind_of number) (flat_open text standard_table)
+flat_open_as number text = with_kind (kind_of number) (flat_open text standard_scanner)
 
 -- the two texts of a pair, joined
 abbrev pub pair_of : PairUnits → List ℕ → List ℕ × List ℕ
@@ -94,7 +95,7 @@ with_table (Ok table) rule = rule table
 -- a new document with brackets of its own
 abbrev pub flat_open_with : ℕ → List PairUnits → List ℕ → List ℕ → Result FlatState FlatRefusal
 flat_open_with number pairs brackets text =
-    with_kind (kind_of number) (λ kind. with_table (table_or_range (pairs_of pairs brackets)) (λ table. flat_open text table kind))
+    with_kind (kind_of number) (λ kind. with_table (table_or_range (pairs_of pairs brackets)) (λ table. flat_open text (plain_scanner table) kind))
 
 abbrev pub flat_eol_as : FlatState → ℕ → Result (Option FlatState) FlatRefusal
 flat_eol_as f number = with_kind (kind_of number) (flat_eol f)

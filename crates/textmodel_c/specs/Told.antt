@@ -34,10 +34,15 @@ Leaves n (Some old) (Some new) says = says old new
 abbrev pub Numbers : ℕ → (Status → Type 0) → Type 0
 Numbers n says = (s : Status) × (n ≡ number_of s) × says s
 
+-- an empty document, of which no script line was answered
+pub record IsNew (new : Document) : Type 0 where
+  pub session : StandsFor new.session new_session
+  pub reply : new.reply ≡ Ok Nothing
+
 -- a new empty document, or want of memory
 abbrev pub IsNewDocument : Option Document → Type 0
 IsNewDocument None = ⊥
-IsNewDocument (Some new) = StandsFor new.session new_session × (new.reply ≡ Ok Nothing)
+IsNewDocument (Some new) = IsNew new
 
 abbrev pub Made : ℕ → Option Document → Option Document → Type 0
 Made n old new =

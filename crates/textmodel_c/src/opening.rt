@@ -7,7 +7,7 @@ ghost use Rattle.textmodel_c.specs.Told.{GivesAll, HasOpenedUtf8, Leaves, Opened
 
 use crate::handle::Handle;
 use crate::status::Status;
-use model_core::{BracketTable, ModelError, TableError, Units, units_of};
+use model_core::{BracketTable, Hiding, ModelError, TableError, Units, units_of};
 use script_runner::Session;
 use std::alloc::{AllocError, Global};
 use std::str::from_utf8;
@@ -37,7 +37,7 @@ fn open_as(session: &mut Session, text: &[u16], kind: u32) -> Result<(), ModelEr
     ensures { Opens result session.old session.new (flat_open_as kind text.now) }
 {
     let kind = kind_of(kind).ok_or(ModelError::Range)?;
-    session.open_doc(text, BracketTable::standard(), kind)
+    session.open_doc(text, BracketTable::standard(), kind, Hiding::none())
 }
 
 /// Puts a new document with this text in place of the old one, with the brackets `()`, `[]` and `{}`. `kind` is 0 for
@@ -126,7 +126,7 @@ fn open_with(
 {
     let kind = kind_of(kind).ok_or(ModelError::Range)?;
     let table = table_of(session.alloc, pairs, brackets)?;
-    session.open_doc(text, table, kind)
+    session.open_doc(text, table, kind, Hiding::none())
 }
 
 /// `tm_open` with brackets of its own: 1 to 64 pairs, whose texts stand one after another in `brackets`, each with 1 to 32 units

@@ -11,7 +11,6 @@ use crate::handle::Handle;
 use crate::lists::hand_out_of;
 use crate::status::Status;
 use model_core::{Model, ModelError, Position, Span, utf8_of};
-use script_runner::{Reply, Session};
 use std::alloc::Global;
 use unit_text::Kind;
 
@@ -28,11 +27,7 @@ pub struct Place {
 pub extern "C" fn tm_make(alloc: Global, handle: &mut Handle) -> u32
     ensures { Made result handle.old.held handle.new.held }
 {
-    let document = Document {
-        session: Session::new(alloc),
-        reply: Ok(Reply::Nothing),
-    };
-    let Ok(document) = Box::new(alloc, document) else {
+    let Ok(document) = Document::new(alloc) else {
         return Status::Memory.number();
     };
     drop(handle.take(alloc));

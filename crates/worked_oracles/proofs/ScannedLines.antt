@@ -1,8 +1,11 @@
 -- Lines that are scanned one after another.
 use Rattle.std.proofs.Common.{◌≡◌, ◌+◌, ◌≤◌, ℕ, true, List, [], ◌∷◌, ◌++◌, length, sum, arith}
 use Rattle.std.proofs.lemmas.List.Sums.{sum_by-cons}
-use Rattle.bracket_rules.specs.Table.{Table, is_table, tokens_of, AreInLine}
-use Rattle.bracket_rules.proofs.Tokens.{tokens_of-in_line}
+use Rattle.bracket_rules.specs.Table.{Table, is_table, AreInLine}
+use Rattle.hiding_rules.specs.declared.LineState.{LineState}
+use Rattle.hiding_rules.specs.Marks.{Marks}
+use Rattle.hiding_rules.specs.Hidden.{scanner, hidden_scan}
+use Rattle.hiding_rules.proofs.InLine.{hidden_tokens_in_line}
 use Rattle.bracket_nodes.specs.declared.scanned.ScannedLine.{ScannedLine}
 use Rattle.bracket_nodes.specs.ScannedLines.{AreLines, scanned_weights}
 
@@ -21,7 +24,8 @@ weights_snoc (k ∷ m ∷ lines) l =
       sum_by-cons (λ (x : ℕ). x) (k.columns + 1) (scanned_weights (m ∷ lines)),
     )
 
-pub scan_in_line : (table : Table) (line : List ℕ) → is_table table ≡ true → AreInLine 0 (length line) (tokens_of table line)
-scan_in_line = tokens_of-in_line
+pub scan_in_line : (table : Table) (m : Marks) (state : LineState) (line : List ℕ) → is_table table ≡ true
+    → AreInLine 0 (length line) (hidden_scan (scanner table m) state line).tokens
+scan_in_line table m state line good = hidden_tokens_in_line (scanner table m) good state line
 
 pub ruleset one_more = (lines_snoc, weights_snoc)

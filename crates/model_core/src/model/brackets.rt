@@ -88,8 +88,8 @@ impl Model {
             → flat_brackets self.old.document from to ≡ Ok entries
             → OnOk result (All (λ e. IsSmall e.place) entries) }
         ensures parse { Renews result self.old self.new }
-        ensures steps { TakesFewSteps self.old.tree self.old.marks
-            self.old.document.table self.old.document.units steps.old steps.new }
+        ensures steps { TakesFewSteps self.old.tree self.old.states self.old.marks
+            self.old.document.scanner self.old.document.units steps.old steps.new }
         ensures no_step { self.old.fresh ≡ true → steps.new ≡ steps.old }
     {
         if from == 0 || to < from || self.page.text().line_count() < to {
@@ -134,8 +134,8 @@ impl Model {
         ensures partner { Gives result (flat_match self.old.document p) }
         ensures parse { Renews result self.old self.new }
         ensures sure { self.old.fresh ≡ true → ¬ (result ≡ Err ModelError.Memory) }
-        ensures steps { TakesFewSteps self.old.tree self.old.marks
-            self.old.document.table self.old.document.units steps.old steps.new }
+        ensures steps { TakesFewSteps self.old.tree self.old.states self.old.marks
+            self.old.document.scanner self.old.document.units steps.old steps.new }
         ensures no_step { self.old.fresh ≡ true → steps.new ≡ steps.old }
     {
         if !is_position(self.page.text(), p) {
@@ -176,8 +176,8 @@ impl Model {
         ensures level { Gives result (flat_level self.old.document p) }
         ensures parse { Renews result self.old self.new }
         ensures sure { self.old.fresh ≡ true → ¬ (result ≡ Err ModelError.Memory) }
-        ensures steps { TakesFewSteps self.old.tree self.old.marks
-            self.old.document.table self.old.document.units steps.old steps.new }
+        ensures steps { TakesFewSteps self.old.tree self.old.states self.old.marks
+            self.old.document.scanner self.old.document.units steps.old steps.new }
         ensures no_step { self.old.fresh ≡ true → steps.new ≡ steps.old }
     {
         if !is_position(self.page.text(), p) {

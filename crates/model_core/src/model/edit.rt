@@ -38,6 +38,7 @@ impl Model {
             → IsPairedState self.old.document → IsPairedState self.new.document }
         ensures parsed { self.new.parsed ≡ self.old.parsed }
         ensures tree { self.new.tree ≡ self.old.tree }
+        ensures states { self.new.states ≡ self.old.states }
         ensures marks { LeftAfter result (marked_backwards self.old.document.units
             (ops_as_done self.old.document ops.items) self.old.marks)
             self.old.marks self.new.marks }

@@ -27,6 +27,7 @@ impl Model {
         ensures paired_state { IsPairedState self.old.document → IsPairedState self.new.document }
         ensures parsed { self.new.parsed ≡ self.old.parsed }
         ensures tree { self.new.tree ≡ self.old.tree }
+        ensures states { self.new.states ≡ self.old.states }
         ensures marks { self.new.marks ≡ self.old.marks }
         ensures fresh { self.new.fresh ≡ self.old.fresh }
         ensures pieces { AfterMove result (GrownBy 1 self.old.pieces self.new.pieces)

@@ -7,7 +7,7 @@ ghost use Rattle.unit_text.specs.Kinds.{normalized, IsOfKind};
 ghost use Rattle.batch_rules.specs.Batches.{most_units};
 ghost use Rattle.model_page.specs.State.{IsNew};
 ghost use Rattle.document_rules.specs.Outcomes.{Changes, RefusedFor};
-ghost use Rattle.bracket_rules.specs.Table.{standard_table};
+ghost use Rattle.hiding_rules.specs.Hidden.{scanner, standard_scanner};
 ghost use Rattle.document_rules.specs.Paired.{IsPairedState};
 ghost use Rattle.text_rules.specs.Lines.{lines_of};
 ghost use Rattle.mark_rules.specs.declared.Mark.TheVariants.{New};
@@ -15,7 +15,7 @@ ghost use Rattle.model_core.specs.State.{LeftAfter};
 ghost use Rattle.document_rules.specs.Document.{new_document, unless_too_long, flat_open};
 
 use crate::model::Model;
-use bracket_scan::BracketTable;
+use bracket_scan::{BracketTable, Hiding};
 use document_rules::ModelError;
 use edit_batches::MOST_TEXT_UNITS;
 use edit_stack::EditStack;
@@ -27,7 +27,7 @@ use unit_text::{Kind, is_of_kind, norm_of};
 impl Model {
     /// An empty document, of version 1.
     pub fn new(alloc: Global) -> Model
-        ensures document { result.document ≡ new_document [] standard_table Mixed }
+        ensures document { result.document ≡ new_document [] standard_scanner Mixed }
         ensures parsed { result.parsed ≡ None }
         ensures tree { result.tree ≡ None }
         ensures marks { result.marks ≡ New ∷ [] }
@@ -45,16 +45,18 @@ impl Model {
         }
     }
 
-    /// Puts a new document with this text and these brackets in place of the old one. The text gets the line endings of the
-    /// kind. One that is then above the limit is refused with `Limit`, and with `Memory` one for which memory is short.
+    /// Puts a new document with this text and these brackets, of which comments and strings hide some, in place of the old
+    /// one. The text gets the line endings of the kind. One that is then above the limit is refused with `Limit`, and with
+    /// `Memory` one for which memory is short.
     pub fn open_doc(
         &mut self,
         text: &[u16],
         table: BracketTable,
         kind: Kind,
+        hiding: Hiding,
     ) -> Result<(), ModelError>
         ensures document { Changes result self.old.document self.new.document
-            (flat_open text.now table kind) }
+            (flat_open text.now (scanner table hiding) kind) }
         ensures paired_state { IsPaired text.now → IsPairedState self.old.document
             → IsPairedState self.new.document }
         ensures parsed { LeftAfter result None self.old.parsed self.new.parsed }
@@ -65,7 +67,7 @@ impl Model {
         ensures pieces { OnOk result (self.new.pieces ≤ 1) }
         ensures kept_pieces { OnErr result (self.new.pieces ≡ self.old.pieces) }
     {
-        let page = page_of(self.alloc, text, table, kind)?;
+        let page = page_of(self.alloc, text, table, kind, hiding)?;
         self.page = page;
         self.version = 1;
         self.alternative = 1;
@@ -77,17 +79,23 @@ impl Model {
 }
 
 // A page of the text with the line endings of the kind. A text that has them already is not copied.
-fn page_of(alloc: Global, text: &[u16], table: BracketTable, kind: Kind) -> Result<Page, ModelError>
-    ensures new { IfOk result (IsNew (normalized kind text.now) kind table) }
+fn page_of(
+    alloc: Global,
+    text: &[u16],
+    table: BracketTable,
+    kind: Kind,
+    hiding: Hiding,
+) -> Result<Page, ModelError>
+    ensures new { IfOk result (IsNew (normalized kind text.now) kind (scanner table hiding)) }
     ensures fits { OnOk result (length (normalized kind text.now) ≤ most_units) }
-    ensures refused { IfErr result (λ e. RefusedFor e (flat_open text.now table kind)) }
+    ensures refused { IfErr result (λ e. RefusedFor e (flat_open text.now (scanner table hiding) kind)) }
 {
     if is_of_kind(text, kind) {
-        return new_page(alloc, text, table, kind);
+        return new_page(alloc, text, table, kind, hiding);
     }
     let mut units = Vec::new(alloc);
     norm_of(text, kind, &mut units).map_err(|_| ModelError::Memory)?;
-    new_page(alloc, &units, table, kind)
+    new_page(alloc, &units, table, kind, hiding)
 }
 
 // A page of the text, which is of the kind.
@@ -96,14 +104,15 @@ fn new_page(
     units: &[u16],
     table: BracketTable,
     kind: Kind,
+    hiding: Hiding,
 ) -> Result<Page, ModelError>
     requires { IsOfKind kind units.now }
-    ensures new { IfOk result (IsNew units.now kind table) }
+    ensures new { IfOk result (IsNew units.now kind (scanner table hiding)) }
     ensures fits { OnOk result (length units.now ≤ most_units) }
-    ensures refused { IfErr result (λ e. RefusedFor e (unless_too_long units.now table kind)) }
+    ensures refused { IfErr result (λ e. RefusedFor e (unless_too_long units.now (scanner table hiding) kind)) }
 {
     if units.len() as u64 > MOST_TEXT_UNITS {
         return Err(ModelError::Limit);
     }
-    Page::open(alloc, units, kind, table).map_err(|_| ModelError::Memory)
+    Page::open(alloc, units, kind, table, hiding).map_err(|_| ModelError::Memory)
 }

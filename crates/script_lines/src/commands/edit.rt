@@ -12,6 +12,7 @@ use crate::fields::{
     span_from, text_at,
 };
 use crate::items::{Item, all_of};
+use crate::marks::optional_marks_at;
 use crate::op::{LineOp, LineOps, Place};
 use serde_json::Value;
 use std::alloc::Global;
@@ -19,13 +20,15 @@ use std::alloc::Global;
 pub(super) fn open_in(alloc: Global, value: &Value) -> Result<Command, LineFault>
     ensures { Reads result (open_in (view value.now)) }
 {
-    expect_fields(value, &["text", "brackets", "eol"])?;
+    expect_fields(value, &["text", "brackets", "marks", "eol"])?;
     let text = text_at(alloc, value, "text")?;
     let brackets = optional_table_at(alloc, value, "brackets")?;
+    let marks = optional_marks_at(alloc, value, "marks")?;
     let kind = optional_kind_at(value, "eol")?;
     Ok(Command::Open {
         text,
         brackets,
+        marks,
         kind,
     })
 }

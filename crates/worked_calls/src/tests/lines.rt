@@ -2,6 +2,7 @@
 
 ghost use Rattle.std.specs.Prelude.{◌+◌, ◌<◌, ◌≤◌};
 
+use super::numbers::Numbers;
 use line_hunks::{Hunks, Mark};
 use std::alloc::{AllocError, Global};
 use std::process::Abort;
@@ -21,41 +22,22 @@ struct Edit {
     new: u64,
 }
 
-/// Numbers that are the same in each run.
-#[derive(Drop)]
-struct Numbers {
-    last: u64,
-}
-
-impl Numbers {
-    fn below(&mut self, limit: u64) -> u64
-        requires { 0 < limit }
-        ensures { result < limit }
-    {
-        self.last = self
-            .last
-            .wrapping_mul(6_364_136_223_846_793_005)
-            .wrapping_add(1_442_695_040_888_963_407);
-        (self.last >> 33) % limit
-    }
-
-    /// An edit of up to three lines.
-    fn edit(&mut self, lines: u64) -> Edit
-        requires some { 1 ≤ lines }
-        requires few { lines ≤ 60 }
-        ensures first { 1 ≤ result.first }
-        ensures end { result.first < result.end }
-        ensures within { result.end ≤ lines + 1 }
-        ensures new { 1 ≤ result.new }
-        ensures few { result.new ≤ 3 }
-    {
-        let first = 1 + self.below(lines);
-        let more = self.below(3).min(lines - first);
-        Edit {
-            first,
-            end: first + 1 + more,
-            new: 1 + self.below(3),
-        }
+/// An edit of up to three lines.
+fn drawn_edit(numbers: &mut Numbers, lines: u64) -> Edit
+    requires some { 1 ≤ lines }
+    requires few { lines ≤ 60 }
+    ensures first { 1 ≤ result.first }
+    ensures end { result.first < result.end }
+    ensures within { result.end ≤ lines + 1 }
+    ensures new { 1 ≤ result.new }
+    ensures few { result.new ≤ 3 }
+{
+    let first = 1 + numbers.below(lines);
+    let more = numbers.below(3).min(lines - first);
+    Edit {
+        first,
+        end: first + 1 + more,
+        new: 1 + numbers.below(3),
     }
 }
 
@@ -125,7 +107,7 @@ fn two_lines_of_five_become_one(rt: HostRuntime) -> Result<(), Fail> {
 
 #[test]
 fn two_hundred_edits_of_lines(rt: HostRuntime) -> Result<(), Fail> {
-    let mut numbers = Numbers { last: 1 };
+    let mut numbers = Numbers::new(1);
     let mut hunks = Hunks::new(rt.alloc());
     let mut marks = clean(rt.alloc())?;
     hunks.clean(LINES);
@@ -135,7 +117,7 @@ fn two_hundred_edits_of_lines(rt: HostRuntime) -> Result<(), Fail> {
             hunks.clean(LINES);
             marks = clean(rt.alloc())?;
         } else {
-            let edit = numbers.edit(lines);
+            let edit = drawn_edit(&mut numbers, lines);
             hunks.reserve(1)?;
             hunks.edit(edit.first, edit.end - edit.first, edit.new);
             marks = edited(rt.alloc(), marks.as_slice(), edit)?;

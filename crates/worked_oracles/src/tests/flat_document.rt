@@ -5,7 +5,7 @@ use super::flat_lines::{
 };
 use super::whole_parse::whole_parse;
 use bracket_nodes::Node;
-use bracket_scan::BracketTable;
+use bracket_scan::{BracketTable, Hiding};
 use script_lines::{
     Command, LineOps, Place, Refusal, Short, command_of, long_begin, long_end, long_number,
     long_text, refusal,
@@ -23,8 +23,9 @@ pub struct OneList {
     text: Units,
     /// The kind of its line endings.
     kind: Kind,
-    /// Its brackets.
+    /// Its brackets, and what hides some of them.
     table: BracketTable,
+    hiding: Hiding,
     version: u64,
     /// What stands on the other side of the last step: before it, or after it once it was undone.
     other: Option<Other>,
@@ -48,6 +49,7 @@ impl OneList {
             text: Units::from_vec(Vec::new(alloc)),
             kind: Kind::Mixed,
             table: BracketTable::standard(),
+            hiding: Hiding::none(),
             version: 1,
             other: None,
             is_undone: false,
@@ -75,12 +77,14 @@ impl OneList {
                 Command::Open {
                     text,
                     brackets,
+                    marks,
                     kind,
                 },
             ) => {
                 self.text = of_kind(self.alloc, text.as_slice(), kind)?;
                 self.kind = kind;
                 self.table = brackets.unwrap_or(BracketTable::standard());
+                self.hiding = marks.unwrap_or(Hiding::none());
                 self.version = 1;
                 self.show_change(out)
             }
@@ -274,7 +278,7 @@ impl OneList {
     }
 
     fn parse(&self) -> Result<Node, AllocError> {
-        whole_parse(self.alloc, &self.table, self.text.as_slice())
+        whole_parse(self.alloc, &self.table, &self.hiding, self.text.as_slice())
     }
 
     fn refuse(&mut self, reason: Refusal, out: &mut Vec<u8>) -> Result<(), AllocError> {

@@ -12,15 +12,19 @@ struct Kind {
     name: &'static str,
     /// The text that the document is opened with: each of these, so many times.
     parts: &'static [(&'static str, u64)],
-    /// The members of `open` that name the pairs, if they are not the standard ones, and the kind of line ending, if it is
-    /// not any.
+    /// The members of `open` that name the pairs, if they are not the standard ones, the marks of comments and strings, if
+    /// there are any, and the kind of line ending, if it is not any.
     members: &'static str,
+    /// How many places there are, from the start of the text on, at which edits begin.
+    places: u64,
     /// What edits put in.
     texts: [&'static str; 8],
     /// How many scripts there are, and how many rounds each has.
     scripts: u64,
     rounds: u64,
 }
+
+const ALL: u64 = u64::MAX;
 
 /// Two units, and one character.
 const EMOJI: &str = "\u{1F600}";
@@ -30,6 +34,7 @@ const KINDS: &[Kind] = &[
         name: "breaks",
         parts: &[("a\\r\\nb", 1)],
         members: "",
+        places: ALL,
         texts: ["a", "\\n", "\\r", "\\r\\n", "", EMOJI, "b\\nc", "\\n\\r"],
         scripts: 4,
         rounds: 60,
@@ -38,6 +43,7 @@ const KINDS: &[Kind] = &[
         name: "line endings of one kind",
         parts: &[("a\\r\\nb\\r", 3)],
         members: ",\"eol\":\"crlf\"",
+        places: ALL,
         texts: ["a", "\\n", "\\r", "\\r\\n", "", EMOJI, "(\\nc", "\\n\\r)"],
         scripts: 2,
         rounds: 60,
@@ -46,6 +52,7 @@ const KINDS: &[Kind] = &[
         name: "standard brackets",
         parts: &[("f(x) { a[0] }\\n", 12)],
         members: "",
+        places: ALL,
         texts: ["(", ")", "[", "}", "", "{\\n", "()", "]\\r\\n("],
         scripts: 3,
         rounds: 40,
@@ -55,6 +62,7 @@ const KINDS: &[Kind] = &[
         name: "brackets of several units",
         parts: &[("begin ((a)) do\\r\\nod end\\n", 8)],
         members: ",\"brackets\":[[\"begin\",\"end\"],[\"do\",\"od\"],[\"(\",\")\"],[\"((\",\"))\"]]",
+        places: ALL,
         texts: ["begin", "end", "do", "o", "(", "))", "", "d\\n"],
         scripts: 3,
         rounds: 40,
@@ -64,9 +72,50 @@ const KINDS: &[Kind] = &[
         name: "more brackets than are kept open",
         parts: &[("([{([{([{\\n", 32), ("[({[({[({[({[()]})]})]})]})]\\n", 6)],
         members: "",
+        places: ALL,
         texts: ["([", "[{(", "{(", "(", "(\\n", "{\\r\\n[", "", "}"],
         scripts: 2,
         rounds: 30,
+    },
+    Kind {
+        name: "comments and strings",
+        parts: &[
+            ("f(x) { // ]\\n", 4),
+            ("/* ( */ g[\\\"(\\\"]\\n", 3),
+            ("h('\\\\'') }\\n", 2),
+        ],
+        members: r#","marks":{"line":"//","block":["/*","*/"],"quotes":["\"","'"]}"#,
+        places: ALL,
+        texts: ["/*", "*/(", "//", "\\\"", "'", "\\\\", "\\n", ""],
+        scripts: 8,
+        rounds: 60,
+    },
+    // Edits at the top begin and end a comment that goes on to a line in the middle, or to the end.
+    Kind {
+        name: "long comments",
+        parts: &[
+            ("f(x) { a[0] }\\n", 20),
+            ("( */ )\\n", 1),
+            ("f(x) { a[0] }\\n", 20),
+        ],
+        members: r#","marks":{"block":["/*","*/"]}"#,
+        places: 6,
+        texts: ["/*", "*/", "/*", "*/", "", "/", "*", "(\\n"],
+        scripts: 4,
+        rounds: 60,
+    },
+    // Some brackets begin as a mark does, and some have a mark inside them.
+    Kind {
+        name: "marks beside brackets",
+        parts: &[("begin (- (x) -) end\\n", 4), ("(* ( *) e*) -- end\\n", 4)],
+        members: concat!(
+            r#","brackets":[["begin","end"],["(",")"],["(-","-)"],["e*)","(*e"]]"#,
+            r#","marks":{"line":"--","block":["(*","*)"],"quotes":["g"]}"#,
+        ),
+        places: ALL,
+        texts: ["(*", "*)", "--", "(-", "e", "begin", "", "d\\n"],
+        scripts: 4,
+        rounds: 40,
     },
 ];
 
@@ -131,7 +180,7 @@ impl Growing {
     /// An edit with a `z` at the end in the same batch. Its span is now and then beyond the text or upside down.
     fn edit(&mut self, kind: &Kind) -> Result<(), AllocError> {
         let len = self.document.len();
-        let start = self.draws.below(len.saturating_add(2));
+        let start = self.draws.below(len.saturating_add(2).min(kind.places));
         let end = start.saturating_add(self.draws.below(5)).saturating_sub(1);
         let text = kind.texts[self.draws.below(8) as usize % 8];
         let edit = format!(in self.alloc;

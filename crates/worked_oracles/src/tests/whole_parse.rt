@@ -5,38 +5,57 @@ ghost use Rattle.bracket_nodes.specs.ScannedLines.{AreLines, scanned_weights};
 
 use super::flat_lines::first_line;
 use bracket_nodes::{Node, ScannedLine, parse_lines};
-use bracket_scan::BracketTable;
+use bracket_scan::{BracketTable, Hiding, LineState};
 use std::alloc::{AllocError, Global};
 
-/// The bracket tree of the text.
-pub fn whole_parse(alloc: Global, table: &BracketTable, text: &[u16]) -> Result<Node, AllocError> {
-    let scans = scans(alloc, table, text)?;
+/// The bracket tree of the text. Comments and strings hide some of its brackets.
+pub fn whole_parse(
+    alloc: Global,
+    table: &BracketTable,
+    hiding: &Hiding,
+    text: &[u16],
+) -> Result<Node, AllocError> {
+    let scans = scans(alloc, table, hiding, text)?;
     parse_lines(alloc, scans.as_slice())
 }
 
+/// The scans of the lines. Each begins in the state in which the one before it ended.
 #[tactic(auto, using(crate::proofs::ScannedLines::one_more))]
-fn scans(alloc: Global, table: &BracketTable, text: &[u16]) -> Result<Vec<ScannedLine>, AllocError>
+fn scans(
+    alloc: Global,
+    table: &BracketTable,
+    hiding: &Hiding,
+    text: &[u16],
+) -> Result<Vec<ScannedLine>, AllocError>
     ensures some { IfOk result (λ scans. 0 < length scans.items) }
     ensures lines { IfOk result (λ scans. AreLines scans.items) }
     ensures fits { IfOk result (λ scans. sum (scanned_weights scans.items) < 2 ^ 64) }
 {
     let mut scans = Vec::new(alloc);
+    let mut state = LineState::Code;
     let mut rest = text;
     while let (content, Some(after)) = first_line(rest) {
-        scans.push(scan(alloc, table, content)?)?;
+        scans.push(scan(alloc, table, hiding, &mut state, content)?)?;
         rest = after;
     }
-    scans.push(scan(alloc, table, rest)?)?;
+    scans.push(scan(alloc, table, hiding, &mut state, rest)?)?;
     Ok(scans)
 }
 
+/// Scans a line that begins in this state, which becomes the one in which it ends.
 #[tactic(auto, using(crate::proofs::ScannedLines::scan_in_line))]
-fn scan(alloc: Global, table: &BracketTable, content: &[u16]) -> Result<ScannedLine, AllocError>
+fn scan(
+    alloc: Global,
+    table: &BracketTable,
+    hiding: &Hiding,
+    state: &mut LineState,
+    content: &[u16],
+) -> Result<ScannedLine, AllocError>
     ensures columns { IfOk result (λ scan. scan.columns ≡ length content.now) }
     ensures in_line { IfOk result (λ scan. AreInLine 0 scan.columns scan.tokens.items) }
 {
     let mut tokens = Vec::new(alloc);
-    table.scan(content, &mut tokens)?;
+    *state = table.scan_from(hiding, *state, content, &mut tokens)?;
     Ok(ScannedLine {
         tokens,
         columns: content.len() as u64,

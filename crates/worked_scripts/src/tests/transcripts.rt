@@ -4,6 +4,7 @@ mod batches;
 mod decorated;
 mod endings;
 mod followed;
+mod hidden;
 mod kept;
 mod limits;
 mod nested;
@@ -13,6 +14,7 @@ use batches::BATCHES;
 use decorated::{DECORATED, EACH_MODE, FOUR_MODES};
 use endings::ENDINGS;
 use followed::FOLLOWED;
+use hidden::HIDDEN;
 use kept::KEPT;
 use limits::LIMITS;
 use nested::NESTED;
@@ -24,12 +26,13 @@ use texts::TEXTS;
 
 /// The rows with which each script of a table begins, and the table. A blank line stands between two transcripts: a
 /// name, and a row for each line of the script, which has the reply behind `=>`.
-const TABLES: [(&str, &str); 9] = [
+const TABLES: [(&str, &str); 10] = [
     ("", TEXTS),
     ("", BATCHES),
     (FOUR_MODES, EACH_MODE),
     ("", DECORATED),
     ("", NESTED),
+    ("", HIDDEN),
     ("", KEPT),
     ("", ENDINGS),
     ("", FOLLOWED),

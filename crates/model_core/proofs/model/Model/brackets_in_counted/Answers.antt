@@ -11,5 +11,5 @@ returns-clause-small g c = λ entries is.
     let f = c.args.self.now.document in
     let same = ap (λ (s : ModelState). length s.document.units) c.self.view_is in
     let fits : length f.units ≤ most_units = omega (arith, same, c.text.ensures.fits) in
-    let table : OnOk c.map_err.result (is_table f.table ≡ true) = grind (arith, common_steps) in
+    let table : OnOk c.map_err.result (is_table f.scanner.table ≡ true) = grind (arith, common_steps) in
     small_where_ok c.map_err.result f c.args.from c.args.to entries table fits is

@@ -75,17 +75,17 @@ returns-clause-document c =
     let text = flat_text m.page.text in
     let next : c.args.version ≡ m.version + 1 = omega (arith, c.requires.next, ap (λ (s : ModelState). s.document.version) c.self.view_is) in
     let few : m.version + 1 ≤ greatest_version = omega (arith, next, c.requires.last) in
-    let made = made_document text change is (leads after is) m.latest m.history.stack m.page.decorations m.page.table
+    let made = made_document text change is (leads after is) m.latest m.history.stack m.page.decorations m.page.scanner
     (shelves.shown m.page.text.buffers m.shelf) m.version m.alternative few in
-    let new : FlatState = document_of (flat_text c.follow.new.self.text) c.args.version c.args.version c.follow.new.self.decorations c.follow.new.self.table
+    let new : FlatState = document_of (flat_text c.follow.new.self.text) c.args.version c.args.version c.follow.new.self.decorations c.follow.new.self.scanner
     (shelves.shown c.follow.new.self.text.buffers m.shelf) (Some Made) c.keep.new.history.stack in
-    let told : FlatState = document_of (led On change text) (m.version + 1) (m.version + 1) (decorations_over true On change m.page.decorations) m.page.table
+    let told : FlatState = document_of (led On change text) (m.version + 1) (m.version + 1) (decorations_over true On change m.page.decorations) m.page.scanner
     (shelves.shown m.page.text.buffers m.shelf) (Some Made) (kept_with m.history.stack change m.alternative (m.version + 1)) in
     let same : new ≡ told =
-    ap (λ (t : FlatText). document_of t c.args.version c.args.version c.follow.new.self.decorations c.follow.new.self.table
+    ap (λ (t : FlatText). document_of t c.args.version c.args.version c.follow.new.self.decorations c.follow.new.self.scanner
     (shelves.shown c.follow.new.self.text.buffers m.shelf) (Some Made) c.keep.new.history.stack) c.follow.ensures.text
-    ∙ rw (c.follow.ensures.decorations, c.follow.ensures.parse.table, c.keep.ensures, shelf_after after, next) (refl {a = told}) in
-    let old : FlatState = document_of text m.version m.alternative m.page.decorations m.page.table (shelves.shown m.page.text.buffers m.shelf) m.latest m.history.stack in
+    ∙ rw (c.follow.ensures.decorations, c.follow.ensures.parse.scanner, c.keep.ensures, shelf_after after, next) (refl {a = told}) in
+    let old : FlatState = document_of text m.version m.alternative m.page.decorations m.page.scanner (shelves.shown m.page.text.buffers m.shelf) m.latest m.history.stack in
     let makes : Makes change old new = subst (Makes change old) (sym same) made in
     subst (λ (s : ModelState). Makes change s.document new) c.self.view_is makes
 
@@ -101,6 +101,7 @@ returns-clause-parse c =
     record {
       parsed = c.follow.ensures.parse.parsed ∙ ap (λ (s : ModelState). s.parsed) c.self.view_is;
       tree = c.follow.ensures.parse.tree ∙ ap (λ (s : ModelState). s.tree) c.self.view_is;
+      states = c.follow.ensures.parse.states ∙ ap (λ (s : ModelState). s.states) c.self.view_is;
       marks = c.follow.ensures.marks ∙ ap (λ (s : ModelState). marks_over On change s.document.units s.marks) c.self.view_is;
       fresh = kept_as (marking_ops On change) (marking_ops On change) page.tree c.follow.new.self.tree page.marks (marks_over On change page.text.units page.marks)
           c.follow.new.self.marks c.args.self.now.fresh refl c.follow.ensures.parse.tree c.follow.ensures.marks was (marked_over On change text page.marks fit);

@@ -18,7 +18,7 @@ use Rattle.model_core.proofs.model.Model.follow.Goals as goal
 use Rattle.model_core.proofs.model.Model.follow.Goals.{In-Some, After-lead}
 
 step_taken : (c : In-Some)
-    → IsStep c.args.way (flat_text c.self.inside.page.text) c.self.inside.version c.self.inside.alternative c.self.inside.page.decorations c.self.inside.page.table
+    → IsStep c.args.way (flat_text c.self.inside.page.text) c.self.inside.version c.self.inside.alternative c.self.inside.page.decorations c.self.inside.page.scanner
     (shelves.shown c.self.inside.page.text.buffers c.self.inside.shelf) c.self.inside.latest c.self.inside.history.stack (step_of c.in-Some.step.now)
 step_taken c =
     let next : slice_get (next_steps c.args.way c.self.inside.history.stack) 0 ≡ Some (step_of c.in-Some.step.now) = grind (arith, common_steps) in
@@ -87,13 +87,13 @@ returns-clause-document c =
     let few : m.version + 1 ≤ greatest_version = omega (arith, version, c.requires.last) in
     let alternative : c.alternative_after-self-inside.result ≡ alternative_after way shown = grind (arith, common_steps) in
     let text = text_by way (flat_text m.page.text) shown.changes in
-    let same : document_of (flat_text c.lead.new.self.text) c.args.version c.alternative_after-self-inside.result c.lead.new.self.decorations c.lead.new.self.table
+    let same : document_of (flat_text c.lead.new.self.text) c.args.version c.alternative_after-self-inside.result c.lead.new.self.decorations c.lead.new.self.scanner
     (shelves.shown c.lead.new.self.text.buffers m.shelf) (Some c.along.result) c.pass_step.new.history.stack
-    ≡ document_of text (m.version + 1) (alternative_after way shown) (decorations_by way m.page.decorations shown.changes) m.page.table
+    ≡ document_of text (m.version + 1) (alternative_after way shown) (decorations_by way m.page.decorations shown.changes) m.page.scanner
     (shelves.shown m.page.text.buffers m.shelf) (Some (latest_along way)) (passed way m.history.stack) =
-    ap (λ (t : FlatText). document_of t c.args.version c.alternative_after-self-inside.result c.lead.new.self.decorations c.lead.new.self.table
+    ap (λ (t : FlatText). document_of t c.args.version c.alternative_after-self-inside.result c.lead.new.self.decorations c.lead.new.self.scanner
     (shelves.shown c.lead.new.self.text.buffers m.shelf) (Some c.along.result) c.pass_step.new.history.stack) c.lead.ensures.text
-    ∙ rw (c.lead.ensures.decorations, c.lead.ensures.parse.table, stack, version, alternative, shelf_after after, c.along.ensures) refl in
+    ∙ rw (c.lead.ensures.decorations, c.lead.ensures.parse.scanner, stack, version, alternative, shelf_after after, c.along.ensures) refl in
     sym (ap (λ (s : ModelState). flat_move way s.document) c.self.view_is) ∙ step.accepted few ∙ ap (λ (f : FlatState). Ok (Some f)) (sym same)
 
 pub returns-clause-parse : goal.returns-clause-parse
@@ -110,6 +110,7 @@ returns-clause-parse c =
     record {
       parsed = c.lead.ensures.parse.parsed ∙ ap (λ (s : ModelState). s.parsed) c.self.view_is;
       tree = c.lead.ensures.parse.tree ∙ ap (λ (s : ModelState). s.tree) c.self.view_is;
+      states = c.lead.ensures.parse.states ∙ ap (λ (s : ModelState). s.states) c.self.view_is;
       marks = c.lead.ensures.marks ∙ sym (step.marks page.marks) ∙ ap (λ (s : ModelState). marked_step way s.marks (next_steps way s.document.history)) c.self.view_is;
       fresh = kept_as (marking_count way changes) (next_marking_count (next_steps way c.args.self.now.document.history)) page.tree c.lead.new.self.tree page.marks
           (marked_along way page.marks (changes_by way (flat_text page.text) changes)) c.lead.new.self.marks c.args.self.now.fresh marking c.lead.ensures.parse.tree c.lead.ensures.marks fresh

@@ -10,4 +10,4 @@ told-requires g c =
     let page = c.renew.new.self in
     let same = ap (λ (t : Text). length t.units) c.renew.ensures.parse.text in
     let fits : length page.text.units ≤ most_units = omega (arith, same, c.text.ensures.fits) in
-    subst (λ r. IfSome r (λ s. IsSmall s.0)) (sym c.partner_of.ensures) (told_small c.tree.result.now page.table page.text.units c.tree.ensures.kept fits c.place_of.result)
+    subst (λ r. IfSome r (λ s. IsSmall s.0)) (sym c.partner_of.ensures) (told_small c.tree.result.now page.scanner page.text.units c.tree.ensures.kept fits c.place_of.result)

@@ -14,6 +14,7 @@ returns c =
       paired_state = c.edit.ensures.paired_state;
       parsed = c.edit.ensures.parsed;
       tree = c.edit.ensures.tree;
+      states = c.edit.ensures.states;
       marks = c.edit.ensures.marks;
       fresh = c.edit.ensures.fresh;
       pieces = c.edit.ensures.pieces;

@@ -134,9 +134,10 @@ loop-done-preserved c =
           ∙ ap (λ u. length (lines_of u)) (sym left);
       spare = omega (arith, before.spare, c.mark.ensures.room);
       parse = record {
-        table = before.parse.table;
+        scanner = before.parse.scanner;
         parsed = c.mark.ensures.parsed ∙ before.parse.parsed;
         tree = c.mark.ensures.tree ∙ before.parse.tree;
+        states = c.mark.ensures.states ∙ before.parse.states;
       };
     }
 

@@ -2,6 +2,7 @@ use Rattle.std.proofs.Common.{◌≡◌, ℕ, List, length, ap, sym, ◌∙◌, 
 use Rattle.decoration_rules.specs.Decorations.{Decorations}
 use Rattle.decoration_rules.specs.Lines.{length_now}
 use Rattle.decoration_rules.proofs.LineLemmas.{LieIn-carried}
+use Rattle.hiding_rules.specs.Hidden.{scanner}
 use Rattle.document_rules.specs.Document.{FlatText}
 use Rattle.recast_rules.specs.Moves.{line_moves, HaveSameContents}
 use Rattle.recast_rules.proofs.Moves.{length_now-moves}
@@ -33,5 +34,5 @@ invariant_of-self c =
         sound = c.carry.ensures.sound;
         inside = rw (marks, ← size) lie;
       };
-      stays = stays_recast page.last.tree page.last.marks page.table page.text.units c.recast_again.new.self.units same old.stays;
+      stays = stays_recast page.last.tree page.last.marks page.last.states (scanner page.table page.hiding) page.text.units c.recast_again.new.self.units same old.stays;
     }

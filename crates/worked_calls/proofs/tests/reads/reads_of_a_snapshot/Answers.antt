@@ -4,7 +4,6 @@ use Rattle.std.proofs.lemmas.List.Elements.{All-nil, All-cons}
 use Rattle.chunk_buffers.specs.declared.span.ChunkSpan.{ChunkSpan}
 use Rattle.chunk_buffers.specs.Chunks.{LiesIn, Extends}
 use Rattle.chunk_buffers.proofs.Spans.{LiesIn-extended}
-use Rattle.snapshots.specs.Spans.{Spelled}
 use Rattle.snapshots.specs.Shown.{Shown, LieIn, Lies}
 use Rattle.worked_calls.proofs.tests.reads.reads_of_a_snapshot.Goals as goal
 

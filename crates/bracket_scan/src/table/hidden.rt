@@ -1,0 +1,170 @@
+//! The scan of a line, of which comments and strings hide parts.
+
+ghost use Rattle.std.specs.Prelude.{◌≡◌, ◌<◌, ◌++◌, suc, true, length, take, IfSome, IfOk, OnOk, OnErr};
+ghost use Rattle.std.specs.Option.{option_to_list};
+ghost use Rattle.bracket_rules.specs.Table.{is_table, longest, units_after_first};
+ghost use Rattle.hiding_rules.specs.Hidden.{scanner, code, ending, hidden_scan};
+ghost use Rattle.bracket_scan.specs.Starts.{IsWithin};
+ghost use Rattle.bracket_scan.specs.Parts.{IsPart};
+
+use super::BracketTable;
+use bracket_rules::Token;
+use hiding_marks::Hiding;
+use hiding_rules::{LineState, Within};
+use std::alloc::AllocError;
+
+// What stands at the front of some units: a token, or none; how many units it takes up, the last of
+// which may stand behind the line's end; and in what the place behind it lies.
+#[derive(Clone, Copy)]
+struct Part {
+    token: Option<Token>,
+    len: usize,
+    behind: Within,
+}
+
+impl BracketTable {
+    /// Appends the tokens of a line that begins in this state, of which comments and strings hide
+    /// no part, and returns the state in which it ends. On want of memory `out` is unchanged.
+    pub fn scan_from(
+        &self,
+        hiding: &Hiding,
+        state: LineState,
+        line: &[u16],
+        out: &mut Vec<Token>,
+    ) -> Result<LineState, AllocError>
+        ensures tokens { let scanned = hidden_scan (scanner self.now hiding.now) state line.now in
+            OnOk result (out.new.items ≡ out.old.items ++ scanned.tokens) }
+        ensures state { let scanned = hidden_scan (scanner self.now hiding.now) state line.now in
+            IfOk result (λ ends. ends ≡ scanned.state) }
+        ensures err { OnErr result (out.new.items ≡ out.old.items) }
+        ensures table { is_table self.now ≡ true }
+    {
+        // What it holds is a table.
+        let _texts = &self.texts;
+        if let LineState::Code = state
+            && hiding.is_none()
+        {
+            self.scan(line, out)?;
+            return Ok(LineState::Code);
+        }
+        let count = out.len();
+        let scanned = self.push_shown(hiding, state, line, out);
+        if scanned.is_err() {
+            out.truncate(count);
+        }
+        scanned
+    }
+
+    /// The state in which a line ends that begins in this one. Takes no memory.
+    pub fn end_state(&self, hiding: &Hiding, state: LineState, line: &[u16]) -> LineState
+        ensures { result ≡ (hidden_scan (scanner self.now hiding.now) state line.now).state }
+    {
+        if let LineState::Code = state
+            && !hiding.has_block()
+        {
+            return LineState::Code;
+        }
+        self.end_behind(hiding, state, line)
+    }
+
+    // On want of memory some of the tokens were pushed.
+    fn push_shown(
+        &self,
+        hiding: &Hiding,
+        state: LineState,
+        line: &[u16],
+        out: &mut Vec<Token>,
+    ) -> Result<LineState, AllocError>
+        ensures tokens { let scanned = hidden_scan (scanner self.now hiding.now) state line.now in
+            OnOk result (out.new.items ≡ out.old.items ++ scanned.tokens) }
+        ensures state { let scanned = hidden_scan (scanner self.now hiding.now) state line.now in
+            IfOk result (λ ends. ends ≡ scanned.state) }
+        ensures err { OnErr result (take (length out.old.items) out.new.items ≡ out.old.items) }
+    {
+        let mut at = 0;
+        let mut within = Within::State(state);
+        while at < line.len() {
+            let part = self.part(hiding, at as u64, within, &line[at..]);
+            push_some(out, part.token)?;
+            at += part.len;
+            within = part.behind;
+        }
+        Ok(ending(within))
+    }
+
+    // The state behind the last part of the line.
+    fn end_behind(&self, hiding: &Hiding, state: LineState, line: &[u16]) -> LineState
+        ensures { result ≡ (hidden_scan (scanner self.now hiding.now) state line.now).state }
+    {
+        let mut at = 0;
+        let mut within = Within::State(state);
+        while at < line.len() {
+            let part = self.part(hiding, at as u64, within, &line[at..]);
+            at += part.len;
+            within = part.behind;
+        }
+        ending(within)
+    }
+
+    // The part at the front of the units, the first of which is at place `at` and lies within this.
+    fn part(&self, hiding: &Hiding, at: u64, within: Within, units: &[u16]) -> Part
+        requires { 0 < length units.now }
+        ensures { IsPart (scanner self.now hiding.now) at within units.now result }
+    {
+        if let Within::Comment = within {
+            // It takes up the rest of its line.
+            return Part {
+                token: None,
+                len: units.len(),
+                behind: within,
+            };
+        }
+        match hiding.hidden(within, units) {
+            Some(stretch) => Part {
+                token: None,
+                len: stretch.units as usize,
+                behind: stretch.behind,
+            },
+            None => self.shown(at, units),
+        }
+    }
+
+    // A token, or a unit that begins none.
+    fn shown(&self, at: u64, units: &[u16]) -> Part
+        requires { 0 < length units.now }
+        ensures token { result.token ≡ longest at 0 self.now units.now }
+        ensures within { IfSome result.token (IsWithin (length units.now)) }
+        ensures len { result.len ≡ suc (units_after_first result.token) }
+        ensures behind { result.behind ≡ code }
+    {
+        let token = self.longest(at, units);
+        let len = match token {
+            Some(token) => token.len as usize,
+            None => 1,
+        };
+        Part {
+            token,
+            len,
+            behind: Within::State(LineState::Code),
+        }
+    }
+}
+
+fn push_some(out: &mut Vec<Token>, token: Option<Token>) -> Result<(), AllocError>
+    ensures ok { OnOk result (out.new.items ≡ out.old.items ++ option_to_list token) }
+    ensures err { OnErr result (out.new.items ≡ out.old.items) }
+{
+    if let Some(token) = token {
+        out.push(token)?;
+    }
+    Ok(())
+}
+
+fn ending(within: Within) -> LineState
+    ensures { result ≡ ending within }
+{
+    match within {
+        Within::State(state) => state,
+        Within::Comment | Within::String(_) => LineState::Code,
+    }
+}

@@ -1,0 +1,8 @@
+-- Marks that were put into runs, where there are any.
+use Rattle.std.specs.Prelude.{List, [], Option, Some, None}
+use Rattle.mark_rules.specs.declared.Mark.{Mark}
+use Rattle.line_hunks.specs.Hunks.{Shown}
+
+abbrev pub marks_put : Option Shown → List Mark
+marks_put None = []
+marks_put (Some hunks) = hunks.marks

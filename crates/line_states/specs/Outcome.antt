@@ -1,0 +1,83 @@
+-- What comes of the lines of a text that are settled from some line on.
+use Rattle.std.specs.Prelude.{◌≡◌, ℕ, suc, ◌+◌, ◌-◌, ◌<◌, ◌≤◌, ◌^◌, List, [], ◌∷◌, ◌++◌, length, take, drop, slice_index_or}
+use Rattle.mark_rules.specs.declared.Mark.{Mark}
+use Rattle.mark_rules.specs.declared.Mark.TheVariants.{New}
+use Rattle.mark_rules.specs.Marks.{kept_marks, Rises}
+use Rattle.hiding_rules.specs.declared.LineState.{LineState}
+use Rattle.hiding_rules.specs.declared.LineState.TheVariants.{Code}
+use Rattle.hiding_rules.specs.Hidden.{Scanner}
+use Rattle.hiding_rules.specs.States.{states_from, state_behind, scanned_lines, Lead}
+use Rattle.line_states.specs.Lines.{LinesState}
+use Rattle.line_states.specs.Settling.{Borders, AreOf, known_lines, settled_marks}
+
+-- by what lines are settled: what they are scanned by, the states of the last parse, and their marks
+pub record Task : Type 0 where
+  pub by : Scanner
+  pub last : Borders
+  pub marks : List Mark
+
+abbrev pub task : Scanner → Borders → List Mark → Task
+task by last marks = record { by = by; last = last; marks = marks }
+
+-- the kept lines are lines of the last parse, in order; there is a line, and fewer than 2^62
+pub record IsTask (t : Task) : Type 0 where
+  pub lines_of_last : AreOf (length t.last.begins) t.marks
+  pub rises : Rises t.marks
+  pub some : 1 ≤ length t.marks
+  pub few : length t.marks < 2 ^ 62
+
+-- there is a mark for each line, and the kept ones lead where they led
+pub record CanSettle (t : Task) (lines : LinesState) : Type 0 where
+  pub count : length t.marks ≡ length lines.contents
+  pub lead : Lead t.by (known_lines t.last t.marks) lines.contents
+
+-- the marks and states of lines, the numbers of those that are asked for, and the state in which the last one ends
+pub record Outcome : Type 0 where
+  pub marks : List Mark
+  pub begins : List LineState
+  pub asked : List ℕ
+  pub ends : LineState
+
+-- of lines with these marks and contents, the first of which has this number and begins in this state
+abbrev pub outcome_of : Scanner → Borders → ℕ → List Mark → List (List ℕ) → LineState → Outcome
+outcome_of by last number marks contents state = record {
+  marks = settled_marks last marks (states_from by state contents);
+  begins = states_from by state contents;
+  asked = scanned_lines number (known_lines last marks) (states_from by state contents);
+  ends = state_behind by state contents;
+}
+
+-- of the lines behind so many
+abbrev pub outcome_from : Task → LinesState → ℕ → LineState → Outcome
+outcome_from t lines passed state =
+    outcome_of t.by t.last (suc passed) (drop passed t.marks) (drop passed lines.contents) state
+
+-- of all lines
+abbrev pub outcome : Task → LinesState → Outcome
+outcome t lines = outcome_from t lines 0 Code
+
+-- of lines, and of others behind them
+abbrev pub followed_by : Outcome → Outcome → Outcome
+followed_by first second = record {
+  marks = first.marks ++ second.marks;
+  begins = first.begins ++ second.begins;
+  asked = first.asked ++ second.asked;
+  ends = second.ends;
+}
+
+-- of one line that is scanned, from the one state to the other
+abbrev pub scanned_line : ℕ → LineState → LineState → Outcome
+scanned_line number from to = record { marks = New ∷ []; begins = from ∷ []; asked = number ∷ []; ends = to }
+
+-- the state in which the last of so many lines ended, from the one of this number on
+abbrev pub ended : Borders → ℕ → ℕ → LineState
+ended last first lines = slice_index_or last.begins (first + lines - 1) last.ends
+
+-- of lines that are kept one after another and begin as they did
+abbrev pub kept_lines : Borders → ℕ → ℕ → Outcome
+kept_lines last first lines = record {
+  marks = kept_marks first lines;
+  begins = take lines (drop (first - 1) last.begins);
+  asked = [];
+  ends = ended last first lines;
+}

@@ -1,0 +1,74 @@
+-- The states of the lines of a text, by those of the last parse, and which lines are restarted.
+use Rattle.std.specs.Prelude.{◌≡◌, ⊤, ℕ, ◌-◌, ◌≤◌, if◌then◌else◌, List, [], ◌∷◌, length, map, Option, Some, None, slice_index_or, refl}
+use Rattle.mark_rules.specs.declared.Mark.{Mark}
+use Rattle.mark_rules.specs.declared.Mark.TheVariants.{Kept, New}
+use Rattle.mark_rules.specs.Marks.{mark_at}
+use Rattle.hiding_rules.specs.declared.LineState.{LineState}
+use Rattle.hiding_rules.specs.declared.LineState.TheVariants.{Code, Block}
+use Rattle.hiding_rules.specs.States.{Known, is_restarted}
+
+-- in which the lines of a text begin, and in which its last line ends
+pub record Borders : Type 0 where
+  pub begins : List LineState
+  pub ends : LineState
+
+abbrev pub borders : List LineState → LineState → Borders
+borders begins ends = record { begins = begins; ends = ends }
+
+-- What is known of a line with this mark: in which states the line that it is kept from began and ended. A line ends as the
+-- next one begins.
+abbrev pub known_of : Borders → Mark → Option Known
+known_of last New = None
+known_of last (Kept i) =
+    Some (record { begins = slice_index_or last.begins (i - 1) Code; ends = slice_index_or last.begins i last.ends })
+
+abbrev pub known_lines : Borders → List Mark → List (Option Known)
+known_lines last marks = map (known_of last) marks
+
+-- a restarted line is as a new one
+abbrev pub settled_mark : Borders → Mark → LineState → Mark
+settled_mark last mark state = if is_restarted (known_of last mark) state then New else mark
+
+-- the marks of lines that begin in these states now
+abbrev pub settled_marks : Borders → List Mark → List LineState → List Mark
+settled_marks last [] states = []
+settled_marks last (m ∷ marks) [] = []
+settled_marks last (m ∷ marks) (s ∷ states) = settled_mark last m s ∷ settled_marks last marks states
+
+-- each kept line is one of so many
+abbrev pub AreOf : ℕ → List Mark → Type 0
+AreOf lines marks = (n i : ℕ) → mark_at n marks ≡ Kept i → i ≤ lines
+
+-- the line that was kept, if any, is one of the last parse
+abbrev pub IsOfLast : Borders → Mark → Type 0
+IsOfLast last New = ⊤
+IsOfLast last (Kept i) = (1 ≤ i) × (i ≤ length last.begins)
+
+-- it is kept as this line, which began in this state
+pub record IsKeptAs (last : Borders) (i : ℕ) (state : LineState) (mark : Mark) : Type 0 where
+  pub is : mark ≡ Kept i
+  pub counted : 1 ≤ i
+  pub begins : slice_index_or last.begins (i - 1) Code ≡ state
+
+-- ---- what contracts see
+
+-- of the states of the last parse, under the marks of the lines of now
+pub record StatesState : Type 0 where
+  -- one for each line of the text of now
+  pub marks : List Mark
+  pub last : Borders
+  -- for how many edits of the marks there is room
+  pub spare : ℕ
+
+-- of lines that were settled
+pub record SettledState : Type 0 where
+  -- where a restarted line is as a new one
+  pub marks : List Mark
+  pub states : Borders
+
+-- ---- a worked example: `x`, `(`, `*/` and `y` were scanned in code, and line 1 is new and opens a comment
+
+restarted_lines_are_as_new :
+    settled_marks (borders (Code ∷ Code ∷ Code ∷ Code ∷ []) Code) (New ∷ Kept 2 ∷ Kept 3 ∷ Kept 4 ∷ []) (Code ∷ Block ∷ Block ∷ Code ∷ [])
+    ≡ New ∷ New ∷ New ∷ Kept 4 ∷ []
+restarted_lines_are_as_new = refl

@@ -1,0 +1,85 @@
+use Rattle.std.proofs.Common.{◌≡◌, Some, List, length, ap, sym, subst, ◌∙◌}
+use Rattle.hiding_rules.specs.Hidden.{scanner}
+use Rattle.hiding_rules.specs.Rows.{hidden_rows}
+use Rattle.bracket_tree_rules.specs.Told.{IsTreeOf}
+use Rattle.bracket_tree_rules.specs.Weights.{tree_weights, AreCovered}
+use Rattle.line_states.specs.Lines.{text_weights}
+use Rattle.document_rules.specs.Brackets.{line_contents}
+use Rattle.model_page.specs.Counting.{TakesFewSteps}
+use Rattle.model_page.specs.Staying.{AreSettled, IsParseOf}
+use Rattle.model_page.specs.State.{PageState}
+use Rattle.model_page.specs.View.{page_of}
+use Rattle.model_page.proofs.SettledLines.{settled_count, settled_agrees, settled_asks, few_steps_settled}
+use Rattle.model_page.proofs.TextLines.{some_lines}
+use Rattle.model_page.proofs.page.Page.parse_again.Goals as goal
+use Rattle.model_page.proofs.page.Page.parse_again.Given.{Over}
+use Rattle.model_page.proofs.page.Page.parse_again.Goals.{After-old-old}
+
+-- the lines that are read hold what those of the text hold
+same_contents : (g : Over) (c : After-old-old g) → line_contents c.settle.new.lines.lines ≡ line_contents c.self.inside.text.units
+same_contents g c = c.settle.ensures.contents ∙ ap line_contents c.new-lines.ensures.units
+
+are_settled : (g : Over) (c : After-old-old g) → let m = c.self.inside in
+    AreSettled (scanner m.table m.hiding) m.text.units m.last.states m.last.marks c.in_ok-settled.settled
+are_settled g c =
+    let m = c.self.inside in
+    subst (λ x. AreSettled (scanner m.table m.hiding) x m.last.states m.last.marks c.in_ok-settled.settled) c.new-lines.ensures.units c.in_ok-settled.ensures.settled
+
+pub reparse-requires-clause-some : goal.reparse-requires-clause-some
+reparse-requires-clause-some g c =
+    rw (same_contents g (goal.at.reparse-requires-clause-some g c).After-old-old) (some_lines c.self.inside.text.units)
+
+pub reparse-requires-clause-count : goal.reparse-requires-clause-count
+reparse-requires-clause-count g c =
+    let m = c.self.inside in
+    let at = (goal.at.reparse-requires-clause-count g c).After-old-old in
+    rw (same_contents g at)
+    (settled_count (scanner m.table m.hiding) m.text.units m.last.states m.last.marks c.in_ok-settled.settled c.self.invariant.stays.count (are_settled g at))
+
+pub reparse-requires-clause-states : goal.reparse-requires-clause-states
+reparse-requires-clause-states g c =
+    let at = (goal.at.reparse-requires-clause-states g c).After-old-old in
+    rw (same_contents g at) (are_settled g at).begins
+
+pub reparse-requires-clause-agrees : goal.reparse-requires-clause-agrees
+reparse-requires-clause-agrees g c =
+    let m = c.self.inside in
+    let at = (goal.at.reparse-requires-clause-agrees g c).After-old-old in
+    rw (c.old-old.ensures.tree, same_contents g at)
+    (settled_agrees (scanner m.table m.hiding) m.text.units m.last.states m.last.marks c.in_ok-settled.settled c.self.invariant.stays.count (are_settled g at)
+    m.last.tree c.self.invariant.stays)
+
+pub returns-in_err-parsed-clause-steps : goal.returns-in_err-parsed-clause-steps
+returns-in_err-parsed-clause-steps g c =
+    let m = c.self.inside in
+    let at = (goal.at.returns-in_err-parsed-clause-steps g c).After-old-old in
+    subst (λ (p : PageState). TakesFewSteps p.tree p.states p.marks p.scanner p.text.units c.args.steps.now c.reparse.new.steps) c.self.view_is
+    (few_steps_settled (scanner m.table m.hiding) m.text.units m.last.states m.last.marks c.in_ok-settled.settled c.self.invariant.stays.count (are_settled g at)
+    m.last.tree c.old-old.result (line_contents c.settle.new.lines.lines) c.args.steps.now c.reparse.new.steps c.old-old.ensures.tree (same_contents g at)
+    c.reparse.ensures.steps)
+
+pub returns-clause-steps : goal.returns-clause-steps
+returns-clause-steps g c =
+    let m = c.self.inside in
+    let at = (goal.at.returns-clause-steps g c).After-old-old in
+    subst (λ (p : PageState). TakesFewSteps p.tree p.states p.marks p.scanner p.text.units c.args.steps.now c.reparse.new.steps) c.self.view_is
+    (few_steps_settled (scanner m.table m.hiding) m.text.units m.last.states m.last.marks c.in_ok-settled.settled c.self.invariant.stays.count (are_settled g at)
+    m.last.tree c.old-old.result (line_contents c.settle.new.lines.lines) c.args.steps.now c.reparse.new.steps c.old-old.ensures.tree (same_contents g at)
+    c.reparse.ensures.steps)
+
+pub returns-clause-parsed : goal.returns-clause-parsed
+returns-clause-parsed g c =
+    let m = c.self.inside in
+    let by = scanner m.table m.hiding in
+    let at = (goal.at.returns-clause-parsed g c).After-old-old in
+    let same = same_contents g at in
+    let told = c.in_ok-parsed.ensures in
+    let asks = settled_asks by m.text.units m.last.states m.last.marks c.in_ok-settled.settled c.self.invariant.stays.count (are_settled g at) in
+    subst (λ (p : PageState). IsParseOf p.scanner p.text.units p.states p.marks c.in_ok-parsed.parsed) c.self.view_is
+    (record {
+      rule = told.table;
+      tree = subst (λ contents. IsTreeOf (hidden_rows by contents) c.in_ok-parsed.parsed.tree) same told.tree;
+      tight = told.tight;
+      light = subst (λ contents. AreCovered (tree_weights c.in_ok-parsed.parsed.tree) (text_weights contents)) same told.light;
+      asked = told.count ∙ ap length asks;
+    })

@@ -1,0 +1,3 @@
+pub mod Occurrences
+pub mod Replacing
+mod Examples
