@@ -196,6 +196,107 @@ def undo_cases(scale: Scale) -> Iterator[Case]:
         yield Case(name, size_of(units), plain(units) + steps, lines, ['{"cmd":"redo"}'] * (2 * count), flat)
 
 
+# ---- search
+
+
+TAIL = " lines zone"  # with which a text of words ends, and which has what is looked for
+WORST = "a" * 63 + "b"
+PIECES = 100_000
+# what is looked for, what the text has again and again before its end, that end, and, for each line of most other rows, over
+# how many units the lines of a row go
+SEARCHES = (
+    ("rare unit", "zone", LINE, TAIL, 20_000),
+    ("common unit", " lines", LINE, TAIL, 20_000),
+    ("worst case", WORST, "a", WORST, 40),
+)
+
+
+def ended(filler: str, units: int, tail: str) -> str:
+    """A text of so many units: the filler again and again, and this at its end."""
+    return (filler * (units // len(filler) + 1))[: units - len(tail)] + tail
+
+
+def torn(text: str) -> Lines:
+    """A document of this text in as many pieces: an edit puts units in again that stand apart, half as many."""
+    step = len(text) // (PIECES // 2)
+    places = range(step // 2, len(text), step)
+    return [*opened(text), edit(*(op(place, place + 1, json.dumps(text[place])[1:-1]) for place in places))]
+
+
+def find(sought: str) -> str:
+    """A line that looks for a text."""
+    return f'{{"cmd":"find","text":"{sought}"}}'
+
+
+def replace(sought: str, text: str) -> str:
+    """A line that puts a text in the place of all that is found."""
+    return f'{{"cmd":"replace","find":"{sought}","text":"{text}"}}'
+
+
+def misnamed(line: str) -> str:
+    """The same line with another name of the command, or of a field."""
+    return line.replace("find", "fins", 1)
+
+
+def find_cases(scale: Scale) -> Iterator[Case]:
+    """Searches of all of a text, which find what its end has. Where the name is another stands for what is refused."""
+    for way, document in (("one piece", opened), (f"{PIECES:,} pieces", torn)):
+        for what, sought, filler, tail, often in SEARCHES:
+            for units, flat in scale.texts[1:]:
+                count = max(1, scale.count * often // units)
+                lines, refused = ([line] * count for line in (find(sought), misnamed(find(sought))))
+                setup = document(ended(filler, units, tail))
+                yield Case(f"find, {what}, {way}", size_of(units), setup, lines, refused, min(flat, count))
+
+
+def with_places(count: int) -> tuple[Lines, list[int]]:
+    """A document of a million units with a `q` at so many places, and these."""
+    places = sorted(random.Random(13).sample(range(0, MILLION, 2), count))
+    units = [*ended(LINE, MILLION, TAIL)]
+    for place in places:
+        units[place] = "q"
+    return opened("".join(units)), places
+
+
+REPLACES = [replace("q", "zz"), replace("zz", "q")]
+
+
+def replaced(_places: list[int]) -> Pair:
+    """Each `q` becomes `zz`, then each `zz` a `q`. Where the name of a field is another stands for what is refused."""
+    return REPLACES, [misnamed(line) for line in REPLACES]
+
+
+def edited(places: list[int]) -> Pair:
+    """The same by edits, and with their first spans turned round."""
+    there = [op(place, place + 1, "zz") for place in places]
+    back = [op(place + before, place + before + 2, "q") for before, place in enumerate(places)]
+    turned = op(places[0] + 1, places[0], "zz"), op(places[0] + 2, places[0], "q")
+    return [edit(*there), edit(*back)], [edit(first, *rest[1:]) for first, rest in zip(turned, (there, back))]
+
+
+def undone(_places: list[int]) -> Pair:
+    """The last step back and on. Where nothing is left to redo stands for what is refused."""
+    return ['{"cmd":"undo"}', '{"cmd":"redo"}'], ['{"cmd":"redo"}'] * 2
+
+
+def replace_cases(scale: Scale) -> Iterator[Case]:
+    """Replaces of one unit by two and back, the same by edits, and one that is undone and redone."""
+    rows = (("replace, there and back", replaced), ("the same by edits", edited), ("undo, redo of a replace", undone))
+    for what, made in rows:
+        for count in (1, 1_000, 2 * scale.count):
+            document, places = with_places(count)
+            setup = [*document, *REPLACES[:1]] if made is undone else document
+            turns = max(1, min(scale.count // 100, scale.count // (2 * count)))
+            lines, refused = (turn * turns for turn in made(places))
+            yield Case(what, f"{count:,}", setup, lines, refused, len(lines) if count <= 1_000 else 1)
+
+
+def search_cases(scale: Scale) -> Iterator[Case]:
+    """All that look for a text."""
+    yield from find_cases(scale)
+    yield from replace_cases(scale)
+
+
 # ---- decorations
 
 
@@ -402,7 +503,7 @@ def line_cases(scale: Scale) -> Iterator[Case]:
 
 def all_cases(scale: Scale) -> Iterator[Case]:
     """Every case, made as it is asked for."""
-    for group in (text_cases, undo_cases, decoration_cases, kind_cases, nested_cases, hidden_cases):
+    for group in (text_cases, undo_cases, search_cases, decoration_cases, kind_cases, nested_cases, hidden_cases):
         yield from group(scale)
     yield from parse_cases()
     yield from line_cases(scale)

@@ -1,10 +1,12 @@
 /* A flat text model: what the program is measured beside, and its replies compared with.
  *
- * The text is one array of UTF-16 units that each edit moves. Lines are found by scanning it from its beginning, and
- * each question about brackets folds all of it, with its comments and strings where the document has the marks of C; a snapshot,
- * an event and a change of the kind of line ending copy all of it. It reads the lines that bench/run writes and those alone:
- * fields in one order without blanks, no marks but those of C, texts of ASCII with `\n`, `\r`, `\"` and `\\` as their escapes,
- * the ops of an edit in rising order. Any other line is answered `! syntax`. What an `open` or an edit lets go of is not freed. */
+ * The text is one array of UTF-16 units that each edit moves. Lines are found by scanning it from its beginning, a text by
+ * `memmem` of the C library, and each question about brackets folds all of it, with its comments and strings where the
+ * document has the marks of C; a snapshot, an event and a change of the kind of line ending copy all of it. It reads the
+ * lines that bench/run writes and those alone: fields in one order without blanks, no marks but those of C, texts of ASCII
+ * with `\n`, `\r`, `\"` and `\\` as their escapes, the ops of an edit in rising order. Any other line is answered `! syntax`.
+ * What an `open` or an edit lets go of is not freed. */
+#define _GNU_SOURCE /* for memmem */
 #include "flat_fields.h"
 
 enum { MOST_OPEN = 300, MOST_SNAPSHOTS = 1000, BUFFER_BYTES = 1 << 16 };
@@ -297,6 +299,54 @@ static bool stop(Document *document, const char **at) {
     return printf("ok") > 0;
 }
 
+/* ---- a search */
+
+/* Where these units stand from this place on, NOWHERE where they do not: their bytes, which begin at an even one. */
+static size_t next_of(const Units *text, const Units *sought, size_t from) {
+    const char *first = (const char *)text->at, *end = first + 2 * text->length, *at = first + 2 * from;
+    while ((at = memmem(at, end - at, sought->at, 2 * sought->length)) && (at - first) % 2 != 0) at++;
+    return at ? (size_t)(at - first) / 2 : NOWHERE;
+}
+
+/* Whether they stand between two places from `start` on, which becomes the first of these. */
+static bool finds(const Document *document, const Units *sought, size_t *start) {
+    while ((*start = next_of(&document->text, sought, *start)) != NOWHERE) {
+        if (is_span(document, *start, *start + sought->length)) return true;
+        ++*start;
+    }
+    return false;
+}
+
+static bool find(Document *document, const char **at) {
+    Units sought;
+    if (!text(at, &sought) || !closes(at) || sought.length == 0) return false;
+    printf("ok");
+    for (size_t start = 0; finds(document, &sought, &start); start += sought.length)
+        printf(" %zu %zu", start, start + sought.length);
+    free(sought.at);
+    return true;
+}
+
+/* An op for each span that is found, the last of which is carried out first. */
+static bool replace_all(Document *document, const char **at) {
+    Units sought, new;
+    if (!text(at, &sought) || !word(at, ",\"text\":") || !text(at, &new) || !closes(at) || sought.length == 0) return false;
+    new = normalized(new, document->kind);
+    Op *all = NULL;
+    size_t count = 0, room = 0;
+    for (size_t start = 0; finds(document, &sought, &start); start += sought.length) {
+        all = grown(all, count, &room, sizeof *all);
+        all[count++] = (Op){start, start + sought.length, new};
+    }
+    free(sought.at);
+    if (count == 0) return printf("ok none") > 0;
+    document->begins = true;
+    while (count-- > 0) replace_and_keep(document, &all[count]);
+    document->begins = true;
+    free(all);
+    return next_version(document);
+}
+
 /* ---- snapshots: none is read */
 
 static bool snapshot(Document *document, const char **at) {
@@ -520,7 +570,8 @@ static const struct { const char *head; bool (*answer)(Document *, const char **
     {"{\"cmd\":\"decos\",", decos},              {"{\"cmd\":\"snapshot\"", snapshot},
     {"{\"cmd\":\"close\",\"id\":", close_snapshot}, {"{\"cmd\":\"eol\",\"kind\":", eol},
     {"{\"cmd\":\"mirror\"", mirror},              {"{\"cmd\":\"send\"", send_event},
-    {"{\"cmd\":\"deliver\",\"n\":", deliver},
+    {"{\"cmd\":\"deliver\",\"n\":", deliver},       {"{\"cmd\":\"find\",\"text\":", find},
+    {"{\"cmd\":\"replace\",\"find\":", replace_all},
 };
 
 static bool answer(Document *document, const char *line) {

@@ -32,6 +32,10 @@ class Running:
         """The most memory that was resident so far."""
         return self.told_kib("VmHWM")
 
+    def forget_peak(self) -> None:
+        """Lets the most memory be what is resident now, and what comes to be."""
+        Path(f"/proc/{self.process.pid}/clear_refs").write_text("5")
+
     def resident_kib(self) -> int:
         """The memory that is resident now."""
         return self.told_kib("VmRSS")

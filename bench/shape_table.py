@@ -12,11 +12,13 @@ COLUMNS = ("ns", "growth", "KiB", "KiB kept", "kept")
 
 
 class Shaped(NamedTuple):
-    """What one program took for a shape: nanoseconds a line, the most memory, and that resident at first and last."""
+    """What one program took for a shape: nanoseconds a line, the most memory, and that resident at first, at most since, and
+    last."""
 
     line: float
     peak: int
     first: int
+    most: int
     last: int
     replies: list[bytes]
 
@@ -24,7 +26,7 @@ class Shaped(NamedTuple):
         """What came to be resident: in bytes for each that is counted, or the last beside the first."""
         if shape.first:
             return f"x{self.last / self.first:.2f}"
-        grown = (self.last - self.first) * 1024
+        grown = ((self.most if shape.is_of_most else self.last) - self.first) * 1024
         return ", ".join(f"{grown / count:,.1f} per {name}" for name, count in shape.counted.items())
 
     def cells(self, shape: Shape, before: "Shaped | None") -> list[str]:
@@ -39,11 +41,13 @@ def run_once(command: list[str], shape: Shape, folder: Path) -> tuple[Shaped, in
     replies = running.answers(shape.case.before)
     began = running.nanoseconds()
     replies += running.answers(shape.case.lines[: shape.first])
-    first = running.resident_kib()
+    first, before = running.resident_kib(), running.peak_kib()
+    running.forget_peak()
     replies += running.answers(shape.case.lines[shape.first :])
     ended = running.nanoseconds()
     line = (ended - began) / len(shape.case.lines)
-    shaped = Shaped(line, running.peak_kib(), first, running.resident_kib(), replies)
+    most = running.peak_kib()
+    shaped = Shaped(line, max(before, most), first, most, running.resident_kib(), replies)
     running.end()
     return shaped, ended
 

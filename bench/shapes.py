@@ -6,7 +6,7 @@ from itertools import accumulate
 from pathlib import Path
 from typing import NamedTuple
 
-from cases import MILLION, Case, Lines, at, decorate, edit, op, opened, plain
+from cases import LINE, MILLION, TAIL, Case, Lines, at, decorate, edit, ended, find, op, opened, plain, torn
 
 sys.path.append(str(Path(__file__).resolve().parent.parent / "fuzz"))
 from played import script  # noqa: E402
@@ -20,6 +20,7 @@ class Shape(NamedTuple):
     case: Case
     first: int = 0  # behind how many of the lines it is looked at first; then it is behind the last
     counted: dict[str, int] = {}  # how many the text has of what: what comes to be resident is told for one of them
+    is_of_most: bool = False  # whether that is the most that was resident at any time, in place of what stays
 
 
 def shape(what: str, size: str, setup: Lines, lines: Lines, **rest: object) -> Shape:
@@ -123,6 +124,14 @@ def event_shapes(part: int) -> Iterator[Shape]:
     yield shape("deliver", f"{count:,}", [*plain(50_000), '{"cmd":"mirror"}', *sent], taken)
 
 
+def find_shapes(part: int) -> Iterator[Shape]:
+    """Searches of all of a text, in one piece and in many."""
+    units = 100 * MILLION // part
+    for way, document in (("one piece", opened), ("pieces", torn)):
+        setup = document(ended(LINE, units, TAIL))
+        yield shape(f"find: {way}", f"{units:,}", setup, [find("zone")] * 10, counted={"unit": units}, is_of_most=True)
+
+
 def played_shapes(part: int) -> Iterator[Shape]:
     """The lines that `textmodel play COUNT 7` makes by itself."""
     for count in (20_000, 100_000, 160_000):
@@ -132,7 +141,8 @@ def played_shapes(part: int) -> Iterator[Shape]:
 def all_shapes(part: int) -> Iterator[Shape]:
     """Every shape, made as it is asked for; each size is divided by this."""
     groups = (
-        decoration_shapes, level_shapes, edited_shapes, played_shapes, undo_shapes, snapshot_shapes, event_shapes, parse_shapes,
+        decoration_shapes, level_shapes, edited_shapes, played_shapes, undo_shapes, snapshot_shapes, event_shapes, find_shapes,
+        parse_shapes,
     )  # fmt: skip
     for group in groups:
         yield from group(part)

@@ -248,6 +248,11 @@ class Client:
         """The contents of the lines from `first` to `last`, without their breaks; refused with `range` where one is not there."""
         return [json.loads(text) for text in self.ask_all({"cmd": "line", "n": n} for n in range(first, last + 1))]
 
+    def find(self, text: str) -> list[tuple[int, int]]:
+        """Where a text stands: the start and the end of each place, from left to right, none over the one before."""
+        edges = self.numbers("find", text=text)
+        return list(zip(edges[::2], edges[1::2]))
+
     def brackets(self, first: int, last: int) -> list[Bracket]:
         """The brackets that start in the lines from `first` to `last`, in the order of the text; refused as `lines` is."""
         words = self.ask("brackets", **{"from": first, "to": last}).split()
@@ -359,6 +364,11 @@ def edit_a_document(model: Client) -> None:
 
     model.ask("undo")
     check("line 2 after an undo", model.text("line", n=2), "    g[x")
+
+    # A name becomes another one wherever it stands, in one step of undo.
+    check("where `x` stands", model.find("x"), [(5, 6), (16, 17)])
+    check("after a replace", model.numbers("replace", find="x", text="at"), [4, 22, 4])
+    check("line 2 after it", model.text("line", n=2), "    g[at")
 
     # What stands in a comment or a string is no bracket.
     model.open("f(')'); // (\n", marks={"line": "//", "block": ["/*", "*/"], "quotes": ['"', "'"]})

@@ -97,6 +97,14 @@ def text(value: Any) -> str:
     return units_of(value)
 
 
+def sought(value: Any) -> str:
+    """A text that is looked for."""
+    units = text(value)
+    if not units:
+        raise Refused("syntax")
+    return units
+
+
 def flag(value: Any) -> bool:
     if type(value) is not bool:
         raise Refused("syntax")
@@ -254,6 +262,8 @@ COMMANDS: dict[str, Fields] = {
     "snapshot": fields(),
     "read": fields(id=number, count=number),
     "close": fields(id=number),
+    "find": fields(text=sought),
+    "replace": fields(find=sought, text=text),
     "brackets": fields(**{"from": number, "to": number}),
     "match": fields(line=number, col=number),
     "level": fields(line=number, col=number),

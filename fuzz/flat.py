@@ -104,15 +104,34 @@ class Document:
         ops = sorted(map(self.op_of, line_ops), key=lambda op: (op.end, op.start))
         if any(op.end > following.start for op, following in zip(ops, ops[1:])):
             raise Refused("overlap")
+        self.check_growth(ops)
+        self.carry_out(ops)
+        return self.sizes()
+
+    def replace(self, sought: str, text: str) -> str:
+        """A step by itself: the open one is closed before and after."""
+        new = normalized(text, self.text.kind)
+        ops = [Op(start, end, new) for start, end in self.text.occurrences(sought)]
+        if not ops:
+            return " none"
+        self.check_growth(ops)
+        self.is_step_open = False
+        self.carry_out(ops)
+        self.is_step_open = False
+        return self.sizes()
+
+    def check_growth(self, ops: list[Op]) -> None:
         if len(self.text.units) + sum(op.growth for op in ops) > MOST_UNITS:
             raise Refused("limit")
+
+    def carry_out(self, ops: list[Op]) -> None:
+        """Makes the next version by sorted ops that are apart."""
         batch = Batch(self.text.units, ops, applied(self.text.units, ops))
         self.version += 1
         self.push(batch)
         self.alternative = self.version
         self.redo_steps = []
         self.change(batch.after, ops)
-        return self.sizes()
 
     def op_of(self, op: LineOp) -> Op:
         if op.at:
@@ -198,6 +217,9 @@ class Document:
     def value(self, at: list[int]) -> str:
         self.check_span(*at)
         return f" {quoted(self.text.units[at[0] : at[1]])}"
+
+    def find(self, sought: str) -> str:
+        return "".join(f" {start} {end}" for start, end in self.text.occurrences(sought))
 
     def offset(self, line: int, column: int) -> str:
         return f" {self.offset_of(line, column)}"

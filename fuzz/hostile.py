@@ -18,7 +18,7 @@ VALUES: list[Any] = [
 ]  # fmt: skip
 KEYS = [
     "x", "cmd", "text", "at", "range", "force", "n", "owner", "id", "collapse", "stick", "brackets", "eol", "kind", "",
-    "Cmd", "marks", "line", "block", "quotes",
+    "Cmd", "marks", "line", "block", "quotes", "find",
 ]  # fmt: skip
 WHOLE = [
     b"[]", b"{}", b"1", b'"size"', b"null", b"{", b"}", b"[" * 128, b"[" * 127 + b"]" * 127, b"[" * 5000,
@@ -54,6 +54,13 @@ WHOLE = [
     b'{"cmd":"open","text":"","marks":{"quotes":["\\ud83d"]}}',
     b'{"cmd":"open","text":"","marks":{"quotes":["\\ud83d\\ude00"]}}',
     b'{"cmd":"open","text":"","marks":{"quotes":["1","2","3","4","5","6","7","8","9"]}}', b'{"cmd":"size","marks":{}}',
+    b'{"cmd":"find"}', b'{"cmd":"find","text":""}', b'{"cmd":"find","text":null}', b'{"cmd":"find","text":["a"]}',
+    b'{"cmd":"find","find":"a"}', b'{"cmd":"find","text":"a","text":""}', b'{"cmd":"find","text":"","text":"\\u0061"}',
+    b'{"cmd":"find","text":"a","at":[0,1]}', b'{"cmd":"find","text":"\\ude00"}', b'{"cmd":"find","text":"\\r\\n"}',
+    b'{"cmd":"replace","find":"a"}', b'{"cmd":"replace","text":"a"}', b'{"cmd":"replace","find":"","text":"a"}',
+    b'{"cmd":"replace","find":null,"text":"a"}', b'{"cmd":"replace","find":"a","text":null}',
+    b'{"cmd":"replace","find":"a","find":"","text":""}', b'{"cmd":"replace","find":"","find":"\\u0000","text":""}',
+    b'{"cmd":"replace","find":"a","text":"b","force":false}', b'{"cmd":"replace","text":"\\n","find":"\\u000a"}',
     b'{"cmd":1,"cmd":"size"}', b'{"cmd":"undo","cmd":"size"}',
     b'{"cmd":1e999,"cmd":"size"}', b'{"cmd":"\\ud800","cmd":"size"}', b"", b" ", b"\t \r", b"\r", b"\x0b", b"\x0c",
     b"\xc2\xa0", b"// x", b"{\"cmd\":\"size\"/**/}",

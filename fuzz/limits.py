@@ -1,5 +1,5 @@
 """One script of lines at the limits that a script can reach: bytes of a line, decorations, snapshots, brackets and what
-hides them, events."""
+hides them, events, units that a replace would make."""
 MOST_LINE_BYTES = 2**24
 MOST_DECORATIONS = 2**20
 MOST_SNAPSHOTS = 1_000
@@ -7,6 +7,7 @@ MOST_OPEN = 300
 MOST_EVENTS = 65_536
 MOST_BRACKET_UNITS = 32
 MOST_QUOTES = 8
+ROOT_OF_UNITS = 2**20  # as many places, each with as many units, have one unit more than a text may have
 
 
 def padded(line: bytes, size: int) -> bytes:
@@ -111,5 +112,21 @@ def many_events() -> list[bytes]:
     return lines
 
 
+def replaced(sought: bytes, text: bytes) -> bytes:
+    return b'{"cmd":"replace","find":"%b","text":"%b"}' % (sought, text)
+
+
+def many_found() -> list[bytes]:
+    """Texts as long as a line can bring, sought and put in, many places, and a replace that passes the most units by one."""
+    long_text, many = b"a" * (MOST_LINE_BYTES - 40), b"a" * ROOT_OF_UNITS
+    lines = [b'{"cmd":"open","text":"%b"}' % long_text, b'{"cmd":"find","text":"%b"}' % long_text]
+    lines += [b'{"cmd":"find","text":"%b"}' % (b"b" + long_text[1:]), replaced(long_text, b"b"), replaced(b"b", long_text)]
+    lines += [b'{"cmd":"undo"}', b'{"cmd":"size"}', b'{"cmd":"undo"}', b'{"cmd":"size"}']
+    lines += [b'{"cmd":"open","text":"%b"}' % many, b'{"cmd":"find","text":"aa"}', replaced(b"aa", b"b")]
+    lines += [b'{"cmd":"undo"}', replaced(b"a", many), b'{"cmd":"version"}', b'{"cmd":"redo"}', b'{"cmd":"size"}']
+    return lines
+
+
 def lines() -> list[bytes]:
-    return [*long_lines(), *many_snapshots(), *many_brackets(), *many_hidden(), *many_events(), *many_decorations()]
+    few = [*long_lines(), *many_snapshots(), *many_brackets(), *many_hidden(), *many_events(), *many_decorations()]
+    return [*few, *many_found()]

@@ -11,6 +11,7 @@ WEIGHTS = {
     "decorate": 7, "deco": 4, "decos": 4,
     "line": 3, "value": 3, "offset": 4, "position": 5, "stops": 3,
     "snapshot": 2, "read": 3, "close": 1,
+    "find": 3, "replace": 1.5,
     "brackets": 6, "match": 5, "level": 5,
     "mirror": 0.3, "send": 4, "deliver": 5, "mirrored": 1.5,
     "open": 1, "hostile": 4,
@@ -51,6 +52,8 @@ def more(**weights: float) -> dict[str, float]:
 FAR = {name: 1 for name in WEIGHTS} | {"edit": 150, "undo": 4, "redo": 4, "decos": 2, "mirror": 0.1}  # long runs without a question
 FOLLOWED = more(edit=30, undo=12, redo=12, eol=4, mirror=1, send=40, deliver=50, mirrored=15)
 ASKED = more(brackets=12, match=10, level=25, undo=12, redo=8, stop=8, decorate=1, deco=1, decos=1)
+SOUGHT = more(find=30, replace=12, undo=12, redo=8, stop=6, eol=3, send=8, deliver=8, mirrored=3)
+TORN = more(edit=60, find=50, replace=2, brackets=2, match=2, level=2)
 ENDED = more(eol=8, undo=15, redo=8, stop=8, version=6, decorate=25, deco=12, decos=12, position=12, value=8, open=3)
 
 MOODS = {
@@ -79,6 +82,9 @@ MOODS = {
     "covers": (3, Mood(200, ASKED, [BREAKS, LETTERS], 4, ragged=2, is_apart=True, hidden=1, strewn=0.3, curtains=0.6)),
     "stripes": (1, Mood(1500, ASKED, [BREAKS, BREAKS, LETTERS], 3, hidden=1, curtains=0.4)),
     "asleep": (0.5, Mood(500, FAR, [BREAKS, LETTERS], 4, ragged=1, hidden=1, strewn=0.5, curtains=0.5)),
+    "sought": (6, Mood(40, SOUGHT, [LETTERS, LETTERS, BREAKS, PAIRED], 1, of_kind=0.5)),
+    "periods": (2, Mood(200, SOUGHT, [LETTERS], 0, of_kind=0)),
+    "torn": (1, Mood(1500, TORN, [PAIRED, LETTERS, BREAKS], 1, ops=150)),
     "large": (1, Mood(4000, more(brackets=4, open=2, stops=1, hostile=1), [LETTERS, LETTERS, BREAKS, PAIRED], 2)),
 }
 

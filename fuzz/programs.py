@@ -1,8 +1,10 @@
 """Programs that answer scripts: one that stands in a file, and one that the toolchain builds without proofs."""
 import re
+import resource
 import subprocess
 import tempfile
 from collections.abc import Iterable, Iterator
+from functools import partial
 from pathlib import Path
 from typing import NamedTuple
 
@@ -20,14 +22,15 @@ class Answer(NamedTuple):
 
 
 class Built:
-    """A program in a file. It is started once for each script."""
+    """A program in a file. It is started once for each script, and gets no more memory than so many bytes, if that is said."""
 
-    def __init__(self, path: Path, environment: dict[str, str] | None = None) -> None:
+    def __init__(self, path: Path, environment: dict[str, str] | None = None, most_bytes: int | None = None) -> None:
         self.command = [str(path.resolve()), "run"]
         self.environment = environment
+        self.bound = partial(resource.setrlimit, resource.RLIMIT_AS, (most_bytes, most_bytes)) if most_bytes else None
 
     def answer(self, script: bytes) -> Answer:
-        how = {"stdout": subprocess.PIPE, "timeout": SECONDS, "env": self.environment}
+        how = {"stdout": subprocess.PIPE, "timeout": SECONDS, "env": self.environment, "preexec_fn": self.bound}
         try:
             ran = subprocess.run(self.command, input=script, **how)
         except subprocess.TimeoutExpired as late:

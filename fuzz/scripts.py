@@ -9,8 +9,8 @@ import hostile
 from brackets import STANDARD
 from flat import UNJUDGED, Document, Flat
 from hiding import Hiding
-from moods import Mood, drawn_alphabet, drawn_hiding, drawn_mood, drawn_table, mark_texts, opened_brackets
-from texts import ENDINGS, units_of
+from moods import BREAKS, Mood, drawn_alphabet, drawn_hiding, drawn_mood, drawn_table, mark_texts, opened_brackets
+from texts import ENDINGS, cuts_pair, text_of, units_of
 
 ODD_NUMBERS = [0, 1, 2, 2**31, 2**32, 2**53 + 1, 2**63 - 1, 2**63, 2**64 - 1, 2**64]
 NO_TABLES = [
@@ -29,6 +29,15 @@ NO_CHANGES = [
     '{"cmd":"eol"}', '{"cmd":"eol","eol":"lf"}', '{"cmd":"eol","kind":"lf","n":1}', '{"cmd":"eol","kind":"crlf","text":""}',
 ]  # fmt: skip
 NO_KINDS = ["mixed", "cr", "LF", "lf ", "", "\n", None, True, 1, ["lf"], {"kind": "lf"}]
+NO_SEARCHES = [
+    '{"cmd":"find"}', '{"cmd":"find","text":null}', '{"cmd":"find","find":"a"}', '{"cmd":"find","text":"a","from":0}',
+    '{"cmd":"replace","find":"a"}', '{"cmd":"replace","text":"a"}', '{"cmd":"replace","find":"","text":"a"}',
+    '{"cmd":"replace","find":["a"],"text":"b"}', '{"cmd":"replace","find":"a","text":"b","force":true}',
+]  # fmt: skip
+BEHIND_A_REPLACE = [
+    ["undo"], ["undo", "undo"], ["undo", "edit"], ["undo", "redo", "undo"], ["undo", "undo", "edit"], ["undo", "replace"],
+    ["undo", "find"], ["version", "undo"], ["deliver", "send"], ["mirrored", "deliver", "send"], ["redo", "send", "undo"],
+]  # fmt: skip
 
 
 class Script(NamedTuple):
@@ -262,6 +271,74 @@ class Writer:
         self.place = start
         return f'{{"at":[{start},{end}],"text":{self.spelled(mark)}}}'
 
+    def find(self) -> str:
+        if self.chance(0.03):
+            return self.draw.choice(NO_SEARCHES)
+        return f'{{"cmd":"find","text":{self.spelled(text_of(self.sought()))}}}'
+
+    def replace(self) -> str:
+        """What comes behind it often shows that it is a step by itself."""
+        if self.chance(0.03):
+            return self.draw.choice(NO_SEARCHES)
+        sought = self.sought()
+        spans = self.document.text.occurrences(sought) if sought else []
+        if spans:
+            self.place = self.draw.choice(self.draw.choice(spans))
+        if not self.coming and self.chance(0.4):
+            self.coming = [*self.draw.choice(BEHIND_A_REPLACE)]
+        new = self.replacing(sought, len(spans))
+        return f'{{"cmd":"replace","find":{self.spelled(text_of(sought))},"text":{self.spelled(text_of(new))}}}'
+
+    def replacing(self, sought: str, count: int) -> str:
+        """A text in the place of so many, no longer than the sought one where the document would grow too long."""
+        kind = self.draw.random()
+        if kind < 0.2:
+            new = ""
+        elif kind < 0.35:
+            new = sought + units_of(self.text(1)) if self.chance(0.7) else sought * 2
+        else:
+            new = units_of(self.text(4))
+        room = self.mood.units + 20 - len(self.document.text.units)
+        if count * (len(new) - len(sought)) <= max(room, 0):
+            return new
+        return sought if self.chance(0.1) else self.cut(new, 0, len(sought))
+
+    def sought(self) -> str:
+        """Units that are looked for: often such as stand in the text, and often more than once; now and then none."""
+        kind = self.draw.random()
+        if kind < 0.015:
+            return ""
+        if kind < 0.3:
+            return units_of(self.draw.choice(self.alphabet)) * (self.draw.randint(1, 3) if self.chance(0.3) else 1)
+        if kind < 0.4:
+            return units_of(self.text(4)) or "a"
+        if kind < 0.48:
+            return self.draw.choice([*BREAKS, "\n\r", "\n\n", "\r\n\r\n"])
+        return self.piece_of_the_text() or "a"
+
+    def piece_of_the_text(self) -> str:
+        """Units that stand in the text: at any place, around an edge or a line's end, nearly all; now and then one is another."""
+        units = self.document.text.units
+        kind = self.draw.random()
+        if kind < 0.45:
+            start = self.draw.randint(0, len(units))
+        elif kind < 0.7:
+            start = self.place - self.few()
+        elif kind < 0.9:
+            start = self.draw.choice(self.document.text.ends) - self.few()
+        else:
+            start = self.few()
+        most = len(units) if kind >= 0.9 else 60 if self.chance(0.1) else 6
+        start = min(max(start, 0), len(units))
+        piece = self.cut(units, start, start + self.draw.randint(1, max(most, 1)))
+        if self.chance(0.08):
+            piece = self.cut(piece, 0, len(piece) - 1) + units_of(self.draw.choice(self.alphabet))
+        return piece
+
+    def cut(self, units: str, start: int, end: int) -> str:
+        """These units without halves of pairs, which no line can bring in."""
+        return units[start + cuts_pair(units, start) : end + cuts_pair(units, end)]
+
     def decorate(self) -> str:
         owner = self.draw.choice([1, 1, 1, 2, 2, 3, *ODD_NUMBERS[:-1]]) if self.chance(0.2) else self.draw.randint(1, 2)
         mine = [id for id, it in self.document.decorations.items() if it.owner == owner]
@@ -385,6 +462,8 @@ MAKERS: dict[str, Callable[[Writer], str]] = {
     "brackets": Writer.brackets,
     "read": Writer.read,
     "close": Writer.close,
+    "find": Writer.find,
+    "replace": Writer.replace,
     "deliver": Writer.deliver,
     "mirrored": Writer.mirrored,
     **{name: bare(name) for name in ("undo", "redo", "stop", "size", "version", "snapshot", "mirror", "send")},

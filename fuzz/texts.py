@@ -79,6 +79,17 @@ class Text:
     def is_place(self, offset: int) -> bool:
         return offset <= len(self.units) and not self.cuts(offset)
 
+    def occurrences(self, sought: str) -> list[tuple[int, int]]:
+        """The spans at which these units stand between two places, from left to right, each behind the one before."""
+        found, at = [], self.units.find(sought)
+        while at >= 0:
+            end = at + len(sought)
+            stands = self.is_place(at) and self.is_place(end)
+            if stands:
+                found.append((at, end))
+            at = self.units.find(sought, end if stands else at + 1)
+        return found
+
     def cuts(self, offset: int) -> bool:
         """Whether the offset stands inside a pair of surrogates, or inside the CR LF of a text that has these alone."""
         return cuts_pair(self.units, offset) or (self.kind == "crlf" and cuts_ending(self.units, offset))

@@ -123,6 +123,7 @@ class Header(Case):
         "tm_pair": textmodel.CPair,
         "tm_new_decoration": textmodel.CNewDecoration,
         "tm_decoration": textmodel.CDecoration,
+        "tm_found": textmodel.CFound,
         "tm_bracket": textmodel.CBracket,
         "tm_partner": textmodel.CPartner,
     }
@@ -167,7 +168,7 @@ class Closing(Case):
             lambda: document.position(0), lambda: document.offset(1, 1), lambda: document.value(0, 0),
             lambda: document.line(1), lambda: document.decorate(1), lambda: document.decoration(1),
             lambda: document.decorations(0, 0), lambda: document.brackets(1, 1), lambda: document.match(1, 1),
-            lambda: document.level(1, 1), document.snapshot, snapshot.read, lambda: document.stops(1),
+            lambda: document.level(1, 1), lambda: document.find("f"), lambda: document.replace_all("f", "g"), document.snapshot, snapshot.read, lambda: document.stops(1),
             lambda: document.answer(b""),
         ]  # fmt: skip
         for call in calls:
@@ -301,6 +302,24 @@ class Places(Case):
         self.assertEqual((document.stops(1), document.stops(2)), ([1, 3, 4], []))
         for n in (0, 3, *NO_NUMBERS):
             self.no_place(document.stops, n)
+
+    def test_find(self):
+        document = self.document("aaa" + SMILE)
+        self.assertEqual(document.find("aa"), [(0, 2)])
+        self.assertEqual(document.find("a"), [(0, 1), (1, 2), (2, 3)])
+        self.assertEqual(document.find(SMILE), [(3, 5)])
+        self.assertEqual(document.find("\ud83d"), [])
+        self.assertRaises(ValueError, document.find, "")
+
+    def test_replace_all(self):
+        document = self.document("aaa")
+        document.edit(3, 3, "b")
+        self.assertFalse(document.replace_all("z", "x"))
+        self.assertTrue(document.replace_all("a", SMILE))
+        self.assertEqual((str(document), document.version), (3 * SMILE + "b", 3))
+        self.assertTrue(document.undo())
+        self.assertEqual(str(document), "aaab")
+        self.assertRaises(ValueError, document.replace_all, "", "x")
 
     def test_units(self):
         self.assertEqual((units(""), units("ab"), units(SMILE), units("\ud800")), (0, 2, 2, 1))
@@ -630,6 +649,12 @@ class Caller:
 
     def decos(self, at, owner):
         return "".join(f" {it.id} {it.start} {it.end}" for it in self.document.decorations(*at, owner=owner))
+
+    def find(self, text):
+        return "".join(f" {start} {end}" for start, end in self.document.find(text))
+
+    def replace(self, sought, text):
+        return self.moved(self.document.replace_all(sought, text))
 
     def size(self):
         return f" {len(self.document)} {self.document.line_count}"

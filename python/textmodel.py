@@ -250,6 +250,10 @@ class CDecoration(ctypes.Structure):
         return Decoration(self.id, self.owner, self.start, self.end, Stick(self.stick), self.collapse)
 
 
+class CFound(ctypes.Structure):
+    _fields_ = [("start", U64), ("end", U64)]
+
+
 class CBracket(ctypes.Structure):
     _fields_ = [("line", U64), ("column", U64), ("units", U64), ("kind", U64), ("level", U64), ("state", ctypes.c_uint32)]
 
@@ -297,6 +301,8 @@ CALLS = {
     "tm_decorate": [U64, *TEXT, *TEXT, ADDRESS],
     "tm_deco": [U64, ADDRESS],
     "tm_decos": [U64, U64, U64, FLAG, *OUT],
+    "tm_find": [*TEXT, *OUT],
+    "tm_replace_all": [*TEXT, *TEXT],
     "tm_brackets": [U64, U64, *OUT],
     "tm_match": [U64, U64, ADDRESS],
     "tm_level": [U64, U64, ADDRESS],
@@ -387,6 +393,13 @@ def kind_number(eol: Optional[str]) -> int:
     if eol not in KINDS:
         raise ValueError(f"a kind of line ending is None, 'lf' or 'crlf', not {eol!r}")
     return KINDS.index(eol)
+
+
+def sought(text: str) -> bytes:
+    """The units of a text that is looked for; ValueError where it is empty."""
+    if not text:
+        raise ValueError("no text to look for")
+    return encoded(text)
 
 
 def array(of: Type[Any], items: Sequence[Any]) -> Any:
@@ -502,7 +515,7 @@ class Document:
         is_there = check(call(self._handle(), *words, ctypes.byref(found)), what, *words)
         return found.value if is_there else None
 
-    def _filled(self, call: Callable[..., int], of: Type[Any], what: str, *words: int) -> Sequence[Any]:
+    def _filled(self, call: Callable[..., int], of: Type[Any], what: str, *words: Union[int, bytes]) -> Sequence[Any]:
         """The items that the call hands out. Where there is no room, it tells how many there are, and is called again."""
         out, count = (of * ITEMS_AT_FIRST)(), U64()
         status = call(self._handle(), *words, out, len(out), ctypes.byref(count))
@@ -664,6 +677,26 @@ class Document:
         These are where the extended grapheme clusters of Unicode begin.
         """
         return list(self._filled(LIBRARY.tm_stops, U64, "line {}", number(n, "the line")))
+
+    # Search
+
+    def find(self, text: str) -> List[Tuple[int, int]]:
+        """Where the text stands, from left to right: the start and the end of each place, none overlapping the one before.
+
+        Unit stands for unit. ValueError where the text is empty.
+        """
+        data = sought(text)
+        found = self._filled(LIBRARY.tm_find, CFound, "a text of {1} units", data, len(data) // 2)
+        return [(it.start, it.end) for it in found]
+
+    def replace_all(self, text: str, other: str) -> bool:
+        """Puts the other text in each place that `find` finds, at once, as the next version and as a step of undo of its own.
+
+        False where there is none. ValueError where the text is empty; LimitError as `edit` has it.
+        """
+        data, new = sought(text), encoded(other)
+        status = LIBRARY.tm_replace_all(self._handle(), data, len(data) // 2, new, len(new) // 2)
+        return check(status, "a replace of {} units by {}", len(data) // 2, len(new) // 2)
 
     # Decorations
 

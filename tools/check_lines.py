@@ -270,6 +270,13 @@ def of_kind(kind: str) -> Check:
 number, text, flag = of_kind("number"), of_kind("text"), of_kind("flag")
 
 
+def sought(node: Node, name: str) -> None:
+    """A text that is looked for."""
+    text(node, name)
+    if not node.value:
+        raise Fault(node.at, f"{name} is empty, and a text of one unit or more is wanted")
+
+
 def several(count: int, wanted: str) -> Check:
     """An array of so many numbers."""
     def check(node: Node, name: str) -> None:
@@ -458,6 +465,8 @@ COMMANDS: dict[str, Fields] = {
     "read": fields(id=number, count=number),
     "close": fields(id=number),
     "stops": fields(n=number),
+    "find": fields(text=sought),
+    "replace": fields(find=sought, text=text),
     "mirror": fields(),
     "send": fields(),
     "deliver": fields(n=number),

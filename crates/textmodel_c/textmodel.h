@@ -79,6 +79,11 @@ typedef struct tm_decoration {
   bool collapse;
 } tm_decoration;
 
+typedef struct tm_found {
+  uint64_t start;
+  uint64_t end;
+} tm_found;
+
 /* `state` is 0 for an opening bracket that is closed later, 1 for one that closes it, 2 for one that none closes, 3 for
  * one that closes none. `level` is how many are open around it. */
 typedef struct tm_bracket {
@@ -184,6 +189,15 @@ uint32_t tm_line_utf8(tm_document *handle, uint64_t n, uint8_t *out, size_t out_
 /* The columns of a line at which a cursor may stop. RANGE, SHORT, MEMORY. */
 uint32_t tm_stops(tm_document *handle, uint64_t n, uint64_t *out, size_t out_len, uint64_t *count);
 
+/* ---- Search: a text of one unit or more, unit for unit, from left to right */
+
+/* The spans at which it stands, none overlapping the one before. RANGE where it has no unit, SHORT, MEMORY. */
+uint32_t tm_find(tm_document *handle, const uint16_t *sought, size_t sought_len, tm_found *out, size_t out_len, uint64_t *count);
+
+/* Puts another text in the place of each, as a step of undo of its own. NOTHING where it stands nowhere, RANGE where it has no
+ * unit, LIMIT, MEMORY. */
+uint32_t tm_replace_all(tm_document *handle, const uint16_t *sought, size_t sought_len, const uint16_t *with, size_t with_len);
+
 /* ---- Decorations */
 
 /* Takes decorations of an owner out and puts new ones in; `first` is the first new id. UNKNOWN, RANGE, LIMIT, MEMORY. */
@@ -245,6 +259,7 @@ static inline uint8_t *tm_bytes_out_(uint8_t *p) { static uint8_t none; return p
 static inline uint16_t *tm_units_out_(uint16_t *p) { static uint16_t none; return p ? p : &none; }
 static inline uint64_t *tm_numbers_out_(uint64_t *p) { static uint64_t none; return p ? p : &none; }
 static inline tm_decoration *tm_decorations_out_(tm_decoration *p) { static tm_decoration none; return p ? p : &none; }
+static inline tm_found *tm_found_out_(tm_found *p) { static tm_found none; return p ? p : &none; }
 static inline tm_bracket *tm_brackets_out_(tm_bracket *p) { static tm_bracket none; return p ? p : &none; }
 
 #define tm_open(handle, text, len, kind) (tm_open)((handle), tm_units_(text), (len), (kind))
@@ -259,6 +274,8 @@ static inline tm_bracket *tm_brackets_out_(tm_bracket *p) { static tm_bracket no
 #define tm_stops(handle, n, out, room, count) (tm_stops)((handle), (n), tm_numbers_out_(out), (room), (count))
 #define tm_decorate(handle, owner, remove, removed, add, added, first) (tm_decorate)((handle), (owner), tm_numbers_(remove), (removed), tm_news_(add), (added), (first))
 #define tm_decos(handle, start, end, owner, any, out, room, count) (tm_decos)((handle), (start), (end), (owner), (any), tm_decorations_out_(out), (room), (count))
+#define tm_find(handle, sought, len, out, room, count) (tm_find)((handle), tm_units_(sought), (len), tm_found_out_(out), (room), (count))
+#define tm_replace_all(handle, sought, len, with, with_len) (tm_replace_all)((handle), tm_units_(sought), (len), tm_units_(with), (with_len))
 #define tm_brackets(handle, from, to, out, room, count) (tm_brackets)((handle), (from), (to), tm_brackets_out_(out), (room), (count))
 #define tm_read(handle, id, out, room, count) (tm_read)((handle), (id), tm_units_out_(out), (room), (count))
 #define tm_answer(handle, line, line_len, len) (tm_answer)((handle), tm_bytes_(line), (line_len), (len))

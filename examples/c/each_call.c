@@ -150,6 +150,32 @@ static void marks(tm_document *d) {
   EQUAL(n, 1);
 }
 
+static void searches(tm_document *d) {
+  tm_found found[4];
+  uint64_t n, before, after, alternative;
+  STATUS(tm_open(d, u"abcabcab", 8, 0), TM_OK);
+  STATUS(tm_find(d, NULL, 0, found, 4, &n), TM_RANGE);
+  STATUS(tm_find(d, u"z", 1, NULL, 0, &n), TM_OK);
+  EQUAL(n, 0);
+  STATUS(tm_find(d, u"ab", 2, found, 2, &n), TM_SHORT);
+  EQUAL(n, 3);
+  STATUS(tm_find(d, u"ab", 2, found, 4, &n), TM_OK);
+  EQUAL(n, 3);
+  EQUAL(found[1].start, 3);
+  EQUAL(found[2].end, 8);
+  STATUS(tm_versions(d, &before, &alternative), TM_OK);
+  STATUS(tm_replace_all(d, NULL, 0, u"x", 1), TM_RANGE);
+  STATUS(tm_replace_all(d, u"z", 1, u"x", 1), TM_NOTHING);
+  STATUS(tm_replace_all(d, u"ab", 2, NULL, 0), TM_OK);
+  STATUS(tm_len(d, &n), TM_OK);
+  EQUAL(n, 2);
+  STATUS(tm_undo(d), TM_OK);
+  STATUS(tm_len(d, &n), TM_OK);
+  EQUAL(n, 8);
+  STATUS(tm_versions(d, &after, &alternative), TM_OK);
+  EQUAL(after, before + 2);
+}
+
 static void snapshots(tm_document *d) {
   uint16_t out[4];
   uint64_t n, id, stops[8];
@@ -190,10 +216,11 @@ int main(void) {
   marks(&d);
   snapshots(&d);
   script(&d);
+  searches(&d);
   STATUS(tm_make(&d), TM_OK);
   STATUS(tm_free(&d), TM_OK);
   STATUS(tm_free(&d), TM_EMPTY);
-  EQUAL(tm_version(), 200);
+  EQUAL(tm_version(), 300);
   puts(failed ? "failed" : "ok");
   return failed;
 }

@@ -104,6 +104,14 @@ static uint32_t line_utf8(tm_document *d) {
   return tm_line_utf8(d, 1, out, 256, &count);
 }
 
+static uint32_t found(tm_document *d) {
+  tm_found out[64];
+  uint64_t count;
+  return tm_find(d, u"b", 1, out, 64, &count);
+}
+
+static uint32_t all_replaced(tm_document *d) { return tm_replace_all(d, u"b", 1, u"(b]", 3); }
+
 static uint32_t snapshot(tm_document *d) {
   uint64_t id;
   return tm_snapshot(d, &id);
@@ -127,6 +135,7 @@ static uint32_t (*const calls[])(tm_document *) = {
     matched,      level,       snapshot,        long_text,    matched,   level,           undone,
     redone,       undone,      cursor_stops,    line_utf8,    answered,  other_endings,   all_decorations,
     all_brackets, opened_utf8, cursor_stops,    edited,       snapshot,  answered,        undone,
+    found,        all_replaced, undone,         all_replaced, level,     undone,
     opened_with,  level,       mirror,          answered,     sent,      delivered,
 };
 enum { CALLS = sizeof calls / sizeof *calls };

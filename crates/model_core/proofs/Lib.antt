@@ -9,3 +9,4 @@ pub mod Kept
 pub mod Shelving
 pub mod Untouched
 pub mod Preparing
+pub mod Searching

@@ -56,7 +56,7 @@ accepted_of_all text ops sorted batch r is told ok =
     subst (λ (a : Result (List Op) BatchError). Checks a (checked_batch text.kind text.units ops)) ok (told_of_all text ops sorted r is told)
 
 module _ (f : FlatState) (ops sorted : List Op) (rule : checked_batch f.kind f.units ops ≡ Ok sorted) where
-  edit_again : flat_edit f sorted ≡ flat_edit f ops
+  pub edit_again : flat_edit f sorted ≡ flat_edit f ops
   edit_again = rw (checked_again f.kind f.units ops sorted rule, rule) refl
 
   edit_accepted : f.version + 1 ≤ greatest_version → flat_edit f ops ≡ Ok (after_batch f sorted)
@@ -68,7 +68,7 @@ module _ (f : FlatState) (ops sorted : List Op) (rule : checked_batch f.kind f.u
   as_done = (accepted f.kind f.units (ops_in f.kind ops) sorted rule).in_order
 
 -- the batch that was accepted
-ruled : (f : FlatState) (ops : List Op) (answer : Result (List Op) BatchRefusal) (next : FlatState) → checked_batch f.kind f.units ops ≡ answer
+pub ruled : (f : FlatState) (ops : List Op) (answer : Result (List Op) BatchRefusal) (next : FlatState) → checked_batch f.kind f.units ops ≡ answer
     → edited_by f answer ≡ Ok next → checked_batch f.kind f.units ops ≡ Ok (ops_as_done f ops)
 ruled f ops (Err why) next is done = absurd cc
 ruled f ops (Ok sorted) next is done = is ∙ ap (λ (s : List Op). Ok s) (as_done f ops sorted is)

@@ -2,6 +2,7 @@ pub mod Errors
 pub mod State
 pub mod History
 pub mod Edited
+pub mod Replaced
 pub mod Ways
 pub mod Shelving
 pub mod Prepared

@@ -9,6 +9,7 @@ mod event;
 mod history;
 mod open;
 mod queries;
+mod search;
 mod snapshot;
 
 use crate::latest::Latest;

@@ -4,7 +4,7 @@ use Rattle.std.specs.Str.{is_utf8, chars}
 use Rattle.serde_json.proofs.OnLiterals.{serde_json_on_literals}
 use Rattle.hiding_rules.specs.Marks.{marks}
 use Rattle.unit_text.specs.declared.kind.Kind.TheVariants.{Mixed, Crlf}
-use Rattle.script_lines.specs.declared.command.Command.TheVariants.{Open, Edit, Eol, Line, Size}
+use Rattle.script_lines.specs.declared.command.Command.TheVariants.{Open, Edit, Eol, Line, Size, Replace}
 use Rattle.script_lines.specs.declared.op.Place.TheVariants.{At}
 use Rattle.script_lines.specs.Commands.{command_of}
 
@@ -29,6 +29,10 @@ an_opening_with_quotes = refl
 pub an_eol : command_of (codes "{\"cmd\":\"eol\",\"kind\":\"crlf\"}") ≡ Some (Eol Crlf)
 unfolding command_of is_utf8 chars serde_json_on_literals
 an_eol = refl
+
+pub a_replace : command_of (codes "{\"cmd\":\"replace\",\"find\":\"a\",\"text\":\"\"}") ≡ Some (Replace (codes "a") [])
+unfolding command_of is_utf8 chars serde_json_on_literals
+a_replace = refl
 
 pub a_line : command_of (codes "{\"cmd\":\"line\",\"n\":1}") ≡ Some (Line 1)
 unfolding command_of is_utf8 chars serde_json_on_literals

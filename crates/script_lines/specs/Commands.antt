@@ -7,6 +7,7 @@ use Rattle.script_lines.specs.Fields.{string_at}
 use Rattle.script_lines.specs.Rows.{Row, row, named_in, bare, of_number, of_two_numbers, of_span, of_position}
 use Rattle.script_lines.specs.EditCommands.{open_in, edit_in, eol_in}
 use Rattle.script_lines.specs.DecorationCommands.{decorate_in, decos_in}
+use Rattle.script_lines.specs.SearchCommands.{find_in, replace_in}
 use Rattle.script_lines.specs.declared.command.Command.{Command}
 use Rattle.script_lines.specs.declared.command.Command.TheVariants.{Undo, Redo, Stop, Size, Version, Line, Stops, Value, Offset, Position, Deco, Brackets, Match, Level, Snapshot, Read, Close, Mirror, Send, Deliver, Mirrored}
 
@@ -35,6 +36,8 @@ commands =
     ∷ row (codes "snapshot") (bare Snapshot)
     ∷ row (codes "read") (of_two_numbers Read (codes "id") (codes "count"))
     ∷ row (codes "close") (of_number Close (codes "id"))
+    ∷ row (codes "find") find_in
+    ∷ row (codes "replace") replace_in
     ∷ row (codes "mirror") (bare Mirror)
     ∷ row (codes "send") (bare Send)
     ∷ row (codes "deliver") (of_number Deliver (codes "n"))

@@ -10,7 +10,7 @@ use Rattle.script_lines.specs.Replies.{ok_reply, refusal_reply}
 use Rattle.script_lines.specs.Decorations.{new_deco_in}
 use Rattle.script_lines.specs.Commands.{command_in}
 use Rattle.script_lines.specs.declared.command.Command.{Command}
-use Rattle.script_lines.specs.declared.command.Command.TheVariants.{Open, Eol, Decorate, Decos, Match, Level, Read, Close, Stops}
+use Rattle.script_lines.specs.declared.command.Command.TheVariants.{Open, Eol, Decorate, Decos, Match, Level, Read, Close, Stops, Find, Replace}
 
 three_numbers : ok_reply (2 ∷ 3 ∷ 10 ∷ []) ≡ codes "ok 2 3 10\n"
 unfolding digits
@@ -262,3 +262,41 @@ stops_of_a_line = refl
 
 snapshot_of_a_number : command_in (with_number (codes "snapshot") (codes "id") 1) ≡ None
 snapshot_of_a_number = refl
+
+-- ---- find and replace
+
+-- `{"cmd":"find","text":TEXT}`
+abbrev find : List ℕ → Data
+find text = object (member (codes "cmd") (string (codes "find")) (member (codes "text") (string text) no_members))
+
+-- `{"cmd":CMD,"find":SOUGHT,"text":TEXT}`
+abbrev with_both : List ℕ → List ℕ → List ℕ → Data
+with_both cmd sought text = object (member (codes "cmd") (string cmd)
+    (member (codes "find") (string sought) (member (codes "text") (string text) no_members)))
+
+abbrev replace : List ℕ → List ℕ → Data
+replace sought text = with_both (codes "replace") sought text
+
+find_a_text : command_in (find (codes "ab")) ≡ Some (Find (codes "ab"))
+unfolding chars
+find_a_text = refl
+
+find_an_empty_text : command_in (find []) ≡ None
+unfolding chars
+find_an_empty_text = refl
+
+find_with_both_fields : command_in (with_both (codes "find") (codes "a") (codes "b")) ≡ None
+find_with_both_fields = refl
+
+replace_a_text : command_in (replace (codes "ab") (codes "c")) ≡ Some (Replace (codes "ab") (codes "c"))
+unfolding chars
+replace_a_text = refl
+
+-- what is found is then taken out
+replace_by_an_empty_text : command_in (replace (codes "ab") []) ≡ Some (Replace (codes "ab") [])
+unfolding chars
+replace_by_an_empty_text = refl
+
+replace_an_empty_text : command_in (replace [] (codes "c")) ≡ None
+unfolding chars
+replace_an_empty_text = refl

@@ -6,6 +6,7 @@ pub mod Marks
 pub mod Rows
 pub mod EditCommands
 pub mod DecorationCommands
+pub mod SearchCommands
 pub mod Commands
 pub mod Replies
 mod Examples

@@ -11,6 +11,7 @@ use crate::commands::command_named;
 use crate::fields::LineFault;
 use crate::lists::{Ids, NewDecos};
 use crate::op::LineOps;
+use crate::sought::Sought;
 use bracket_scan::BracketTable;
 use hiding_marks::Hiding;
 use serde_json::Value;
@@ -107,6 +108,15 @@ pub enum Command {
     /// Asks for the columns of the line of this number, counted from 1, at which a cursor may stop.
     Stops {
         n: u64,
+    },
+    /// Asks for the spans of the text at which this one stands.
+    Find {
+        sought: Sought,
+    },
+    /// Puts a text in the place of each of these spans.
+    Replace {
+        sought: Sought,
+        text: Units,
     },
     /// Begins a mirror at the text of now.
     Mirror,

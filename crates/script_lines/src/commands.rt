@@ -8,12 +8,14 @@ ghost use Rattle.script_lines.specs.Commands.{commands};
 
 mod decorations;
 mod edit;
+mod search;
 mod shapes;
 
 use crate::command::Command;
 use crate::fields::LineFault;
 use decorations::{decorate_in, decos_in};
 use edit::{edit_in, eol_in, open_in};
+use search::{find_in, replace_in};
 use serde_json::Value;
 use shapes::{bare, sole_number, sole_position, sole_span, two_numbers};
 use std::alloc::Global;
@@ -48,6 +50,8 @@ pub(crate) fn command_named(alloc: Global, name: &str, value: &Value) -> Result<
         "snapshot" => bare(value, Command::Snapshot),
         "read" => two_numbers(value, "id", "count").map(|(id, count)| Command::Read { id, count }),
         "close" => sole_number(value, "id").map(|id| Command::Close { id }),
+        "find" => find_in(alloc, value),
+        "replace" => replace_in(alloc, value),
         "mirror" => bare(value, Command::Mirror),
         "send" => bare(value, Command::Send),
         "deliver" => sole_number(value, "n").map(|n| Command::Deliver { n }),

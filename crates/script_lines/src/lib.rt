@@ -13,6 +13,7 @@ mod marks;
 mod op;
 mod reason;
 mod short;
+mod sought;
 
 pub use command::{Command, command_of};
 pub use fields::LineFault;
@@ -21,3 +22,4 @@ pub use long::{long_begin, long_end, long_mark, long_number, long_text};
 pub use op::{LineOp, LineOps, Place};
 pub use reason::Refusal;
 pub use short::{Short, refusal};
+pub use sought::Sought;

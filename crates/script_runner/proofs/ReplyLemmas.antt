@@ -1,5 +1,5 @@
 -- Each flat reply is one line, and none is `! memory`.
-use Rattle.std.proofs.Common.{◌≡◌, ℕ, zero, suc, ◌+◌, ◌-◌, ◌/◌, ◌%◌, ◌≤◌, ◌==◌, nat_lt, nat_le, Bool, true, false, cond, ltb, eqb, List, [], ◌∷◌, ◌++◌, length, unwrap_or, Option, Some, None, Result, Ok, Err, codes, refl, ap, ◌∙◌, arith}
+use Rattle.std.proofs.Common.{◌≡◌, ℕ, zero, suc, ◌+◌, ◌-◌, ◌/◌, ◌%◌, ◌≤◌, ◌==◌, nat_lt, nat_le, Bool, true, false, cond, ltb, eqb, List, [], ◌∷◌, ◌++◌, length, Option, Some, None, Result, Ok, Err, codes, refl, ap, ◌∙◌, arith}
 use Rattle.std.specs.List.{flat_map}
 use Rattle.std.specs.Fmt.{digits, digits_onto, digit_glyph}
 use Rattle.std.specs.Char.{digit_char}
@@ -18,6 +18,7 @@ use Rattle.document_rules.specs.Document.{FlatState, flat_open, flat_edit, flat_
 use Rattle.document_rules.specs.Brackets.{flat_brackets, flat_match, flat_level}
 use Rattle.document_rules.specs.Snapshots.{flat_snapshot, flat_peek_of, flat_close_of}
 use Rattle.document_rules.specs.Stops.{flat_stops}
+use Rattle.search_rules.specs.Replacing.{flat_find, flat_replace_all}
 use Rattle.script_lines.specs.declared.command.Command.{Command}
 use Rattle.script_lines.specs.declared.command.Command.TheVariants as command
 use Rattle.script_lines.specs.declared.reason.Refusal.TheVariants as refusal
@@ -27,7 +28,7 @@ use Rattle.text_rules.specs.declared.Op.{Op}
 use Rattle.text_rules.specs.Lines.{lines_of, line_at}
 use Rattle.mirror_rules.specs.Mirrors.{MirrorState, SentEvent}
 use Rattle.script_runner.specs.Session.{FlatSession}
-use Rattle.script_runner.specs.Step.{reason_of, memory_reply, ops_at, deco_numbers, changed, moved, decorated, edited_at, text_answer, offset_answer, position_answer, deco_answer, decos_answer, status_letter, entry_part, entries_reply, brackets_answer, match_answer, level_answer, snapshot_answer, read_answer, close_answer, stops_answer, opened, most_sent, send_answer, sent_at, followed, delivered, deliver_answer, mirrored_answer, scanner_for, step}
+use Rattle.script_runner.specs.Step.{reason_of, memory_reply, ops_at, deco_numbers, changed, moved, decorated, edited_at, text_answer, offset_answer, position_answer, deco_answer, decos_answer, status_letter, entry_part, entries_reply, brackets_answer, match_answer, level_answer, snapshot_answer, read_answer, close_answer, stops_answer, span_numbers, opened, most_sent, send_answer, sent_at, followed, delivered, deliver_answer, mirrored_answer, scanner_for, step}
 use Rattle.script_runner.specs.Script.{after_byte, IsInOneLine, IsOneLine, commanded, is_too_long, turn}
 use Rattle.script_runner.proofs.CutLemmas.{cut-append_line}
 
@@ -281,6 +282,8 @@ flat_step s command.Snapshot = flat_snapshot_answer s.document (flat_snapshot s.
 flat_step s (command.Read id count) = flat_read_answer s.document id (flat_peek_of s.document id count)
 flat_step s (command.Close id) = flat_close_answer s.document (flat_close_of s.document id)
 flat_step s (command.Stops n) = flat_stops_answer (flat_stops s.document n)
+flat_step s (command.Find sought) = flat_numbers (span_numbers (flat_find s.document sought))
+flat_step s (command.Replace sought text) = flat_moved s.document (flat_replace_all s.document sought text)
 flat_step s command.Mirror = flat_numbers (s.document.version ∷ [])
 flat_step s command.Send = flat_send s
 flat_step s (command.Deliver n) = flat_deliver s s.mirror (sent_at s.sent n)

@@ -18,6 +18,7 @@ use Rattle.undo_rules.specs.Stack.{Step}
 use Rattle.document_rules.specs.Refusals.{FlatRefusal, limit}
 use Rattle.document_rules.specs.Document.{FlatState, FlatChange, greatest_version, empty_document, new_document, unless_too_long, flat_open, after_batch, edited_by, is_same_kind, after_recast, flat_eol, batches_back, undone_step, batches_on, redone_step, flat_undo, flat_redo, flat_stop, with_decorations}
 use Rattle.document_rules.specs.Snapshots.{with_shelf}
+use Rattle.search_rules.specs.Replacing.{flat_find, replacing, closed_after, edited_alone, flat_replace_all}
 use Rattle.mirror_rules.specs.Mirrors.{MirrorState}
 use Rattle.script_runner.specs.declared.outcome.Reply.{Reply}
 use Rattle.script_runner.specs.declared.outcome.Refused.{Refused}
@@ -64,6 +65,22 @@ pub goes_eol : (f : FlatState) (kind : Kind) → Goes f (moved f (flat_eol f kin
 goes_eol f kind =
     moved_if f (after_recast f kind) (is_same_kind kind f.kind)
     (nat_lt most_units (length (normalized kind f.units)) || nat_le greatest_version f.version) (goes _ refl refl)
+
+alone_unless : (f new : FlatState) (is_refused : Bool) → Goes f (flat_stop new)
+    → Goes f (moved f (closed_after (cond is_refused (Err limit) (Ok new)))).1
+alone_unless f new true go = at_rest f
+alone_unless f new false go = go
+
+alone_checked : (f : FlatState) (rule : Result (List Op) BatchRefusal) → Goes f (moved f (closed_after (edited_by (flat_stop f) rule))).1
+alone_checked f (Err why) = at_rest f
+alone_checked f (Ok ops) = alone_unless f (after_batch (flat_stop f) ops) (nat_le greatest_version f.version) (goes (ops ∷ []) refl refl)
+
+goes_alone : (f : FlatState) (ops : List Op) → Goes f (moved f (edited_alone f ops)).1
+goes_alone f [] = at_rest f
+goes_alone f (op ∷ ops) = alone_checked f (checked_batch f.kind f.units (op ∷ ops))
+
+pub goes_replaced : (f : FlatState) (sought text : List ℕ) → Goes f (moved f (flat_replace_all f sought text)).1
+goes_replaced f sought text = goes_alone f (replacing (flat_find f sought) text)
 
 goes_undone : (f : FlatState) (steps : List (Step FlatChange)) → Goes f (moved f (undone_step f steps)).1
 goes_undone f [] = at_rest f

@@ -4,7 +4,7 @@ use Rattle.unit_text.specs.declared.kind.Kind.TheVariants.{Mixed, Lf, Crlf}
 use Rattle.bracket_rules.specs.declared.Status.TheVariants.{PairedClosing}
 use Rattle.document_rules.specs.Document.{new_document}
 use Rattle.hiding_rules.specs.Hidden.{standard_scanner}
-use Rattle.script_lines.specs.declared.command.Command.TheVariants.{Open, Edit, Eol, Undo, Version, Size, Line, Value, Offset, Snapshot, Read, Close, Stops, Mirror, Send, Deliver, Mirrored}
+use Rattle.script_lines.specs.declared.command.Command.TheVariants.{Open, Edit, Eol, Undo, Version, Size, Line, Offset, Snapshot, Read, Close, Stops, Mirror, Send, Deliver, Mirrored}
 use Rattle.script_lines.specs.declared.command.Command.TheVariants as command
 use Rattle.script_lines.specs.declared.op.LineOp.{LineOp}
 use Rattle.script_lines.specs.declared.op.Place.TheVariants.{At, InRange}
@@ -12,7 +12,7 @@ use Rattle.std.specs.Fmt.{digits}
 use Rattle.std.specs.Char.Utf16.{utf16_chars}
 use lib.Utf8.{encode}
 use Rattle.script_runner.specs.Session.{FlatSession, session_of, new_session}
-use Rattle.script_runner.specs.Step.{brackets_answer, match_answer, level_answer, step}
+use Rattle.script_runner.specs.Step.{brackets_answer, match_answer, level_answer, spans_reply, step}
 use Rattle.script_runner.specs.Script.{all_lines, whole_lines, has_reply}
 
 -- a session with a new document of this text, whose lines end as they came
@@ -105,6 +105,15 @@ a_partner_is_told = refl
 a_level_is_told : level_answer (Ok 2) ≡ codes "ok 2\n"
 unfolding digits
 a_level_is_told = refl
+
+-- where a text stands, whatever it is
+two_spans_are_told :
+    spans_reply (record { start = 0; end = 2 } ∷ record { start = 9; end = 11 } ∷ []) ≡ codes "ok 0 2 9 11\n"
+unfolding digits
+two_spans_are_told = refl
+
+no_spans_are_told : spans_reply [] ≡ codes "ok\n"
+no_spans_are_told = refl
 
 abbrev hi : FlatSession
 hi = text (codes "hi")

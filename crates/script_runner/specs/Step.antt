@@ -9,8 +9,9 @@ use Rattle.document_rules.specs.Refusals.{FlatRefusal, unknown, range, overlap, 
 use Rattle.document_rules.specs.Document.{FlatState, flat_open, flat_edit, flat_eol, flat_undo, flat_redo, flat_stop, flat_decorate, flat_deco, flat_decos, flat_line, flat_value, flat_position, flat_offset, flat_line_count, content_of}
 use Rattle.document_rules.specs.Snapshots.{flat_snapshot, flat_peek_of, flat_skipped, flat_close_of}
 use Rattle.document_rules.specs.Stops.{flat_stops}
+use Rattle.search_rules.specs.Replacing.{flat_find, flat_replace_all}
 use Rattle.script_lines.specs.declared.command.Command.{Command}
-use Rattle.script_lines.specs.declared.command.Command.TheVariants.{Open, Edit, Eol, Decorate, Undo, Redo, Stop, Size, Version, Line, Value, Offset, Decos, Brackets, Match, Level, Snapshot, Read, Close, Stops, Mirror, Send, Deliver, Mirrored}
+use Rattle.script_lines.specs.declared.command.Command.TheVariants.{Open, Edit, Eol, Decorate, Undo, Redo, Stop, Size, Version, Line, Value, Offset, Decos, Brackets, Match, Level, Snapshot, Read, Close, Stops, Find, Replace, Mirror, Send, Deliver, Mirrored}
 use Rattle.script_lines.specs.declared.command.Command.TheVariants as command
 use Rattle.script_lines.specs.declared.op.LineOp.{LineOp}
 use Rattle.script_lines.specs.declared.op.Place.{Place}
@@ -163,6 +164,16 @@ abbrev pub edited_at : FlatState → Option (List Op) → List ℕ × FlatState
 edited_at f None = (refusal_reply refusal.Range, f)
 edited_at f (Some ops) = changed f (flat_edit f ops)
 
+-- ---- what is found
+
+-- START and END of each
+abbrev pub span_numbers : List Span → List ℕ
+span_numbers spans = flat_map (λ span. span.start ∷ span.end ∷ []) spans
+
+-- `ok` and for each span ` START END`
+abbrev pub spans_reply : List Span → List ℕ
+spans_reply spans = ok_reply (span_numbers spans)
+
 -- ---- a mirror and its events
 
 -- an answer on the document leaves mirror and events
@@ -248,6 +259,8 @@ step s Snapshot = within s (snapshot_answer s.document (flat_snapshot s.document
 step s (Read id count) = within s (read_answer s.document id (flat_peek_of s.document id count))
 step s (Close id) = within s (close_answer s.document (flat_close_of s.document id))
 step s (Stops n) = (stops_answer (flat_stops s.document n), s)
+step s (Find sought) = (spans_reply (flat_find s.document sought), s)
+step s (Replace sought text) = within s (moved s.document (flat_replace_all s.document sought text))
 step s Mirror = mirror_answer s
 step s Send = send_answer s
 step s (Deliver n) = deliver_answer s s.mirror (sent_at s.sent n)

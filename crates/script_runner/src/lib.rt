@@ -10,6 +10,7 @@ mod outcome;
 mod playing;
 mod reply;
 mod running;
+mod search_replies;
 mod serving;
 mod session;
 mod snapshot_replies;

@@ -19,6 +19,7 @@ use crate::line::PartialLine;
 use crate::mirror_replies::{deliver_reply, mirror_reply, mirrored_reply, send_reply};
 use crate::ops::ops_at;
 use crate::outcome::{Outcome, Refused, Reply};
+use crate::search_replies::{find_reply, replace_reply};
 use crate::session::Session;
 use crate::snapshot_replies::{close_reply, read_reply, snapshot_reply, stops_reply};
 use model_core::{BracketTable, Hiding, Model};
@@ -99,6 +100,10 @@ fn carry_out(session: &mut Session, command: Command) -> Outcome
         Command::Read { id, count } => read_reply(alloc, model, id, count),
         Command::Close { id } => close_reply(model, id),
         Command::Stops { n } => stops_reply(alloc, model, n),
+        Command::Find { sought } => find_reply(alloc, model, sought.as_slice()),
+        Command::Replace { sought, text } => {
+            replace_reply(model, sought.as_slice(), text.as_slice())
+        }
         Command::Mirror => mirror_reply(session),
         Command::Send => send_reply(session),
         Command::Deliver { n } => deliver_reply(session, n),
@@ -202,7 +207,7 @@ fn change_reply(model: &Model) -> Reply
 }
 
 /// `ok none` where there was nothing to do.
-fn move_reply(is_moved: bool, model: &Model) -> Reply
+pub(crate) fn move_reply(is_moved: bool, model: &Model) -> Reply
     ensures { bytes_of result ≡ if is_moved then change_reply model.now.document else none_reply }
 {
     if is_moved {

@@ -1,7 +1,9 @@
 -- A replace of all that is found: one batch, which only a limit refuses, and which one undo takes back.
-use Rattle.std.proofs.Common.{◌≡◌, ◌↔◌, ◌⊎◌, ℕ, ◌+◌, ◌-◌, ◌<◌, ◌≤◌, Bool, true, false, not, if◌then◌else◌, nat_lt, nat_le, List, [], ◌∷◌, ◌++◌, length, map, take, drop, Option, Some, None, Result, Ok, Err, refl, ap, sym, subst, ◌∙◌, inl, inr, arith}
+use Rattle.std.proofs.Common.{◌≡◌, ◌↔◌, ◌⊎◌, ℕ, ◌+◌, ◌-◌, ◌*◌, ◌<◌, ◌≤◌, Bool, true, false, not, if◌then◌else◌, nat_lt, nat_le, List, [], ◌∷◌, ◌++◌, length, map, take, drop, Option, Some, None, Result, Ok, Err, refl, ap, sym, subst, ◌∙◌, inl, inr, arith}
 use Rattle.std.specs.List.{All}
-use Rattle.std.proofs.lemmas.Bool.{le-ltb, and_from, or_from}
+use Rattle.std.proofs.lemmas.Bool.{le-ltb, lt-ltb, and_from, or_from}
+use Rattle.std.proofs.Math.Nat.{suc-mul}
+use Rattle.std.proofs.lemmas.List.{length-take, length-drop, length-append}
 use Rattle.std.proofs.lemmas.List.Elements.{All-nil, All-cons, All-head, All-tail}
 use Rattle.text_lengths.specs.declared.Span.{Span}
 use Rattle.unit_text.specs.declared.kind.Kind.{Kind}
@@ -214,6 +216,61 @@ replaced_taken_back f g sought text some done =
     subst (TakesBack f) (sym (replace_makes f g sought text some done))
     (back_again f (replacing (flat_find f sought) (normalized f.kind text)))
 
+-- ---- how long the new text is
+
+-- from a place on: what is found is no more than what is there
+found_within : (kind : Kind) (at : ℕ) (x sought : List ℕ) (spans : List Span) → at ≤ length x → AreApart at spans → All (IsOccurrence kind x sought) spans
+    → at + length spans * length sought ≤ length x
+found_within kind at x sought [] within apart each = omega (arith, within)
+found_within kind at x sought (span ∷ spans) within apart each =
+    let here = All-head (IsOccurrence kind x sought) span spans each in
+    let end : span.end ≡ span.start + length sought = ap (λ (s : Span). s.end) here.0 in
+    let rest = found_within kind span.end x sought spans (span_within kind x sought span here) apart.2 (All-tail (IsOccurrence kind x sought) span spans each) in
+    let one : length (span ∷ spans) * length sought ≡ length spans * length sought + length sought = suc-mul (length spans) (length sought) in
+    omega (arith, end, rest, one, apart.0)
+
+grown_from : (kind : Kind) (at : ℕ) (x sought text : List ℕ) (spans : List Span) → at ≤ length x → AreApart at spans → All (IsOccurrence kind x sought) spans
+    → length (replaced_from at x spans text) + length spans * length sought ≡ (length x - at) + length spans * length text
+grown_from kind at x sought text [] within apart each = omega (arith, length-drop at x)
+grown_from kind at x sought text (span ∷ spans) within apart each =
+    let here = All-head (IsOccurrence kind x sought) span spans each in
+    let end : span.end ≡ span.start + length sought = ap (λ (s : Span). s.end) here.0 in
+    let later = span_within kind x sought span here in
+    let rest = grown_from kind span.end x sought text spans later apart.2 (All-tail (IsOccurrence kind x sought) span spans each) in
+    let front : length (take (span.start - at) (drop at x)) ≡ span.start - at =
+    length-take (span.start - at) (drop at x) ∙ omega (arith, length-drop at x, later, end, apart.0) in
+    let first : List ℕ = take (span.start - at) (drop at x) in
+    let last : List ℕ = replaced_from span.end x spans text in
+    let parts : length ((first ++ text) ++ last) ≡ (span.start - at) + (length text + length last) =
+    length-append (first ++ text) last ∙ omega (arith, front, length-append first text) in
+    let whole : length (replaced_from at x (span ∷ spans) text) ≡ length ((first ++ text) ++ last) = refl in
+    let one : length (span ∷ spans) * length sought ≡ length spans * length sought + length sought = suc-mul (length spans) (length sought) in
+    let other : length (span ∷ spans) * length text ≡ length spans * length text + length text = suc-mul (length spans) (length text) in
+    omega (arith, whole, parts, rest, one, other, end, later, apart.0)
+
+-- all that is found lies in the text
+pub found_fits : (f : FlatState) (sought : List ℕ) → 0 < length sought → length (flat_find f sought) * length sought ≤ length f.units
+found_fits f sought some =
+    let found = occurrences_are f.kind f.units sought some in
+    omega (arith, found_within f.kind 0 f.units sought (flat_find f sought) (omega arith) found.apart found.each)
+
+-- each place loses the sought units and gets the new ones
+pub replaced-length : (f : FlatState) (sought text : List ℕ) → 0 < length sought
+    → length (replaced f.kind f.units (flat_find f sought) text) + length (flat_find f sought) * length sought
+    ≡ length f.units + length (flat_find f sought) * length (normalized f.kind text)
+replaced-length f sought text some =
+    let found = occurrences_are f.kind f.units sought some in
+    omega (arith, grown_from f.kind 0 f.units sought (normalized f.kind text) (flat_find f sought) (omega arith) found.apart found.each)
+
+-- a text that would be too long is refused
+pub replace_too_long : (f : FlatState) (sought text : List ℕ) → 0 < length sought → length f.units ≤ most_units
+    → most_units < length (replaced f.kind f.units (flat_find f sought) text) → flat_replace_all f sought text ≡ Err limit
+replace_too_long f sought text some fits long =
+    elim (replace_cases f sought text some) [
+      | inl none ↦ absurd (omega (arith, fits, long, ap (λ (l : List Span). length (replaced_from 0 f.units l (normalized f.kind text))) none.0))
+      | inr is ↦ is ∙ ap (λ b. unless_limit b (nat_le greatest_version f.version) (after_replace f sought text)) (lt-ltb _ _ long)
+    ]
+
 -- ---- a replace is an edit between two closings
 
 pub nothing_as_edit : (f : FlatState) (sought text : List ℕ) → replacing (flat_find f sought) text ≡ [] → flat_replace_all f sought text ≡ Ok None
@@ -242,24 +299,6 @@ pub refused_as_edit : (f : FlatState) (sought text : List ℕ) (why : FlatRefusa
 refused_as_edit f sought text why some refusal =
     let ops : List Op = replacing (flat_find f sought) text in
     alone_with_ops f ops some ∙ ap closed_after (refused_by f (checked_batch f.kind f.units ops) why refusal)
-
-accepted_by : (too_long last : Bool) (f g : FlatState) (ops : List Op) → nat_le greatest_version f.version ≡ last
-    → edited_by f (if too_long then Err refused.limit else Ok ops) ≡ Ok g
-    → edited_by (flat_stop f) (if too_long then Err refused.limit else Ok ops) ≡ Ok (after_batch (flat_stop f) ops)
-accepted_by true last f g ops is done = absurd cc
-accepted_by false true f g ops is done = absurd (cc (rw is at done))
-accepted_by false false f g ops is done = rw is refl
-
--- and makes what the edit makes, where the step of undo is closed before it
-pub accepted_as_edit : (f g : FlatState) (sought text : List ℕ) → 0 < length sought
-    → flat_edit f (replacing (flat_find f sought) text) ≡ Ok g
-    → flat_edit (flat_stop f) (replacing (flat_find f sought) text)
-    ≡ Ok (after_batch (flat_stop f) (replacing (flat_find f sought) (normalized f.kind text)))
-accepted_as_edit f g sought text some done =
-    let rule = checked_replacing f.kind f.units sought text some in
-    ap (edited_by (flat_stop f)) rule
-    ∙ accepted_by (too_long f sought text) (nat_le greatest_version f.version) f g
-    (replacing (flat_find f sought) (normalized f.kind text)) refl (sym (ap (edited_by f) rule) ∙ done)
 
 -- ---- lone surrogates
 

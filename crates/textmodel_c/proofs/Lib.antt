@@ -2,3 +2,4 @@ mod Boxed
 mod Handles
 pub mod JoinedTexts
 pub mod Refusals
+pub mod Searches

@@ -20,11 +20,13 @@ use Rattle.document_rules.specs.Refusals.{FlatRefusal, range}
 use Rattle.document_rules.specs.Document.{FlatState, flat_open, flat_edit, flat_eol, flat_offset, flat_decos, flat_line}
 use Rattle.document_rules.specs.Brackets.{flat_brackets, flat_match}
 use Rattle.document_rules.specs.Columns.{flat_column_in, flat_column_of}
+use Rattle.search_rules.specs.Replacing.{flat_find, flat_replace_all}
 use Rattle.textmodel_c.specs.declared.edits.BatchOp.{BatchOp}
 use Rattle.textmodel_c.specs.declared.opening.PairUnits.{PairUnits}
 use Rattle.textmodel_c.specs.declared.text.Place.{Place}
 use Rattle.textmodel_c.specs.declared.marks.NewDecoration.{NewDecoration}
 use Rattle.textmodel_c.specs.declared.marks.Decoration.{Decoration}
+use Rattle.textmodel_c.specs.declared.search.Found.{Found}
 use Rattle.textmodel_c.specs.declared.brackets.Bracket.{Bracket}
 use Rattle.textmodel_c.specs.declared.brackets.Partner.{Partner}
 
@@ -175,6 +177,20 @@ owner_of owner false = Some owner
 
 abbrev pub flat_decoration_list : FlatState → Span → Option ℕ → Result (List Decoration) FlatRefusal
 flat_decoration_list f span owner = told_as (map decoration_of) (flat_decos f span owner)
+
+-- ---- search
+
+abbrev pub found_of : Span → Found
+found_of span = record { start = span.start; end = span.end }
+
+-- a text of no unit is not looked for
+abbrev pub flat_find_list : FlatState → List ℕ → Result (List Found) FlatRefusal
+flat_find_list f [] = Err range
+flat_find_list f (u ∷ units) = Ok (map found_of (flat_find f (u ∷ units)))
+
+abbrev pub flat_replace_some : FlatState → List ℕ → List ℕ → Result (Option FlatState) FlatRefusal
+flat_replace_some f [] text = Err range
+flat_replace_some f (u ∷ units) text = flat_replace_all f (u ∷ units) text
 
 -- ---- brackets
 

@@ -15,9 +15,9 @@ use std::alloc::Global;
 /// The version of this library: ten thousand times the major number, a hundred times the minor one, and the patch.
 #[unsafe(no_mangle)]
 pub extern "C" fn tm_version() -> u32
-    ensures { result ≡ 200 }
+    ensures { result ≡ 300 }
 {
-    200
+    300
 }
 
 // Answers the line, and keeps what came of it; how many bytes are written for it.

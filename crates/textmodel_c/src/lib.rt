@@ -12,6 +12,7 @@ mod lists;
 mod marks;
 mod opening;
 mod readings;
+mod search;
 mod status;
 mod text;
 

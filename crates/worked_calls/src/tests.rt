@@ -12,6 +12,7 @@ mod numbers;
 mod parts;
 mod prepared;
 mod reads;
+mod searched;
 mod settled;
 mod states;
 mod texts;

@@ -24,7 +24,9 @@ pub const EVERY_COMMAND: &str = r#"
 {"cmd":"offset","line":3,"col":1} => ok 7
 {"cmd":"position","offset":5} => ok 2 1
 {"cmd":"stops","n":1} => ok 1 2 3 4
+{"cmd":"find","text":"a"} => ok 2 3
 {"cmd":"read","id":1,"count":4} => ok "(a)\r"
 {"cmd":"close","id":1} => ok
-{"cmd":"eol","kind":"crlf"} => ok 5 10 3
+{"cmd":"replace","find":"x","text":"yy"} => ok 5 9 3
+{"cmd":"eol","kind":"crlf"} => ok 6 11 3
 "#;

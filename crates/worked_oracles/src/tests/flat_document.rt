@@ -1,4 +1,9 @@
-//! A flat document: one list of units that each edit copies, and that each question about brackets parses whole.
+//! A flat document: one list of units that each edit copies, that each search goes through, and that each question about
+//! brackets parses whole.
+
+ghost use Rattle.std.specs.Prelude.{◌≡◌, ◌<◌, false, length};
+ghost use Rattle.text_rules.specs.Edits.{is_bad_span};
+
 use super::bracket_replies::{push_brackets, push_level, push_partner};
 use super::flat_lines::{
     CARRIAGE_RETURN, LINE_FEED, line_content, line_count, line_starts, with_breaks,
@@ -89,6 +94,9 @@ impl OneList {
                 self.show_change(out)
             }
             Ok(Command::Edit { ops }) => self.edit(ops, out),
+            Ok(Command::Replace { sought, text }) => {
+                self.replace_all(sought.as_slice(), text.as_slice(), out)
+            }
             Ok(Command::Eol { kind }) => self.change_kind(kind, out),
             Ok(Command::Undo) => self.step(true, out),
             Ok(Command::Redo) => self.step(false, out),
@@ -103,6 +111,7 @@ impl OneList {
             Command::Value { at } => self.value(at, out),
             Command::Position { offset } => self.position(offset, out),
             Command::Offset { p } => self.offset(p, out),
+            Command::Find { sought } => self.find(sought.as_slice(), out),
             Command::Size => self.numbers(&[self.len(), self.line_count()], out),
             Command::Brackets { from, to } => self.brackets(from, to, out),
             Command::Match { p } => self.partner(p, out),
@@ -118,7 +127,7 @@ impl OneList {
             let Place::At(span) = op.place else {
                 return self.refuse(Refusal::Syntax, out);
             };
-            if is_bad_span(&self.text, span) || self.cuts_break(span) {
+            if self.is_bad(span) {
                 return self.refuse(Refusal::Range, out);
             }
             let new = of_kind(self.alloc, op.text.as_slice(), self.kind)?;
@@ -136,12 +145,43 @@ impl OneList {
         self.after_change(out)
     }
 
+    /// Puts the new text in the place of each span at which the sought one stands. That is a step of its own.
+    fn replace_all(
+        &mut self,
+        sought: &[u16],
+        new: &[u16],
+        out: &mut Vec<u8>,
+    ) -> Result<(), AllocError>
+        requires { 0 < length sought.now }
+    {
+        let spans = self.spans_of(sought)?;
+        if spans.is_empty() {
+            return out.extend_from_slice(Short::none().as_slice());
+        }
+        let new = of_kind(self.alloc, new, self.kind)?;
+        let mut text = Units::copy_of(self.alloc, self.text.as_slice())?;
+        for span in spans.iter().rev() {
+            text = edited(self.alloc, text.as_slice(), *span, new.as_slice())?;
+        }
+        self.go_on_alone(text, self.kind, out)
+    }
+
     /// Gives each line the ending of the kind. That is a step of its own.
     fn change_kind(&mut self, kind: Kind, out: &mut Vec<u8>) -> Result<(), AllocError> {
         if kind == self.kind {
             return out.extend_from_slice(Short::none().as_slice());
         }
         let text = of_kind(self.alloc, self.text.as_slice(), kind)?;
+        self.go_on_alone(text, kind, out)
+    }
+
+    /// Goes on to the text, whose line endings are of the kind, by a step that no edit joins.
+    fn go_on_alone(
+        &mut self,
+        text: Units,
+        kind: Kind,
+        out: &mut Vec<u8>,
+    ) -> Result<(), AllocError> {
         self.other = Some(Other {
             text: replace(&mut self.text, text),
             kind: replace(&mut self.kind, kind),
@@ -196,7 +236,7 @@ impl OneList {
     }
 
     fn value(&mut self, span: Span, out: &mut Vec<u8>) -> Result<(), AllocError> {
-        if is_bad_span(&self.text, span) || self.cuts_break(span) {
+        if self.is_bad(span) {
             return self.refuse(Refusal::Range, out);
         }
         let units = &self.text.as_slice()[span.start as usize..span.end as usize];
@@ -228,9 +268,41 @@ impl OneList {
         }
     }
 
-    /// Whether one of the two places stands inside a break.
-    fn cuts_break(&self, span: Span) -> bool {
-        self.is_in_break(span.start) || self.is_in_break(span.end)
+    fn find(&mut self, sought: &[u16], out: &mut Vec<u8>) -> Result<(), AllocError>
+        requires { 0 < length sought.now }
+    {
+        let spans = self.spans_of(sought)?;
+        long_begin(out)?;
+        for span in spans.iter() {
+            long_number(span.start, out)?;
+            long_number(span.end, out)?;
+        }
+        long_end(out)
+    }
+
+    /// The spans at which the units stand, from left to right. Each begins where the one before it ends, or later.
+    fn spans_of(&self, sought: &[u16]) -> Result<Vec<Span>, AllocError>
+        requires { 0 < length sought.now }
+    {
+        let mut spans = Vec::new(self.alloc);
+        let mut free = 0;
+        for (at, units) in self.text.as_slice().windows(sought.len()).enumerate() {
+            let start = at as u64;
+            let end = start.saturating_add(sought.len() as u64);
+            let span = Span { start, end };
+            if free <= start && units == sought && !self.is_bad(span) {
+                spans.push(span)?;
+                free = end;
+            }
+        }
+        Ok(spans)
+    }
+
+    /// Whether the span is none of the text.
+    fn is_bad(&self, span: Span) -> bool
+        ensures { result ≡ false → is_bad_span Kind.Mixed self.now.text span ≡ false }
+    {
+        is_bad_span(&self.text, span) || self.is_in_break(span.start) || self.is_in_break(span.end)
     }
 
     /// Whether the place stands inside a break of a text of CR LF, where each LF ends one.

@@ -17,7 +17,7 @@ struct Kind {
     members: &'static str,
     /// How many places there are, from the start of the text on, at which edits begin.
     places: u64,
-    /// What edits put in.
+    /// What edits put in. One of these, or two, one behind the other, are sought.
     texts: [&'static str; 8],
     /// How many scripts there are, and how many rounds each has.
     scripts: u64,
@@ -46,6 +46,16 @@ const KINDS: &[Kind] = &[
         places: ALL,
         texts: ["a", "\\n", "\\r", "\\r\\n", "", EMOJI, "(\\nc", "\\n\\r)"],
         scripts: 2,
+        rounds: 60,
+    },
+    // Of so few letters that what is sought often stands at places that overlap, and over edits.
+    Kind {
+        name: "few letters",
+        parts: &[("aba", 40)],
+        members: "",
+        places: ALL,
+        texts: ["a", "b", "ab", "ba", "aa", EMOJI, "", ""],
+        scripts: 4,
         rounds: 60,
     },
     Kind {
@@ -159,20 +169,21 @@ impl Growing {
         self.put(line.as_str())
     }
 
-    /// An edit, or now and then another kind of line ending, then questions; and now and then back to the text before the
-    /// step and on again.
+    /// An edit, or now and then a replace of all that is found or another kind of line ending, then questions; and now and
+    /// then back to the text before the step and on again.
     fn go_on(&mut self, kind: &Kind, round: u64) -> Result<(), AllocError> {
         match round % 15 {
+            2 | 12 | 14 => self.replace(kind)?,
             4 | 7 => self.put("{\"cmd\":\"eol\",\"kind\":\"crlf\"}\n")?,
             9 => self.put("{\"cmd\":\"eol\",\"kind\":\"lf\"}\n")?,
             _ => self.edit(kind)?,
         }
-        self.ask()?;
+        self.ask(kind)?;
         if round % 5 == 4 {
             self.put("{\"cmd\":\"undo\"}\n")?;
-            self.ask()?;
+            self.ask(kind)?;
             self.put("{\"cmd\":\"redo\"}\n")?;
-            self.ask()?;
+            self.ask(kind)?;
         }
         Ok(())
     }
@@ -182,7 +193,7 @@ impl Growing {
         let len = self.document.len();
         let start = self.draws.below(len.saturating_add(2).min(kind.places));
         let end = start.saturating_add(self.draws.below(5)).saturating_sub(1);
-        let text = kind.texts[self.draws.below(8) as usize % 8];
+        let text = self.drawn_text(kind);
         let edit = format!(in self.alloc;
             "{{\"cmd\":\"edit\",\"ops\":[{{\"at\":[{start},{end}],\"text\":\"{text}\"}},\
             {{\"at\":[{len},{len}],\"text\":\"z\"}}]}}\n"
@@ -190,8 +201,25 @@ impl Growing {
         self.put(edit.as_str())
     }
 
-    fn ask(&mut self) -> Result<(), AllocError> {
+    fn replace(&mut self, kind: &Kind) -> Result<(), AllocError> {
+        let (first, second, text) = (
+            self.drawn_text(kind),
+            self.drawn_text(kind),
+            self.drawn_text(kind),
+        );
+        let replace = format!(in self.alloc;
+            "{{\"cmd\":\"replace\",\"find\":\"{first}{second}\",\"text\":\"{text}\"}}\n"
+        )?;
+        self.put(replace.as_str())
+    }
+
+    fn drawn_text(&mut self, kind: &Kind) -> &'static str {
+        kind.texts[self.draws.below(8) as usize % 8]
+    }
+
+    fn ask(&mut self, kind: &Kind) -> Result<(), AllocError> {
         self.ask_for_text()?;
+        self.ask_for_spans(kind)?;
         self.ask_for_brackets()
     }
 
@@ -207,6 +235,14 @@ impl Growing {
             {{\"cmd\":\"offset\",\"line\":{line},\"col\":{column}}}\n"
         )?;
         self.put(questions.as_str())
+    }
+
+    fn ask_for_spans(&mut self, kind: &Kind) -> Result<(), AllocError> {
+        let (first, second) = (self.drawn_text(kind), self.drawn_text(kind));
+        let question = format!(in self.alloc;
+            "{{\"cmd\":\"find\",\"text\":\"{first}{second}\"}}\n"
+        )?;
+        self.put(question.as_str())
     }
 
     fn ask_for_brackets(&mut self) -> Result<(), AllocError> {

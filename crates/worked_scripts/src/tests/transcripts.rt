@@ -8,6 +8,7 @@ mod hidden;
 mod kept;
 mod limits;
 mod nested;
+mod searched;
 mod texts;
 
 use batches::BATCHES;
@@ -19,6 +20,7 @@ use kept::KEPT;
 use limits::LIMITS;
 use nested::NESTED;
 use script_checks::{plain_difference, script_and_replies};
+use searched::SEARCHED;
 use std::alloc::AllocError;
 use std::process::Abort;
 use std::test::Fail;
@@ -26,7 +28,7 @@ use texts::TEXTS;
 
 /// The rows with which each script of a table begins, and the table. A blank line stands between two transcripts: a
 /// name, and a row for each line of the script, which has the reply behind `=>`.
-const TABLES: [(&str, &str); 10] = [
+const TABLES: [(&str, &str); 11] = [
     ("", TEXTS),
     ("", BATCHES),
     (FOUR_MODES, EACH_MODE),
@@ -35,6 +37,7 @@ const TABLES: [(&str, &str); 10] = [
     ("", HIDDEN),
     ("", KEPT),
     ("", ENDINGS),
+    ("", SEARCHED),
     ("", FOLLOWED),
     ("", LIMITS),
 ];

@@ -1,9 +1,10 @@
 use Rattle.std.proofs.Common.{refl, length, []}
 use Rattle.document_rules.specs.Document.{flat_undo, flat_redo, flat_stop, flat_eol, flat_decorate}
 use Rattle.document_rules.specs.Snapshots.{flat_snapshot, flat_peek_of, flat_close_of}
+use Rattle.search_rules.specs.Replacing.{flat_replace_all}
 use Rattle.script_lines.specs.Replies.{ok_reply}
 use Rattle.script_runner.specs.Step.{ops_at, edited_at, moved, decorated, snapshot_answer, read_answer, close_answer}
-use Rattle.script_runner.proofs.StandingLemmas.{tells_within, goes_edited, goes_eol, goes_decorated, goes_undo, goes_redo, goes_stop, goes_snapshot, goes_read, goes_close}
+use Rattle.script_runner.proofs.StandingLemmas.{tells_within, goes_edited, goes_eol, goes_decorated, goes_undo, goes_redo, goes_stop, goes_snapshot, goes_read, goes_close, goes_replaced}
 use Rattle.script_runner.proofs.reply.carry_out.Goals as goal
 
 pub returns-in-Open : goal.returns-in-Open
@@ -43,3 +44,9 @@ returns-in-Read c =
 pub returns-in-Close : goal.returns-in-Close
 returns-in-Close c =
     rw c.in-Close.is (tells_within _ _ _ refl refl (λ f. close_answer f (flat_close_of f c.in-Close.id)) (goes_close _ _) c.close_reply.ensures)
+
+pub returns-in-Replace : goal.returns-in-Replace
+returns-in-Replace c =
+    rw c.in-Replace.is (tells_within _ _ _ refl refl (λ f. moved f (flat_replace_all f c.in-Replace.sought c.in-Replace.text))
+    (goes_replaced _ _ _)
+    (rw (c.as_slice-in-Replace.ensures.value, c.as_slice-in-Replace-2.ensures) at c.replace_reply.ensures))

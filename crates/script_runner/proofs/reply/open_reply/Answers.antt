@@ -1,4 +1,4 @@
-use Rattle.std.proofs.Common.{ap, sym, ◌∙◌, unwrap_or}
+use Rattle.std.proofs.Common.{ap, sym, ◌∙◌}
 use Rattle.hiding_rules.specs.Hidden.{scanner}
 use Rattle.document_rules.specs.Document.{flat_open}
 use Rattle.script_runner.specs.Step.{scanner_for}

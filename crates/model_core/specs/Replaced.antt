@@ -1,0 +1,28 @@
+-- What a replace of all that is found leaves of the last parse and of the pieces, and why it is refused.
+use Rattle.std.specs.Prelude.{ℕ, List, length, Bool, Result, ⊤}
+use Rattle.text_rules.specs.declared.Op.{Op}
+use Rattle.document_rules.specs.declared.ModelError.{ModelError}
+use Rattle.document_rules.specs.declared.ModelError.TheVariants.{Unknown, Range, Overlap, Limit, Memory}
+use Rattle.document_rules.specs.Document.{FlatState}
+use Rattle.search_rules.specs.Replacing.{flat_find, replacing}
+use Rattle.model_page.specs.LineMarks.{marked_backwards}
+use Rattle.model_core.specs.Edited.{ops_as_done}
+use Rattle.model_core.specs.State.{ModelState, HasMoved}
+
+-- for want of room: a limit, or memory
+abbrev pub IsForRoom : ModelError → Type 0
+IsForRoom Limit = ⊤
+IsForRoom Memory = ⊤
+IsForRoom Unknown = ⊥
+IsForRoom Range = ⊥
+IsForRoom Overlap = ⊥
+
+-- the ops that put the text in the place of all that is found
+abbrev pub replacing_ops : FlatState → List ℕ → List ℕ → List Op
+replacing_ops f sought text = replacing (flat_find f sought) text
+
+-- as these ops do
+abbrev pub HasReplaced : List ℕ → List ℕ → Result Bool ModelError → ModelState → ModelState → Type 0
+HasReplaced sought text result old new =
+    let f = old.document in let ops = replacing_ops f sought text in
+    HasMoved (length ops) (length ops) (marked_backwards f.units (ops_as_done f ops) old.marks) result old new

@@ -1,0 +1,46 @@
+//! Replies to the commands that look for a text.
+
+ghost use Rattle.std.specs.Prelude.{◌≡◌, ◌<◌, length, IfOk};
+ghost use Rattle.search_rules.specs.Replacing.{flat_find, flat_replace_all};
+ghost use Rattle.script_runner.specs.Step.{moved, spans_reply};
+ghost use Rattle.script_runner.specs.Told.{TellsBy};
+ghost use Rattle.script_runner.specs.Bytes.{bytes_of};
+
+use crate::outcome::{Outcome, Reply};
+use crate::reply::move_reply;
+use model_core::Model;
+use script_lines::{long_begin, long_end, long_number};
+use std::alloc::{AllocError, Global};
+use text_lengths::Span;
+
+pub(crate) fn find_reply(alloc: Global, model: &Model, sought: &[u16]) -> Outcome
+    requires some { 0 < length sought.now }
+    ensures { let f = model.now.document in
+        TellsBy (spans_reply (flat_find f sought.now), f) f result f }
+{
+    let mut found = Vec::new(alloc);
+    model.find(sought, &mut found)?;
+    Ok(list_reply(alloc, found.as_slice())?)
+}
+
+fn list_reply(alloc: Global, spans: &[Span]) -> Result<Reply, AllocError>
+    ensures { IfOk result (λ reply. bytes_of reply ≡ spans_reply spans.now) }
+{
+    let mut reply = Vec::new(alloc);
+    long_begin(&mut reply)?;
+    for span in spans {
+        long_number(span.start, &mut reply)?;
+        long_number(span.end, &mut reply)?;
+    }
+    long_end(&mut reply)?;
+    Ok(Reply::Long(reply))
+}
+
+pub(crate) fn replace_reply(model: &mut Model, sought: &[u16], text: &[u16]) -> Outcome
+    requires some { 0 < length sought.now }
+    ensures { let f = model.old.document in
+        TellsBy (moved f (flat_replace_all f sought.now text.now)) f result model.new.document }
+{
+    let is_changed = model.replace_all(sought, text)?;
+    Ok(move_reply(is_changed, model))
+}

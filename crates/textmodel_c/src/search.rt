@@ -1,0 +1,125 @@
+//! Where a text stands in the document, and a replace of all of it.
+
+ghost use Rattle.std.specs.Prelude.{◌≡◌, ◌++◌, [], map, OnOk};
+ghost use Rattle.document_rules.specs.Outcomes.{Moves};
+ghost use Rattle.textmodel_c.specs.Rules.{found_of, flat_find_list, flat_replace_some};
+ghost use Rattle.textmodel_c.specs.Told.{FoundFor, Leaves, Lists, ListsHeld, Moved};
+
+use crate::handle::Handle;
+use crate::lists::hand_out_of;
+use crate::status::Status;
+use model_core::{Model, ModelError, Span};
+use std::alloc::{AllocError, Global};
+
+/// A span of the text at which the sought one stands.
+#[repr(C)]
+#[derive(Clone, Copy)]
+pub struct Found {
+    pub start: u64,
+    pub end: u64,
+}
+
+fn found_of(span: Span) -> Found
+    ensures { result ≡ found_of span }
+{
+    Found {
+        start: span.start,
+        end: span.end,
+    }
+}
+
+fn append_found(spans: &[Span], out: &mut Vec<Found>) -> Result<(), AllocError>
+    ensures { OnOk result (out.new.items ≡ out.old.items ++ map found_of spans.now) }
+{
+    for span in spans {
+        out.push(found_of(*span))?;
+    }
+    Ok(())
+}
+
+fn found_in(
+    alloc: Global,
+    model: &Model,
+    sought: &[u16],
+    out: &mut Vec<Found>,
+) -> Result<(), ModelError>
+    requires { out.old.items ≡ [] }
+    ensures { FoundFor result out.new.items (flat_find_list model.now.document sought.now) }
+{
+    if sought.is_empty() {
+        return Err(ModelError::Range);
+    }
+    let mut spans = Vec::new(alloc);
+    model
+        .find(sought, &mut spans)
+        .map_err(|_| ModelError::Memory)?;
+    append_found(&spans, out).map_err(|_| ModelError::Memory)
+}
+
+fn found_out(
+    alloc: Global,
+    model: &Model,
+    sought: &[u16],
+    out: &mut [Found],
+    count: &mut u64,
+) -> Status
+    ensures { Lists result out.old out.new count.old count.new
+        (flat_find_list model.now.document sought.now) }
+{
+    let mut found = Vec::new(alloc);
+    let answer = found_in(alloc, model, sought, &mut found);
+    hand_out_of(answer, &found, out, count)
+}
+
+/// The spans at which the text stands, from left to right, none overlapping the one before, and how many they are. Unit stands for
+/// unit. `Range` where the text is empty; `Short` where `out` has no room for all.
+#[unsafe(no_mangle)]
+pub extern "C" fn tm_find(
+    alloc: Global,
+    handle: &mut Handle,
+    sought: &[u16],
+    out: &mut [Found],
+    count: &mut u64,
+) -> u32
+    ensures kept { handle.new.held ≡ handle.old.held }
+    ensures found { ListsHeld result handle.old.held out.old out.new count.old count.new
+        (λ f. flat_find_list f sought.now) }
+{
+    let Some(document) = handle.take(alloc) else {
+        return Status::Empty.number();
+    };
+    let status = found_out(alloc, &document.session.model, sought, out, count);
+    handle.put(document);
+    status.number()
+}
+
+fn replace_some(model: &mut Model, sought: &[u16], with: &[u16]) -> Result<bool, ModelError>
+    ensures { Moves result model.old.document model.new.document
+        (flat_replace_some model.old.document sought.now with.now) }
+{
+    if sought.is_empty() {
+        return Err(ModelError::Range);
+    }
+    model.replace_all(sought, with)
+}
+
+/// Puts a text in the place of each span that `tm_find` finds, at once, as the next version and as a step of undo of its own;
+/// `Nothing` where nothing is found. `Range` where the sought text is empty, else `Limit` where the new text or the version would
+/// pass its limit.
+#[unsafe(no_mangle)]
+pub extern "C" fn tm_replace_all(
+    alloc: Global,
+    handle: &mut Handle,
+    sought: &[u16],
+    with: &[u16],
+) -> u32
+    ensures document { Leaves result handle.old.held handle.new.held
+        (Moved result (λ f. flat_replace_some f sought.now with.now)) }
+{
+    let Some(mut document) = handle.take(alloc) else {
+        return Status::Empty.number();
+    };
+    let answer = replace_some(&mut document.session.model, sought, with);
+    handle.put(document);
+    Status::of_step(answer).number()
+}
