@@ -3,7 +3,7 @@ import json
 import re
 from collections.abc import Callable
 from dataclasses import dataclass
-from typing import Any
+from typing import Any, NamedTuple
 
 from brackets import Pairs
 from hiding import BACKSLASH, Hiding, Pair
@@ -237,6 +237,16 @@ def ops(value: Any) -> list[LineOp]:
     return [op(item) for item in value]
 
 
+DOC_EDIT = fields(doc=number, ops=ops)
+
+
+def edits(value: Any) -> list[tuple[int, list[LineOp]]]:
+    """The batches of a joint edit, each with the number of its document, which may be any."""
+    if len(listed(value)) < 2:
+        raise Refused("syntax")
+    return [(doc, ops) for doc, ops in map(DOC_EDIT.read, value)]
+
+
 def new_decorations(value: Any) -> list[tuple[list[int], int, bool]]:
     found = [NEW_DECORATION.read(item) for item in listed(value)]
     return [(at, stick, bool(collapse)) for at, stick, collapse in found]
@@ -271,15 +281,34 @@ COMMANDS: dict[str, Fields] = {
     "send": fields(),
     "deliver": fields(n=number),
     "mirrored": fields(n=number),
+    "joint": fields(edits=edits),
 }
+OF_SEVERAL = "joint"  # the one command that has no field `doc`
 
 
-def command_of(line: bytes) -> tuple[str, list[Any]]:
-    """The name of the command that the line spells, and the values of its fields."""
+class Request(NamedTuple):
+    """What a line asks: a command with the values of its fields, and the number of its document, which may be any."""
+
+    name: str
+    doc: int
+    values: list[Any]
+
+
+def request_of(line: bytes) -> Request:
+    """What the line asks, refused where it is no command."""
     value = read_json(line)
     if type(value) is not dict:
         raise Refused("syntax")
     name = value.pop("cmd", None)
     if type(name) is not str or name not in COMMANDS:
         raise Refused("syntax")
-    return name, COMMANDS[name].read(value)
+    doc = 0 if name == OF_SEVERAL else number(value.pop("doc", 0))
+    return Request(name, doc, COMMANDS[name].read(value))
+
+
+def command_of(line: bytes) -> tuple[str, list[Any]]:
+    """The command of a line on document 0, and the values of its fields; refused where it is none, or on another document."""
+    name, doc, values = request_of(line)
+    if doc or name == OF_SEVERAL:
+        raise Refused("unknown")
+    return name, values

@@ -1,20 +1,21 @@
 """The flat document: one list of units, decorations moved edit by edit, undo by kept texts, brackets parsed afresh, and
-what hides some of them read afresh too.
+what hides some of them read afresh too. And several of them, which joint edits change at once.
 
 It shares nothing with the program: what is right is what `docs/SCRIPT.md` says, done in the plainest way.
 """
 from bisect import bisect_right
-from collections.abc import Callable
+from collections.abc import Callable, Iterable
 from dataclasses import dataclass, field
-from typing import Any
+from typing import Any, NamedTuple
 
 import clusters
 from brackets import STANDARD, Entry, Pairs, Parse, Table, parse
-from commands import LineOp, Refused, command_of
+from commands import LineOp, Refused, Request, request_of
 from hiding import Hiding
 from moves import Decoration, Op, applied, carried, inverse, recast, unforced
 from texts import MIXED, Text, cuts_pair, normalized, quoted
 
+DOCUMENTS = 64
 MOST_LINE_BYTES = 2**24
 MOST_UNITS = 2**40 - 1
 MOST_DECORATIONS = 2**20
@@ -43,6 +44,14 @@ class Recast:
     after: Text
 
 
+class Tag(NamedTuple):
+    """What the steps of one joint edit share: the least of its documents, the version of that one then, and all of them."""
+
+    least: int
+    version: int
+    members: frozenset[int]
+
+
 @dataclass(slots=True)
 class Step:
     """Edits that are undone together, or one change of kind, with the alternative versions around it."""
@@ -50,6 +59,27 @@ class Step:
     done: list[Batch] | Recast
     before: int
     after: int
+    tag: Tag | None = None  # where it is one of several documents
+
+
+def tags_of(steps: Iterable[Step]) -> set[Tag]:
+    return {step.tag for step in steps if step.tag}
+
+
+@dataclass(slots=True, frozen=True)
+class Mirror:
+    """A text that follows a document, and the version whose text it has."""
+
+    version: int
+    text: Text
+
+
+@dataclass(slots=True, frozen=True)
+class Event:
+    """A change, by the version before it and the whole text after it."""
+
+    before: int
+    after: str
 
 
 @dataclass
@@ -68,6 +98,8 @@ class Document:
     alternative: int = 1
     snapshots: dict[int, str] = field(default_factory=dict)
     next_snapshot: int = 1
+    follower: Mirror | None = None
+    sent: list[Event] = field(default_factory=list)
     kept_parse: tuple[Text, Parse] | None = None
 
     # ---- places
@@ -101,23 +133,27 @@ class Document:
         return f" {self.version} {len(self.text.units)} {len(self.text.starts)}"
 
     def edit(self, line_ops: list[LineOp]) -> str:
-        ops = sorted(map(self.op_of, line_ops), key=lambda op: (op.end, op.start))
-        if any(op.end > following.start for op, following in zip(ops, ops[1:])):
-            raise Refused("overlap")
+        ops = self.ops_of(line_ops)
+        self.check_apart(ops)
         self.check_growth(ops)
         self.carry_out(ops)
         return self.sizes()
 
+    def ops_of(self, line_ops: list[LineOp]) -> list[Op]:
+        """The ops in the order of the text."""
+        return sorted(map(self.op_of, line_ops), key=lambda op: (op.end, op.start))
+
+    def check_apart(self, ops: list[Op]) -> None:
+        if any(op.end > following.start for op, following in zip(ops, ops[1:])):
+            raise Refused("overlap")
+
     def replace(self, sought: str, text: str) -> str:
-        """A step by itself: the open one is closed before and after."""
         new = normalized(text, self.text.kind)
         ops = [Op(start, end, new) for start, end in self.text.occurrences(sought)]
         if not ops:
             return " none"
         self.check_growth(ops)
-        self.is_step_open = False
-        self.carry_out(ops)
-        self.is_step_open = False
+        self.carry_out_alone(ops)
         return self.sizes()
 
     def check_growth(self, ops: list[Op]) -> None:
@@ -132,6 +168,12 @@ class Document:
         self.alternative = self.version
         self.redo_steps = []
         self.change(batch.after, ops)
+
+    def carry_out_alone(self, ops: list[Op]) -> None:
+        """A step by itself: the open one is closed before and after."""
+        self.is_step_open = False
+        self.carry_out(ops)
+        self.is_step_open = False
 
     def op_of(self, op: LineOp) -> Op:
         if op.at:
@@ -204,6 +246,12 @@ class Document:
     def stop(self) -> str:
         self.is_step_open = False
         return ""
+
+    def take_off(self, tag: Tag) -> None:
+        """Its step, if there is one, is a step of this document alone now."""
+        for step in [*self.undo_steps, *self.redo_steps]:
+            if step.tag == tag:
+                step.tag = None
 
     def size(self) -> str:
         return f" {len(self.text.units)} {len(self.text.starts)}"
@@ -319,51 +367,18 @@ class Document:
         del self.snapshots[id]
         return ""
 
-
-@dataclass(slots=True, frozen=True)
-class Mirror:
-    """A text that follows a document, and the version whose text it has."""
-
-    version: int
-    text: Text
-
-
-@dataclass(slots=True, frozen=True)
-class Event:
-    """A change, by the version before it and the whole text after it."""
-
-    before: int
-    after: str
-
-
-class Flat:
-    """Answers the lines of a script."""
-
-    def __init__(self) -> None:
-        self.begin(Document())
-
-    def begin(self, document: Document) -> None:
-        self.document = document
-        self.follower: Mirror | None = None
-        self.sent: list[Event] = []
-
-    def open(self, units: str, pairs: Pairs | None, hiding: Hiding | None, kind: str | None) -> str:
-        text = Text(normalized(units, kind or MIXED), kind or MIXED)
-        if len(text.units) > MOST_UNITS:
-            raise Refused("limit")
-        self.begin(Document(text, Table(pairs) if pairs else STANDARD_TABLE, hiding))
-        return self.document.sizes()
+    # ---- what follows it
 
     def mirror(self) -> str:
-        self.follower = Mirror(self.document.version, Text(self.document.text.units))
-        return f" {self.follower.version}"
+        self.follower = Mirror(self.version, Text(self.text.units))
+        return f" {self.version}"
 
     def send(self) -> str:
-        if self.document.version == 1:
+        if self.version == 1:
             return " none"
         if len(self.sent) >= MOST_SENT:
             raise Refused("limit")
-        event = Event(self.document.version - 1, self.document.text.units)
+        event = Event(self.version - 1, self.text.units)
         self.sent.append(event)
         return f" {len(self.sent)} {event.before}"
 
@@ -386,8 +401,90 @@ class Flat:
             raise Refused("range")
         return f" {quoted(text.units[text.starts[n - 1] : text.ends[n - 1]])}"
 
-    def call_named(self, name: str) -> Callable[..., str | None]:
-        return getattr(self if name in OF_ALL else self.document, METHODS.get(name, name))
+
+class Flat:
+    """Answers the lines of a script. A document of each number is there from the start, and empty."""
+
+    def __init__(self) -> None:
+        self.documents = [Document() for _ in range(DOCUMENTS)]
+
+    # ---- one document
+
+    def open(self, doc: int, units: str, pairs: Pairs | None, hiding: Hiding | None, kind: str | None) -> str:
+        text = Text(normalized(units, kind or MIXED), kind or MIXED)
+        if len(text.units) > MOST_UNITS:
+            raise Refused("limit")
+        old = self.documents[doc]
+        self.documents[doc] = Document(text, Table(pairs) if pairs else STANDARD_TABLE, hiding)
+        self.lose(tags_of(old.undo_steps) | tags_of(old.redo_steps))
+        return self.documents[doc].sizes()
+
+    def change(self, name: str, doc: int, values: list[Any]) -> str:
+        """A change empties the redo list, and its tags are lost. A call that is refused or finds nothing to do loses none."""
+        document = self.documents[doc]
+        before = tags_of(document.redo_steps)
+        said = getattr(document, name)(*values)
+        self.lose(before - tags_of(document.redo_steps))
+        return said
+
+    # ---- several documents
+
+    def lose(self, tags: set[Tag]) -> None:
+        """Where one document lost a tag, the steps of the others are theirs alone."""
+        for tag in tags:
+            for member in tag.members:
+                self.documents[member].take_off(tag)
+
+    def joint(self, edits: list[tuple[int, list[LineOp]]]) -> str:
+        """A batch in each of these documents, all or none. Each reason to refuse is looked for in all of them."""
+        docs = [doc for doc, _ in edits]
+        if max(docs) >= DOCUMENTS or len(set(docs)) < len(docs):
+            raise Refused("unknown")
+        members = [self.documents[doc] for doc in docs]
+        batches = [document.ops_of(line_ops) for document, (_, line_ops) in zip(members, edits)]
+        for document, ops in zip(members, batches):
+            document.check_apart(ops)
+        for document, ops in zip(members, batches):
+            document.check_growth(ops)
+        tag = Tag(min(docs), self.documents[min(docs)].version + 1, frozenset(docs))
+        lost = set().union(*(tags_of(document.redo_steps) for document in members))
+        for document, ops in zip(members, batches):
+            document.carry_out_alone(ops)
+            document.undo_steps[-1].tag = tag
+        self.lose(lost)
+        return "".join(f" {doc}{document.sizes()}" for doc, document in zip(docs, members))
+
+    def undo(self, doc: int) -> str:
+        return self.go(doc, Document.undo, lambda document: document.undo_steps)
+
+    def redo(self, doc: int) -> str:
+        return self.go(doc, Document.redo, lambda document: document.redo_steps)
+
+    def go(self, doc: int, way: Callable[[Document], str], steps_of: Callable[[Document], list[Step]]) -> str:
+        """The next step of the document, and with it those of all other documents that made it at once."""
+        tags = [next((step.tag for step in steps_of(document)[-1:]), None) for document in self.documents]
+        if not tags[doc]:
+            return way(self.documents[doc])
+        for member in sorted(tags[doc].members):
+            if tags[member] != tags[doc]:
+                raise Refused(f"joint {member}")
+        for member in tags[doc].members:
+            way(self.documents[member])
+        return self.documents[doc].sizes()
+
+    # ---- lines
+
+    def said(self, request: Request) -> str | None:
+        name, doc, values = request
+        if name == "joint":
+            return self.joint(*values)
+        if doc >= DOCUMENTS:
+            raise Refused("unknown")
+        if name in ("open", "undo", "redo"):
+            return getattr(self, name)(doc, *values)
+        if name in ("edit", "eol", "replace"):
+            return self.change(name, doc, values)
+        return getattr(self.documents[doc], METHODS.get(name, name))(*values)
 
     def reply(self, line: bytes) -> bytes | None:
         """The reply to a line without its LF; None where it has none."""
@@ -396,12 +493,10 @@ class Flat:
         if not line.strip(BLANKS):
             return None
         try:
-            name, values = command_of(line)
-            said: Any = self.call_named(name)(*values)
+            said = self.said(request_of(line))
         except Refused as refused:
             return f"! {refused}".encode()
         return UNJUDGED if said is None else b"ok" + said.encode("utf-8")
 
 
 METHODS = {"version": "versions"}
-OF_ALL = {"open", "mirror", "send", "deliver", "mirrored"}

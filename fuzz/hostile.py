@@ -14,11 +14,11 @@ NUMBERS = [
 ]  # fmt: skip
 VALUES: list[Any] = [
     None, True, False, -1, 0.5, 2**64, "1", "", "lf", [], {}, [1], [1, 2], [[1, 2]], [1, 2, 3], {"at": [0, 0]},
-    "//", ["a"], ["a", "a"], ["/*", "*/"], {"line": "a"},
+    "//", ["a"], ["a", "a"], ["/*", "*/"], {"line": "a"}, 63, 64, {"doc": 1, "ops": [{"at": [0, 0], "text": ""}]},
 ]  # fmt: skip
 KEYS = [
     "x", "cmd", "text", "at", "range", "force", "n", "owner", "id", "collapse", "stick", "brackets", "eol", "kind", "",
-    "Cmd", "marks", "line", "block", "quotes", "find",
+    "Cmd", "marks", "line", "block", "quotes", "find", "doc", "doc", "edits", "ops",
 ]  # fmt: skip
 WHOLE = [
     b"[]", b"{}", b"1", b'"size"', b"null", b"{", b"}", b"[" * 128, b"[" * 127 + b"]" * 127, b"[" * 5000,
@@ -61,6 +61,23 @@ WHOLE = [
     b'{"cmd":"replace","find":null,"text":"a"}', b'{"cmd":"replace","find":"a","text":null}',
     b'{"cmd":"replace","find":"a","find":"","text":""}', b'{"cmd":"replace","find":"","find":"\\u0000","text":""}',
     b'{"cmd":"replace","find":"a","text":"b","force":false}', b'{"cmd":"replace","text":"\\n","find":"\\u000a"}',
+    b'{"cmd":"size","doc":64}', b'{"cmd":"size","doc":18446744073709551615}', b'{"cmd":"size","doc":18446744073709551616}',
+    b'{"cmd":"size","doc":null}', b'{"cmd":"size","doc":-0}', b'{"cmd":"size","doc":1.0}', b'{"cmd":"size","doc":"1"}',
+    b'{"cmd":"size","doc":[1]}', b'{"cmd":"size","Doc":1}', b'{"cmd":"size","doc":null,"doc":1}',
+    b'{"cmd":"size","doc":1,"doc":null}',
+    b'{"cmd":"size","\\u0064oc":63}', b'{"doc":99,"cmd":"open","text":""}', b'{"doc":99,"cmd":"open","text":1}',
+    b'{"cmd":"edit","doc":64,"ops":[{"at":[9,8],"text":""}]}', b'{"cmd":"edit","doc":1,"ops":[{"at":[0,0],"text":"","doc":1}]}',
+    b'{"cmd":"joint"}', b'{"cmd":"joint","edits":null}', b'{"cmd":"joint","edits":[]}', b'{"cmd":"joint","edits":[1,2]}',
+    b'{"cmd":"joint","edits":[{"doc":1,"ops":[{"at":[0,0],"text":""}]}]}',
+    b'{"cmd":"joint","edits":[{"doc":64,"ops":[{"at":[0,0],"text":""}]},{"doc":64,"ops":[{"at":[0,0],"text":""}]}]}',
+    b'{"cmd":"joint","edits":[{"doc":1,"ops":[{"at":[0,0],"text":""}]},{"doc":1,"ops":[{"at":[9,0],"text":""}]}]}',
+    b'{"cmd":"joint","edits":[{"doc":1,"ops":[{"at":[0,0],"text":""}]},{"doc":2,"ops":[]}]}',
+    b'{"cmd":"joint","edits":[{"doc":1,"ops":[{"at":[0,0],"text":""}]},{"doc":2,"ops":[{"at":[0,0],"text":""}]}],"doc":1}',
+    b'{"cmd":"joint","edits":[{"doc":1,"ops":[{"at":[0,0],"text":""}]},{"doc":2,"doc":64,"ops":[{"at":[0,0],"text":""}]}]}',
+    b'{"cmd":"joint","edits":[{"doc":1,"ops":[{"at":[1,0],"text":""}]},{"ops":[{"at":[0,0],"text":""}],"doc":64}]}',
+    b'{"cmd":"joint","edits":[{"doc":1,"ops":[{"at":[1,0],"text":""}]},{"doc":2,"ops":[{"at":[0,0],"text":1}]}]}',
+    b'{"cmd":"joint","edits":[{"doc":1,"ops":[]},{"doc":2,"ops":[]}],"edits":[]}',
+    b'{"cmd":"\\u006aoint","edits":[{"doc":62,"ops":[{"at":[0,0],"text":"\\r"}]},{"ops":[{"at":[0,0],"text":"x"}],"doc":63}]}',
     b'{"cmd":1,"cmd":"size"}', b'{"cmd":"undo","cmd":"size"}',
     b'{"cmd":1e999,"cmd":"size"}', b'{"cmd":"\\ud800","cmd":"size"}', b"", b" ", b"\t \r", b"\r", b"\x0b", b"\x0c",
     b"\xc2\xa0", b"// x", b"{\"cmd\":\"size\"/**/}",

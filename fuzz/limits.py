@@ -1,5 +1,8 @@
 """One script of lines at the limits that a script can reach: bytes of a line, decorations, snapshots, brackets and what
-hides them, events, units that a replace would make."""
+hides them, events, units that a replace would make, documents."""
+from collections.abc import Iterable
+
+MOST_DOCUMENTS = 64
 MOST_LINE_BYTES = 2**24
 MOST_DECORATIONS = 2**20
 MOST_SNAPSHOTS = 1_000
@@ -127,6 +130,31 @@ def many_found() -> list[bytes]:
     return lines
 
 
+def joint(docs: Iterable[int], text: bytes) -> bytes:
+    """The same text put in at the front of each of these documents at once."""
+    return b'{"cmd":"joint","edits":[%b]}' % b",".join(
+        b'{"doc":%d,"ops":[{"at":[0,0],"text":"%b"}]}' % (doc, text) for doc in docs
+    )
+
+
+def many_documents() -> list[bytes]:
+    """A joint edit of all documents, and of one more; texts of them as long as a line can bring; and many such steps."""
+    every, last = range(MOST_DOCUMENTS), MOST_DOCUMENTS - 1
+    long_text = b"a" * (MOST_LINE_BYTES // MOST_DOCUMENTS - 60)
+    sizes = [b'{"cmd":"size","doc":%d}' % doc for doc in every]
+    undo, redo = b'{"cmd":"undo","doc":%d}' % last, b'{"cmd":"redo","doc":1}'
+    lines = [b'{"cmd":"open","doc":%d,"text":"%d"}' % (doc, doc) for doc in range(MOST_DOCUMENTS + 1)]
+    lines += [joint(every, b"x\\n"), joint(range(MOST_DOCUMENTS + 1), b"x"), joint([*every, 0], b"x"), *sizes]
+    lines += [joint(reversed(every), long_text), *sizes, undo, redo, undo, *sizes]
+    lines += [b'{"cmd":"edit","doc":40,"ops":[{"at":[0,0],"text":"y"}]}', redo, *sizes, undo, redo]
+    lines += [b'{"cmd":"undo","doc":40}', undo]
+    for round in range(200):
+        lines += [joint((round % MOST_DOCUMENTS, (round + 1) % MOST_DOCUMENTS), b"%d" % round)]
+    for round in range(200):
+        lines += [b'{"cmd":"undo","doc":%d}' % ((199 - round) % MOST_DOCUMENTS)]
+    return [*lines, *sizes]
+
+
 def lines() -> list[bytes]:
     few = [*long_lines(), *many_snapshots(), *many_brackets(), *many_hidden(), *many_events(), *many_decorations()]
-    return [*few, *many_found()]
+    return [*few, *many_found(), *many_documents()]

@@ -1,9 +1,9 @@
-"""Writes scripts. Each line is made for the document as it stands, so that most are accepted, and some just not."""
+"""Writes the lines on one document. Each is made for it as it stands, so that most are accepted, and some just not."""
 import json
 from collections.abc import Callable
 from itertools import accumulate
 from random import Random
-from typing import Any, NamedTuple
+from typing import Any
 
 import hostile
 from brackets import STANDARD
@@ -12,6 +12,7 @@ from hiding import Hiding
 from moods import BREAKS, Mood, drawn_alphabet, drawn_hiding, drawn_mood, drawn_table, mark_texts, opened_brackets
 from texts import ENDINGS, cuts_pair, text_of, units_of
 
+NO_NUMBERS = ["null", "true", "-1", "0.0", '"0"', "[0]", "18446744073709551616"]
 ODD_NUMBERS = [0, 1, 2, 2**31, 2**32, 2**53 + 1, 2**63 - 1, 2**63, 2**64 - 1, 2**64]
 NO_TABLES = [
     [], [["a", "a"]], [["", "b"]], [["a"]], [["a", "b", "c"]], [["a\r", "b"]], [["a", "\nb"]], [["x" * 33, "y"]],
@@ -40,28 +41,13 @@ BEHIND_A_REPLACE = [
 ]  # fmt: skip
 
 
-class Script(NamedTuple):
-    """Lines without their LF, and the replies of the flat document to those that are not empty."""
-
-    lines: list[bytes]
-    replies: list[bytes]
-    has_last_end: bool = True
-
-    @property
-    def bytes(self) -> bytes:
-        return b"\n".join(self.lines) + b"\n" * self.has_last_end
-
-    @property
-    def status(self) -> int:
-        return int(any(reply.startswith(b"!") for reply in self.replies))
-
-
 class Writer:
-    """Makes the lines of one script, and answers each by a flat document."""
+    """Makes lines on the document of one number, by what the flat document of that number is."""
 
-    def __init__(self, seed: str) -> None:
+    def __init__(self, seed: str, number: int = 0, flat: Flat | None = None) -> None:
         self.draw = Random(seed)
-        self.flat = Flat()
+        self.number = number
+        self.flat = flat or Flat()
         self.table = drawn_table(self.draw)
         self.hiding: Hiding | None = None
         self.place = 0  # where something happened last
@@ -70,7 +56,7 @@ class Writer:
 
     @property
     def document(self) -> Document:
-        return self.flat.document
+        return self.flat.documents[self.number]
 
     def set_mood(self, mood: Mood) -> None:
         self.mood = mood
@@ -80,18 +66,6 @@ class Writer:
 
     def chance(self, of: float) -> bool:
         return self.draw.random() < of
-
-    def script(self, count: int, most_bytes: int) -> Script:
-        """A script of so many lines, or of fewer where the replies would be too long."""
-        lines, replies, size = [], [], 0
-        while len(lines) < count and size < most_bytes:
-            line = self.line()
-            reply = self.flat.reply(line)
-            lines.append(line)
-            if reply is not None:
-                replies.append(reply)
-                size += len(reply) + 1
-        return Script(lines, replies, has_last_end=not self.chance(0.2))
 
     def name(self) -> str:
         """A command. Edits drop what could be redone, so a `redo` comes more often where it can do something."""
@@ -109,14 +83,23 @@ class Writer:
         often = self.draw.randint(1, self.mood.run)
         return ["undo", "redo"] * often if self.chance(0.5) else ["redo"] * often + ["undo"] * (often - 1)
 
-    def line(self) -> bytes:
-        name = self.name()
+    def line(self, name: str | None = None) -> bytes:
+        """The line of this command, or of one that is drawn."""
+        name = name or self.name()
         if name == "hostile":
             return hostile.made_from(self.draw, self.line())
-        line = MAKERS[name](self)
+        line = self.addressed(MAKERS[name](self))
         if self.chance(0.02):
             line = hostile.spelled_otherwise(self.draw, line)
         return line.encode("utf-8")
+
+    def addressed(self, line: str) -> str:
+        """The line with the number of its document, which that of number 0 may do without; now and then with none that may be."""
+        if self.number == 0 and self.chance(0.9):
+            return line
+        doc = self.draw.choice(NO_NUMBERS) if self.chance(0.005) else str(self.number)
+        place = line.index(",") if "," in line and self.chance(0.5) else len(line) - 1
+        return f'{line[:place]},"doc":{doc}{line[place:]}'
 
     # ---- parts of lines
 
@@ -236,15 +219,28 @@ class Writer:
         return f'{{"cmd":"eol","kind":{self.kind()}}}'
 
     def edit(self) -> str:
+        return f'{{"cmd":"edit","ops":[{self.ops()}]}}'
+
+    def ops(self) -> str:
         if self.hiding and self.chance(self.mood.curtains):
-            return f'{{"cmd":"edit","ops":[{self.op_of_a_mark()}]}}'
+            return self.op_of_a_mark()
         many = self.mood.ops if self.chance(0.03) else min(self.mood.ops, 5)
         count = 1 if self.chance(0.7) else self.draw.randint(2, many)
         spans = [self.span_in_front() if self.is_apart() else self.span() for _ in range(count)]
         if count > 1 and self.chance(0.8):
             spans = apart(spans)
             self.draw.shuffle(spans)
-        return f'{{"cmd":"edit","ops":[{",".join(map(self.op, spans))}]}}'
+        return ",".join(map(self.op, spans))
+
+    def edit_beyond(self) -> str:
+        """An edit that is refused: its last op is behind the text."""
+        beyond = len(self.document.text.units) + 1
+        return f'{{"cmd":"edit","ops":[{self.op(self.span())},{{"at":[{beyond},{beyond}],"text":"x"}}]}}'
+
+    def eol_again(self) -> str:
+        """A change of line endings that finds nothing to do, where the text has a kind."""
+        kind = self.document.text.kind
+        return f'{{"cmd":"eol","kind":{json.dumps(kind if kind in ENDINGS else "lf")}}}'
 
     def op(self, span: tuple[int, int]) -> str:
         start, end = span
@@ -423,7 +419,7 @@ class Writer:
 
     def deliver(self) -> str:
         """Mostly the next event, if it was sent; else one that comes again, too early or out of order, or none."""
-        sent, follower = self.flat.sent, self.flat.follower
+        sent, follower = self.document.sent, self.document.follower
         n = self.draw.randint(0, len(sent) + 1) if self.chance(0.1) else self.draw.randint(1, max(1, len(sent)))
         next_ones = [at for at, event in enumerate(sent, 1) if follower and event.before == follower.version]
         if next_ones and self.chance(0.7):
@@ -431,7 +427,7 @@ class Writer:
         return f'{{"cmd":"deliver","n":{self.draw.choice(ODD_NUMBERS) if self.chance(0.01) else n}}}'
 
     def mirrored(self) -> str:
-        lines = len(self.flat.follower.text.starts) if self.flat.follower else 1
+        lines = len(self.document.follower.text.starts) if self.document.follower else 1
         n = self.draw.choice([0, lines + 1, *ODD_NUMBERS]) if self.chance(0.04) else self.draw.randint(1, lines)
         return f'{{"cmd":"mirrored","n":{n}}}'
 
@@ -453,6 +449,8 @@ def about(asked: Callable[[Writer, str], str], name: str) -> Callable[[Writer], 
 MAKERS: dict[str, Callable[[Writer], str]] = {
     "open": Writer.open,
     "edit": Writer.edit,
+    "edit beyond": Writer.edit_beyond,
+    "eol again": Writer.eol_again,
     "eol": Writer.eol,
     "decorate": Writer.decorate,
     "deco": Writer.deco,

@@ -7,6 +7,7 @@ The library is found as the module finds it: TEXTMODEL_LIBRARY may name it. The 
 document of fuzz/.
 """
 import argparse
+import json
 import re
 import subprocess
 import sys
@@ -29,6 +30,7 @@ from textmodel import (  # noqa: E402
     Edit,
     EncodingError,
     Error,
+    JointError,
     LimitError,
     MissingError,
     NewDecoration,
@@ -251,6 +253,23 @@ class Steps(Case):
         self.assertFalse(document.redo())
         self.assertTrue(document.undo() and document.undo())
         self.assertEqual((str(document), document.can_undo), ("", False))
+
+    def test_steps_of_several_documents(self):
+        document = self.document("a")
+        edits = [{"doc": 0, "ops": [{"at": [1, 1], "text": "x"}]}, {"doc": 1, "ops": [{"at": [0, 0], "text": "y"}]}]
+        self.assertEqual(document.answer(json.dumps({"cmd": "joint", "edits": edits})), b"ok 0 2 2 1 1 2 1 1\n")
+        self.assertEqual(document.answer('{"cmd":"edit","doc":1,"ops":[{"at":[1,1],"text":"z"}]}'), b"ok 3 2 1\n")
+        self.refuses(JointError, ValueError, document.undo)
+        self.assertEqual((str(document), document.version, document.can_undo), ("ax", 2, True))
+        self.assertEqual(document.answer('{"cmd":"undo","doc":1}'), b"ok 4 1 1\n")
+        self.assertTrue(document.undo())
+        self.assertEqual((str(document), document.answer('{"cmd":"size","doc":1}')), ("a", b"ok 0 1\n"))
+        self.assertTrue(document.redo() and document.undo())
+        self.assertEqual(document.answer('{"cmd":"redo","doc":1}'), b"ok 8 1 1\n")
+        self.assertEqual(document.answer('{"cmd":"redo","doc":1}'), b"ok 9 2 1\n")
+        self.assertTrue(document.can_undo)
+        self.refuses(JointError, ValueError, document.undo)
+        self.assertEqual(str(document), "ax")
 
     def test_kinds_of_ending(self):
         document = self.document("a\r\nb\rc", eol="lf")
@@ -576,6 +595,7 @@ class Caller:
         self.draw = draw
         self.document = Document()
         self.snapshots = {}
+        self.has_others = False  # whether a line was answered that a command on document 0 alone is not
 
     def reply(self, line, command):
         """The reply to a line, whose command is told where it is one. One in ten is answered as a line."""
@@ -584,6 +604,8 @@ class Caller:
         name, values = command
         try:
             said = getattr(self, name)(*values)
+        except JointError:  # the reply names the document, which the call does not tell
+            return self.answer(line, command)
         except Error as error:
             return b"! " + self.REASONS[type(error)].encode()
         return self.answer(line, command) if said is None else ("ok" + said).encode("utf-8")
@@ -591,7 +613,9 @@ class Caller:
     def answer(self, line, command):
         if command and command[0] == "open":
             self.snapshots = {}
-        return self.document.answer(line).rstrip(b"\n")
+        reply = self.document.answer(line).rstrip(b"\n")
+        self.has_others |= command is None and reply.startswith(b"ok")
+        return reply
 
     def sizes(self):
         return f" {self.document.version} {len(self.document)} {self.document.line_count}"
@@ -600,7 +624,7 @@ class Caller:
         return self.sizes() if was_there else " none"
 
     def open(self, text, pairs, hiding, kind):
-        if pairs or hiding is not None:
+        if pairs or hiding is not None or self.has_others:
             return None
         self.document.close()
         self.document = Document(text, kind)

@@ -11,8 +11,8 @@ column counts units too. `units` tells how many units a `str` has. A place is an
 inside no character, and, in a document of CR LF, between no CR and its LF. Numbers are below 2**64.
 
 A call that raises has changed nothing. `Error` is the base of what this module raises by itself, and each of its kinds is a
-kind of Python's own: `PlaceError` of IndexError, `MissingError` of KeyError, `OverlapError`, `LimitError`, `EncodingError` and
-`ClosedError` of ValueError, `NoMemoryError` of MemoryError. A word that is none, as of a kind of line ending, is a ValueError.
+kind of Python's own: `PlaceError` of IndexError, `MissingError` of KeyError, `OverlapError`, `LimitError`, `EncodingError`,
+`JointError` and `ClosedError` of ValueError, `NoMemoryError` of MemoryError. A word that is none, as of a kind of line ending, is a ValueError.
 
 A document stays on the thread that made it, and ThreadError, a RuntimeError, is raised on any other. Calls on documents of
 several threads go on at once.
@@ -31,8 +31,8 @@ from threading import get_ident
 from typing import Any, Callable, Iterable, Iterator, List, NamedTuple, Optional, Sequence, Tuple, Type, Union
 
 __all__ = [
-    "Bracket", "BracketState", "ClosedError", "Decoration", "Document", "Edit", "EncodingError", "Error", "LimitError",
-    "MissingError", "NewDecoration", "NoMemoryError", "OverlapError", "Partner", "PlaceError", "Position", "Snapshot", "Span",
+    "Bracket", "BracketState", "ClosedError", "Decoration", "Document", "Edit", "EncodingError", "Error", "JointError",
+    "LimitError", "MissingError", "NewDecoration", "NoMemoryError", "OverlapError", "Partner", "PlaceError", "Position", "Snapshot", "Span",
     "Stick", "ThreadError", "library_version", "units",
 ]  # fmt: skip
 
@@ -48,7 +48,7 @@ UNITS_AT_FIRST = 256
 ITEMS_AT_FIRST = 64
 PART_UNITS = 1 << 15
 
-OK, NOTHING, UNKNOWN, RANGE, OVERLAP, LIMIT, MEMORY, ENCODING, EMPTY, SHORT = range(10)
+OK, NOTHING, UNKNOWN, RANGE, OVERLAP, LIMIT, MEMORY, ENCODING, EMPTY, SHORT, JOINT = range(11)
 KINDS = (None, "lf", "crlf")
 
 Place = Tuple[int, int]
@@ -88,6 +88,10 @@ class EncodingError(Error, ValueError):
         self.at = at
 
 
+class JointError(Error, ValueError):
+    """A step of several documents, which a line of `answer` made, is not the next one of each of them."""
+
+
 class ClosedError(Error, ValueError):
     """The document or the snapshot is closed."""
 
@@ -107,6 +111,7 @@ ERRORS = {
     LIMIT: (LimitError, "past a limit: {}"),
     MEMORY: (NoMemoryError, "no memory: {}"),
     EMPTY: (ClosedError, "the document is closed: {}"),
+    JOINT: (JointError, "not the next step of each of its documents: {}"),
 }
 
 
@@ -558,12 +563,19 @@ class Document:
         check(status, "a batch of {}", len(made))
 
     def undo(self) -> bool:
-        """Goes back to the text before the last step, as the next version; False where there is none."""
+        """Goes back to the text before the last step, as the next version; False where there is none.
+
+        A step that a line of `answer` made in several documents is undone in all of them; JointError where it is not the last one of
+        each of them.
+        """
         status = LIBRARY.tm_undo(self._handle())
         return check(status, "an undo")
 
     def redo(self) -> bool:
-        """Goes on to the text after the step that was undone last, as the next version; False where there is none."""
+        """Goes on to the text after the step that was undone last, as the next version; False where there is none.
+
+        A step of several documents is made again in all of them; JointError where it is not the next one of each of them.
+        """
         status = LIBRARY.tm_redo(self._handle())
         return check(status, "a redo")
 
@@ -772,7 +784,8 @@ class Document:
     def answer(self, line: Union[bytes, str]) -> bytes:
         """Answers a line of a script, which comes without its LF: the bytes of the reply with its LF, none for a blank line.
 
-        That is what the program would write for it; a line that is no command is answered so, and raises nothing.
+        That is what the program would write for it; a line that is no command is answered so, and raises nothing. Of the 64
+        documents that a line may name, this one is document 0, and only lines speak of the others.
         """
         data, count = line.encode("utf-8", LONE) if isinstance(line, str) else line, U64()
         if not isinstance(data, bytes):

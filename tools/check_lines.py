@@ -303,7 +303,7 @@ def list_of(check: Check, wanted: str, least: int = 0) -> Check:
         if node.kind != "array":
             wrong(node, name, wanted)
         if len(node.value) < least:
-            raise Fault(node.at, f"{name} is empty, and {wanted} is wanted")
+            raise Fault(node.at, f"{name} {'has one item' if node.value else 'is empty'}, and {wanted} is wanted")
         check_items(node, name, check)
 
     return check_list
@@ -353,6 +353,17 @@ def op(node: Node, name: str) -> None:
     if not places and not node.value.keys() - {"text", "force"}:
         raise Fault(node.at, f"{name} has neither `at` nor `range`, and one is wanted")
     OPS[places[0] if places else "at"].check(node, name)
+
+
+ops = list_of(op, "an array of one op or more", least=1)
+DOC_EDIT = fields(doc=number, ops=ops)
+
+
+def doc_edit(node: Node, name: str) -> None:
+    """The batch of one document in a joint edit."""
+    if node.kind != "object":
+        wrong(node, name, "an object")
+    DOC_EDIT.check(node, name)
 
 
 def new_decoration(node: Node, name: str) -> None:
@@ -438,39 +449,45 @@ def pairs(node: Node, name: str) -> None:
     check_differ((half for both in node.value for half in both.value), name)
 
 
+def command(optional: dict[str, Check] | None = None, **needed: Check) -> Fields:
+    """The fields of a command on one document, whose number it may have."""
+    return fields((optional or {}) | {"doc": number}, **needed)
+
+
 COMMANDS: dict[str, Fields] = {
-    "open": fields({"brackets": pairs, "marks": marks, "eol": kind}, text=text),
-    "edit": fields(ops=list_of(op, "an array of one op or more", least=1)),
-    "undo": fields(),
-    "redo": fields(),
-    "stop": fields(),
-    "eol": fields(kind=kind),
-    "decorate": fields(
+    "open": command({"brackets": pairs, "marks": marks, "eol": kind}, text=text),
+    "edit": command(ops=ops),
+    "undo": command(),
+    "redo": command(),
+    "stop": command(),
+    "eol": command(kind=kind),
+    "decorate": command(
         owner=number,
         remove=list_of(number, "an array of numbers"),
         add=list_of(new_decoration, "an array of new decorations"),
     ),
-    "deco": fields(id=number),
-    "decos": fields({"owner": number}, at=span),
-    "version": fields(),
-    "brackets": fields(**{"from": number, "to": number}),
-    "match": fields(line=number, col=number),
-    "level": fields(line=number, col=number),
-    "size": fields(),
-    "line": fields(n=number),
-    "value": fields(at=span),
-    "offset": fields(line=number, col=number),
-    "position": fields(offset=number),
-    "snapshot": fields(),
-    "read": fields(id=number, count=number),
-    "close": fields(id=number),
-    "stops": fields(n=number),
-    "find": fields(text=sought),
-    "replace": fields(find=sought, text=text),
-    "mirror": fields(),
-    "send": fields(),
-    "deliver": fields(n=number),
-    "mirrored": fields(n=number),
+    "deco": command(id=number),
+    "decos": command({"owner": number}, at=span),
+    "version": command(),
+    "brackets": command(**{"from": number, "to": number}),
+    "match": command(line=number, col=number),
+    "level": command(line=number, col=number),
+    "size": command(),
+    "line": command(n=number),
+    "value": command(at=span),
+    "offset": command(line=number, col=number),
+    "position": command(offset=number),
+    "snapshot": command(),
+    "read": command(id=number, count=number),
+    "close": command(id=number),
+    "stops": command(n=number),
+    "find": command(text=sought),
+    "replace": command(find=sought, text=text),
+    "mirror": command(),
+    "send": command(),
+    "deliver": command(n=number),
+    "mirrored": command(n=number),
+    "joint": fields(edits=list_of(doc_edit, "an array of two batches or more", least=2)),
 }
 
 

@@ -34,10 +34,12 @@ enum tm_status {
   TM_MEMORY = 6,   /* no memory for the call */
   TM_ENCODING = 7, /* the text is no UTF-8 */
   TM_EMPTY = 8,    /* the handle holds no document */
-  TM_SHORT = 9     /* `out` has no room for all; `count` tells how many there are */
+  TM_SHORT = 9,    /* `out` has no room for all; `count` tells how many there are */
+  TM_JOINT = 10    /* a step of several documents is not the next one of each of them */
 };
 
-/* A document, or nothing where `at` is null. */
+/* 64 documents, numbered from 0 on, or nothing where `at` is null. The lines of `tm_answer` speak of all of them, and every
+ * other call of document 0. */
 typedef struct tm_document {
   void *at;
 } tm_document;
@@ -103,10 +105,11 @@ typedef struct tm_partner {
 
 /* ---- Made and freed */
 
-/* Puts a new empty document into the handle, in place of what it held, which is freed. MEMORY. */
+/* Puts 64 new empty documents into the handle, in place of what it held, which is freed. The calls below speak of document 0 of
+ * them; only `tm_answer` speaks of the others too. MEMORY. */
 uint32_t tm_make(tm_document *handle);
 
-/* Frees the document, and leaves the handle empty. */
+/* Frees the documents, and leaves the handle empty. */
 uint32_t tm_free(tm_document *handle);
 
 /* ---- Opened and changed */
@@ -131,10 +134,14 @@ uint32_t tm_edit_at(tm_document *handle, uint64_t line, uint64_t column, uint64_
 /* Ops at once; their texts stand one after another in `text`. RANGE also where they do not fill it; OVERLAP. */
 uint32_t tm_batch(tm_document *handle, const tm_op *batch, size_t batch_len, const uint16_t *text, size_t text_len);
 
-/* Back to the text before the last step. NOTHING where there is none, LIMIT, MEMORY. */
+/* Back to the text before the last step. A step that a line of `tm_answer` made in several documents at once is undone in all of
+ * them. NOTHING where there is none; LIMIT; JOINT where that step is no longer the last one of each of them, so that these have to
+ * be undone first, by `tm_answer`; MEMORY. */
 uint32_t tm_undo(tm_document *handle);
 
-/* On to the text after the step that was undone last. NOTHING where there is none, LIMIT, MEMORY. */
+/* On to the text after the step that was undone last. A step of several documents is made again in all of them. NOTHING where
+ * there is none; LIMIT; JOINT where that step is not the next one of each of them, so that these have to be made again first, by
+ * `tm_answer`; MEMORY. */
 uint32_t tm_redo(tm_document *handle);
 
 /* The next edit begins a step of undo. */
@@ -233,7 +240,8 @@ uint32_t tm_close(tm_document *handle, uint64_t id);
 
 /* ---- Script lines */
 
-/* Answers a line of a script, without its LF. The reply is kept in the document; `len` is how many bytes it has. */
+/* Answers a line of a script, without its LF, which may name any of the 64 documents; one that names none speaks of document 0,
+ * as the calls do. The reply is kept in the handle; `len` is how many bytes it has. */
 uint32_t tm_answer(tm_document *handle, const uint8_t *line, size_t line_len, uint64_t *len);
 
 /* As many bytes of the last reply as there is room for, from `from` on. RANGE where this is past its end. */

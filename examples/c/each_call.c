@@ -207,6 +207,30 @@ static void script(tm_document *d) {
   EQUAL(n, 9);
 }
 
+static uint32_t answer(tm_document *d, const char *line) {
+  uint64_t n;
+  return tm_answer(d, (const uint8_t *)line, strlen(line), &n);
+}
+
+/* A step of documents 0 and 1 is undone in both, unless one of them made another since. */
+static void several(tm_document *d) {
+  uint64_t n;
+  STATUS(tm_open(d, u"a", 1, 0), TM_OK);
+  STATUS(answer(d, "{\"cmd\":\"joint\",\"edits\":[{\"doc\":0,\"ops\":[{\"at\":[1,1],\"text\":\"x\"}]},"
+                   "{\"doc\":1,\"ops\":[{\"at\":[0,0],\"text\":\"y\"}]}]}"), TM_OK);
+  STATUS(answer(d, "{\"cmd\":\"edit\",\"doc\":1,\"ops\":[{\"at\":[0,0],\"text\":\"z\"}]}"), TM_OK);
+  STATUS(tm_undo(d), TM_JOINT);
+  STATUS(tm_len(d, &n), TM_OK);
+  EQUAL(n, 2);
+  STATUS(answer(d, "{\"cmd\":\"undo\",\"doc\":1}"), TM_OK);
+  STATUS(tm_undo(d), TM_OK);
+  STATUS(tm_len(d, &n), TM_OK);
+  EQUAL(n, 1);
+  STATUS(tm_redo(d), TM_OK);
+  STATUS(answer(d, "{\"cmd\":\"redo\",\"doc\":1}"), TM_OK);
+  STATUS(tm_undo(d), TM_JOINT);
+}
+
 int main(void) {
   tm_document d = {0};
   empty_handle();
@@ -217,10 +241,11 @@ int main(void) {
   snapshots(&d);
   script(&d);
   searches(&d);
+  several(&d);
   STATUS(tm_make(&d), TM_OK);
   STATUS(tm_free(&d), TM_OK);
   STATUS(tm_free(&d), TM_EMPTY);
-  EQUAL(tm_version(), 300);
+  EQUAL(tm_version(), 400);
   puts(failed ? "failed" : "ok");
   return failed;
 }

@@ -130,6 +130,11 @@ static uint32_t mirror(tm_document *d) { return answer(d, "{\"cmd\":\"mirror\"}"
 static uint32_t sent(tm_document *d) { return answer(d, "{\"cmd\":\"send\"}"); }
 static uint32_t delivered(tm_document *d) { return answer(d, "{\"cmd\":\"deliver\",\"n\":1}"); }
 
+static uint32_t joined(tm_document *d) {
+  return answer(d, "{\"cmd\":\"joint\",\"edits\":[{\"doc\":0,\"ops\":[{\"at\":[0,0],\"text\":\"(x\"}]},"
+                   "{\"doc\":9,\"ops\":[{\"at\":[0,0],\"text\":\"[y\"}]}]}");
+}
+
 static uint32_t (*const calls[])(tm_document *) = {
     opened,       edited,      edited_at,       many_ops,     decorated, all_decorations, all_brackets,
     matched,      level,       snapshot,        long_text,    matched,   level,           undone,
@@ -137,6 +142,7 @@ static uint32_t (*const calls[])(tm_document *) = {
     all_brackets, opened_utf8, cursor_stops,    edited,       snapshot,  answered,        undone,
     found,        all_replaced, undone,         all_replaced, level,     undone,
     opened_with,  level,       mirror,          answered,     sent,      delivered,
+    joined,       undone,      redone,
 };
 enum { CALLS = sizeof calls / sizeof *calls };
 

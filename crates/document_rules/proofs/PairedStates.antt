@@ -19,13 +19,15 @@ use Rattle.hiding_rules.specs.Hidden.{Scanner}
 use Rattle.decoration_rules.specs.Refusals.{DecoRefusal}
 use Rattle.decoration_rules.specs.declared.NewDeco.{NewDeco}
 use Rattle.decoration_rules.specs.Decorations.{Decorations, decorated}
+use Rattle.undo_rules.specs.declared.Tag.{Tag}
+use Rattle.undo_rules.specs.Tags.{has_tag, without_tag, tagged_front}
 use Rattle.undo_rules.specs.Stack.{Step, Stack, joined, new_step, undone_lists, redone_lists, undone, redone}
 use Rattle.snapshot_rules.specs.Refusals.{ShelfRefusal}
 use Rattle.snapshot_rules.specs.Snapshots.{Snapshot, FlatShelf, IsRising, IsSound, empty_shelf, has_id, skipped, front, is_full, is_open, flat_take, flat_close}
 use Rattle.document_rules.proofs.PairedEndings.{IsPaired-normalized, paired_texts_in}
 use Rattle.document_rules.specs.declared.ModelError.{ModelError}
 use Rattle.document_rules.specs.Refusals.{FlatRefusal, limit}
-use Rattle.document_rules.specs.Document.{greatest_version, FlatText, Deed, batch, recast, FlatChange, FlatState, new_document, flat_open, text_now, after_deed, after_batch, edited_by, flat_edit, is_same_kind, recast_to, carried_to, after_recast, flat_eol, carried_by, flat_stop, text_before, text_after, carried_back, carried_on, batches_back, batches_on, returned, undone_step, flat_undo, redone_step, flat_redo, with_decorations, flat_decorate}
+use Rattle.document_rules.specs.Document.{greatest_version, FlatText, Deed, batch, recast, FlatChange, FlatState, new_document, flat_open, text_now, after_deed, after_batch, edited_by, flat_edit, is_same_kind, recast_to, carried_to, after_recast, flat_eol, carried_by, flat_stop, flat_tag, flat_untag, text_before, text_after, carried_back, carried_on, batches_back, batches_on, returned, undone_step, flat_undo, redone_step, flat_redo, with_decorations, flat_decorate}
 use Rattle.document_rules.specs.Outcomes.{Changes, ChangesWith, Moves}
 use Rattle.document_rules.specs.Snapshots.{with_shelf, flat_snapshot, flat_skipped, flat_close_of, EndsBesidePairs}
 use Rattle.document_rules.specs.Paired.{IsPairedDeed, IsPairedChange, ArePairedSteps, IsPairedShelf, IsPairedState}
@@ -44,7 +46,7 @@ no_steps = All-nil IsPairedStep
 paired_joined : (is_open : Bool) (steps : List (Step FlatChange)) (change : FlatChange) (before after : ℕ) → ArePairedSteps steps → IsPairedChange change
     → ArePairedSteps (joined is_open steps change before after)
 paired_joined true (step ∷ steps) change before after kept h =
-    All-cons IsPairedStep (record { changes = step.changes ++ change ∷ []; alt_before = step.alt_before; alt_after = after }) steps
+    All-cons IsPairedStep (record step { changes = step.changes ++ change ∷ []; alt_after = after }) steps
     (All-push IsPairedChange step.changes change (All-head IsPairedStep step steps kept) h) (All-tail IsPairedStep step steps kept)
 paired_joined true [] change before after kept h =
     All-cons IsPairedStep (new_step change before after) [] (All-cons IsPairedChange change [] h (All-nil IsPairedChange)) (All-nil IsPairedStep)
@@ -64,6 +66,21 @@ paired_redone : (undo redo : List (Step FlatChange)) (is_open : Bool) → ArePai
 paired_redone undo [] is_open h k = record { undo = h; redo = k }
 paired_redone undo (step ∷ steps) is_open h k =
     record { undo = All-cons IsPairedStep step undo (All-head IsPairedStep step steps k) h; redo = All-tail IsPairedStep step steps k }
+
+paired_front : (tag : Tag) (steps : List (Step FlatChange)) → ArePairedSteps steps → ArePairedSteps (tagged_front steps tag)
+paired_front tag [] kept = kept
+paired_front tag (step ∷ steps) kept =
+    All-cons IsPairedStep (record step { tag = Some tag }) steps (All-head IsPairedStep step steps kept) (All-tail IsPairedStep step steps kept)
+
+paired_without : (is_it : Bool) (step : Step FlatChange) → IsPairedStep step → IsPairedStep (if is_it then record step { tag = None } else step)
+paired_without true step h = h
+paired_without false step h = h
+
+paired_untagged : (tag : Tag) (steps : List (Step FlatChange)) → ArePairedSteps steps → ArePairedSteps (map (without_tag tag) steps)
+paired_untagged tag [] kept = kept
+paired_untagged tag (step ∷ steps) kept =
+    All-cons IsPairedStep (without_tag tag step) (map (without_tag tag) steps)
+    (paired_without (has_tag tag step) step (All-head IsPairedStep step steps kept)) (paired_untagged tag steps (All-tail IsPairedStep step steps kept))
 
 paired_before : (now : FlatText) (changes : List FlatChange) → IsPaired now.units → All IsPairedChange changes → IsPaired (text_before now changes).units
 paired_before now [] h kept = h
@@ -189,6 +206,17 @@ edited_paired f g ops done h texts = edited_by_paired f g ops (checked_batch f.k
 
 stopped_paired : (f : FlatState) → IsPairedState f → IsPairedState (flat_stop f)
 stopped_paired f h = record { units = h.units; undo = h.undo; redo = h.redo; shelf = h.shelf }
+
+pub tagged_paired : (f : FlatState) (tag : Tag) → IsPairedState f → IsPairedState (flat_tag f tag)
+tagged_paired f tag h = record { units = h.units; undo = paired_front tag f.history.undo h.undo; redo = h.redo; shelf = h.shelf }
+
+pub untagged_paired : (f : FlatState) (tag : Tag) → IsPairedState f → IsPairedState (flat_untag f tag)
+untagged_paired f tag h = record {
+  units = h.units;
+  undo = paired_untagged tag f.history.undo h.undo;
+  redo = paired_untagged tag f.history.redo h.redo;
+  shelf = h.shelf;
+}
 
 after_recast_paired : (f : FlatState) (kind : Kind) → IsPairedState f → IsPairedState (after_recast f kind)
 after_recast_paired f kind h =

@@ -25,7 +25,9 @@ use Rattle.decoration_rules.specs.Marks.{carried}
 use Rattle.decoration_rules.specs.Lines.{carried_with_lines}
 use Rattle.decoration_rules.specs.Decorations.{Decorations, no_decorations, decorated, deco_at, decos_in}
 use Rattle.recast_rules.specs.Moves.{line_moves}
+use Rattle.undo_rules.specs.declared.Tag.{Tag}
 use Rattle.undo_rules.specs.Stack.{Step, Stack, empty_stack, pushed, stopped, undone, redone}
+use Rattle.undo_rules.specs.Tags.{tagged, untagged}
 use Rattle.snapshot_rules.specs.Snapshots.{FlatShelf, empty_shelf}
 use Rattle.document_rules.specs.Refusals.{FlatRefusal, unknown, range, overlap, limit}
 
@@ -158,6 +160,14 @@ flat_edit f ops = edited_by f (checked_batch f.kind f.units ops)
 -- the next edit begins a step of undo
 abbrev pub flat_stop : FlatState → FlatState
 flat_stop f = record f { history = stopped f.history }
+
+-- the step that was made last is one of several documents
+abbrev pub flat_tag : FlatState → Tag → FlatState
+flat_tag f tag = record f { history = tagged f.history tag }
+
+-- no step is one of these documents any more
+abbrev pub flat_untag : FlatState → Tag → FlatState
+flat_untag f tag = record f { history = untagged f.history tag }
 
 -- ---- a change of line endings
 

@@ -38,6 +38,7 @@ an_edit_over_a_break : flat_edit (new_document (codes "ab\ncd") standard_scanner
         changes = record { before = mixed (codes "ab\ncd"); deed = batch (op 1 4 (codes "X") ∷ []); after = mixed (codes "aXd") } ∷ [];
         alt_before = 1;
         alt_after = 2;
+        tag = None;
       } ∷ [];
       redo = [];
       is_open = true;
@@ -269,6 +270,7 @@ three_pairs = record (at_version 2 2 (codes "a\nb\nc") ((op 0 5 (codes "a\r\nb\r
     } ∷ [];
     alt_before = 1;
     alt_after = 2;
+    tag = None;
   } ∷ [];
   redo = [];
   is_open = false;

@@ -52,11 +52,14 @@ module _ {C : Type 0} where
   redo_moves (Some e) es done kept apart some =
       absurd (omega (arith, some, apart refl, length-map (drop done (take kept es)) (step_of {C = C}), length-drop done (take kept es), length-take kept es))
 
+  pub length_before : (es : List (Element C)) (done kept : ℕ) → length (before (take kept es) done) ≡ min done (min kept (length es))
+  length_before es done kept =
+      length-map (reverse (take done (take kept es))) (step_of {C = C}) ∙ length-reverse (take done (take kept es)) ∙ length-take done (take kept es) ∙ ap (min done) (length-take kept es)
+
   pub undo_moves : (es : List (Element C)) (done kept : ℕ) → done ≤ kept → kept ≤ length es → 0 < length (before (take kept es) done)
       → stack_at (take kept es) (done - 1) ≡ undone_lists (before (take kept es) done) (behind (take kept es) done)
   undo_moves es done kept le within some =
-      let long : length (before (take kept es) done) ≡ min done (min kept (length es)) =
-      length-map (reverse (take done (take kept es))) (step_of {C = C}) ∙ length-reverse (take done (take kept es)) ∙ length-take done (take kept es) ∙ ap (min done) (length-take kept es) in
+      let long = length_before es done kept in
       let back : (done - 1) + 1 ≡ done = omega (arith, some, long) in
       subst (λ n. stack_at (take kept es) (done - 1) ≡ undone_lists (before (take kept es) n) (behind (take kept es) n)) back
       (moved_back (take kept es) (done - 1) (omega (arith, some, long, le, within, length-take kept es)))

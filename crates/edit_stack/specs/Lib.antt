@@ -1,4 +1,5 @@
 pub mod Element
+pub mod ItemLends
 pub mod Rows
 pub mod Shown
 pub mod Lists

@@ -1,11 +1,14 @@
 //! One step of undo.
 
 ghost use Rattle.std.specs.Prelude.{◌≡◌, ◌<◌, Some, length, slice_get};
+ghost use Rattle.undo_rules.specs.Tags.{has_tag, without_tag};
 ghost use Rattle.edit_stack.specs.Element.{step_of};
 
 use crate::rows::RowList;
+use undo_rules::Tag;
 
-/// The changes that one undo takes back, at least one, and the alternative versions before and after them.
+/// The changes that one undo takes back, at least one, the alternative versions before and after them, and what they share
+/// with steps of other documents that were made at once.
 #[derive(Drop)]
 pub struct Element<C> {
     pub(crate) first: C,
@@ -13,6 +16,7 @@ pub struct Element<C> {
     pub(crate) more: RowList<C>,
     pub(crate) alt_before: u64,
     pub(crate) alt_after: u64,
+    pub(crate) tag: Option<Tag>,
 }
 
 impl<C> Element<C> {
@@ -46,5 +50,32 @@ impl<C> Element<C> {
         ensures { result ≡ (step_of self.now).alt_after }
     {
         self.alt_after
+    }
+
+    /// The tag, where it has one.
+    pub fn tag(&self) -> Option<Tag>
+        ensures { result ≡ (step_of self.now).tag }
+    {
+        self.tag
+    }
+
+    /// Whether it has this tag.
+    pub(crate) fn has(&self, tag: Tag) -> bool
+        ensures { result ≡ has_tag tag (step_of self.now) }
+    {
+        match self.tag {
+            Some(own) => own == tag,
+            None => false,
+        }
+    }
+
+    /// Takes this tag off, where it has it.
+    pub(crate) fn untag(&mut self, tag: Tag)
+        ensures step { step_of self.new ≡ without_tag tag (step_of self.old) }
+        ensures room { self.new.more ≡ self.old.more }
+    {
+        if self.has(tag) {
+            self.tag = None;
+        }
     }
 }

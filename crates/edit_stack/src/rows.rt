@@ -1,6 +1,7 @@
 //! A list in rows, of which no item is ever moved: to make room is to ask for a row, whatever is there.
 ghost use Rattle.std.specs.Prelude.{◌≡◌, ◌+◌, ◌-◌, ◌^◌, ◌<◌, ◌≤◌, [], ◌∷◌, ◌++◌, length, take, slice_index_or, slice_set, OnOk, OnErr};
 ghost use Rattle.edit_stack.specs.Rows.{rowed, IsSpot};
+ghost use Rattle.std.specs.Borrow.{sem};
 
 use std::alloc::{AllocError, Global};
 use std::marker::Model;
@@ -88,6 +89,8 @@ impl<T> RowList<T> {
 }
 
 impl<T: Drop> RowList<T> {
+    ghost use Rattle.edit_stack.specs.ItemLends.{lends_item};
+
     /// Makes room for `additional` items more. It fails where memory is short, or there would be room for 2^32 items.
     pub(crate) fn reserve(&mut self, additional: usize) -> Result<(), AllocError>
         ensures items { self.new.items ≡ self.old.items }
@@ -126,15 +129,23 @@ impl<T: Drop> RowList<T> {
         self.len += 1;
     }
 
+    pub(crate) fn get_mut(&mut self, at: usize) -> &mut T
+        requires { at < length self.old.items }
+        ensures* writes_back { sem 𝓛 (lends_item T.row self.entry at result) }
+        ensures value { result.now ≡ slice_index_or self.old.items at result.now }
+    {
+        let rows = &mut self.rows;
+        let spot = spot_of(at);
+        let row = &mut rows[spot.row];
+        &mut row[spot.place]
+    }
+
     /// Puts an item in the place of another, which goes.
     pub(crate) fn set(&mut self, at: usize, item: T)
         requires { at < length self.old.items }
         ensures { self.new ≡ rowed (slice_set self.old.items at item) self.old.capacity }
     {
-        let rows = &mut self.rows;
-        let spot = spot_of(at);
-        let row = &mut rows[spot.row];
-        row[spot.place] = item;
+        *self.get_mut(at) = item;
     }
 
     /// Lets the last item go.

@@ -1,14 +1,17 @@
 //! The two lists.
 
-ghost use Rattle.std.specs.Prelude.{◌≡◌, ◌+◌, ◌^◌, ◌<◌, ◌≤◌, ◌++◌, ◌∷◌, [], length, take, slice_get, OnOk, option_map};
+ghost use Rattle.std.specs.Prelude.{◌≡◌, ◌+◌, ◌^◌, ◌<◌, ◌≤◌, ◌++◌, ◌∷◌, [], length, map, take, slice_get, OnOk, option_map};
+ghost use Rattle.std.specs.List.{list_any};
 ghost use Rattle.std.specs.Option.{option_copied};
 ghost use Rattle.edit_stack.specs.Element.{step_of};
 ghost use Rattle.undo_rules.specs.Stack.{empty_stack, pushed, stopped, undone, redone};
+ghost use Rattle.undo_rules.specs.Tags.{has_tag, without_tag, tagged, untagged, all_steps, holds, tag_at};
 
 use crate::element::Element;
 use crate::rows::RowList;
 use std::alloc::{AllocError, Global};
 use std::marker::Model;
+use undo_rules::Tag;
 
 /// What can be undone and redone. Only `reserve` takes memory.
 ///
@@ -86,6 +89,7 @@ impl<C: Drop> EditStack<C> {
                     more: RowList::new(self.alloc),
                     alt_before,
                     alt_after,
+                    tag: None,
                 });
             }
         }
@@ -147,6 +151,89 @@ impl<C: Drop> EditStack<C> {
     {
         self.done += 1;
     }
+
+    /// The step that was made last gets the tag.
+    pub fn tag_last(&mut self, tag: Tag)
+        requires { 0 < length self.old.stack.undo }
+        ensures stack { self.new.stack ≡ tagged self.old.stack tag }
+        ensures room { self.new.spare ≡ self.old.spare }
+    {
+        match &mut self.open_element {
+            Some(open) => open.tag = Some(tag),
+            None => self.elements.get_mut(self.done - 1).tag = Some(tag),
+        }
+    }
+
+    /// Takes this tag off each step that has it.
+    pub fn untag(&mut self, tag: Tag)
+        ensures stack { self.new.stack ≡ untagged self.old.stack tag }
+        ensures room { self.new.spare ≡ self.old.spare }
+    {
+        if let Some(open) = &mut self.open_element {
+            open.untag(tag);
+        }
+        untag_first(&mut self.elements, self.kept, tag);
+    }
+
+    /// Whether a step has this tag.
+    pub fn holds(&self, tag: Tag) -> bool
+        ensures { result ≡ holds self.now.stack tag }
+    {
+        match &self.open_element {
+            Some(open) if open.has(tag) => true,
+            _ => has_first(&self.elements, self.kept, tag),
+        }
+    }
+
+    /// How many steps can be undone, and how many can be redone.
+    pub fn counts(&self) -> (u64, u64)
+        ensures undo { result.0 ≡ length self.now.stack.undo }
+        ensures redo { result.1 ≡ length self.now.stack.redo }
+        ensures few { result.0 + result.1 < 2 ^ 32 }
+    {
+        prove!(self.kept <= self.elements.len());
+        let open = if self.open_element.is_some() { 1 } else { 0 };
+        ((self.done + open) as u64, (self.kept - self.done) as u64)
+    }
+
+    /// The tag of the step of this number, counted from 0 in the order in which the steps were made: first those that can be
+    /// undone, then those that can be redone. None where that step has no tag.
+    pub fn tag_at(&self, k: u64) -> Option<Tag>
+        requires { k < length (all_steps self.now.stack) }
+        ensures { result ≡ tag_at self.now.stack k }
+    {
+        let at = k as usize;
+        match &self.open_element {
+            Some(open) if at == self.done => open.tag,
+            _ => self.elements.get(at).tag,
+        }
+    }
+}
+
+/// Takes the tag off the first `kept` elements.
+fn untag_first<C: Drop>(elements: &mut RowList<Element<C>>, kept: usize, tag: Tag)
+    requires { kept ≤ length elements.old.items }
+    ensures items { map step_of (take kept elements.new.items)
+        ≡ map (without_tag tag) (map step_of (take kept elements.old.items)) }
+    ensures len { length elements.new.items ≡ length elements.old.items }
+    ensures capacity { elements.new.capacity ≡ elements.old.capacity }
+{
+    for at in 0..kept {
+        elements.get_mut(at).untag(tag);
+    }
+}
+
+/// Whether one of the first `kept` elements has the tag.
+fn has_first<C: Drop>(elements: &RowList<Element<C>>, kept: usize, tag: Tag) -> bool
+    requires { kept ≤ length elements.now.items }
+    ensures { result ≡ list_any (has_tag tag) (map step_of (take kept elements.now.items)) }
+{
+    for at in 0..kept {
+        if elements.get(at).has(tag) {
+            return true;
+        }
+    }
+    false
 }
 
 /// Puts the element behind the first `at`. What stood there goes.

@@ -1,5 +1,5 @@
 -- The texts that kept batches lead to, when one is pushed, undone or redone.
-use Rattle.std.proofs.Common.{◌≡◌, ℕ, Bool, true, false, List, [], ◌∷◌, ◌++◌, refl, ap, sym, subst, ◌∙◌}
+use Rattle.std.proofs.Common.{◌≡◌, ℕ, Bool, true, false, List, [], ◌∷◌, ◌++◌, None, refl, ap, sym, subst, ◌∙◌}
 use Rattle.undo_rules.specs.Stack.{Step, Stack, joined, pushed, stopped, undone_lists, redone_lists}
 use Rattle.document_rules.specs.Document.{FlatText, text_before, text_after}
 use Rattle.model_page.specs.declared.change.Change.{Change}
@@ -72,12 +72,12 @@ text_after-on (c ∷ cs) now = text_after-on cs (led On c now)
 undo_steps-joined : (is_open : Bool) (ss : List (Step Change)) (c : Change) (before after : FlatText) (a b : ℕ) → led Back c after ≡ before
     → undo_steps after (joined is_open ss c a b) ≡ joined is_open (undo_steps before ss) (record { before = before; deed = deed_of c; after = after }) a b
 undo_steps-joined true [] c before after a b gives =
-    ap (λ x. record { changes = record { before = x; deed = deed_of c; after = after } ∷ []; alt_before = a; alt_after = b } ∷ []) gives
+    ap (λ x. record { changes = record { before = x; deed = deed_of c; after = after } ∷ []; alt_before = a; alt_after = b; tag = None } ∷ []) gives
 undo_steps-joined true (s ∷ ss) c before after a b gives =
     let back : text_back after (s.changes ++ c ∷ []) ≡ text_back before s.changes = text_back-more s.changes c after ∙ ap (λ x. text_back x s.changes) gives in
     rw (changes_back-more s.changes c before after gives, back) refl
 undo_steps-joined false ss c before after a b gives =
-    ap (λ x. record { changes = record { before = x; deed = deed_of c; after = after } ∷ []; alt_before = a; alt_after = b } ∷ undo_steps x ss) gives
+    ap (λ x. record { changes = record { before = x; deed = deed_of c; after = after } ∷ []; alt_before = a; alt_after = b; tag = None } ∷ undo_steps x ss) gives
 
 StepsLeadBack-joined : (is_open : Bool) (ss : List (Step Change)) (c : Change) (before after : FlatText) (a b : ℕ) → Leads before c after → StepsLeadBack before ss
     → StepsLeadBack after (joined is_open ss c a b)

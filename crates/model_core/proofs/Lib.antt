@@ -1,5 +1,6 @@
 pub mod LineLemmas
 pub mod Histories
+pub mod Tags
 pub mod LastChanges
 pub mod Taking
 pub mod Editing
@@ -9,4 +10,5 @@ pub mod Kept
 pub mod Shelving
 pub mod Untouched
 pub mod Preparing
+pub mod Alone
 pub mod Searching

@@ -34,10 +34,11 @@ two_batches = record {
       ∷ changed (codes "xax") (insert 3 ∷ []) (codes "xaxx") ∷ [];
   alt_before = 1;
   alt_after = 3;
+  tag = None;
 }
 
 abbrev one_batch : Step FlatChange
-one_batch = record { changes = changed [] (insert 0 ∷ []) (codes "x") ∷ []; alt_before = 0; alt_after = 1 }
+one_batch = record { changes = changed [] (insert 0 ∷ []) (codes "x") ∷ []; alt_before = 0; alt_after = 1; tag = None }
 
 the_ops_of_all_batches_of_the_next_step : next_op_count (two_batches ∷ one_batch ∷ []) ≡ 3
 the_ops_of_all_batches_of_the_next_step = refl
@@ -61,6 +62,7 @@ two_changes = record {
       ∷ changed (codes "a\n") (replace 0 2 (codes "b\r\nc\n") ∷ []) (codes "b\r\nc\n") ∷ [];
   alt_before = 1;
   alt_after = 3;
+  tag = None;
 }
 
 the_breaks_of_both_changes : next_break_count On (two_changes ∷ one_batch ∷ []) ≡ 3
@@ -79,6 +81,7 @@ other_endings = record {
   } ∷ [];
   alt_before = 1;
   alt_after = 2;
+  tag = None;
 }
 
 the_whole_text_is_put_in : next_unit_count On (other_endings ∷ []) ≡ 3

@@ -13,7 +13,7 @@ use Rattle.model_core.specs.declared.latest.Latest.TheVariants.{Made, TakenBack,
 
 -- the step, with these changes in place of its own
 abbrev pub step_with : Step Change → List FlatChange → Step FlatChange
-step_with s changes = record { changes = changes; alt_before = s.alt_before; alt_after = s.alt_after }
+step_with s changes = record { changes = changes; alt_before = s.alt_before; alt_after = s.alt_after; tag = s.tag }
 
 -- what can be undone from the text of now
 abbrev pub undo_steps : FlatText → List (Step Change) → List (Step FlatChange)

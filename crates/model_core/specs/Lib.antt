@@ -5,6 +5,7 @@ pub mod Edited
 pub mod Replaced
 pub mod Ways
 pub mod Shelving
+pub mod Opened
 pub mod Prepared
 pub mod Going
 pub mod Decorating

@@ -10,7 +10,7 @@ use Rattle.mark_rules.specs.declared.Mark.{Mark}
 use Rattle.undo_rules.specs.Stack.{Step}
 use Rattle.document_rules.specs.declared.ModelError.{ModelError}
 use Rattle.document_rules.specs.Outcomes.{RefusedFor}
-use Rattle.document_rules.specs.Document.{FlatText, Deed, FlatChange, FlatState, batch, recast, ops_on, ops_back, text_now, recast_to, after_batch, after_recast, flat_edit, is_same_kind, flat_eol}
+use Rattle.document_rules.specs.Document.{FlatText, Deed, FlatChange, FlatState, batch, recast, ops_on, ops_back, text_now, recast_to, after_batch, after_recast, flat_edit, flat_stop, is_same_kind, flat_eol}
 use Rattle.model_page.specs.declared.change.Change.{Change}
 use Rattle.model_page.specs.declared.change.Way.{Way}
 use Rattle.model_page.specs.declared.change.Way.TheVariants.{Back, On}
@@ -134,6 +134,12 @@ Makes (Endings r) old new = flat_eol old r.to ≡ Ok (Some new)
 abbrev pub Acts : Action → FlatState → FlatState → Type 0
 Acts (Make change) old new = Makes change old new
 Acts (Move way) old new = flat_move way old ≡ Ok (Some new)
+
+-- The same as a step of undo of its own: the open step is closed before it and after it.
+pub record ActsAlone (action : Action) (old new : FlatState) : Type 0 where
+  pub made : FlatState
+  pub acts : Acts action (flat_stop old) made
+  pub closed : new ≡ flat_stop made
 
 abbrev pub marks_after : Action → FlatState → List Mark → List Mark
 marks_after (Make change) f marks = marks_over On change f.units marks

@@ -1,12 +1,14 @@
 -- What a replace of all that is found leaves of the last parse and of the pieces, and why it is refused.
-use Rattle.std.specs.Prelude.{ℕ, List, length, Bool, Result, ⊤}
+use Rattle.std.specs.Prelude.{◌≡◌, ◌<◌, ℕ, List, [], length, Bool, Option, Some, None, Result, Ok, Err, ⊤}
 use Rattle.text_rules.specs.declared.Op.{Op}
 use Rattle.document_rules.specs.declared.ModelError.{ModelError}
 use Rattle.document_rules.specs.declared.ModelError.TheVariants.{Unknown, Range, Overlap, Limit, Memory}
+use Rattle.document_rules.specs.Outcomes.{RefusedFor}
 use Rattle.document_rules.specs.Document.{FlatState}
-use Rattle.search_rules.specs.Replacing.{flat_find, replacing}
+use Rattle.search_rules.specs.Replacing.{flat_find, replacing, flat_replace_all}
 use Rattle.model_page.specs.LineMarks.{marked_backwards}
 use Rattle.model_core.specs.Edited.{ops_as_done}
+use Rattle.model_core.specs.Prepared.{Prepared, IsEditReady}
 use Rattle.model_core.specs.State.{ModelState, HasMoved}
 
 -- for want of room: a limit, or memory
@@ -26,3 +28,14 @@ abbrev pub HasReplaced : List ℕ → List ℕ → Result Bool ModelError → Mo
 HasReplaced sought text result old new =
     let f = old.document in let ops = replacing_ops f sought text in
     HasMoved (length ops) (length ops) (marked_backwards f.units (ops_as_done f ops) old.marks) result old new
+
+-- the ops are prepared, which are some
+pub record IsReplaceReady (sought text : List ℕ) (now : ModelState) (prepared : Prepared) : Type 0 where
+  pub some : 0 < length (replacing_ops now.document sought text)
+  pub ready : IsEditReady (replacing_ops now.document sought text) now prepared
+
+-- nothing is prepared exactly where nothing is found
+abbrev pub PreparesReplace : List ℕ → List ℕ → Result (Option Prepared) ModelError → ModelState → Type 0
+PreparesReplace sought text (Ok (Some ready)) now = IsReplaceReady sought text now ready
+PreparesReplace sought text (Ok None) now = replacing_ops now.document sought text ≡ []
+PreparesReplace sought text (Err e) now = RefusedFor e (flat_replace_all now.document sought text) × IsForRoom e

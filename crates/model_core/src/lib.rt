@@ -21,4 +21,5 @@ pub use ready::Ready;
 pub use steps::Steps;
 pub use text_lengths::{Length, Position, Span};
 pub use text_rules::Op;
+pub use undo_rules::Tag;
 pub use unit_text::{Kind, Units, units_of, utf8_of};

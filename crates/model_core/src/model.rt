@@ -11,6 +11,7 @@ mod open;
 mod queries;
 mod search;
 mod snapshot;
+mod tags;
 
 use crate::latest::Latest;
 use edit_stack::EditStack;

@@ -51,10 +51,16 @@ pub fn run_line(
     Ok(run_words(alloc, words.as_slice(), src, out, err))
 }
 
-/// Serves a new document's script, by reads into eight bytes, within the budget.
-pub fn served(alloc: Global, src: &mut MemSource, out: &mut MemSink, most: u64) -> Served {
+/// Serves a new session's script, by reads into eight bytes, within the budget.
+pub fn served(
+    alloc: Global,
+    src: &mut MemSource,
+    out: &mut MemSink,
+    most: u64,
+) -> Result<Served, AllocError> {
+    let mut session = Session::new(alloc)?;
     let mut buf = [0; 8];
-    serve(&mut Session::new(alloc), src, out, &mut buf, most)
+    Ok(serve(&mut session, src, out, &mut buf, most))
 }
 
 /// Runs the word `run` over the script, which should end with that status, have written that and complain of nothing. Tells

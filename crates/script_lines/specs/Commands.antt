@@ -1,8 +1,6 @@
--- The command that a line spells.
-use Rattle.std.specs.Prelude.{ℕ, List, [], ◌∷◌, Option, None, option_and_then, codes, if◌then◌else◌}
-use Rattle.std.specs.Str.{is_utf8}
+-- The command that a value spells.
+use Rattle.std.specs.Prelude.{List, [], ◌∷◌, Option, option_and_then, codes}
 use Rattle.serde_json.specs.Data.{Data}
-use Rattle.serde_json.specs.Read.{read}
 use Rattle.script_lines.specs.Fields.{string_at}
 use Rattle.script_lines.specs.Rows.{Row, row, named_in, bare, of_number, of_two_numbers, of_span, of_position}
 use Rattle.script_lines.specs.EditCommands.{open_in, edit_in, eol_in}
@@ -47,7 +45,3 @@ commands =
 -- the field `cmd` names the command
 abbrev pub command_in : Data → Option Command
 command_in d = option_and_then (λ name. named_in commands name d) (string_at (codes "cmd") d)
-
--- a line is a command where it is JSON in UTF-8, and its value is that of a command
-unfoldable pub command_of : List ℕ → Option Command
-command_of line = if is_utf8 line then option_and_then command_in (read line) else None

@@ -1,5 +1,5 @@
 -- The commands that change the text.
-use Rattle.std.specs.Prelude.{[], ◌∷◌, List, Option, Some, None, option_map, option_and_then, codes, if◌then◌else◌}
+use Rattle.std.specs.Prelude.{ℕ, [], ◌∷◌, List, Option, Some, None, option_map, option_and_then, codes, if◌then◌else◌}
 use Rattle.serde_json.specs.Data.{Data, Items, no_items, item}
 use Rattle.serde_json.specs.Find.{get, as_array}
 use Rattle.script_lines.specs.declared.op.LineOp.{LineOp}
@@ -47,10 +47,12 @@ abbrev pub some_ops_in : Items → Option (List LineOp)
 some_ops_in no_items = None
 some_ops_in (item d ds) = all_of op_in (item d ds)
 
+abbrev pub some_ops_at : List ℕ → Data → Option (List LineOp)
+some_ops_at key d = option_and_then some_ops_in (option_and_then as_array (get key d))
+
 -- `{"cmd":"edit","ops":[OP,..]}`
 abbrev pub edit_in : Data → Option Command
-edit_in d = if has_fields (codes "ops" ∷ []) d
-    then option_map Edit (option_and_then some_ops_in (option_and_then as_array (get (codes "ops") d))) else None
+edit_in d = if has_fields (codes "ops" ∷ []) d then option_map Edit (some_ops_at (codes "ops") d) else None
 
 -- `{"cmd":"eol","kind":"lf"}`, or with `"crlf"`
 abbrev pub eol_in : Data → Option Command

@@ -9,8 +9,13 @@ use Rattle.script_lines.specs.declared.reason.Refusal.TheVariants.{Gap}
 use Rattle.script_lines.specs.Replies.{ok_reply, refusal_reply}
 use Rattle.script_lines.specs.Decorations.{new_deco_in}
 use Rattle.script_lines.specs.Commands.{command_in}
+use Rattle.script_lines.specs.Requests.{request_in}
 use Rattle.script_lines.specs.declared.command.Command.{Command}
-use Rattle.script_lines.specs.declared.command.Command.TheVariants.{Open, Eol, Decorate, Decos, Match, Level, Read, Close, Stops, Find, Replace}
+use Rattle.script_lines.specs.declared.command.Command.TheVariants.{Open, Eol, Decorate, Decos, Match, Level, Size, Read, Close, Stops, Find, Replace}
+use Rattle.script_lines.specs.declared.op.LineOp.{LineOp}
+use Rattle.script_lines.specs.declared.op.Place.TheVariants.{At}
+use Rattle.script_lines.specs.declared.request.DocEdit.{DocEdit}
+use Rattle.script_lines.specs.declared.request.Request.TheVariants.{One, Joint}
 
 three_numbers : ok_reply (2 ∷ 3 ∷ 10 ∷ []) ≡ codes "ok 2 3 10\n"
 unfolding digits
@@ -300,3 +305,95 @@ replace_by_an_empty_text = refl
 replace_an_empty_text : command_in (replace [] (codes "c")) ≡ None
 unfolding chars
 replace_an_empty_text = refl
+
+-- ---- documents
+
+-- `{"cmd":"size","doc":DOC}`
+abbrev size_of : Data → Data
+size_of doc = object (member (codes "cmd") (string (codes "size")) (member (codes "doc") doc no_members))
+
+size_of_the_first : request_in (only (codes "cmd") (string (codes "size"))) ≡ Some (One 0 Size)
+size_of_the_first = refl
+
+size_of_another : request_in (size_of (whole 1)) ≡ Some (One 1 Size)
+size_of_another = refl
+
+-- how many documents there are is not asked here
+size_of_one_far_off : request_in (size_of (whole 64)) ≡ Some (One 64 Size)
+size_of_one_far_off = refl
+
+size_of_null : request_in (size_of null) ≡ None
+size_of_null = refl
+
+decos_of_another : request_in (object (member (codes "at") (array (two 2 5))
+    (member (codes "cmd") (string (codes "decos")) (member (codes "doc") (whole 1) no_members))))
+    ≡ Some (One 1 (Decos (record { start = 2; end = 5 }) None))
+decos_of_another = refl
+
+-- ---- joint edits
+
+-- `{"at":[2,5],"text":"x"}`, as it is given and as it is read
+abbrev given_op : Data
+given_op = object (member (codes "at") (array (two 2 5)) (member (codes "text") (string (codes "x")) no_members))
+
+abbrev op : LineOp
+op = record { place = At (record { start = 2; end = 5 }); text = codes "x"; force = false }
+
+-- `{"doc":DOC,"ops":[OP,..]}`
+abbrev given_edit : ℕ → Items → Data
+given_edit doc ops = object (member (codes "doc") (whole doc) (member (codes "ops") (array ops) no_members))
+
+abbrev one_op : ℕ → Data
+one_op doc = given_edit doc (item given_op no_items)
+
+abbrev op_in_doc : ℕ → DocEdit
+op_in_doc doc = record { doc = doc; ops = op ∷ [] }
+
+-- `{"cmd":"joint","edits":[EDIT,..]}`
+abbrev joint : Items → Data
+joint edits = object (member (codes "cmd") (string (codes "joint")) (member (codes "edits") (array edits) no_members))
+
+joint_of_two : request_in (joint (item (one_op 3) (item (one_op 0) no_items))) ≡ Some (Joint (op_in_doc 3 ∷ op_in_doc 0 ∷ []))
+unfolding chars
+joint_of_two = refl
+
+joint_of_three : request_in (joint (item (one_op 1) (item (one_op 1) (item (one_op 64) no_items))))
+    ≡ Some (Joint (op_in_doc 1 ∷ op_in_doc 1 ∷ op_in_doc 64 ∷ []))
+unfolding chars
+joint_of_three = refl
+
+joint_of_one : request_in (joint (item (one_op 3) no_items)) ≡ None
+joint_of_one = refl
+
+joint_of_none : request_in (joint no_items) ≡ None
+joint_of_none = refl
+
+-- `doc` stands in the edits, and not beside them
+joint_with_a_doc : request_in (object (member (codes "cmd") (string (codes "joint")) (member (codes "doc") (whole 0)
+    (member (codes "edits") (array (item (one_op 3) (item (one_op 0) no_items))) no_members)))) ≡ None
+joint_with_a_doc = refl
+
+joint_without_edits : request_in (only (codes "cmd") (string (codes "joint"))) ≡ None
+joint_without_edits = refl
+
+-- which document an edit is for has to be said
+edit_without_doc : request_in (joint (item (one_op 3) (item (only (codes "ops") (array (item given_op no_items))) no_items))) ≡ None
+unfolding chars
+edit_without_doc = refl
+
+edit_without_ops : request_in (joint (item (one_op 3) (item (only (codes "doc") (whole 0)) no_items))) ≡ None
+unfolding chars
+edit_without_ops = refl
+
+edit_of_no_op : request_in (joint (item (one_op 3) (item (given_edit 0 no_items) no_items))) ≡ None
+unfolding chars
+edit_of_no_op = refl
+
+edit_with_a_name : request_in (joint (item (one_op 3) (item (object (member (codes "cmd") (string (codes "edit"))
+    (member (codes "doc") (whole 0) (member (codes "ops") (array (item given_op no_items)) no_members)))) no_items))) ≡ None
+unfolding chars
+edit_with_a_name = refl
+
+-- a joint edit is no command
+joint_is_no_command : command_in (joint (item (one_op 3) (item (one_op 0) no_items))) ≡ None
+joint_is_no_command = refl

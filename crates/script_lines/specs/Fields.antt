@@ -35,7 +35,7 @@ has_only names (object ms) = keys_among names ms
 
 -- the fields that every command may have
 abbrev pub common_fields : List (List ℕ)
-common_fields = codes "cmd" ∷ []
+common_fields = codes "cmd" ∷ codes "doc" ∷ []
 
 -- the value is an object, and has no field beside the common ones and those of the names
 abbrev pub has_fields : List (List ℕ) → Data → Bool

@@ -8,5 +8,7 @@ pub mod EditCommands
 pub mod DecorationCommands
 pub mod SearchCommands
 pub mod Commands
+pub mod Requests
+pub mod Proper
 pub mod Replies
 mod Examples

@@ -3,7 +3,7 @@ use Rattle.std.specs.Prelude.{ℕ, List, ◌∷◌, ◌++◌, codes, decimal}
 use Rattle.std.specs.List.{flat_map}
 use Rattle.unit_text.specs.Text.{quoted}
 use Rattle.script_lines.specs.declared.reason.Refusal.{Refusal}
-use Rattle.script_lines.specs.declared.reason.Refusal.TheVariants.{Syntax, Unknown, Range, Overlap, Limit, Memory, Gap}
+use Rattle.script_lines.specs.declared.reason.Refusal.TheVariants.{Syntax, Unknown, Range, Overlap, Limit, Memory, Gap, Joint}
 
 -- a blank and the number in plain decimals
 abbrev pub number_part : ℕ → List ℕ
@@ -37,3 +37,4 @@ refusal_reply Overlap = codes "! overlap\n"
 refusal_reply Limit = codes "! limit\n"
 refusal_reply Memory = codes "! memory\n"
 refusal_reply (Gap have need) = codes "! gap" ++ number_part have ++ number_part need ++ codes "\n"
+refusal_reply (Joint doc) = codes "! joint" ++ number_part doc ++ codes "\n"

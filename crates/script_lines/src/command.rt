@@ -1,11 +1,10 @@
-//! Commands, and the lines that spell them.
+//! Commands, and the values that spell them.
 
-ghost use Rattle.std.specs.Prelude.{◌≡◌, true, Some, None, IfOk, OnOk, Err};
-ghost use Rattle.std.specs.Str.{is_utf8};
-ghost use Rattle.serde_json.specs.Read.{read};
+ghost use Rattle.std.specs.Prelude.{◌≡◌, Some, codes};
 ghost use Rattle.serde_json.specs.View.{view};
 ghost use Rattle.script_lines.specs.Reading.{Reads};
-ghost use Rattle.script_lines.specs.Commands.{command_in, command_of};
+ghost use Rattle.script_lines.specs.Fields.{string_at};
+ghost use Rattle.script_lines.specs.Commands.{command_in};
 
 use crate::commands::command_named;
 use crate::fields::LineFault;
@@ -15,12 +14,11 @@ use crate::sought::Sought;
 use bracket_scan::BracketTable;
 use hiding_marks::Hiding;
 use serde_json::Value;
-use serde_json::error::Category;
 use std::alloc::Global;
 use text_lengths::{Position, Span};
 use unit_text::{Kind, Units};
 
-/// One line of a script.
+/// What a line asks of one document.
 #[derive(Drop)]
 pub enum Command {
     /// Puts a new document in place of the old one. Its brackets are those of the table, or of
@@ -132,34 +130,11 @@ pub enum Command {
     },
 }
 
-/// The command that the line spells. `Syntax` exactly where it spells none.
-#[tactic(auto, unfolding(crate::specs::Commands::command_of))]
-pub fn command_of(alloc: Global, line: &[u8]) -> Result<Command, LineFault>
-    ensures { Reads result (command_of line.now) }
-{
-    let value = value_of(alloc, line)?;
-    command_in(alloc, &value)
-}
-
-fn value_of(alloc: Global, line: &[u8]) -> Result<Value, LineFault>
-    ensures utf8 { OnOk result (is_utf8 line.now ≡ true) }
-    ensures ok { IfOk result (λ value. read line.now ≡ Some (view value)) }
-    ensures syntax { result ≡ Err LineFault.Syntax → is_utf8 line.now ≡ true
-        → read line.now ≡ None }
-{
-    match Value::from_slice(alloc, line) {
-        Ok(value) => Ok(value),
-        Err(fault) => match fault.classify() {
-            Category::Memory => Err(LineFault::Memory),
-            _ => Err(LineFault::Syntax),
-        },
-    }
-}
-
-fn command_in(alloc: Global, value: &Value) -> Result<Command, LineFault>
+/// The command that the value spells, where `name` is what it has at `cmd`. `Syntax` exactly where
+/// it spells none.
+pub(crate) fn command_in(alloc: Global, name: &str, value: &Value) -> Result<Command, LineFault>
+    requires { string_at (codes "cmd") (view value.now) ≡ Some name.now }
     ensures { Reads result (command_in (view value.now)) }
 {
-    let field = value.get("cmd").ok_or(LineFault::Syntax)?;
-    let name = field.as_str().ok_or(LineFault::Syntax)?;
     command_named(alloc, name, value)
 }

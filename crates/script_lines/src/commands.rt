@@ -14,6 +14,7 @@ mod shapes;
 use crate::command::Command;
 use crate::fields::LineFault;
 use decorations::{decorate_in, decos_in};
+pub(crate) use edit::some_ops_at;
 use edit::{edit_in, eol_in, open_in};
 use search::{find_in, replace_in};
 use serde_json::Value;

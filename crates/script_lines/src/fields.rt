@@ -36,7 +36,7 @@ pub(crate) fn expect_only(value: &Value, names: &[&str]) -> Result<(), LineFault
 pub(crate) fn expect_fields(value: &Value, names: &[&str]) -> Result<(), LineFault>
     ensures { Passes result (has_fields (names_of names.now) (view value.now)) }
 {
-    expect(has_only(value, &["cmd"], names))
+    expect(has_only(value, &["cmd", "doc"], names))
 }
 
 fn expect(holds: bool) -> Result<(), LineFault>

@@ -1,4 +1,4 @@
-//! The script language: the command that a line spells, and the bytes of a reply.
+//! The script language: the request that a line spells, and the bytes of a reply.
 #![tactic(auto)]
 
 mod bracket;
@@ -12,14 +12,16 @@ mod long;
 mod marks;
 mod op;
 mod reason;
+mod request;
 mod short;
 mod sought;
 
-pub use command::{Command, command_of};
+pub use command::Command;
 pub use fields::LineFault;
 pub use lists::{Ids, ListOf, NewDecos};
 pub use long::{long_begin, long_end, long_mark, long_number, long_text};
 pub use op::{LineOp, LineOps, Place};
 pub use reason::Refusal;
+pub use request::{DocEdit, DocEdits, Request, request_of};
 pub use short::{Short, refusal};
 pub use sought::Sought;

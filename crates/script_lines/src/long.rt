@@ -1,6 +1,7 @@
-//! Replies of any length, built part by part in a vector. Each part is appended whole, or it leaves `out` as it was.
+//! Replies of any length, built part by part in a vector. Each part is appended whole, or it leaves `out` as it was. No part
+//! takes memory where there is room for it.
 
-ghost use Rattle.std.specs.Prelude.{◌≡◌, ◌++◌, ◌∷◌, [], OnOk, OnErr, codes};
+ghost use Rattle.std.specs.Prelude.{◌≡◌, ◌+◌, ◌<◌, ◌≤◌, ◌++◌, ◌∷◌, [], OnOk, OnErr, codes, vec_len, vec_capacity};
 ghost use Rattle.script_lines.specs.Replies.{number_part, text_part};
 
 use crate::short::number_part;
@@ -11,14 +12,20 @@ use unit_text::quoted;
 pub fn long_begin(out: &mut Vec<u8>) -> Result<(), AllocError>
     ensures ok { OnOk result (out.new.items ≡ out.old.items ++ codes "ok") }
     ensures err { OnErr result (out.new.items ≡ out.old.items) }
+    ensures full { OnErr result (vec_capacity out.old < vec_len out.old + 2) }
+    ensures capacity { vec_capacity out.old ≤ vec_capacity out.new }
+    ensures len { vec_len out.new ≤ vec_len out.old + 2 }
 {
     out.extend_from_slice(b"ok")
 }
 
-/// A blank and the number.
+/// A blank and the number, in at most 21 bytes.
 pub fn long_number(n: u64, out: &mut Vec<u8>) -> Result<(), AllocError>
     ensures ok { OnOk result (out.new.items ≡ out.old.items ++ number_part n) }
     ensures err { OnErr result (out.new.items ≡ out.old.items) }
+    ensures full { OnErr result (vec_capacity out.old < vec_len out.old + 21) }
+    ensures capacity { vec_capacity out.old ≤ vec_capacity out.new }
+    ensures len { vec_len out.new ≤ vec_len out.old + 21 }
 {
     let part = number_part(n);
     out.extend_from_slice(part.as_slice())
@@ -50,6 +57,7 @@ pub fn long_text(units: &[u16], out: &mut Vec<u8>) -> Result<(), AllocError>
 pub fn long_end(out: &mut Vec<u8>) -> Result<(), AllocError>
     ensures ok { OnOk result (out.new.items ≡ out.old.items ++ codes "\n") }
     ensures err { OnErr result (out.new.items ≡ out.old.items) }
+    ensures full { OnErr result (vec_capacity out.old < vec_len out.old + 1) }
 {
     out.extend_from_slice(b"\n")
 }

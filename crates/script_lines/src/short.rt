@@ -81,7 +81,19 @@ pub fn refusal(r: Refusal) -> Short
         Refusal::Limit => Short::from_text(b"! limit\n"),
         Refusal::Memory => Short::from_text(b"! memory\n"),
         Refusal::Gap { have, need } => gap(have, need),
+        Refusal::Joint { doc } => joint(doc),
     }
+}
+
+fn joint(doc: u64) -> Short
+    ensures { result ≡ refusal_reply (Refusal.Joint doc) }
+{
+    let doc = number_part(doc);
+    let mut bytes = ArrayVec::new();
+    bytes.try_extend_from_slice(b"! joint").unwrap();
+    bytes.try_extend_from_slice(doc.as_slice()).unwrap();
+    bytes.push(b'\n');
+    Short { bytes }
 }
 
 fn gap(have: u64, need: u64) -> Short

@@ -1,7 +1,7 @@
 -- Cutting a script into lines, as its bytes come.
 use Rattle.std.proofs.Common.{◌≡◌, ℕ, suc, ◌+◌, ◌≤◌, ◌<◌, Bool, true, false, eqb, List, [], ◌∷◌, ◌++◌, length, get_or, length-append, refl, ap, ◌∙◌, arith}
 use Rattle.std.proofs.lemmas.List.{append-nil}
-use Rattle.script_runner.specs.Script.{Lines, cut, after_byte, before_first, last_line, all_lines, IsInOneLine}
+use Rattle.session_rules.specs.Script.{Lines, cut, after_byte, before_first, last_line, all_lines, IsInOneLine}
 
 -- the lines of two parts: the rest of the first joins the first line of the second
 abbrev pub joined : Lines → List (List ℕ) → List ℕ → Lines

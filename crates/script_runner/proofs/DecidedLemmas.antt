@@ -4,9 +4,9 @@ use Rattle.std.specs.Prelude.{MatchBool}
 use Rattle.std.specs.List.{All}
 use Rattle.std.proofs.lemmas.List.{append_cancel_left}
 use Rattle.std.proofs.lemmas.List.Elements.{All-nil, All-cons}
-use Rattle.script_runner.specs.Session.{FlatSession}
-use Rattle.script_runner.specs.Step.{memory_reply, Answers, answered, out_of_memory}
-use Rattle.script_runner.specs.Script.{cut, IsInOneLine, IsOneLine, IsDecided, has_reply, turn, written, Turn, Transcript}
+use Rattle.session_rules.specs.Session.{FlatSession}
+use Rattle.session_rules.specs.Step.{memory_reply, Answers, answered, out_of_memory}
+use Rattle.session_rules.specs.Script.{cut, IsInOneLine, IsOneLine, IsDecided, has_reply, turn, written, Turn, Transcript}
 use Rattle.script_runner.proofs.CutLemmas.{cut-append_break}
 use Rattle.script_runner.proofs.ReplyLemmas.{IsFlatReply, flat_turn}
 

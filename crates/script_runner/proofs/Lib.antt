@@ -8,6 +8,10 @@ pub mod PlayLemmas
 pub mod OpLemmas
 pub mod ReplyLemmas
 pub mod DecidedLemmas
+pub mod GoesLemmas
+pub mod FollowLemmas
 mod ScriptExamples
 mod StandingLemmas
 mod MirrorLemmas
+pub mod JointLemmas
+pub mod AnswerLemmas

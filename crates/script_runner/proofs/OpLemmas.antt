@@ -4,7 +4,7 @@ use Rattle.std.specs.Option.{option_and_then, option_map}
 use Rattle.text_rules.specs.declared.Op.{Op}
 use Rattle.document_rules.specs.Document.{FlatState}
 use Rattle.script_lines.specs.declared.op.LineOp.{LineOp}
-use Rattle.script_runner.specs.Step.{op_at, ops_at}
+use Rattle.session_rules.specs.Step.{op_at, ops_at}
 
 abbrev joined : Option Op → Option (List Op) → Option (List Op)
 joined first rest = option_and_then (λ op. option_map (λ ops. op ∷ ops) rest) first

@@ -1,6 +1,8 @@
 -- What playing a script comes to.
 use Rattle.std.proofs.Common.{◌≡◌, inl, inr, ℕ, ◌+◌, ◌%◌, ◌^◌, ◌<◌, ◌≤◌, List, length, sum, length-append, Option, Some, None, refl, ap, sym, ◌∙◌, subst, arith}
-use Rattle.document_rules.specs.Document.{flat_line_count}
+use Rattle.document_rules.specs.Document.{FlatState, flat_line_count}
+use Rattle.group_rules.specs.Group.{doc_in}
+use Rattle.model_group.specs.State.{documents}
 use Rattle.script_streams.specs.Streams.{SourceState, SinkState, Tally, tally_after, Gave, Rose}
 use Rattle.script_streams.specs.Fresh.{no_tally}
 use Rattle.script_play.specs.Script.{script, IsCount}
@@ -10,9 +12,9 @@ use Rattle.script_runner.specs.declared.playing.Summary.{Summary}
 use Rattle.script_runner.specs.declared.serving.Served.{Served}
 use Rattle.script_runner.specs.declared.serving.Served.TheVariants.{Ended, ReadFault, WriteFault, TooLong}
 use Rattle.script_runner.specs.declared.session.Session.{Session}
-use Rattle.script_runner.specs.Session.{new_session}
+use Rattle.session_rules.specs.Session.{new_session}
 use Rattle.script_runner.specs.Standing.{StandsFor}
-use Rattle.script_runner.specs.Script.{all_lines, written, Transcript}
+use Rattle.session_rules.specs.Script.{all_lines, written, Transcript}
 use Rattle.script_runner.specs.Serving.{Serves, ServedAll}
 use Rattle.script_runner.specs.Runs.{most_script_bytes}
 use Rattle.script_runner.specs.Playing.{SumsUp, HasEnded}
@@ -75,25 +77,27 @@ module _ (count seed : ℕ) (start end : Session) (new : StandsFor start new_ses
     sum_is = let summed : after.sum ≡ (before.sum + sum (written served.replies)) % 2 ^ 32 = ap (λ t. t.sum) tally_is in
         omega (arith, summed, sum_before)
 
-    sums_up : (s : Summary) → s.count ≡ count → s.refused ≡ refused → s.units ≡ length end.model.document.units → s.lines ≡ flat_line_count end.model.document
-        → s.bytes ≡ after.count → s.total ≡ after.sum → SumsUp s count seed
-    sums_up s count_kept refused_kept units lines bytes total = let told = served.transcript.told new_session new in record {
-      replies = served.replies;
-      end = told.0;
-      transcript = subst (λ x. Transcript new_session (all_lines x) served.replies told.0) whole told.1;
-      had_memory = sym served.memory_is;
-      count_is = count_kept;
-      refused_is = refused_kept ∙ served.refused_is;
-      units_are = units ∙ ap (λ f. length f.units) (sym told.2.document);
-      lines_are = lines ∙ ap flat_line_count (sym told.2.document);
-      bytes_are = bytes ∙ count_is;
-      total_is = total ∙ sum_is;
-    }
+    sums_up : (s : Summary) (f : FlatState) → doc_in (documents end.group) 0 ≡ f → s.count ≡ count → s.refused ≡ refused → s.units ≡ length f.units
+        → s.lines ≡ flat_line_count f → s.bytes ≡ after.count → s.total ≡ after.sum → SumsUp s count seed
+    sums_up s f is count_kept refused_kept units lines bytes total =
+        let told = served.transcript.told new_session new in
+        let here : f ≡ doc_in told.0.documents 0 = sym (ap (λ g. doc_in g 0) told.2.documents ∙ is) in record {
+          replies = served.replies;
+          end = told.0;
+          transcript = subst (λ x. Transcript new_session (all_lines x) served.replies told.0) whole told.1;
+          had_memory = sym served.memory_is;
+          count_is = count_kept;
+          refused_is = refused_kept ∙ served.refused_is;
+          units_are = units ∙ ap (λ (f : FlatState). length f.units) here;
+          lines_are = lines ∙ ap flat_line_count here;
+          bytes_are = bytes ∙ count_is;
+          total_is = total ∙ sum_is;
+        }
 
   -- where no reply is `! memory`, these are the numbers
   pub summed_up : (served : Served) (refused : ℕ) → served ≡ Ended refused 0 → before ≡ no_tally
       → Serves served most_script_bytes start end src src' (tally_sink before) (tally_sink after)
-      → (s : Summary) → s.count ≡ count → s.refused ≡ refused → s.units ≡ length end.model.document.units → s.lines ≡ flat_line_count end.model.document
-      → s.bytes ≡ after.count → s.total ≡ after.sum → SumsUp s count seed
+      → (s : Summary) (f : FlatState) → doc_in (documents end.group) 0 ≡ f → s.count ≡ count → s.refused ≡ refused → s.units ≡ length f.units
+      → s.lines ≡ flat_line_count f → s.bytes ≡ after.count → s.total ≡ after.sum → SumsUp s count seed
   summed_up served refused is fresh serves =
       sums_up refused fresh (subst (λ served. Serves served most_script_bytes start end src src' (tally_sink before) (tally_sink after)) is serves)

@@ -1,5 +1,5 @@
 -- Each flat reply is one line, and none is `! memory`.
-use Rattle.std.proofs.Common.{◌≡◌, ℕ, zero, suc, ◌+◌, ◌-◌, ◌/◌, ◌%◌, ◌≤◌, ◌==◌, nat_lt, nat_le, Bool, true, false, cond, ltb, eqb, List, [], ◌∷◌, ◌++◌, length, Option, Some, None, Result, Ok, Err, codes, refl, ap, ◌∙◌, arith}
+use Rattle.std.proofs.Common.{◌≡◌, ℕ, zero, suc, ◌+◌, ◌-◌, ◌/◌, ◌%◌, ◌≤◌, ◌==◌, nat_lt, nat_le, Bool, true, false, cond, ltb, eqb, List, [], ◌∷◌, ◌++◌, map, length, Option, Some, None, Result, Ok, Err, codes, refl, ap, ◌∙◌, arith}
 use Rattle.std.specs.List.{flat_map}
 use Rattle.std.specs.Fmt.{digits, digits_onto, digit_glyph}
 use Rattle.std.specs.Char.{digit_char}
@@ -14,22 +14,30 @@ use Rattle.bracket_rules.specs.declared.Entry.{Entry}
 use Rattle.bracket_rules.specs.declared.Status.{Status}
 use Rattle.bracket_rules.specs.declared.Status.TheVariants.{PairedOpening, PairedClosing, Unclosed, Unexpected}
 use Rattle.document_rules.specs.Refusals.{FlatRefusal, unknown, range, overlap, limit}
-use Rattle.document_rules.specs.Document.{FlatState, flat_open, flat_edit, flat_eol, flat_undo, flat_redo, flat_decorate, flat_deco, flat_decos, flat_line, flat_value, flat_position, flat_offset, flat_line_count, content_of}
+use Rattle.document_rules.specs.Document.{FlatState, flat_decorate, flat_deco, flat_decos, flat_line, flat_value, flat_position, flat_offset, flat_line_count, content_of}
 use Rattle.document_rules.specs.Brackets.{flat_brackets, flat_match, flat_level}
 use Rattle.document_rules.specs.Snapshots.{flat_snapshot, flat_peek_of, flat_close_of}
 use Rattle.document_rules.specs.Stops.{flat_stops}
-use Rattle.search_rules.specs.Replacing.{flat_find, flat_replace_all}
+use Rattle.search_rules.specs.Replacing.{flat_find}
+use Rattle.group_rules.specs.declared.TheConstants.{DOC_COUNT}
+use Rattle.group_rules.specs.Refusals.{GroupRefusal, plain, joint}
+use Rattle.group_rules.specs.Group.{FlatGroup, doc_in, group_open, group_edit, group_eol, group_replace_all}
+use Rattle.group_rules.specs.Joint.{FlatBatch, names_badly, group_joint}
+use Rattle.group_rules.specs.Going.{group_undo, group_redo}
 use Rattle.script_lines.specs.declared.command.Command.{Command}
 use Rattle.script_lines.specs.declared.command.Command.TheVariants as command
 use Rattle.script_lines.specs.declared.reason.Refusal.TheVariants as refusal
-use Rattle.script_lines.specs.Commands.{command_of}
+use Rattle.script_lines.specs.declared.request.DocEdit.{DocEdit}
+use Rattle.script_lines.specs.declared.request.Request.{Request}
+use Rattle.script_lines.specs.declared.request.Request.TheVariants.{One, Joint}
+use Rattle.script_lines.specs.Requests.{request_of}
 use Rattle.script_lines.specs.Replies.{number_part, text_part, ok_reply, none_reply, old_reply, text_reply, refusal_reply}
 use Rattle.text_rules.specs.declared.Op.{Op}
 use Rattle.text_rules.specs.Lines.{lines_of, line_at}
 use Rattle.mirror_rules.specs.Mirrors.{MirrorState, SentEvent}
-use Rattle.script_runner.specs.Session.{FlatSession}
-use Rattle.script_runner.specs.Step.{reason_of, memory_reply, ops_at, deco_numbers, changed, moved, decorated, edited_at, text_answer, offset_answer, position_answer, deco_answer, decos_answer, status_letter, entry_part, entries_reply, brackets_answer, match_answer, level_answer, snapshot_answer, read_answer, close_answer, stops_answer, span_numbers, opened, most_sent, send_answer, sent_at, followed, delivered, deliver_answer, mirrored_answer, scanner_for, step}
-use Rattle.script_runner.specs.Script.{after_byte, IsInOneLine, IsOneLine, commanded, is_too_long, turn}
+use Rattle.session_rules.specs.Session.{FlatFollower, FlatSession, follower_in}
+use Rattle.session_rules.specs.Step.{reason_of, group_reason_of, memory_reply, change_reply, ops_at, batches_at, doc_numbers, joined_by, joined_at, joint_answer, deco_numbers, changed, moved, gone, decorated, edited_at, text_answer, offset_answer, position_answer, deco_answer, decos_answer, status_letter, entry_part, entries_reply, brackets_answer, match_answer, level_answer, snapshot_answer, read_answer, close_answer, stops_answer, span_numbers, opened, most_sent, send_answer, sent_at, followed, delivered, deliver_answer, mirrored_answer, scanner_for, step_on, step, request_answer}
+use Rattle.session_rules.specs.Script.{after_byte, IsInOneLine, IsOneLine, requested, is_too_long, turn}
 use Rattle.script_runner.proofs.CutLemmas.{cut-append_line}
 
 -- ---- bytes with no LF among them
@@ -143,18 +151,37 @@ flat_refusal range = record { line = (codes "! range", refl, refl); sure = sure_
 flat_refusal overlap = record { line = (codes "! overlap", refl, refl); sure = sure_by _ refl }
 flat_refusal limit = record { line = (codes "! limit", refl, refl); sure = sure_by _ refl }
 
-flat_changed : (f : FlatState) (rule : Result FlatState FlatRefusal) → IsFlatReply (changed f rule).0
-flat_changed f (Ok new) = flat_numbers (new.version ∷ length new.units ∷ flat_line_count new ∷ [])
-flat_changed f (Err why) = flat_refusal why
+flat_not_next : (n : ℕ) → IsFlatReply (refusal_reply (refusal.Joint n))
+flat_not_next n = record {
+  line = (codes "! joint" ++ number_part n, one-append (codes "! joint") (number_part n) refl (one-number_part n), refl);
+  sure = sure_by _ refl;
+}
 
-flat_moved : (f : FlatState) (rule : Result (Option FlatState) FlatRefusal) → IsFlatReply (moved f rule).0
-flat_moved f (Ok None) = flat_none
-flat_moved f (Ok (Some new)) = flat_numbers (new.version ∷ length new.units ∷ flat_line_count new ∷ [])
-flat_moved f (Err why) = flat_refusal why
+flat_group_refusal : (why : GroupRefusal) → IsFlatReply (refusal_reply (group_reason_of why))
+flat_group_refusal (plain why) = flat_refusal why
+flat_group_refusal (joint n) = flat_not_next n
 
-flat_edited : (f : FlatState) (ops : Option (List Op)) → IsFlatReply (edited_at f ops).0
-flat_edited f None = flat_refusal range
-flat_edited f (Some ops) = flat_changed f (flat_edit f ops)
+-- `ok VERSION UNITS LINES`
+flat_change : (f : FlatState) → IsFlatReply (change_reply f)
+flat_change f = flat_numbers (f.version ∷ length f.units ∷ flat_line_count f ∷ [])
+
+flat_changed : (g : FlatGroup) (n : ℕ) (rule : Result FlatGroup FlatRefusal) → IsFlatReply (changed g n rule).0
+flat_changed g n (Ok new) = flat_change (doc_in new n)
+flat_changed g n (Err why) = flat_refusal why
+
+flat_moved : (g : FlatGroup) (n : ℕ) (rule : Result (Option FlatGroup) FlatRefusal) → IsFlatReply (moved g n rule).0
+flat_moved g n (Ok None) = flat_none
+flat_moved g n (Ok (Some new)) = flat_change (doc_in new n)
+flat_moved g n (Err why) = flat_refusal why
+
+flat_gone : (g : FlatGroup) (n : ℕ) (rule : Result (Option FlatGroup) GroupRefusal) → IsFlatReply (gone g n rule).0
+flat_gone g n (Ok None) = flat_none
+flat_gone g n (Ok (Some new)) = flat_change (doc_in new n)
+flat_gone g n (Err why) = flat_group_refusal why
+
+flat_edited : (g : FlatGroup) (n : ℕ) (ops : Option (List Op)) → IsFlatReply (edited_at g n ops).0
+flat_edited g n None = flat_refusal range
+flat_edited g n (Some ops) = flat_changed g n (group_edit g n ops)
 
 flat_decorated : (f : FlatState) (count : ℕ) (rule : Result FlatState FlatRefusal) → IsFlatReply (decorated f count rule).0
 flat_decorated f count (Ok new) = flat_numbers (f.decorations.next_id ∷ count ∷ [])
@@ -225,32 +252,46 @@ flat_gap have need =
       sure = sure_by _ refl;
     }
 
-flat_opened : (s : FlatSession) (rule : Result FlatState FlatRefusal) → IsFlatReply (opened s rule).0
-flat_opened s (Ok new) = flat_numbers (new.version ∷ length new.units ∷ flat_line_count new ∷ [])
-flat_opened s (Err why) = flat_refusal why
+flat_opened : (s : FlatSession) (n : ℕ) (rule : Result FlatGroup FlatRefusal) → IsFlatReply (opened s n rule).0
+flat_opened s n (Ok new) = flat_change (doc_in new n)
+flat_opened s n (Err why) = flat_refusal why
 
-flat_if : (b : Bool) (x y : List ℕ × FlatSession) → IsFlatReply x.0 → IsFlatReply y.0 → IsFlatReply (cond b x y).0
+flat_if : {S : Type 0} (b : Bool) (x y : List ℕ × S) → IsFlatReply x.0 → IsFlatReply y.0 → IsFlatReply (cond b x y).0
 flat_if true x y first second = first
 flat_if false x y first second = second
 
-flat_send : (s : FlatSession) → IsFlatReply (send_answer s).0
-flat_send s =
-    let sent : List ℕ × FlatSession = (
-      ok_reply ((length s.sent + 1) ∷ (s.document.version - 1) ∷ []),
-      record s { sent = s.sent ++ record { from = s.document.version - 1; after = s.document.units } ∷ [] },
-    ) in
-    flat_if (s.document.version == 1) (none_reply, s) _ flat_none
-    (flat_if (nat_le most_sent (length s.sent)) (refusal_reply refusal.Limit, s) sent (flat_refusal limit)
-    (flat_numbers ((length s.sent + 1) ∷ (s.document.version - 1) ∷ [])))
+flat_joined_by : (g : FlatGroup) (docs : List ℕ) (rule : Result FlatGroup GroupRefusal) → IsFlatReply (joined_by g docs rule).0
+flat_joined_by g docs (Ok new) = flat_numbers (flat_map (doc_numbers new) docs)
+flat_joined_by g docs (Err why) = flat_group_refusal why
 
-flat_delivered : (s : FlatSession) (m : MirrorState) (e : SentEvent) → IsFlatReply (delivered s m e).0
+flat_joined_at : (g : FlatGroup) (docs : List ℕ) (batches : Option (List FlatBatch)) → IsFlatReply (joined_at g docs batches).0
+flat_joined_at g docs None = flat_refusal range
+flat_joined_at g docs (Some batches) = flat_joined_by g docs (group_joint g batches)
+
+flat_joint : (g : FlatGroup) (edits : List DocEdit) → IsFlatReply (joint_answer g edits).0
+flat_joint g edits =
+    let docs = map (λ (edit : DocEdit). edit.doc) edits in
+    flat_if (names_badly docs) (refusal_reply refusal.Unknown, g) (joined_at g docs (batches_at g edits)) (flat_refusal unknown)
+    (flat_joined_at g docs (batches_at g edits))
+
+flat_send : (f : FlatState) (s : FlatFollower) → IsFlatReply (send_answer f s).0
+flat_send f s =
+    let sent : List ℕ × FlatFollower = (
+      ok_reply ((length s.sent + 1) ∷ (f.version - 1) ∷ []),
+      record s { sent = s.sent ++ record { from = f.version - 1; after = f.units } ∷ [] },
+    ) in
+    flat_if (f.version == 1) (none_reply, s) _ flat_none
+    (flat_if (nat_le most_sent (length s.sent)) (refusal_reply refusal.Limit, s) sent (flat_refusal limit)
+    (flat_numbers ((length s.sent + 1) ∷ (f.version - 1) ∷ [])))
+
+flat_delivered : (s : FlatFollower) (m : MirrorState) (e : SentEvent) → IsFlatReply (delivered s m e).0
 flat_delivered s m e =
     let next : MirrorState = record { version = m.version + 1; units = e.after } in
     flat_if (nat_lt e.from m.version) (old_reply, s) _ flat_old
     (flat_if (nat_lt m.version e.from) (refusal_reply (refusal.Gap m.version e.from), s) (followed s next) (flat_gap m.version e.from)
     (flat_numbers (next.version ∷ length next.units ∷ length (lines_of next.units) ∷ [])))
 
-flat_deliver : (s : FlatSession) (m : Option MirrorState) (e : Option SentEvent) → IsFlatReply (deliver_answer s m e).0
+flat_deliver : (s : FlatFollower) (m : Option MirrorState) (e : Option SentEvent) → IsFlatReply (deliver_answer s m e).0
 flat_deliver s None e = flat_refusal unknown
 flat_deliver s (Some m) None = flat_refusal unknown
 flat_deliver s (Some m) (Some e) = flat_delivered s m e
@@ -259,40 +300,46 @@ flat_mirrored : (m : Option MirrorState) (n : ℕ) → IsFlatReply (mirrored_ans
 flat_mirrored None n = flat_refusal unknown
 flat_mirrored (Some m) n = flat_text_answer (content_of (line_at m.units n))
 
-flat_step : (s : FlatSession) (c : Command) → IsFlatReply (step s c).0
-flat_step s (command.Open text brackets marks kind) = flat_opened s (flat_open text (scanner_for brackets marks) kind)
-flat_step s (command.Edit ops) = flat_edited s.document (ops_at s.document ops)
-flat_step s (command.Eol kind) = flat_moved s.document (flat_eol s.document kind)
-flat_step s (command.Decorate owner remove add) = flat_decorated s.document (length add) (flat_decorate s.document owner remove add)
-flat_step s command.Undo = flat_moved s.document (flat_undo s.document)
-flat_step s command.Redo = flat_moved s.document (flat_redo s.document)
-flat_step s command.Stop = flat_numbers []
-flat_step s command.Version = flat_numbers (s.document.version ∷ s.document.alternative ∷ [])
-flat_step s command.Size = flat_numbers (length s.document.units ∷ flat_line_count s.document ∷ [])
-flat_step s (command.Line n) = flat_text_answer (flat_line s.document n)
-flat_step s (command.Value span) = flat_text_answer (flat_value s.document span)
-flat_step s (command.Offset p) = flat_offset_answer (flat_offset s.document p)
-flat_step s (command.Position offset) = flat_position_answer (flat_position s.document offset)
-flat_step s (command.Deco id) = flat_deco_answer (flat_deco s.document id)
-flat_step s (command.Decos span owner) = flat_decos_answer (flat_decos s.document span owner)
-flat_step s (command.Brackets from to) = flat_brackets_answer (flat_brackets s.document from to)
-flat_step s (command.Match p) = flat_match_answer (flat_match s.document p)
-flat_step s (command.Level p) = flat_level_answer (flat_level s.document p)
-flat_step s command.Snapshot = flat_snapshot_answer s.document (flat_snapshot s.document)
-flat_step s (command.Read id count) = flat_read_answer s.document id (flat_peek_of s.document id count)
-flat_step s (command.Close id) = flat_close_answer s.document (flat_close_of s.document id)
-flat_step s (command.Stops n) = flat_stops_answer (flat_stops s.document n)
-flat_step s (command.Find sought) = flat_numbers (span_numbers (flat_find s.document sought))
-flat_step s (command.Replace sought text) = flat_moved s.document (flat_replace_all s.document sought text)
-flat_step s command.Mirror = flat_numbers (s.document.version ∷ [])
-flat_step s command.Send = flat_send s
-flat_step s (command.Deliver n) = flat_deliver s s.mirror (sent_at s.sent n)
-flat_step s (command.Mirrored n) = flat_mirrored s.mirror n
+flat_step_on : (s : FlatSession) (n : ℕ) (f : FlatState) (follower : FlatFollower) (c : Command) → IsFlatReply (step_on s n f follower c).0
+flat_step_on s n f follower (command.Open text brackets marks kind) = flat_opened s n (group_open s.documents n text (scanner_for brackets marks) kind)
+flat_step_on s n f follower (command.Edit ops) = flat_edited s.documents n (ops_at f ops)
+flat_step_on s n f follower (command.Eol kind) = flat_moved s.documents n (group_eol s.documents n kind)
+flat_step_on s n f follower (command.Replace sought text) = flat_moved s.documents n (group_replace_all s.documents n sought text)
+flat_step_on s n f follower command.Undo = flat_gone s.documents n (group_undo s.documents n)
+flat_step_on s n f follower command.Redo = flat_gone s.documents n (group_redo s.documents n)
+flat_step_on s n f follower (command.Decorate owner remove add) = flat_decorated f (length add) (flat_decorate f owner remove add)
+flat_step_on s n f follower command.Stop = flat_numbers []
+flat_step_on s n f follower command.Version = flat_numbers (f.version ∷ f.alternative ∷ [])
+flat_step_on s n f follower command.Size = flat_numbers (length f.units ∷ flat_line_count f ∷ [])
+flat_step_on s n f follower (command.Line line) = flat_text_answer (flat_line f line)
+flat_step_on s n f follower (command.Value span) = flat_text_answer (flat_value f span)
+flat_step_on s n f follower (command.Offset p) = flat_offset_answer (flat_offset f p)
+flat_step_on s n f follower (command.Position offset) = flat_position_answer (flat_position f offset)
+flat_step_on s n f follower (command.Deco id) = flat_deco_answer (flat_deco f id)
+flat_step_on s n f follower (command.Decos span owner) = flat_decos_answer (flat_decos f span owner)
+flat_step_on s n f follower (command.Brackets from to) = flat_brackets_answer (flat_brackets f from to)
+flat_step_on s n f follower (command.Match p) = flat_match_answer (flat_match f p)
+flat_step_on s n f follower (command.Level p) = flat_level_answer (flat_level f p)
+flat_step_on s n f follower command.Snapshot = flat_snapshot_answer f (flat_snapshot f)
+flat_step_on s n f follower (command.Read id count) = flat_read_answer f id (flat_peek_of f id count)
+flat_step_on s n f follower (command.Close id) = flat_close_answer f (flat_close_of f id)
+flat_step_on s n f follower (command.Stops line) = flat_stops_answer (flat_stops f line)
+flat_step_on s n f follower (command.Find sought) = flat_numbers (span_numbers (flat_find f sought))
+flat_step_on s n f follower command.Mirror = flat_numbers (f.version ∷ [])
+flat_step_on s n f follower command.Send = flat_send f follower
+flat_step_on s n f follower (command.Deliver k) = flat_deliver follower follower.mirror (sent_at follower.sent k)
+flat_step_on s n f follower (command.Mirrored line) = flat_mirrored follower.mirror line
 
-flat_commanded : (f : FlatSession) (c : Option Command) → IsFlatReply (commanded f c).0
-flat_commanded f None = flat_syntax
-flat_commanded f (Some c) = flat_step f c
+flat_request : (s : FlatSession) (request : Request) → IsFlatReply (request_answer s request).0
+flat_request s (One n c) =
+    flat_if (nat_le DOC_COUNT n) (refusal_reply refusal.Unknown, s) (step s n c) (flat_refusal unknown)
+    (flat_step_on s n (doc_in s.documents n) (follower_in s.followers n) c)
+flat_request s (Joint edits) = flat_joint s.documents edits
+
+flat_requested : (s : FlatSession) (request : Option Request) → IsFlatReply (requested s request).0
+flat_requested s None = flat_syntax
+flat_requested s (Some request) = flat_request s request
 
 -- the flat reply to any line
-pub flat_turn : (f : FlatSession) (line : List ℕ) → IsFlatReply (turn f line).0
-flat_turn f line = flat_if (is_too_long line) (refusal_reply refusal.Limit, f) (commanded f (command_of line)) (flat_refusal limit) (flat_commanded f (command_of line))
+pub flat_turn : (s : FlatSession) (line : List ℕ) → IsFlatReply (turn s line).0
+flat_turn s line = flat_if (is_too_long line) (refusal_reply refusal.Limit, s) (requested s (request_of line)) (flat_refusal limit) (flat_requested s (request_of line))

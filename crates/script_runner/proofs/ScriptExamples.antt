@@ -8,12 +8,13 @@ use Rattle.script_lines.proofs.ReadExamples.{an_opening, an_edit, a_line, a_size
 use Rattle.unit_text.specs.declared.kind.Kind.TheVariants.{Mixed}
 use Rattle.text_rules.specs.declared.Op.{Op}
 use Rattle.hiding_rules.specs.Hidden.{standard_scanner}
-use Rattle.document_rules.specs.Document.{new_document, after_batch}
+use Rattle.document_rules.specs.Document.{FlatState, new_document, after_batch}
 use Rattle.script_runner.specs.declared.session.Session.{Session}
-use Rattle.script_runner.specs.Session.{FlatSession, session_of, new_session}
+use Rattle.group_rules.specs.Group.{doc_in, with_doc, new_group}
+use Rattle.session_rules.specs.Session.{FlatSession, new_session}
 use Rattle.script_runner.specs.Standing.{Turns}
-use Rattle.script_runner.specs.Step.{answered, out_of_memory}
-use Rattle.script_runner.specs.Script.{most_line_bytes, whole_lines, all_lines, Turn, Transcript}
+use Rattle.session_rules.specs.Step.{answered, out_of_memory}
+use Rattle.session_rules.specs.Script.{most_line_bytes, whole_lines, all_lines, Turn, Transcript}
 use Rattle.script_runner.specs.Progress.{Broken}
 use Rattle.script_runner.specs.Serving.{lines_read}
 
@@ -50,13 +51,17 @@ edit_line = codes "{\"cmd\":\"edit\",\"ops\":[{\"at\":[1,4],\"text\":\"X\"}]}"
 abbrev line_line : List ℕ
 line_line = codes "{\"cmd\":\"line\",\"n\":1}"
 
+-- a session with this document 0
+abbrev session_of : FlatState → FlatSession
+session_of f = record { documents = with_doc new_group 0 f; followers = new_session.followers }
+
 abbrev opened : FlatSession
 opened = session_of (new_document (codes "ab\ncd") standard_scanner Mixed)
 
 abbrev edited : FlatSession
 edited =
     let op : Op = record { span = record { start = 1; end = 4 }; text = codes "X"; force = false } in
-    session_of (after_batch opened.document (op ∷ []))
+    session_of (after_batch (doc_in opened.documents 0) (op ∷ []))
 
 opened_turn : Turn new_session open_line (codes "ok 1 5 2\n") opened
 unfolding digits

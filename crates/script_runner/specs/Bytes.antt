@@ -5,6 +5,8 @@ use Rattle.std.specs.declared.vec.Vec.{Vec}
 use Rattle.std.specs.declared.alloc.Global.{Global}
 use Rattle.document_rules.specs.declared.ModelError.{ModelError}
 use Rattle.document_rules.specs.declared.ModelError.TheVariants as error
+use Rattle.group_rules.specs.declared.GroupError.{GroupError}
+use Rattle.group_rules.specs.declared.GroupError.TheVariants as group
 use Rattle.script_lines.specs.declared.fields.LineFault.{LineFault}
 use Rattle.script_lines.specs.declared.fields.LineFault.TheVariants as fault
 use Rattle.script_lines.specs.declared.reason.Refusal.{Refusal}
@@ -22,7 +24,16 @@ refusal_of error.Overlap = refusal.Overlap
 refusal_of error.Limit = refusal.Limit
 refusal_of error.Memory = refusal.Memory
 
--- how a reply names why a line was not read as a command
+-- how a reply names the error of a call on several documents
+abbrev pub refusal_of_group : GroupError → Refusal
+refusal_of_group group.Unknown = refusal.Unknown
+refusal_of_group group.Range = refusal.Range
+refusal_of_group group.Overlap = refusal.Overlap
+refusal_of_group group.Limit = refusal.Limit
+refusal_of_group (group.Joint doc) = refusal.Joint doc
+refusal_of_group group.Memory = refusal.Memory
+
+-- how a reply names why a line was not read as a request
 abbrev pub refusal_of_fault : LineFault → Refusal
 refusal_of_fault fault.Syntax = refusal.Syntax
 refusal_of_fault fault.Memory = refusal.Memory
@@ -45,6 +56,7 @@ is_memory refusal.Range = false
 is_memory refusal.Overlap = false
 is_memory refusal.Limit = false
 is_memory (refusal.Gap have need) = false
+is_memory (refusal.Joint doc) = false
 
 -- the line was refused for want of memory
 abbrev pub is_for_memory : Result Reply Refused → Bool

@@ -4,6 +4,7 @@ use Rattle.unit_text.specs.declared.kind.Kind.TheVariants.{Mixed, Lf, Crlf}
 use Rattle.bracket_rules.specs.declared.Status.TheVariants.{PairedClosing}
 use Rattle.document_rules.specs.Document.{new_document}
 use Rattle.hiding_rules.specs.Hidden.{standard_scanner}
+use Rattle.script_lines.specs.declared.command.Command.{Command}
 use Rattle.script_lines.specs.declared.command.Command.TheVariants.{Open, Edit, Eol, Undo, Version, Size, Line, Offset, Snapshot, Read, Close, Stops, Mirror, Send, Deliver, Mirrored}
 use Rattle.script_lines.specs.declared.command.Command.TheVariants as command
 use Rattle.script_lines.specs.declared.op.LineOp.{LineOp}
@@ -11,13 +12,20 @@ use Rattle.script_lines.specs.declared.op.Place.TheVariants.{At, InRange}
 use Rattle.std.specs.Fmt.{digits}
 use Rattle.std.specs.Char.Utf16.{utf16_chars}
 use lib.Utf8.{encode}
-use Rattle.script_runner.specs.Session.{FlatSession, session_of, new_session}
-use Rattle.script_runner.specs.Step.{brackets_answer, match_answer, level_answer, spans_reply, step}
-use Rattle.script_runner.specs.Script.{all_lines, whole_lines, has_reply}
+use Rattle.group_rules.specs.Group.{with_doc, new_group}
+use Rattle.script_lines.specs.declared.request.DocEdit.{DocEdit}
+use Rattle.script_lines.specs.declared.request.Request.TheVariants.{One, Joint}
+use Rattle.session_rules.specs.Session.{FlatSession, new_session}
+use Rattle.session_rules.specs.Step.{brackets_answer, match_answer, level_answer, spans_reply, step, request_answer}
+use Rattle.session_rules.specs.Script.{all_lines, whole_lines, has_reply}
 
--- a session with a new document of this text, whose lines end as they came
+-- a session with a new document 0 of this text, whose lines end as they came
 abbrev text : List ℕ → FlatSession
-text units = session_of (new_document units standard_scanner Mixed)
+text units = record { documents = with_doc new_group 0 (new_document units standard_scanner Mixed); followers = new_session.followers }
+
+-- a command on document 0
+abbrev ask : FlatSession → Command → List ℕ × FlatSession
+ask s command = step s 0 command
 
 two_lines_and_a_rest : all_lines (codes "ab\n\nc") ≡ codes "ab" ∷ [] ∷ codes "c" ∷ []
 two_lines_and_a_rest = refl
@@ -31,7 +39,7 @@ the_rest_is_no_whole_line = refl
 a_blank_line_has_no_reply : has_reply (codes " \t\r") ≡ false
 a_blank_line_has_no_reply = refl
 
-opened : step new_session (Open (codes "ab\ncd") None None Mixed) ≡ (codes "ok 1 5 2\n", text (codes "ab\ncd"))
+opened : ask new_session (Open (codes "ab\ncd") None None Mixed) ≡ (codes "ok 1 5 2\n", text (codes "ab\ncd"))
 unfolding digits
 opened = refl
 
@@ -39,28 +47,28 @@ opened = refl
 abbrev over : ℕ → ℕ → List ℕ → LineOp
 over start end text = record { place = At (record { start = start; end = end }); text = text; force = false }
 
-edited_over_a_break : (step (text (codes "ab\ncd")) (Edit (over 1 4 (codes "X") ∷ []))).0 ≡ codes "ok 2 3 1\n"
+edited_over_a_break : (ask (text (codes "ab\ncd")) (Edit (over 1 4 (codes "X") ∷ []))).0 ≡ codes "ok 2 3 1\n"
 unfolding digits
 edited_over_a_break = refl
 
-two_edits_that_overlap : step (text (codes "abcde"))
+two_edits_that_overlap : ask (text (codes "abcde"))
     (Edit (over 1 4 [] ∷ over 3 3 [] ∷ []))
     ≡ (codes "! overlap\n", text (codes "abcde"))
 two_edits_that_overlap = refl
 
-nothing_to_undo : step (text (codes "ab")) Undo ≡ (codes "ok none\n", text (codes "ab"))
+nothing_to_undo : ask (text (codes "ab")) Undo ≡ (codes "ok none\n", text (codes "ab"))
 nothing_to_undo = refl
 
-versions_of_a_new_document : step new_session Version ≡ (codes "ok 1 1\n", new_session)
+versions_of_a_new_document : ask new_session Version ≡ (codes "ok 1 1\n", new_session)
 unfolding digits
 versions_of_a_new_document = refl
 
-the_first_line : step (text (codes "aXd")) (Line 1)
+the_first_line : ask (text (codes "aXd")) (Line 1)
     ≡ (codes "ok \"aXd\"\n", text (codes "aXd"))
 unfolding utf16_chars encode
 the_first_line = refl
 
-size_of_a_new_document : step new_session Size ≡ (codes "ok 0 1\n", new_session)
+size_of_a_new_document : ask new_session Size ≡ (codes "ok 0 1\n", new_session)
 unfolding digits
 size_of_a_new_document = refl
 
@@ -72,21 +80,21 @@ in_range line column line' column' text = record {
   force = false;
 }
 
-edited_by_range : (step (text (codes "ab\ncd")) (Edit (in_range 1 2 2 2 (codes "X") ∷ []))).0
+edited_by_range : (ask (text (codes "ab\ncd")) (Edit (in_range 1 2 2 2 (codes "X") ∷ []))).0
     ≡ codes "ok 2 3 1\n"
 unfolding digits
 edited_by_range = refl
 
-a_range_with_no_such_column : step (text (codes "ab\ncd")) (Edit (in_range 1 4 2 1 [] ∷ []))
+a_range_with_no_such_column : ask (text (codes "ab\ncd")) (Edit (in_range 1 4 2 1 [] ∷ []))
     ≡ (codes "! range\n", text (codes "ab\ncd"))
 a_range_with_no_such_column = refl
 
-offset_after_a_break : step (text (codes "ab\r\ncd")) (Offset (record { line = 2; column = 1 }))
+offset_after_a_break : ask (text (codes "ab\r\ncd")) (Offset (record { line = 2; column = 1 }))
     ≡ (codes "ok 4\n", text (codes "ab\r\ncd"))
 unfolding digits
 offset_after_a_break = refl
 
-position_inside_a_break : step (text (codes "ab\r\ncd")) (command.Position 3)
+position_inside_a_break : ask (text (codes "ab\r\ncd")) (command.Position 3)
     ≡ (codes "ok 1 4\n", text (codes "ab\r\ncd"))
 unfolding digits
 position_inside_a_break = refl
@@ -120,88 +128,127 @@ hi = text (codes "hi")
 
 -- with a snapshot, which has id 1
 abbrev kept : FlatSession
-kept = (step hi Snapshot).1
+kept = (ask hi Snapshot).1
 
-the_first_snapshot : (step hi Snapshot).0 ≡ codes "ok 1\n"
+the_first_snapshot : (ask hi Snapshot).0 ≡ codes "ok 1\n"
 unfolding digits
 the_first_snapshot = refl
 
-a_read : (step kept (Read 1 2)).0 ≡ codes "ok \"hi\"\n"
+a_read : (ask kept (Read 1 2)).0 ≡ codes "ok \"hi\"\n"
 unfolding utf16_chars encode
 a_read = refl
 
-nothing_is_left : (step (step kept (Read 1 2)).1 (Read 1 2)).0 ≡ codes "ok \"\"\n"
+nothing_is_left : (ask (ask kept (Read 1 2)).1 (Read 1 2)).0 ≡ codes "ok \"\"\n"
 unfolding utf16_chars encode
 nothing_is_left = refl
 
-a_read_of_one_unit : step kept (Read 1 1) ≡ (codes "! range\n", kept)
+a_read_of_one_unit : ask kept (Read 1 1) ≡ (codes "! range\n", kept)
 a_read_of_one_unit = refl
 
-a_close : (step kept (Close 1)).0 ≡ codes "ok\n"
+a_close : (ask kept (Close 1)).0 ≡ codes "ok\n"
 a_close = refl
 
-no_such_snapshot : step kept (Close 2) ≡ (codes "! unknown\n", kept)
+no_such_snapshot : ask kept (Close 2) ≡ (codes "! unknown\n", kept)
 no_such_snapshot = refl
 
-no_such_line_has_stops : step hi (Stops 2) ≡ (codes "! range\n", hi)
+no_such_line_has_stops : ask hi (Stops 2) ≡ (codes "! range\n", hi)
 no_such_line_has_stops = refl
 
 -- `a` and `b`, which were opened with LF
 abbrev two_lines : FlatSession
-two_lines = (step new_session (Open (codes "a\r\nb") None None Lf)).1
+two_lines = (ask new_session (Open (codes "a\r\nb") None None Lf)).1
 
-opened_with_a_kind : (step new_session (Open (codes "a\r\nb") None None Lf)).0 ≡ codes "ok 1 3 2\n"
+opened_with_a_kind : (ask new_session (Open (codes "a\r\nb") None None Lf)).0 ≡ codes "ok 1 3 2\n"
 unfolding digits
 opened_with_a_kind = refl
 
-other_endings : (step two_lines (Eol Crlf)).0 ≡ codes "ok 2 4 2\n"
+other_endings : (ask two_lines (Eol Crlf)).0 ≡ codes "ok 2 4 2\n"
 unfolding digits
 other_endings = refl
 
-the_same_endings : step two_lines (Eol Lf) ≡ (codes "ok none\n", two_lines)
+the_same_endings : ask two_lines (Eol Lf) ≡ (codes "ok none\n", two_lines)
 the_same_endings = refl
 
-no_place_inside_an_ending : (step (step two_lines (Eol Crlf)).1 (command.Position 2)).0 ≡ codes "! range\n"
+no_place_inside_an_ending : (ask (ask two_lines (Eol Crlf)).1 (command.Position 2)).0 ≡ codes "! range\n"
 no_place_inside_an_ending = refl
 
 -- ---- a mirror
 
 -- `ab` and a mirror of it, then `x` before it and `y` behind it, each sent
 abbrev mirrored : FlatSession
-mirrored = (step (text (codes "ab")) Mirror).1
+mirrored = (ask (text (codes "ab")) Mirror).1
 
 abbrev after_both : FlatSession
 after_both =
-    let first = (step mirrored (Edit (over 0 0 (codes "x") ∷ []))).1 in
-    let second = (step (step first Send).1 (Edit (over 3 3 (codes "y") ∷ []))).1 in (step second Send).1
+    let first = (ask mirrored (Edit (over 0 0 (codes "x") ∷ []))).1 in
+    let second = (ask (ask first Send).1 (Edit (over 3 3 (codes "y") ∷ []))).1 in (ask second Send).1
 
-a_mirror_of_now : (step (text (codes "ab")) Mirror).0 ≡ codes "ok 1\n"
+a_mirror_of_now : (ask (text (codes "ab")) Mirror).0 ≡ codes "ok 1\n"
 unfolding digits
 a_mirror_of_now = refl
 
-nothing_to_send : step (text (codes "ab")) Send ≡ (codes "ok none\n", text (codes "ab"))
+nothing_to_send : ask (text (codes "ab")) Send ≡ (codes "ok none\n", text (codes "ab"))
 nothing_to_send = refl
 
-the_second_comes_first : step after_both (Deliver 2) ≡ (codes "! gap 1 2\n", after_both)
+the_second_comes_first : ask after_both (Deliver 2) ≡ (codes "! gap 1 2\n", after_both)
 unfolding digits
 the_second_comes_first = refl
 
 abbrev after_one : FlatSession
-after_one = (step after_both (Deliver 1)).1
+after_one = (ask after_both (Deliver 1)).1
 
-the_first_is_taken : (step after_both (Deliver 1)).0 ≡ codes "ok 2 3 1\n"
+the_first_is_taken : (ask after_both (Deliver 1)).0 ≡ codes "ok 2 3 1\n"
 unfolding digits
 the_first_is_taken = refl
 
-the_first_comes_again : step after_one (Deliver 1) ≡ (codes "ok old\n", after_one)
+the_first_comes_again : ask after_one (Deliver 1) ≡ (codes "ok old\n", after_one)
 the_first_comes_again = refl
 
-a_line_of_the_mirror : (step after_one (Mirrored 1)).0 ≡ codes "ok \"xab\"\n"
+a_line_of_the_mirror : (ask after_one (Mirrored 1)).0 ≡ codes "ok \"xab\"\n"
 unfolding utf16_chars encode
 a_line_of_the_mirror = refl
 
-no_such_event : step after_one (Deliver 3) ≡ (codes "! unknown\n", after_one)
+no_such_event : ask after_one (Deliver 3) ≡ (codes "! unknown\n", after_one)
 no_such_event = refl
 
-a_mirror_ends_with_its_document : step (step after_one (Open (codes "c") None None Mixed)).1 (Mirrored 1) ≡ (codes "! unknown\n", text (codes "c"))
+a_mirror_ends_with_its_document : ask (ask after_one (Open (codes "c") None None Mixed)).1 (Mirrored 1) ≡ (codes "! unknown\n", text (codes "c"))
 a_mirror_ends_with_its_document = refl
+
+-- ---- documents
+
+-- `a` and `b`, and `x` behind the first with `y` before the second at once
+abbrev two : FlatSession
+two = (step (text (codes "a")) 1 (Open (codes "b") None None Mixed)).1
+
+abbrev edits : List DocEdit
+edits =
+    record { doc = 0; ops = over 1 1 (codes "x") ∷ [] } ∷ record { doc = 1; ops = over 0 0 (codes "y") ∷ [] } ∷ []
+
+abbrev both : FlatSession
+both = (request_answer two (Joint edits)).1
+
+changed_at_once : (request_answer two (Joint edits)).0 ≡ codes "ok 0 2 2 1 1 2 2 1\n"
+unfolding digits
+changed_at_once = refl
+
+-- then `z` in the second alone
+abbrev ahead : FlatSession
+ahead = (step both 1 (Edit (over 2 2 (codes "z") ∷ []))).1
+
+not_the_next_step : (ask ahead Undo).0 ≡ codes "! joint 1\n"
+unfolding digits
+not_the_next_step = refl
+
+abbrev back : FlatSession
+back = (ask (step ahead 1 Undo).1 Undo).1
+
+undone_at_once : (ask (step ahead 1 Undo).1 Undo).0 ≡ codes "ok 3 1 1\n"
+unfolding digits
+undone_at_once = refl
+
+undone_in_the_other : (step back 1 Size).0 ≡ codes "ok 1 1\n"
+unfolding digits
+undone_in_the_other = refl
+
+no_such_document : request_answer two (One 64 Size) ≡ (codes "! unknown\n", two)
+no_such_document = refl

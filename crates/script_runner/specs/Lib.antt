@@ -1,9 +1,7 @@
-pub mod Session
-pub mod Step
-pub mod Script
 pub mod Standing
 pub mod Bytes
 pub mod Told
+pub mod Joint
 pub mod Progress
 pub mod Serving
 pub mod Words

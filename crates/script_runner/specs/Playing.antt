@@ -8,8 +8,9 @@ use Rattle.script_runner.specs.declared.running.Status.{Status}
 use Rattle.script_runner.specs.declared.running.Status.TheVariants as status
 use Rattle.script_runner.specs.declared.serving.Served.{Served}
 use Rattle.script_runner.specs.declared.serving.Served.TheVariants.{Ended, ReadFault, WriteFault, TooLong}
-use Rattle.script_runner.specs.Session.{FlatSession, new_session}
-use Rattle.script_runner.specs.Script.{all_lines, written, Transcript}
+use Rattle.group_rules.specs.Group.{doc_in}
+use Rattle.session_rules.specs.Session.{FlatSession, new_session}
+use Rattle.session_rules.specs.Script.{all_lines, written, Transcript}
 use Rattle.script_runner.specs.Progress.{refusals, memory_refusals}
 
 -- a word of the line with its number
@@ -33,9 +34,9 @@ pub record SumsUp (summary : Summary) (count seed : ℕ) : Type 0 where
   pub count_is : summary.count ≡ count
   -- how many replies begin with `!`
   pub refused_is : summary.refused ≡ refusals replies
-  -- the text at the end
-  pub units_are : summary.units ≡ length end.document.units
-  pub lines_are : summary.lines ≡ flat_line_count end.document
+  -- the text of document 0 at the end
+  pub units_are : summary.units ≡ length (doc_in end.documents 0).units
+  pub lines_are : summary.lines ≡ flat_line_count (doc_in end.documents 0)
   -- the number and the sum of the bytes of all replies
   pub bytes_are : summary.bytes ≡ length (written replies) % 2 ^ 32
   pub total_is : summary.total ≡ sum (written replies) % 2 ^ 32

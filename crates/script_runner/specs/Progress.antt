@@ -7,8 +7,8 @@ use Rattle.script_runner.specs.declared.line.PartialLine.{PartialLine}
 use Rattle.script_runner.specs.declared.serving.Progress.{Progress}
 use Rattle.script_runner.specs.declared.session.Session.{Session}
 use Rattle.script_runner.specs.Standing.{Turns, Replied}
-use Rattle.script_runner.specs.Step.{memory_reply}
-use Rattle.script_runner.specs.Script.{cut, whole_lines, most_line_bytes, is_blank, is_refused, written}
+use Rattle.session_rules.specs.Step.{memory_reply}
+use Rattle.session_rules.specs.Script.{cut, whole_lines, most_line_bytes, is_blank, is_refused, written}
 
 -- the bytes that a line has so far: they are kept up to the limit, where there was memory for them
 pub record IsLineSoFar (line : PartialLine) (bytes : List ℕ) : Type 0 where

@@ -7,9 +7,9 @@ use Rattle.script_runner.specs.declared.running.Status.TheVariants as status
 use Rattle.script_runner.specs.declared.serving.Served.{Served}
 use Rattle.script_runner.specs.declared.serving.Served.TheVariants.{Ended, ReadFault, WriteFault, TooLong}
 use Rattle.script_runner.specs.declared.session.Session.{Session}
-use Rattle.script_runner.specs.Session.{FlatSession, new_session}
+use Rattle.session_rules.specs.Session.{FlatSession, new_session}
 use Rattle.script_runner.specs.Standing.{StandsFor}
-use Rattle.script_runner.specs.Script.{all_lines, written, is_refused, Transcript}
+use Rattle.session_rules.specs.Script.{all_lines, written, is_refused, Transcript}
 use Rattle.script_runner.specs.Serving.{ServedAll, ServedToReadFault, ServedToWriteFault, ServedToLimit}
 
 abbrev pub usage_line : List ℕ

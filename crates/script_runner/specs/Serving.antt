@@ -5,7 +5,7 @@ use Rattle.script_runner.specs.declared.serving.Served.{Served}
 use Rattle.script_runner.specs.declared.serving.Served.TheVariants.{Ended, ReadFault, WriteFault, TooLong}
 use Rattle.script_runner.specs.declared.session.Session.{Session}
 use Rattle.script_runner.specs.Standing.{Replied}
-use Rattle.script_runner.specs.Script.{whole_lines, all_lines, written}
+use Rattle.session_rules.specs.Script.{whole_lines, all_lines, written}
 use Rattle.script_runner.specs.Progress.{refusals, memory_refusals, Led, Broken}
 use Rattle.script_runner.specs.declared.serving.Progress.{Progress}
 

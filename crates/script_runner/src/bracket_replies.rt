@@ -1,24 +1,36 @@
 //! Replies to the commands on brackets.
 
-ghost use Rattle.std.specs.Prelude.{◌≡◌, ◌++◌, IfOk, OnOk};
+ghost use Rattle.std.specs.Prelude.{◌≡◌, ◌<◌, ◌++◌, IfOk, OnOk};
 ghost use Rattle.std.specs.List.{All};
 ghost use Rattle.document_rules.specs.Brackets.{flat_brackets, flat_match, flat_level, IsSmall};
-ghost use Rattle.script_runner.specs.Step.{status_letter, entry_part, entries_reply, brackets_answer, match_answer, level_answer};
+ghost use Rattle.group_rules.specs.declared.TheConstants.{DOC_COUNT};
+ghost use Rattle.group_rules.specs.Group.{doc_in};
+ghost use Rattle.model_group.specs.State.{documents};
+ghost use Rattle.session_rules.specs.Step.{status_letter, entry_part, entries_reply, brackets_answer, match_answer, level_answer};
 ghost use Rattle.script_runner.specs.Told.{TellsBy};
 ghost use Rattle.script_runner.specs.Bytes.{bytes_of};
 
 use crate::outcome::{Outcome, Reply};
-use model_core::{Entry, Model, Status};
+use model_core::{Entry, Status};
+use model_group::Group;
 use script_lines::{Short, long_begin, long_end, long_mark, long_number};
 use std::alloc::{AllocError, Global};
 use text_lengths::Position;
 
-pub(crate) fn brackets_reply(alloc: Global, model: &mut Model, from: u64, to: u64) -> Outcome
-    ensures { let f = model.old.document in
-        TellsBy (brackets_answer (flat_brackets f from to), f) f result model.new.document }
+pub(crate) fn brackets_reply(
+    alloc: Global,
+    group: &mut Group,
+    doc: u64,
+    from: u64,
+    to: u64,
+) -> Outcome
+    requires { doc < DOC_COUNT }
+    ensures { let g = documents group.old in
+        TellsBy (brackets_answer (flat_brackets (doc_in g doc) from to), g) g result
+        (documents group.new) }
 {
     let mut entries = Vec::new(alloc);
-    model.brackets_in(from, to, &mut entries)?;
+    group.brackets_in(doc, from, to, &mut entries)?;
     Ok(list_reply(alloc, entries.as_slice())?)
 }
 
@@ -58,11 +70,12 @@ fn status_letter(status: Status) -> u8
     }
 }
 
-pub(crate) fn match_reply(model: &mut Model, p: Position) -> Outcome
-    ensures { let f = model.old.document in
-        TellsBy (match_answer (flat_match f p), f) f result model.new.document }
+pub(crate) fn match_reply(group: &mut Group, doc: u64, p: Position) -> Outcome
+    requires { doc < DOC_COUNT }
+    ensures { let g = documents group.old in
+        TellsBy (match_answer (flat_match (doc_in g doc) p), g) g result (documents group.new) }
 {
-    match model.match_at(p)? {
+    match group.match_at(doc, p)? {
         Some((partner, len)) => {
             Ok(Reply::Short(Short::ok(&[partner.line, partner.column, len])))
         }
@@ -70,10 +83,11 @@ pub(crate) fn match_reply(model: &mut Model, p: Position) -> Outcome
     }
 }
 
-pub(crate) fn level_reply(model: &mut Model, p: Position) -> Outcome
-    ensures { let f = model.old.document in
-        TellsBy (level_answer (flat_level f p), f) f result model.new.document }
+pub(crate) fn level_reply(group: &mut Group, doc: u64, p: Position) -> Outcome
+    requires { doc < DOC_COUNT }
+    ensures { let g = documents group.old in
+        TellsBy (level_answer (flat_level (doc_in g doc) p), g) g result (documents group.new) }
 {
-    let level = model.level_at(p)?;
+    let level = group.level_at(doc, p)?;
     Ok(Reply::Short(Short::ok(&[level])))
 }

@@ -1,25 +1,36 @@
 //! Replies to the commands on decorations.
 
-ghost use Rattle.std.specs.Prelude.{◌≡◌, length, IfOk};
+ghost use Rattle.std.specs.Prelude.{◌≡◌, ◌<◌, length, IfOk};
 ghost use Rattle.document_rules.specs.Document.{flat_decorate, flat_deco, flat_decos};
+ghost use Rattle.group_rules.specs.declared.TheConstants.{DOC_COUNT};
+ghost use Rattle.group_rules.specs.Group.{doc_in};
+ghost use Rattle.model_group.specs.State.{documents};
 ghost use Rattle.script_lines.specs.Replies.{ok_reply};
-ghost use Rattle.script_runner.specs.Step.{decorated, deco_answer, decos_answer, deco_numbers};
-ghost use Rattle.script_runner.specs.Told.{IsAccepted, TellsBy};
+ghost use Rattle.session_rules.specs.Step.{decorated, deco_answer, decos_answer, deco_numbers};
+ghost use Rattle.script_runner.specs.Told.{IsAccepted, TellsBy, TellsOn};
 ghost use Rattle.script_runner.specs.Bytes.{bytes_of, bytes_of_outcome};
 
 use crate::outcome::{Outcome, Refused, Reply};
 use model_core::{Deco, Model};
+use model_group::Group;
 use script_lines::{Ids, NewDecos, Refusal, Short, long_begin, long_end, long_number};
 use std::alloc::{AllocError, Global};
 use text_lengths::Span;
 
-pub(crate) fn decorate_reply(model: &mut Model, owner: u64, remove: Ids, add: NewDecos) -> Outcome
-    ensures { let f = model.old.document in
-        TellsBy (decorated f (length add) (flat_decorate f owner remove add))
-        f result model.new.document }
+pub(crate) fn decorate_reply(
+    group: &mut Group,
+    doc: u64,
+    owner: u64,
+    remove: Ids,
+    add: NewDecos,
+) -> Outcome
+    requires { doc < DOC_COUNT }
+    ensures { let f = doc_in (documents group.old) doc in
+        TellsOn doc (decorated f (length add) (flat_decorate f owner remove add))
+        (documents group.old) result (documents group.new) }
 {
     let added = add.as_slice();
-    let first = model.decorate(owner, remove.as_slice(), added)?;
+    let first = group.decorate(doc, owner, remove.as_slice(), added)?;
     Ok(Reply::Short(Short::ok(&[first, added.len() as u64])))
 }
 

@@ -1,8 +1,9 @@
-//! Runs a script over a document: the program without its streams.
+//! Runs a script over documents: the program without its streams.
 #![tactic(auto)]
 
 mod bracket_replies;
 mod decoration_replies;
+mod joint_replies;
 mod line;
 mod mirror_replies;
 mod ops;
@@ -19,4 +20,4 @@ mod words;
 pub use outcome::{Outcome, Refused, Reply, write_outcome};
 pub use running::run_words;
 pub use serving::{Served, serve};
-pub use session::Session;
+pub use session::{Follower, Session};

@@ -1,7 +1,7 @@
 //! The line that is being read.
 
 ghost use Rattle.std.specs.Prelude.{◌≡◌, ℕ, List, [], ◌++◌, nat_lt};
-ghost use Rattle.script_runner.specs.Script.{is_blank_byte, is_blank, most_line_bytes};
+ghost use Rattle.session_rules.specs.Script.{is_blank_byte, is_blank, most_line_bytes};
 ghost use Rattle.script_runner.specs.Progress.{IsLineSoFar};
 
 use std::alloc::Global;

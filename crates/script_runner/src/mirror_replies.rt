@@ -1,14 +1,16 @@
 //! Replies to the commands on a mirror and its events.
 
-ghost use Rattle.std.specs.Prelude.{◌≡◌, ◌-◌, ◌==◌, ◌∷◌, [], None, if◌then◌else◌, slice_get, length, IfOk};
+ghost use Rattle.std.specs.Prelude.{◌≡◌, ◌-◌, ◌<◌, ◌==◌, ◌∷◌, [], None, if◌then◌else◌, slice_get, length, IfOk};
 ghost use Rattle.std.specs.Option.{option_copied};
-ghost use Rattle.script_runner.specs.Step.{most_sent, mirror_reply, mirrored_answer};
-ghost use Rattle.script_runner.specs.Told.{Tells};
+ghost use Rattle.document_rules.specs.Document.{FlatState};
+ghost use Rattle.group_rules.specs.declared.TheConstants.{DOC_COUNT};
+ghost use Rattle.session_rules.specs.Step.{most_sent, mirror_reply, mirror_answer, send_answer, deliver_answer, mirrored_answer, sent_at};
+ghost use Rattle.script_runner.specs.Told.{Tells, TellsAfter};
 ghost use Rattle.script_runner.specs.Bytes.{bytes_of};
 
 use crate::outcome::{Outcome, Refused, Reply};
 use crate::reply::text_reply;
-use crate::session::Session;
+use crate::session::{Follower, Session};
 use mirror_model::{Mirror, MirrorError};
 use model_core::{Event, Model};
 use script_lines::{Command, Refusal, Short};
@@ -17,12 +19,23 @@ use std::alloc::{AllocError, Global};
 /// So many events may be sent of one document.
 const MOST_SENT: usize = 0x1_0000;
 
-pub(crate) fn mirror_reply(session: &mut Session) -> Outcome
-    ensures { Tells session.old Command.Mirror result session.new }
+pub(crate) fn mirror_reply(session: &mut Session, doc: u64) -> Outcome
+    requires { doc < DOC_COUNT }
+    ensures { Tells session.old doc Command.Mirror result session.new }
 {
-    let mirror = mirror_of(session.alloc, &session.model)?;
+    let Some(follower) = session.followers.get_mut(doc as usize) else {
+        return Err(Refused(Refusal::Unknown));
+    };
+    begin_mirror(session.alloc, session.group.doc(doc), follower)
+}
+
+fn begin_mirror(alloc: Global, model: &Model, follower: &mut Follower) -> Outcome
+    ensures { TellsAfter model.now.document (mirror_answer model.now.document)
+        follower.old result follower.new }
+{
+    let mirror = mirror_of(alloc, model)?;
     let version = mirror.version();
-    session.mirror = Some(mirror);
+    follower.mirror = Some(mirror);
     Ok(Reply::Short(Short::ok(&[version])))
 }
 
@@ -35,30 +48,53 @@ fn mirror_of(alloc: Global, model: &Model) -> Result<Mirror, AllocError>
     Mirror::of_text(alloc, model.versions().0, &text)
 }
 
-pub(crate) fn send_reply(session: &mut Session) -> Outcome
-    ensures { Tells session.old Command.Send result session.new }
+pub(crate) fn send_reply(session: &mut Session, doc: u64) -> Outcome
+    requires { doc < DOC_COUNT }
+    ensures { Tells session.old doc Command.Send result session.new }
 {
-    let Some(event) = session.model.last_event()? else {
+    let Some(follower) = session.followers.get_mut(doc as usize) else {
+        return Err(Refused(Refusal::Unknown));
+    };
+    send_event(session.group.doc(doc), follower)
+}
+
+fn send_event(model: &Model, follower: &mut Follower) -> Outcome
+    ensures { TellsAfter model.now.document (send_answer model.now.document)
+        follower.old result follower.new }
+{
+    let Some(event) = model.last_event()? else {
         return Ok(Reply::Short(Short::none()));
     };
-    let sent = session.sent.as_slice().len();
+    let sent = follower.sent.as_slice().len();
     if sent >= MOST_SENT {
         return Err(Refused(Refusal::Limit));
     }
     let from = event.from();
-    if session.sent.push(event).is_err() {
+    if follower.sent.push(event).is_err() {
         return Err(Refused(Refusal::Memory));
     }
     Ok(Reply::Short(Short::ok(&[sent as u64 + 1, from])))
 }
 
-pub(crate) fn deliver_reply(session: &mut Session, n: u64) -> Outcome
-    ensures { Tells session.old (Command.Deliver n) result session.new }
+pub(crate) fn deliver_reply(session: &mut Session, doc: u64, n: u64) -> Outcome
+    requires { doc < DOC_COUNT }
+    ensures { Tells session.old doc (Command.Deliver n) result session.new }
 {
-    let Some(mirror) = &mut session.mirror else {
+    let Some(follower) = session.followers.get_mut(doc as usize) else {
         return Err(Refused(Refusal::Unknown));
     };
-    let Some(event) = sent_at(&session.sent, n) else {
+    take_event(follower, n)
+}
+
+fn take_event(follower: &mut Follower, n: u64) -> Outcome
+    ensures { (f : FlatState) → TellsAfter f
+        (λ flat. deliver_answer flat flat.mirror (sent_at flat.sent n))
+        follower.old result follower.new }
+{
+    let Some(mirror) = &mut follower.mirror else {
+        return Err(Refused(Refusal::Unknown));
+    };
+    let Some(event) = event_at(&follower.sent, n) else {
         return Err(Refused(Refusal::Unknown));
     };
     match mirror.take(event) {
@@ -72,7 +108,7 @@ pub(crate) fn deliver_reply(session: &mut Session, n: u64) -> Outcome
 }
 
 /// The event of this number, counted from 1.
-fn sent_at(sent: &[Event], n: u64) -> Option<&Event>
+fn event_at(sent: &[Event], n: u64) -> Option<&Event>
     ensures { option_copied result ≡ if n == 0 then None else slice_get sent.now (n - 1) }
 {
     let at = n.checked_sub(1)?;
@@ -85,16 +121,27 @@ fn followed_reply(mirror: &Mirror) -> Reply
     Reply::Short(Short::ok(&[mirror.version(), mirror.len(), mirror.line_count()]))
 }
 
-pub(crate) fn mirrored_reply(session: &Session, n: u64) -> Outcome
-    ensures { Tells session.now (Command.Mirrored n) result session.now }
+pub(crate) fn mirrored_reply(session: &Session, doc: u64, n: u64) -> Outcome
+    requires { doc < DOC_COUNT }
+    ensures { Tells session.now doc (Command.Mirrored n) result session.now }
 {
-    let Some(mirror) = &session.mirror else {
+    let Some(follower) = session.followers.get(doc as usize) else {
+        return Err(Refused(Refusal::Unknown));
+    };
+    mirror_line(session.alloc, follower, n)
+}
+
+fn mirror_line(alloc: Global, follower: &Follower, n: u64) -> Outcome
+    ensures { (f : FlatState) → TellsAfter f (λ flat. (mirrored_answer flat.mirror n, flat))
+        follower.now result follower.now }
+{
+    let Some(mirror) = &follower.mirror else {
         return Err(Refused(Refusal::Unknown));
     };
     if n == 0 || n > mirror.line_count() {
         return Err(Refused(Refusal::Range));
     }
-    let mut units = Vec::new(session.alloc);
+    let mut units = Vec::new(alloc);
     mirror.line(n, &mut units)?;
-    Ok(text_reply(session.alloc, units.as_slice())?)
+    Ok(text_reply(alloc, units.as_slice())?)
 }

@@ -1,34 +1,45 @@
 //! The edits of a line at their spans of offsets.
 
-ghost use Rattle.std.specs.Prelude.{◌≡◌};
+ghost use Rattle.std.specs.Prelude.{◌≡◌, ◌<◌};
+ghost use Rattle.group_rules.specs.declared.TheConstants.{DOC_COUNT};
+ghost use Rattle.group_rules.specs.Group.{doc_in};
+ghost use Rattle.model_group.specs.State.{documents};
 ghost use Rattle.script_runner.specs.Bytes.{AreFound};
-ghost use Rattle.script_runner.specs.Step.{span_of, op_at, ops_at};
+ghost use Rattle.session_rules.specs.Step.{span_of, op_at, ops_at};
 
-use model_core::{Model, ModelError, Op};
+use model_core::{ModelError, Op};
+use model_group::Group;
 use script_lines::{LineOp, LineOps, Place};
 use std::alloc::Global;
 use text_lengths::Span;
 
-/// The edits at their spans. `Range` where a position of theirs is none of the text. What was looked up is remembered
-/// for the edit that comes next.
-pub(crate) fn ops_at(alloc: Global, model: &mut Model, ops: LineOps) -> Result<Vec<Op>, ModelError>
-    ensures found { AreFound result (ops_at model.old.document ops) }
-    ensures same { model.new ≡ model.old }
+/// The edits of a document at their spans. `Range` where a position of theirs is none of the text. What was looked up is
+/// remembered for the edit that comes next.
+pub(crate) fn ops_at(
+    alloc: Global,
+    group: &mut Group,
+    doc: u64,
+    ops: LineOps,
+) -> Result<Vec<Op>, ModelError>
+    requires { doc < DOC_COUNT }
+    ensures found { AreFound result (ops_at (doc_in (documents group.old) doc) ops) }
+    ensures same { group.new ≡ group.old }
 {
     let ops = ops.into_vec();
     let mut found = Vec::with_capacity(alloc, ops.len()).map_err(|_| ModelError::Memory)?;
     for op in ops {
-        let op = op_at(model, op).ok_or(ModelError::Range)?;
+        let op = op_at(group, doc, op).ok_or(ModelError::Range)?;
         found.push(op).map_err(|_| ModelError::Memory)?;
     }
     Ok(found)
 }
 
-fn op_at(model: &mut Model, op: LineOp) -> Option<Op>
-    ensures found { result ≡ op_at model.old.document op }
-    ensures same { model.new ≡ model.old }
+fn op_at(group: &mut Group, doc: u64, op: LineOp) -> Option<Op>
+    requires { doc < DOC_COUNT }
+    ensures found { result ≡ op_at (doc_in (documents group.old) doc) op }
+    ensures same { group.new ≡ group.old }
 {
-    let span = span_of(model, op.place)?;
+    let span = span_of(group, doc, op.place)?;
     Some(Op {
         span,
         text: op.text,
@@ -36,15 +47,16 @@ fn op_at(model: &mut Model, op: LineOp) -> Option<Op>
     })
 }
 
-fn span_of(model: &mut Model, place: Place) -> Option<Span>
-    ensures found { result ≡ span_of model.old.document place }
-    ensures same { model.new ≡ model.old }
+fn span_of(group: &mut Group, doc: u64, place: Place) -> Option<Span>
+    requires { doc < DOC_COUNT }
+    ensures found { result ≡ span_of (doc_in (documents group.old) doc) place }
+    ensures same { group.new ≡ group.old }
 {
     match place {
         Place::At(span) => Some(span),
         Place::InRange(start, end) => {
-            let start = model.locate(start)?;
-            let end = model.locate(end)?;
+            let start = group.locate(doc, start)?;
+            let end = group.locate(doc, end)?;
             Some(Span { start, end })
         }
     }

@@ -3,9 +3,10 @@
 ghost use Rattle.std.specs.Prelude.{◌≡◌};
 ghost use Rattle.script_lines.specs.declared.reason.Refusal.TheVariants as refusal;
 ghost use Rattle.script_streams.specs.Streams.{WritesWhole};
-ghost use Rattle.script_runner.specs.Bytes.{bytes_of, bytes_of_outcome, refusal_of, refusal_of_fault};
+ghost use Rattle.script_runner.specs.Bytes.{bytes_of, bytes_of_outcome, refusal_of, refusal_of_group, refusal_of_fault};
 
 use model_core::ModelError;
+use model_group::GroupError;
 use script_lines::{LineFault, Refusal, Short, refusal};
 use script_streams::{Failed, Sink, write_whole};
 use std::alloc::AllocError;
@@ -55,6 +56,27 @@ fn refusal_of(error: ModelError) -> Refusal
         ModelError::Overlap => Refusal::Overlap,
         ModelError::Limit => Refusal::Limit,
         ModelError::Memory => Refusal::Memory,
+    }
+}
+
+impl From<GroupError> for Refused {
+    ghost from_gives = { λ error refused. refused ≡ record { 0 = refusal_of_group error } };
+
+    fn from(error: GroupError) -> Refused {
+        Refused(refusal_of_group(error))
+    }
+}
+
+fn refusal_of_group(error: GroupError) -> Refusal
+    ensures { result ≡ refusal_of_group error }
+{
+    match error {
+        GroupError::Unknown => Refusal::Unknown,
+        GroupError::Range => Refusal::Range,
+        GroupError::Overlap => Refusal::Overlap,
+        GroupError::Limit => Refusal::Limit,
+        GroupError::Joint { doc } => Refusal::Joint { doc },
+        GroupError::Memory => Refusal::Memory,
     }
 }
 

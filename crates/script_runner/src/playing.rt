@@ -21,9 +21,9 @@ pub(crate) struct Summary {
     pub count: u32,
     /// How many replies begin with `!`.
     pub refused: u64,
-    /// The units of the text at the end.
+    /// The units of the text of document 0 at the end.
     pub units: u64,
-    /// The lines of the text at the end.
+    /// The lines of that text.
     pub lines: u64,
     /// How many bytes the replies had, modulo 2^32.
     pub bytes: u32,
@@ -31,7 +31,7 @@ pub(crate) struct Summary {
     pub total: u32,
 }
 
-/// Serves the script to a new document, and writes one line that sums it up. Writes nothing where memory was wanting.
+/// Serves the script to new documents, and writes one line that sums it up. Writes nothing where memory was wanting.
 pub(crate) fn play<K: Sink>(alloc: Global, count: u32, seed: u64, out: &mut K) -> Status
     requires { IsCount count }
     ensures { Plays result count seed (K.state out.old) (K.state out.new) }
@@ -45,18 +45,20 @@ pub(crate) fn play<K: Sink>(alloc: Global, count: u32, seed: u64, out: &mut K) -
     show(&summary, out)
 }
 
-/// Serves the script to a new document, or answers `None` where a reply was `! memory`.
+/// Serves the script to new documents, or answers `None` where there was no memory for them or a reply was `! memory`.
 fn sum_up(alloc: Global, count: u32, seed: u64, buf: &mut [u8]) -> Option<Summary>
     requires count { IsCount count }
     requires room { 0 < length buf.old }
     ensures { IfSome result (λ summary. SumsUp summary count seed) }
 {
-    let mut session = Session::new(alloc);
+    let Ok(mut session) = Session::new(alloc) else {
+        return None;
+    };
     let mut src = PlaySource::new(count, seed);
     let mut tally = TallySink::new();
     let served = serve(&mut session, &mut src, &mut tally, buf, MOST_SCRIPT_BYTES);
     let refused = refused_of(served)?;
-    let model = &session.model;
+    let model = session.group.doc(0);
     Some(Summary {
         count,
         refused,

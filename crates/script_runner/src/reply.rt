@@ -1,20 +1,26 @@
-//! Commands carried out, and the replies to lines.
+//! Requests carried out, and the replies to lines.
 
-ghost use Rattle.std.specs.Prelude.{◌≡◌, ◌++◌, ◌∷◌, [], ℕ, List, if◌then◌else◌, IfOk, unwrap_or, length};
+ghost use Rattle.std.specs.Prelude.{◌≡◌, ◌<◌, ◌++◌, ◌∷◌, [], ℕ, List, if◌then◌else◌, IfOk, unwrap_or, length};
 ghost use Rattle.bracket_rules.specs.Table.{standard_table};
 ghost use Rattle.hiding_rules.specs.Marks.{no_marks};
-ghost use Rattle.document_rules.specs.Document.{flat_eol, flat_undo, flat_redo, flat_stop, flat_line, flat_value, flat_offset, flat_position, flat_line_count};
-ghost use Rattle.script_lines.specs.Commands.{command_of};
+ghost use Rattle.document_rules.specs.Document.{flat_stop, flat_line, flat_value, flat_offset, flat_position, flat_line_count};
+ghost use Rattle.group_rules.specs.declared.TheConstants.{DOC_COUNT};
+ghost use Rattle.group_rules.specs.Group.{doc_in, group_eol};
+ghost use Rattle.group_rules.specs.Going.{group_undo, group_redo};
+ghost use Rattle.model_group.specs.State.{documents};
+ghost use Rattle.script_lines.specs.Requests.{request_of};
 ghost use Rattle.script_lines.specs.Replies.{ok_reply, none_reply, text_reply};
-ghost use Rattle.script_runner.specs.Step.{change_reply, edited_at, moved, ops_at, offset_answer, position_answer, text_answer};
+ghost use Rattle.session_rules.specs.Step.{change_reply, edited_at, moved, gone, ops_at, offset_answer, position_answer, text_answer, request_answer};
 ghost use Rattle.script_runner.specs.Standing.{Turns};
-ghost use Rattle.script_runner.specs.Script.{commanded};
+ghost use Rattle.session_rules.specs.Script.{requested};
 ghost use Rattle.script_runner.specs.Progress.{IsLineSoFar};
-ghost use Rattle.script_runner.specs.Told.{IsAccepted, Tells, TellsBy, TellsOf};
+ghost use Rattle.script_runner.specs.Told.{IsAccepted, Tells, TellsBy, TellsOn, TellsOf};
 ghost use Rattle.script_runner.specs.Bytes.{bytes_of, bytes_of_outcome};
+ghost use Rattle.script_lines.specs.Proper.{IsProper};
 
 use crate::bracket_replies::{brackets_reply, level_reply, match_reply};
 use crate::decoration_replies::{deco_reply, decorate_reply, decos_reply};
+use crate::joint_replies::joint_reply;
 use crate::line::PartialLine;
 use crate::mirror_replies::{deliver_reply, mirror_reply, mirrored_reply, send_reply};
 use crate::ops::ops_at;
@@ -23,7 +29,10 @@ use crate::search_replies::{find_reply, replace_reply};
 use crate::session::Session;
 use crate::snapshot_replies::{close_reply, read_reply, snapshot_reply, stops_reply};
 use model_core::{BracketTable, Hiding, Model};
-use script_lines::{Command, LineOps, Refusal, Short, command_of, long_begin, long_end, long_text};
+use model_group::{DOC_COUNT, Group};
+use script_lines::{
+    Command, LineOps, Refusal, Request, Short, long_begin, long_end, long_text, request_of,
+};
 use std::alloc::{AllocError, Global};
 use text_lengths::{Position, Span};
 use unit_text::Kind;
@@ -60,68 +69,88 @@ fn reply_to_kept(session: &mut Session, line: &PartialLine) -> Outcome
 }
 
 pub(crate) fn reply_to_bytes(session: &mut Session, line: &[u8]) -> Outcome
-    ensures { TellsOf (λ flat. commanded flat (command_of line.now))
+    ensures { TellsOf (λ flat. requested flat (request_of line.now))
         session.old result session.new }
 {
-    let command = command_of(session.alloc, line)?;
-    carry_out(session, command)
+    let request = request_of(session.alloc, line)?;
+    carry_request(session, request)
 }
 
-fn carry_out(session: &mut Session, command: Command) -> Outcome
-    ensures { Tells session.old command result session.new }
+/// A document that is not there is refused.
+fn carry_request(session: &mut Session, request: Request) -> Outcome
+    requires { IsProper request }
+    ensures { TellsOf (λ flat. request_answer flat request) session.old result session.new }
+{
+    match request {
+        Request::One { doc, command } => {
+            if doc >= DOC_COUNT {
+                return Err(Refused(Refusal::Unknown));
+            }
+            carry_out(session, doc, command)
+        }
+        Request::Joint { edits } => joint_reply(session.alloc, &mut session.group, edits),
+    }
+}
+
+fn carry_out(session: &mut Session, doc: u64, command: Command) -> Outcome
+    requires { doc < DOC_COUNT }
+    ensures { Tells session.old doc command result session.new }
 {
     let alloc = session.alloc;
-    let model = &mut session.model;
+    let group = &mut session.group;
     match command {
         Command::Open {
             text,
             brackets,
             marks,
             kind,
-        } => open_reply(session, text.as_slice(), brackets, marks, kind),
-        Command::Edit { ops } => edit_reply(alloc, model, ops),
-        Command::Eol { kind } => eol_reply(model, kind),
-        Command::Decorate { owner, remove, add } => decorate_reply(model, owner, remove, add),
-        Command::Undo => undo_reply(model),
-        Command::Redo => redo_reply(model),
-        Command::Stop => stop_reply(model),
-        Command::Version => versions_reply(model),
-        Command::Size => size_reply(model),
-        Command::Line { n } => line_reply(alloc, model, n),
-        Command::Value { at } => value_reply(alloc, model, at),
-        Command::Offset { p } => offset_reply(model, p),
-        Command::Position { offset } => position_reply(model, offset),
-        Command::Deco { id } => deco_reply(model, id),
-        Command::Decos { at, owner } => decos_reply(alloc, model, at, owner),
-        Command::Brackets { from, to } => brackets_reply(alloc, model, from, to),
-        Command::Match { p } => match_reply(model, p),
-        Command::Level { p } => level_reply(model, p),
-        Command::Snapshot => snapshot_reply(model),
-        Command::Read { id, count } => read_reply(alloc, model, id, count),
-        Command::Close { id } => close_reply(model, id),
-        Command::Stops { n } => stops_reply(alloc, model, n),
-        Command::Find { sought } => find_reply(alloc, model, sought.as_slice()),
+        } => open_reply(session, doc, text.as_slice(), brackets, marks, kind),
+        Command::Edit { ops } => edit_reply(alloc, group, doc, ops),
+        Command::Eol { kind } => eol_reply(group, doc, kind),
+        Command::Decorate { owner, remove, add } => decorate_reply(group, doc, owner, remove, add),
+        Command::Undo => undo_reply(group, doc),
+        Command::Redo => redo_reply(group, doc),
+        Command::Stop => stop_reply(group, doc),
+        Command::Version => versions_reply(group.doc(doc)),
+        Command::Size => size_reply(group.doc(doc)),
+        Command::Line { n } => line_reply(alloc, group.doc(doc), n),
+        Command::Value { at } => value_reply(alloc, group.doc(doc), at),
+        Command::Offset { p } => offset_reply(group.doc(doc), p),
+        Command::Position { offset } => position_reply(group.doc(doc), offset),
+        Command::Deco { id } => deco_reply(group.doc(doc), id),
+        Command::Decos { at, owner } => decos_reply(alloc, group.doc(doc), at, owner),
+        Command::Brackets { from, to } => brackets_reply(alloc, group, doc, from, to),
+        Command::Match { p } => match_reply(group, doc, p),
+        Command::Level { p } => level_reply(group, doc, p),
+        Command::Snapshot => snapshot_reply(group, doc),
+        Command::Read { id, count } => read_reply(alloc, group, doc, id, count),
+        Command::Close { id } => close_reply(group, doc, id),
+        Command::Stops { n } => stops_reply(alloc, group.doc(doc), n),
+        Command::Find { sought } => find_reply(alloc, group.doc(doc), sought.as_slice()),
         Command::Replace { sought, text } => {
-            replace_reply(model, sought.as_slice(), text.as_slice())
+            replace_reply(group, doc, sought.as_slice(), text.as_slice())
         }
-        Command::Mirror => mirror_reply(session),
-        Command::Send => send_reply(session),
-        Command::Deliver { n } => deliver_reply(session, n),
-        Command::Mirrored { n } => mirrored_reply(session, n),
+        Command::Mirror => mirror_reply(session, doc),
+        Command::Send => send_reply(session, doc),
+        Command::Deliver { n } => deliver_reply(session, doc, n),
+        Command::Mirrored { n } => mirrored_reply(session, doc, n),
     }
 }
 
 fn open_reply(
     session: &mut Session,
+    doc: u64,
     text: &[u16],
     brackets: Option<BracketTable>,
     marks: Option<Hiding>,
     kind: Kind,
 ) -> Outcome
-    ensures { Tells session.old (Command.Open text.now brackets marks kind) result session.new }
+    requires { doc < DOC_COUNT }
+    ensures { Tells session.old doc (Command.Open text.now brackets marks kind)
+        result session.new }
 {
-    session.open_doc(text, table_of(brackets), kind, hiding_of(marks))?;
-    Ok(change_reply(&session.model))
+    session.open_doc(doc, text, table_of(brackets), kind, hiding_of(marks))?;
+    Ok(change_reply(session.group.doc(doc)))
 }
 
 /// The brackets that are asked for, or the standard ones.
@@ -144,44 +173,50 @@ fn hiding_of(marks: Option<Hiding>) -> Hiding
     }
 }
 
-fn edit_reply(alloc: Global, model: &mut Model, ops: LineOps) -> Outcome
-    ensures { let f = model.old.document in
-        TellsBy (edited_at f (ops_at f ops)) f result model.new.document }
+fn edit_reply(alloc: Global, group: &mut Group, doc: u64, ops: LineOps) -> Outcome
+    requires { doc < DOC_COUNT }
+    ensures { let g = documents group.old in
+        TellsBy (edited_at g doc (ops_at (doc_in g doc) ops)) g result (documents group.new) }
 {
-    let ops = ops_at(alloc, model, ops)?;
-    model.edit(ops)?;
-    Ok(change_reply(model))
+    let ops = ops_at(alloc, group, doc, ops)?;
+    group.edit(doc, ops)?;
+    Ok(change_reply(group.doc(doc)))
 }
 
-fn eol_reply(model: &mut Model, kind: Kind) -> Outcome
-    ensures { let f = model.old.document in
-        TellsBy (moved f (flat_eol f kind)) f result model.new.document }
+fn eol_reply(group: &mut Group, doc: u64, kind: Kind) -> Outcome
+    requires { doc < DOC_COUNT }
+    ensures { let g = documents group.old in
+        TellsBy (moved g doc (group_eol g doc kind)) g result (documents group.new) }
 {
-    let is_changed = model.set_eol(kind)?;
-    Ok(move_reply(is_changed, model))
+    let is_changed = group.set_eol(doc, kind)?;
+    Ok(move_reply(is_changed, group.doc(doc)))
 }
 
-fn undo_reply(model: &mut Model) -> Outcome
-    ensures { let f = model.old.document in
-        TellsBy (moved f (flat_undo f)) f result model.new.document }
+fn undo_reply(group: &mut Group, doc: u64) -> Outcome
+    requires { doc < DOC_COUNT }
+    ensures { let g = documents group.old in
+        TellsBy (gone g doc (group_undo g doc)) g result (documents group.new) }
 {
-    let is_moved = model.undo()?;
-    Ok(move_reply(is_moved, model))
+    let is_moved = group.undo(doc)?;
+    Ok(move_reply(is_moved, group.doc(doc)))
 }
 
-fn redo_reply(model: &mut Model) -> Outcome
-    ensures { let f = model.old.document in
-        TellsBy (moved f (flat_redo f)) f result model.new.document }
+fn redo_reply(group: &mut Group, doc: u64) -> Outcome
+    requires { doc < DOC_COUNT }
+    ensures { let g = documents group.old in
+        TellsBy (gone g doc (group_redo g doc)) g result (documents group.new) }
 {
-    let is_moved = model.redo()?;
-    Ok(move_reply(is_moved, model))
+    let is_moved = group.redo(doc)?;
+    Ok(move_reply(is_moved, group.doc(doc)))
 }
 
-fn stop_reply(model: &mut Model) -> Outcome
-    ensures { let f = model.old.document in
-        TellsBy (ok_reply [], flat_stop f) f result model.new.document }
+fn stop_reply(group: &mut Group, doc: u64) -> Outcome
+    requires { doc < DOC_COUNT }
+    ensures { let f = doc_in (documents group.old) doc in
+        TellsOn doc (ok_reply [], flat_stop f) (documents group.old) result
+        (documents group.new) }
 {
-    model.stop();
+    group.stop(doc);
     Ok(Reply::Short(Short::ok(&[])))
 }
 

@@ -1,9 +1,9 @@
 //! What a run of the program does.
 
 ghost use Rattle.std.specs.Prelude.{◌≡◌, ◌≢◌, ◌≤◌, ◌<◌, ◌⊎◌, ℕ, List, Some, map, string_bytes, vec_len, IfOk, length};
-ghost use Rattle.script_runner.specs.Session.{FlatSession};
-ghost use Rattle.script_runner.specs.Step.{memory_reply};
-ghost use Rattle.script_runner.specs.Script.{turn, Transcript, IsDecided};
+ghost use Rattle.session_rules.specs.Session.{FlatSession};
+ghost use Rattle.session_rules.specs.Step.{memory_reply};
+ghost use Rattle.session_rules.specs.Script.{turn, Transcript, IsDecided};
 ghost use Rattle.script_runner.specs.Words.{words_command};
 ghost use Rattle.script_runner.specs.Playing.{Plays};
 ghost use Rattle.script_runner.specs.Obeying.{Obeys};
@@ -57,8 +57,8 @@ pub fn run_words<S: Source, K: Sink, E: Sink>(
     out: &mut K,
     err: &mut E,
 ) -> u8
-    // The program answers as the flat document does: where the source tells what it holds and `out` what it took, the
-    // bytes written for a script that was answered are the replies to all of its lines, one by one, by a new document.
+    // The program answers as the flat documents do: where the source tells what it holds and `out` what it took, the
+    // bytes written for a script that was answered are the replies to all of its lines, one by one, by new documents.
     ensures headline { words_command (map string_bytes words.now) ≡ Words.Run → result ≤ 1
         → (script before after : List ℕ)
         → (S.state src.old).left ≡ Some script → (K.state out.old).taken ≡ Some before
@@ -151,7 +151,9 @@ fn run<S: Source, K: Sink>(alloc: Global, src: &mut S, out: &mut K) -> Status
     let Ok(mut buf) = read_buffer(alloc) else {
         return Status::Memory;
     };
-    let mut session = Session::new(alloc);
+    let Ok(mut session) = Session::new(alloc) else {
+        return Status::Memory;
+    };
     let served = serve(
         &mut session,
         src,

@@ -1,14 +1,18 @@
 //! Replies to the commands that look for a text.
 
 ghost use Rattle.std.specs.Prelude.{◌≡◌, ◌<◌, length, IfOk};
-ghost use Rattle.search_rules.specs.Replacing.{flat_find, flat_replace_all};
-ghost use Rattle.script_runner.specs.Step.{moved, spans_reply};
+ghost use Rattle.search_rules.specs.Replacing.{flat_find};
+ghost use Rattle.group_rules.specs.declared.TheConstants.{DOC_COUNT};
+ghost use Rattle.group_rules.specs.Group.{group_replace_all};
+ghost use Rattle.model_group.specs.State.{documents};
+ghost use Rattle.session_rules.specs.Step.{moved, spans_reply};
 ghost use Rattle.script_runner.specs.Told.{TellsBy};
 ghost use Rattle.script_runner.specs.Bytes.{bytes_of};
 
 use crate::outcome::{Outcome, Reply};
 use crate::reply::move_reply;
 use model_core::Model;
+use model_group::Group;
 use script_lines::{long_begin, long_end, long_number};
 use std::alloc::{AllocError, Global};
 use text_lengths::Span;
@@ -36,11 +40,13 @@ fn list_reply(alloc: Global, spans: &[Span]) -> Result<Reply, AllocError>
     Ok(Reply::Long(reply))
 }
 
-pub(crate) fn replace_reply(model: &mut Model, sought: &[u16], text: &[u16]) -> Outcome
+pub(crate) fn replace_reply(group: &mut Group, doc: u64, sought: &[u16], text: &[u16]) -> Outcome
+    requires there { doc < DOC_COUNT }
     requires some { 0 < length sought.now }
-    ensures { let f = model.old.document in
-        TellsBy (moved f (flat_replace_all f sought.now text.now)) f result model.new.document }
+    ensures { let g = documents group.old in
+        TellsBy (moved g doc (group_replace_all g doc sought.now text.now)) g result
+        (documents group.new) }
 {
-    let is_changed = model.replace_all(sought, text)?;
-    Ok(move_reply(is_changed, model))
+    let is_changed = group.replace_all(doc, sought, text)?;
+    Ok(move_reply(is_changed, group.doc(doc)))
 }

@@ -3,7 +3,7 @@
 ghost use Rattle.std.specs.Prelude.{◌≡◌, ◌<◌, ◌+◌, length, min, [], ◌∷◌, ◌++◌, if◌then◌else◌, is_err, IfNone, IfSome};
 ghost use Rattle.script_streams.specs.Streams.{greatest_count};
 ghost use Rattle.script_runner.specs.Bytes.{is_for_memory};
-ghost use Rattle.script_runner.specs.Script.{IsInOneLine};
+ghost use Rattle.session_rules.specs.Script.{IsInOneLine};
 ghost use Rattle.script_runner.specs.Progress.{IsLineSoFar, AnswersLine, AnswersPiece};
 ghost use Rattle.script_runner.specs.Serving.{Serves, Finishes};
 

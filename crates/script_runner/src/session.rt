@@ -1,11 +1,13 @@
 //! What is kept from one line to the next.
 
-ghost use Rattle.std.specs.Prelude.{◌≡◌, [], None, OnOk, OnErr};
+ghost use Rattle.std.specs.Prelude.{◌≡◌, ◌<◌, [], None, IfOk, OnOk, OnErr};
 ghost use Rattle.hiding_rules.specs.Hidden.{scanner};
-ghost use Rattle.document_rules.specs.Document.{flat_open};
 ghost use Rattle.document_rules.specs.Outcomes.{Changes};
-ghost use Rattle.script_runner.specs.Session.{new_session};
-ghost use Rattle.script_runner.specs.Standing.{StandsFor, Turns};
+ghost use Rattle.group_rules.specs.declared.TheConstants.{DOC_COUNT};
+ghost use Rattle.group_rules.specs.Group.{group_open};
+ghost use Rattle.model_group.specs.State.{documents};
+ghost use Rattle.session_rules.specs.Session.{new_session};
+ghost use Rattle.script_runner.specs.Standing.{AreFresh, BeginsAnew, StandsFor, Turns};
 ghost use Rattle.script_runner.specs.Bytes.{bytes_of_outcome};
 ghost use Rattle.script_runner.specs.Told.{IsAccepted};
 
@@ -13,52 +15,76 @@ use crate::line::{MOST_LINE_BYTES, is_blank};
 use crate::outcome::{Outcome, Refused, Reply};
 use crate::reply::reply_to_bytes;
 use mirror_model::Mirror;
-use model_core::{BracketTable, Event, Hiding, Kind, Model, ModelError};
+use model_core::{BracketTable, Event, Hiding, Kind, ModelError};
+use model_group::{DOC_COUNT, Group};
 use script_lines::Refusal;
-use std::alloc::Global;
+use std::alloc::{AllocError, Global};
 
-/// Answers lines, one after another: a document, a text that follows it, and where replies take their memory.
+/// What follows a document.
 #[derive(Drop)]
-pub struct Session {
-    pub alloc: Global,
-    pub model: Model,
+pub struct Follower {
     /// The text that follows the document by its events, where one was begun.
     pub mirror: Option<Mirror>,
     /// The events that were sent, the first one first.
     pub sent: Vec<Event>,
 }
 
-impl Session {
-    /// A session with an empty document.
-    pub fn new(alloc: Global) -> Session
-        ensures { StandsFor result new_session }
+impl Follower {
+    /// Nothing was mirrored or sent.
+    fn new(alloc: Global) -> Follower
+        ensures mirror { result.mirror ≡ None }
+        ensures sent { result.sent.items ≡ [] }
     {
-        Session {
-            alloc,
-            model: Model::new(alloc),
+        Follower {
             mirror: None,
             sent: Vec::new(alloc),
         }
     }
+}
 
-    /// Opens a new document as `Model::open_doc` does. The mirror and the events of the old one go with it.
+/// Answers lines, one after another: the documents, what follows each of them, and where replies take their memory.
+#[derive(Drop)]
+pub struct Session {
+    pub alloc: Global,
+    pub group: Group,
+    /// By the numbers of their documents.
+    pub followers: Vec<Follower>,
+}
+
+impl Session {
+    /// A session with empty documents.
+    pub fn new(alloc: Global) -> Result<Session, AllocError>
+        ensures { IfOk result (λ session. StandsFor session new_session) }
+    {
+        let group = Group::new(alloc)?;
+        let followers = new_followers(alloc)?;
+        Ok(Session {
+            alloc,
+            group,
+            followers,
+        })
+    }
+
+    /// Opens a new document of this number as `Group::open_doc` does. The mirror and the events of the old one go with it.
     pub fn open_doc(
         &mut self,
+        doc: u64,
         text: &[u16],
         table: BracketTable,
         kind: Kind,
         hiding: Hiding,
     ) -> Result<(), ModelError>
-        ensures document { Changes result self.old.model.document self.new.model.document
-            (flat_open text.now (scanner table hiding) kind) }
-        ensures mirror { OnOk result (self.new.mirror ≡ None) }
-        ensures sent { OnOk result (self.new.sent.items ≡ []) }
-        ensures kept_mirror { OnErr result (self.new.mirror ≡ self.old.mirror) }
-        ensures kept_sent { OnErr result (self.new.sent.items ≡ self.old.sent.items) }
+        requires { doc < DOC_COUNT }
+        ensures documents { Changes result (documents self.old.group) (documents self.new.group)
+            (group_open (documents self.old.group) doc text.now (scanner table hiding) kind) }
+        ensures followers { OnOk result
+            (BeginsAnew doc self.old.followers.items self.new.followers.items) }
+        ensures kept { OnErr result (self.new.followers.items ≡ self.old.followers.items) }
     {
-        self.model.open_doc(text, table, kind, hiding)?;
-        self.mirror = None;
-        self.sent = Vec::new(self.alloc);
+        self.group.open_doc(doc, text, table, kind, hiding)?;
+        if let Some(follower) = self.followers.get_mut(doc as usize) {
+            *follower = Follower::new(self.alloc);
+        }
         Ok(())
     }
 
@@ -75,4 +101,15 @@ impl Session {
         }
         reply_to_bytes(self, line)
     }
+}
+
+/// One for each document, and nothing was mirrored or sent.
+fn new_followers(alloc: Global) -> Result<Vec<Follower>, AllocError>
+    ensures { IfOk result (λ followers. AreFresh followers.items) }
+{
+    let mut followers = Vec::with_capacity(alloc, DOC_COUNT as usize)?;
+    for _ in 0..DOC_COUNT {
+        followers.push(Follower::new(alloc))?;
+    }
+    Ok(followers)
 }

@@ -1,44 +1,54 @@
 //! Replies to the commands on snapshots, and to the question where a cursor may stop.
 
-ghost use Rattle.std.specs.Prelude.{◌≡◌, IfOk};
+ghost use Rattle.std.specs.Prelude.{◌≡◌, ◌<◌, IfOk};
 ghost use Rattle.script_lines.specs.Replies.{ok_reply};
 ghost use Rattle.document_rules.specs.Snapshots.{flat_snapshot, flat_peek_of, flat_close_of};
 ghost use Rattle.document_rules.specs.Stops.{flat_stops};
-ghost use Rattle.script_runner.specs.Step.{snapshot_answer, read_answer, close_answer, stops_answer};
-ghost use Rattle.script_runner.specs.Told.{TellsBy};
+ghost use Rattle.group_rules.specs.declared.TheConstants.{DOC_COUNT};
+ghost use Rattle.group_rules.specs.Group.{doc_in};
+ghost use Rattle.model_group.specs.State.{documents};
+ghost use Rattle.session_rules.specs.Step.{snapshot_answer, read_answer, close_answer, stops_answer};
+ghost use Rattle.script_runner.specs.Told.{TellsBy, TellsOn};
 ghost use Rattle.script_runner.specs.Bytes.{bytes_of};
 
 use crate::outcome::{Outcome, Reply};
 use crate::reply::text_reply;
 use model_core::Model;
+use model_group::Group;
 use script_lines::{Short, long_begin, long_end, long_number};
 use std::alloc::{AllocError, Global};
 
-pub(crate) fn snapshot_reply(model: &mut Model) -> Outcome
-    ensures { let f = model.old.document in
-        TellsBy (snapshot_answer f (flat_snapshot f)) f result model.new.document }
+pub(crate) fn snapshot_reply(group: &mut Group, doc: u64) -> Outcome
+    requires { doc < DOC_COUNT }
+    ensures { let f = doc_in (documents group.old) doc in
+        TellsOn doc (snapshot_answer f (flat_snapshot f))
+        (documents group.old) result (documents group.new) }
 {
-    let id = model.snapshot()?;
+    let id = group.snapshot(doc)?;
     Ok(Reply::Short(Short::ok(&[id])))
 }
 
 /// The units are passed only when the reply stands, so want of memory leaves the snapshot as it was.
-pub(crate) fn read_reply(alloc: Global, model: &mut Model, id: u64, count: u64) -> Outcome
-    ensures { let f = model.old.document in
-        TellsBy (read_answer f id (flat_peek_of f id count)) f result model.new.document }
+pub(crate) fn read_reply(alloc: Global, group: &mut Group, doc: u64, id: u64, count: u64) -> Outcome
+    requires { doc < DOC_COUNT }
+    ensures { let f = doc_in (documents group.old) doc in
+        TellsOn doc (read_answer f id (flat_peek_of f id count))
+        (documents group.old) result (documents group.new) }
 {
     let mut units = Vec::new(alloc);
-    model.peek(id, count, &mut units)?;
+    group.doc(doc).peek(id, count, &mut units)?;
     let reply = text_reply(alloc, units.as_slice())?;
-    model.skip(id, units.len() as u64);
+    group.skip(doc, id, units.len() as u64);
     Ok(reply)
 }
 
-pub(crate) fn close_reply(model: &mut Model, id: u64) -> Outcome
-    ensures { let f = model.old.document in
-        TellsBy (close_answer f (flat_close_of f id)) f result model.new.document }
+pub(crate) fn close_reply(group: &mut Group, doc: u64, id: u64) -> Outcome
+    requires { doc < DOC_COUNT }
+    ensures { let f = doc_in (documents group.old) doc in
+        TellsOn doc (close_answer f (flat_close_of f id))
+        (documents group.old) result (documents group.new) }
 {
-    model.close(id)?;
+    group.close(doc, id)?;
     Ok(Reply::Short(Short::ok(&[])))
 }
 

@@ -1,5 +1,6 @@
 mod Boxed
 mod Handles
+pub mod Firsts
 pub mod JoinedTexts
 pub mod Refusals
 pub mod Searches

@@ -1,4 +1,4 @@
--- What the calls of C ask of the flat document.
+-- What the calls of C ask of the flat document, and of the group that it is in.
 use Rattle.std.specs.Prelude.{ℕ, ◌+◌, ◌-◌, ◌==◌, ◌&&◌, ◌||◌, not, Bool, true, false, nat_lt, nat_le, if◌then◌else◌, List, [], ◌∷◌, length, map, take, drop, Option, Some, None, option_map, Result, Ok, Err}
 use Rattle.text_lengths.specs.declared.Position.{Position}
 use Rattle.text_lengths.specs.declared.Span.{Span}
@@ -17,10 +17,12 @@ use Rattle.bracket_rules.specs.declared.Status.TheVariants.{PairedOpening, Paire
 use Rattle.column_encodings.specs.declared.Encoding.{Encoding}
 use Rattle.column_encodings.specs.declared.Encoding.TheVariants.{Utf8, Utf16, Utf32}
 use Rattle.document_rules.specs.Refusals.{FlatRefusal, range}
-use Rattle.document_rules.specs.Document.{FlatState, flat_open, flat_edit, flat_eol, flat_offset, flat_decos, flat_line}
+use Rattle.document_rules.specs.Document.{FlatState, flat_offset, flat_decos, flat_line}
 use Rattle.document_rules.specs.Brackets.{flat_brackets, flat_match}
 use Rattle.document_rules.specs.Columns.{flat_column_in, flat_column_of}
-use Rattle.search_rules.specs.Replacing.{flat_find, flat_replace_all}
+use Rattle.search_rules.specs.Replacing.{flat_find}
+use Rattle.group_rules.specs.Group.{FlatGroup, doc_in, group_open, group_edit, group_eol, group_replace_all}
+use Rattle.textmodel_c.specs.declared.document.TheConstants.{FIRST}
 use Rattle.textmodel_c.specs.declared.edits.BatchOp.{BatchOp}
 use Rattle.textmodel_c.specs.declared.opening.PairUnits.{PairUnits}
 use Rattle.textmodel_c.specs.declared.text.Place.{Place}
@@ -76,8 +78,8 @@ with_kind None rule = Err range
 with_kind (Some kind) rule = rule kind
 
 -- a new document with the usual brackets
-abbrev pub flat_open_as : ℕ → List ℕ → Result FlatState FlatRefusal
-flat_open_as number text = with_kind (kind_of number) (flat_open text standard_scanner)
+abbrev pub group_open_as : ℕ → List ℕ → FlatGroup → Result FlatGroup FlatRefusal
+group_open_as number text g = with_kind (kind_of number) (group_open g FIRST text standard_scanner)
 
 -- the two texts of a pair, joined
 abbrev pub pair_of : PairUnits → List ℕ → List ℕ × List ℕ
@@ -95,12 +97,12 @@ with_table (Err why) rule = Err why
 with_table (Ok table) rule = rule table
 
 -- a new document with brackets of its own
-abbrev pub flat_open_with : ℕ → List PairUnits → List ℕ → List ℕ → Result FlatState FlatRefusal
-flat_open_with number pairs brackets text =
-    with_kind (kind_of number) (λ kind. with_table (table_or_range (pairs_of pairs brackets)) (λ table. flat_open text (plain_scanner table) kind))
+abbrev pub group_open_with : ℕ → List PairUnits → List ℕ → List ℕ → FlatGroup → Result FlatGroup FlatRefusal
+group_open_with number pairs brackets text g =
+    with_kind (kind_of number) (λ kind. with_table (table_or_range (pairs_of pairs brackets)) (λ table. group_open g FIRST text (plain_scanner table) kind))
 
-abbrev pub flat_eol_as : FlatState → ℕ → Result (Option FlatState) FlatRefusal
-flat_eol_as f number = with_kind (kind_of number) (flat_eol f)
+abbrev pub group_eol_as : ℕ → FlatGroup → Result (Option FlatGroup) FlatRefusal
+group_eol_as number g = with_kind (kind_of number) (group_eol g FIRST)
 
 -- ---- edits
 
@@ -115,13 +117,13 @@ both_ends None end = None
 abbrev pub span_between : FlatState → Position → Position → Option Span
 span_between f from to = both_ends (flat_offset f from) (flat_offset f to)
 
-abbrev pub flat_edit_in : FlatState → Option Span → List ℕ → Bool → Result FlatState FlatRefusal
-flat_edit_in f None text force = Err range
-flat_edit_in f (Some span) text force = flat_edit f (one_op span text force)
+abbrev pub group_edit_in : FlatGroup → Option Span → List ℕ → Bool → Result FlatGroup FlatRefusal
+group_edit_in g None text force = Err range
+group_edit_in g (Some span) text force = group_edit g FIRST (one_op span text force)
 
 -- from one position up to another
-abbrev pub flat_edit_at : Position → Position → List ℕ → Bool → FlatState → Result FlatState FlatRefusal
-flat_edit_at from to text force f = flat_edit_in f (span_between f from to) text force
+abbrev pub group_edit_at : Position → Position → List ℕ → Bool → FlatGroup → Result FlatGroup FlatRefusal
+group_edit_at from to text force g = group_edit_in g (span_between (doc_in g FIRST) from to) text force
 
 abbrev pub op_of : BatchOp → List ℕ → Op
 op_of op text = record { span = span op.start op.end; text = text; force = op.force }
@@ -130,12 +132,12 @@ op_of op text = record { span = span op.start op.end; text = text; force = op.fo
 abbrev pub ops_of : List BatchOp → List ℕ → Result (List Op) FlatRefusal
 ops_of batch text = pieces_of (λ (op : BatchOp). op.units) op_of batch text
 
-abbrev pub flat_edit_by : FlatState → Result (List Op) FlatRefusal → Result FlatState FlatRefusal
-flat_edit_by f (Err why) = Err why
-flat_edit_by f (Ok ops) = flat_edit f ops
+abbrev pub group_edit_by : FlatGroup → Result (List Op) FlatRefusal → Result FlatGroup FlatRefusal
+group_edit_by g (Err why) = Err why
+group_edit_by g (Ok ops) = group_edit g FIRST ops
 
-abbrev pub flat_edit_joined : FlatState → List BatchOp → List ℕ → Result FlatState FlatRefusal
-flat_edit_joined f batch text = flat_edit_by f (ops_of batch text)
+abbrev pub group_edit_joined : List BatchOp → List ℕ → FlatGroup → Result FlatGroup FlatRefusal
+group_edit_joined batch text g = group_edit_by g (ops_of batch text)
 
 -- ---- what is read
 
@@ -188,9 +190,9 @@ abbrev pub flat_find_list : FlatState → List ℕ → Result (List Found) FlatR
 flat_find_list f [] = Err range
 flat_find_list f (u ∷ units) = Ok (map found_of (flat_find f (u ∷ units)))
 
-abbrev pub flat_replace_some : FlatState → List ℕ → List ℕ → Result (Option FlatState) FlatRefusal
-flat_replace_some f [] text = Err range
-flat_replace_some f (u ∷ units) text = flat_replace_all f (u ∷ units) text
+abbrev pub group_replace_some : List ℕ → List ℕ → FlatGroup → Result (Option FlatGroup) FlatRefusal
+group_replace_some [] text g = Err range
+group_replace_some (u ∷ units) text g = group_replace_all g FIRST (u ∷ units) text
 
 -- ---- brackets
 

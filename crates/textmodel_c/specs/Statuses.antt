@@ -2,8 +2,10 @@
 use Rattle.std.specs.Prelude.{ℕ, Bool, true, false, Result, Ok as Accepted, Err, ⊤}
 use Rattle.document_rules.specs.declared.ModelError.{ModelError}
 use Rattle.document_rules.specs.declared.ModelError.TheVariants as error
+use Rattle.group_rules.specs.declared.GroupError.{GroupError}
+use Rattle.group_rules.specs.declared.GroupError.TheVariants as group
 use Rattle.textmodel_c.specs.declared.status.Status.{Status}
-use Rattle.textmodel_c.specs.declared.status.Status.TheVariants.{Ok, Nothing, Unknown, Range, Overlap, Limit, Memory, Encoding, Empty, Short}
+use Rattle.textmodel_c.specs.declared.status.Status.TheVariants.{Ok, Nothing, Unknown, Range, Overlap, Limit, Memory, Encoding, Empty, Short, Joint}
 
 abbrev pub number_of : Status → ℕ
 number_of Ok = 0
@@ -16,6 +18,7 @@ number_of Memory = 6
 number_of Encoding = 7
 number_of Empty = 8
 number_of Short = 9
+number_of Joint = 10
 
 abbrev pub status_of_error : ModelError → Status
 status_of_error error.Unknown = Unknown
@@ -23,6 +26,14 @@ status_of_error error.Range = Range
 status_of_error error.Overlap = Overlap
 status_of_error error.Limit = Limit
 status_of_error error.Memory = Memory
+
+abbrev pub status_of_group_error : GroupError → Status
+status_of_group_error group.Unknown = Unknown
+status_of_group_error group.Range = Range
+status_of_group_error group.Overlap = Overlap
+status_of_group_error group.Limit = Limit
+status_of_group_error (group.Joint n) = Joint
+status_of_group_error group.Memory = Memory
 
 abbrev pub status_of_done : Result ⊤ ModelError → Status
 status_of_done (Accepted x) = Ok
@@ -33,6 +44,12 @@ abbrev pub status_of_step : Result Bool ModelError → Status
 status_of_step (Accepted true) = Ok
 status_of_step (Accepted false) = Nothing
 status_of_step (Err e) = status_of_error e
+
+-- the same of one that several documents may take part in
+abbrev pub status_of_going : Result Bool GroupError → Status
+status_of_going (Accepted true) = Ok
+status_of_going (Accepted false) = Nothing
+status_of_going (Err e) = status_of_group_error e
 
 abbrev pub status_of_given : {A : Type 0} → Result A ModelError → Status
 status_of_given (Accepted x) = Ok

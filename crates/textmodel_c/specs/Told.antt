@@ -1,5 +1,5 @@
 -- What a call answers, and what it leaves of what the handle holds.
-use Rattle.std.specs.Prelude.{◌≡◌, ◌⊎◌, ℕ, ◌-◌, Bool, MatchBool, if◌then◌else◌, nat_le, List, [], ◌++◌, length, take, drop, min, Option, Some, None, Result, Ok, Err, IsUtf8, ⊤}
+use Rattle.std.specs.Prelude.{◌≡◌, ◌⊎◌, ℕ, ◌-◌, Bool, MatchBool, if◌then◌else◌, nat_le, List, ◌++◌, length, take, drop, min, Option, Some, None, Result, Ok, Err, IsUtf8, ⊤}
 use Rattle.std.specs.Str.Lossy.{utf8_valid_len}
 use Rattle.unit_text.specs.Text.{units_of}
 use Rattle.decoration_rules.specs.declared.NewDeco.{NewDeco}
@@ -9,17 +9,24 @@ use Rattle.document_rules.specs.declared.ModelError.{ModelError}
 use Rattle.document_rules.specs.Refusals.{FlatRefusal}
 use Rattle.document_rules.specs.Outcomes.{RefusedFor, Changes, Moves, ChangesWith, Gives}
 use Rattle.document_rules.specs.Document.{FlatState, flat_decorate}
+use Rattle.group_rules.specs.declared.GroupError.{GroupError}
+use Rattle.group_rules.specs.Refusals.{GroupRefusal}
+use Rattle.group_rules.specs.Outcomes.{MovesAll}
+use Rattle.group_rules.specs.Group.{FlatGroup}
+use Rattle.model_group.specs.State.{documents}
 use Rattle.document_rules.specs.Snapshots.{flat_peek_of, flat_skipped}
 use Rattle.script_runner.specs.declared.session.Session.{Session}
-use Rattle.script_runner.specs.Session.{new_session}
-use Rattle.script_runner.specs.Standing.{StandsFor, Turns}
+use Rattle.session_rules.specs.Session.{new_session}
+use Rattle.script_runner.specs.Standing.{StandsFor, Turns, BeginsAnew}
 use Rattle.script_runner.specs.Bytes.{bytes_of_outcome}
 use Rattle.script_runner.specs.declared.outcome.Reply.TheVariants.{Nothing}
 use Rattle.textmodel_c.specs.declared.status.Status.{Status}
 use Rattle.textmodel_c.specs.declared.status.Status.TheVariants as status
 use Rattle.textmodel_c.specs.declared.document.Document.{Document}
-use Rattle.textmodel_c.specs.Statuses.{number_of, status_of_error, status_of_done, status_of_step, status_of_given, given_or}
-use Rattle.textmodel_c.specs.Rules.{flat_open_as}
+use Rattle.textmodel_c.specs.declared.document.TheConstants.{FIRST}
+use Rattle.textmodel_c.specs.Statuses.{number_of, status_of_error, status_of_done, status_of_step, status_of_going, status_of_given, given_or}
+use Rattle.textmodel_c.specs.First.{first, KeepsOthers}
+use Rattle.textmodel_c.specs.Rules.{group_open_as}
 
 -- ---- the handle
 
@@ -34,12 +41,12 @@ Leaves n (Some old) (Some new) says = says old new
 abbrev pub Numbers : ℕ → (Status → Type 0) → Type 0
 Numbers n says = (s : Status) × (n ≡ number_of s) × says s
 
--- an empty document, of which no script line was answered
+-- a session of empty documents, of which no script line was answered
 pub record IsNew (new : Document) : Type 0 where
   pub session : StandsFor new.session new_session
   pub reply : new.reply ≡ Ok Nothing
 
--- a new empty document, or want of memory
+-- a new session, or want of memory
 abbrev pub IsNewDocument : Option Document → Type 0
 IsNewDocument None = ⊥
 IsNewDocument (Some new) = IsNew new
@@ -54,59 +61,75 @@ Freed n (Some old) = n ≡ number_of status.Ok
 
 -- ---- changes
 
--- the last reply, the mirror and the events that were sent
+-- the last reply, and what follows the documents
 pub record KeepsRest (old new : Document) : Type 0 where
   pub reply : new.reply ≡ old.reply
-  pub mirror : new.session.mirror ≡ old.session.mirror
-  pub sent : new.session.sent.items ≡ old.session.sent.items
+  pub followers : new.session.followers.items ≡ old.session.followers.items
 
--- a new document has no mirror, and nothing was sent of it; where none was opened they stay
-abbrev pub RenewsFollowers : Result ⊤ ModelError → Session → Session → Type 0
-RenewsFollowers (Ok x) old new = (new.mirror ≡ None) × (new.sent.items ≡ [])
-RenewsFollowers (Err e) old new = (new.mirror ≡ old.mirror) × (new.sent.items ≡ old.sent.items)
-
-pub record Opens (answer : Result ⊤ ModelError) (old new : Session) (rule : Result FlatState FlatRefusal) : Type 0 where
-  pub document : Changes answer old.model.document new.model.document rule
-  pub followers : RenewsFollowers answer old new
-
--- a new document takes the place of the old one, or is refused for the rule's reason; the reply is kept
-abbrev pub Opened : ℕ → Result FlatState FlatRefusal → Document → Document → Type 0
-Opened n rule old new = (answer : Result ⊤ ModelError) × (n ≡ number_of (status_of_done answer))
-    × Opens answer old.session new.session rule × (new.reply ≡ old.reply)
-
--- the document is changed by the rule, or refused for its reason; the reply is kept
-abbrev pub Changed : ℕ → (FlatState → Result FlatState FlatRefusal) → Document → Document → Type 0
-Changed n rule old new = (answer : Result ⊤ ModelError) × (n ≡ number_of (status_of_done answer))
-    × Changes answer old.session.model.document new.session.model.document (rule old.session.model.document)
+-- the documents are changed by the rule, or it is refused for its reason; the reply is kept
+abbrev pub ChangesDocs : ℕ → (FlatGroup → Result FlatGroup FlatRefusal) → Document → Document → Type 0
+ChangesDocs n rule old new = (answer : Result ⊤ ModelError) × (n ≡ number_of (status_of_done answer))
+    × Changes answer (documents old.session.group) (documents new.session.group) (rule (documents old.session.group))
     × KeepsRest old new
 
 -- the same of a rule that may find nothing to do
-abbrev pub Moved : ℕ → (FlatState → Result (Option FlatState) FlatRefusal) → Document → Document → Type 0
-Moved n rule old new = (answer : Result Bool ModelError) × (n ≡ number_of (status_of_step answer))
-    × Moves answer old.session.model.document new.session.model.document (rule old.session.model.document)
+abbrev pub MovesDocs : ℕ → (FlatGroup → Result (Option FlatGroup) FlatRefusal) → Document → Document → Type 0
+MovesDocs n rule old new = (answer : Result Bool ModelError) × (n ≡ number_of (status_of_step answer))
+    × Moves answer (documents old.session.group) (documents new.session.group) (rule (documents old.session.group))
     × KeepsRest old new
+
+-- the same of one that several documents may take part in
+abbrev pub Went : ℕ → (FlatGroup → Result (Option FlatGroup) GroupRefusal) → Document → Document → Type 0
+Went n rule old new = (answer : Result Bool GroupError) × (n ≡ number_of (status_of_going answer))
+    × MovesAll answer (documents old.session.group) (documents new.session.group) (rule (documents old.session.group))
+    × KeepsRest old new
+
+-- a new document has no mirror, and nothing was sent of it; where none was opened all is as it was
+abbrev pub RenewsFollower : Result ⊤ ModelError → Session → Session → Type 0
+RenewsFollower (Ok x) old new = BeginsAnew FIRST old.followers.items new.followers.items
+RenewsFollower (Err e) old new = new.followers.items ≡ old.followers.items
+
+pub record Opens (answer : Result ⊤ ModelError) (old new : Session) (rule : Result FlatGroup FlatRefusal) : Type 0 where
+  pub group : Changes answer (documents old.group) (documents new.group) rule
+  pub followers : RenewsFollower answer old new
+
+-- a new document takes the place of the one that the calls are on, or is refused for the rule's reason; the reply is kept
+abbrev pub Opened : ℕ → (FlatGroup → Result FlatGroup FlatRefusal) → Document → Document → Type 0
+Opened n rule old new = (answer : Result ⊤ ModelError) × (n ≡ number_of (status_of_done answer))
+    × Opens answer old.session new.session (rule (documents old.session.group)) × (new.reply ≡ old.reply)
+
+-- of a call that changes no other document: the other documents, what follows them, and the last reply
+pub record KeepsAround (old new : Document) : Type 0 where
+  pub others : KeepsOthers old.session.group new.session.group
+  pub rest : KeepsRest old new
+
+-- the document is changed by the rule, or refused for its reason; what is around it is kept
+abbrev pub Changed : ℕ → (FlatState → Result FlatState FlatRefusal) → Document → Document → Type 0
+Changed n rule old new = (answer : Result ⊤ ModelError) × (n ≡ number_of (status_of_done answer))
+    × Changes answer (first old.session.group) (first new.session.group) (rule (first old.session.group))
+    × KeepsAround old new
 
 -- the same of a call that hands out a number
 abbrev pub ChangedWith : ℕ → ℕ → ℕ → (FlatState → ℕ) → (FlatState → Result FlatState FlatRefusal) → Document → Document → Type 0
 ChangedWith n out out' told rule old new = (answer : Result ℕ ModelError) × (n ≡ number_of (status_of_given answer))
     × (out' ≡ given_or out answer)
-    × ChangesWith (told old.session.model.document) answer
-    old.session.model.document new.session.model.document (rule old.session.model.document)
-    × KeepsRest old new
+    × ChangesWith (told (first old.session.group)) answer
+    (first old.session.group) (first new.session.group) (rule (first old.session.group))
+    × KeepsAround old new
 
 -- decorations of an owner go and new ones come, and the first new id is handed out
 abbrev pub Decorated : ℕ → ℕ → ℕ → ℕ → List ℕ → List NewDeco → Document → Document → Type 0
-Decorated n first first' owner remove add =
-    ChangedWith n first first' (λ f. f.decorations.next_id) (λ f. flat_decorate f owner remove add)
+Decorated n out out' owner remove add =
+    ChangedWith n out out' (λ f. f.decorations.next_id) (λ f. flat_decorate f owner remove add)
 
 -- a change that is never refused
 abbrev pub Becomes : ℕ → (FlatState → FlatState) → Document → Document → Type 0
-Becomes n rule old new = (n ≡ number_of status.Ok) × (new.session.model.document ≡ rule old.session.model.document) × KeepsRest old new
+Becomes n rule old new = (n ≡ number_of status.Ok) × (first new.session.group ≡ rule (first old.session.group)) × KeepsAround old new
 
 -- a text in UTF-8 is opened; of one that is none it is told where its first fault is
 pub record OpenedUtf8 (s : Status) (kind : ℕ) (text : List ℕ) (bad bad' : ℕ) (old new : Session) : Type 0 where
   pub opened : IsUtf8 text → (answer : Result ⊤ ModelError) × (s ≡ status_of_done answer)
-      × Opens answer old new (flat_open_as kind (units_of text)) × (bad' ≡ bad)
+      × Opens answer old new (group_open_as kind (units_of text) (documents old.group)) × (bad' ≡ bad)
   pub refused : (IsUtf8 text → ⊥) → (s ≡ status.Encoding) × (bad' ≡ utf8_valid_len text) × (new ≡ old)
 
 abbrev pub HasOpenedUtf8 : ℕ → ℕ → List ℕ → ℕ → ℕ → Document → Document → Type 0
@@ -127,12 +150,12 @@ AskedOf n out out' (Some x) = (n ≡ number_of status.Ok) × (out' ≡ x)
 
 abbrev pub Asked : {A : Type 0} → ℕ → Option Document → A → A → (FlatState → Option A) → Type 0
 Asked n None out out' rule = (n ≡ number_of status.Empty) × (out' ≡ out)
-Asked n (Some held) out out' rule = AskedOf n out out' (rule held.session.model.document)
+Asked n (Some held) out out' rule = AskedOf n out out' (rule (first held.session.group))
 
 -- a question that is answered by the status
 abbrev pub Holds : ℕ → Option Document → (FlatState → Bool) → Type 0
 Holds n None rule = n ≡ number_of status.Empty
-Holds n (Some held) rule = n ≡ (if rule held.session.model.document then number_of status.Ok else number_of status.Nothing)
+Holds n (Some held) rule = n ≡ (if rule (first held.session.group) then number_of status.Ok else number_of status.Nothing)
 
 -- so many are put at the front of a place, or there is no room for all
 abbrev pub Listed : {A : Type 0} → Status → List A → List A → List A → ℕ → Type 0
@@ -156,7 +179,7 @@ Lists {A} s out out' count count' rule = (answer : Result ⊤ ModelError) × (fo
 
 abbrev pub ListsHeld : {A : Type 0} → ℕ → Option Document → List A → List A → ℕ → ℕ → (FlatState → Result (List A) FlatRefusal) → Type 0
 ListsHeld n None out out' count count' rule = (n ≡ number_of status.Empty) × (out' ≡ out) × (count' ≡ count)
-ListsHeld n (Some held) out out' count count' rule = Numbers n (λ s. Lists s out out' count count' (rule held.session.model.document))
+ListsHeld n (Some held) out out' count count' rule = Numbers n (λ s. Lists s out out' count count' (rule (first held.session.group)))
 
 -- what the rule gives is handed out, where there is anything
 abbrev pub status_of_found : {A : Type 0} → Result (Option A) ModelError → Status
@@ -175,7 +198,7 @@ FoundOut {A} s out out' rule = (answer : Result (Option A) ModelError) × (s ≡
 
 abbrev pub FoundHeld : {A : Type 0} → ℕ → Option Document → A → A → (FlatState → Result (Option A) FlatRefusal) → Type 0
 FoundHeld n None out out' rule = (n ≡ number_of status.Empty) × (out' ≡ out)
-FoundHeld n (Some held) out out' rule = Numbers n (λ s. FoundOut s out out' (rule held.session.model.document))
+FoundHeld n (Some held) out out' rule = Numbers n (λ s. FoundOut s out out' (rule (first held.session.group)))
 
 abbrev pub GivenOut : {A : Type 0} → Status → A → A → Result A FlatRefusal → Type 0
 GivenOut {A} s out out' rule = (answer : Result A ModelError) × (s ≡ status_of_given answer)
@@ -183,14 +206,14 @@ GivenOut {A} s out out' rule = (answer : Result A ModelError) × (s ≡ status_o
 
 abbrev pub GivenHeld : {A : Type 0} → ℕ → Option Document → A → A → (FlatState → Result A FlatRefusal) → Type 0
 GivenHeld n None out out' rule = (n ≡ number_of status.Empty) × (out' ≡ out)
-GivenHeld n (Some held) out out' rule = Numbers n (λ s. GivenOut s out out' (rule held.session.model.document))
+GivenHeld n (Some held) out out' rule = Numbers n (λ s. GivenOut s out out' (rule (first held.session.group)))
 
--- the document and the reply are as they were
+-- the documents, what follows them, and the reply are as they were
 abbrev pub KeepsText : Option Document → Option Document → Type 0
 KeepsText None None = ⊤
 KeepsText None (Some new) = ⊥
 KeepsText (Some old) None = ⊥
-KeepsText (Some old) (Some new) = (new.session.model.document ≡ old.session.model.document) × KeepsRest old new
+KeepsText (Some old) (Some new) = (documents new.session.group ≡ documents old.session.group) × KeepsRest old new
 
 -- ---- snapshots
 
@@ -202,7 +225,7 @@ pub record Reads (s : Status) (id : ℕ) (out out' : List ℕ) (count count' : �
 
 abbrev pub HasRead : ℕ → ℕ → List ℕ → List ℕ → ℕ → ℕ → Document → Document → Type 0
 HasRead n id out out' count count' old new =
-    Numbers n (λ s. Reads s id out out' count count' old.session.model.document new.session.model.document) × KeepsRest old new
+    Numbers n (λ s. Reads s id out out' count count' (first old.session.group) (first new.session.group)) × KeepsAround old new
 
 -- ---- script lines
 

@@ -15,9 +15,9 @@ use std::alloc::Global;
 /// The version of this library: ten thousand times the major number, a hundred times the minor one, and the patch.
 #[unsafe(no_mangle)]
 pub extern "C" fn tm_version() -> u32
-    ensures { result ≡ 300 }
+    ensures { result ≡ 400 }
 {
-    300
+    400
 }
 
 // Answers the line, and keeps what came of it; how many bytes are written for it.
@@ -42,7 +42,8 @@ fn reply_len(outcome: &Outcome) -> u64
     }
 }
 
-/// Answers a script line, which comes without its LF, keeps the reply in the document, and tells how many bytes it has.
+/// Answers a script line, which comes without its LF, on all documents of the handle, keeps the reply, and tells how many bytes it
+/// has.
 #[unsafe(no_mangle)]
 pub extern "C" fn tm_answer(alloc: Global, handle: &mut Handle, line: &[u8], len: &mut u64) -> u32
     ensures document { Leaves result handle.old.held handle.new.held

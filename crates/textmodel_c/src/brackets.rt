@@ -2,14 +2,19 @@
 
 ghost use Rattle.std.specs.Prelude.{◌≡◌, ◌+◌, ◌++◌, [], List, map, OnOk};
 ghost use Rattle.std.specs.List.{All};
+ghost use Rattle.document_rules.specs.Outcomes.{Gives};
 ghost use Rattle.document_rules.specs.Brackets.{flat_brackets, flat_match, flat_level, IsSmall};
+ghost use Rattle.model_group.specs.State.{documents};
+ghost use Rattle.textmodel_c.specs.First.{first};
 ghost use Rattle.textmodel_c.specs.Rules.{at, bracket_of, number_of_state, flat_bracket_list, flat_partner};
 ghost use Rattle.textmodel_c.specs.Told.{FoundFor, FoundHeld, FoundOut, GivenHeld, GivenOut, KeepsText, Lists, ListsHeld};
 
+use crate::document::FIRST;
 use crate::handle::Handle;
 use crate::lists::hand_out_of;
 use crate::status::Status;
-use model_core::{Entry, Model, ModelError, Position};
+use model_core::{Entry, ModelError, Position};
+use model_group::Group;
 use std::alloc::{AllocError, Global};
 
 /// A bracket: where it starts, how many units it has, its kind by the place in the table, how many are open around it, and
@@ -70,36 +75,45 @@ fn append_brackets(entries: &[Entry], out: &mut Vec<Bracket>) -> Result<(), Allo
     Ok(())
 }
 
+fn entries_in(group: &mut Group, from: u64, to: u64, out: &mut Vec<Entry>) -> Result<(), ModelError>
+    requires { out.old.items ≡ [] }
+    ensures found { FoundFor result out.new.items (flat_brackets (first group.old) from to) }
+    ensures small { OnOk result (All (λ entry. IsSmall entry.place) out.new.items) }
+    ensures documents { documents group.new ≡ documents group.old }
+{
+    group.brackets_in(FIRST, from, to, out)
+}
+
 fn brackets_in(
     alloc: Global,
-    model: &mut Model,
+    group: &mut Group,
     from: u64,
     to: u64,
     out: &mut Vec<Bracket>,
 ) -> Result<(), ModelError>
     requires { out.old.items ≡ [] }
-    ensures found { FoundFor result out.new.items (flat_bracket_list model.old.document from to) }
-    ensures document { model.new.document ≡ model.old.document }
+    ensures found { FoundFor result out.new.items (flat_bracket_list (first group.old) from to) }
+    ensures documents { documents group.new ≡ documents group.old }
 {
     let mut entries = Vec::new(alloc);
-    model.brackets_in(from, to, &mut entries)?;
+    entries_in(group, from, to, &mut entries)?;
     append_brackets(&entries, out).map_err(|_| ModelError::Memory)
 }
 
 fn brackets_out(
     alloc: Global,
-    model: &mut Model,
+    group: &mut Group,
     from: u64,
     to: u64,
     out: &mut [Bracket],
     count: &mut u64,
 ) -> Status
     ensures brackets { Lists result out.old out.new count.old count.new
-        (flat_bracket_list model.old.document from to) }
-    ensures document { model.new.document ≡ model.old.document }
+        (flat_bracket_list (first group.old) from to) }
+    ensures documents { documents group.new ≡ documents group.old }
 {
     let mut found = Vec::new(alloc);
-    let answer = brackets_in(alloc, model, from, to, &mut found);
+    let answer = brackets_in(alloc, group, from, to, &mut found);
     hand_out_of(answer, &found, out, count)
 }
 
@@ -121,16 +135,23 @@ pub extern "C" fn tm_brackets(
     let Some(mut document) = handle.take(alloc) else {
         return Status::Empty.number();
     };
-    let status = brackets_out(alloc, &mut document.session.model, from, to, out, count);
+    let status = brackets_out(alloc, &mut document.session.group, from, to, out, count);
     handle.put(document);
     status.number()
 }
 
-fn match_out(model: &mut Model, at: Position, partner: &mut Partner) -> Status
-    ensures partner { FoundOut result partner.old partner.new (flat_partner model.old.document at) }
-    ensures document { model.new.document ≡ model.old.document }
+fn match_at(group: &mut Group, at: Position) -> Result<Option<(Position, u64)>, ModelError>
+    ensures partner { Gives result (flat_match (first group.old) at) }
+    ensures documents { documents group.new ≡ documents group.old }
 {
-    match model.match_at(at) {
+    group.match_at(FIRST, at)
+}
+
+fn match_out(group: &mut Group, at: Position, partner: &mut Partner) -> Status
+    ensures partner { FoundOut result partner.old partner.new (flat_partner (first group.old) at) }
+    ensures documents { documents group.new ≡ documents group.old }
+{
+    match match_at(group, at) {
         Ok(Some((Position { line, column }, units))) => {
             *partner = Partner {
                 line,
@@ -162,7 +183,7 @@ pub extern "C" fn tm_match(
         return Status::Empty.number();
     };
     let status = match_out(
-        &mut document.session.model,
+        &mut document.session.group,
         Position { line, column },
         partner,
     );
@@ -170,11 +191,18 @@ pub extern "C" fn tm_match(
     status.number()
 }
 
-fn level_out(model: &mut Model, at: Position, level: &mut u64) -> Status
-    ensures level { GivenOut result level.old level.new (flat_level model.old.document at) }
-    ensures document { model.new.document ≡ model.old.document }
+fn level_at(group: &mut Group, at: Position) -> Result<u64, ModelError>
+    ensures level { Gives result (flat_level (first group.old) at) }
+    ensures documents { documents group.new ≡ documents group.old }
 {
-    let answer = model.level_at(at);
+    group.level_at(FIRST, at)
+}
+
+fn level_out(group: &mut Group, at: Position, level: &mut u64) -> Status
+    ensures level { GivenOut result level.old level.new (flat_level (first group.old) at) }
+    ensures documents { documents group.new ≡ documents group.old }
+{
+    let answer = level_at(group, at);
     Status::of_given(answer, level)
 }
 
@@ -195,7 +223,7 @@ pub extern "C" fn tm_level(
         return Status::Empty.number();
     };
     let status = level_out(
-        &mut document.session.model,
+        &mut document.session.group,
         Position { line, column },
         level,
     );

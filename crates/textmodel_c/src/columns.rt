@@ -5,6 +5,7 @@ ghost use Rattle.document_rules.specs.Outcomes.{Gives};
 ghost use Rattle.textmodel_c.specs.Rules.{at, encoding_of, flat_column_as, flat_column_of_as};
 ghost use Rattle.textmodel_c.specs.Told.{GivenHeld};
 
+use crate::document::first;
 use crate::handle::Handle;
 use crate::status::Status;
 use model_core::{Encoding, Model, ModelError, Position};
@@ -47,7 +48,11 @@ pub extern "C" fn tm_column(
     let Some(document) = handle.take(alloc) else {
         return Status::Empty.number();
     };
-    let answer = column_as(&document.session.model, encoding, Position { line, column });
+    let answer = column_as(
+        first(&document.session.group),
+        encoding,
+        Position { line, column },
+    );
     handle.put(document);
     Status::of_given(answer, before).number()
 }
@@ -77,7 +82,7 @@ pub extern "C" fn tm_column_of(
     let Some(document) = handle.take(alloc) else {
         return Status::Empty.number();
     };
-    let answer = column_of_as(&document.session.model, encoding, line, before);
+    let answer = column_of_as(first(&document.session.group), encoding, line, before);
     handle.put(document);
     Status::of_given(answer, column).number()
 }

@@ -1,12 +1,18 @@
 //! What a handle holds.
 
-ghost use Rattle.std.specs.Prelude.{IfOk};
+ghost use Rattle.std.specs.Prelude.{◌≡◌, IfOk};
+ghost use Rattle.textmodel_c.specs.First.{first};
 ghost use Rattle.textmodel_c.specs.Told.{IsNew};
 
+use model_core::Model;
+use model_group::Group;
 use script_runner::{Outcome, Reply, Session};
 use std::alloc::{AllocError, Global};
 
-/// A document with what follows it, and what came of the last script line.
+/// The number of the document that the calls are on.
+pub(crate) const FIRST: u64 = 0;
+
+/// A session, and what came of the last script line.
 #[derive(Drop)]
 pub struct Document {
     pub session: Session,
@@ -14,14 +20,21 @@ pub struct Document {
 }
 
 impl Document {
-    /// An empty document.
+    /// A session of empty documents.
     pub(crate) fn new(alloc: Global) -> Result<Box<Document>, AllocError>
         ensures { IfOk result (λ new. IsNew new.value) }
     {
         let document = Document {
-            session: Session::new(alloc),
+            session: Session::new(alloc)?,
             reply: Ok(Reply::Nothing),
         };
         Box::new(alloc, document).map_err(|_| AllocError)
     }
+}
+
+/// The document that the calls are on.
+pub(crate) fn first(group: &Group) -> &Model
+    ensures { result.now.document ≡ first group.now }
+{
+    group.doc(FIRST)
 }

@@ -2,14 +2,21 @@
 
 ghost use Rattle.std.specs.Prelude.{◌≡◌, IfOk};
 ghost use Rattle.document_rules.specs.Outcomes.{Changes, Moves};
-ghost use Rattle.document_rules.specs.Document.{flat_edit, flat_undo, flat_redo, flat_stop};
-ghost use Rattle.textmodel_c.specs.Rules.{at, span, one_op, op_of, ops_of, span_between, flat_edit_at, flat_edit_joined, flat_eol_as};
-ghost use Rattle.textmodel_c.specs.Told.{Becomes, Changed, GivesAll, Leaves, Moved};
+ghost use Rattle.document_rules.specs.Document.{flat_stop};
+ghost use Rattle.group_rules.specs.Going.{group_undo, group_redo};
+ghost use Rattle.group_rules.specs.Group.{group_edit};
+ghost use Rattle.model_group.specs.State.{documents};
+ghost use Rattle.textmodel_c.specs.declared.document.TheConstants.{FIRST};
+ghost use Rattle.textmodel_c.specs.First.{first, KeepsOthers};
+ghost use Rattle.textmodel_c.specs.Rules.{at, span, one_op, op_of, ops_of, span_between, group_edit_at, group_edit_joined, group_eol_as};
+ghost use Rattle.textmodel_c.specs.Told.{Becomes, ChangesDocs, GivesAll, Leaves, MovesDocs, Went};
 
+use crate::document::FIRST;
 use crate::handle::Handle;
 use crate::opening::kind_of;
 use crate::status::Status;
-use model_core::{Model, ModelError, Op, Position, Span, Units};
+use model_core::{ModelError, Op, Position, Span, Units};
+use model_group::Group;
 use std::alloc::{AllocError, Global};
 
 /// An op of a batch: so many units of the joined texts take the place of those from `start` up to `end`. `force` moves
@@ -34,16 +41,16 @@ fn one_op(alloc: Global, span: Span, text: &[u16], force: bool) -> Result<Vec<Op
 
 fn edit_span(
     alloc: Global,
-    model: &mut Model,
+    group: &mut Group,
     span: Span,
     text: &[u16],
     force: bool,
 ) -> Result<(), ModelError>
-    ensures { Changes result model.old.document model.new.document
-        (flat_edit model.old.document (one_op span text.now force)) }
+    ensures { Changes result (documents group.old) (documents group.new)
+        (group_edit (documents group.old) FIRST (one_op span text.now force)) }
 {
     let ops = one_op(alloc, span, text, force).map_err(|_| ModelError::Memory)?;
-    model.edit(ops)
+    group.edit(FIRST, ops)
 }
 
 /// Puts the text in the place of the units from `start` up to `end`, as the next version. `force` moves decorations at the
@@ -59,39 +66,39 @@ pub extern "C" fn tm_edit(
     force: bool,
 ) -> u32
     ensures document { Leaves result handle.old.held handle.new.held
-        (Changed result (λ f. flat_edit f (one_op (span start end) text.now force))) }
+        (ChangesDocs result (λ g. group_edit g FIRST (one_op (span start end) text.now force))) }
 {
     let Some(mut document) = handle.take(alloc) else {
         return Status::Empty.number();
     };
     let span = Span { start, end };
-    let answer = edit_span(alloc, &mut document.session.model, span, text, force);
+    let answer = edit_span(alloc, &mut document.session.group, span, text, force);
     handle.put(document);
     Status::of_done(answer).number()
 }
 
-fn span_between(model: &mut Model, from: Position, to: Position) -> Option<Span>
-    ensures found { result ≡ span_between model.old.document from to }
-    ensures same { model.new ≡ model.old }
+fn span_between(group: &mut Group, from: Position, to: Position) -> Option<Span>
+    ensures found { result ≡ span_between (first group.old) from to }
+    ensures same { group.new ≡ group.old }
 {
-    let start = model.locate(from)?;
-    let end = model.locate(to)?;
+    let start = group.locate(FIRST, from)?;
+    let end = group.locate(FIRST, to)?;
     Some(Span { start, end })
 }
 
 fn edit_between(
     alloc: Global,
-    model: &mut Model,
+    group: &mut Group,
     from: Position,
     to: Position,
     text: &[u16],
     force: bool,
 ) -> Result<(), ModelError>
-    ensures { Changes result model.old.document model.new.document
-        (flat_edit_at from to text.now force model.old.document) }
+    ensures { Changes result (documents group.old) (documents group.new)
+        (group_edit_at from to text.now force (documents group.old)) }
 {
-    let span = span_between(model, from, to).ok_or(ModelError::Range)?;
-    edit_span(alloc, model, span, text, force)
+    let span = span_between(group, from, to).ok_or(ModelError::Range)?;
+    edit_span(alloc, group, span, text, force)
 }
 
 /// `tm_edit` of the units from one position up to another. `Range` where one of them is none of the text.
@@ -107,7 +114,7 @@ pub extern "C" fn tm_edit_at(
     force: bool,
 ) -> u32
     ensures document { Leaves result handle.old.held handle.new.held
-        (Changed result (flat_edit_at (at line column) (at end_line end_column)
+        (ChangesDocs result (group_edit_at (at line column) (at end_line end_column)
         text.now force)) }
 {
     let Some(mut document) = handle.take(alloc) else {
@@ -118,7 +125,7 @@ pub extern "C" fn tm_edit_at(
         line: end_line,
         column: end_column,
     };
-    let answer = edit_between(alloc, &mut document.session.model, from, to, text, force);
+    let answer = edit_between(alloc, &mut document.session.group, from, to, text, force);
     handle.put(document);
     Status::of_done(answer).number()
 }
@@ -159,15 +166,15 @@ fn op_of(alloc: Global, op: BatchOp, text: &[u16]) -> Result<Op, AllocError>
 
 fn edit_joined(
     alloc: Global,
-    model: &mut Model,
+    group: &mut Group,
     batch: &[BatchOp],
     text: &[u16],
 ) -> Result<(), ModelError>
-    ensures { Changes result model.old.document model.new.document
-        (flat_edit_joined model.old.document batch.now text.now) }
+    ensures { Changes result (documents group.old) (documents group.new)
+        (group_edit_joined batch.now text.now (documents group.old)) }
 {
     let ops = ops_of(alloc, batch, text)?;
-    model.edit(ops)
+    group.edit(FIRST, ops)
 }
 
 /// Carries out the ops at once, as the next version. Their texts stand one after another in `text`. `Range` where these do
@@ -181,42 +188,51 @@ pub extern "C" fn tm_batch(
     text: &[u16],
 ) -> u32
     ensures document { Leaves result handle.old.held handle.new.held
-        (Changed result (λ f. flat_edit_joined f batch.now text.now)) }
+        (ChangesDocs result (group_edit_joined batch.now text.now)) }
 {
     let Some(mut document) = handle.take(alloc) else {
         return Status::Empty.number();
     };
-    let answer = edit_joined(alloc, &mut document.session.model, batch, text);
+    let answer = edit_joined(alloc, &mut document.session.group, batch, text);
     handle.put(document);
     Status::of_done(answer).number()
 }
 
-/// Goes back to the text before the last step, as the next version; `Nothing` where there is none. `Limit` where the
-/// version would pass its limit.
+/// Goes back to the text before the last step, as the next version; `Nothing` where there is none. A step that script lines made
+/// in several documents at once is undone in all of them. `Limit` where a version would pass its limit; else `Joint` where that
+/// step is not the last one of each of them.
 #[unsafe(no_mangle)]
 pub extern "C" fn tm_undo(alloc: Global, handle: &mut Handle) -> u32
-    ensures document { Leaves result handle.old.held handle.new.held (Moved result flat_undo) }
+    ensures document { Leaves result handle.old.held handle.new.held (Went result (λ g. group_undo g FIRST)) }
 {
     let Some(mut document) = handle.take(alloc) else {
         return Status::Empty.number();
     };
-    let answer = document.session.model.undo();
+    let answer = document.session.group.undo(FIRST);
     handle.put(document);
-    Status::of_step(answer).number()
+    Status::of_going(answer).number()
 }
 
-/// Goes on to the text after the step that was undone last, as the next version; `Nothing` where there is none. `Limit`
-/// where the version would pass its limit.
+/// Goes on to the text after the step that was undone last, as the next version; `Nothing` where there is none. A step of several
+/// documents is made again in all of them. `Limit` where a version would pass its limit; else `Joint` where that step is not
+/// the next one of each of them.
 #[unsafe(no_mangle)]
 pub extern "C" fn tm_redo(alloc: Global, handle: &mut Handle) -> u32
-    ensures document { Leaves result handle.old.held handle.new.held (Moved result flat_redo) }
+    ensures document { Leaves result handle.old.held handle.new.held (Went result (λ g. group_redo g FIRST)) }
 {
     let Some(mut document) = handle.take(alloc) else {
         return Status::Empty.number();
     };
-    let answer = document.session.model.redo();
+    let answer = document.session.group.redo(FIRST);
     handle.put(document);
-    Status::of_step(answer).number()
+    Status::of_going(answer).number()
+}
+
+fn stop(group: &mut Group)
+    ensures stopped { first group.new ≡ flat_stop (first group.old) }
+    ensures others { KeepsOthers group.old group.new }
+{
+    group.stop(FIRST);
 }
 
 /// The next edit begins a step of undo.
@@ -227,17 +243,17 @@ pub extern "C" fn tm_stop(alloc: Global, handle: &mut Handle) -> u32
     let Some(mut document) = handle.take(alloc) else {
         return Status::Empty.number();
     };
-    document.session.model.stop();
+    stop(&mut document.session.group);
     handle.put(document);
     Status::Ok.number()
 }
 
-fn set_kind(model: &mut Model, kind: u32) -> Result<bool, ModelError>
-    ensures { Moves result model.old.document model.new.document
-        (flat_eol_as model.old.document kind) }
+fn set_kind(group: &mut Group, kind: u32) -> Result<bool, ModelError>
+    ensures { Moves result (documents group.old) (documents group.new)
+        (group_eol_as kind (documents group.old)) }
 {
     let kind = kind_of(kind).ok_or(ModelError::Range)?;
-    model.set_eol(kind)
+    group.set_eol(FIRST, kind)
 }
 
 /// Changes the line endings of the text to those of the kind, as the next version and as a step of undo of its own;
@@ -246,12 +262,12 @@ fn set_kind(model: &mut Model, kind: u32) -> Result<bool, ModelError>
 #[unsafe(no_mangle)]
 pub extern "C" fn tm_set_eol(alloc: Global, handle: &mut Handle, kind: u32) -> u32
     ensures document { Leaves result handle.old.held handle.new.held
-        (Moved result (λ f. flat_eol_as f kind)) }
+        (MovesDocs result (group_eol_as kind)) }
 {
     let Some(mut document) = handle.take(alloc) else {
         return Status::Empty.number();
     };
-    let answer = set_kind(&mut document.session.model, kind);
+    let answer = set_kind(&mut document.session.group, kind);
     handle.put(document);
     Status::of_step(answer).number()
 }

@@ -1,5 +1,6 @@
 //! The document for C. Each call takes a handle, answers a status, and changes nothing where that is an error; on an empty
-//! handle it answers `Empty`. Offsets count UTF-16 units from 0, lines and columns count from 1.
+//! handle it answers `Empty`. A handle holds a session of 64 documents: script lines are on all of them, and the other calls
+//! are on document 0. Offsets count UTF-16 units from 0, lines and columns count from 1.
 #![tactic(auto)]
 
 mod answers;

@@ -3,13 +3,16 @@
 ghost use Rattle.std.specs.Prelude.{◌≡◌, ◌++◌, [], map, option_map, IfNone, IfOk, OnOk};
 ghost use Rattle.document_rules.specs.Document.{flat_deco};
 ghost use Rattle.model_core.specs.Decorating.{HasDecorated};
+ghost use Rattle.textmodel_c.specs.First.{first, KeepsOthers};
 ghost use Rattle.textmodel_c.specs.Rules.{decoration_of, new_deco_of, owner_of, span, flat_decoration_list};
 ghost use Rattle.textmodel_c.specs.Told.{Asked, Decorated, FoundFor, Leaves, Lists, ListsHeld};
 
+use crate::document::{FIRST, first};
 use crate::handle::Handle;
 use crate::lists::hand_out_of;
 use crate::status::Status;
 use model_core::{Deco, Model, ModelError, NewDeco, Span};
+use model_group::Group;
 use std::alloc::{AllocError, Global};
 
 /// A decoration that is to be added. Its mode is 0 where it grows at both ends, 1 where at none, 2 where by what is typed
@@ -73,16 +76,17 @@ fn new_decos_of(alloc: Global, add: &[NewDecoration]) -> Result<Vec<NewDeco>, Al
 
 fn decorate(
     alloc: Global,
-    model: &mut Model,
+    group: &mut Group,
     owner: u64,
     remove: &[u64],
     add: &[NewDecoration],
 ) -> Result<u64, ModelError>
-    ensures { HasDecorated owner remove.now (map new_deco_of add.now) result
-        model.old.document model.new.document }
+    ensures document { HasDecorated owner remove.now (map new_deco_of add.now) result
+        (first group.old) (first group.new) }
+    ensures others { KeepsOthers group.old group.new }
 {
     let add = new_decos_of(alloc, add).map_err(|_| ModelError::Memory)?;
-    model.decorate(owner, remove, &add)
+    group.decorate(FIRST, owner, remove, &add)
 }
 
 /// Takes decorations of an owner out and puts new ones in, all of it or none, and tells the first new id, or the next free
@@ -105,7 +109,7 @@ pub extern "C" fn tm_decorate(
     let Some(mut document) = handle.take(alloc) else {
         return Status::Empty.number();
     };
-    let answer = decorate(alloc, &mut document.session.model, owner, remove, add);
+    let answer = decorate(alloc, &mut document.session.group, owner, remove, add);
     handle.put(document);
     Status::of_given(answer, first).number()
 }
@@ -125,7 +129,7 @@ pub extern "C" fn tm_deco(
     let Some(document) = handle.take(alloc) else {
         return Status::Empty.number();
     };
-    let found = document.session.model.get_deco(id);
+    let found = first(&document.session.group).get_deco(id);
     handle.put(document);
     let Some(found) = found else {
         return Status::Nothing.number();
@@ -204,7 +208,14 @@ pub extern "C" fn tm_decos(
     };
     let span = Span { start, end };
     let owner = owner_of(owner, any);
-    let status = decorations_out(alloc, &document.session.model, span, owner, out, count);
+    let status = decorations_out(
+        alloc,
+        first(&document.session.group),
+        span,
+        owner,
+        out,
+        count,
+    );
     handle.put(document);
     status.number()
 }

@@ -2,9 +2,11 @@
 
 ghost use Rattle.std.specs.Prelude.{◌≡◌, ◌+◌, ◌<◌, ◌≤◌, length, IfOk, IfNone, IfSome};
 ghost use Rattle.document_rules.specs.Outcomes.{Gives};
-ghost use Rattle.textmodel_c.specs.Rules.{kind_of, pair_of, pairs_of, table_or_range, flat_open_as, flat_open_with};
+ghost use Rattle.model_group.specs.State.{documents};
+ghost use Rattle.textmodel_c.specs.Rules.{kind_of, pair_of, pairs_of, table_or_range, group_open_as, group_open_with};
 ghost use Rattle.textmodel_c.specs.Told.{GivesAll, HasOpenedUtf8, Leaves, Opened, OpenedUtf8, Opens};
 
+use crate::document::FIRST;
 use crate::handle::Handle;
 use crate::status::Status;
 use model_core::{BracketTable, Hiding, ModelError, TableError, Units, units_of};
@@ -34,19 +36,20 @@ pub(crate) fn kind_of(number: u32) -> Option<Kind>
 }
 
 fn open_as(session: &mut Session, text: &[u16], kind: u32) -> Result<(), ModelError>
-    ensures { Opens result session.old session.new (flat_open_as kind text.now) }
+    ensures { Opens result session.old session.new
+        (group_open_as kind text.now (documents session.old.group)) }
 {
     let kind = kind_of(kind).ok_or(ModelError::Range)?;
-    session.open_doc(text, BracketTable::standard(), kind, Hiding::none())
+    session.open_doc(FIRST, text, BracketTable::standard(), kind, Hiding::none())
 }
 
-/// Puts a new document with this text in place of the old one, with the brackets `()`, `[]` and `{}`. `kind` is 0 for
+/// Puts a new document with this text in place of the one that the calls are on, with the brackets `()`, `[]` and `{}`. `kind` is 0 for
 /// line endings as they come, 1 for LF and 2 for CR LF, which the text then gets. `Range` where it is another number,
 /// else `Limit` where the text would be too long.
 #[unsafe(no_mangle)]
 pub extern "C" fn tm_open(alloc: Global, handle: &mut Handle, text: &[u16], kind: u32) -> u32
     ensures document { Leaves result handle.old.held handle.new.held
-        (Opened result (flat_open_as kind text.now)) }
+        (Opened result (group_open_as kind text.now)) }
 {
     let Some(mut document) = handle.take(alloc) else {
         return Status::Empty.number();
@@ -122,11 +125,11 @@ fn open_with(
     brackets: &[u16],
 ) -> Result<(), ModelError>
     ensures { Opens result session.old session.new
-        (flat_open_with kind pairs.now brackets.now text.now) }
+        (group_open_with kind pairs.now brackets.now text.now (documents session.old.group)) }
 {
     let kind = kind_of(kind).ok_or(ModelError::Range)?;
     let table = table_of(session.alloc, pairs, brackets)?;
-    session.open_doc(text, table, kind, Hiding::none())
+    session.open_doc(FIRST, text, table, kind, Hiding::none())
 }
 
 /// `tm_open` with brackets of its own: 1 to 64 pairs, whose texts stand one after another in `brackets`, each with 1 to 32 units
@@ -141,7 +144,7 @@ pub extern "C" fn tm_open_with(
     brackets: &[u16],
 ) -> u32
     ensures document { Leaves result handle.old.held handle.new.held
-        (Opened result (flat_open_with kind pairs.now brackets.now text.now)) }
+        (Opened result (group_open_with kind pairs.now brackets.now text.now)) }
 {
     let Some(mut document) = handle.take(alloc) else {
         return Status::Empty.number();

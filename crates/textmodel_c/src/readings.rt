@@ -1,15 +1,27 @@
 //! Snapshots, and where a cursor may stop.
 
-ghost use Rattle.std.specs.Prelude.{◌≡◌, IfNone};
-ghost use Rattle.document_rules.specs.Snapshots.{flat_snapshot, flat_close_of};
+ghost use Rattle.std.specs.Prelude.{◌≡◌, length, IfNone};
+ghost use Rattle.document_rules.specs.Snapshots.{flat_snapshot, flat_peek_of, flat_skipped, flat_close_of};
 ghost use Rattle.document_rules.specs.Stops.{flat_stops};
+ghost use Rattle.document_rules.specs.Outcomes.{Changes, ChangesWith};
+ghost use Rattle.textmodel_c.specs.First.{first, KeepsOthers};
 ghost use Rattle.textmodel_c.specs.Told.{Changed, ChangedWith, HasRead, Leaves, Lists, ListsHeld, Reads};
 
+use crate::document::{FIRST, first};
 use crate::handle::Handle;
 use crate::lists::hand_out_of;
 use crate::status::Status;
-use model_core::Model;
+use model_core::{Model, ModelError};
+use model_group::Group;
 use std::alloc::Global;
+
+fn snapshot(group: &mut Group) -> Result<u64, ModelError>
+    ensures document { ChangesWith (first group.old).shelf.next_id result
+        (first group.old) (first group.new) (flat_snapshot (first group.old)) }
+    ensures others { KeepsOthers group.old group.new }
+{
+    group.snapshot(FIRST)
+}
 
 /// Keeps the text of now, to be read from its front, and tells its id. `Limit` where 1,000 are open, or where the id would
 /// pass 2^63 - 1.
@@ -22,20 +34,35 @@ pub extern "C" fn tm_snapshot(alloc: Global, handle: &mut Handle, id: &mut u64) 
     let Some(mut document) = handle.take(alloc) else {
         return Status::Empty.number();
     };
-    let answer = document.session.model.snapshot();
+    let answer = snapshot(&mut document.session.group);
     handle.put(document);
     Status::of_given(answer, id).number()
 }
 
-fn read_out(alloc: Global, model: &mut Model, id: u64, out: &mut [u16], count: &mut u64) -> Status
-    ensures { Reads result id out.old out.new count.old count.new
-        model.old.document model.new.document }
+fn skip(group: &mut Group, id: u64, count: u64)
+    ensures skipped { first group.new ≡ flat_skipped (first group.old) id count }
+    ensures others { KeepsOthers group.old group.new }
+{
+    group.skip(FIRST, id, count);
+}
+
+fn peek_out(alloc: Global, model: &Model, id: u64, out: &mut [u16], count: &mut u64) -> Status
+    ensures { Lists result out.old out.new count.old count.new
+        (flat_peek_of model.now.document id (length out.old)) }
 {
     let mut units = Vec::new(alloc);
     let answer = model.peek(id, out.len() as u64, &mut units);
-    let status = hand_out_of(answer, &units, out, count);
+    hand_out_of(answer, &units, out, count)
+}
+
+fn read_out(alloc: Global, group: &mut Group, id: u64, out: &mut [u16], count: &mut u64) -> Status
+    ensures document { Reads result id out.old out.new count.old count.new
+        (first group.old) (first group.new) }
+    ensures others { KeepsOthers group.old group.new }
+{
+    let status = peek_out(alloc, first(group), id, out, count);
     if matches!(status, Status::Ok) {
-        model.skip(id, *count);
+        skip(group, id, *count);
     }
     status
 }
@@ -58,9 +85,17 @@ pub extern "C" fn tm_read(
     let Some(mut document) = handle.take(alloc) else {
         return Status::Empty.number();
     };
-    let status = read_out(alloc, &mut document.session.model, id, out, count);
+    let status = read_out(alloc, &mut document.session.group, id, out, count);
     handle.put(document);
     status.number()
+}
+
+fn close(group: &mut Group, id: u64) -> Result<(), ModelError>
+    ensures document { Changes result (first group.old) (first group.new)
+        (flat_close_of (first group.old) id) }
+    ensures others { KeepsOthers group.old group.new }
+{
+    group.close(FIRST, id)
 }
 
 /// Closes a snapshot: it is no longer open, and its id is not used again. `Unknown` where no snapshot of this id is open.
@@ -72,7 +107,7 @@ pub extern "C" fn tm_close(alloc: Global, handle: &mut Handle, id: u64) -> u32
     let Some(mut document) = handle.take(alloc) else {
         return Status::Empty.number();
     };
-    let answer = document.session.model.close(id);
+    let answer = close(&mut document.session.group, id);
     handle.put(document);
     Status::of_done(answer).number()
 }
@@ -102,7 +137,7 @@ pub extern "C" fn tm_stops(
     let Some(document) = handle.take(alloc) else {
         return Status::Empty.number();
     };
-    let status = stops_out(alloc, &document.session.model, n, out, count);
+    let status = stops_out(alloc, first(&document.session.group), n, out, count);
     handle.put(document);
     status.number()
 }

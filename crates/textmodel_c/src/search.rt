@@ -2,13 +2,16 @@
 
 ghost use Rattle.std.specs.Prelude.{◌≡◌, ◌++◌, [], map, OnOk};
 ghost use Rattle.document_rules.specs.Outcomes.{Moves};
-ghost use Rattle.textmodel_c.specs.Rules.{found_of, flat_find_list, flat_replace_some};
-ghost use Rattle.textmodel_c.specs.Told.{FoundFor, Leaves, Lists, ListsHeld, Moved};
+ghost use Rattle.model_group.specs.State.{documents};
+ghost use Rattle.textmodel_c.specs.Rules.{found_of, flat_find_list, group_replace_some};
+ghost use Rattle.textmodel_c.specs.Told.{FoundFor, Leaves, Lists, ListsHeld, MovesDocs};
 
+use crate::document::{FIRST, first};
 use crate::handle::Handle;
 use crate::lists::hand_out_of;
 use crate::status::Status;
 use model_core::{Model, ModelError, Span};
+use model_group::Group;
 use std::alloc::{AllocError, Global};
 
 /// A span of the text at which the sought one stands.
@@ -88,19 +91,19 @@ pub extern "C" fn tm_find(
     let Some(document) = handle.take(alloc) else {
         return Status::Empty.number();
     };
-    let status = found_out(alloc, &document.session.model, sought, out, count);
+    let status = found_out(alloc, first(&document.session.group), sought, out, count);
     handle.put(document);
     status.number()
 }
 
-fn replace_some(model: &mut Model, sought: &[u16], with: &[u16]) -> Result<bool, ModelError>
-    ensures { Moves result model.old.document model.new.document
-        (flat_replace_some model.old.document sought.now with.now) }
+fn replace_some(group: &mut Group, sought: &[u16], with: &[u16]) -> Result<bool, ModelError>
+    ensures { Moves result (documents group.old) (documents group.new)
+        (group_replace_some sought.now with.now (documents group.old)) }
 {
     if sought.is_empty() {
         return Err(ModelError::Range);
     }
-    model.replace_all(sought, with)
+    group.replace_all(FIRST, sought, with)
 }
 
 /// Puts a text in the place of each span that `tm_find` finds, at once, as the next version and as a step of undo of its own;
@@ -114,12 +117,12 @@ pub extern "C" fn tm_replace_all(
     with: &[u16],
 ) -> u32
     ensures document { Leaves result handle.old.held handle.new.held
-        (Moved result (λ f. flat_replace_some f sought.now with.now)) }
+        (MovesDocs result (group_replace_some sought.now with.now)) }
 {
     let Some(mut document) = handle.take(alloc) else {
         return Status::Empty.number();
     };
-    let answer = replace_some(&mut document.session.model, sought, with);
+    let answer = replace_some(&mut document.session.group, sought, with);
     handle.put(document);
     Status::of_step(answer).number()
 }

@@ -1,9 +1,10 @@
 //! How a call ended.
 
 ghost use Rattle.std.specs.Prelude.{◌≡◌};
-ghost use Rattle.textmodel_c.specs.Statuses.{number_of, status_of_error, status_of_done, status_of_step, status_of_given, given_or};
+ghost use Rattle.textmodel_c.specs.Statuses.{number_of, status_of_error, status_of_group_error, status_of_done, status_of_step, status_of_going, status_of_given, given_or};
 
 use model_core::ModelError;
+use model_group::GroupError;
 
 /// How a call ended: `Ok` or `Nothing`, or why it changed nothing.
 #[derive(Clone, Copy)]
@@ -27,6 +28,8 @@ pub enum Status {
     Empty,
     /// The place for the answer is too short.
     Short,
+    /// A step of several documents is not the next one of each of them.
+    Joint,
 }
 
 impl Status {
@@ -45,6 +48,7 @@ impl Status {
             Status::Encoding => 7,
             Status::Empty => 8,
             Status::Short => 9,
+            Status::Joint => 10,
         }
     }
 
@@ -57,6 +61,19 @@ impl Status {
             ModelError::Overlap => Status::Overlap,
             ModelError::Limit => Status::Limit,
             ModelError::Memory => Status::Memory,
+        }
+    }
+
+    fn of_group_error(error: GroupError) -> Status
+        ensures { result ≡ status_of_group_error error }
+    {
+        match error {
+            GroupError::Unknown => Status::Unknown,
+            GroupError::Range => Status::Range,
+            GroupError::Overlap => Status::Overlap,
+            GroupError::Limit => Status::Limit,
+            GroupError::Joint { .. } => Status::Joint,
+            GroupError::Memory => Status::Memory,
         }
     }
 
@@ -78,6 +95,17 @@ impl Status {
             Ok(true) => Status::Ok,
             Ok(false) => Status::Nothing,
             Err(error) => Status::of_error(error),
+        }
+    }
+
+    /// The same of one that several documents may take part in.
+    pub(crate) fn of_going(answer: Result<bool, GroupError>) -> Status
+        ensures { result ≡ status_of_going answer }
+    {
+        match answer {
+            Ok(true) => Status::Ok,
+            Ok(false) => Status::Nothing,
+            Err(error) => Status::of_group_error(error),
         }
     }
 

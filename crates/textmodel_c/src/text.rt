@@ -6,7 +6,7 @@ ghost use Rattle.document_rules.specs.Document.{flat_line, flat_value, flat_posi
 ghost use Rattle.textmodel_c.specs.Rules.{at, span, place_of, number_of_kind, fitting_span, flat_line_utf8};
 ghost use Rattle.textmodel_c.specs.Told.{Asked, Freed, Holds, Lists, ListsHeld, Made};
 
-use crate::document::Document;
+use crate::document::{Document, first};
 use crate::handle::Handle;
 use crate::lists::hand_out_of;
 use crate::status::Status;
@@ -22,7 +22,7 @@ pub struct Place {
     pub column: u64,
 }
 
-/// Puts a new empty document into the handle, in place of what it held. `Memory` where there is none for it.
+/// Puts a session of 64 new empty documents into the handle, in place of what it held. `Memory` where there is none for it.
 #[unsafe(no_mangle)]
 pub extern "C" fn tm_make(alloc: Global, handle: &mut Handle) -> u32
     ensures { Made result handle.old.held handle.new.held }
@@ -35,7 +35,7 @@ pub extern "C" fn tm_make(alloc: Global, handle: &mut Handle) -> u32
     Status::Ok.number()
 }
 
-/// Frees the document, and leaves the handle empty.
+/// Frees the documents, and leaves the handle empty.
 #[unsafe(no_mangle)]
 pub extern "C" fn tm_free(alloc: Global, handle: &mut Handle) -> u32
     ensures left { handle.new.held ≡ None }
@@ -58,7 +58,7 @@ pub extern "C" fn tm_len(alloc: Global, handle: &mut Handle, len: &mut u64) -> u
     let Some(document) = handle.take(alloc) else {
         return Status::Empty.number();
     };
-    *len = document.session.model.len();
+    *len = first(&document.session.group).len();
     handle.put(document);
     Status::Ok.number()
 }
@@ -73,7 +73,7 @@ pub extern "C" fn tm_line_count(alloc: Global, handle: &mut Handle, count: &mut 
     let Some(document) = handle.take(alloc) else {
         return Status::Empty.number();
     };
-    *count = document.session.model.line_count();
+    *count = first(&document.session.group).line_count();
     handle.put(document);
     Status::Ok.number()
 }
@@ -98,7 +98,7 @@ pub extern "C" fn tm_kind(alloc: Global, handle: &mut Handle, kind: &mut u32) ->
     let Some(document) = handle.take(alloc) else {
         return Status::Empty.number();
     };
-    *kind = number_of_kind(document.session.model.kind());
+    *kind = number_of_kind(first(&document.session.group).kind());
     handle.put(document);
     Status::Ok.number()
 }
@@ -120,7 +120,7 @@ pub extern "C" fn tm_versions(
     let Some(document) = handle.take(alloc) else {
         return Status::Empty.number();
     };
-    (*version, *alternative) = document.session.model.versions();
+    (*version, *alternative) = first(&document.session.group).versions();
     handle.put(document);
     Status::Ok.number()
 }
@@ -135,7 +135,7 @@ pub extern "C" fn tm_can_undo(alloc: Global, handle: &mut Handle) -> u32
     let Some(document) = handle.take(alloc) else {
         return Status::Empty.number();
     };
-    let can = document.session.model.can_undo();
+    let can = first(&document.session.group).can_undo();
     handle.put(document);
     Status::of_step(Ok(can)).number()
 }
@@ -150,7 +150,7 @@ pub extern "C" fn tm_can_redo(alloc: Global, handle: &mut Handle) -> u32
     let Some(document) = handle.take(alloc) else {
         return Status::Empty.number();
     };
-    let can = document.session.model.can_redo();
+    let can = first(&document.session.group).can_redo();
     handle.put(document);
     Status::of_step(Ok(can)).number()
 }
@@ -170,7 +170,7 @@ pub extern "C" fn tm_position(
     let Some(document) = handle.take(alloc) else {
         return Status::Empty.number();
     };
-    let found = document.session.model.position(offset);
+    let found = first(&document.session.group).position(offset);
     handle.put(document);
     let Some(Position { line, column }) = found else {
         return Status::Nothing.number();
@@ -195,7 +195,7 @@ pub extern "C" fn tm_offset(
     let Some(document) = handle.take(alloc) else {
         return Status::Empty.number();
     };
-    let found = document.session.model.offset(Position { line, column });
+    let found = first(&document.session.group).offset(Position { line, column });
     handle.put(document);
     let Some(found) = found else {
         return Status::Nothing.number();
@@ -232,7 +232,7 @@ pub extern "C" fn tm_value(
     };
     let status = value_out(
         alloc,
-        &document.session.model,
+        first(&document.session.group),
         Span { start, end },
         out,
         count,
@@ -266,7 +266,7 @@ pub extern "C" fn tm_line(
     let Some(document) = handle.take(alloc) else {
         return Status::Empty.number();
     };
-    let status = line_out(alloc, &document.session.model, n, out, count);
+    let status = line_out(alloc, first(&document.session.group), n, out, count);
     handle.put(document);
     status.number()
 }
@@ -309,8 +309,8 @@ pub extern "C" fn tm_read_into(
     let Some(document) = handle.take(alloc) else {
         return Status::Empty.number();
     };
-    let span = fitting_span(&document.session.model, offset, out.len() as u64);
-    let status = value_out(alloc, &document.session.model, span, out, count);
+    let span = fitting_span(first(&document.session.group), offset, out.len() as u64);
+    let status = value_out(alloc, first(&document.session.group), span, out, count);
     handle.put(document);
     status.number()
 }
@@ -349,7 +349,7 @@ pub extern "C" fn tm_line_utf8(
     let Some(document) = handle.take(alloc) else {
         return Status::Empty.number();
     };
-    let status = line_utf8_out(alloc, &document.session.model, n, out, count);
+    let status = line_utf8_out(alloc, first(&document.session.group), n, out, count);
     handle.put(document);
     status.number()
 }

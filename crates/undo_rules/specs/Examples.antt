@@ -1,18 +1,43 @@
 -- Worked examples of the definitions.
-use Rattle.std.specs.Prelude.{◌≡◌, [], ◌∷◌, ℕ, refl}
-use Rattle.undo_rules.specs.Stack.{empty_stack, pushed, stopped, undone, redone}
+use Rattle.std.specs.Prelude.{◌≡◌, [], ◌∷◌, ℕ, true, false, Some, None, refl}
+use Rattle.undo_rules.specs.declared.Tag.{Tag}
+use Rattle.undo_rules.specs.Stack.{Stack, empty_stack, pushed, stopped, undone, redone}
+use Rattle.undo_rules.specs.Tags.{tagged, untagged, holds, tag_at}
 
 two_changes_are_one_step : (pushed (pushed (empty_stack {C = ℕ}) 7 1 2) 8 2 3).undo
-    ≡ record { changes = 7 ∷ 8 ∷ []; alt_before = 1; alt_after = 3 } ∷ []
+    ≡ record { changes = 7 ∷ 8 ∷ []; alt_before = 1; alt_after = 3; tag = None } ∷ []
 two_changes_are_one_step = refl
 
 a_stop_begins_a_step : (pushed (stopped (pushed (empty_stack {C = ℕ}) 7 1 2)) 8 2 3).undo
-    ≡ record { changes = 8 ∷ []; alt_before = 2; alt_after = 3 } ∷ record { changes = 7 ∷ []; alt_before = 1; alt_after = 2 } ∷ []
+    ≡ record { changes = 8 ∷ []; alt_before = 2; alt_after = 3; tag = None } ∷ record { changes = 7 ∷ []; alt_before = 1; alt_after = 2; tag = None } ∷ []
 a_stop_begins_a_step = refl
 
 an_undo_closes_its_step : (pushed (redone (undone (pushed (empty_stack {C = ℕ}) 7 1 2))) 8 2 3).undo
-    ≡ record { changes = 8 ∷ []; alt_before = 2; alt_after = 3 } ∷ record { changes = 7 ∷ []; alt_before = 1; alt_after = 2 } ∷ []
+    ≡ record { changes = 8 ∷ []; alt_before = 2; alt_after = 3; tag = None } ∷ record { changes = 7 ∷ []; alt_before = 1; alt_after = 2; tag = None } ∷ []
 an_undo_closes_its_step = refl
 
 a_change_empties_the_redo_list : (pushed (undone (pushed (empty_stack {C = ℕ}) 7 1 2)) 8 1 3).redo ≡ []
 a_change_empties_the_redo_list = refl
+
+-- documents 0 and 2 were changed at once
+abbrev both : Tag
+both = record { least = 0; version = 2; members = 5 }
+
+-- a step alone, one with others, which is undone
+abbrev two_steps : Stack ℕ
+two_steps = undone (tagged (pushed (stopped (pushed empty_stack 7 1 2)) 8 2 3) both)
+
+an_undone_step_keeps_its_tag : tag_at two_steps 1 ≡ Some both
+an_undone_step_keeps_its_tag = refl
+
+a_step_made_alone_has_no_tag : tag_at two_steps 0 ≡ None
+a_step_made_alone_has_no_tag = refl
+
+a_tag_goes_from_both_lists : holds (untagged two_steps both) both ≡ false
+a_tag_goes_from_both_lists = refl
+
+the_tag_of_other_documents_stays : untagged two_steps (record both { members = 3 }) ≡ two_steps
+the_tag_of_other_documents_stays = refl
+
+a_change_empties_the_list_that_had_it : holds (pushed two_steps 9 2 4) both ≡ false
+a_change_empties_the_list_that_had_it = refl

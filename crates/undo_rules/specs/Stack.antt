@@ -1,6 +1,7 @@
 -- The undo and redo lists of an editor, as VS Code's edit stack keeps them: changes that were made without a stop
 -- between them are one element, and a new change empties the redo list.
-use Rattle.std.specs.Prelude.{ℕ, Bool, true, false, List, [], ◌∷◌, ◌++◌}
+use Rattle.std.specs.Prelude.{ℕ, Bool, true, false, List, [], ◌∷◌, ◌++◌, Option, None}
+use Rattle.undo_rules.specs.declared.Tag.{Tag}
 
 -- one step of undo, over any type of change
 pub record Step (C : Type 0) : Type 0 where
@@ -8,6 +9,8 @@ pub record Step (C : Type 0) : Type 0 where
   -- what the alternative version was before its first change, and after its last
   pub alt_before : ℕ
   pub alt_after : ℕ
+  -- where steps of other documents were made at once with it
+  pub tag : Option Tag
 
 -- the lists have the element that comes next at their front
 pub record Stack (C : Type 0) : Type 0 where
@@ -21,12 +24,13 @@ module _ {C : Type 0} where
   empty_stack = record { undo = []; redo = []; is_open = false }
 
   abbrev pub new_step : C → ℕ → ℕ → Step C
-  new_step change alt_before alt_after = record { changes = change ∷ []; alt_before = alt_before; alt_after = alt_after }
+  new_step change alt_before alt_after =
+      record { changes = change ∷ []; alt_before = alt_before; alt_after = alt_after; tag = None }
 
   -- an open element takes the change at its end; else the change begins an element
   abbrev pub joined : Bool → List (Step C) → C → ℕ → ℕ → List (Step C)
   joined true (step ∷ steps) change alt_before alt_after =
-      record { changes = step.changes ++ change ∷ []; alt_before = step.alt_before; alt_after = alt_after } ∷ steps
+      record step { changes = step.changes ++ change ∷ []; alt_after = alt_after } ∷ steps
   joined true [] change alt_before alt_after = new_step change alt_before alt_after ∷ []
   joined false steps change alt_before alt_after = new_step change alt_before alt_after ∷ steps
 

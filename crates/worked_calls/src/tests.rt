@@ -2,6 +2,7 @@ mod asked;
 mod breaks;
 mod columns;
 mod documents;
+mod groups;
 mod hidden;
 mod library;
 mod lines;

@@ -6,7 +6,7 @@ ghost use Rattle.unit_text.specs.Units.{IsPaired};
 ghost use Rattle.document_rules.specs.Outcomes.{Changes};
 ghost use Rattle.document_rules.specs.Paired.{IsPairedState};
 ghost use Rattle.model_page.specs.LineMarks.{marked_backwards};
-ghost use Rattle.model_core.specs.Prepared.{need_of, Acts, ArePairedTexts, CanCommit, HasActed, IsChangeOf, IsEnough, PreparesEdit};
+ghost use Rattle.model_core.specs.Prepared.{need_of, Acts, ActsAlone, ArePairedTexts, CanCommit, HasActed, IsChangeOf, IsEnough, PreparesEdit};
 ghost use Rattle.model_core.specs.State.{LeftAfter, KeptAfter, GrownAfter, KeepsParse};
 ghost use Rattle.document_rules.specs.Document.{greatest_version, text_now, flat_edit};
 ghost use Rattle.model_core.specs.Edited.{HasEdited, one_edit, ops_as_done};
@@ -115,6 +115,19 @@ impl Model {
             Action::Make(change) => self.carry_out(change, version),
             Action::Move(way) => self.follow(way, version),
         }
+    }
+
+    /// `commit` as a step of undo of its own: the open step is closed before it and after it.
+    pub fn commit_alone(&mut self, ready: Ready)
+        requires can { CanCommit self.old ready }
+        ensures document { ActsAlone ready.action self.old.document self.new.document }
+        ensures paired_state { ArePairedTexts ready.action
+            → IsPairedState self.old.document → IsPairedState self.new.document }
+        ensures parse { HasActed ready.action self.old self.new }
+    {
+        self.stop();
+        self.commit(ready);
+        self.stop();
     }
 
     // Makes the change, and with it this version.

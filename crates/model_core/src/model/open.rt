@@ -11,6 +11,7 @@ ghost use Rattle.hiding_rules.specs.Hidden.{scanner, standard_scanner};
 ghost use Rattle.document_rules.specs.Paired.{IsPairedState};
 ghost use Rattle.text_rules.specs.Lines.{lines_of};
 ghost use Rattle.mark_rules.specs.declared.Mark.TheVariants.{New};
+ghost use Rattle.model_core.specs.Opened.{Opens, IsUnparsed};
 ghost use Rattle.model_core.specs.State.{LeftAfter};
 ghost use Rattle.document_rules.specs.Document.{new_document, unless_too_long, flat_open};
 
@@ -45,9 +46,33 @@ impl Model {
         }
     }
 
-    /// Puts a new document with this text and these brackets, of which comments and strings hide some, in place of the old
-    /// one. The text gets the line endings of the kind. One that is then above the limit is refused with `Limit`, and with
-    /// `Memory` one for which memory is short.
+    /// A document with this text and these brackets, of which comments and strings hide some. The text gets the line endings of
+    /// the kind. One that is then above the limit is refused with `Limit`, and with `Memory` one for which memory is short.
+    pub fn opened(
+        alloc: Global,
+        text: &[u16],
+        table: BracketTable,
+        kind: Kind,
+        hiding: Hiding,
+    ) -> Result<Model, ModelError>
+        ensures document { Opens result (flat_open text.now (scanner table hiding) kind) }
+        ensures paired_state { IsPaired text.now
+            → IfOk result (λ model. IsPairedState model.document) }
+        ensures parse { IfOk result (IsUnparsed (normalized kind text.now)) }
+    {
+        let page = page_of(alloc, text, table, kind, hiding)?;
+        Ok(Model {
+            alloc,
+            page,
+            version: 1,
+            alternative: 1,
+            history: EditStack::new(alloc),
+            shelf: Shelf::new(alloc),
+            latest: None,
+        })
+    }
+
+    /// Puts `opened` with this text, these brackets and this kind in place of the document, which stays where that is refused.
     pub fn open_doc(
         &mut self,
         text: &[u16],
@@ -67,13 +92,7 @@ impl Model {
         ensures pieces { OnOk result (self.new.pieces ≤ 1) }
         ensures kept_pieces { OnErr result (self.new.pieces ≡ self.old.pieces) }
     {
-        let page = page_of(self.alloc, text, table, kind, hiding)?;
-        self.page = page;
-        self.version = 1;
-        self.alternative = 1;
-        self.history = EditStack::new(self.alloc);
-        self.shelf = Shelf::new(self.alloc);
-        self.latest = None;
+        *self = Model::opened(self.alloc, text, table, kind, hiding)?;
         Ok(())
     }
 }

@@ -5,7 +5,7 @@ ghost use Rattle.batch_rules.specs.Batches.{most_units};
 ghost use Rattle.unit_text.specs.Kinds.{IsOfKind, is_place_in};
 ghost use Rattle.text_buffer.specs.Costs.{WithinLookUps};
 ghost use Rattle.document_rules.specs.Outcomes.{Appends};
-ghost use Rattle.document_rules.specs.Document.{flat_line, flat_value, flat_position, flat_offset, flat_line_count};
+ghost use Rattle.document_rules.specs.Document.{greatest_version, flat_line, flat_value, flat_position, flat_offset, flat_line_count};
 ghost use Rattle.document_rules.specs.Stops.{flat_stops};
 
 use crate::model::Model;
@@ -135,6 +135,7 @@ impl Model {
     pub fn versions(&self) -> (u64, u64)
         ensures version { result.0 ≡ self.now.document.version }
         ensures alternative { result.1 ≡ self.now.document.alternative }
+        ensures few { result.0 ≤ greatest_version }
     {
         (self.version, self.alternative)
     }

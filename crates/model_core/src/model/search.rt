@@ -7,9 +7,11 @@ ghost use Rattle.document_rules.specs.Outcomes.{Moves};
 ghost use Rattle.document_rules.specs.Paired.{IsPairedState};
 ghost use Rattle.search_rules.specs.Occurrences.{AreOccurrences};
 ghost use Rattle.search_rules.specs.Replacing.{flat_find, flat_replace_all, replaced, TakesBack};
-ghost use Rattle.model_core.specs.Replaced.{IsForRoom, HasReplaced};
+ghost use Rattle.model_core.specs.Replaced.{IsForRoom, HasReplaced, PreparesReplace};
+ghost use Rattle.model_core.specs.State.{KeepsParse};
 
 use crate::model::Model;
+use crate::ready::Ready;
 use document_rules::ModelError;
 use model_find::{find_all, ops_for};
 use std::alloc::AllocError;
@@ -45,6 +47,25 @@ impl Model {
             → IsPairedState self.old.document → IsPairedState self.new.document }
         ensures parse { HasReplaced sought.now with.now result self.old self.new }
     {
+        let Some(ready) = self.prepare_replace_all(sought, with)? else {
+            return Ok(false);
+        };
+        self.commit_alone(ready);
+        Ok(true)
+    }
+
+    /// Prepares to put a text in the place of each span that `find` finds, and makes room for it; None where there is no span.
+    /// `Limit` where the new text or the version would pass its limit. The document stays as it is.
+    pub fn prepare_replace_all(
+        &mut self,
+        sought: &[u16],
+        with: &[u16],
+    ) -> Result<Option<Ready>, ModelError>
+        requires some { 0 < length sought.now }
+        ensures document { self.new.document ≡ self.old.document }
+        ensures parse { KeepsParse self.old self.new }
+        ensures ready { PreparesReplace sought.now with.now result self.new }
+    {
         if self.outgrows(sought, with).map_err(|_| ModelError::Memory)? {
             return Err(ModelError::Limit);
         }
@@ -52,13 +73,9 @@ impl Model {
             |_| ModelError::Memory,
         )?;
         if ops.is_empty() {
-            return Ok(false);
+            return Ok(None);
         }
-        let ready = self.prepare(ops)?;
-        self.stop();
-        self.commit(ready);
-        self.stop();
-        Ok(true)
+        Ok(Some(self.prepare(ops)?))
     }
 
     // Whether the text would be too long with the new one in each place. It is found out before there is a copy of that for each.

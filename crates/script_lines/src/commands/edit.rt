@@ -3,7 +3,7 @@
 ghost use Rattle.std.specs.Prelude.{◌≡◌};
 ghost use Rattle.serde_json.specs.View.{view, items_view};
 ghost use Rattle.script_lines.specs.Reading.{Reads};
-ghost use Rattle.script_lines.specs.EditCommands.{open_in, place_in, op_in, some_ops_in, edit_in, eol_in};
+ghost use Rattle.script_lines.specs.EditCommands.{open_in, place_in, op_in, some_ops_in, some_ops_at, edit_in, eol_in};
 
 use crate::bracket::optional_table_at;
 use crate::command::Command;
@@ -45,10 +45,17 @@ pub(super) fn edit_in(alloc: Global, value: &Value) -> Result<Command, LineFault
     ensures { Reads result (edit_in (view value.now)) }
 {
     expect_fields(value, &["ops"])?;
-    let field = value.get("ops").ok_or(LineFault::Syntax)?;
-    let ops = field.as_array().ok_or(LineFault::Syntax)?;
-    let ops = some_ops_in(alloc, ops.as_slice())?;
+    let ops = some_ops_at(alloc, value, "ops")?;
     Ok(Command::Edit { ops })
+}
+
+/// The ops that the field has: one or more.
+pub(crate) fn some_ops_at(alloc: Global, value: &Value, key: &str) -> Result<LineOps, LineFault>
+    ensures { Reads result (some_ops_at key.now (view value.now)) }
+{
+    let field = value.get(key).ok_or(LineFault::Syntax)?;
+    let ops = field.as_array().ok_or(LineFault::Syntax)?;
+    some_ops_in(alloc, ops.as_slice())
 }
 
 fn some_ops_in(alloc: Global, values: &[Value]) -> Result<LineOps, LineFault>

@@ -40,7 +40,7 @@ pub fn expect_served<R: AllocGlobal + Abort>(rt: &R, case: &Serving) -> Result<(
     let name = case.name;
     let mut src = MemSource::new(rt.alloc(), SCRIPT, 7, &[])?;
     let mut out = MemSink::new(rt.alloc(), 64, 64, case.faults)?;
-    let ended = served(rt.alloc(), &mut src, &mut out, case.most);
+    let ended = served(rt.alloc(), &mut src, &mut out, case.most)?;
     assert_eq!(rt; ended, case.ended, "{name}");
     assert_eq!(rt; out.bytes(), Some(case.written), "{name}");
     assert_eq!(rt; out.calls(), case.writes, "{name}");

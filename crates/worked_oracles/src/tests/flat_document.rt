@@ -12,8 +12,8 @@ use super::whole_parse::whole_parse;
 use bracket_nodes::Node;
 use bracket_scan::{BracketTable, Hiding};
 use script_lines::{
-    Command, LineOps, Place, Refusal, Short, command_of, long_begin, long_end, long_number,
-    long_text, refusal,
+    Command, LineOps, Place, Refusal, Request, Short, long_begin, long_end, long_number, long_text,
+    refusal, request_of,
 };
 use std::alloc::{AllocError, Global};
 use std::mem::{replace, swap};
@@ -75,17 +75,22 @@ impl OneList {
         self.was_refused
     }
 
-    /// Carries out the line's command and appends its reply.
+    /// Carries out the line's command, which is on document 0, and appends its reply.
     pub fn answer(&mut self, line: &[u8], out: &mut Vec<u8>) -> Result<(), AllocError> {
-        match command_of(self.alloc, line) {
-            Ok(
-                Command::Open {
-                    text,
-                    brackets,
-                    marks,
-                    kind,
-                },
-            ) => {
+        match request_of(self.alloc, line) {
+            Ok(Request::One { doc: 0, command }) => self.carry_out(command, out),
+            _ => self.refuse(Refusal::Syntax, out),
+        }
+    }
+
+    fn carry_out(&mut self, command: Command, out: &mut Vec<u8>) -> Result<(), AllocError> {
+        match command {
+            Command::Open {
+                text,
+                brackets,
+                marks,
+                kind,
+            } => {
                 self.text = of_kind(self.alloc, text.as_slice(), kind)?;
                 self.kind = kind;
                 self.table = brackets.unwrap_or(BracketTable::standard());
@@ -93,15 +98,14 @@ impl OneList {
                 self.version = 1;
                 self.show_change(out)
             }
-            Ok(Command::Edit { ops }) => self.edit(ops, out),
-            Ok(Command::Replace { sought, text }) => {
+            Command::Edit { ops } => self.edit(ops, out),
+            Command::Replace { sought, text } => {
                 self.replace_all(sought.as_slice(), text.as_slice(), out)
             }
-            Ok(Command::Eol { kind }) => self.change_kind(kind, out),
-            Ok(Command::Undo) => self.step(true, out),
-            Ok(Command::Redo) => self.step(false, out),
-            Ok(query) => self.tell(query, out),
-            Err(_) => self.refuse(Refusal::Syntax, out),
+            Command::Eol { kind } => self.change_kind(kind, out),
+            Command::Undo => self.step(true, out),
+            Command::Redo => self.step(false, out),
+            query => self.tell(query, out),
         }
     }
 

@@ -3,7 +3,7 @@
 use memory_streams::MemSink;
 use script_runner::{Session, write_outcome};
 use script_streams::Failed;
-use std::alloc::Global;
+use std::alloc::{AllocError, Global};
 use std::test::Fail;
 
 const LINES: &[&str] = &[
@@ -21,15 +21,15 @@ const REPLIES: &[u8] = b"ok 1 5 2\nok \"cd\"\n! range\n! syntax\nok 5 2\n";
 #[test]
 fn a_session_answers_lines(rt: HostRuntime) -> Result<(), Fail> {
     let mut out = MemSink::new(rt.alloc(), 256, 256, &[])?;
-    assert_eq!(rt; answer(rt.alloc(), &mut out), Ok(()));
+    assert_eq!(rt; answer(rt.alloc(), &mut out)?, Ok(()));
     assert_eq!(rt; out.bytes(), Some(REPLIES));
     Ok(())
 }
 
 /// A function that owns a session has one way out.
-fn answer(alloc: Global, out: &mut MemSink) -> Result<(), Failed> {
-    let mut session = Session::new(alloc);
-    answer_by(&mut session, out)
+fn answer(alloc: Global, out: &mut MemSink) -> Result<Result<(), Failed>, AllocError> {
+    let mut session = Session::new(alloc)?;
+    Ok(answer_by(&mut session, out))
 }
 
 fn answer_by(session: &mut Session, out: &mut MemSink) -> Result<(), Failed> {

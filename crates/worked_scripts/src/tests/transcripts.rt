@@ -5,6 +5,7 @@ mod decorated;
 mod endings;
 mod followed;
 mod hidden;
+mod joined;
 mod kept;
 mod limits;
 mod nested;
@@ -16,6 +17,7 @@ use decorated::{DECORATED, EACH_MODE, FOUR_MODES};
 use endings::ENDINGS;
 use followed::FOLLOWED;
 use hidden::HIDDEN;
+use joined::JOINED;
 use kept::KEPT;
 use limits::LIMITS;
 use nested::NESTED;
@@ -28,7 +30,7 @@ use texts::TEXTS;
 
 /// The rows with which each script of a table begins, and the table. A blank line stands between two transcripts: a
 /// name, and a row for each line of the script, which has the reply behind `=>`.
-const TABLES: [(&str, &str); 11] = [
+const TABLES: [(&str, &str); 12] = [
     ("", TEXTS),
     ("", BATCHES),
     (FOUR_MODES, EACH_MODE),
@@ -39,6 +41,7 @@ const TABLES: [(&str, &str); 11] = [
     ("", ENDINGS),
     ("", SEARCHED),
     ("", FOLLOWED),
+    ("", JOINED),
     ("", LIMITS),
 ];
 

@@ -1,6 +1,6 @@
 use Rattle.std.proofs.Common.{◌≡◌, ◌++◌, take, codes}
 use Rattle.std.specs.List.{flat_map}
-use Rattle.script_runner.specs.Step.{entry_part}
+use Rattle.session_rules.specs.Step.{entry_part}
 use Rattle.script_runner.proofs.bracket_replies.list_reply.Given as goal
 
 abbrev pub invariant-loop-entry : goal.invariant-loop-entry

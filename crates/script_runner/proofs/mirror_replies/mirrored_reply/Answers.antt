@@ -1,14 +1,14 @@
-use Rattle.std.proofs.Common.{◌<◌, ◌≤◌, length, ap, ◌∙◌, ◌++◌, arith}
-use Rattle.text_rules.specs.Lines.{lines_of}
-use Rattle.script_lines.specs.Replies.{text_reply}
-use Rattle.model_core.proofs.LineLemmas.{line_there}
-use Rattle.script_runner.proofs.MirrorLemmas.{tells_mirrored}
+use Rattle.std.proofs.Common.{◌≡◌, length, slice_get, Some, refl, subst}
+use Rattle.std.proofs.lemmas.Option.{slice_get_read}
+use Rattle.session_rules.specs.Step.{mirrored_answer}
+use Rattle.script_runner.proofs.StandingLemmas.{tells_asked_after}
 use Rattle.script_runner.proofs.mirror_replies.mirrored_reply.Goals as goal
 
 pub returns : goal.returns
 returns c =
-    let first : 0 < c.args.n = omega (arith, c.if-n-eq0.false) in
-    let last : c.args.n ≤ length (lines_of c.in-Some.mirror.units) = omega (arith, c.if-n-line_count.false, c.line_count.ensures) in
-    let there = line_there c.in-Some.mirror.units c.args.n first last in
-    let units = c.as_slice.ensures.value ∙ c.in_ok-line.ensures.ok there.0 there.1 ∙ ap (λ x. x ++ there.0.content) c.new-units.ensures.items in
-    tells_mirrored _ _ c.in-Some.mirror there.0 _ c.in-Some.is there.1 (c.in_ok-text_reply.ensures ∙ ap text_reply units)
+    let own = c.in-Some.follower.now in
+    let item = c.in-Some.ensures.lookup in
+    let there : slice_get c.args.session.now.followers.items c.args.doc ≡ Some own =
+    subst (λ xs. slice_get xs c.args.doc ≡ Some own) c.deref.ensures.value
+    (slice_get_read c.deref.result.now (length c.deref.result.now) c.args.doc own refl item.3.0 item.1) in
+    tells_asked_after _ c.args.doc own _ c.requires there (λ flat. mirrored_answer flat.mirror c.args.n) (c.mirror_line.ensures _)

@@ -1,16 +1,16 @@
-use Rattle.std.proofs.Common.{rules, ◌≡◌, ◌+◌, ◌∷◌, [], ◌++◌, length, refl, ap, sym, ◌∙◌, subst, arith}
-use Rattle.std.specs.Prelude.{IsNone}
-use Rattle.std.proofs.lemmas.Bool.{both_ways}
-use Rattle.script_lines.specs.Replies.{ok_reply}
-use Rattle.script_runner.proofs.MirrorLemmas.{tells_sent}
+use Rattle.std.proofs.Common.{refl, sym, subst}
+use Rattle.std.proofs.lemmas.Option.{slice_get_read}
+use Rattle.session_rules.specs.Step.{send_answer}
+use Rattle.model_group.proofs.Lists.{doc_in-is}
+use Rattle.script_runner.specs.Told.{TellsAfter}
+use Rattle.script_runner.proofs.StandingLemmas.{tells_following}
 use Rattle.script_runner.proofs.mirror_replies.send_reply.Goals as goal
 
 pub returns : goal.returns
 returns c =
-    let items = c.args.session.now.sent.items in
-    let sent : length c.as_slice-sent.result.now ≡ length items = ap length c.as_slice-sent.ensures.value in
-    let pushed : c.push.new.self.items ≡ items ++ c.in-Some.event ∷ [] = search rules in
-    tells_sent _ _ _ c.in-Some.event (sym c.in_ok-event.ensures.event ∙ c.in-Some.is)
-    (λ one. both_ways _ (subst IsNone c.in-Some.is (c.in_ok-event.ensures.none.1 one)) refl)
-    c.last_event.ensures.texts (omega (arith, c.if-sent-ge-MOST_SENT.false, sent)) refl refl pushed
-    (c.ok.ensures ∙ ap (λ n. ok_reply ((n + 1) ∷ c.from-from.result ∷ [])) sent ∙ ap (λ n. ok_reply ((length items + 1) ∷ n ∷ [])) c.from-from.ensures.from)
+    let followers = c.args.session.now.followers in
+    tells_following _ _ c.args.doc c.in-Some.follower.now c.send_event.new.follower _ c.requires
+    (slice_get_read followers.items followers.len c.args.doc c.in-Some.follower.now followers.ok.0 (c.in-Some.ensures.variant.0 refl) c.in-Some.ensures.value)
+    refl refl send_answer
+    (subst (λ f. TellsAfter f (send_answer f) c.in-Some.follower.now c.send_event.result c.send_event.new.follower)
+    (sym (doc_in-is c.args.session.now.group c.args.doc c.doc.result.now c.doc.ensures)) c.send_event.ensures)

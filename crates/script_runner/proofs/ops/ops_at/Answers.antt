@@ -2,7 +2,9 @@ use Rattle.std.proofs.Common.{◌≡◌, ◌∷◌, [], ◌++◌, List, length, 
 use Rattle.std.proofs.lemmas.Grind.{common_steps}
 use Rattle.std.specs.Vec.Iter.{into_iter_items}
 use Rattle.script_lines.specs.declared.op.LineOp.{LineOp}
-use Rattle.script_runner.specs.Step.{op_at, ops_at}
+use Rattle.group_rules.specs.Group.{doc_in}
+use Rattle.model_group.specs.State.{documents}
+use Rattle.session_rules.specs.Step.{op_at, ops_at}
 use Rattle.script_runner.proofs.OpLemmas.{ops_at-more, ops_at-refused}
 use Rattle.script_runner.proofs.ops.ops_at.Goals as goal
 
@@ -20,7 +22,7 @@ loop-op-init c = record {
 
 pub returns-in_err-op-clause-found : goal.returns-in_err-op-clause-found
 returns-in_err-op-clause-found c =
-    let f = c.args.model.now.document in
+    let f = doc_in (documents c.args.group.now) c.args.doc in
     let steps : into_iter_items c.loop-op.op-iterator ≡ c.in-Some.op ∷ into_iter_items c.next.new.self = c.in-Some.ensures.steps.0 in
     let none : op_at f c.in-Some.op ≡ None = grind (arith, common_steps) in
     let refused : ops_at f c.args.ops ≡ None =
@@ -29,7 +31,7 @@ returns-in_err-op-clause-found c =
 
 pub loop-op-preserved : goal.loop-op-preserved
 loop-op-preserved c =
-    let f = c.args.model.now.document in
+    let f = doc_in (documents c.args.group.now) c.args.doc in
     let steps : into_iter_items c.loop-op.op-iterator ≡ c.in-Some.op ∷ into_iter_items c.next.new.self = c.in-Some.ensures.steps.0 in
     let is : op_at f c.in-Some.op ≡ Some c.in_ok-op.op = grind (arith, common_steps) in
     let pushed : c.push.new.self.items ≡ c.loop-op.found.items ++ c.in_ok-op.op ∷ [] = grind (arith, common_steps) in
@@ -44,7 +46,7 @@ loop-op-preserved c =
 
 pub returns-clause-found : goal.returns-clause-found
 returns-clause-found c =
-    let f = c.args.model.now.document in
+    let f = doc_in (documents c.args.group.now) c.args.doc in
     let empty : into_iter_items c.loop-op.op-iterator ≡ [] = nothing_left _ (sym c.loop-op.invariant.len ∙ c.in-None.ensures.steps.0) in
     let all = sym (append-nil c.loop-op.yielded) ∙ ap (λ rest. c.loop-op.yielded ++ rest) (sym empty) ∙ c.loop-op.invariant.all in
     sym (ap (ops_at f) all) ∙ c.loop-op.invariant.found

@@ -3,4 +3,4 @@ use Rattle.script_runner.proofs.running.run.Goals as goal
 
 pub returns : goal.returns
 returns g c =
-    rw c.status_after.ensures (runs_after _ _ _ _ _ _ _ c.new-session.ensures c.serve-served.ensures)
+    rw c.status_after.ensures (runs_after _ _ _ _ _ _ _ c.in-Ok-new.ensures c.serve-served.ensures)

@@ -2,12 +2,12 @@ use Rattle.std.proofs.Common.{◌≡◌, ℕ, false, List, [], ◌∷◌, if◌t
 use Rattle.std.proofs.lemmas.Bool.{ne_eqb, eq-eqb, both_ways}
 use Rattle.std.proofs.lemmas.Grind.{common_steps}
 use Rattle.script_lines.specs.declared.reason.Refusal.{Refusal}
-use Rattle.script_lines.specs.declared.reason.Refusal.TheVariants.{Syntax, Unknown, Range, Overlap, Limit, Memory, Gap}
+use Rattle.script_lines.specs.declared.reason.Refusal.TheVariants.{Syntax, Unknown, Range, Overlap, Limit, Memory, Gap, Joint}
 use Rattle.script_lines.specs.Replies.{refusal_reply}
 use Rattle.script_runner.specs.declared.outcome.Reply.{Reply}
 use Rattle.script_runner.specs.declared.outcome.Refused.{Refused}
 use Rattle.script_runner.specs.Bytes.{bytes_of, bytes_of_outcome, is_memory, is_for_memory}
-use Rattle.script_runner.specs.Script.{is_refused}
+use Rattle.session_rules.specs.Script.{is_refused}
 use Rattle.script_runner.specs.Progress.{refusals, memory_refusals}
 use Rattle.script_runner.proofs.serving.answer_line.Goals as goal
 
@@ -20,6 +20,7 @@ counted_refusal Overlap = (refl, refl)
 counted_refusal Limit = (refl, refl)
 counted_refusal Memory = (refl, refl)
 counted_refusal (Gap have need) = (refl, refl)
+counted_refusal (Joint doc) = (refl, refl)
 
 no_memory_refusal : (reply : List ℕ) → is_refused reply ≡ false → memory_refusals (reply ∷ []) ≡ 0
 no_memory_refusal [] other = refl

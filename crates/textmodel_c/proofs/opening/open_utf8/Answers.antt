@@ -5,6 +5,6 @@ use Rattle.textmodel_c.proofs.opening.open_utf8.Goals as goal
 
 pub returns-then-is_err : goal.returns-then-is_err
 returns-then-is_err c = record {
-  opened = λ _. (Err Memory, refl, record { document = (refl, tt); followers = (refl, refl) }, refl);
+  opened = λ _. (Err Memory, refl, record { group = (refl, tt); followers = refl }, refl);
   refused = λ wrong. absurd (wrong c.in-Ok.ensures.cases.1);
 }

@@ -1,6 +1,6 @@
 use Rattle.std.proofs.Common.{length, sym, arith}
 use Rattle.std.proofs.lemmas.Bool.{le-ltb}
-use Rattle.script_runner.specs.Script.{most_line_bytes}
+use Rattle.session_rules.specs.Script.{most_line_bytes}
 use Rattle.script_runner.proofs.StandingLemmas.{turns_by}
 use Rattle.script_runner.proofs.session.Session.answer.Goals as goal
 

@@ -1,0 +1,83 @@
+-- The flat group: a flat document for each number, and what a change of one of them means to the others.
+use Rattle.std.specs.Prelude.{ℕ, suc, Bool, ◌==◌, if◌then◌else◌, List, [], ◌∷◌, ◌++◌, replicate, slice_get, slice_set, unwrap_or, Option, Some, None, option_to_list, Result, Ok, Err}
+use Rattle.std.specs.Int.{bit_at}
+use Rattle.undo_rules.specs.declared.Tag.{Tag}
+use Rattle.undo_rules.specs.Stack.{Step}
+use Rattle.undo_rules.specs.Tags.{all_steps}
+use Rattle.unit_text.specs.declared.kind.Kind.{Kind}
+use Rattle.text_rules.specs.declared.Op.{Op}
+use Rattle.hiding_rules.specs.Hidden.{Scanner}
+use Rattle.document_rules.specs.Refusals.{FlatRefusal}
+use Rattle.document_rules.specs.Document.{FlatChange, FlatState, empty_document, flat_open, flat_edit, flat_eol, flat_untag}
+use Rattle.search_rules.specs.Replacing.{flat_replace_all}
+use Rattle.group_rules.specs.declared.TheConstants.{DOC_COUNT}
+
+-- the documents by their numbers
+abbrev pub FlatGroup : Type 0
+FlatGroup = List FlatState
+
+abbrev pub new_group : FlatGroup
+new_group = replicate DOC_COUNT empty_document
+
+-- the document of this number
+abbrev pub doc_in : FlatGroup → ℕ → FlatState
+doc_in g n = unwrap_or (slice_get g n) empty_document
+
+-- the group with another document of this number
+abbrev pub with_doc : FlatGroup → ℕ → FlatState → FlatGroup
+with_doc g n f = slice_set g n f
+
+-- each document becomes another, by its number; the first one has the number n
+abbrev pub each_from : ℕ → (ℕ → FlatState → FlatState) → FlatGroup → FlatGroup
+each_from n change [] = []
+each_from n change (f ∷ g) = change n f ∷ each_from (suc n) change g
+
+-- ---- tags that are lost
+
+-- whether the tag is of the document of this number
+abbrev pub is_member : ℕ → Tag → Bool
+is_member n tag = bit_at tag.members n == 1
+
+-- the tags of these steps
+abbrev pub tags_of : List (Step FlatChange) → List Tag
+tags_of [] = []
+tags_of (step ∷ steps) = option_to_list step.tag ++ tags_of steps
+
+-- A change of a document takes away what could be redone, and a new document in its place takes all steps.
+abbrev pub lost_by_change : FlatState → List Tag
+lost_by_change f = tags_of f.history.redo
+
+abbrev pub lost_by_open : FlatState → List Tag
+lost_by_open f = tags_of (all_steps f.history)
+
+-- The step of a document is one alone where its tag was lost in another one.
+abbrev pub without_tags : List Tag → ℕ → FlatState → FlatState
+without_tags [] n f = f
+without_tags (tag ∷ tags) n f = without_tags tags n (if is_member n tag then flat_untag f tag else f)
+
+-- these tags were lost as the document of this number became another
+abbrev pub with_changed : FlatGroup → List Tag → ℕ → FlatState → FlatGroup
+with_changed g lost n f = with_doc (each_from 0 (without_tags lost) g) n f
+
+abbrev pub changed_in : FlatGroup → List Tag → ℕ → Result FlatState FlatRefusal → Result FlatGroup FlatRefusal
+changed_in g lost n (Err why) = Err why
+changed_in g lost n (Ok f) = Ok (with_changed g lost n f)
+
+abbrev pub moved_in : FlatGroup → List Tag → ℕ → Result (Option FlatState) FlatRefusal → Result (Option FlatGroup) FlatRefusal
+moved_in g lost n (Err why) = Err why
+moved_in g lost n (Ok None) = Ok None
+moved_in g lost n (Ok (Some f)) = Ok (Some (with_changed g lost n f))
+
+-- ---- calls on one document that lose tags
+
+abbrev pub group_open : FlatGroup → ℕ → List ℕ → Scanner → Kind → Result FlatGroup FlatRefusal
+group_open g n text scanner kind = changed_in g (lost_by_open (doc_in g n)) n (flat_open text scanner kind)
+
+abbrev pub group_edit : FlatGroup → ℕ → List Op → Result FlatGroup FlatRefusal
+group_edit g n ops = let f = doc_in g n in changed_in g (lost_by_change f) n (flat_edit f ops)
+
+abbrev pub group_eol : FlatGroup → ℕ → Kind → Result (Option FlatGroup) FlatRefusal
+group_eol g n kind = let f = doc_in g n in moved_in g (lost_by_change f) n (flat_eol f kind)
+
+abbrev pub group_replace_all : FlatGroup → ℕ → List ℕ → List ℕ → Result (Option FlatGroup) FlatRefusal
+group_replace_all g n sought text = let f = doc_in g n in moved_in g (lost_by_change f) n (flat_replace_all f sought text)

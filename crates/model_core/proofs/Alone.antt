@@ -1,0 +1,58 @@
+-- A prepared change that is carried out as a step of undo of its own, between two closings of the open step.
+use Rattle.std.proofs.Common.{◌≡◌, ℕ, List, refl, ap, sym, subst, ◌∙◌, arith}
+use Rattle.mark_rules.specs.declared.Mark.{Mark}
+use Rattle.document_rules.specs.Document.{FlatState, flat_stop}
+use Rattle.model_page.specs.declared.change.Way.TheVariants.{Back, On}
+use Rattle.model_page.specs.Staying.{KeptBy}
+use Rattle.model_core.specs.declared.ready.Action.{Action}
+use Rattle.model_core.specs.declared.ready.Action.TheVariants.{Make, Move}
+use Rattle.model_core.specs.Prepared.{Prepared, CanCommit, Acts, ActsAlone, HasActed, Need, need_of, marks_after, marking_count}
+use Rattle.model_core.specs.State.{ModelState, KeepsParse}
+use Rattle.model_core.proofs.Preparing.{IsSameText, can_still_commit}
+
+-- ---- it may be carried out once the step is closed
+
+closed_text : (f g : FlatState) → g ≡ flat_stop f → IsSameText f g
+closed_text f g is = rw is (record { version = refl; units = refl; kind = refl; undo = refl; redo = refl })
+
+pub can_commit_closed : (old new : ModelState) (ready : Prepared) → new.document ≡ flat_stop old.document → KeepsParse old new → CanCommit old ready → CanCommit new ready
+can_commit_closed old new ready is kept can = can_still_commit old new ready (closed_text old.document new.document is) kept.room can
+
+-- ---- what it does is the same then
+
+same_marks : (action : Action) (f : FlatState) (marks : List Mark) → marks_after action (flat_stop f) marks ≡ marks_after action f marks
+same_marks (Make change) f marks = refl
+same_marks (Move Back) f marks = refl
+same_marks (Move On) f marks = refl
+
+same_marking : (action : Action) (f : FlatState) → marking_count action (flat_stop f) ≡ marking_count action f
+same_marking (Make change) f = refl
+same_marking (Move Back) f = refl
+same_marking (Move On) f = refl
+
+same_need : (action : Action) (f : FlatState) → need_of action (flat_stop f) ≡ need_of action f
+same_need (Make change) f = refl
+same_need (Move Back) f = refl
+same_need (Move On) f = refl
+
+module _ (old closed made new : ModelState) (action : Action) (first : closed.document ≡ flat_stop old.document) (kept : KeepsParse old closed)
+    (done : Acts action closed.document made.document) (acted : HasActed action closed made)
+    (last : new.document ≡ flat_stop made.document) (left : KeepsParse made new) where
+  pub acted_alone : ActsAlone action old.document new.document
+  acted_alone = record { made = made.document; acts = subst (λ f. Acts action f made.document) first done; closed = last }
+
+  pub left_alone : HasActed action old new
+  left_alone =
+      let marking : marking_count action closed.document ≡ marking_count action old.document = ap (marking_count action) first ∙ same_marking action old.document in
+      let need : need_of action closed.document ≡ need_of action old.document = ap (need_of action) first ∙ same_need action old.document in
+      let edits = ap (λ (n : Need). n.text.edits) need in
+      record {
+        parsed = left.parsed ∙ acted.parsed ∙ kept.parsed;
+        tree = left.tree ∙ acted.tree ∙ kept.tree;
+        states = left.states ∙ acted.states ∙ kept.states;
+        marks = left.marks ∙ acted.marks ∙ ap (λ f. marks_after action f closed.marks) first ∙ same_marks action old.document closed.marks
+            ∙ ap (marks_after action old.document) kept.marks;
+        fresh = subst (KeptBy (marking_count action old.document) old.fresh) (sym left.fresh)
+            (subst (λ b. KeptBy (marking_count action old.document) b made.fresh) kept.fresh (subst (λ n. KeptBy n closed.fresh made.fresh) marking acted.fresh));
+        pieces = omega (arith, acted.pieces, kept.pieces, left.pieces, edits);
+      }

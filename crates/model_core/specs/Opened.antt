@@ -1,0 +1,22 @@
+-- What a new model with a text is.
+use Rattle.std.specs.Prelude.{◌≡◌, ◌≤◌, ℕ, false, List, length, replicate, None, Result, Ok, Err}
+use Rattle.text_rules.specs.Lines.{lines_of}
+use Rattle.mark_rules.specs.declared.Mark.TheVariants.{New}
+use Rattle.document_rules.specs.declared.ModelError.{ModelError}
+use Rattle.document_rules.specs.Refusals.{FlatRefusal}
+use Rattle.document_rules.specs.Outcomes.{RefusedFor}
+use Rattle.document_rules.specs.Document.{FlatState}
+use Rattle.model_core.specs.State.{ModelState}
+
+-- it stands for the rule's new document, or is refused for the rule's reason
+abbrev pub Opens : Result ModelState ModelError → Result FlatState FlatRefusal → Type 0
+Opens (Ok m) rule = rule ≡ Ok m.document
+Opens (Err e) rule = RefusedFor e rule
+
+-- nothing of the text was parsed, and it lies in one piece
+pub record IsUnparsed (units : List ℕ) (m : ModelState) : Type 0 where
+  pub parsed : m.parsed ≡ None
+  pub tree : m.tree ≡ None
+  pub marks : m.marks ≡ replicate (length (lines_of units)) New
+  pub fresh : m.fresh ≡ false
+  pub pieces : m.pieces ≤ 1

@@ -1,0 +1,10 @@
+pub mod Lists
+pub mod Parses
+pub mod Committing
+pub mod Naming
+pub mod Numbers
+pub mod Refusing
+pub mod Joining
+pub mod Goings
+pub mod Losses
+pub mod Changing

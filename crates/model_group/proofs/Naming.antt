@@ -1,0 +1,126 @@
+-- For which documents the batches of a joint edit are.
+use Rattle.std.proofs.Common.{◌≡◌, ℕ, ◌+◌, ◌==◌, ◌||◌, ◌<◌, arith, min, nat_le, Bool, true, false, List, [], ◌∷◌, ◌++◌, length, map, take, drop, get_or, All, refl, sym, ap, ◌∙◌}
+use Rattle.std.specs.List.{list_any}
+use Rattle.std.proofs.Math.Bool.{or-false}
+use Rattle.std.proofs.lemmas.Bool.{or_parts, or_left, or_right, eq-eqb, eqb-true, eqb-false, ne_eqb, leb-false, both_ways}
+use Rattle.std.proofs.lemmas.List.{take_more, drop_more, take-append-drop, map-append}
+use Rattle.std.proofs.lemmas.List.Elements.{All-nil, All-cons}
+use Rattle.std.proofs.lemmas.List.Folds.{list_any-append, list_any_at}
+use Rattle.undo_rules.specs.declared.Tag.{Tag}
+use Rattle.group_rules.specs.Group.{FlatGroup, doc_in}
+use Rattle.group_rules.specs.declared.TheConstants.{DOC_COUNT}
+use Rattle.group_rules.specs.declared.DocBatch.{DocBatch}
+use Rattle.group_rules.specs.Joint.{FlatBatch, flat_batch, docs_of, names_badly, members_of, least_of, tag_of}
+use Rattle.group_rules.proofs.Members.{is_named, is_member-tag_of}
+use Rattle.model_group.specs.Losing.{has_doc}
+
+-- ---- batches one after another
+
+pub taken : (xs : List DocBatch) (i : ℕ) (b : DocBatch) → i < length xs → b ≡ get_or xs i b
+    → map flat_batch (take (i + 1) xs) ≡ map flat_batch (take i xs) ++ flat_batch b ∷ []
+taken xs i b lt is =
+    ap (map flat_batch) (take_more xs i b lt ∙ ap (λ (x : DocBatch). take i xs ++ x ∷ []) (sym is)) ∙ map-append flat_batch (take i xs) (b ∷ [])
+
+pub batch_among : (xs : List DocBatch) (i : ℕ) (b : DocBatch) → i < length xs → b ≡ get_or xs i b
+    → map flat_batch xs ≡ map flat_batch (take i xs) ++ flat_batch b ∷ map flat_batch (drop (i + 1) xs)
+batch_among xs i b lt is =
+    let rest : drop i xs ≡ b ∷ drop (i + 1) xs = drop_more xs i b lt ∙ ap (λ (x : DocBatch). x ∷ drop (i + 1) xs) (sym is) in
+    ap (map flat_batch) (sym (take-append-drop i xs) ∙ ap (λ (rest : List DocBatch). take i xs ++ rest) rest)
+    ∙ map-append flat_batch (take i xs) (b ∷ drop (i + 1) xs)
+
+pub least_of-push : (batches : List FlatBatch) (b : FlatBatch) → least_of (batches ++ b ∷ []) ≡ min (least_of batches) b.doc
+least_of-push [] b = omega arith
+least_of-push (x ∷ batches) b = ap (min x.doc) (least_of-push batches b) ∙ omega arith
+
+-- ---- documents that are there, none twice
+
+docs_of-append : (xs ys : List FlatBatch) → docs_of (xs ++ ys) ≡ docs_of xs ++ docs_of ys
+docs_of-append xs ys = map-append (λ (b : FlatBatch). b.doc) xs ys
+
+-- one that is not there, or was named before
+abbrev pub is_bad : ℕ → List FlatBatch → Bool
+is_bad n batches = nat_le DOC_COUNT n || is_named n batches
+
+named-append : (n : ℕ) (xs ys : List FlatBatch) → is_named n (xs ++ ys) ≡ (is_named n xs || is_named n ys)
+named-append n xs ys = ap (list_any (λ m. m == n)) (docs_of-append xs ys) ∙ list_any-append (λ m. m == n) (docs_of xs) (docs_of ys)
+
+-- the bits of the set tell which were named
+pub named_bit : (batches : List FlatBatch) (set n : ℕ) → names_badly (docs_of batches) ≡ false → set ≡ members_of batches
+    → has_doc set n ≡ is_named n batches
+named_bit batches set n good is = ap (λ s. has_doc s n) is ∙ is_member-tag_of [] batches n good
+
+pub well_named : (batches : List FlatBatch) (b : FlatBatch) → names_badly (docs_of batches) ≡ false → is_bad b.doc batches ≡ false
+    → names_badly (docs_of (batches ++ b ∷ [])) ≡ false
+well_named [] b good fine = rw (or_parts (nat_le DOC_COUNT b.doc) false fine).0 refl
+well_named (x ∷ batches) b good fine =
+    let now = or_parts (nat_le DOC_COUNT b.doc) (is_named b.doc (x ∷ batches)) fine in
+    let apart = or_parts (x.doc == b.doc) (is_named b.doc batches) now.1 in
+    let before = or_parts (is_bad x.doc batches) (names_badly (docs_of batches)) good in
+    let first = or_parts (nat_le DOC_COUNT x.doc) (is_named x.doc batches) before.0 in
+    let other : (b.doc == x.doc) ≡ false = ne_eqb b.doc x.doc (λ e. eqb-false x.doc b.doc apart.0 (sym e)) in
+    let alone : is_named x.doc (batches ++ b ∷ []) ≡ false = rw (named-append x.doc batches (b ∷ []), first.1, other) refl in
+    let rest : names_badly (docs_of (batches ++ b ∷ [])) ≡ false = well_named batches b before.1 (rw (now.0, apart.1) refl) in
+    rw (first.0, alone, rest) refl
+
+pub badly_named : (batches : List FlatBatch) (b : FlatBatch) (more : List FlatBatch) → is_bad b.doc batches ≡ true
+    → names_badly (docs_of (batches ++ b ∷ more)) ≡ true
+badly_named [] b more bad =
+    or_left (is_bad b.doc more) (names_badly (docs_of more))
+    (or_left (nat_le DOC_COUNT b.doc) (is_named b.doc more) (sym (or-false (nat_le DOC_COUNT b.doc)) ∙ bad))
+badly_named (x ∷ batches) b more bad =
+    by (nat_le DOC_COUNT b.doc) (is_named b.doc batches) (x.doc == b.doc) refl refl refl bad
+    (λ bad. or_right (is_bad x.doc (batches ++ b ∷ more)) (names_badly (docs_of (batches ++ b ∷ more))) (badly_named batches b more bad))
+  where
+    by : (past named same : Bool) → nat_le DOC_COUNT b.doc ≡ past → is_named b.doc batches ≡ named → (x.doc == b.doc) ≡ same
+        → (past || (same || named)) ≡ true
+        → (is_bad b.doc batches ≡ true → names_badly (docs_of (x ∷ batches ++ b ∷ more)) ≡ true)
+        → names_badly (docs_of (x ∷ batches ++ b ∷ more)) ≡ true
+    by true named same p n s bad later = later (rw p refl)
+    by false true same p n s bad later = later (rw (p, n) refl)
+    by false false true p n s bad later =
+        let here : is_named x.doc (batches ++ b ∷ more) ≡ true =
+        named-append x.doc batches (b ∷ more)
+        ∙ or_right (is_named x.doc batches) (is_named x.doc (b ∷ more))
+        (or_left (b.doc == x.doc) (is_named x.doc more) (eq-eqb b.doc x.doc (sym (eqb-true x.doc b.doc s)))) in
+        or_left (is_bad x.doc (batches ++ b ∷ more)) (names_badly (docs_of (batches ++ b ∷ more)))
+        (or_right (nat_le DOC_COUNT x.doc) (is_named x.doc (batches ++ b ∷ more)) here)
+    by false false false p n s bad later = absurd cc
+
+-- each of them is one of the group
+is_there : (batches : List FlatBatch) (b : FlatBatch) (more : List FlatBatch) → names_badly (docs_of (batches ++ b ∷ more)) ≡ false
+    → b.doc < DOC_COUNT
+is_there batches b more good =
+    leb-false DOC_COUNT b.doc (by (nat_le DOC_COUNT b.doc) refl)
+  where
+    by : (past : Bool) → nat_le DOC_COUNT b.doc ≡ past → past ≡ false
+    by true p =
+        let bad = badly_named batches b more (or_left (nat_le DOC_COUNT b.doc) (is_named b.doc batches) p) in
+        absurd (both_ways (names_badly (docs_of (batches ++ b ∷ more))) good bad)
+    by false p = refl
+
+pub batch_there : (xs : List DocBatch) (b : DocBatch) (ys all : List DocBatch) → xs ++ b ∷ ys ≡ all
+    → names_badly (docs_of (map flat_batch all)) ≡ false
+    → b.doc < DOC_COUNT
+batch_there xs b ys all whole good =
+    let split : map flat_batch all ≡ map flat_batch xs ++ flat_batch b ∷ map flat_batch ys =
+    ap (map flat_batch) (sym whole) ∙ map-append flat_batch xs (b ∷ ys) in
+    is_there (map flat_batch xs) (flat_batch b) (map flat_batch ys) (sym (ap (λ batches. names_badly (docs_of batches)) split) ∙ good)
+
+pub all_there : (batches : List FlatBatch) → names_badly (docs_of batches) ≡ false → All (λ n. n < DOC_COUNT) (docs_of batches)
+all_there [] good = All-nil (λ n. n < DOC_COUNT)
+all_there (b ∷ batches) good =
+    let parts = or_parts (is_bad b.doc batches) (names_badly (docs_of batches)) good in
+    All-cons (λ n. n < DOC_COUNT) b.doc (docs_of batches) (is_there [] b batches good) (all_there batches parts.1)
+
+pub all_named : (batches : List FlatBatch) → All (λ n. is_named n batches ≡ true) (docs_of batches)
+all_named batches k d lt =
+    let n : ℕ = get_or (docs_of batches) k d in list_any_at (λ m. m == n) (docs_of batches) k d lt (eq-eqb n n refl)
+
+pub least_there : (batches : List FlatBatch) → 0 < length batches → names_badly (docs_of batches) ≡ false → least_of batches < DOC_COUNT
+least_there [] some good = absurd (omega arith)
+least_there (b ∷ batches) some good = omega (arith, is_there [] b batches good)
+
+pub tag_is : (g : FlatGroup) (batches : List FlatBatch) (least version members : ℕ) → least ≡ least_of batches
+    → version ≡ (doc_in g (least_of batches)).version
+    → members ≡ members_of batches → ◌≡◌ {A = Tag} (record { least = least; version = version + 1; members = members }) (tag_of g batches)
+tag_is g batches least version members l v m = rw (l, v, m) refl

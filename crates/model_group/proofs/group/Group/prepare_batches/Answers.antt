@@ -1,0 +1,69 @@
+use Rattle.std.proofs.Common.{◌≡◌, ◌∷◌, [], ◌++◌, List, map, length, Ok, Err, Some, subst, ap, sym, ◌∙◌, append_assoc, arith}
+use Rattle.std.proofs.lemmas.Grind.{common_steps}
+use Rattle.std.proofs.lemmas.List.{map-append}
+use Rattle.std.specs.Vec.Iter.{into_iter_items}
+use Rattle.group_rules.specs.Joint.{FlatBatch, flat_batch}
+use Rattle.model_group.specs.declared.joint.DocReady.{DocReady}
+use Rattle.model_group.specs.State.{documents}
+use Rattle.model_group.specs.Prepared.{PreparesBatch, AreBatchesReady, IsFirstOf}
+use Rattle.model_group.proofs.Naming.{batch_there}
+use Rattle.model_group.proofs.Committing.{kept_all}
+use Rattle.model_group.proofs.Joining.{prepared_more, accepted_more, refused_more, unless_told}
+use Rattle.model_group.proofs.group.Group.prepare_batches.Goals as goal
+
+pub prepare_batch-requires : goal.prepare_batch-requires
+prepare_batch-requires c =
+    let steps : into_iter_items c.loop-batch.batch-iterator ≡ c.in-Some.batch ∷ into_iter_items c.next.new.self = c.in-Some.ensures.steps.0 in
+    let whole = ap (λ rest. c.loop-batch.yielded ++ rest) (sym steps) ∙ c.loop-batch.invariant.all in
+    batch_there c.loop-batch.yielded c.in-Some.batch (into_iter_items c.next.new.self) c.args.batches.items whole c.requires
+
+pub loop-batch-preserved-in-Continue-branch-2 : goal.loop-batch-preserved-in-Continue-branch-2
+loop-batch-preserved-in-Continue-branch-2 c =
+    let steps : into_iter_items c.loop-batch.batch-iterator ≡ c.in-Some.batch ∷ into_iter_items c.next.new.self = c.in-Some.ensures.steps.0 in
+    let whole = ap (λ rest. c.loop-batch.yielded ++ rest) (sym steps) ∙ c.loop-batch.invariant.all in
+    let xs = c.loop-batch.yielded in
+    let b : FlatBatch = flat_batch c.in-Some.batch in
+    let old = c.loop-batch.self in
+    let new = c.prepare_batch.new.self in
+    let r : DocReady = record { doc = b.doc; ready = c.in-Ok.one } in
+    let more = map-append flat_batch xs (c.in-Some.batch ∷ []) in
+    let pushed : c.push.new.self.items ≡ c.loop-batch.ready.items ++ r ∷ [] = grind (arith, common_steps) in
+    record {
+      all = append_assoc xs (c.in-Some.batch ∷ []) _ ∙ whole;
+      len = omega (arith, c.loop-batch.invariant.len, c.in-Some.ensures.steps.1, ap length steps);
+      same = (kept_all b.doc (PreparesBatch b.ops (Ok c.in-Ok.one)) old new c.in-Ok.ensures (λ m k p. p.kept)).documents ∙ c.loop-batch.invariant.same;
+      ready = unless_told c.loop-batch.refusal
+          (λ h. subst (λ (batches : List FlatBatch). AreBatchesReady new batches c.push.new.self.items) (sym more)
+          (subst (λ (ready : List DocReady). AreBatchesReady new (map flat_batch xs ++ b ∷ []) ready) (sym pushed)
+          (prepared_more b c.in-Ok.one old new c.in-Ok.ensures (map flat_batch xs) c.loop-batch.ready.items h)))
+          c.loop-batch.invariant.ready;
+      first = subst (λ (batches : List FlatBatch). IsFirstOf (documents c.args.self.now) batches c.loop-batch.refusal) (sym more)
+          (accepted_more b c.in-Ok.one old new c.in-Ok.ensures (documents c.args.self.now) (map flat_batch xs) c.loop-batch.refusal
+          c.loop-batch.invariant.same c.loop-batch.invariant.first);
+    }
+
+pub returns-in_err-map_err-in-Ok-clause-documents : goal.returns-in_err-map_err-in-Ok-clause-documents
+returns-in_err-map_err-in-Ok-clause-documents c =
+    let b : FlatBatch = flat_batch c.in-Some.batch in
+    (kept_all b.doc (PreparesBatch b.ops (Ok c.in-Ok.one)) c.loop-batch.self c.prepare_batch.new.self c.in-Ok.ensures (λ m k p. p.kept)).documents
+    ∙ c.loop-batch.invariant.same
+
+pub loop-batch-preserved : goal.loop-batch-preserved
+loop-batch-preserved c =
+    let steps : into_iter_items c.loop-batch.batch-iterator ≡ c.in-Some.batch ∷ into_iter_items c.next.new.self = c.in-Some.ensures.steps.0 in
+    let whole = ap (λ rest. c.loop-batch.yielded ++ rest) (sym steps) ∙ c.loop-batch.invariant.all in
+    let xs = c.loop-batch.yielded in
+    let b : FlatBatch = flat_batch c.in-Some.batch in
+    let old = c.loop-batch.self in
+    let new = c.prepare_batch.new.self in
+    let more = map-append flat_batch xs (c.in-Some.batch ∷ []) in
+    record {
+      all = append_assoc xs (c.in-Some.batch ∷ []) _ ∙ whole;
+      len = omega (arith, c.loop-batch.invariant.len, c.in-Some.ensures.steps.1, ap length steps);
+      same = (kept_all b.doc (PreparesBatch b.ops (Err c.in-Err.error)) old new c.in-Err.ensures (λ m k p. p.kept)).documents ∙ c.loop-batch.invariant.same;
+      ready = tt;
+      first = subst (λ (batches : List FlatBatch). IsFirstOf (documents c.args.self.now) batches (Some c.first_of.result)) (sym more)
+          (subst (λ e. IsFirstOf (documents c.args.self.now) (map flat_batch xs ++ b ∷ []) (Some e)) (sym c.first_of.ensures)
+          (refused_more b c.in-Err.error old new c.in-Err.ensures (documents c.args.self.now) (map flat_batch xs) c.loop-batch.refusal
+          c.loop-batch.invariant.same c.loop-batch.invariant.first));
+    }

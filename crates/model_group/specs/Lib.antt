@@ -1,0 +1,4 @@
+pub mod State
+pub mod Losing
+pub mod Prepared
+pub mod Errors

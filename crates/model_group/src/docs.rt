@@ -1,0 +1,119 @@
+//! Calls on one document that no other one knows of. Each does what the call of its name does on `Model`.
+
+ghost use Rattle.std.specs.Prelude.{◌≡◌, ◌<◌, true, List, Ok, Err, OnOk};
+ghost use Rattle.std.specs.List.{All};
+ghost use Rattle.group_rules.specs.declared.TheConstants.{DOC_COUNT};
+ghost use Rattle.document_rules.specs.Outcomes.{Changes, ChangesWith, Appends, Gives};
+ghost use Rattle.document_rules.specs.Document.{flat_stop, flat_offset};
+ghost use Rattle.document_rules.specs.Snapshots.{flat_snapshot, flat_skipped, flat_close_of};
+ghost use Rattle.document_rules.specs.Brackets.{flat_brackets, flat_match, flat_level, IsSmall};
+ghost use Rattle.group_rules.specs.Group.{doc_in};
+ghost use Rattle.model_core.specs.Decorating.{HasDecorated};
+ghost use Rattle.model_core.specs.State.{KeepsParse, Renews};
+ghost use Rattle.model_group.specs.State.{OnDoc, documents};
+
+use crate::group::Group;
+use document_rules::ModelError;
+use model_core::{Entry, NewDeco, Position};
+
+impl Group {
+    /// The next edit of the document begins a step of undo.
+    pub fn stop(&mut self, doc: u64)
+        requires { doc < DOC_COUNT }
+        ensures { OnDoc doc (λ old new. (new.document ≡ flat_stop old.document)
+            × KeepsParse old new) self.old self.new }
+    {
+        self.models[doc as usize].stop();
+    }
+
+    /// Takes decorations of an owner out and puts new ones in.
+    pub fn decorate(
+        &mut self,
+        doc: u64,
+        owner: u64,
+        remove: &[u64],
+        add: &[NewDeco],
+    ) -> Result<u64, ModelError>
+        requires { doc < DOC_COUNT }
+        ensures { OnDoc doc (λ old new. HasDecorated owner remove.now add.now result
+            old.document new.document × KeepsParse old new) self.old self.new }
+    {
+        self.models[doc as usize].decorate(owner, remove, add)
+    }
+
+    /// Keeps the text of now, to be read from its front, and answers its id.
+    pub fn snapshot(&mut self, doc: u64) -> Result<u64, ModelError>
+        requires { doc < DOC_COUNT }
+        ensures { OnDoc doc (λ old new. ChangesWith old.document.shelf.next_id result
+            old.document new.document (flat_snapshot old.document)
+            × KeepsParse old new) self.old self.new }
+    {
+        self.models[doc as usize].snapshot()
+    }
+
+    /// Goes on in a snapshot: the first `n` units of what is left of it were read. It takes no memory.
+    pub fn skip(&mut self, doc: u64, id: u64, n: u64)
+        requires { doc < DOC_COUNT }
+        ensures { OnDoc doc (λ old new. (new.document ≡ flat_skipped old.document id n)
+            × KeepsParse old new) self.old self.new }
+    {
+        self.models[doc as usize].skip(id, n);
+    }
+
+    /// Closes a snapshot. It takes no memory.
+    pub fn close(&mut self, doc: u64, id: u64) -> Result<(), ModelError>
+        requires { doc < DOC_COUNT }
+        ensures document { OnDoc doc (λ old new. Changes result old.document new.document
+            (flat_close_of old.document id) × KeepsParse old new) self.old self.new }
+        ensures sure { ¬ (result ≡ Err ModelError.Memory) }
+    {
+        self.models[doc as usize].close(id)
+    }
+
+    /// Where the position is in the text; None where it is none of it. What was looked up is remembered for the edit that comes next.
+    pub fn locate(&mut self, doc: u64, p: Position) -> Option<u64>
+        requires { doc < DOC_COUNT }
+        ensures found { result ≡ flat_offset (doc_in (documents self.old) doc) p }
+        ensures same { self.new ≡ self.old }
+    {
+        self.models[doc as usize].locate(p)
+    }
+
+    /// Appends the brackets of these lines.
+    pub fn brackets_in(
+        &mut self,
+        doc: u64,
+        from: u64,
+        to: u64,
+        out: &mut Vec<Entry>,
+    ) -> Result<(), ModelError>
+        requires { doc < DOC_COUNT }
+        ensures { OnDoc doc (λ old new. Appends result out.old.items out.new.items
+            (flat_brackets old.document from to)
+            × ((entries : List Entry) → flat_brackets old.document from to ≡ Ok entries
+            → OnOk result (All (λ e. IsSmall e.place) entries))
+            × Renews result old new) self.old self.new }
+    {
+        self.models[doc as usize].brackets_in(from, to, out)
+    }
+
+    /// The partner of the bracket at the position, and how many units it has.
+    pub fn match_at(&mut self, doc: u64, p: Position) -> Result<Option<(Position, u64)>, ModelError>
+        requires { doc < DOC_COUNT }
+        ensures { OnDoc doc (λ old new. Gives result (flat_match old.document p)
+            × Renews result old new
+            × (old.fresh ≡ true → ¬ (result ≡ Err ModelError.Memory))) self.old self.new }
+    {
+        self.models[doc as usize].match_at(p)
+    }
+
+    /// How many brackets are open at the position.
+    pub fn level_at(&mut self, doc: u64, p: Position) -> Result<u64, ModelError>
+        requires { doc < DOC_COUNT }
+        ensures { OnDoc doc (λ old new. Gives result (flat_level old.document p)
+            × Renews result old new
+            × (old.fresh ≡ true → ¬ (result ≡ Err ModelError.Memory))) self.old self.new }
+    {
+        self.models[doc as usize].level_at(p)
+    }
+}

@@ -1,0 +1,239 @@
+//! Undo and redo.
+
+ghost use Rattle.std.specs.Prelude.{◌≡◌, ◌+◌, ◌<◌, ◌&&◌, true, false, not, length, IfOk, IfErr, OnOk};
+ghost use Rattle.std.specs.List.{All};
+ghost use Rattle.document_rules.specs.Outcomes.{Moves};
+ghost use Rattle.document_rules.specs.Document.{flat_undo, flat_redo};
+ghost use Rattle.group_rules.specs.declared.TheConstants.{DOC_COUNT};
+ghost use Rattle.group_rules.specs.Going.{group_undo, group_redo, group_go, go_together, gone_in, front_tag, is_front, is_last_version, some_last_from, other_next_from};
+ghost use Rattle.group_rules.specs.Group.{doc_in, is_member};
+ghost use Rattle.group_rules.specs.Outcomes.{MovesAll};
+ghost use Rattle.model_core.specs.Prepared.{Acts, CanCommit};
+ghost use Rattle.model_core.specs.Ways.{flat_move};
+ghost use Rattle.model_group.specs.State.{OnDoc, documents};
+ghost use Rattle.model_group.specs.Prepared.{AreApart, AreStepsReady, CommitAll, IsReadyIn, PreparesStep, going_along};
+
+use crate::errors::group_error_of;
+use crate::group::Group;
+use crate::joint::DocReady;
+use crate::members::is_member;
+use document_rules::ModelError;
+use group_rules::{DOC_COUNT, GroupError};
+use model_core::{Model, Ready, Tag};
+use model_page::Way;
+
+/// The greatest version that a document may have.
+const LAST_VERSION: u64 = 0x7FFF_FFFF_FFFF_FFFF;
+
+impl Group {
+    /// Goes back to the text before the last step of the document, as the next version, and answers whether there was one. A step that
+    /// several documents took at once is undone in all of them. `Limit` where a version would pass its limit; else `Joint` where that step
+    /// is not the last one of the least document that it names. All memory is taken before the first change.
+    pub fn undo(&mut self, doc: u64) -> Result<bool, GroupError>
+        requires { doc < DOC_COUNT }
+        ensures { MovesAll result (documents self.old) (documents self.new)
+            (group_undo (documents self.old) doc) }
+    {
+        self.go(Way::Back, doc)
+    }
+
+    /// Goes on to the text after the step that was undone last, as `undo` goes back.
+    pub fn redo(&mut self, doc: u64) -> Result<bool, GroupError>
+        requires { doc < DOC_COUNT }
+        ensures { MovesAll result (documents self.old) (documents self.new)
+            (group_redo (documents self.old) doc) }
+    {
+        self.go(Way::On, doc)
+    }
+
+    fn go(&mut self, way: Way, doc: u64) -> Result<bool, GroupError>
+        requires { doc < DOC_COUNT }
+        ensures { MovesAll result (documents self.old) (documents self.new)
+            (group_go (going_along way) (documents self.old) doc) }
+    {
+        match next_tag(&self.models[doc as usize], way) {
+            Some(tag) => self.go_together(way, tag),
+            None => self.go_alone(way, doc),
+        }
+    }
+
+    // One step of the document alone.
+    fn go_alone(&mut self, way: Way, doc: u64) -> Result<bool, GroupError>
+        requires { doc < DOC_COUNT }
+        ensures { MovesAll result (documents self.old) (documents self.new)
+            (gone_in (documents self.old) doc
+            ((going_along way).rule (doc_in (documents self.old) doc))) }
+    {
+        self.go_one(way, doc).map_err(group_error_of)
+    }
+
+    fn go_one(&mut self, way: Way, doc: u64) -> Result<bool, ModelError>
+        requires { doc < DOC_COUNT }
+        ensures { OnDoc doc (λ old new. Moves result old.document new.document
+            (flat_move way old.document)) self.old self.new }
+    {
+        match way {
+            Way::Back => self.undo_one(doc),
+            Way::On => self.redo_one(doc),
+        }
+    }
+
+    fn undo_one(&mut self, doc: u64) -> Result<bool, ModelError>
+        requires { doc < DOC_COUNT }
+        ensures { OnDoc doc (λ old new. Moves result old.document new.document
+            (flat_undo old.document)) self.old self.new }
+    {
+        self.models[doc as usize].undo()
+    }
+
+    fn redo_one(&mut self, doc: u64) -> Result<bool, ModelError>
+        requires { doc < DOC_COUNT }
+        ensures { OnDoc doc (λ old new. Moves result old.document new.document
+            (flat_redo old.document)) self.old self.new }
+    {
+        self.models[doc as usize].redo()
+    }
+
+    // The step of the tag in all of its documents.
+    fn go_together(&mut self, way: Way, tag: Tag) -> Result<bool, GroupError>
+        ensures { MovesAll result (documents self.old) (documents self.new)
+            (go_together (going_along way) (documents self.old) tag) }
+    {
+        if self.some_last(tag) {
+            return Err(GroupError::Limit);
+        }
+        if let Some(doc) = self.other_next(way, tag) {
+            return Err(GroupError::Joint { doc });
+        }
+        let ready = self.prepare_steps(way, tag)?;
+        self.commit_steps(ready);
+        Ok(true)
+    }
+
+    // Whether one of the tag's documents is in its last version.
+    fn some_last(&self, tag: Tag) -> bool
+        ensures { result ≡ some_last_from 0 tag (documents self.now) }
+    {
+        for (doc, model) in self.models.iter().enumerate() {
+            if is_last(model, doc as u64, tag) {
+                return true;
+            }
+        }
+        false
+    }
+
+    // The least of the tag's documents in which another step comes next.
+    fn other_next(&self, way: Way, tag: Tag) -> Option<u64>
+        ensures { result ≡ other_next_from 0 (going_along way) tag (documents self.now) }
+    {
+        for (doc, model) in self.models.iter().enumerate() {
+            let doc = doc as u64;
+            if is_other(model, way, doc, tag) {
+                return Some(doc);
+            }
+        }
+        None
+    }
+
+    // Prepares the step in each of the tag's documents.
+    fn prepare_steps(&mut self, way: Way, tag: Tag) -> Result<Vec<DocReady>, GroupError>
+        requires { some_last_from 0 tag (documents self.old) ≡ false }
+        ensures count { length self.new ≡ DOC_COUNT }
+        ensures documents { documents self.new ≡ documents self.old }
+        ensures ready { IfOk result
+            (λ ready. AreStepsReady way tag DOC_COUNT self.new ready.items) }
+        ensures memory { IfErr result (λ e. e ≡ GroupError.Memory) }
+    {
+        let mut ready = Vec::with_capacity(self.alloc, DOC_COUNT as usize).map_err(
+            |_| GroupError::Memory,
+        )?;
+        for doc in 0..DOC_COUNT {
+            self.prepare_step(way, tag, doc, &mut ready)?;
+        }
+        Ok(ready)
+    }
+
+    // Prepares the step of the document too, if it is one of the tag's.
+    fn prepare_step(
+        &mut self,
+        way: Way,
+        tag: Tag,
+        doc: u64,
+        ready: &mut Vec<DocReady>,
+    ) -> Result<(), GroupError>
+        requires there { doc < DOC_COUNT }
+        requires last { some_last_from 0 tag (documents self.old) ≡ false }
+        requires ready { AreStepsReady way tag doc self.old ready.old.items }
+        ensures documents { documents self.new ≡ documents self.old }
+        ensures ready { OnOk result (AreStepsReady way tag (doc + 1) self.new ready.new.items) }
+        ensures memory { IfErr result (λ e. e ≡ GroupError.Memory) }
+    {
+        if !is_member(doc, tag) {
+            return Ok(());
+        }
+        match self.prepare_move(way, doc) {
+            Ok(Some(one)) => ready
+                .push(DocReady { doc, ready: one })
+                .map_err(|_| GroupError::Memory),
+            Ok(None) => Ok(()),
+            Err(error) => Err(group_error_of(error)),
+        }
+    }
+
+    fn prepare_move(&mut self, way: Way, doc: u64) -> Result<Option<Ready>, ModelError>
+        requires { doc < DOC_COUNT }
+        ensures { OnDoc doc (PreparesStep way result) self.old self.new }
+    {
+        let model = &mut self.models[doc as usize];
+        match way {
+            Way::Back => model.prepare_undo(),
+            Way::On => model.prepare_redo(),
+        }
+    }
+
+    fn commit_steps(&mut self, ready: Vec<DocReady>)
+        requires apart { AreApart ready.items }
+        requires each { All (IsReadyIn CanCommit self.old) ready.items }
+        ensures { CommitAll Acts ready.items self.old self.new }
+    {
+        for one in ready {
+            self.commit_step(one);
+        }
+    }
+
+    fn commit_step(&mut self, one: DocReady)
+        requires { IsReadyIn CanCommit self.old one }
+        ensures { OnDoc one.doc
+            (λ old new. Acts one.ready.action old.document new.document)
+            self.old self.new }
+    {
+        self.models[one.doc as usize].commit(one.ready);
+    }
+}
+
+// Whether the document is one of the tag's, and in its last version.
+fn is_last(model: &Model, doc: u64, tag: Tag) -> bool
+    requires { doc < DOC_COUNT }
+    ensures { result ≡ (is_member doc tag && is_last_version model.now.document) }
+{
+    is_member(doc, tag) && model.versions().0 >= LAST_VERSION
+}
+
+// Whether the document is one of the tag's, and another step comes next in it.
+fn is_other(model: &Model, way: Way, doc: u64, tag: Tag) -> bool
+    requires { doc < DOC_COUNT }
+    ensures { result ≡ (is_member doc tag
+        && not (is_front tag ((going_along way).steps model.now.document))) }
+{
+    is_member(doc, tag) && next_tag(model, way) != Some(tag)
+}
+
+// The tag of the step that comes next on the way.
+fn next_tag(model: &Model, way: Way) -> Option<Tag>
+    ensures { result ≡ front_tag ((going_along way).steps model.now.document) }
+{
+    match way {
+        Way::Back => model.undo_tag(),
+        Way::On => model.redo_tag(),
+    }
+}

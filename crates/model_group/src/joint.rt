@@ -1,0 +1,193 @@
+//! One batch in each of several documents, all or none.
+
+ghost use Rattle.std.specs.Prelude.{◌≡◌, ◌<◌, ◌≤◌, true, false, Some, None, length, map, IfOk, IfErr, if◌then◌else◌};
+ghost use Rattle.std.specs.List.{All, flat_map};
+ghost use Rattle.group_rules.specs.declared.TheConstants.{DOC_COUNT};
+ghost use Rattle.group_rules.specs.Group.{doc_in, lost_by_change};
+ghost use Rattle.group_rules.specs.Joint.{flat_batch, docs_of, names_badly, joint_refusal, members_of, least_of, tag_of, group_joint};
+ghost use Rattle.group_rules.specs.Outcomes.{ChangesAll, IsRefusedFor};
+ghost use Rattle.model_group.specs.State.{OnDoc, documents};
+ghost use Rattle.model_group.specs.Losing.{has_doc, LoseTags};
+ghost use Rattle.model_group.specs.Prepared.{AreApart, AreBatchesReady, ActsTagged, CommitAll, IsReadyIn, IsSomeEdit, PreparesBatch, cause, first_of};
+
+use crate::errors::group_error_of;
+use crate::group::Group;
+use crate::members::Members;
+use document_rules::ModelError;
+use group_rules::{DOC_COUNT, DocBatch, GroupError};
+use model_core::{Op, Ready, Tag};
+
+/// What was prepared for the document of this number.
+#[derive(Drop)]
+pub(crate) struct DocReady {
+    pub doc: u64,
+    pub ready: Ready,
+}
+
+impl Group {
+    /// Carries out each batch on its document, all of them or none. In each document it is a step of undo of its own; an undo or a redo
+    /// of one of these is one of all of them. `Unknown` where a document is above 63 or named twice; else `Range` where a span is none of
+    /// its text; else `Overlap` where two spans of a batch overlap; else `Limit` where a new text or a version would pass its limit. All
+    /// memory is taken before the first change.
+    pub fn joint(&mut self, batches: Vec<DocBatch>) -> Result<(), GroupError>
+        requires several { 2 ≤ length batches.items }
+        requires some { All (λ b. 0 < length b.ops.items) batches.items }
+        ensures { ChangesAll result (documents self.old) (documents self.new)
+            (group_joint (documents self.old) (map flat_batch batches.items)) }
+    {
+        let members = members_of(&batches).ok_or(GroupError::Unknown)?;
+        let tag = self.tag_of(&batches, members);
+        let ready = self.prepare_batches(batches)?;
+        self.lose_redo_of(&ready, members);
+        self.commit_batches(ready, tag);
+        Ok(())
+    }
+
+    // The tag of the step that the batches will be.
+    fn tag_of(&self, batches: &[DocBatch], members: Members) -> Tag
+        requires some { 0 < length batches.now }
+        requires named { names_badly (docs_of (map flat_batch batches.now)) ≡ false }
+        requires members { members ≡ members_of (map flat_batch batches.now) }
+        ensures { result ≡ tag_of (documents self.now) (map flat_batch batches.now) }
+    {
+        let least = least_of(batches);
+        Tag {
+            least,
+            version: self.models[least as usize].versions().0 + 1,
+            members: members.bits(),
+        }
+    }
+
+    // Prepares each batch. The refusal that comes first by its cause stands for all.
+    fn prepare_batches(&mut self, batches: Vec<DocBatch>) -> Result<Vec<DocReady>, GroupError>
+        requires { names_badly (docs_of (map flat_batch batches.items)) ≡ false }
+        ensures documents { documents self.new ≡ documents self.old }
+        ensures ready { IfOk result
+            (λ ready. AreBatchesReady self.new (map flat_batch batches.items) ready.items) }
+        ensures accepted { IfOk result (λ ready.
+            joint_refusal (documents self.old) (map flat_batch batches.items) ≡ None) }
+        ensures refused { IfErr result (λ e. IsRefusedFor e
+            (group_joint (documents self.old) (map flat_batch batches.items))) }
+    {
+        let mut ready = Vec::with_capacity(self.alloc, batches.len()).map_err(
+            |_| GroupError::Memory,
+        )?;
+        let mut refusal = None;
+        for batch in batches {
+            let doc = batch.doc;
+            match self.prepare_batch(doc, batch.ops) {
+                Ok(one) => ready
+                    .push(DocReady { doc, ready: one })
+                    .map_err(|_| GroupError::Memory)?,
+                Err(error) => refusal = Some(first_of(refusal, error)),
+            }
+        }
+        match refusal {
+            Some(error) => Err(group_error_of(error)),
+            None => Ok(ready),
+        }
+    }
+
+    fn prepare_batch(&mut self, doc: u64, ops: Vec<Op>) -> Result<Ready, ModelError>
+        requires { doc < DOC_COUNT }
+        ensures { OnDoc doc (PreparesBatch ops.items result) self.old self.new }
+    {
+        self.models[doc as usize].prepare(ops)
+    }
+
+    // What these documents could redo goes.
+    fn lose_redo_of(&mut self, ready: &[DocReady], members: Members)
+        requires { All (λ r. (r.doc < DOC_COUNT) × (has_doc members r.doc ≡ true)) ready.now }
+        ensures { LoseTags
+            (flat_map (λ r. lost_by_change (doc_in (documents self.old) r.doc)) ready.now)
+            members self.old self.new }
+    {
+        for one in ready {
+            self.lose_redo(one.doc, members);
+        }
+    }
+
+    // Each becomes a step of its own, which gets the tag.
+    fn commit_batches(&mut self, ready: Vec<DocReady>, tag: Tag)
+        requires apart { AreApart ready.items }
+        requires each { All (IsReadyIn IsSomeEdit self.old) ready.items }
+        ensures { CommitAll (ActsTagged tag) ready.items self.old self.new }
+    {
+        for one in ready {
+            self.commit_batch(one, tag);
+        }
+    }
+
+    fn commit_batch(&mut self, one: DocReady, tag: Tag)
+        requires { IsReadyIn IsSomeEdit self.old one }
+        ensures { OnDoc one.doc
+            (λ old new. ActsTagged tag one.ready.action old.document new.document)
+            self.old self.new }
+    {
+        let model = &mut self.models[one.doc as usize];
+        model.commit_alone(one.ready);
+        model.tag_last(tag);
+    }
+}
+
+/// Whether one of these numbers is that of no document, or stands twice.
+pub fn names_badly(docs: &[u64]) -> bool
+    ensures { result ≡ names_badly docs.now }
+{
+    let mut members = Members::none();
+    for doc in docs {
+        if *doc >= DOC_COUNT || members.has(*doc) {
+            return true;
+        }
+        members = members.with(*doc);
+    }
+    false
+}
+
+// The set of the documents; None where one is not there or named twice.
+fn members_of(batches: &[DocBatch]) -> Option<Members>
+    ensures { result ≡ if names_badly (docs_of (map flat_batch batches.now)) then None
+        else Some (members_of (map flat_batch batches.now)) }
+{
+    let mut members = Members::none();
+    for batch in batches {
+        if batch.doc >= DOC_COUNT || members.has(batch.doc) {
+            return None;
+        }
+        members = members.with(batch.doc);
+    }
+    Some(members)
+}
+
+fn least_of(batches: &[DocBatch]) -> u64
+    ensures { result ≡ least_of (map flat_batch batches.now) }
+{
+    let mut least = DOC_COUNT;
+    for batch in batches {
+        least = least.min(batch.doc);
+    }
+    least
+}
+
+// Of two refusals the one whose cause is looked for first; want of memory before all.
+fn first_of(one: Option<ModelError>, other: ModelError) -> ModelError
+    ensures { result ≡ first_of one other }
+{
+    match one {
+        Some(error) if cause(error) <= cause(other) => error,
+        _ => other,
+    }
+}
+
+// In which order the causes are looked for.
+fn cause(error: ModelError) -> u8
+    ensures { result ≡ cause error }
+{
+    match error {
+        ModelError::Memory => 0,
+        ModelError::Unknown => 1,
+        ModelError::Range => 2,
+        ModelError::Overlap => 3,
+        ModelError::Limit => 4,
+    }
+}

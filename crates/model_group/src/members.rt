@@ -1,0 +1,83 @@
+//! Sets of documents.
+
+ghost use Rattle.std.specs.Prelude.{◌≡◌, ◌==◌, ◌+◌, ◌^◌, ◌<◌, false};
+ghost use Rattle.std.specs.Int.{bit_at};
+ghost use Rattle.group_rules.specs.declared.TheConstants.{DOC_COUNT};
+ghost use Rattle.group_rules.specs.Group.{is_member};
+
+use group_rules::DOC_COUNT;
+use std::marker::Model;
+use undo_rules::Tag;
+
+/// A set of documents.
+#[derive(Clone, Copy)]
+pub(crate) struct Members {
+    // Bit n is set where document n is in the set.
+    bits: u64,
+}
+
+impl Model for Members {
+    ghost use Rattle.std.specs.Prelude.{ℕ};
+
+    ghost Value = { ℕ };
+
+    ghost view = { λ members. members.bits };
+
+    ghost inverse = { λ n. record { bits = n } };
+}
+
+impl Members {
+    pub fn none() -> Members
+        ensures { result ≡ 0 }
+    {
+        Members { bits: 0 }
+    }
+
+    /// This document alone.
+    pub fn one(doc: u64) -> Members
+        requires { doc < DOC_COUNT }
+        ensures { result ≡ 2 ^ doc }
+    {
+        Members { bits: 1 << doc }
+    }
+
+    /// The documents of the tag.
+    pub fn of(tag: Tag) -> Members
+        ensures { result ≡ tag.members }
+    {
+        Members { bits: tag.members }
+    }
+
+    pub fn has(self, doc: u64) -> bool
+        requires { doc < DOC_COUNT }
+        ensures { result ≡ (bit_at self doc == 1) }
+    {
+        (self.bits >> doc) & 1 == 1
+    }
+
+    /// The set with this document too, which it does not have.
+    pub fn with(self, doc: u64) -> Members
+        requires there { doc < DOC_COUNT }
+        requires new { (bit_at self doc == 1) ≡ false }
+        ensures { result ≡ self + 2 ^ doc }
+    {
+        Members {
+            bits: self.bits | 1 << doc,
+        }
+    }
+
+    /// The set as the bits of a number.
+    pub fn bits(self) -> u64
+        ensures { result ≡ self }
+    {
+        self.bits
+    }
+}
+
+/// Whether the tag is of this document.
+pub(crate) fn is_member(doc: u64, tag: Tag) -> bool
+    requires { doc < DOC_COUNT }
+    ensures { result ≡ is_member doc tag }
+{
+    Members::of(tag).has(doc)
+}

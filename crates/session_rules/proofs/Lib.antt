@@ -1,0 +1,4 @@
+pub mod Answering
+pub mod Joining
+pub mod Stepping
+pub mod Separate

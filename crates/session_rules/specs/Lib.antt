@@ -1,0 +1,4 @@
+pub mod Session
+pub mod Step
+pub mod Script
+pub mod Apart

@@ -1,0 +1,13 @@
+-- The document of a handle that the calls are on.
+use Rattle.std.specs.Prelude.{◌≡◌}
+use Rattle.document_rules.specs.Document.{FlatState}
+use Rattle.group_rules.specs.Group.{doc_in, with_doc}
+use Rattle.model_group.specs.State.{GroupState, documents}
+use Rattle.textmodel_c.specs.declared.document.TheConstants.{FIRST}
+
+abbrev pub first : GroupState → FlatState
+first g = doc_in (documents g) FIRST
+
+-- the other documents are as they were
+abbrev pub KeepsOthers : GroupState → GroupState → Type 0
+KeepsOthers old new = documents new ≡ with_doc (documents old) FIRST (first new)
