@@ -121,6 +121,20 @@ def edits(units: int, count: int) -> Pair:
     return lines, refused
 
 
+def growing(units: int, count: int) -> Pair:
+    """In turn an edit at a random place that adds more than it removes, and where an offset is and where a line begins."""
+    draw, size, lines, refused = random.Random(10), units, [], []
+    for _ in range(count):
+        length, text = draw.choice([(0, "k"), (0, "ab"), (1, "uvw"), (2, "wxyz"), (3, "pqrst")])
+        start = draw.randrange(size - length)
+        size += len(text) - length
+        offset, line = draw.randrange(1, size), draw.randrange(1, units // len(LINE))
+        lines += edit(op(start, start + length, text)), f'{{"cmd":"position","offset":{offset}}}', at("offset", line, 1)
+        turned = op(start + length, start, text) if length else op(start + 1, start, text)
+        refused += edit(turned), f'{{"cmd":"position","offset":{offset + size}}}', nowhere("offset", line, 1)
+    return lines, refused
+
+
 def in_lines(by_position: bool, units: int, count: int) -> Pair:
     """Edits within random lines, whose lengths they leave, told by positions or by offsets."""
     draw, lines, refused = random.Random(8), [], []
@@ -183,6 +197,14 @@ def text_cases(scale: Scale) -> Iterator[Case]:
     for what, document, made in rows:
         for units, flat in scale.texts:
             yield Case(what, size_of(units), document(units), *made(units, scale.count), flat)
+
+
+def growing_cases(scale: Scale) -> Iterator[Case]:
+    """A text that grows as it is edited and asked, twice as many steps as other rows have lines."""
+    for units, flat in scale.texts[:2]:
+        lines, refused = growing(units, 2 * scale.count)
+        compared = len(lines) if units <= 10_000 else flat
+        yield Case("edit, position, line as it grows", size_of(units), plain(units), lines, refused, compared)
 
 
 def undo_cases(scale: Scale) -> Iterator[Case]:
@@ -503,7 +525,7 @@ def line_cases(scale: Scale) -> Iterator[Case]:
 
 def all_cases(scale: Scale) -> Iterator[Case]:
     """Every case, made as it is asked for."""
-    for group in (text_cases, undo_cases, search_cases, decoration_cases, kind_cases, nested_cases, hidden_cases):
+    for group in (text_cases, growing_cases, undo_cases, search_cases, decoration_cases, kind_cases, nested_cases, hidden_cases):
         yield from group(scale)
     yield from parse_cases()
     yield from line_cases(scale)

@@ -1,6 +1,6 @@
 //! A batch that was checked.
 
-ghost use Rattle.std.specs.Prelude.{◌≡◌, ℕ, ◌+◌, ◌<◌, ◌≤◌, ◌^◌, length, Err, IfOk, List};
+ghost use Rattle.std.specs.Prelude.{◌≡◌, ℕ, ◌+◌, ◌<◌, ◌≤◌, ◌^◌, [], ◌∷◌, length, Err, IfOk, List};
 ghost use Rattle.batch_rules.specs.Batches.{most_units, applied_from, applied, checked_batch, ops_in, sorted_ops, inverse_from, text_units, StandFrom, FollowFrom};
 ghost use Rattle.batch_rules.specs.Events.{length_after, whole_op};
 ghost use Rattle.edit_batches.specs.Outcomes.{Checks};
@@ -94,18 +94,28 @@ impl Batch {
         self.ops.iter().map(|op| op.text.len()).sum()
     }
 
+    /// The batch of one edit that puts these units in the place of the span.
+    pub fn of_one(
+        alloc: Global,
+        span: Span,
+        units: &[u16],
+        force: bool,
+    ) -> Result<Batch, AllocError>
+        requires { span.start ≤ span.end }
+        ensures { IfOk result (λ b. b
+            ≡ record { span = span; text = units.now; force = force } ∷ []) }
+    {
+        let text = Units::copy_of(alloc, units)?;
+        let mut ops = Vec::with_capacity(alloc, 1)?;
+        ops.push(Op { span, text, force })?;
+        Ok(Batch { ops })
+    }
+
     /// The batch of one edit that puts these units in the place of a text of so many units.
     pub fn of_whole(alloc: Global, len: u64, units: &[u16]) -> Result<Batch, AllocError>
         ensures { (x : List ℕ) → length x ≡ len → IfOk result (λ b. b ≡ whole_op x units.now) }
     {
-        let op = Op {
-            span: Span { start: 0, end: len },
-            text: Units::copy_of(alloc, units)?,
-            force: false,
-        };
-        let mut ops = Vec::with_capacity(alloc, 1)?;
-        ops.push(op)?;
-        Ok(Batch { ops })
+        Batch::of_one(alloc, Span { start: 0, end: len }, units, false)
     }
 
     /// A copy of the batch and of its texts.

@@ -6,6 +6,8 @@ mod Searches
 mod Moving
 mod Lists
 mod Untouched
+mod Own
+mod Passing
 mod Landing
 mod Trees
 mod Touching

@@ -11,13 +11,14 @@ use Rattle.decoration_rules.specs.Moves.{offset_limit, moved_mark}
 use Rattle.interval_deltas.specs.declared.weave.KeptMark.{KeptMark}
 use Rattle.interval_deltas.specs.declared.weave.Place.{Place}
 use Rattle.interval_deltas.specs.Weave.{marks, is_mark, is_low}
-use Rattle.interval_deltas.specs.Kept.{Each, AreMarks, CanMove, PartedAt, as_mark, capped, mark_at, marks_of, moved_kept, moved_items}
+use Rattle.interval_deltas.specs.Kept.{Each, AreMarks, CanMove, CanFollow, CanFollowAfter, PartedAt, as_mark, capped, mark_at, marks_of, moved_kept, moved_items}
 use Rattle.interval_deltas.specs.Mover.{Moving, starting, starts_behind}
 use Rattle.interval_deltas.specs.Sorting.{AreSorted, CrossIn, IsNotBelow, LiesIn}
 use Rattle.interval_deltas.proofs.Carrying.{all_of, past_all, carried, sorted_where}
 use Rattle.interval_deltas.proofs.Items.{each_left, each_right, each_both, each_with, changed_each, each_listed, sum_low}
-use Rattle.interval_deltas.proofs.Lists.{same_after, changed-append}
+use Rattle.interval_deltas.proofs.Lists.{changed-append}
 use Rattle.interval_deltas.proofs.Moving.{grounded, moved_are}
+use Rattle.interval_deltas.proofs.Own.{own_front}
 use Rattle.interval_deltas.proofs.Touched.{IsTouched, behind, keeps_order, lies_there}
 use Rattle.interval_deltas.proofs.Untouched.{after_edit, starts_before, starts_behind_place}
 
@@ -92,20 +93,23 @@ module _ (edit : Edit) (items : List (ℕ × KeptMark)) (last : Option ℕ) (p :
     pub rewritten_named : PlaceAfter rewritten last
     rewritten_named = subst (λ l. PlaceAfter l last) (sym rewritten_is) (named last (new_ends last at_edit.1.1.1))
 
+    pub rewritten_own : HaveOwnNames items [] → HaveOwnNames rewritten []
+    rewritten_own own = subst (λ l. HaveOwnNames l []) (sym rewritten_is) (own_front (moved_mark edit) us vs (subst (λ l. HaveOwnNames l []) at_edit.1.1.0 own))
+
     split_new : SplitsAfter rewritten last (moved_items edit us) vs
     split_new = (rewritten_is, new_ends last at_edit.1.1.1)
 
-    module _ (loose : List (ℕ × KeptMark)) (names : HaveOwnNames rewritten loose) where
-      pub rest_fits : AtPlace rewritten last (λ ws zs. CanMove edit zs)
-      rest_fits ws zs s = subst (CanMove edit) (same_after rewritten loose names last (moved_items edit us) vs ws zs split_new s).1 (each_right (Fits edit) us vs all_fit)
+    rest_follows : CanFollow edit vs
+    rest_follows = (
+      each_right (Fits edit) us vs all_fit,
+      each_with is_mark (λ m. starts_behind edit m ≡ true) (λ m. pos edit.end <ℤ m.start) (λ m h e. behind edit up m h e) vs (each_right is_mark us vs all) high,
+    )
 
-      pub rest_behind : AtPlace rewritten last (λ ws zs. Each (λ m. pos edit.end <ℤ m.start) zs)
-      rest_behind ws zs s =
-          subst (Each (λ m. pos edit.end <ℤ m.start)) (same_after rewritten loose names last (moved_items edit us) vs ws zs split_new s).1
-          (each_with is_mark (λ m. starts_behind edit m ≡ true) (λ m. pos edit.end <ℤ m.start) (λ m h e. behind edit up m h e) vs (each_right is_mark us vs all) high)
+    pub follows : CanFollowAfter edit rewritten last
+    follows = (moved_items edit us, (vs, split_new, rest_follows))
 
-    pub all_moved : (shifted : List (ℕ × KeptMark)) → AtPlace rewritten last (λ ws zs. shifted ≡ ws ++ moved_items edit zs) → shifted ≡ moved_items edit items
-    all_moved shifted moves = moves (moved_items edit us) vs split_new ∙ sym (changed-append (moved_mark edit) us vs) ∙ ap (moved_items edit) (sym at_edit.1.1.0)
+    pub all_moved : (shifted : List (ℕ × KeptMark)) → AtPlace rewritten last (λ ws zs. CanFollow edit zs → shifted ≡ ws ++ moved_items edit zs) → shifted ≡ moved_items edit items
+    all_moved shifted moves = moves (moved_items edit us) vs split_new rest_follows ∙ sym (changed-append (moved_mark edit) us vs) ∙ ap (moved_items edit) (sym at_edit.1.1.0)
 
     pub all_sorted : IsInOrder (marks_of items) → (after : Moving) → after ≡ past_all v items → after.in_order ≡ true → AreSorted (moved_items edit items)
     all_sorted ordered after goes seen =

@@ -1,19 +1,17 @@
 -- What an edit touches.
-use Rattle.std.proofs.Common.{◌≡◌, ℕ, ◌<◌, ◌≤◌, pos, ◌+ℤ◌, ◌<ℤ◌, true, false, List, [], ◌∷◌, ◌++◌, Option, Some, None, refl, sym, ◌∙◌, ap, subst, arith, append_assoc}
+use Rattle.std.proofs.Common.{◌≡◌, ℕ, ◌<◌, ◌≤◌, pos, ◌+ℤ◌, ◌<ℤ◌, true, false, inl, inr, List, [], ◌∷◌, refl, sym, ◌∙◌, arith}
 use Rattle.std.proofs.lemmas.Bool.Decides.{nat_tests}
-use Rattle.std.specs.Prelude.{is_some}
-use Rattle.std.proofs.lemmas.Bool.{false≢true}
-use Rattle.rb_arena.specs.RbTree.{SplitsAfter, PlaceAfter, AtPlace, first_or}
+use Rattle.std.proofs.lemmas.Int.{ints}
 use Rattle.decoration_rules.specs.declared.Edit.{Edit}
 use Rattle.decoration_rules.specs.declared.Mark.{Mark}
 use Rattle.decoration_rules.specs.Marks.{stands_before}
-use Rattle.decoration_rules.specs.Moves.{offset_limit}
+use Rattle.decoration_rules.specs.Moves.{removed}
 use Rattle.interval_deltas.specs.declared.weave.KeptMark.{KeptMark}
 use Rattle.interval_deltas.specs.declared.weave.Place.{Place}
 use Rattle.interval_deltas.specs.Weave.{is_mark}
-use Rattle.interval_deltas.specs.Kept.{Each, AreMarks, capped, CanMove}
-use Rattle.interval_deltas.proofs.Items.{each_right}
-use Rattle.interval_deltas.proofs.Moving.{small_edit}
+use Rattle.interval_deltas.specs.Laws.{lawful}
+use Rattle.interval_deltas.specs.Kept.{AreMarks, CanFollow, MovesNone, capped, moved_items, moved_kept}
+use Rattle.interval_deltas.proofs.Moving.{past_kept, small_edit}
 
 pub starts_later : (a b : Mark) → stands_before a b ≡ true → a.span.start ≤ b.span.start
 starts_later a b before = grind (arith, nat_tests)
@@ -29,21 +27,13 @@ starts_before a n b e f g before = grind (arith, nat_tests)
 pub starts_behind_place : (a : Mark) (n : ℕ) (b : Mark) → b.span.start ≡ n → stands_before a b ≡ false → n ≤ a.span.start
 starts_behind_place a n b e other = grind (arith, nat_tests)
 
--- What is left of an edit.
+-- What stands behind an edit and does not move.
 
-pub split_of : (items : List (ℕ × KeptMark)) (id : Option ℕ) → PlaceAfter items id → (us : List (ℕ × KeptMark)) × ((vs : List (ℕ × KeptMark)) × SplitsAfter items id us vs)
-split_of items None h = ([], (items, (refl, refl)))
-split_of items (Some id) (ws, (x, (vs, e))) = (ws ++ (id, x) ∷ [], (vs, (e ∙ sym (append_assoc ws ((id, x) ∷ []) vs), (ws, (x, refl)))))
+stays : (edit : Edit) (m : KeptMark) → is_mark m → edit.start ≤ edit.end → pos edit.end <ℤ m.start → edit.units ≡ removed edit → moved_kept edit m ≡ m
+stays edit m h up behind same = sym (past_kept edit m (pos 0) h up behind (omega (arith, ints, same))) ∙ lawful.shift_still m
 
-some_first : (edit : Edit) (vs : List (ℕ × KeptMark)) → edit.start ≤ edit.end → AreMarks vs → CanMove edit vs → Each (λ m. pos edit.end <ℤ m.start) vs → is_some (first_or None vs) ≡ true
-    → (edit.units < offset_limit) × (edit.end < offset_limit)
-some_first edit [] up values fits after some = absurd (false≢true some)
-some_first edit (v ∷ vs) up (h, hs) (f, fs) (g, gs) some = small_edit edit v.1 h up g f
-
--- where one stands behind an edit, the edit is not too large
-pub small_behind : (edit : Edit) (items : List (ℕ × KeptMark)) (last next : Option ℕ) → edit.start ≤ edit.end → PlaceAfter items last → AreMarks items → AtPlace items last (λ us vs. CanMove edit vs)
-    → AtPlace items last (λ us vs. Each (λ m. pos edit.end <ℤ m.start) vs) → AtPlace items last (λ us vs. next ≡ first_or None vs) → is_some next ≡ true → (edit.units < offset_limit) × (edit.end < offset_limit)
-small_behind edit items last next up named values fits after next_is some =
-    let (us, (vs, s)) = split_of items last named in
-    some_first edit vs up (each_right is_mark us vs (subst AreMarks s.0 values)) (fits us vs s) (after us vs s)
-    (ap is_some (sym (next_is us vs s)) ∙ some)
+pub follow_still : (edit : Edit) (vs : List (ℕ × KeptMark)) → edit.start ≤ edit.end → MovesNone edit → AreMarks vs → CanFollow edit vs → moved_items edit vs ≡ vs
+follow_still edit [] up none values follow = refl
+follow_still edit (v ∷ vs) up (inl same) (h, hs) ((f, fs), (g, gs)) = λ i. (v.0, stays edit v.1 h up g same i) ∷ follow_still edit vs up (inl same) hs (fs, gs) i
+follow_still edit (v ∷ vs) up (inr (inl large)) (h, hs) ((f, fs), (g, gs)) = absurd (omega (arith, large, (small_edit edit v.1 h up g f).0))
+follow_still edit (v ∷ vs) up (inr (inr large)) (h, hs) ((f, fs), (g, gs)) = absurd (omega (arith, large, (small_edit edit v.1 h up g f).1))

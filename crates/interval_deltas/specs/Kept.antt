@@ -1,5 +1,5 @@
 -- Decorations as a tree keeps them.
-use Rattle.std.specs.Prelude.{ℕ, ℤ, pos, ◌≡◌, ◌<◌, ◌≤ℤ◌, ◌<ℤ◌, ◌⊎◌, true, false, min, List, map, Option, Some, None}
+use Rattle.std.specs.Prelude.{ℕ, ℤ, pos, ◌≡◌, ◌<◌, ◌≤◌, ◌≤ℤ◌, ◌<ℤ◌, ◌⊎◌, true, false, min, List, map, Option, Some, None}
 use Rattle.std.specs.Int.{cast_unsigned}
 use Rattle.std.proofs.Common.{w64}
 use Rattle.rb_rules.specs.Woven.{AllItems}
@@ -9,7 +9,7 @@ use Rattle.decoration_rules.specs.declared.Edit.{Edit}
 use Rattle.decoration_rules.specs.declared.Mark.{Mark}
 use Rattle.decoration_rules.specs.declared.Sticky.TheVariants.{AlwaysGrows}
 use Rattle.decoration_rules.specs.Marks.{stands_before}
-use Rattle.decoration_rules.specs.Moves.{offset_limit, moved_mark}
+use Rattle.decoration_rules.specs.Moves.{offset_limit, moved_mark, removed}
 use Rattle.interval_deltas.specs.declared.weave.KeptMark.{KeptMark}
 use Rattle.interval_deltas.specs.declared.weave.Place.{Place}
 use Rattle.interval_deltas.specs.declared.weave.Sought.TheVariants as sought
@@ -77,6 +77,19 @@ moved_items edit items = changed_items (moved_mark edit) items
 -- they lie below the limit after the edit
 abbrev pub CanMove : Edit → List (ℕ × KeptMark) → Type 0
 CanMove edit items = Each (λ m. (moved_mark edit (as_mark m)).span.end < offset_limit) items
+
+-- they stand behind the edit, and lie below the limit after it
+abbrev pub CanFollow : Edit → List (ℕ × KeptMark) → Type 0
+CanFollow edit items = CanMove edit items × Each (λ m. pos edit.end <ℤ m.start) items
+
+-- those after the item of that name do, or where there is none, all
+abbrev pub CanFollowAfter : Edit → List (ℕ × KeptMark) → Option ℕ → Type 0
+CanFollowAfter edit items id =
+    (us : List (ℕ × KeptMark)) × ((vs : List (ℕ × KeptMark)) × SplitsAfter items id us vs × CanFollow edit vs)
+
+-- as many units come as go, or the edit is so large that none can follow it
+abbrev pub MovesNone : Edit → Type 0
+MovesNone edit = (edit.units ≡ removed edit) ⊎ ((offset_limit ≤ edit.units) ⊎ (offset_limit ≤ edit.end))
 
 -- it stands before the edit or after it
 abbrev pub IsUntouched : Edit → KeptMark → Type 0

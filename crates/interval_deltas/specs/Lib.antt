@@ -1,6 +1,8 @@
 pub mod Tree
+pub mod Ends
 pub mod Weave
 pub mod Laws
+pub mod Halves
 pub mod Names
 pub mod Kept
 pub mod Mover

@@ -8,6 +8,9 @@ pub record Named : Type 0 where
   pub entries : List Entry
   pub spare : ℕ
 
+abbrev pub entry_of : ℕ → Option ℕ → Entry
+entry_of id node = record { id = id; node = node }
+
 abbrev pub node_of : List Entry → ℕ → Option ℕ
 node_of [] id = None
 node_of (entry ∷ entries) id = if id == entry.id then entry.node else node_of entries id

@@ -1,5 +1,6 @@
 -- What contracts see of a tree, and what its fields keep.
 use Rattle.std.specs.Prelude.{ℕ, ◌≡◌, ◌==◌, List, [], ◌∷◌, length, Option, Some, None, if◌then◌else◌, count_by}
+use Rattle.rb_arena.specs.Names.{HaveOwnNames}
 use Rattle.rb_arena.specs.RbTree.{Listed}
 use Rattle.decoration_rules.specs.declared.Mark.{Mark}
 use Rattle.decoration_rules.specs.Marks.{IsInOrder, HasDistinctIds}
@@ -19,11 +20,12 @@ abbrev pub node_in : List (ℕ × KeptMark) → ℕ → Option ℕ
 node_in [] id = None
 node_in (item ∷ items) id = if id == item.1.label.id then Some item.0 else node_in items id
 
--- the items are decorations in order, each under its name by its id, and none is loose
+-- the items are decorations in order, each under a name of its own, by its id, and none is loose
 pub record IsTree (tree : Listed KeptMark) (names : List Entry) : Type 0 where
   pub loose : tree.loose ≡ []
   pub values : AreMarks tree.items
   pub ordered : IsInOrder (marks_of tree.items)
   pub distinct : HasDistinctIds (marks_of tree.items)
+  pub own : HaveOwnNames tree.items []
   pub named : (id : ℕ) → node_of names id ≡ node_in tree.items id
   pub all : count_by is_named names ≡ length tree.items

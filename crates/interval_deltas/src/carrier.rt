@@ -5,6 +5,7 @@ ghost use Rattle.interval_deltas.specs.Weave.{is_mark};
 ghost use Rattle.interval_deltas.specs.Kept.{IsPlace};
 ghost use Rattle.interval_deltas.specs.Carrier.{met, setting_out};
 
+use crate::ends::Greatest;
 use crate::lines::Lines;
 use crate::mover::stands_below;
 use crate::weave::{KeptMark, LIMIT, Marks, Place};
@@ -80,7 +81,7 @@ impl<'a> Rewriting<Marks> for Carrier<'a> {
 
     ghost onward = { onward_of };
 
-    fn skips(&self, _sum: Option<i64>) -> bool {
+    fn skips(&self, _sum: Greatest) -> bool {
         false
     }
 

@@ -4,6 +4,7 @@ ghost use Rattle.decoration_rules.specs.Moves.{offset_limit, moved_mark};
 ghost use Rattle.interval_deltas.specs.Weave.{is_mark};
 ghost use Rattle.interval_deltas.specs.Kept.{as_mark, kept_of, place_of, moved_kept, capped};
 
+use crate::ends::End;
 use crate::moves::moved;
 use crate::weave::{KeptMark, LIMIT, Label, Place};
 use decoration_rules::{Edit, Mark};
@@ -25,7 +26,7 @@ impl KeptMark {
     {
         KeptMark {
             start: mark.span.start as i64,
-            end: mark.span.end as i64,
+            end: End::of(mark.span.end as i64),
             label: Label {
                 id: mark.id,
                 owner: mark.owner,
@@ -44,7 +45,7 @@ impl KeptMark {
             owner: self.label.owner,
             span: Span {
                 start: self.start as u64,
-                end: self.end as u64,
+                end: self.end.offset() as u64,
             },
             sticky: self.label.sticky,
             collapse: self.label.collapse,
@@ -57,7 +58,7 @@ impl KeptMark {
     {
         Place {
             start: self.start,
-            end: self.end,
+            end: self.end.offset(),
             id: self.label.id,
         }
     }

@@ -4,6 +4,8 @@
 mod accept;
 mod carrier;
 mod carry;
+mod ends;
+mod halves;
 mod kept;
 mod lines;
 mod mover;

@@ -1,10 +1,11 @@
 //! Decorations that an edit touches move where they stand.
 ghost use Rattle.std.specs.Prelude.{◌≡◌, ◌≤◌, false, true};
 ghost use Rattle.decoration_rules.specs.Marks.{stands_before};
-ghost use Rattle.interval_deltas.specs.Weave.{is_mark, reaches};
+ghost use Rattle.interval_deltas.specs.Weave.{is_mark};
 ghost use Rattle.interval_deltas.specs.Kept.{IsPlace, as_mark, mark_at, capped};
 ghost use Rattle.interval_deltas.specs.Mover.{met, starting};
 
+use crate::ends::Greatest;
 use crate::kept::capped;
 use crate::weave::{KeptMark, Marks, Place, placed};
 use decoration_rules::Edit;
@@ -81,13 +82,6 @@ pub(crate) fn stands_below(mark: &KeptMark, place: &Place) -> bool
     placed(mark, place).is_lt()
 }
 
-/// Whether a greatest end lies at an offset or after it.
-fn reaches(offset: i64, end: Option<i64>) -> bool
-    ensures { result ≡ reaches offset end }
-{
-    end.is_some_and(|end| offset <= end)
-}
-
 impl Rewriting<Marks> for Mover {
     ghost use Rattle.interval_deltas.specs.Mover.{rewritten_by, onward_of};
 
@@ -95,12 +89,13 @@ impl Rewriting<Marks> for Mover {
 
     ghost onward = { onward_of };
 
-    fn skips(&self, sum: Option<i64>) -> bool {
-        self.past || !reaches(capped(self.edit.start), sum)
+    fn skips(&self, sum: Greatest) -> bool {
+        self.past || !sum.reaches(capped(self.edit.start))
     }
 
     fn rewrite(&mut self, item: KeptMark) -> KeptMark {
-        if self.past || item.end < capped(self.edit.start) {
+        let end = item.end.offset();
+        if self.past || end < capped(self.edit.start) {
             return item;
         }
         if capped(self.edit.end) < item.start {

@@ -1,19 +1,31 @@
 //! The nodes of decorations, by their ids.
 ghost use Rattle.std.specs.Prelude.{◌≡◌, [], ◌+◌, ◌<◌, ◌≤◌, Some, None, OnOk, IsSome, MatchResult, count_by, length, take, insert, filter};
-ghost use Rattle.interval_deltas.specs.Names.{node_of, HasNode, IsById, StandsAt, BelongsAt, is_named};
+ghost use Rattle.interval_deltas.specs.Names.{entry_of, node_of, HasNode, IsById, StandsAt, BelongsAt, is_named};
 ghost use Rattle.paged_list.specs.List.{paged};
 
+use crate::halves::Halves;
 use paged_list::PagedList;
-use raw_arena::NodeId;
+use raw_arena::{Link, NodeId};
 use std::alloc::{AllocError, Global};
 use std::cmp::Ordering;
 use std::marker::Model;
 
-/// The node of a decoration; none where it was taken out.
+/// The node of a decoration, in twelve bytes; none where it was taken out.
 #[derive(Clone, Copy)]
 pub(crate) struct Entry {
-    id: u64,
-    node: Option<NodeId>,
+    id: Halves,
+    node: Link,
+}
+
+impl Entry {
+    fn of(id: u64, node: Option<NodeId>) -> Entry
+        ensures { result ≡ entry_of id node }
+    {
+        Entry {
+            id: Halves::of(id),
+            node: Link::of(node),
+        }
+    }
 }
 
 /// From an id to its node. An id above all others is put last and moves no entry, nor does a removal, which leaves an entry
@@ -73,7 +85,7 @@ impl Names {
         ensures { result ≡ node_of self.now.entries id }
     {
         match search(&self.entries, id) {
-            Ok(at) => self.entries.get(at).node,
+            Ok(at) => self.entries.get(at).node.name(),
             Err(_) => None,
         }
     }
@@ -87,10 +99,7 @@ impl Names {
             ≡ count_by is_named self.old.entries + 1 }
         ensures room { self.old.spare ≤ self.new.spare + 1 }
     {
-        let entry = Entry {
-            id,
-            node: Some(node),
-        };
+        let entry = Entry::of(id, Some(node));
         match search(&self.entries, id) {
             Ok(at) => {
                 self.entries.set(at, entry);
@@ -111,7 +120,7 @@ impl Names {
         let Ok(at) = search(&self.entries, id) else {
             return;
         };
-        self.entries.set(at, Entry { id, node: None });
+        self.entries.set(at, Entry::of(id, None));
         if self.dead < self.entries.len() / 2 {
             self.dead += 1;
         } else {
@@ -131,7 +140,7 @@ fn search(entries: &PagedList<Entry>, id: u64) -> Result<usize, usize>
     let mut high = entries.len();
     while low < high {
         let middle = low + (high - low) / 2;
-        match entries.get(middle).id.cmp(&id) {
+        match entries.get(middle).id.number().cmp(&id) {
             Ordering::Less => low = middle + 1,
             Ordering::Equal => return Ok(middle),
             Ordering::Greater => high = middle,
@@ -174,7 +183,7 @@ fn gather(entries: &mut PagedList<Entry>) -> usize
     let mut kept = 0;
     for at in 0..entries.len() {
         let entry = *entries.get(at);
-        if entry.node.is_none() {
+        if entry.node.name().is_none() {
             continue;
         }
         entries.set(kept, entry);

@@ -1,12 +1,12 @@
 //! Searches in the tree, which nobody counts.
-ghost use Rattle.std.specs.Prelude.{◌≡◌, None};
 ghost use Rattle.steps.specs.Counting.{IsFor};
 ghost use Rattle.rb_arena.specs.Searching.{Found};
-ghost use Rattle.rb_arena.specs.RbTree.{first_or, AtItem, AtPlace, IsItem, PlaceAfter};
+ghost use Rattle.rb_arena.specs.RbTree.{AtItem, IsItem};
 ghost use Rattle.decoration_rules.specs.Marks.{IsInOrder};
 ghost use Rattle.interval_deltas.specs.Weave.{marks, mark_turn};
 ghost use Rattle.interval_deltas.specs.Kept.{AreMarks, marks_of, IsPlace, mark_at, PartedAt, FirstReaching, ShowsFirst};
 
+use crate::ends::Greatest;
 use crate::weave::{KeptMark, Marks, Place, Sought, placed};
 use raw_arena::NodeId;
 use rb_arena::RbTree;
@@ -14,7 +14,7 @@ use std::marker::Brand;
 use std::sync::ledger::{Blank, Ledger};
 use steps::Steps;
 
-fn search(tree: &RbTree<Marks>, sought: Sought) -> Option<(NodeId, KeptMark, Option<i64>)>
+fn search(tree: &RbTree<Marks>, sought: Sought) -> Option<(NodeId, KeptMark, Greatest)>
     ensures { Found marks mark_turn sought tree.now.items result }
 {
     search_for::<Brand>(tree, sought, Blank::new(1))
@@ -25,7 +25,7 @@ fn search_after(
     tree: &RbTree<Marks>,
     id: NodeId,
     sought: Sought,
-) -> Option<(NodeId, KeptMark, Option<i64>)>
+) -> Option<(NodeId, KeptMark, Greatest)>
     requires { IsItem tree.now.items id }
     ensures { AtItem tree.now.items id (λ us x vs. Found marks mark_turn sought vs result) }
 {
@@ -36,7 +36,7 @@ fn search_for<L: Ledger>(
     tree: &RbTree<Marks>,
     sought: Sought,
     blank: Blank,
-) -> Option<(NodeId, KeptMark, Option<i64>)>
+) -> Option<(NodeId, KeptMark, Greatest)>
     requires blank { IsFor L.Ledger blank }
     ensures { Found marks mark_turn sought tree.now.items result }
 {
@@ -49,7 +49,7 @@ fn search_after_for<L: Ledger>(
     id: NodeId,
     sought: Sought,
     blank: Blank,
-) -> Option<(NodeId, KeptMark, Option<i64>)>
+) -> Option<(NodeId, KeptMark, Greatest)>
     requires blank { IsFor L.Ledger blank }
     requires named { IsItem tree.now.items id }
     ensures { AtItem tree.now.items id (λ us x vs. Found marks mark_turn sought vs result) }
@@ -93,27 +93,13 @@ pub(crate) fn reaching_after(
 }
 
 /// What a search for the offset ended at, if that reaches the offset.
-fn reached(
-    found: Option<(NodeId, KeptMark, Option<i64>)>,
-    offset: i64,
-) -> Option<(NodeId, KeptMark)>
+fn reached(found: Option<(NodeId, KeptMark, Greatest)>, offset: i64) -> Option<(NodeId, KeptMark)>
     ensures { ShowsFirst offset found result }
 {
     let (id, mark, _) = found?;
-    if mark.end < offset {
+    if mark.end.offset() < offset {
         None
     } else {
         Some((id, mark))
-    }
-}
-
-/// The decoration right after that one, or the first.
-pub(crate) fn next_after(tree: &RbTree<Marks>, id: &Option<NodeId>) -> Option<NodeId>
-    requires { PlaceAfter tree.now.items id.now }
-    ensures { AtPlace tree.now.items id.now (λ us vs. result ≡ first_or None vs) }
-{
-    match id {
-        Some(id) => tree.next(*id),
-        None => tree.first(),
     }
 }

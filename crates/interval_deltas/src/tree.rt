@@ -84,6 +84,8 @@ impl IntervalTree {
         let kept = KeptMark::of(&mark);
         let at = last_before(&self.tree, kept.place());
         let node = insert_behind(&mut self.tree, at, kept);
+        // What stands before it tells that no other has its name.
+        let _before = self.tree.prev(node);
         self.names.put(mark.id, node);
     }
 

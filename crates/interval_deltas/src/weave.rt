@@ -2,6 +2,7 @@
 ghost use Rattle.std.specs.Prelude.{◌≡◌};
 ghost use Rattle.interval_deltas.specs.Weave.{placed, place_turn, reaching_turn};
 
+use crate::ends::{End, Greatest};
 use decoration_rules::Sticky;
 use rb_rules::{Turn, Weave};
 use std::cmp::Ordering;
@@ -19,7 +20,7 @@ pub struct Label {
 #[derive(Clone, Copy)]
 pub struct KeptMark {
     pub start: i64,
-    pub end: i64,
+    pub end: End,
     pub label: Label,
 }
 
@@ -52,7 +53,7 @@ pub(crate) fn placed(mark: &KeptMark, place: &Place) -> Ordering
 {
     mark.start
         .cmp(&place.start)
-        .then(mark.end.cmp(&place.end))
+        .then(mark.end.offset().cmp(&place.end))
         .then(mark.label.id.cmp(&place.id))
 }
 
@@ -68,10 +69,10 @@ fn place_turn(place: &Place, mark: &KeptMark) -> Turn
 }
 
 /// Where a search for the first that reaches an offset goes, by the greatest end before a decoration and by its own.
-fn reaching_turn(offset: i64, before: Option<i64>, end: i64) -> Turn
+fn reaching_turn(offset: i64, before: Greatest, end: i64) -> Turn
     ensures { result ≡ reaching_turn offset before end }
 {
-    if before.is_some_and(|end| offset <= end) {
+    if before.reaches(offset) {
         Turn::Left
     } else if offset <= end {
         Turn::Stop
@@ -86,7 +87,7 @@ impl Weave for Marks {
 
     type Item = KeptMark;
 
-    type Sum = Option<i64>;
+    type Sum = Greatest;
 
     type By = i64;
 
@@ -108,28 +109,24 @@ impl Weave for Marks {
 
     ghost widened = { wider };
 
-    fn none() -> Option<i64> {
-        None
+    fn none() -> Greatest {
+        Greatest::none()
     }
 
-    fn one(item: KeptMark) -> Option<i64> {
-        Some(item.end)
+    fn one(item: KeptMark) -> Greatest {
+        Greatest::of(item.end)
     }
 
-    fn join(first: Option<i64>, second: Option<i64>) -> Option<i64> {
-        match (first, second) {
-            (None, _) => second,
-            (_, None) => first,
-            (Some(a), Some(b)) => Some(a.max(b)),
-        }
+    fn join(first: Greatest, second: Greatest) -> Greatest {
+        first.later(second)
     }
 
-    fn same(first: Option<i64>, second: Option<i64>) -> bool {
-        first == second
+    fn same(first: Greatest, second: Greatest) -> bool {
+        first.is(second)
     }
 
     /// A whole's greatest end does not tell the greatest of its other parts.
-    fn exchanged(whole: Option<i64>, old: Option<i64>, new: Option<i64>) -> Option<Option<i64>> {
+    fn exchanged(whole: Greatest, old: Greatest, new: Greatest) -> Option<Greatest> {
         None
     }
 
@@ -152,15 +149,15 @@ impl Weave for Marks {
     fn shift(by: i64, item: KeptMark) -> KeptMark {
         KeptMark {
             start: by + item.start,
-            end: by + item.end,
+            end: End::of(by + item.end.offset()),
             label: item.label,
         }
     }
 
-    fn shift_sum(by: i64, sum: Option<i64>) -> Option<i64> {
-        match sum {
-            None => None,
-            Some(end) => Some(by + end),
+    fn shift_sum(by: i64, sum: Greatest) -> Greatest {
+        match sum.end() {
+            None => sum,
+            Some(end) => Greatest::of(End::of(by + end)),
         }
     }
 
@@ -172,10 +169,10 @@ impl Weave for Marks {
         if wide < LIMIT { Some(wide) } else { None }
     }
 
-    fn turn_at(key: Sought, before: Option<i64>, item: KeptMark) -> Turn {
+    fn turn_at(key: Sought, before: Greatest, item: KeptMark) -> Turn {
         match key {
             Sought::Place(place) => place_turn(&place, &item),
-            Sought::Reaching(offset) => reaching_turn(offset, before, item.end),
+            Sought::Reaching(offset) => reaching_turn(offset, before, item.end.offset()),
         }
     }
 

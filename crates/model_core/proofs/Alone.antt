@@ -1,5 +1,5 @@
 -- A prepared change that is carried out as a step of undo of its own, between two closings of the open step.
-use Rattle.std.proofs.Common.{◌≡◌, ℕ, List, refl, ap, sym, subst, ◌∙◌, arith}
+use Rattle.std.proofs.Common.{◌≡◌, List, refl, ap, sym, subst, ◌∙◌, arith}
 use Rattle.mark_rules.specs.declared.Mark.{Mark}
 use Rattle.document_rules.specs.Document.{FlatState, flat_stop}
 use Rattle.model_page.specs.declared.change.Way.TheVariants.{Back, On}

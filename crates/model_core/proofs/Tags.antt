@@ -1,11 +1,11 @@
 -- The tags of the kept steps: no text reads them, and the flat history has the same, in the same order.
-use Rattle.std.proofs.Common.{◌≡◌, ℕ, ◌<◌, ◌||◌, Bool, true, false, if◌then◌else◌, List, [], ◌∷◌, ◌++◌, map, reverse, length, slice_get, Option, Some, None, option_map, option_and_then, refl, ap, sym, subst, ◌∙◌, arith}
+use Rattle.std.proofs.Common.{◌≡◌, ℕ, ◌||◌, Bool, true, false, if◌then◌else◌, List, [], ◌∷◌, ◌++◌, map, reverse, length, slice_get, Option, Some, None, option_map, option_and_then, refl, ap, sym, subst, ◌∙◌, arith}
 use Rattle.std.specs.List.{list_any}
 use Rattle.std.proofs.lemmas.List.{append_assoc, reverse-append, length-map}
 use Rattle.std.proofs.lemmas.Option.{slice_get-map}
 use Rattle.undo_rules.specs.declared.Tag.{Tag}
 use Rattle.undo_rules.specs.Stack.{Step, Stack}
-use Rattle.undo_rules.specs.Tags.{is_tag, has_tag, without_tag, tagged_front, tagged, untagged, all_steps, holds, tag_at}
+use Rattle.undo_rules.specs.Tags.{is_tag, has_tag, tagged_front, tagged, untagged, all_steps, holds, tag_at}
 use Rattle.snapshot_rules.specs.Snapshots.{FlatShelf}
 use Rattle.decoration_rules.specs.Decorations.{Decorations}
 use Rattle.hiding_rules.specs.Hidden.{Scanner}
@@ -16,7 +16,7 @@ use Rattle.model_page.specs.declared.change.Way.TheVariants.{Back, On}
 use Rattle.model_page.specs.Changes.{text_back, text_on, changes_back, changes_on}
 use Rattle.model_core.specs.declared.latest.Latest.{Latest}
 use Rattle.model_core.specs.declared.latest.Latest.TheVariants.{Made, TakenBack, MadeAgain}
-use Rattle.model_core.specs.History.{step_with, undo_steps, redo_steps, history_of, StepsLeadBack, StepsLeadOn, IsHistory, last_of, last_of_steps, latest_steps, HasLatest}
+use Rattle.model_core.specs.History.{step_with, undo_steps, redo_steps, history_of, StepsLeadBack, StepsLeadOn, IsHistory, last_of, last_of_steps, HasLatest}
 use Rattle.model_core.specs.Ways.{next_steps}
 use Rattle.model_core.proofs.Stepping.{document_of}
 

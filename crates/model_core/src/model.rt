@@ -2,6 +2,7 @@
 
 mod brackets;
 mod columns;
+mod compact;
 mod decorate;
 mod edit;
 mod endings;

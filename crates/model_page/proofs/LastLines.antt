@@ -1,24 +1,23 @@
 -- The lines of a text as they were parsed last: after an edit, after a parse, and once they are settled for the next one.
-use Rattle.std.proofs.Common.{◌≡◌, ℕ, zero, suc, ◌+◌, ◌-◌, ◌<◌, ◌≤◌, Bool, true, false, cond, List, [], ◌∷◌, ◌++◌, length, map, take, drop, get_or, Option, Some, None, IfSome, refl, ap, sym, ◌∙◌, subst, arith, append_assoc, drop-cons}
+use Rattle.std.proofs.Common.{◌≡◌, ℕ, zero, suc, ◌+◌, ◌-◌, ◌<◌, ◌≤◌, Bool, true, false, cond, List, [], ◌∷◌, ◌++◌, length, map, take, drop, get_or, Option, Some, None, refl, ap, sym, ◌∙◌, subst, arith, append_assoc, drop-cons}
 use Rattle.std.specs.Prelude.{replicate, slice_index_or}
-use Rattle.std.proofs.lemmas.List.{length-append, length-drop, length-map, length-replicate, length-take-le, take_all, drop_all, take-take, take-append-le, take-append-drop, drop-drop, drop-map, take-map, get_or-drop, get_or-map, drop-append-le}
-use Rattle.bracket_rules.specs.Rows.{Row, row, empty_row}
+use Rattle.std.proofs.lemmas.List.{length-append, length-drop, length-map, length-replicate, length-take-le, take_all, drop_all, take-append-le, take-append-drop, drop-drop, drop-map, take-map, get_or-drop, get_or-map, drop-append-le}
+use Rattle.bracket_rules.specs.Rows.{Row, empty_row}
 use Rattle.hiding_rules.specs.declared.LineState.{LineState}
 use Rattle.hiding_rules.specs.declared.LineState.TheVariants.{Code}
 use Rattle.hiding_rules.specs.Hidden.{Scanner, hidden_scan}
 use Rattle.hiding_rules.specs.Rows.{line_by, lines_by, broken, hidden_rows}
 use Rattle.hiding_rules.specs.States.{Known, Lead, is_restarted, states_from, line_states, state_behind}
 use Rattle.hiding_rules.proofs.Rows.{length-broken, drop-broken, length-states_from, length-lines_by, line_by-at}
-use Rattle.line_states.specs.Settling.{Borders, known_of, known_lines, settled_mark, settled_marks}
+use Rattle.line_states.specs.Settling.{Borders, known_of, known_lines, settled_marks}
 use Rattle.line_states.proofs.Parts.{Lead-take, Lead-drop}
 use Rattle.line_states.proofs.SettledMarks.{length-settled, Rises-settled, kept_still}
 use Rattle.mark_rules.specs.declared.Mark.{Mark}
 use Rattle.mark_rules.specs.declared.Mark.TheVariants.{Kept, New}
 use Rattle.mark_rules.specs.Marks.{mark_at, kept_marks, clean_marks, edited_marks}
-use Rattle.mark_rules.proofs.MarkLaws.{length-kept_marks}
 use Rattle.reuse_rules.specs.Agreement.{Alike, GoOnAlike, BeginsAlike, Agrees}
 use Rattle.reuse_rules.specs.Edits.{IsEdited}
-use Rattle.node_reuse.specs.Reading.{AllNew, AgreesWith, AgreesIfThere}
+use Rattle.node_reuse.specs.Reading.{AgreesIfThere}
 use Rattle.bracket_tree_rules.specs.Tree.{Tree, tree_rows}
 use Rattle.model_page.specs.Staying.{last_state, last_lines}
 use Rattle.model_page.proofs.DirtyEdits.{length-after}

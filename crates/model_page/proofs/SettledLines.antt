@@ -1,10 +1,9 @@
 -- What a parse goes by once the lines of a page are settled.
-use Rattle.std.proofs.Common.{◌≡◌, ℕ, ◌+◌, ◌*◌, ◌≤◌, true, false, Option, Some, List, length, refl, ap, sym, ◌∙◌, subst}
+use Rattle.std.proofs.Common.{◌≡◌, ℕ, false, Option, List, length, ap, sym, ◌∙◌, subst}
 use Rattle.std.specs.Prelude.{replicate}
 use Rattle.std.proofs.lemmas.List.{length-map}
 use Rattle.text_rules.specs.Lines.{Line, lines_of}
-use Rattle.bracket_rules.specs.declared.TheConstants.{MOST_OPEN}
-use Rattle.bracket_tree_rules.specs.Tree.{Tree, nesting, highest}
+use Rattle.bracket_tree_rules.specs.Tree.{Tree}
 use Rattle.hiding_rules.specs.declared.LineState.TheVariants.{Code}
 use Rattle.hiding_rules.specs.Hidden.{Scanner}
 use Rattle.hiding_rules.specs.Marks.{has_block}
@@ -16,8 +15,6 @@ use Rattle.line_states.specs.Lines.{new_lines}
 use Rattle.line_states.specs.Settling.{Borders, SettledState, settled_marks}
 use Rattle.line_states.proofs.SettledMarks.{length-settled, new_lines-settled, settled_in_code}
 use Rattle.mark_rules.specs.declared.Mark.{Mark}
-use Rattle.reuse_rules.specs.Prices.{all_paired}
-use Rattle.reuse_rules.specs.Ways.{IsOneRun}
 use Rattle.node_reuse.specs.OldText.{OldText}
 use Rattle.node_reuse.specs.Paying.{token_count, most_steps}
 use Rattle.node_reuse.specs.Paying as reuse

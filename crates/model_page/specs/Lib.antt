@@ -1,3 +1,4 @@
+pub mod Placed
 pub mod Changes
 pub mod Counts
 pub mod Needs
@@ -8,6 +9,7 @@ pub mod TextWeights
 pub mod Counting
 pub mod Ways
 pub mod State
+pub mod Compact
 pub mod View
 pub mod Entries
 mod Examples

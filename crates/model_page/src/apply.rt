@@ -10,15 +10,15 @@ ghost use Rattle.model_page.specs.Changes.{led, ops_by, text_from, text_to};
 ghost use Rattle.model_page.specs.Counts.{op_count};
 ghost use Rattle.model_page.specs.LineMarks.{marked_backwards, marks_over};
 ghost use Rattle.model_page.specs.Needs.{need_of_ops};
+ghost use Rattle.model_page.specs.Placed.{op_of};
 ghost use Rattle.model_page.specs.State.{CanApply, CanFollow, CanLead, HasGrown, HasRoom, HasSpent, KeepsParse, flat_text};
 ghost use Rattle.model_page.specs.Ways.{text_by, changes_by, decorations_by, marked_along, place_at};
 
 use crate::change::{Change, Way, batch_for};
 use crate::page::Page;
-use crate::placed::{Place, PlacedRecast, known, note};
+use crate::placed::{OpView, PlacedBatch, PlacedRecast};
 use decorations::Edit;
 use edit_stack::Element;
-use text_rules::Op;
 use unit_text::Flat;
 
 impl Page {
@@ -38,15 +38,14 @@ impl Page {
     {
         match change {
             Change::Ops { batch, inverse } => {
-                let placed = batch_for(batch, inverse, way);
-                self.carry(placed.batch().ops(), placed.places(), forces);
+                self.carry(batch_for(batch, inverse, way), forces);
             }
             Change::Endings(recast) => self.recast(recast, way),
         }
     }
 
     // Carries out the ops, whose texts may lie in the buffers already, at the places that they have, if any.
-    fn carry(&mut self, ops: &[Op], places: &[Place], forces: bool)
+    fn carry(&mut self, ops: &PlacedBatch, forces: bool)
         requires { CanApply self.old ops.now }
         ensures text { flat_text self.new.text
             ≡ record { units = applied_from 0 self.old.text.units ops.now; kind = self.old.text.kind } }
@@ -58,15 +57,15 @@ impl Page {
         ensures grown { HasGrown (length ops.now) self.old.text self.new.text }
         ensures spent { HasSpent (need_of_ops ops.now) self.old self.new }
     {
-        for done in 0..ops.len() {
-            let at = ops.len() - 1 - done;
-            let op = &ops[at];
-            self.decorations.accept(&edit_with(op, forces));
-            let mut place = known(places, at);
-            let dirty = self
-                .text
-                .replace_again(op.span, op.text.as_slice(), &mut place);
-            note(places, at, place);
+        let count = ops.len();
+        for done in 0..count {
+            let at = count - 1 - done;
+            let op = ops.op(at);
+            let edit = edit_with(&op, forces);
+            self.decorations.accept(&edit);
+            let mut place = ops.known(at);
+            let dirty = self.text.replace_again(op.span, op.text, &mut place);
+            ops.note(at, place);
             self.last.mark(dirty);
         }
     }
@@ -124,13 +123,13 @@ pub(crate) fn place_at(way: Way, count: usize, done: usize) -> usize
     }
 }
 
-fn edit_with(op: &Op, forces: bool) -> Edit
-    ensures { result ≡ edit_with forces op.now }
+fn edit_with(op: &OpView<'_>, forces: bool) -> Edit
+    ensures { result ≡ edit_with forces (op_of op.now) }
 {
     Edit {
         start: op.span.start,
         end: op.span.end,
-        units: op.text.len(),
+        units: op.text.len() as u64,
         force: forces && op.force,
     }
 }

@@ -3,7 +3,7 @@
 ghost use Rattle.std.specs.Prelude.{◌≡◌, ◌+◌, ◌≤◌, ◌<◌, ◌^◌, IfOk, IfSome, length};
 ghost use Rattle.std.specs.List.{All};
 ghost use Rattle.edit_stack.specs.Element.{step_of};
-ghost use Rattle.batch_rules.specs.Batches.{most_units, text_units, FollowFrom};
+ghost use Rattle.batch_rules.specs.Batches.{most_units, applied_from, inverse_from, text_units, FollowFrom, StandFrom};
 ghost use Rattle.line_starts.specs.Starts.{break_count};
 ghost use Rattle.model_page.specs.declared.change.Change.TheVariants.{Ops};
 ghost use Rattle.model_page.specs.Changes.{ops_by};
@@ -15,8 +15,8 @@ use crate::placed::{PlacedBatch, PlacedRecast};
 use edit_batches::Batch;
 use edit_stack::Element;
 use line_starts::count_breaks;
-use std::alloc::AllocError;
-use text_buffer::Need;
+use std::alloc::{AllocError, Global};
+use text_buffer::{Need, TextBuffer};
 use text_rules::Op;
 
 /// Which way a page is led along changes.
@@ -58,6 +58,22 @@ pub enum Change {
     Endings(PlacedRecast),
 }
 
+impl Change {
+    /// The batch as a change, with the one that takes it back, where the text is the one before it.
+    pub fn of_batch(alloc: Global, batch: Batch, text: &TextBuffer) -> Result<Change, AllocError>
+        requires standing { StandFrom 0 text.now.units batch }
+        requires fits { length (applied_from 0 text.now.units batch) ≤ most_units }
+        ensures { IfOk result (λ change. change
+            ≡ Ops batch (inverse_from 0 0 text.now.units batch)) }
+    {
+        let inverse = PlacedBatch::inverse_of(alloc, &batch, text)?;
+        Ok(Change::Ops {
+            batch: PlacedBatch::of(alloc, batch)?,
+            inverse,
+        })
+    }
+}
+
 /// The one of the two batches that leads a text this way.
 pub(crate) fn batch_for<'b>(
     batch: &'b PlacedBatch,
@@ -78,8 +94,8 @@ pub fn need_of(change: &Change, way: Way) -> Need
     ensures { result ≡ need_of_ops (ops_by way change.now) }
 {
     match change {
-        Change::Ops { batch, inverse } => need_of_batch(batch_for(batch, inverse, way).batch()),
-        Change::Endings(recast) => need_of_whole(recast.side(way).units()),
+        Change::Ops { batch, inverse } => batch_for(batch, inverse, way).need(),
+        Change::Endings(recast) => need_of_text(recast.side(way).units()),
     }
 }
 
@@ -96,7 +112,7 @@ pub(crate) fn need_of_batch(batch: &Batch) -> Need
 }
 
 // What one op asks for that puts in these units.
-fn need_of_whole(units: &[u16]) -> Need
+pub(crate) fn need_of_text(units: &[u16]) -> Need
     ensures edits { result.edits ≡ 1 }
     ensures units { result.units ≡ length units.now }
     ensures breaks { result.breaks ≡ break_count units.now }

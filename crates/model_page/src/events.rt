@@ -17,7 +17,7 @@ pub fn batch_along(alloc: Global, change: &Change, way: Way) -> Result<Batch, Al
     ensures { IfOk result (λ batch. batch ≡ ops_by way change.now) }
 {
     match change {
-        Change::Ops { batch, inverse } => batch_for(batch, inverse, way).batch().copied(alloc),
+        Change::Ops { batch, inverse } => batch_for(batch, inverse, way).copied(alloc),
         Change::Endings(recast) => {
             let from = recast.side(way.other()).units().len() as u64;
             Batch::of_whole(alloc, from, recast.side(way).units())

@@ -5,7 +5,9 @@
 mod apply;
 mod brackets;
 mod change;
+mod compact;
 mod events;
+mod form;
 mod last_parse;
 mod page;
 mod placed;
@@ -13,6 +15,7 @@ mod plain;
 mod text_lines;
 
 pub use change::{Change, Way, need_of, need_of_step};
+pub use compact::LEAST_COMPACTED;
 pub use events::{batch_along, batches_along};
 pub use page::Page;
 pub use placed::{PlacedBatch, PlacedRecast};

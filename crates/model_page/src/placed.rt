@@ -1,71 +1,186 @@
 //! Changes with the places of their texts.
 
-ghost use Rattle.std.specs.Prelude.{◌≡◌, ◌≤◌, length};
+ghost use Rattle.std.specs.Prelude.{◌≡◌, ◌<◌, ◌≤◌, length, slice_index_or, IfOk};
 ghost use Rattle.unit_text.specs.Kinds.{IsOfKind};
-ghost use Rattle.batch_rules.specs.Batches.{most_units};
+ghost use Rattle.batch_rules.specs.Batches.{most_units, applied_from, inverse_from, text_units, StandFrom, FollowFrom};
 ghost use Rattle.decoration_rules.specs.Lines.{AreLineMoves};
 ghost use Rattle.recast_rules.specs.Moves.{line_moves, HaveSameContents};
 ghost use Rattle.model_page.specs.Changes.{text_from, text_to};
+ghost use Rattle.model_page.specs.Needs.{need_of_ops};
+ghost use Rattle.model_page.specs.Placed.{op_of};
 
-use crate::change::Way;
+use crate::change::{Way, need_of_batch, need_of_text};
+use crate::form::{Form, MOST_SHORT, Place, PlacedOps, short, short_inverse};
 use chunk_buffers::ChunkSpan;
 use edit_batches::Batch;
 use recasts::{Recast, Side};
 use std::alloc::{AllocError, Global};
 use std::cell::Cell;
 use std::marker::Model;
+use text_buffer::{Need, TextBuffer};
+use text_lengths::Span;
 use text_rules::Op;
-use unit_text::Flat;
-
-/// A batch of which no text has that many units keeps no places.
-const LEAST_PLACED: u64 = 4;
-
-/// Where a text lay in the buffers when it was last put into a document, if that is known.
-pub(crate) type Place = Cell<Option<ChunkSpan>>;
 
 /// A batch that is carried out time and again, with the places of its texts. Contracts see its ops: nothing rests on the places.
+///
+/// One op that puts at most four units in takes no memory of its own, and keeps no place.
 #[derive(Drop)]
 pub struct PlacedBatch {
-    batch: Batch,
-    /// One for each op, or none at all.
-    places: Vec<Place>,
+    form: Form,
 }
 
 impl Model for PlacedBatch {
     ghost use Rattle.std.specs.Prelude.{List};
     ghost use Rattle.text_rules.specs.declared.Op.{Op};
+    ghost use Rattle.model_page.specs.Placed.{ops_kept, IsKept};
 
     ghost Value = { List Op };
 
-    ghost view = { λ p. p.batch };
+    ghost view = { λ p. ops_kept p.form };
+
+    ghost invariant = { λ p. IsKept p.form };
+}
+
+/// One op of a batch, to read.
+#[derive(Clone, Copy)]
+pub(crate) struct OpView<'b> {
+    pub(crate) span: Span,
+    pub(crate) text: &'b [u16],
+    pub(crate) force: bool,
 }
 
 impl PlacedBatch {
-    /// The batch, which was not carried out yet. Where memory is short it keeps no places.
-    pub fn of(alloc: Global, batch: Batch) -> PlacedBatch
-        ensures { result ≡ batch }
+    /// The batch, which was not carried out yet.
+    pub fn of(alloc: Global, batch: Batch) -> Result<PlacedBatch, AllocError>
+        ensures { IfOk result (λ placed. placed ≡ batch) }
     {
-        let places = match places_for(alloc, batch.ops()) {
-            Ok(places) => places,
-            Err(_) => Vec::new(alloc),
+        let form = match batch.ops() {
+            [op] => short(op.span, op.text.as_slice(), op.force),
+            _ => None,
         };
-        PlacedBatch { batch, places }
+        match form {
+            Some(form) => Ok(PlacedBatch { form }),
+            None => PlacedBatch::of_many(alloc, batch),
+        }
     }
 
-    pub(crate) fn batch(&self) -> &Batch
-        ensures { result.now ≡ self.now }
+    fn of_many(alloc: Global, batch: Batch) -> Result<PlacedBatch, AllocError>
+        ensures { IfOk result (λ placed. placed ≡ batch) }
     {
-        &self.batch
+        let places = places_for(alloc, batch.ops())?;
+        let ops = Box::new(alloc, PlacedOps { batch, places })?;
+        Ok(PlacedBatch {
+            form: Form::Many(ops),
+        })
     }
 
-    pub(crate) fn places(&self) -> &[Place] {
-        self.places.as_slice()
+    /// The batch that takes this one back, where the text is the one before it. It reads the units that this one takes
+    /// away, and no others.
+    pub fn inverse_of(
+        alloc: Global,
+        batch: &Batch,
+        text: &TextBuffer,
+    ) -> Result<PlacedBatch, AllocError>
+        requires standing { StandFrom 0 text.now.units batch.now }
+        requires fits { length (applied_from 0 text.now.units batch.now) ≤ most_units }
+        ensures { IfOk result (λ placed. placed ≡ inverse_from 0 0 text.now.units batch.now) }
+    {
+        let form = match batch.ops() {
+            [op] => short_inverse(op, text),
+            _ => None,
+        };
+        match form {
+            Some(form) => Ok(PlacedBatch { form }),
+            None => PlacedBatch::of_many(alloc, batch.inverse(alloc, text)?),
+        }
+    }
+
+    /// How many ops it has.
+    pub(crate) fn len(&self) -> usize
+        ensures { result ≡ length self.now }
+    {
+        match &self.form {
+            Form::Short { .. } => 1,
+            Form::Many(kept) => kept.batch.ops().len(),
+        }
+    }
+
+    /// The op of that number.
+    pub(crate) fn op(&self, at: usize) -> OpView<'_>
+        requires { at < length self.now }
+        ensures { op_of result ≡ slice_index_or self.now at (op_of result) }
+    {
+        match &self.form {
+            Form::Short {
+                len,
+                force,
+                taken,
+                units,
+                start,
+            } => OpView {
+                span: Span {
+                    start: *start,
+                    end: *start + *taken as u64,
+                },
+                text: &units[..*len as usize],
+                force: *force,
+            },
+            Form::Many(kept) => {
+                let op = &kept.batch.ops()[at];
+                OpView {
+                    span: op.span,
+                    text: op.text.as_slice(),
+                    force: op.force,
+                }
+            }
+        }
+    }
+
+    /// What is known of the place of the text of that number.
+    pub(crate) fn known(&self, at: usize) -> Option<ChunkSpan> {
+        match &self.form {
+            Form::Short { .. } => None,
+            Form::Many(kept) => kept.places.get(at)?.get(),
+        }
+    }
+
+    /// Notes what is known now.
+    pub(crate) fn note(&self, at: usize, known: Option<ChunkSpan>) {
+        if let Form::Many(kept) = &self.form {
+            if let Some(place) = kept.places.get(at) {
+                place.set(known);
+            }
+        }
+    }
+
+    /// What its ops ask for.
+    pub(crate) fn need(&self) -> Need
+        requires { FollowFrom 0 self.now → text_units self.now ≤ most_units }
+        ensures { result ≡ need_of_ops self.now }
+    {
+        match &self.form {
+            Form::Short { len, units, .. } => need_of_text(&units[..*len as usize]),
+            Form::Many(kept) => need_of_batch(&kept.batch),
+        }
+    }
+
+    /// A copy of the batch by itself.
+    pub(crate) fn copied(&self, alloc: Global) -> Result<Batch, AllocError>
+        ensures { IfOk result (λ batch. batch ≡ self.now) }
+    {
+        match &self.form {
+            Form::Short { .. } => {
+                let op = self.op(0);
+                Batch::of_one(alloc, op.span, op.text, op.force)
+            }
+            Form::Many(kept) => kept.batch.copied(alloc),
+        }
     }
 }
 
-// A place for the text of each op, where one of them is long enough.
+// A place for the text of each op, where one of them is longer than what is kept in place.
 fn places_for(alloc: Global, ops: &[Op]) -> Result<Vec<Place>, AllocError> {
-    if ops.iter().all(|op| op.text.len() < LEAST_PLACED) {
+    if ops.iter().all(|op| op.text.as_slice().len() <= MOST_SHORT) {
         return Ok(Vec::new(alloc));
     }
     let mut places = Vec::with_capacity(alloc, ops.len())?;
@@ -75,21 +190,15 @@ fn places_for(alloc: Global, ops: &[Op]) -> Result<Vec<Place>, AllocError> {
     Ok(places)
 }
 
-/// What is known of the place of that number.
-pub(crate) fn known(places: &[Place], at: usize) -> Option<ChunkSpan> {
-    places.get(at)?.get()
-}
-
-/// Notes what is known now.
-pub(crate) fn note(places: &[Place], at: usize, known: Option<ChunkSpan>) {
-    if let Some(place) = places.get(at) {
-        place.set(known);
-    }
-}
-
 /// A recast that is carried out time and again, with the places of its two texts. Contracts see the recast: nothing rests on the places.
 #[derive(Drop)]
 pub struct PlacedRecast {
+    kept: Box<KeptRecast>,
+}
+
+/// A recast, and where its two texts lie.
+#[derive(Drop)]
+pub(crate) struct KeptRecast {
     recast: Recast,
     before: Place,
     after: Place,
@@ -100,19 +209,22 @@ impl Model for PlacedRecast {
 
     ghost Value = { RecastState };
 
-    ghost view = { λ p. p.recast };
+    ghost view = { λ p. p.kept.value.recast };
 }
 
 impl PlacedRecast {
     /// The recast, which was not carried out yet.
-    pub fn of(recast: Recast) -> PlacedRecast
-        ensures { result ≡ recast }
+    pub fn of(alloc: Global, recast: Recast) -> Result<PlacedRecast, AllocError>
+        ensures { IfOk result (λ placed. placed ≡ recast) }
     {
-        PlacedRecast {
+        let kept = KeptRecast {
             recast,
             before: Cell::new(None),
             after: Cell::new(None),
-        }
+        };
+        Ok(PlacedRecast {
+            kept: Box::new(alloc, kept)?,
+        })
     }
 
     /// The text that it leads to this way.
@@ -125,16 +237,16 @@ impl PlacedRecast {
         ensures fits { length result.now.units ≤ most_units }
     {
         match way {
-            Way::Back => self.recast.before(),
-            Way::On => self.recast.after(),
+            Way::Back => self.kept.recast.before(),
+            Way::On => self.kept.recast.after(),
         }
     }
 
     /// Where that text lies, if that is known.
     pub(crate) fn place(&self, way: Way) -> &Place {
         match way {
-            Way::Back => &self.before,
-            Way::On => &self.after,
+            Way::Back => &self.kept.before,
+            Way::On => &self.kept.after,
         }
     }
 }

@@ -1,6 +1,6 @@
 //! The shelf.
 
-ghost use Rattle.std.specs.Prelude.{◌≡◌, Err, ℕ, List, [], find, ◌++◌, OnErr, ◌||◌, nat_le, nat_lt, length};
+ghost use Rattle.std.specs.Prelude.{◌≡◌, Err, ℕ, List, [], find, ◌++◌, OnErr, ◌||◌, ◌==◌, nat_le, nat_lt, length};
 ghost use Rattle.std.specs.List.{All};
 ghost use Rattle.std.specs.Option.{option_copied};
 ghost use Rattle.chunk_buffers.specs.Chunks.{LiesIn};
@@ -62,6 +62,13 @@ impl Shelf {
         self.snapshots.push(kept).map_err(|_| ShelfError::Memory)?;
         self.next_id = id + 1;
         Ok(id)
+    }
+
+    /// Whether no snapshot is open.
+    pub fn is_empty(&self) -> bool
+        ensures { result ≡ (length self.now.snapshots == 0) }
+    {
+        self.snapshots.is_empty()
     }
 
     fn is_full(&self) -> bool

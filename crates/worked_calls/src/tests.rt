@@ -13,6 +13,7 @@ mod numbers;
 mod parts;
 mod prepared;
 mod reads;
+mod rewritten;
 mod searched;
 mod settled;
 mod states;

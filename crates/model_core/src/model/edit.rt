@@ -18,7 +18,7 @@ use crate::ready::{Action, Ready};
 use crate::walk::keep;
 use document_rules::ModelError;
 use edit_batches::{Batch, sorted_ops};
-use model_page::{Change, PlacedBatch, Way, need_of};
+use model_page::{Change, Way, need_of};
 use std::alloc::{AllocError, Global};
 use text_lengths::{Span, raised};
 use text_rules::Op;
@@ -83,13 +83,9 @@ impl Model {
         self.page.seek(&ops);
         let batch = Batch::checked(ops, self.page.text()).map_err(error_of)?;
         let next = raised(self.version, 1).ok_or(ModelError::Limit)?;
-        let inverse = batch
-            .inverse(self.alloc, self.page.text())
-            .map_err(|_| ModelError::Memory)?;
-        let change = Change::Ops {
-            batch: PlacedBatch::of(self.alloc, batch),
-            inverse: PlacedBatch::of(self.alloc, inverse),
-        };
+        let change = Change::of_batch(self.alloc, batch, self.page.text()).map_err(
+            |_| ModelError::Memory,
+        )?;
         self.history.reserve().map_err(|_| ModelError::Memory)?;
         self.page
             .reserve(need_of(&change, Way::On))
@@ -98,16 +94,26 @@ impl Model {
         Ok(Ready::making(next, kind, Action::Make(change)))
     }
 
-    /// Carries out what was prepared, which makes the next version, in the room that was made. It takes no memory. The
+    /// Carries out what was prepared, which makes the next version, in the room that was made: it needs no memory. The
     /// version and the kind of line ending are those that it was prepared on; for an edit the rule takes the batch as it stands, and its
     /// inverse is the one that was prepared; for other line endings the text is the one that was prepared, and the kind another; for
     /// an undo or redo there is a step. The tree of the last parse stays, and each line that
-    /// is touched is marked as new.
+    /// is touched is marked as new. A small text in many pieces may be written anew then, where there is memory for it.
     pub fn commit(&mut self, ready: Ready)
         requires can { CanCommit self.old ready }
         ensures document { Acts ready.action self.old.document self.new.document }
         ensures paired_state { ArePairedTexts ready.action
             → IsPairedState self.old.document → IsPairedState self.new.document }
+        ensures parse { HasActed ready.action self.old self.new }
+    {
+        self.act(ready);
+        self.compact();
+    }
+
+    // Carries out what was prepared.
+    fn act(&mut self, ready: Ready)
+        requires can { CanCommit self.old ready }
+        ensures document { Acts ready.action self.old.document self.new.document }
         ensures parse { HasActed ready.action self.old self.new }
     {
         let (version, action) = ready.into_parts();

@@ -53,7 +53,8 @@ impl Model {
         }
         let recast = Recast::of(self.alloc, self.page.text(), kind).map_err(recast_error_of)?;
         let next = raised(self.version, 1).ok_or(ModelError::Limit)?;
-        let change = Change::Endings(PlacedRecast::of(recast));
+        let placed = PlacedRecast::of(self.alloc, recast).map_err(|_| ModelError::Memory)?;
+        let change = Change::Endings(placed);
         self.history.reserve().map_err(|_| ModelError::Memory)?;
         self.page
             .reserve(need_of(&change, Way::On))

@@ -8,7 +8,7 @@ use Rattle.interval_deltas.proofs.names.Names.find.Goals as goal
 pub returns-in-Ok : goal.returns-in-Ok
 returns-in-Ok c =
     let es = c.self.inside.entries.items in let at = c.in-Ok.at in let entry = c.get.result.now in let stands = c.in-Ok.ensures in
-    ap (λ (e : Entry). e.node) (sym (get_or_from_slice_get es at entry entry c.get.ensures))
+    c.name.ensures ∙ ap (λ (e : Entry). e.node) (sym (get_or_from_slice_get es at entry entry c.get.ensures))
     ∙ sym (node_at es c.args.id at entry c.self.invariant.0 stands.0 (stands.1 entry))
     ∙ ap (λ (v : Named). node_of v.entries c.args.id) c.self.view_is
 

@@ -28,7 +28,7 @@ pub invariant_of-self : goal.invariant_of-self
 invariant_of-self c =
     let es = c.self.inside.entries.items in let at = c.in-Ok.at in let entry : Entry = record { id = c.args.id; node = None } in
     let some = subst (λ (v : Named). IsSome (node_of v.entries c.args.id)) (sym c.self.view_is) c.requires in
-    let is = ap (λ (p : Paged Entry). p.items) c.set.ensures in (
+    let is = ap (λ (p : Paged Entry). p.items) c.set.ensures ∙ ap (set es at) c.of.ensures in (
       rw is (IsById-set es at entry c.self.invariant.0 c.in-Ok.ensures.0 c.in-Ok.ensures.1),
       omega (arith, c.self.invariant.1, ap (count_by is_named) is, ap length is, length-set es at entry, count-forget es c.args.id at c.self.invariant.0 c.in-Ok.ensures some),
     )
@@ -37,19 +37,19 @@ pub returns-then-self-len-clause-node : goal.returns-then-self-len-clause-node
 returns-then-self-len-clause-node c =
     let es = c.self.inside.entries.items in let at = c.in-Ok.at in let entry : Entry = record { id = c.args.id; node = None } in
     subst (λ (v : Named). HasNode v.entries c.set.new.self.items c.args.id None) c.self.view_is
-    (rw (ap (λ (p : Paged Entry). p.items) c.set.ensures) (has_set es at entry entry c.self.invariant.0 c.in-Ok.ensures.0 (c.in-Ok.ensures.1 entry)))
+    (rw (ap (λ (p : Paged Entry). p.items) c.set.ensures ∙ ap (set es at) c.of.ensures) (has_set es at entry entry c.self.invariant.0 c.in-Ok.ensures.0 (c.in-Ok.ensures.1 entry)))
 
 pub returns-then-self-len-clause-count : goal.returns-then-self-len-clause-count
 returns-then-self-len-clause-count c =
     let some = subst (λ (v : Named). IsSome (node_of v.entries c.args.id)) (sym c.self.view_is) c.requires in
-    ap (λ (p : Paged Entry). count_by is_named p.items + 1) c.set.ensures
+    ap (λ (p : Paged Entry). count_by is_named p.items + 1) c.set.ensures ∙ ap (λ e. count_by is_named (set c.self.inside.entries.items c.in-Ok.at e) + 1) c.of.ensures
     ∙ count-forget c.self.inside.entries.items c.args.id c.in-Ok.at c.self.invariant.0 c.in-Ok.ensures some ∙ ap (λ (v : Named). count_by is_named v.entries) c.self.view_is
 
 pub invariant_of-self-else-self-len : goal.invariant_of-self-else-self-len
 invariant_of-self-else-self-len c =
     let es = c.self.inside.entries.items in let at = c.in-Ok.at in let entry : Entry = record { id = c.args.id; node = None } in
     let by_id = IsById-set es at entry c.self.invariant.0 c.in-Ok.ensures.0 c.in-Ok.ensures.1 in
-    let swept = ap (λ (p : Paged Entry). p.items) c.sweep.ensures ∙ ap (λ (p : Paged Entry). filter is_named p.items) c.set.ensures in (
+    let swept = ap (λ (p : Paged Entry). p.items) c.sweep.ensures ∙ ap (λ (p : Paged Entry). filter is_named p.items) c.set.ensures ∙ ap (λ e. filter is_named (set es at e)) c.of.ensures in (
       rw swept (AllPairs-filter (λ (a b : Entry). a.id < b.id) is_named (set es at entry) by_id),
       omega (arith, ap (count_by is_named) swept, ap length swept, count-swept (set es at entry), length-swept (set es at entry)),
     )
@@ -58,7 +58,7 @@ pub returns-else-self-len-clause-node : goal.returns-else-self-len-clause-node
 returns-else-self-len-clause-node c =
     let es = c.self.inside.entries.items in let at = c.in-Ok.at in let entry : Entry = record { id = c.args.id; node = None } in
     let by_id = IsById-set es at entry c.self.invariant.0 c.in-Ok.ensures.0 c.in-Ok.ensures.1 in
-    let swept = ap (λ (p : Paged Entry). p.items) c.sweep.ensures ∙ ap (λ (p : Paged Entry). filter is_named p.items) c.set.ensures in
+    let swept = ap (λ (p : Paged Entry). p.items) c.sweep.ensures ∙ ap (λ (p : Paged Entry). filter is_named p.items) c.set.ensures ∙ ap (λ e. filter is_named (set es at e)) c.of.ensures in
     subst (λ (v : Named). HasNode v.entries c.sweep.new.entries.items c.args.id None) c.self.view_is
     (rw swept (has_swept es (set es at entry) c.args.id None by_id (has_set es at entry entry c.self.invariant.0 c.in-Ok.ensures.0 (c.in-Ok.ensures.1 entry))))
 
@@ -66,14 +66,14 @@ pub returns-else-self-len-clause-count : goal.returns-else-self-len-clause-count
 returns-else-self-len-clause-count c =
     let es = c.self.inside.entries.items in let at = c.in-Ok.at in let entry : Entry = record { id = c.args.id; node = None } in
     let some = subst (λ (v : Named). IsSome (node_of v.entries c.args.id)) (sym c.self.view_is) c.requires in
-    let swept = ap (λ (p : Paged Entry). p.items) c.sweep.ensures ∙ ap (λ (p : Paged Entry). filter is_named p.items) c.set.ensures in
+    let swept = ap (λ (p : Paged Entry). p.items) c.sweep.ensures ∙ ap (λ (p : Paged Entry). filter is_named p.items) c.set.ensures ∙ ap (λ e. filter is_named (set es at e)) c.of.ensures in
     let shown = ap (λ (v : Named). count_by is_named v.entries) c.self.view_is in
     omega (arith, ap (count_by is_named) swept, shown, count-swept (set es at entry), count-forget es c.args.id at c.self.invariant.0 c.in-Ok.ensures some)
 
 pub returns-else-self-len-clause-room : goal.returns-else-self-len-clause-room
 returns-else-self-len-clause-room c =
     let es = c.self.inside.entries.items in let at = c.in-Ok.at in let entry : Entry = record { id = c.args.id; node = None } in
-    let swept = ap (λ (p : Paged Entry). p.items) c.sweep.ensures ∙ ap (λ (p : Paged Entry). filter is_named p.items) c.set.ensures in
+    let swept = ap (λ (p : Paged Entry). p.items) c.sweep.ensures ∙ ap (λ (p : Paged Entry). filter is_named p.items) c.set.ensures ∙ ap (λ e. filter is_named (set es at e)) c.of.ensures in
     let room = ap (λ (p : Paged Entry). p.capacity) c.sweep.ensures ∙ ap (λ (p : Paged Entry). p.capacity) c.set.ensures in
     let spare = ap (λ (v : Named). v.spare) c.self.view_is in
     omega (arith, spare, room, ap length swept, length-swept (set es at entry), count_by-le-length is_named (set es at entry), length-set es at entry)

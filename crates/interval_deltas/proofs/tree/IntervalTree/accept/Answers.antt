@@ -8,6 +8,7 @@ use Rattle.decoration_rules.specs.Marks.{in_order}
 use Rattle.interval_deltas.specs.Kept.{moved_items}
 use Rattle.interval_deltas.specs.Tree.{Shown}
 use Rattle.interval_deltas.proofs.Lists.{length-marks}
+use Rattle.interval_deltas.proofs.Own.{own_all_changed}
 use Rattle.interval_deltas.proofs.Trees.{marks_all_changed, names_changed, can_move, lengths_changed, distinct_all_changed}
 use Rattle.interval_deltas.proofs.tree.IntervalTree.accept.Goals as goal
 
@@ -29,6 +30,7 @@ invariant_of-self c =
       values = c.move_in_order.ensures.values;
       ordered = c.move_in_order.ensures.ordered;
       distinct = distinct_all_changed (moved_mark edit) (keeps edit) old new whole inv.distinct;
+      own = own_all_changed (moved_mark edit) old new whole inv.own;
       named = λ k. inv.named k ∙ names_changed (moved_mark edit) (keeps edit) old new whole inv.distinct k;
       all = inv.all ∙ sym (lengths_changed (moved_mark edit) (keeps edit) old new whole);
     }

@@ -4,6 +4,7 @@ use Rattle.decoration_rules.specs.Lines.{carried_mark, carried_with_lines}
 use Rattle.interval_deltas.specs.Kept.{changed_items}
 use Rattle.interval_deltas.specs.Tree.{Shown}
 use Rattle.interval_deltas.proofs.Lists.{length-marks}
+use Rattle.interval_deltas.proofs.Own.{own_all_changed}
 use Rattle.interval_deltas.proofs.Trees.{marks_all_changed, names_changed, lengths_changed, distinct_all_changed}
 use Rattle.interval_deltas.proofs.tree.IntervalTree.carry.Goals as goal
 
@@ -18,6 +19,7 @@ invariant_of-self c =
       values = c.carry_in_order.ensures.values;
       ordered = c.carry_in_order.ensures.ordered;
       distinct = distinct_all_changed to (λ _. refl) old new whole inv.distinct;
+      own = own_all_changed to old new whole inv.own;
       named = λ k. inv.named k ∙ names_changed to (λ _. refl) old new whole inv.distinct k;
       all = inv.all ∙ sym (lengths_changed to (λ _. refl) old new whole);
     }

@@ -1,12 +1,14 @@
-use Rattle.std.proofs.Common.{◌≡◌, ◌∷◌, ◌++◌, ℕ, true, cond, eqb, length, Some, None, sym, ◌∙◌, ap, subst, arith}
+use Rattle.std.proofs.Common.{◌≡◌, ◌∷◌, ◌++◌, ℕ, true, cond, eqb, [], length, Some, None, sym, ◌∙◌, ap, subst, arith}
 use Rattle.std.proofs.lemmas.Bool.{both_ways}
 use Rattle.std.proofs.lemmas.List.{length-append}
+use Rattle.rb_arena.specs.Names.{HaveOwnNames}
 use Rattle.decoration_rules.specs.Marks.{is_live, IsInOrder, HasDistinctIds, without}
 use Rattle.interval_deltas.specs.Weave.{is_mark}
 use Rattle.interval_deltas.specs.Kept.{AreMarks, marks_of}
 use Rattle.interval_deltas.specs.Tree.{Shown, node_in}
 use Rattle.interval_deltas.proofs.Items.{each_without, ordered_without}
 use Rattle.interval_deltas.proofs.Lists.{node_some, mark_none, fresh_at, taken_out, distinct_without}
+use Rattle.interval_deltas.proofs.Own.{own_without}
 use Rattle.interval_deltas.proofs.Trees.{node_without}
 use Rattle.interval_deltas.proofs.tree.IntervalTree.remove.Goals as goal
 
@@ -33,6 +35,7 @@ invariant_of-self c =
       values = subst AreMarks (sym left) (each_without is_mark us (node, m) vs (subst AreMarks is inv.values));
       ordered = subst (λ l. IsInOrder (marks_of l)) (sym left) (ordered_without us (node, m) vs (subst (λ l. IsInOrder (marks_of l)) is inv.ordered));
       distinct = subst (λ l. HasDistinctIds (marks_of l)) (sym left) (distinct_without us (node, m) vs distinct);
+      own = subst (λ l. HaveOwnNames l []) (sym left) (own_without us (node, m) vs (subst (λ l. HaveOwnNames l []) is inv.own));
       named = λ k.
           c.forget.ensures.node k ∙ ap (λ o. cond (eqb k c.args.id) None o) (inv.named k ∙ ap (λ l. node_in l k) is)
           ∙ ap (λ (n : ℕ). cond (eqb k n) None (node_in (us ++ (node, m) ∷ vs) k)) (sym same)

@@ -1,4 +1,3 @@
-use Rattle.std.proofs.Common.{arith}
 use Rattle.model_core.proofs.Alone.{can_commit_closed, acted_alone, left_alone}
 use Rattle.model_core.proofs.model.Model.commit_alone.Goals as goal
 

@@ -1,16 +1,22 @@
-use Rattle.std.proofs.Common.{◌≡◌, ◌+◌, ◌≤◌, ap, subst, arith}
+use Rattle.std.proofs.Common.{◌≡◌, ◌+◌, ◌≤◌, ◌∙◌, Ok, refl, ap, subst, arith}
 use Rattle.std.proofs.lemmas.Grind.{common_steps}
-use Rattle.batch_rules.specs.Batches.{checked_batch, ops_in, inverse_from}
+use Rattle.batch_rules.specs.Batches.{checked_batch, sorted_ops, ops_in, inverse_from}
 use Rattle.edit_batches.specs.Outcomes.{Checks}
 use Rattle.text_buffer.specs.Text.{Text}
 use Rattle.batch_rules.proofs.Standing.{accepted, text_units_applied}
 use Rattle.document_rules.specs.Document.{greatest_version}
 use Rattle.model_core.specs.State.{ModelState}
+use Rattle.model_page.specs.declared.change.Change.{Change}
+use Rattle.model_page.specs.declared.change.Change.TheVariants.{Ops}
+use Rattle.model_page.specs.declared.change.Way.TheVariants.{On}
+use Rattle.model_page.specs.Changes.{ops_by}
+use Rattle.model_page.specs.Needs.{need_of_ops}
 use Rattle.model_page.specs.State.{PageState, IsUntouched, flat_text}
+use Rattle.model_core.specs.declared.ready.Action.TheVariants.{Make}
 use Rattle.model_core.proofs.Untouched.{history_untouched, shelf_untouched, document_untouched}
 use Rattle.model_core.proofs.Preparing.{told_of_all, accepted_of_all, edit_ready}
 use Rattle.model_core.proofs.model.Model.prepare.Goals as goal
-use Rattle.model_core.proofs.model.Model.prepare.Goals.{After-checked, After-reserve-2}
+use Rattle.model_core.proofs.model.Model.prepare.Goals.{After-checked, After-raised, After-reserve, After-reserve-2}
 
 -- the page is as it was before the look-up, too
 kept : (c : After-reserve-2) → IsUntouched c.self.inside.page c.reserve-2.new.self
@@ -20,12 +26,26 @@ kept c = subst (λ (page : PageState). IsUntouched page c.reserve-2.new.self) c.
 told : (c : After-checked) → Checks c.checked.result (checked_batch c.seek.new.self.text.kind c.seek.new.self.text.units c.in_ok-ops.ops.items)
 told c = subst (λ (t : Text). Checks c.checked.result (checked_batch t.kind t.units c.in_ok-ops.ops.items)) c.text.ensures.text c.checked.ensures.rule
 
+-- the ops in their order
+sorted_at : (c : After-checked) → c.in_ok-ops.ops.items ≡ sorted_ops c.args.ops.items
+sorted_at c = grind (arith, common_steps)
+
+-- what was told is the batch
+taken : (c : After-raised) → c.checked.result ≡ Ok c.in_ok-batch.batch
+taken c = grind (arith, common_steps)
+
+-- it is kept with the one that takes it back
+changed : (c : After-reserve) → c.in_ok-change.change ≡ Ops c.in_ok-batch.batch (inverse_from 0 0 c.seek.new.self.text.units c.in_ok-batch.batch)
+changed c = grind (arith, common_steps)
+
 pub need_of-requires : goal.need_of-requires
 need_of-requires c =
     let x = c.seek.new.self.text in
-    let rule = accepted_of_all (flat_text x) c.args.ops.items c.in_ok-ops.ops.items c.in_ok-batch.batch c.checked.result (grind (arith, common_steps)) (told (goal.at.need_of-requires c).After-checked) (grind (arith, common_steps)) in
+    let rule = accepted_of_all (flat_text x) c.args.ops.items c.in_ok-ops.ops.items c.in_ok-batch.batch c.checked.result
+    (sorted_at (goal.at.need_of-requires c).After-checked) (told (goal.at.need_of-requires c).After-checked) (taken (goal.at.need_of-requires c).After-raised) in
     let ok = accepted x.kind x.units (ops_in x.kind c.args.ops.items) c.in_ok-batch.batch rule in
-    rw c.of.ensures (omega (arith, text_units_applied 0 x.units c.in_ok-batch.batch ok.standing, ok.fits))
+    let is = changed (goal.at.need_of-requires c).After-reserve in
+    rw is (omega (arith, text_units_applied 0 x.units c.in_ok-batch.batch ok.standing, ok.fits))
 
 pub invariant_of-self-in_err-map_err-2 : goal.invariant_of-self-in_err-map_err-2
 invariant_of-self-in_err-map_err-2 c =
@@ -70,20 +90,22 @@ returns-clause-ready c =
     let sorted = c.in_ok-batch.batch in
     let text = c.reserve-2.ensures.same.units in
     let kind = c.reserve-2.ensures.same.kind in
-    let rule = accepted_of_all (flat_text x) c.args.ops.items c.in_ok-ops.ops.items sorted c.checked.result (grind (arith, common_steps)) (told (goal.at.returns-clause-ready c).After-checked) (grind (arith, common_steps)) in
-    let inverse : c.in_ok-inverse.inverse ≡ inverse_from 0 0 x.units sorted = grind (arith, common_steps) in
+    let rule = accepted_of_all (flat_text x) c.args.ops.items c.in_ok-ops.ops.items c.in_ok-batch.batch c.checked.result
+    (sorted_at (goal.at.returns-clause-ready c).After-checked) (told (goal.at.returns-clause-ready c).After-checked) (taken (goal.at.returns-clause-ready c).After-raised) in
+    let is = changed (goal.at.returns-clause-ready c).After-reserve in
+    let need : c.need_of.result ≡ need_of_ops sorted = c.need_of.ensures ∙ ap (λ (change : Change). need_of_ops (ops_by On change)) is in
     let next : c.in_ok-next.next ≡ m.version + 1 = grind (arith, common_steps) in
     let last : c.in_ok-next.next ≤ greatest_version = grind (arith, common_steps) in
-    edit_ready _ c.args.ops.items sorted c.in_ok-inverse.inverse c.making.result (rw (text, kind) rule) (rw text inverse)
-    (rw (← c.of.ensures) (rw (← c.of-2.ensures) c.making.ensures.action))
+    edit_ready _ c.args.ops.items sorted (inverse_from 0 0 x.units sorted) c.making.result (rw (text, kind) rule) (rw text refl)
+    (c.making.ensures.action ∙ ap (λ (change : Change). Make change) is)
     (omega (arith, next, c.making.ensures.version)) (grind (arith, common_steps)) (omega (arith, next, last))
     (record {
       text = record {
-        edits = grind (arith, common_steps);
-        units = grind (arith, common_steps);
-        breaks = grind (arith, common_steps);
+        edits = grind (arith, common_steps, need);
+        units = grind (arith, common_steps, need);
+        breaks = grind (arith, common_steps, need);
       };
-      marks = grind (arith, common_steps);
+      marks = grind (arith, common_steps, need);
       changes = grind (arith, common_steps);
     })
 

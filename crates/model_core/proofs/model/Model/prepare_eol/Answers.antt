@@ -1,9 +1,14 @@
-use Rattle.std.proofs.Common.{◌≡◌, ◌+◌, ◌≤◌, false, length, ap, arith}
+use Rattle.std.proofs.Common.{◌≡◌, ◌+◌, ◌≤◌, ◌∙◌, false, length, ap, arith}
 use Rattle.std.proofs.lemmas.Grind.{common_steps}
 use Rattle.unit_text.specs.Kinds.{normalized}
 use Rattle.batch_rules.specs.Batches.{most_units}
 use Rattle.recast_rules.specs.Recasts.{RecastState}
 use Rattle.document_rules.specs.Document.{greatest_version, is_same_kind}
+use Rattle.model_page.specs.declared.change.Change.TheVariants.{Endings}
+use Rattle.model_page.specs.declared.change.Way.TheVariants.{On}
+use Rattle.model_page.specs.Changes.{ops_by}
+use Rattle.model_page.specs.Needs.{need_of_ops}
+use Rattle.model_core.specs.declared.ready.Action.TheVariants.{Make}
 use Rattle.model_core.specs.State.{ModelState}
 use Rattle.model_core.proofs.Untouched.{history_untouched, shelf_untouched, document_untouched}
 use Rattle.model_core.proofs.Preparing.{eol_ready}
@@ -57,15 +62,17 @@ returns-clause-ready c =
     let is : recast ≡ record { before = m.page.text.units; from = m.page.text.kind; after = normalized kind m.page.text.units; to = kind } =
     grind (arith, common_steps) in
     let fits : length recast.after ≤ most_units = grind (arith, common_steps) in
+    let placed : c.in_ok-placed.placed ≡ recast = grind (arith, common_steps) in
+    let need : c.need_of.result ≡ need_of_ops (ops_by On (Endings recast)) = c.need_of.ensures ∙ ap (λ (r : RecastState). need_of_ops (ops_by On (Endings r))) placed in
     eol_ready _ kind recast c.making.result (rw same.kind other) (rw (same.units, same.kind) is)
     (rw same.units (omega (arith, fits, ap (λ (r : RecastState). length r.after) is)))
-    (rw (← c.of-2.ensures) c.making.ensures.action) (omega (arith, next, c.making.ensures.version)) (grind (arith, common_steps)) (omega (arith, next, last))
+    (c.making.ensures.action ∙ ap (λ (r : RecastState). Make (Endings r)) placed) (omega (arith, next, c.making.ensures.version)) (grind (arith, common_steps)) (omega (arith, next, last))
     (record {
       text = record {
-        edits = grind (arith, common_steps);
-        units = grind (arith, common_steps);
-        breaks = grind (arith, common_steps);
+        edits = grind (arith, common_steps, need);
+        units = grind (arith, common_steps, need);
+        breaks = grind (arith, common_steps, need);
       };
-      marks = grind (arith, common_steps);
+      marks = grind (arith, common_steps, need);
       changes = grind (arith, common_steps);
     })

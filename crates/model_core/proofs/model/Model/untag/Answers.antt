@@ -1,10 +1,8 @@
 use Rattle.std.proofs.Common.{◌≡◌, ap, sym, subst, ◌∙◌}
-use Rattle.undo_rules.specs.Stack.{Stack}
-use Rattle.document_rules.specs.Document.{FlatState, flat_untag}
+use Rattle.document_rules.specs.Document.{flat_untag}
 use Rattle.document_rules.specs.Paired.{IsPairedState}
 use Rattle.document_rules.proofs.PairedStates.{untagged_paired}
 use Rattle.snapshots.specs.Shown as shelves
-use Rattle.model_page.specs.declared.change.Change.{Change}
 use Rattle.model_page.specs.State.{flat_text}
 use Rattle.model_core.specs.History.{IsHistory, HasLatest}
 use Rattle.model_core.specs.State.{ModelState}

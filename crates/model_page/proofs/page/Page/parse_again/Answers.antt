@@ -1,4 +1,4 @@
-use Rattle.std.proofs.Common.{◌≡◌, Some, List, length, ap, sym, subst, ◌∙◌}
+use Rattle.std.proofs.Common.{◌≡◌, length, ap, subst, ◌∙◌}
 use Rattle.hiding_rules.specs.Hidden.{scanner}
 use Rattle.hiding_rules.specs.Rows.{hidden_rows}
 use Rattle.bracket_tree_rules.specs.Told.{IsTreeOf}
@@ -8,7 +8,6 @@ use Rattle.document_rules.specs.Brackets.{line_contents}
 use Rattle.model_page.specs.Counting.{TakesFewSteps}
 use Rattle.model_page.specs.Staying.{AreSettled, IsParseOf}
 use Rattle.model_page.specs.State.{PageState}
-use Rattle.model_page.specs.View.{page_of}
 use Rattle.model_page.proofs.SettledLines.{settled_count, settled_agrees, settled_asks, few_steps_settled}
 use Rattle.model_page.proofs.TextLines.{some_lines}
 use Rattle.model_page.proofs.page.Page.parse_again.Goals as goal

@@ -1,0 +1,7 @@
+use Rattle.std.proofs.Common.{subst}
+use Rattle.model_page.specs.Placed.{IsKept}
+use Rattle.model_page.proofs.placed.PlacedBatch.op.Goals as goal
+
+-- the text has no more units than there is room for
+pub shared_ref_as_front-result : goal.shared_ref_as_front-result
+shared_ref_as_front-result c = (subst IsKept c.in-Short.is c.self.invariant).0

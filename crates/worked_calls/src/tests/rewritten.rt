@@ -1,0 +1,94 @@
+//! A small text in many pieces, which is written anew, beside a plain list of its units; and short and longer ops, which the
+//! history keeps in two forms.
+
+use super::documents::open;
+use model_core::Model;
+use std::alloc::{AllocError, Global};
+use std::test::Fail;
+use text_lengths::Span;
+
+const LETTER: u16 = 0x61;
+
+/// At version 2,048 the text lies in more than 1,024 pieces, and is written anew.
+const LEN: usize = 6_000;
+
+const EDITS: usize = 2_200;
+
+/// The plain list at the end, and the text: after the edits, when they are undone, and when they are made again.
+#[derive(Drop)]
+struct Texts {
+    plain: Vec<u16>,
+    edited: Vec<u16>,
+    undone: Vec<u16>,
+    redone: Vec<u16>,
+}
+
+#[test]
+fn a_text_in_many_pieces_is_the_plain_one(rt: HostRuntime) -> Result<(), Fail> {
+    let texts = texts_in_turn(rt.alloc())?;
+    let first = letters(rt.alloc())?;
+    assert!(rt; texts.edited.as_slice() == texts.plain.as_slice());
+    assert!(rt; texts.undone.as_slice() == first.as_slice());
+    assert!(rt; texts.redone.as_slice() == texts.plain.as_slice());
+    Ok(())
+}
+
+fn texts_in_turn(alloc: Global) -> Result<Texts, Fail> {
+    let mut model = Model::new(alloc);
+    edit_and_undo(alloc, &mut model)
+}
+
+fn edit_and_undo(alloc: Global, model: &mut Model) -> Result<Texts, Fail> {
+    let plain = edit_beside(alloc, model)?;
+    let edited = text_of(alloc, model)?;
+    model.undo()?;
+    let undone = text_of(alloc, model)?;
+    model.redo()?;
+    let redone = text_of(alloc, model)?;
+    Ok(Texts {
+        plain,
+        edited,
+        undone,
+        redone,
+    })
+}
+
+fn edit_beside(alloc: Global, model: &mut Model) -> Result<Vec<u16>, Fail> {
+    let mut plain = letters(alloc)?;
+    open(model, plain.as_slice())?;
+    for turn in 0..EDITS {
+        edit(model, &mut plain, turn)?;
+    }
+    Ok(plain)
+}
+
+fn letters(alloc: Global) -> Result<Vec<u16>, AllocError> {
+    let mut units = Vec::new(alloc);
+    units.resize(LEN, LETTER)?;
+    Ok(units)
+}
+
+/// Puts other units in the place of one, or of nine each seventh time, in both.
+fn edit(model: &mut Model, plain: &mut Vec<u16>, turn: usize) -> Result<(), Fail> {
+    let at = turn.wrapping_mul(2_741) % (LEN - 9);
+    let len = if turn % 7 == 0 { 9 } else { 1 };
+    let letter = LETTER + 1 + (turn % 20) as u16;
+    let units = [letter; 9];
+    let span = Span {
+        start: at as u64,
+        end: (at + len) as u64,
+    };
+    model.replace(span, &units[..len])?;
+    for place in at..at + len {
+        if let Some(unit) = plain.get_mut(place) {
+            *unit = letter;
+        }
+    }
+    Ok(())
+}
+
+fn text_of(alloc: Global, model: &Model) -> Result<Vec<u16>, AllocError> {
+    let mut units = Vec::new(alloc);
+    model.text(&mut units)?;
+    Ok(units)
+}
