@@ -10,6 +10,7 @@ CHUNK = 15_000_000  # units that one script line may bring in: less than 2^24 by
 MILLION = 1_000_000
 ORDERS = ("rising", "falling", "mixed")
 MARKS = (1_000, 30_000)  # how many decorations
+MANY_MARKS = (*MARKS, 100_000)  # the same, where an edit stands among them
 WAYS = (("one a line", False), ("all in one line", True))
 
 Lines = list[str]
@@ -347,8 +348,8 @@ def groups(values: list, at_once: bool) -> list[list]:
 def decoration_cases(scale: Scale) -> Iterator[Case]:
     """Edits among decorations, and decorations added and removed."""
     document = plain(MILLION)
-    full = {count: [*document, decorate([], marks(count, "mixed"))] for count in MARKS}
-    for count in MARKS:
+    full = {count: [*document, decorate([], marks(count, "mixed"))] for count in MANY_MARKS}
+    for count in MANY_MARKS:
         lines, refused = among(count, scale.count // 50)
         yield Case("edit, then ask where one is", f"{count:,}", full[count], lines, refused, scale.texts[1][1])
     for way, at_once in WAYS:

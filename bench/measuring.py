@@ -57,21 +57,40 @@ def run_once(command: list[str], case: Case, folder: Path) -> tuple[Measured, in
     return measured, clocks[2]
 
 
-def repeated(once: Callable[[], tuple[Run, int]], enough: float) -> list[Run]:
-    """What a few runs gave, each of which tells its processor time too: no more begin when they have taken enough."""
-    runs, spent = [], 0
-    while not runs or (len(runs) < MOST_RUNS and spent < enough * 1e9):
-        measured, took = once()
-        runs.append(measured)
-        spent += took
+def in_turn(onces: list[Callable[[], tuple[Run, int]]], enough: float) -> list[list[Run]]:
+    """What a few runs of each gave. A run tells its processor time too: no more of a kind begin when they have taken enough.
+    They take turns, so that what else the machine does for a while meets all kinds alike."""
+    runs, spent = [[] for _ in onces], [0] * len(onces)
+    for turn in range(MOST_RUNS):
+        for kind, once in enumerate(onces):
+            if turn == 0 or spent[kind] < enough * 1e9:
+                measured, took = once()
+                runs[kind].append(measured)
+                spent[kind] += took
     return runs
 
 
-def measure(program: Program, case: Case, enough: float, folder: Path) -> Measured:
-    """The least that the program took for the case in a few runs."""
-    runs = repeated(partial(run_once, program.command, case, folder), enough)
-    refused = min(run.refused for run in runs) if case.refused else None
+def repeated(once: Callable[[], tuple[Run, int]], enough: float) -> list[Run]:
+    """The same of one kind."""
+    return in_turn([once], enough)[0]
+
+
+def least_of(runs: list[Measured]) -> Measured:
+    """The least time of some runs of one case, and the most memory."""
+    refused = None if runs[0].refused is None else min(run.refused for run in runs)
     return Measured(min(run.line for run in runs), refused, max(run.kib for run in runs), runs[0].replies)
+
+
+def measure_all(parts: list[tuple[Program, Case]], enough: float, folder: Path) -> dict[str, Measured]:
+    """The least that each program took for its part of a case."""
+    onces = [partial(run_once, program.command, part, folder) for program, part in parts]
+    runs = in_turn(onces, enough)
+    return {program.name: least_of(own) for (program, _), own in zip(parts, runs, strict=True)}
+
+
+def measure(program: Program, case: Case, enough: float, folder: Path) -> Measured:
+    """The same of one program."""
+    return measure_all([(program, case)], enough, folder)[program.name]
 
 
 def compare(case: Case, part: Case, ours: Measured, theirs: Measured, name: str) -> None:

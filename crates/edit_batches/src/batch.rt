@@ -105,9 +105,7 @@ impl Batch {
         ensures { IfOk result (λ b. b
             ≡ record { span = span; text = units.now; force = force } ∷ []) }
     {
-        let text = Units::copy_of(alloc, units)?;
-        let mut ops = Vec::with_capacity(alloc, 1)?;
-        ops.push(Op { span, text, force })?;
+        let ops = one_op(alloc, span, units, force)?;
         Ok(Batch { ops })
     }
 
@@ -133,6 +131,17 @@ impl Batch {
     {
         length_after(len, &self.ops)
     }
+}
+
+/// A list of the one edit that puts these units in the place of the span.
+pub fn one_op(alloc: Global, span: Span, units: &[u16], force: bool) -> Result<Vec<Op>, AllocError>
+    ensures { IfOk result (λ ops. ops.items
+        ≡ record { span = span; text = units.now; force = force } ∷ []) }
+{
+    let text = Units::copy_of(alloc, units)?;
+    let mut ops = Vec::with_capacity(alloc, 1)?;
+    ops.push(Op { span, text, force })?;
+    Ok(ops)
 }
 
 fn copies_of(alloc: Global, ops: &[Op]) -> Result<Vec<Op>, AllocError>

@@ -8,7 +8,7 @@ mod inverse;
 mod kinds;
 mod order;
 
-pub use batch::Batch;
+pub use batch::{Batch, one_op};
 pub use batch_rules::BatchError;
 pub use event::Event;
 pub use order::sorted_ops;

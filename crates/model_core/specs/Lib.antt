@@ -1,5 +1,6 @@
 pub mod Errors
 pub mod State
+pub mod Compact
 pub mod History
 pub mod Edited
 pub mod Replaced

@@ -84,16 +84,6 @@ pub record KeepsParse (old new : ModelState) : Type 0 where
   pub pieces : new.pieces ≡ old.pieces
   pub room : KeepsRoom old.room new.room
 
--- the document and the last parse are as they were, and the text lies in no more pieces than before
-pub record IsCompacted (old new : ModelState) : Type 0 where
-  pub document : new.document ≡ old.document
-  pub parsed : new.parsed ≡ old.parsed
-  pub tree : new.tree ≡ old.tree
-  pub marks : new.marks ≡ old.marks
-  pub states : new.states ≡ old.states
-  pub fresh : new.fresh ≡ old.fresh
-  pub pieces : new.pieces ≤ old.pieces
-
 -- What a question about brackets leaves: it parses the text where the tree is not that of the text of now, asks for the
 -- lines alone that are new or begin in another state, and keeps each line then. An error leaves all as it was. Room that was there stays.
 pub record Renews {A : Type 0} (result : Result A ModelError) (old new : ModelState) : Type 0 where

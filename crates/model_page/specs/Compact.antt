@@ -1,8 +1,17 @@
--- What a page is after its text was written anew.
-use Rattle.std.specs.Prelude.{◌≡◌, ◌≤◌, length}
+-- When a text is written anew, and what its page is then.
+use Rattle.std.specs.Prelude.{◌≡◌, ◌≤◌, ◌&&◌, nat_le, Bool, length}
 use Rattle.text_buffer.specs.Text.{Text}
 use Rattle.model_page.specs.State.{PageState, KeepsParse, flat_text}
-use Rattle.model_page.specs.declared.compact.TheConstants.{LEAST_COMPACTED}
+use Rattle.model_page.specs.declared.compact.TheConstants.{LEAST_COMPACTED, MOST_COMPACTED}
+
+-- a small text in many pieces
+abbrev pub is_scattered : Text → Bool
+is_scattered text = nat_le (length text.units) MOST_COMPACTED && nat_le LEAST_COMPACTED (length text.spans)
+
+-- the same text, in one piece
+pub record IsCompactOf (old new : Text) : Type 0 where
+  pub text : flat_text new ≡ flat_text old
+  pub one : length new.spans ≤ 1
 
 -- the same page, whose text lies in no more pieces than before
 pub record IsCompacted (old new : PageState) : Type 0 where
@@ -11,9 +20,3 @@ pub record IsCompacted (old new : PageState) : Type 0 where
   pub decorations : new.decorations ≡ old.decorations
   pub marks : new.marks ≡ old.marks
   pub parse : KeepsParse old new
-
--- a text that lay in many pieces, in one
-pub record IsCompactOf (old new : Text) : Type 0 where
-  pub text : flat_text new ≡ flat_text old
-  pub many : LEAST_COMPACTED ≤ length old.spans
-  pub one : length new.spans ≤ 1

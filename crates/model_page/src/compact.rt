@@ -1,7 +1,7 @@
 //! A small text in many pieces, written anew.
 
-ghost use Rattle.std.specs.Prelude.{◌≡◌, ◌<◌, ◌≤◌, length, IfOk, IfSome};
-ghost use Rattle.model_page.specs.Compact.{IsCompacted, IsCompactOf};
+ghost use Rattle.std.specs.Prelude.{◌≡◌, ◌≢◌, ◌≤◌, true, Ok, length, IfOk, IfSome, is_some};
+ghost use Rattle.model_page.specs.Compact.{IsCompacted, IsCompactOf, is_scattered};
 
 use crate::page::Page;
 use std::alloc::AllocError;
@@ -13,33 +13,31 @@ use unit_text::Flat;
 pub const LEAST_COMPACTED: usize = 1_024;
 
 /// A text of more units than that stays in its pieces, so that no edit waits long for it.
-const MOST_COMPACTED: u64 = 1 << 18;
-
-/// And one of more units than that for each piece, so that what is copied is paid for by the edits that made the pieces.
-const MOST_EACH: u64 = 128;
+pub const MOST_COMPACTED: u64 = 1 << 18;
 
 impl Page {
-    /// Writes a text of at most 2^18 units anew, into one piece, where it lies in 1,024 pieces or more, of 128 units or fewer in the
-    /// mean. The buffers with all that was taken out go. Where memory is short it does nothing.
-    pub fn compact(&mut self)
+    /// Writes a text of at most 2^18 units that lies in 1,024 pieces or more anew, into one piece, and tells whether it was one. The
+    /// buffers with all that was taken out go. Where memory is short the page stays as it is.
+    pub fn compact(&mut self) -> Result<bool, AllocError>
         ensures page { IsCompacted self.old self.new }
-        ensures seldom { length self.old.text.spans < LEAST_COMPACTED → self.new ≡ self.old }
+        ensures answer { IfOk result (λ written. written ≡ is_scattered self.old.text) }
+        ensures written { result ≡ Ok true → length self.new.text.spans ≤ 1 }
+        ensures same { result ≢ Ok true → self.new ≡ self.old }
     {
-        if let Ok(Some(text)) = self.compacted() {
-            self.text = text;
-        }
+        let Some(text) = self.compacted()? else {
+            return Ok(false);
+        };
+        self.text = text;
+        Ok(true)
     }
 
     // The text in one piece; None where it stays as it is.
     fn compacted(&self) -> Result<Option<TextBuffer>, AllocError>
-        ensures { IfOk result (λ text. IfSome text (IsCompactOf self.now.text)) }
+        ensures found { IfOk result (λ found. is_some found ≡ is_scattered self.now.text) }
+        ensures text { IfOk result (λ found. IfSome found (IsCompactOf self.now.text)) }
     {
         let len = self.text.len();
-        if len > MOST_COMPACTED {
-            return Ok(None);
-        }
-        let pieces = self.piece_count()?;
-        if pieces < LEAST_COMPACTED || len / MOST_EACH > pieces as u64 {
+        if len > MOST_COMPACTED || self.piece_count()? < LEAST_COMPACTED {
             return Ok(None);
         }
         let mut units = Vec::new(self.alloc);

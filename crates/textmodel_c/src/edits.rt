@@ -15,6 +15,7 @@ use crate::document::FIRST;
 use crate::handle::Handle;
 use crate::opening::kind_of;
 use crate::status::Status;
+use edit_batches::one_op;
 use model_core::{ModelError, Op, Position, Span, Units};
 use model_group::Group;
 use std::alloc::{AllocError, Global};
@@ -28,15 +29,6 @@ pub struct BatchOp {
     pub end: u64,
     pub units: u64,
     pub force: bool,
-}
-
-fn one_op(alloc: Global, span: Span, text: &[u16], force: bool) -> Result<Vec<Op>, AllocError>
-    ensures { IfOk result (λ ops. ops.items ≡ one_op span text.now force) }
-{
-    let text = Units::copy_of(alloc, text)?;
-    let mut ops = Vec::with_capacity(alloc, 1)?;
-    ops.push(Op { span, text, force })?;
-    Ok(ops)
 }
 
 fn edit_span(

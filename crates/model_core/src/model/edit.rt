@@ -17,12 +17,11 @@ use crate::model::Model;
 use crate::ready::{Action, Ready};
 use crate::walk::keep;
 use document_rules::ModelError;
-use edit_batches::{Batch, sorted_ops};
+use edit_batches::{Batch, one_op, sorted_ops};
 use model_page::{Change, Way, need_of};
-use std::alloc::{AllocError, Global};
 use text_lengths::{Span, raised};
 use text_rules::Op;
-use unit_text::{Flat, Units};
+use unit_text::Flat;
 
 impl Model {
     /// Carries out the edits at once, which makes the next version. `Range` where a span is none of the text; else
@@ -69,7 +68,7 @@ impl Model {
     pub fn replace(&mut self, span: Span, text: &[u16]) -> Result<(), ModelError>
         ensures { HasEdited (one_edit span text.now) result self.old self.new }
     {
-        let ops = one_op(self.alloc, span, text).map_err(|_| ModelError::Memory)?;
+        let ops = one_op(self.alloc, span, text, false).map_err(|_| ModelError::Memory)?;
         self.edit(ops)
     }
 
@@ -107,7 +106,8 @@ impl Model {
         ensures parse { HasActed ready.action self.old self.new }
     {
         self.act(ready);
-        self.compact();
+        // Where memory is short the text stays in its pieces.
+        let _written = self.compact();
     }
 
     // Carries out what was prepared.
@@ -155,18 +155,4 @@ impl Model {
         self.alternative = version;
         self.latest = Some(Latest::Made);
     }
-}
-
-// The op that puts these units in the place of the span, and forces no decoration.
-fn one_op(alloc: Global, span: Span, text: &[u16]) -> Result<Vec<Op>, AllocError>
-    ensures { IfOk result (λ ops. ops.items ≡ one_edit span text.now) }
-{
-    let text = Units::copy_of(alloc, text)?;
-    let mut ops = Vec::with_capacity(alloc, 1)?;
-    ops.push(Op {
-        span,
-        text,
-        force: false,
-    })?;
-    Ok(ops)
 }

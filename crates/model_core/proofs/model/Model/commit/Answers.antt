@@ -6,5 +6,5 @@ use Rattle.model_core.proofs.model.Model.commit.Goals as goal
 
 pub returns-clause-paired_state : goal.returns-clause-paired_state
 returns-clause-paired_state c =
-    let done = subst (λ (f : FlatState). Acts c.args.ready.action c.args.self.now.document f) (sym c.compact.ensures.model.document) c.act.ensures.document in
-    IsPairedState-acted c.args.ready.action c.args.self.now.document c.compact.new.self.document done
+    let done = subst (λ (f : FlatState). Acts c.args.ready.action c.args.self.now.document f) (sym c.compact-written.ensures.model.document) c.act.ensures.document in
+    IsPairedState-acted c.args.ready.action c.args.self.now.document c.compact-written.new.self.document done
