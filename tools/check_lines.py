@@ -1,12 +1,14 @@
 #!/usr/bin/env -S python3 -B
 """Tells which lines of a script are no command, at which byte, and why.
 
-./textmodel check FILE
+./textmodel check [FILE]     standard input where none is named, or `-`
 
-A line of the answer is FILE:LINE:BYTE: WHY, both counted from 1. These are exactly the lines to which `textmodel run`
-replies `! syntax`, and those too long, to which it replies `! limit`. The status is 0 where there is none, 1 where
-there is one, 2 where the words are wrong, and 4 where the file could not be read. docs/SCRIPT.md has the rules of a line.
+A line of the answer is FILE:LINE:BYTE: WHY, both counted from 1, with `<stdin>` for standard input. These are exactly the
+lines to which `textmodel run` replies `! syntax`, and those too long, to which it replies `! limit`. The status is 0 where
+there is none, 1 where there is one, 2 where the words are wrong, 4 where the script could not be read, and 5 where the
+answer could not be written. docs/SCRIPT.md has the rules of a line.
 """
+import contextlib
 import difflib
 import json
 import math
@@ -24,7 +26,7 @@ MOST_PAIRS = 64
 MOST_BRACKET_UNITS = 32
 MOST_QUOTES = 8
 KINDS = ("lf", "crlf")
-USAGE, UNREADABLE = 2, 4
+USAGE, UNREADABLE, UNWRITTEN = 2, 4, 5
 SHOWN = 40
 
 BLANKS = b" \t\r"
@@ -536,21 +538,61 @@ def faults_in(lines: Iterable[bytes]) -> Iterator[tuple[int, Fault]]:
             yield line_number, fault
 
 
+def tell_of(name: str, lines: Iterable[bytes]) -> int:
+    """Prints where and why lines are no commands, and returns how many are not."""
+    found = 0
+    for line_number, fault in faults_in(lines):
+        print(f"{name}:{line_number}:{fault.at + 1}: {fault.why}")
+        found += 1
+    return found
+
+
+class Unreadable(Exception):
+    """Why the script could not be read."""
+
+
+def say(why: str) -> None:
+    with contextlib.suppress(OSError):
+        print(f"textmodel: {why}", file=sys.stderr)
+
+
+def lines_of(name: str) -> Iterator[bytes]:
+    """The lines of the file of this name, or of standard input for `-`."""
+    try:
+        if name == "-" and sys.stdin is None:
+            raise Unreadable("it is closed")
+        with sys.stdin.buffer if name == "-" else open(name, "rb") as lines:
+            yield from lines
+    except OSError as fault:
+        raise Unreadable(fault.strerror) from None
+
+
+def check_script(name: str) -> int:
+    """Tells of the lines of a script; the status."""
+    try:
+        return 1 if tell_of("<stdin>" if name == "-" else name, lines_of(name)) else 0
+    except Unreadable as fault:
+        say(f"{'standard input' if name == '-' else name}: {fault}")
+        return UNREADABLE
+
+
 def main() -> int:
     signal.signal(signal.SIGPIPE, signal.SIG_DFL)  # so that `| head` ends it quietly
-    if len(sys.argv) != 2 or sys.argv[1].startswith("-"):
-        print("usage: textmodel check FILE", file=sys.stderr)
+    words = sys.argv[1:]
+    if len(words) > 1 or words and words[0].startswith("-") and words[0] != "-":
+        print("usage: textmodel check [FILE]", file=sys.stderr)
         return USAGE
-    found = 0
+    if sys.stdout is None:
+        say("standard output is closed")
+        return UNWRITTEN
     try:
-        with open(sys.argv[1], "rb") as lines:
-            for line_number, fault in faults_in(lines):
-                print(f"{sys.argv[1]}:{line_number}:{fault.at + 1}: {fault.why}")
-                found += 1
+        status = check_script(words[0] if words else "-")
+        sys.stdout.flush()
+        return status
     except OSError as fault:
-        print(f"textmodel: {sys.argv[1]}: {fault.strerror}", file=sys.stderr)
-        return UNREADABLE
-    return 1 if found else 0
+        say(f"standard output: {fault.strerror}")
+        sys.stdout = None  # or Python would try again at its end
+        return UNWRITTEN
 
 
 if __name__ == "__main__":

@@ -88,3 +88,13 @@ keep_program() {
     return 1
   fi
 }
+
+# ---- signals
+
+# Ends this shell by a signal. A shell ignores SIGQUIT, so a program takes its place for that.
+end_by() {
+  trap - "$1"
+  ulimit -c 0
+  [ "$1" = QUIT ] && exec env kill -s QUIT $$
+  kill -s "$1" $$
+}
