@@ -1,7 +1,8 @@
 #!/usr/bin/env -S python3 -B
 """A client to copy: starts the program, and edits a document as an editor would.
 
-examples/client.py [PROGRAM]     the one that ./build and .ci/run leave, where none is named
+examples/client.py [PROGRAM]     the one that ./build and .ci/run leave, where none is named; it may be ./textmodel, which runs
+                                 an unproved one too, as ./build --unproved makes it in a minute or two
 
 Each call is a line of JSON to the program and a line of it back. `Client` is all that another program needs. It is for one
 thread, and wants a system with `poll`. Offsets count UTF-16 units from 0, lines and columns count from 1, columns in units
@@ -29,6 +30,8 @@ PIECE = 1 << 16
 BESIDE = 1 << 15
 CHECKER = HERE.parent / "tools" / "check_lines.py"
 IN_PROCESS = "--library"  # what is told in place of a program
+NO_PROGRAM = """there is no proved program: ./build makes it
+PROGRAM may be ./textmodel, which runs an unproved one until then; ./build --unproved makes that in a minute or two"""
 
 Command = dict[str, Any]
 Marks = dict[str, str | list[str]]
@@ -321,9 +324,14 @@ def client_of(program: str) -> Client:
 
 
 def program_of(words: list[str]) -> str:
-    """The program that is named, or the proved one."""
+    """The program that is named, or the proved one. What is not there is told now, not at the first document."""
     if not words and not PROVED.exists():
-        raise SystemExit("there is no proved program yet: ./build makes it")
+        raise SystemExit(NO_PROGRAM)
+    if words == [IN_PROCESS]:
+        try:
+            client_of(IN_PROCESS).close()
+        except (ImportError, OSError) as error:
+            raise SystemExit(f"no library: {error}") from None
     return words[0] if words else str(PROVED)
 
 

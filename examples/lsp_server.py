@@ -14,7 +14,8 @@ neovim, in init.lua, and emacs with eglot, in init.el (for PATH put the folder o
 Where a file's last line has no break, and where a buffer was emptied, neovim 0.7 tells a server wrongly of changes at the end of
 the text; `flags = {allow_incremental_sync = false}` beside `cmd` lets it tell the whole text.
 
-examples/lsp_server.py [--test] [PROGRAM]     the program that ./build and .ci/run leave, where none is named
+examples/lsp_server.py [--test] [PROGRAM]     the program that ./build and .ci/run leave, where none is named; it may be
+                                              ./textmodel, which runs an unproved one too, as ./build --unproved makes it
 examples/lsp_server.py [--test] --library     no program: the documents are in this process, by python/textmodel.py
 
 With --test it answers `lodvark/text` too, with the text that it holds of a document.

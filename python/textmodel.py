@@ -17,13 +17,15 @@ kind of Python's own: `PlaceError` of IndexError, `MissingError` of KeyError, `O
 A document stays on the thread that made it, and ThreadError, a RuntimeError, is raised on any other. Calls on documents of
 several threads go on at once.
 
-The library, libtextmodel.so, is the one that the environment variable TEXTMODEL_LIBRARY names, else the one beside this file,
-else the one that the loader finds.
+The library, libtextmodel.so, is the one that the environment variable TEXTMODEL_LIBRARY names, else the one beside this file.
+In a checkout it is then the one in bin/ or, with a RuntimeWarning that nothing of it is proved, in bin/unproved_library. Else it is
+the one that the loader finds.
 """
 import ctypes
 import enum
 import operator
 import os
+import warnings
 import weakref
 from codecs import utf_16_le_decode
 from pathlib import Path
@@ -37,6 +39,7 @@ __all__ = [
 ]  # fmt: skip
 
 MOST_NUMBER = 2**64 - 1
+__version__ = "0.4.0"
 NAME = "libtextmodel.so"
 VARIABLE = "TEXTMODEL_LIBRARY"
 MAJOR = 0
@@ -319,11 +322,29 @@ CALLS = {
 }
 
 
+def found_library() -> str:
+    """The path of the library, or its name where the loader is to find it."""
+    here = Path(__file__).resolve().parent
+    checkout = here.parent / "bin" if (here.parent / "crates.txt").exists() else None
+    unproved = checkout and checkout / "unproved_library" / NAME
+    beside = Path(__file__).with_name(NAME)
+    if beside.exists():
+        return str(beside)
+    if checkout and (checkout / NAME).exists():
+        return str(checkout / NAME)
+    if unproved and unproved.exists():
+        warnings.warn(f"{unproved} is not proved, and slower; ./build makes the proved one", RuntimeWarning, stacklevel=2)
+        return str(unproved)
+    return NAME
+
+
 def loaded() -> ctypes.CDLL:
     """The library; OSError where there is none, and ImportError where it is of another major version."""
-    beside = Path(__file__).with_name(NAME)
-    found = os.environ.get(VARIABLE) or (str(beside) if beside.exists() else NAME)
-    library = ctypes.CDLL(found)
+    found = os.environ.get(VARIABLE) or found_library()
+    try:
+        library = ctypes.CDLL(found)
+    except OSError as error:
+        raise OSError(f"{error}; in a checkout ./build --unproved makes one, and {VARIABLE} may name another") from None
     library.tm_version.argtypes, library.tm_version.restype = [], NUMBER
     if library.tm_version() // 10_000 != MAJOR:
         raise ImportError(f"{found}: its major version is {library.tm_version() // 10_000}, and {MAJOR} is wanted")

@@ -98,3 +98,14 @@ end_by() {
   [ "$1" = QUIT ] && exec env kill -s QUIT $$
   kill -s "$1" $$
 }
+
+# at_end FUNCTION: it is called before this shell ends, also by a signal.
+at_end() {
+  local signal
+  # shellcheck disable=SC2064
+  trap "$1" EXIT
+  for signal in HUP INT TERM; do
+    # shellcheck disable=SC2064
+    trap "trap - EXIT; $1; end_by $signal" "$signal"
+  done
+}

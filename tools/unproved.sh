@@ -1,5 +1,6 @@
 # shellcheck shell=bash
-# Builds the program without proofs: for scripts that set `top`, source programs.sh, and tell their users by `say`.
+# Builds the program without proofs: for scripts that set `top`, source programs.sh, tell their users by `say`, and call
+# `stop_building` before they end.
 
 # How often a stage is told of again where standard error is no terminal, in seconds.
 told_each=10
@@ -51,13 +52,8 @@ tell_stage() {
 
 stop_building() {
   [ -n "$building" ] && kill "$building" 2> /dev/null && wait "$building"
-  rm -rf "$building_room"
-}
-
-stop_building_by() {
-  trap - EXIT
-  stop_building
-  end_by "$1"
+  [ -n "$building_room" ] && rm -rf "$building_room"
+  building="" building_room=""
 }
 
 # Waits until the program is built and runs, and sets `made` to it. A stage lasts until the next one is seen.
@@ -74,19 +70,14 @@ await_program() {
   done
   [ -t 2 ] && printf '\r\033[K' >&2
   [ -n "$made" ] || return
-  say "$((SECONDS - since)) s: the unproved program is built"
+  say "$((SECONDS - since)) s: the program is built, without proofs"
 }
 
 # Lets `rt try` build the program without proofs. It keeps nothing, so it is given a long script to play, and the program
 # is copied meanwhile. Standard input is left alone: it is the user's.
 build_unproved() {
-  local sum made="" signal status=0
+  local sum made="" status=0
   building_room=$(mktemp -d) || return
-  trap stop_building EXIT
-  for signal in HUP INT TERM; do
-    # shellcheck disable=SC2064
-    trap "stop_building_by $signal" "$signal"
-  done
   sum=$(cd "$top" && sources_sum src)
   (cd "$top/crates/textmodel" && TMPDIR=$building_room exec rt try --steps 1 -- play 10000000 1) \
     < /dev/null > "$building_room/log" 2>&1 &
@@ -99,6 +90,5 @@ build_unproved() {
     status=1
   fi
   stop_building
-  trap - EXIT HUP INT TERM
   return $status
 }
