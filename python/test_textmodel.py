@@ -34,7 +34,6 @@ from textmodel import (  # noqa: E402
     LimitError,
     MissingError,
     NewDecoration,
-    NoMemoryError,
     OverlapError,
     Partner,
     PlaceError,

@@ -6,6 +6,7 @@ tools/at_terminal.py PROGRAM     what `textmodel run` starts where standard inpu
 Each line goes to `PROGRAM run`, and its reply to standard output. It ends as the program ends, with its status or by its signal.
 """
 import contextlib
+import importlib
 import os
 import signal
 import subprocess
@@ -13,7 +14,7 @@ import sys
 
 # Lines can be edited and called back where Python has this, and are not cut at 4,095 bytes then.
 with contextlib.suppress(ImportError):
-    import readline  # noqa: F401
+    importlib.import_module("readline")
 
 # The checker needs a newer Python than this does.
 try:
