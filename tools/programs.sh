@@ -33,7 +33,8 @@ paths_that_count() {
 }
 
 # The size of each path of standard input, and the time of its last change of whatever kind, which nobody can set.
-sizes_and_times() { (cd "$top" && exec xargs -s 1000000 -d '\n' stat -c '%s %.Z' -- 2> /dev/null); }
+# It is for a subshell, whose place it takes.
+sizes_and_times() { cd "$top" && exec xargs -s 1000000 -d '\n' stat -c '%s %.Z' -- 2> /dev/null; }
 
 # Puts lines into a file at once, so that no other run reads a part of them. Where bin/ cannot be written nothing is kept.
 keep_lines() {
