@@ -40,7 +40,7 @@ sizes_and_times() { cd "$top" && exec xargs -s 1000000 -d '\n' stat -c '%s %.Z' 
 keep_lines() {
   local file=$1 new
   shift
-  new=$(mktemp "$file.XXXXXX" 2> /dev/null) && printf '%s\n' "$@" > "$new" && mv "$new" "$file"
+  new=$(mktemp "$file.XXXXXX" 2> /dev/null) && printf '%s\n' "$@" > "$new" && chmod 644 "$new" && mv "$new" "$file"
 }
 
 # Sets `sum` to that of the sources of now. To make it takes some tenths of a second, which a start has not, so it is kept
