@@ -26,6 +26,10 @@ NOT_READ, NOT_WRITTEN = 4, 5
 SIGNALS = (signal.SIGHUP, signal.SIGINT, signal.SIGQUIT, signal.SIGTERM)
 
 
+class NotRead(Exception):
+    """What is typed can be read no more, as where the terminal is gone."""
+
+
 class Signalled(BaseException):
     """A signal that ends the run: raised, so that the terminal is left as it was."""
 
@@ -52,6 +56,8 @@ def typed_lines():
             line = input()
         except EOFError:
             return
+        except OSError:
+            raise NotRead from None
         yield line.encode(sys.stdin.encoding, "surrogateescape")
 
 
@@ -62,7 +68,7 @@ def tell_why(line, number):
 
 
 def converse(program):
-    """Hands the program a line at a time; whether all replies could be written."""
+    """Hands the program a line at a time, as long as lines and replies come."""
     for number, line in enumerate(typed_lines(), 1):
         program.stdin.write(line + b"\n")
         program.stdin.flush()
@@ -87,6 +93,9 @@ def status_of(words):
         return program.wait()
     except BrokenPipeError:
         return program.wait()
+    except NotRead:
+        program.kill()
+        return NOT_READ
     except OSError:
         program.kill()
         return NOT_WRITTEN
@@ -97,6 +106,7 @@ def status_of(words):
 
 
 def main():
+    sys.stdin.reconfigure(errors="surrogateescape")
     take_signals()
     try:
         status = status_of(sys.argv[1:])
