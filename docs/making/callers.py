@@ -191,7 +191,7 @@ def callers(sources):
     calls = collections.defaultdict(set)
     for function in sources.functions:
         calls[function.key] |= Body(sources, function).calls
-    tests = {name for name, crate in sources.known.items() if crate.group.startswith(("Tests", "Benches"))}
+    tests = set(sources.known) - crates.shipped(sources.known)
     own = {it.trait for it in sources.functions if it.trait == it.owner}
     # what std calls: a drop, a conversion by `?`
     silent = [it for it in sources.functions if it.trait and it.trait not in own and it.crate not in tests]
@@ -207,8 +207,7 @@ def callers(sources):
 
 def public(sources):
     """The public functions and methods of the crates of program and library, but for exports to C."""
-    shipped = [name for name, crate in sources.known.items() if not crate.group.startswith(("Tests", "Benches"))]
-    handed_on = {name: exported(name) for name in shipped}
+    handed_on = {name: exported(name) for name in crates.shipped(sources.known)}
     for it in sources.functions:
         is_open = it.is_public or (it.trait and it.trait == it.owner)
         if it.crate in handed_on and is_open and not it.is_export and (it.owner or it.name) in handed_on[it.crate]:
