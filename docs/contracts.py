@@ -1,9 +1,11 @@
 """The contracts in crates/*/src as text: which clauses a function has, and where their words are defined."""
 import re
+import sys
 from pathlib import Path
 from typing import NamedTuple
 
 ROOT = Path(__file__).resolve().parent.parent
+sys.path.append(str(ROOT / "tools"))  # where crates.py stands
 IMPORT = re.compile(r"\s*(?:ghost )?use Rattle\.(\w+)\.specs\.([\w.]+?)\.\{(.*)\}")
 FUNCTION = re.compile(r'( *)(pub )?(?:pub\(\w+\) )?(?:extern "C" )?fn (\w+)')
 CLAUSE = re.compile(r" *(requires|ensures)\*? (?:(\w+) )?\{")
