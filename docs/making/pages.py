@@ -1,5 +1,7 @@
 """The made parts of pages: what stands between `made: NAME` and `end of NAME`, each in a comment of the page's language."""
 import difflib
+import importlib.machinery
+import importlib.util
 import sys
 from pathlib import Path
 from typing import NamedTuple
@@ -64,3 +66,11 @@ def difference(page, before, after):
     """How the page differs from what it is to be, in words."""
     told = [*difflib.unified_diff(before.split("\n"), after.split("\n"), page, f"{page}, made", n=0, lineterm="")]
     return "\n".join([*told[:SHOWN], *(["and more"] if len(told) > SHOWN else [])])
+
+
+def script(path):
+    """A script of the repository as a module, of which only functions are called."""
+    loader = importlib.machinery.SourceFileLoader(Path(path).name, str(ROOT / path))
+    module = importlib.util.module_from_spec(importlib.util.spec_from_loader(loader.name, loader))
+    loader.exec_module(module)
+    return module
