@@ -64,6 +64,9 @@ def fuzz_faults():
     for name, (wanted, table) in tables.items():
         if table and kinds_of(table) != wanted:
             yield f"{place}: `{name}` has {kinds_of(table)}, and docs/commands.json {wanted}"
+    several = {*language()["of_every_command_but"]}
+    makers = importlib.import_module("scripts").MAKERS
+    yield from unlike("fuzz/scripts.py: MAKERS", {*makers} & {*module.COMMANDS}, {*module.COMMANDS} - several)
     for name, most in language()["limits"].items():
         if getattr(module, name, most) != most:
             yield f"{place}: {name} is {getattr(module, name)}, and {most} in docs/commands.json"
@@ -118,25 +121,16 @@ def script_faults():
     yield from unlike(str(table.relative_to(ROOT)), {*found} - several, {*names} - several)
 
 
-def told_of(paragraph):
-    """The commands that a paragraph of the page is on."""
-    return [command for command in commands() if f"**`{command.name}`**" in paragraph]
-
-
 def sentence_faults():
-    paragraphs = (ROOT / "docs/SCRIPT.md").read_text().split("\n\n")
-    told = {command.name: set() for command in commands()}
-    seen = set()
-    for paragraph in paragraphs:
-        of = told_of(paragraph)
-        seen |= {command.name for command in of}
-        reasons = set(REASON.findall(paragraph)) - {"syntax"}
-        for command in of:
-            told[command.name] |= reasons
-    yield from unlike("docs/SCRIPT.md, the paragraphs", seen, told)
-    for command in commands():
-        if missing := set(command.refused) - told[command.name]:
-            yield f"docs/SCRIPT.md: the paragraph of `{command.name}` does not name {', '.join(sorted(missing))}"
+    """The paragraphs on commands name each of them, and the reasons of those that they are on."""
+    seen = []
+    for paragraph in (ROOT / "docs/SCRIPT.md").read_text().split("\n\n"):
+        of = [command for command in commands() if f"**`{command.name}`**" in paragraph]
+        seen += [command.name for command in of]
+        place = f"docs/SCRIPT.md: the paragraph of {', '.join(command.name for command in of)}"
+        wanted = {reason for command in of for reason in command.refused}
+        yield from unlike(place, set(REASON.findall(paragraph)) - {"syntax"}, wanted) if of else []
+    yield from unlike("docs/SCRIPT.md: the paragraphs", seen, [command.name for command in commands()])
 
 
 def parts():

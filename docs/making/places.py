@@ -26,7 +26,7 @@ BESIDE = [
     ("fuzz/all_commands.jsonl", r"", "a line of it"),
     ("bench/flat.c", r"", "what it does to the flat document in C, where it is measured"),
     ("crates/*/src/**/every_command.rt", r"EVERY_COMMAND", "a line of it"),
-    ("crates/*/src/**/flat_document.rt", r"", "what it does to the flat document of the generated tests"),
+    ("crates/*/src/**/flat_document.rt", r"", "what it does to the flat document of the generated tests, where they are to play it"),
 ]
 
 
