@@ -9,9 +9,10 @@ import functools
 import re
 
 from making.pages import Part
-from making.sources import ALIAS, CAPITAL, bare, exported, fields_in, files, functions_in
+from making.sources import ALIAS, CAPITAL, bare, fields_in, files, functions_in
 
 import crates
+from contracts import exported
 
 # Calls that answer what they are called on, or a part of it that is of the same types.
 SAME = {
@@ -36,10 +37,8 @@ class Sources:
                 self.fields[name].add((owner, written))
                 self.structs[owner].add((name, written))
         self.by_name = collections.defaultdict(list)
-        self.by_owner = collections.defaultdict(list)
         for function in self.functions:
             self.by_name[function.name].append(function)
-            self.by_owner[function.owner].append(function)
         self.owners = {it.owner for it in self.functions} | set(self.structs)
 
     @functools.cache

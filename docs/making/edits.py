@@ -35,10 +35,6 @@ def fault_of(edit, crate):
     return None if pairs else "it changes nothing"
 
 
-def parts():
-    return []
-
-
 def faults():
     """What is wrong with the edits of the gate and with those beside it, in words."""
     known = crates.read()

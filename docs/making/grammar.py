@@ -133,10 +133,6 @@ def sentence_faults():
     yield from unlike("docs/SCRIPT.md: the paragraphs", seen, [command.name for command in commands()])
 
 
-def parts():
-    return []
-
-
 def faults():
     """What differs, in words."""
     for check in (fuzz_faults, flat_faults, definition_faults, script_faults, sentence_faults):

@@ -22,10 +22,6 @@ def words():
     return found
 
 
-def parts():
-    return []
-
-
 def faults():
     known = words() | OF_THE_KIT
     for page in PAGES:

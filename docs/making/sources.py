@@ -9,7 +9,6 @@ OWNER = re.compile(r"(?:pub(?:\(\w+\))? )?(impl|trait)\b(.*)")
 FUNCTION = re.compile(r'(?:(pub)(\(\w+\))? )?(?:extern "C" )?fn (\w+)')
 TYPE = re.compile(r"(?:pub(?:\(\w+\))? )?(struct|enum|trait|type) (\w+)")
 FIELD = re.compile(r"    (?:pub(?:\(\w+\))? )?(\w+): (.+),$")
-EXPORT = re.compile(r"^pub use (\w+)::(?:\{([^}]*)\}|(\w+));", re.M)
 CLAUSES = {"requires", "ensures", "invariant", "decreases", "ghost"}
 ALIAS = re.compile(r"^(?:pub(?:\(\w+\))? )?type (\w+)(?:<.*?>)? = (.*);", re.M)
 CAPITAL = re.compile(r"\b[A-Z]\w*")
@@ -159,13 +158,3 @@ def fields_in(text):
             owner = ""
         elif owner and (match := FIELD.match(line)):
             yield owner, match[1], match[2]
-
-
-def exported(crate):
-    """The names that a crate hands on of its own: what its lib.rt names of its modules, or has itself."""
-    lib = ROOT / "crates" / crate / "src/lib.rt"
-    text = lib.read_text() if lib.exists() else ""
-    own = re.findall(r"^(?:pub )?mod (\w+);", text, re.M)
-    names = [many or one for module, many, one in EXPORT.findall(text) if module in own]
-    itself = re.findall(r"^pub (?:struct|enum|trait|fn) (\w+)", text, re.M)
-    return {name.split(" as ")[-1].strip() for listed in [*names, *itself] for name in listed.split(",")}
