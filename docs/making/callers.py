@@ -28,18 +28,18 @@ class Sources:
     def __init__(self):
         self.known = crates.read()
         self.functions, self.aliases = [], {}
-        self.fields, self.structs = collections.defaultdict(set), collections.defaultdict(set)
+        self.fields = collections.defaultdict(set)
         for crate, path in files():
             text = bare(path.read_text())
             self.functions += functions_in(crate, text)
             self.aliases.update(ALIAS.findall(text))
             for owner, name, written in fields_in(text):
                 self.fields[name].add((owner, written))
-                self.structs[owner].add((name, written))
         self.by_name = collections.defaultdict(list)
         for function in self.functions:
             self.by_name[function.name].append(function)
-        self.owners = {it.owner for it in self.functions} | set(self.structs)
+        self.owners = {it.owner for it in self.functions} | {owner for of in self.fields.values() for owner, _ in of}
+        self.errors = {owner for owner in self.owners if owner.endswith(("Error", "Fault", "Refused", "Refusal"))}
 
     @functools.cache
     def near(self, crate):
@@ -66,6 +66,7 @@ class Body:
         self.sources, self.function, self.tokens = sources, function, function.tokens
         self.types = {name: sources.types_in(written, function.owner) for name, written in function.parameters.items()}
         self.types["self"] = {function.owner} if function.owner else None
+        self.matched = None  # the types of what the last `match` is of
         self.calls = set()
         self.read()
 
@@ -77,6 +78,10 @@ class Body:
             after = tokens[at + 1] if at + 1 < len(tokens) else ""
             if token == "let":
                 self.bind(at)
+            elif token == "match":
+                self.matched = self.type_before(self.block_behind(at) - 1)
+            elif after == "(" and tokens[at + 3 : at + 4] == [")"]:
+                self.bind_in_pattern(token, before, at)
             if not re.match(r"[A-Za-z_]", token) or before == "fn":
                 continue
             if before == "." and after in ("(", "::"):
@@ -103,6 +108,28 @@ class Body:
         if len(names) == 1 or (names and ":" in tokens[at:end]):
             written = " ".join(tokens[at:end]).partition(" : ")[2]
             self.types[names[0]] = self.sources.types_in(written, self.function.owner) or self.type_before(stop - 1)
+
+    def block_behind(self, at):
+        """Where the block begins behind the expression that begins here."""
+        depth = 0
+        for to in range(at, len(self.tokens)):
+            if self.tokens[to] == "{" and depth == 0:
+                return to
+            depth += (self.tokens[to] in "([") - (self.tokens[to] in ")]")
+        return at
+
+    def bind_in_pattern(self, token, before, at):
+        """The types of the variable that a pattern of one variant makes, if these tokens are one."""
+        name = self.tokens[at + 2]
+        if self.tokens[at + 4 : at + 5] not in (["=>"], ["if"], ["|"]):
+            return
+        if token in ("Some", "Ok"):
+            self.types[name] = self.matched
+        elif token == "Err":
+            self.types[name] = self.sources.errors
+        elif before == "::":
+            owner = self.function.owner if self.tokens[at - 2] == "Self" else self.tokens[at - 2]
+            self.types[name] = self.type_of_field(token, {owner})
 
     def type_before(self, at):
         """The types of the expression that ends with this token; None where they are not known."""
@@ -158,7 +185,9 @@ class Body:
         near = self.sources.below(self.function.crate)
         found = [it for it in self.sources.by_name[name] if it.owner and (it.trait or it.crate in near)]
         of_these = [it for it in found if not on or it.owner in on or it.trait in on]
-        self.calls |= {it.key for it in of_these or found}
+        if on is not self.sources.errors:
+            of_these = of_these or found
+        self.calls |= {it.key for it in of_these}
 
     def call_path(self, name, before):
         """A call, or a name handed on, as `Owner::name` or `module::name`."""

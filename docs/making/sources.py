@@ -8,6 +8,7 @@ TOKEN = re.compile(r'//[^\n]*|b?"(?:\\.|[^"\\])*"|r#"(?s:.*?)"#|\'(?:\\.|[^\'\\\
 OWNER = re.compile(r"(?:pub(?:\(\w+\))? )?(impl|trait)\b(.*)")
 FUNCTION = re.compile(r'(?:(pub)(\(\w+\))? )?(?:extern "C" )?fn (\w+)')
 TYPE = re.compile(r"(?:pub(?:\(\w+\))? )?(struct|enum|trait|type) (\w+)")
+VARIANT = re.compile(r"    (\w+)\((.+)\),$")
 FIELD = re.compile(r"    (?:pub(?:\(\w+\))? )?(\w+): (.+),$")
 CLAUSES = {"requires", "ensures", "invariant", "decreases", "ghost"}
 ALIAS = re.compile(r"^(?:pub(?:\(\w+\))? )?type (\w+)(?:<.*?>)? = (.*);", re.M)
@@ -149,12 +150,12 @@ def files():
 
 
 def fields_in(text):
-    """The fields of structs in a source file: of which struct, their names and their types."""
+    """The fields of structs and the variants of enums in a source file: of which type, their names and their types."""
     owner = ""
     for line in text.split("\n"):
         if match := TYPE.match(line):
             owner = match[2]
         elif line.startswith("}"):
             owner = ""
-        elif owner and (match := FIELD.match(line)):
+        elif owner and (match := FIELD.match(line) or VARIANT.match(line)):
             yield owner, match[1], match[2]
