@@ -187,7 +187,8 @@ class Body:
         of_these = [it for it in found if not on or it.owner in on or it.trait in on]
         if on is not self.sources.errors:
             of_these = of_these or found
-        self.calls |= {it.key for it in of_these}
+        traits = {it.trait for it in of_these if it.trait}  # of which a call of an `impl` is one too
+        self.calls |= {it.key for it in [*of_these, *(it for it in found if it.owner in traits)]}
 
     def call_path(self, name, before):
         """A call, or a name handed on, as `Owner::name` or `module::name`."""
