@@ -102,21 +102,23 @@ def shape_of(fields):
 
 
 def man_head(name, fields):
+    """The line that an entry of the man page begins with."""
     shape = shape_of(fields)
-    return ["", f'.BR "{name}" ": {shape}"' if shape else f".B {name}"]
+    return [f'.BR "{name}" ": {shape}"' if shape else f".B {name}"]
 
 
 def man_command(command):
     replies = ", or ".join(replies_of(command))
     if command.each:
         replies = "ok and for each {} {}".format(*command.each)
-    refused = [f"Refused with {', '.join(command.refused)}."] if command.refused else []
-    return [".TP", *man_head(command.name, command.own)[1:], command.does, ".br", f"Reply: {replies}.", *refused]
+    causes = "; ".join(f"{reason} where {cause}" for reason, cause in command.refused.items()).replace("`", "")
+    refused = [".br", f"Refused with {causes}."] if causes else []
+    return [".TP", *man_head(command.name, command.own), command.does, ".br", f"Reply: {replies}.", *refused]
 
 
 def man_object(name, fields):
     told = "; ".join(f"{field.name}: {language()['kinds'][field.kind]}" for field in fields).replace("`", "")
-    return [".TP", *man_head(name, fields)[1:], f"An object; {told}."]
+    return [".TP", *man_head(name, fields), f"An object; {told}."]
 
 
 def man_lines():
