@@ -124,6 +124,7 @@ def man_object(name, fields):
 def man_lines():
     objects = {name: fields_of(said) for name, said in language()["objects"].items()}
     lines = [line for command in commands() for line in man_command(command)]
+    lines += [".PP", "Some fields have objects:"]
     return lines + [line for name, fields in objects.items() for line in man_object(name, fields)]
 
 
