@@ -1,13 +1,16 @@
 """The contracts in crates/*/src as text: which clauses a function has, and where their words are defined."""
 import re
+import sys
 from pathlib import Path
 from typing import NamedTuple
 
 ROOT = Path(__file__).resolve().parent.parent
+sys.path.append(str(ROOT / "tools"))  # where crates.py stands
 IMPORT = re.compile(r"\s*(?:ghost )?use Rattle\.(\w+)\.specs\.([\w.]+?)\.\{(.*)\}")
 FUNCTION = re.compile(r'( *)(pub )?(?:pub\(\w+\) )?(?:extern "C" )?fn (\w+)')
 CLAUSE = re.compile(r" *(requires|ensures)\*? (?:(\w+) )?\{")
 OWNER = re.compile(r"(?:pub(?:\(\w+\))? )?(impl|trait)\b(?:<[^>]*>)? (.* for )?(\w+)")
+EXPORT = re.compile(r"pub use (\w+)::(?:\{([^}]*)\}|(\w+));")
 DOC = re.compile(r" */// ?(.*)")
 
 
@@ -86,3 +89,13 @@ def clauses_of(source, name, wanted):
     if missing := [it for it in wanted if it not in names]:
         raise SystemExit(f"crates/{source}: {name} has no clause {', '.join(missing)}")
     return [clause for clause in function.clauses if not wanted or clause.name in wanted]
+
+
+def exported(crate):
+    """What a crate hands on of its own: what its lib.rt names of its modules, or has itself."""
+    lib = ROOT / "crates" / crate / "src/lib.rt"
+    text = lib.read_text() if lib.exists() else ""
+    own = re.findall(r"^(?:pub )?mod (\w+);", text, re.M)
+    names = [many or one for module, many, one in EXPORT.findall(text) if module in own]
+    itself = re.findall(r"^pub (?:struct|enum|trait|fn) (\w+)", text, re.M)
+    return {name.split(" as ")[0].strip() for listed in [*names, *itself] for name in listed.split(",")}

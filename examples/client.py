@@ -139,6 +139,40 @@ class Pipes:
             raise Ended(f"the program did not end in {self.seconds} s") from None
 
 
+# made: commands
+# The commands, with their fields, and what stands behind `ok` in the reply. Each but `joint` takes `doc` too.
+#   open      text [brackets] [marks] [eol]   VERSION UNITS LINES
+#   edit      ops                             VERSION UNITS LINES
+#   undo                                      VERSION UNITS LINES | none
+#   redo                                      VERSION UNITS LINES | none
+#   stop
+#   eol       kind                            VERSION UNITS LINES | none
+#   decorate  owner remove add                FIRSTID COUNT
+#   deco      id                              START END STICK OWNER
+#   decos     at [owner]                      for each decoration ID START END
+#   version                                   VERSION ALTERNATIVE
+#   brackets  from to                         for each bracket LINE COL LEN KIND STATUS LEVEL
+#   match     line col                        LINE COL LEN | none
+#   level     line col                        LEVEL
+#   size                                      UNITS LINES
+#   line      n                               "TEXT"
+#   value     at                              "TEXT"
+#   offset    line col                        OFFSET
+#   position  offset                          LINE COL
+#   snapshot                                  ID
+#   read      id count                        "TEXT"
+#   close     id
+#   stops     n                               for each cluster COL
+#   find      text                            for each span START END
+#   replace   find text                       VERSION UNITS LINES | none
+#   mirror                                    VERSION
+#   send                                      N FROM | none
+#   deliver   n                               VERSION UNITS LINES | old
+#   mirrored  n                               "TEXT"
+#   joint     edits                           for each document DOC VERSION UNITS LINES
+# end of commands
+
+
 class Client:
     """A running program with one document, which is empty at first. A call is over when its reply has come.
 

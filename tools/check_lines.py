@@ -19,12 +19,14 @@ from collections.abc import Callable, Iterable, Iterator
 from dataclasses import dataclass
 from typing import Any, NoReturn
 
+# made: limits
 MOST_BYTES = 2**24
 MOST_NUMBER = 2**64 - 1
 MOST_NESTING = 127
 MOST_PAIRS = 64
 MOST_BRACKET_UNITS = 32
 MOST_QUOTES = 8
+# end of limits
 KINDS = ("lf", "crlf")
 USAGE, UNREADABLE, UNWRITTEN = 2, 4, 5
 SHOWN = 40
@@ -335,17 +337,6 @@ def listed(names: Iterable[str]) -> str:
     return ", ".join(quoted) if quoted else "no field beside `cmd`"
 
 
-def fields(optional: dict[str, Check] | None = None, **needed: Check) -> Fields:
-    return Fields(needed, optional or {})
-
-
-OPS = {
-    "at": fields({"force": flag}, at=span, text=text),
-    "range": fields({"force": flag}, range=positions, text=text),
-}  # fmt: skip
-NEW_DECORATION = fields({"collapse": flag}, at=span, stick=number)
-
-
 def op(node: Node, name: str) -> None:
     if node.kind != "object":
         wrong(node, name, "an object")
@@ -358,7 +349,7 @@ def op(node: Node, name: str) -> None:
 
 
 ops = list_of(op, "an array of one op or more", least=1)
-DOC_EDIT = fields(doc=number, ops=ops)
+numbers = list_of(number, "an array of numbers")
 
 
 def doc_edit(node: Node, name: str) -> None:
@@ -426,7 +417,7 @@ def quotes(node: Node, name: str) -> None:
     check_differ(node.value, name)
 
 
-MARKS = fields({"line": mark, "block": pair_of(mark), "quotes": quotes})
+block = pair_of(mark)
 
 
 def marks(node: Node, name: str) -> None:
@@ -451,46 +442,50 @@ def pairs(node: Node, name: str) -> None:
     check_differ((half for both in node.value for half in both.value), name)
 
 
-def command(optional: dict[str, Check] | None = None, **needed: Check) -> Fields:
-    """The fields of a command on one document, whose number it may have."""
-    return fields((optional or {}) | {"doc": number}, **needed)
+new_decorations = list_of(new_decoration, "an array of new decorations")
+edits = list_of(doc_edit, "an array of two batches or more", least=2)
 
-
-COMMANDS: dict[str, Fields] = {
-    "open": command({"brackets": pairs, "marks": marks, "eol": kind}, text=text),
-    "edit": command(ops=ops),
-    "undo": command(),
-    "redo": command(),
-    "stop": command(),
-    "eol": command(kind=kind),
-    "decorate": command(
-        owner=number,
-        remove=list_of(number, "an array of numbers"),
-        add=list_of(new_decoration, "an array of new decorations"),
-    ),
-    "deco": command(id=number),
-    "decos": command({"owner": number}, at=span),
-    "version": command(),
-    "brackets": command(**{"from": number, "to": number}),
-    "match": command(line=number, col=number),
-    "level": command(line=number, col=number),
-    "size": command(),
-    "line": command(n=number),
-    "value": command(at=span),
-    "offset": command(line=number, col=number),
-    "position": command(offset=number),
-    "snapshot": command(),
-    "read": command(id=number, count=number),
-    "close": command(id=number),
-    "stops": command(n=number),
-    "find": command(text=sought),
-    "replace": command(find=sought, text=text),
-    "mirror": command(),
-    "send": command(),
-    "deliver": command(n=number),
-    "mirrored": command(n=number),
-    "joint": fields(edits=list_of(doc_edit, "an array of two batches or more", least=2)),
+# docs/make makes these tables from docs/commands.json.
+# made: commands
+OPS = {
+    "at": Fields({"at": span, "text": text}, {"force": flag}),
+    "range": Fields({"range": positions, "text": text}, {"force": flag}),
 }
+NEW_DECORATION = Fields({"at": span, "stick": number}, {"collapse": flag})
+DOC_EDIT = Fields({"doc": number, "ops": ops}, {})
+MARKS = Fields({}, {"line": mark, "block": block, "quotes": quotes})
+COMMANDS: dict[str, Fields] = {
+    "open": Fields({"text": text}, {"brackets": pairs, "marks": marks, "eol": kind, "doc": number}),
+    "edit": Fields({"ops": ops}, {"doc": number}),
+    "undo": Fields({}, {"doc": number}),
+    "redo": Fields({}, {"doc": number}),
+    "stop": Fields({}, {"doc": number}),
+    "eol": Fields({"kind": kind}, {"doc": number}),
+    "decorate": Fields({"owner": number, "remove": numbers, "add": new_decorations}, {"doc": number}),
+    "deco": Fields({"id": number}, {"doc": number}),
+    "decos": Fields({"at": span}, {"owner": number, "doc": number}),
+    "version": Fields({}, {"doc": number}),
+    "brackets": Fields({"from": number, "to": number}, {"doc": number}),
+    "match": Fields({"line": number, "col": number}, {"doc": number}),
+    "level": Fields({"line": number, "col": number}, {"doc": number}),
+    "size": Fields({}, {"doc": number}),
+    "line": Fields({"n": number}, {"doc": number}),
+    "value": Fields({"at": span}, {"doc": number}),
+    "offset": Fields({"line": number, "col": number}, {"doc": number}),
+    "position": Fields({"offset": number}, {"doc": number}),
+    "snapshot": Fields({}, {"doc": number}),
+    "read": Fields({"id": number, "count": number}, {"doc": number}),
+    "close": Fields({"id": number}, {"doc": number}),
+    "stops": Fields({"n": number}, {"doc": number}),
+    "find": Fields({"text": sought}, {"doc": number}),
+    "replace": Fields({"find": sought, "text": text}, {"doc": number}),
+    "mirror": Fields({}, {"doc": number}),
+    "send": Fields({}, {"doc": number}),
+    "deliver": Fields({"n": number}, {"doc": number}),
+    "mirrored": Fields({"n": number}, {"doc": number}),
+    "joint": Fields({"edits": edits}, {}),
+}
+# end of commands
 
 
 def nearest(name: str) -> str:

@@ -16,6 +16,7 @@ from pathlib import Path
 from typing import NamedTuple
 
 TOP = Path(__file__).resolve().parent.parent
+SHIPPED = ("textmodel", "textmodel_c")
 LINE = re.compile(r"(\w+)( staticlib)?:(.*)")
 
 
@@ -72,6 +73,11 @@ def longest_chain(crates, name=None):
         lower = [chains[library] for library in crate.libraries if library in crates]
         chains[crate.name] = max(lower, key=len, default=[]) + [crate.name]
     return max(chains.values(), key=len)
+
+
+def shipped(crates):
+    """The names of the crates that the program and the library for C stand on, with these two."""
+    return {crate.name for crate in below(crates, SHIPPED)}
 
 
 def main(words):

@@ -28,7 +28,7 @@ enum tm_status {
   TM_OK = 0,
   TM_NOTHING = 1,  /* no such step, decoration, partner, offset or position; or the same kind */
   TM_UNKNOWN = 2,  /* a named thing is not there */
-  TM_RANGE = 3,    /* a place, a line, a span, a kind or a mode is none */
+  TM_RANGE = 3,    /* a place, a line, a span, a kind or a mode is out of range */
   TM_OVERLAP = 4,  /* two ops of a batch overlap */
   TM_LIMIT = 5,    /* a limit would be passed */
   TM_MEMORY = 6,   /* no memory for the call */
@@ -122,7 +122,7 @@ uint32_t tm_open(tm_document *handle, const uint16_t *text, size_t text_len, uin
  * LF, and all are distinct. RANGE also where they are not so, or do not fill it. */
 uint32_t tm_open_with(tm_document *handle, const uint16_t *text, size_t text_len, uint32_t kind, const tm_pair *pairs, size_t pairs_len, const uint16_t *brackets, size_t brackets_len);
 
-/* `tm_open` of a text in UTF-8. ENCODING where it is none: `bad` is then how many bytes stand before the first fault. */
+/* `tm_open` of a text in UTF-8. ENCODING where it is invalid: `bad` is then how many bytes stand before the first fault. */
 uint32_t tm_open_utf8(tm_document *handle, const uint8_t *text, size_t text_len, uint32_t kind, uint64_t *bad);
 
 /* The text takes the place of the units from `start` up to `end`. RANGE, LIMIT, MEMORY. */
@@ -168,17 +168,17 @@ uint32_t tm_line_count(tm_document *handle, uint64_t *count);
 uint32_t tm_versions(tm_document *handle, uint64_t *version, uint64_t *alternative);
 
 /* How many bytes of UTF-8, units of UTF-16 or code points of its line stand before the position, by `encoding`, which is 8, 16 or
-   32. RANGE where it is another number, or the position is none of the text. */
+   32. RANGE where it is another number, or the position is out of range. */
 uint32_t tm_column(tm_document *handle, uint32_t encoding, uint64_t line, uint64_t column, uint64_t *before);
 
-/* The column of the place in the line before which so many of them stand. RANGE also where there is no such line, or the
-   place is inside a character or beyond the line's end. */
+/* Converts a count of bytes, units or code points from the line's start into a column. RANGE also where there is no such line,
+   or the count ends inside a character or beyond the line's end. */
 uint32_t tm_column_of(tm_document *handle, uint32_t encoding, uint64_t line, uint64_t before, uint64_t *column);
 
-/* NOTHING where the offset is no place of the text. */
+/* NOTHING where the offset is out of range. */
 uint32_t tm_position(tm_document *handle, uint64_t offset, tm_place *at);
 
-/* NOTHING where the position is none of the text. */
+/* NOTHING where the position is out of range. */
 uint32_t tm_offset(tm_document *handle, uint64_t line, uint64_t column, uint64_t *offset);
 
 /* The units from `start` up to `end`. RANGE, SHORT, MEMORY. */
@@ -221,7 +221,7 @@ uint32_t tm_decos(tm_document *handle, uint64_t start, uint64_t end, uint64_t ow
 /* Those of the lines `from` to `to`, both included. RANGE, SHORT, MEMORY. */
 uint32_t tm_brackets(tm_document *handle, uint64_t from, uint64_t to, tm_bracket *out, size_t out_len, uint64_t *count);
 
-/* The other bracket of the pair of which one starts there. NOTHING where none does, RANGE, MEMORY. */
+/* Finds the bracket that matches the one at this position. NOTHING where there is none, RANGE, MEMORY. */
 uint32_t tm_match(tm_document *handle, uint64_t line, uint64_t column, tm_partner *partner);
 
 /* How many are open after those that start before the position. RANGE, MEMORY. */
