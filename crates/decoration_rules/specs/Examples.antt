@@ -132,7 +132,8 @@ named_twice = refl
 of_another_owner : decorated one 2 (1 ∷ []) [] Mixed [] ≡ Err unknown
 of_another_owner = refl
 
-an_id_is_not_used_again : decorated one 1 (1 ∷ []) (new 0 0 3 ∷ []) Mixed [] ≡ Ok (record { marks = mark 2 0 0 GrowsAfter ∷ []; next_id = 3 })
+an_id_is_not_used_again : decorated one 1 (1 ∷ []) (new 0 0 3 ∷ []) Mixed []
+    ≡ Ok (record { marks = mark 2 0 0 GrowsAfter ∷ []; next_id = 3 })
 an_id_is_not_used_again = refl
 
 no_such_mode : decorated one 1 [] (new 0 0 4 ∷ []) Mixed [] ≡ Err range

@@ -24,7 +24,7 @@ use Rattle.decoration_rules.specs.Refusals as undecorated
 use Rattle.decoration_rules.specs.Marks.{carried}
 use Rattle.decoration_rules.specs.Lines.{carried_with_lines}
 use Rattle.decoration_rules.specs.Decorations.{Decorations, no_decorations, decorated, deco_at, decos_in}
-use Rattle.recast_rules.specs.Moves.{line_moves}
+use Rattle.decoration_rules.specs.LineMoves.{line_moves}
 use Rattle.undo_rules.specs.declared.Tag.{Tag}
 use Rattle.undo_rules.specs.Stack.{Step, Stack, empty_stack, pushed, stopped, undone, redone}
 use Rattle.undo_rules.specs.Tags.{tagged, untagged}

@@ -103,7 +103,9 @@ mark_at start end =
 
 -- "ab" with a decoration at its one inner place
 abbrev decorated_text : FlatState
-decorated_text = record (new_document (codes "ab") standard_scanner Mixed) { decorations = record { marks = mark_at 1 1 ∷ []; next_id = 2 } }
+decorated_text = record (new_document (codes "ab") standard_scanner Mixed) {
+  decorations = record { marks = mark_at 1 1 ∷ []; next_id = 2 };
+}
 
 a_decoration_of_one_place : flat_decorate (new_document (codes "ab") standard_scanner Mixed) 1 []
     (record { span = record { start = 1; end = 1 }; stick = 0; collapse = false } ∷ [])
@@ -193,7 +195,8 @@ the_partner_of_the_first : flat_match (new_document (codes "([)]{") standard_sca
     ≡ Ok (Some (record { line = 1; column = 3 }, 1))
 the_partner_of_the_first = refl
 
-an_unclosed_one_has_no_partner : flat_match (new_document (codes "([)]{") standard_scanner Mixed) (record { line = 1; column = 2 }) ≡ Ok None
+an_unclosed_one_has_no_partner : flat_match (new_document (codes "([)]{") standard_scanner Mixed) (record { line = 1; column = 2 })
+    ≡ Ok None
 an_unclosed_one_has_no_partner = refl
 
 level_inside_two : flat_level (new_document (codes "([)]{") standard_scanner Mixed) (record { line = 1; column = 3 }) ≡ Ok 2

@@ -7,3 +7,4 @@ pub mod Snapshots
 pub mod Stops
 pub mod Columns
 mod Examples
+mod StopExamples

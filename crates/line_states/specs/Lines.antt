@@ -30,6 +30,10 @@ pub record LinesState : Type 0 where
 abbrev pub content_at : ℕ → List (List ℕ) → List ℕ
 content_at n contents = slice_index_or contents (n - 1) []
 
--- a front of these lines was asked for, in order
+-- of these lines the first were asked for, in order
+abbrev pub IsFrontOf : List ℕ → List ℕ → Type 0
+IsFrontOf lines asked = (left : List ℕ) × (asked ++ left ≡ lines)
+
+-- the first of these lines were asked for, in order
 abbrev pub AsksFront : List ℕ → List ℕ → List ℕ → Type 0
-AsksFront lines old new = (left : List ℕ) × (new ++ left ≡ old ++ lines)
+AsksFront lines old new = IsFrontOf (old ++ lines) new

@@ -1,11 +1,13 @@
 -- The states of the lines of a text, by those of the last parse, and which lines are restarted.
-use Rattle.std.specs.Prelude.{◌≡◌, ⊤, ℕ, ◌-◌, ◌≤◌, if◌then◌else◌, List, [], ◌∷◌, length, map, Option, Some, None, slice_index_or, refl}
+use Rattle.std.specs.Prelude.{◌≡◌, ⊤, ℕ, ◌-◌, ◌≤◌, if◌then◌else◌, List, [], ◌∷◌, ◌++◌, length, map, Option, Some, None, slice_index_or, refl}
 use Rattle.mark_rules.specs.declared.Mark.{Mark}
 use Rattle.mark_rules.specs.declared.Mark.TheVariants.{Kept, New}
 use Rattle.mark_rules.specs.Marks.{mark_at}
 use Rattle.hiding_rules.specs.declared.LineState.{LineState}
 use Rattle.hiding_rules.specs.declared.LineState.TheVariants.{Code, Block}
-use Rattle.hiding_rules.specs.States.{Known, is_restarted}
+use Rattle.hiding_rules.specs.Hidden.{Scanner}
+use Rattle.hiding_rules.specs.States.{Known, is_restarted, line_states, scanned_lines}
+use Rattle.line_states.specs.Lines.{LinesState}
 
 -- in which the lines of a text begin, and in which its last line ends
 pub record Borders : Type 0 where
@@ -65,6 +67,14 @@ pub record SettledState : Type 0 where
   -- where a restarted line is as a new one
   pub marks : List Mark
   pub states : Borders
+
+-- the marks of the lines of now, where a restarted line is as a new one
+abbrev pub marks_now : Scanner → StatesState → LinesState → List Mark
+marks_now by s lines = settled_marks s.last s.marks (line_states by lines.contents)
+
+-- the lines that were asked for before, and then those that are new or restarted
+abbrev pub asked_after : Scanner → StatesState → LinesState → List ℕ
+asked_after by s lines = lines.asked ++ scanned_lines 1 (known_lines s.last s.marks) (line_states by lines.contents)
 
 -- ---- a worked example: `x`, `(`, `*/` and `y` were scanned in code, and line 1 is new and opens a comment
 

@@ -5,9 +5,9 @@ ghost use Rattle.mark_rules.specs.declared.Mark.TheVariants.{New};
 ghost use Rattle.mark_rules.specs.Marks.{clean_marks, edited_marks};
 ghost use Rattle.hiding_rules.specs.declared.LineState.TheVariants.{Code};
 ghost use Rattle.hiding_rules.specs.Hidden.{scanner};
-ghost use Rattle.hiding_rules.specs.States.{Lead, line_states, state_behind, scanned_lines};
-ghost use Rattle.line_states.specs.Lines.{AsksFront};
-ghost use Rattle.line_states.specs.Settling.{borders, known_lines, settled_marks};
+ghost use Rattle.hiding_rules.specs.States.{Lead, line_states, state_behind};
+ghost use Rattle.line_states.specs.Lines.{IsFrontOf};
+ghost use Rattle.line_states.specs.Settling.{asked_after, borders, known_lines, marks_now};
 
 use crate::lines::Lines;
 use crate::settle::Settler;
@@ -192,17 +192,12 @@ impl States {
             IfOk result (λ settled.
             settled.states.ends ≡ state_behind by Code (Q.state lines.old).contents) }
         ensures marks { let by = scanner table.now hiding.now in
-            let states = line_states by (Q.state lines.old).contents in
             IfOk result (λ settled.
-            settled.marks ≡ settled_marks self.now.last self.now.marks states) }
+            settled.marks ≡ marks_now by self.now (Q.state lines.old)) }
         ensures asked { let by = scanner table.now hiding.now in
-            let states = line_states by (Q.state lines.old).contents in
-            let scanned = scanned_lines 1 (known_lines self.now.last self.now.marks) states in
-            OnOk result ((Q.state lines.new).asked ≡ (Q.state lines.old).asked ++ scanned) }
+            OnOk result ((Q.state lines.new).asked ≡ asked_after by self.now (Q.state lines.old)) }
         ensures front { let by = scanner table.now hiding.now in
-            let states = line_states by (Q.state lines.old).contents in
-            let scanned = scanned_lines 1 (known_lines self.now.last self.now.marks) states in
-            OnErr result (AsksFront scanned (Q.state lines.old).asked (Q.state lines.new).asked) }
+            OnErr result (IsFrontOf (asked_after by self.now (Q.state lines.old)) (Q.state lines.new).asked) }
         ensures contents { (Q.state lines.new).contents ≡ (Q.state lines.old).contents }
     {
         let settler = Settler::new(&self.hunks, &self.last, table, hiding);

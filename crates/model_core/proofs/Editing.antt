@@ -12,7 +12,7 @@ use Rattle.batch_rules.proofs.Standing.{accepted}
 use Rattle.batch_rules.proofs.Keeping.{keeps_kind, keeps_kind_back}
 use Rattle.batch_rules.proofs.Pairs.{IsPaired-applied, HasPairedText}
 use Rattle.batch_rules.proofs.Order.{All-sorted_ops}
-use Rattle.recast_rules.specs.Recasts.{RecastState}
+use Rattle.decoration_rules.specs.Recasts.{RecastState}
 use Rattle.undo_rules.specs.Stack.{Stack}
 use Rattle.snapshot_rules.specs.Snapshots.{FlatShelf}
 use Rattle.document_rules.specs.Document.{FlatText, greatest_version, is_same_kind, flat_edit, flat_eol}

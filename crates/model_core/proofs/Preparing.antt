@@ -16,7 +16,7 @@ use Rattle.edit_batches.specs.Outcomes.{Checks}
 use Rattle.batch_rules.proofs.Order.{length-sorted_ops}
 use Rattle.batch_rules.proofs.Pairs.{HasPairedText}
 use Rattle.batch_rules.proofs.Standing.{accepted}
-use Rattle.recast_rules.specs.Recasts.{RecastState}
+use Rattle.decoration_rules.specs.Recasts.{RecastState}
 use Rattle.undo_rules.specs.Stack.{Step}
 use Rattle.document_rules.specs.Refusals.{FlatRefusal}
 use Rattle.document_rules.specs.Document.{FlatText, FlatChange, FlatState, text_now, greatest_version, after_batch, edited_by, flat_edit, is_same_kind, flat_eol}

@@ -1,5 +1,6 @@
 -- What the model keeps of the changes that it carried out, and the whole texts that they lead to and back from.
-use Rattle.std.specs.Prelude.{ℕ, ◌≡◌, ◌<◌, Bool, true, false, if◌then◌else◌, List, [], ◌∷◌, length, Option, Some, None, ⊤}
+use Rattle.std.specs.Prelude.{ℕ, ◌≡◌, ◌<◌, Bool, true, false, if◌then◌else◌, List, [], ◌∷◌, length, Option, Some, None, option_map, ⊤}
+use Rattle.text_rules.specs.declared.Op.{Op}
 use Rattle.undo_rules.specs.Stack.{Step, Stack, pushed, stopped}
 use Rattle.document_rules.specs.Document.{FlatText, FlatChange, LastChange}
 use Rattle.model_page.specs.declared.change.Change.{Change}
@@ -91,6 +92,10 @@ last_of_steps latest now (s ∷ ss) = last_in latest now s.changes
 abbrev pub last_of : Option Latest → FlatText → Stack Change → Option LastChange
 last_of None now s = None
 last_of (Some latest) now s = last_of_steps latest now (latest_steps latest s)
+
+-- the batches of the last change, if there was one
+abbrev pub last_batches : Option LastChange → Option (List (List Op))
+last_batches last = option_map (λ (it : LastChange). it.batches) last
 
 -- the first version is that before any change, and the step of the last one is there
 abbrev pub HasLatest : Option Latest → ℕ → Stack Change → Type 0

@@ -5,7 +5,7 @@ use Rattle.unit_text.specs.Kinds.{normalized}
 use Rattle.unit_text.specs.Units.{IsPaired}
 use Rattle.text_rules.specs.declared.Op.{Op}
 use Rattle.batch_rules.specs.Batches.{checked_batch, inverse_from, text_units}
-use Rattle.recast_rules.specs.Recasts.{RecastState}
+use Rattle.decoration_rules.specs.Recasts.{RecastState}
 use Rattle.mark_rules.specs.declared.Mark.{Mark}
 use Rattle.undo_rules.specs.Stack.{Step}
 use Rattle.document_rules.specs.declared.ModelError.{ModelError}

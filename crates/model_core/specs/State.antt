@@ -94,7 +94,8 @@ pub record Renews {A : Type 0} (result : Result A ModelError) (old new : ModelSt
   pub same_tree : old.fresh ≡ true → new.tree ≡ old.tree
   pub same_marks : old.fresh ≡ true → new.marks ≡ old.marks
   pub same_states : old.fresh ≡ true → new.states ≡ old.states
-  pub asked : old.fresh ≡ false → OnOk result (HasAsked new.parsed (length (lines_to_ask old.states old.marks old.document.scanner old.document.units)))
+  pub asked : old.fresh ≡ false
+      → OnOk result (HasAsked new.parsed (length (lines_to_ask old.states old.marks old.document.scanner old.document.units)))
   pub lines : OnOk result (new.marks ≡ clean_marks (length old.marks))
   pub fresh : OnOk result (new.fresh ≡ true)
   pub parsed : OnErr result (new.parsed ≡ old.parsed)

@@ -1,4 +1,5 @@
 pub mod State
+pub mod Calls
 pub mod Losing
 pub mod Prepared
 pub mod Errors

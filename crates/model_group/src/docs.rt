@@ -1,15 +1,15 @@
 //! Calls on one document that no other one knows of. Each does what the call of its name does on `Model`.
 
-ghost use Rattle.std.specs.Prelude.{◌≡◌, ◌<◌, true, List, Ok, Err, OnOk};
-ghost use Rattle.std.specs.List.{All};
+ghost use Rattle.std.specs.Prelude.{◌≡◌, ◌<◌, Err};
 ghost use Rattle.group_rules.specs.declared.TheConstants.{DOC_COUNT};
-ghost use Rattle.document_rules.specs.Outcomes.{Changes, ChangesWith, Appends, Gives};
+ghost use Rattle.document_rules.specs.Outcomes.{Changes};
 ghost use Rattle.document_rules.specs.Document.{flat_stop, flat_offset};
-ghost use Rattle.document_rules.specs.Snapshots.{flat_snapshot, flat_skipped, flat_close_of};
-ghost use Rattle.document_rules.specs.Brackets.{flat_brackets, flat_match, flat_level, IsSmall};
+ghost use Rattle.document_rules.specs.Snapshots.{flat_skipped, flat_close_of};
+ghost use Rattle.document_rules.specs.Brackets.{flat_match, flat_level};
 ghost use Rattle.group_rules.specs.Group.{doc_in};
 ghost use Rattle.model_core.specs.Decorating.{HasDecorated};
-ghost use Rattle.model_core.specs.State.{KeepsParse, Renews};
+ghost use Rattle.model_core.specs.State.{KeepsParse};
+ghost use Rattle.model_group.specs.Calls.{AppendsBrackets, Asks, Shelves};
 ghost use Rattle.model_group.specs.State.{OnDoc, documents};
 
 use crate::group::Group;
@@ -44,9 +44,7 @@ impl Group {
     /// Keeps the text of now, to be read from its front, and answers its id.
     pub fn snapshot(&mut self, doc: u64) -> Result<u64, ModelError>
         requires { doc < DOC_COUNT }
-        ensures { OnDoc doc (λ old new. ChangesWith old.document.shelf.next_id result
-            old.document new.document (flat_snapshot old.document)
-            × KeepsParse old new) self.old self.new }
+        ensures { OnDoc doc (Shelves result) self.old self.new }
     {
         self.models[doc as usize].snapshot()
     }
@@ -88,11 +86,8 @@ impl Group {
         out: &mut Vec<Entry>,
     ) -> Result<(), ModelError>
         requires { doc < DOC_COUNT }
-        ensures { OnDoc doc (λ old new. Appends result out.old.items out.new.items
-            (flat_brackets old.document from to)
-            × ((entries : List Entry) → flat_brackets old.document from to ≡ Ok entries
-            → OnOk result (All (λ e. IsSmall e.place) entries))
-            × Renews result old new) self.old self.new }
+        ensures { OnDoc doc (AppendsBrackets from to result out.old.items out.new.items)
+            self.old self.new }
     {
         self.models[doc as usize].brackets_in(from, to, out)
     }
@@ -100,9 +95,7 @@ impl Group {
     /// The partner of the bracket at the position, and how many units it has.
     pub fn match_at(&mut self, doc: u64, p: Position) -> Result<Option<(Position, u64)>, ModelError>
         requires { doc < DOC_COUNT }
-        ensures { OnDoc doc (λ old new. Gives result (flat_match old.document p)
-            × Renews result old new
-            × (old.fresh ≡ true → ¬ (result ≡ Err ModelError.Memory))) self.old self.new }
+        ensures { OnDoc doc (Asks (λ f. flat_match f p) result) self.old self.new }
     {
         self.models[doc as usize].match_at(p)
     }
@@ -110,9 +103,7 @@ impl Group {
     /// How many brackets are open at the position.
     pub fn level_at(&mut self, doc: u64, p: Position) -> Result<u64, ModelError>
         requires { doc < DOC_COUNT }
-        ensures { OnDoc doc (λ old new. Gives result (flat_level old.document p)
-            × Renews result old new
-            × (old.fresh ≡ true → ¬ (result ≡ Err ModelError.Memory))) self.old self.new }
+        ensures { OnDoc doc (Asks (λ f. flat_level f p) result) self.old self.new }
     {
         self.models[doc as usize].level_at(p)
     }

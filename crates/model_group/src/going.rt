@@ -60,9 +60,8 @@ impl Group {
     // One step of the document alone.
     fn go_alone(&mut self, way: Way, doc: u64) -> Result<bool, GroupError>
         requires { doc < DOC_COUNT }
-        ensures { MovesAll result (documents self.old) (documents self.new)
-            (gone_in (documents self.old) doc
-            ((going_along way).rule (doc_in (documents self.old) doc))) }
+        ensures { let old = documents self.old in MovesAll result old (documents self.new)
+            (gone_in old doc ((going_along way).rule (doc_in old doc))) }
     {
         self.go_one(way, doc).map_err(group_error_of)
     }

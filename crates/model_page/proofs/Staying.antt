@@ -35,7 +35,7 @@ use Rattle.model_page.specs.declared.change.Change.{Change}
 use Rattle.model_page.specs.declared.change.Way.{Way}
 use Rattle.model_page.specs.declared.change.Way.TheVariants.{Back, On}
 use Rattle.document_rules.specs.Document.{FlatText}
-use Rattle.recast_rules.specs.Moves.{HaveSameContents}
+use Rattle.decoration_rules.specs.LineMoves.{HaveSameContents}
 use Rattle.model_page.specs.declared.change.Change.TheVariants.{Ops, Endings}
 use Rattle.model_page.specs.Changes.{ops_by, led, text_back, changes_back, changes_on, LeadBack, LeadOn}
 use Rattle.model_page.specs.Counts.{marking_ops, marking_count}

@@ -4,7 +4,7 @@ use Rattle.unit_text.specs.declared.kind.Kind.{Kind}
 use Rattle.text_rules.specs.declared.Op.{Op}
 use Rattle.batch_rules.specs.Batches.{most_units, applied_from, inverse_from, StandFrom, KeepsKind}
 use Rattle.batch_rules.specs.Events.{whole_op}
-use Rattle.recast_rules.specs.Recasts.{RecastState}
+use Rattle.decoration_rules.specs.Recasts.{RecastState}
 use Rattle.document_rules.specs.Document.{FlatText, Deed, FlatChange, batch, recast}
 use Rattle.model_page.specs.declared.change.Change.{Change}
 use Rattle.model_page.specs.declared.change.Change.TheVariants.{Ops, Endings}

@@ -9,7 +9,9 @@ use Rattle.hiding_rules.specs.Hidden.{Scanner}
 use Rattle.line_states.specs.Settling.{Borders}
 use Rattle.bracket_tree_rules.specs.Tree.{Tree}
 use Rattle.chunk_buffers.specs.Chunks.{Extends}
-use Rattle.decoration_rules.specs.Decorations.{Decorations, no_decorations}
+use Rattle.decoration_rules.specs.declared.NewDeco.{NewDeco}
+use Rattle.decoration_rules.specs.Refusals.{DecoRefusal}
+use Rattle.decoration_rules.specs.Decorations.{Decorations, decorated, no_decorations}
 use Rattle.document_rules.specs.Document.{FlatText}
 use Rattle.mark_rules.specs.declared.Mark.{Mark}
 use Rattle.mark_rules.specs.declared.Mark.TheVariants.{New}
@@ -58,6 +60,10 @@ pub record IsPage (page : PageState) : Type 0 where
 -- whether the tree of the last parse is that of the text of now
 abbrev pub is_fresh : PageState → Bool
 is_fresh page = is_some (fresh_tree page.tree page.marks)
+
+-- its decorations once these of an owner went and these came
+abbrev pub decorated_on : PageState → ℕ → List ℕ → List NewDeco → Result Decorations DecoRefusal
+decorated_on page owner remove add = decorated page.decorations owner remove add page.text.kind page.text.units
 
 -- a page of these units of this kind, with these brackets and no decoration, which was not parsed yet
 pub record IsNew (x : List ℕ) (endings : Kind) (by : Scanner) (page : PageState) : Type 0 where
@@ -149,7 +155,8 @@ pub record Renews {A E : Type 0} (result : Result A E) (old new : PageState) : T
   pub same_tree : is_fresh old ≡ true → new.tree ≡ old.tree
   pub same_marks : is_fresh old ≡ true → new.marks ≡ old.marks
   pub same_states : is_fresh old ≡ true → new.states ≡ old.states
-  pub asked : is_fresh old ≡ false → OnOk result (HasAsked new.parsed (length (lines_to_ask old.states old.marks old.scanner old.text.units)))
+  pub asked : is_fresh old ≡ false
+      → OnOk result (HasAsked new.parsed (length (lines_to_ask old.states old.marks old.scanner old.text.units)))
   pub lines : OnOk result (new.marks ≡ clean_marks (length old.marks))
   pub fresh : OnOk result (is_fresh new ≡ true)
   pub parsed : OnErr result (new.parsed ≡ old.parsed)

@@ -98,8 +98,8 @@ impl Page {
             ≡ text_by way (flat_text self.old.text) (step_of step.now).changes }
         ensures decorations { self.new.decorations
             ≡ decorations_by way self.old.decorations (step_of step.now).changes }
-        ensures marks { let changes = changes_by way (flat_text self.old.text) (step_of step.now).changes in
-            self.new.marks ≡ marked_along way self.old.marks changes }
+        ensures marks { let done = changes_by way (flat_text self.old.text) (step_of step.now).changes in
+            self.new.marks ≡ marked_along way self.old.marks done }
         ensures parse { KeepsParse self.old self.new }
         ensures grown { HasGrown (op_count way (step_of step.now).changes)
             self.old.text self.new.text }

@@ -3,12 +3,12 @@
 ghost use Rattle.std.specs.Prelude.{◌≡◌, ◌≤◌, ◌&&◌, [], None, Some, length, if◌then◌else◌, IfOk, OnOk};
 ghost use Rattle.batch_rules.specs.Batches.{most_units};
 ghost use Rattle.hiding_rules.specs.Hidden.{scanner, standard_scanner};
-ghost use Rattle.decoration_rules.specs.Decorations.{Decorates, decorated};
+ghost use Rattle.decoration_rules.specs.Decorations.{Decorates};
 ghost use Rattle.unit_text.specs.declared.kind.Kind.TheVariants.{Mixed};
 ghost use Rattle.unit_text.specs.Kinds.{IsOfKind};
 ghost use Rattle.text_rules.specs.Positions.{is_position, offset_of};
 ghost use Rattle.model_page.specs.Carrying.{AreIn};
-ghost use Rattle.model_page.specs.State.{HasRoom, IsNew, IsUntouched, KeepsRoom};
+ghost use Rattle.model_page.specs.State.{HasRoom, IsNew, IsUntouched, KeepsRoom, decorated_on};
 
 use crate::last_parse::{LastParse, unparsed};
 use bracket_scan::{BracketTable, Hiding};
@@ -115,8 +115,7 @@ impl Page {
         add: &[NewDeco],
     ) -> Result<u64, DecoError>
         ensures change { Decorates result self.old.decorations self.new.decorations
-            (decorated self.old.decorations owner remove.now add.now
-            self.old.text.kind self.old.text.units) }
+            (decorated_on self.old owner remove.now add.now) }
         ensures same { self.new ≡ record self.old { decorations = self.new.decorations } }
     {
         self.decorations.delta(owner, remove, add, &self.text)

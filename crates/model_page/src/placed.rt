@@ -4,7 +4,7 @@ ghost use Rattle.std.specs.Prelude.{◌≡◌, ◌<◌, ◌≤◌, length, slice
 ghost use Rattle.unit_text.specs.Kinds.{IsOfKind};
 ghost use Rattle.batch_rules.specs.Batches.{most_units, applied_from, inverse_from, text_units, StandFrom, FollowFrom};
 ghost use Rattle.decoration_rules.specs.Lines.{AreLineMoves};
-ghost use Rattle.recast_rules.specs.Moves.{line_moves, HaveSameContents};
+ghost use Rattle.decoration_rules.specs.LineMoves.{line_moves, HaveSameContents};
 ghost use Rattle.model_page.specs.Changes.{text_from, text_to};
 ghost use Rattle.model_page.specs.Needs.{need_of_ops};
 ghost use Rattle.model_page.specs.Placed.{op_of};
@@ -205,7 +205,7 @@ pub(crate) struct KeptRecast {
 }
 
 impl Model for PlacedRecast {
-    ghost use Rattle.recast_rules.specs.Recasts.{RecastState};
+    ghost use Rattle.decoration_rules.specs.Recasts.{RecastState};
 
     ghost Value = { RecastState };
 

@@ -105,7 +105,8 @@ pub record IsSound (s : Sight) : Type 0 where
 pub record StandsAt (s : Sight) (p : Length) (line : Line) : Type 0 where
   pub sound : IsSound s
   pub reached : Reached (sight_rows s) p (rows_from p (sight_rows s))
-  pub in_line : IsInLine (mark_of s p) s.old.tree s.old.marks (sight_rows s) (sight_weights s) p line.scanned (tokens_left line) line.columns
+  pub in_line : IsInLine (mark_of s p) s.old.tree s.old.marks (sight_rows s) (sight_weights s) p line.scanned
+      (tokens_left line) line.columns
   pub is_new : line.scanned ≡ true → mark_of s p ≡ New
   pub asked : line.asked + length (unasked s.old.marks p line.scanned) ≡ length (new_lines s.old.marks)
 

@@ -8,7 +8,7 @@ use Rattle.std.proofs.lemmas.List.Sums.{sum_by-cons}
 use Rattle.text_rules.specs.Lines.{Line, lines_of, line_length, line_feed, carriage_return, begins_with, in_first_line, in_first_break}
 use Rattle.text_rules.proofs.Breaks.{and_false}
 use Rattle.recasts.specs.FirstLine.{first_of, first_line}
-use Rattle.recast_rules.proofs.Moves.{EndAsLines, lines_of-ends, length-lines_of}
+use Rattle.decoration_rules.proofs.LineMoves.{EndAsLines, lines_of-ends, length-lines_of}
 
 -- the unit is one of a line ending
 abbrev pub ends_line : ℕ → Bool

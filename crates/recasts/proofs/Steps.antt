@@ -3,9 +3,9 @@ use Rattle.std.proofs.Common.{◌≡◌, ℕ, ◌+◌, ◌<◌, ◌≤◌, List,
 use Rattle.std.proofs.lemmas.List.{drop-drop, length-drop}
 use Rattle.decoration_rules.specs.declared.LineMove.{LineMove}
 use Rattle.text_rules.specs.Lines.{Line, lines_of, line_length}
-use Rattle.recast_rules.specs.Moves.{moves_from, HaveSameContents}
-use Rattle.recast_rules.proofs.Contents.{contents}
-use Rattle.recast_rules.proofs.Moves.{EndAsLines, lines_of-ends, same_content}
+use Rattle.decoration_rules.specs.LineMoves.{moves_from, HaveSameContents}
+use Rattle.decoration_rules.proofs.Contents.{contents}
+use Rattle.decoration_rules.proofs.LineMoves.{EndAsLines, lines_of-ends, same_content}
 use Rattle.recasts.specs.FirstLine.{first_of, first_line}
 use Rattle.recasts.proofs.FirstLines.{first_line-drop, lines_behind, last_line, first_line-within}
 

@@ -1,7 +1,7 @@
 //! How the lines of a text move where each keeps its content.
 
 ghost use Rattle.std.specs.Prelude.{◌≡◌, ◌+◌, ◌≤◌, [], IfOk, drop, length, map};
-ghost use Rattle.recast_rules.specs.Moves.{line_moves, turned, HaveSameContents};
+ghost use Rattle.decoration_rules.specs.LineMoves.{line_moves, turned, HaveSameContents};
 ghost use Rattle.recasts.specs.FirstLine.{first_line};
 
 use decoration_rules::LineMove;

@@ -3,7 +3,7 @@
 ghost use Rattle.std.specs.Prelude.{◌≡◌, ◌<◌, ◌≤◌, Err, IfOk, length};
 ghost use Rattle.unit_text.specs.Kinds.{normalized, IsOfKind};
 ghost use Rattle.decoration_rules.specs.Lines.{AreLineMoves};
-ghost use Rattle.recast_rules.specs.Moves.{line_moves, HaveSameContents};
+ghost use Rattle.decoration_rules.specs.LineMoves.{line_moves, HaveSameContents};
 
 use crate::lines::{line_moves, turned};
 use crate::side::Side;
@@ -43,7 +43,7 @@ pub struct Recast {
 }
 
 impl Model for Recast {
-    ghost use Rattle.recast_rules.specs.Recasts.{RecastState, recast_of, AreSides};
+    ghost use Rattle.decoration_rules.specs.Recasts.{RecastState, recast_of, AreSides};
 
     ghost Value = { RecastState };
 

@@ -15,7 +15,7 @@ pub struct Side {
 }
 
 impl Model for Side {
-    ghost use Rattle.recast_rules.specs.Recasts.{SideState};
+    ghost use Rattle.decoration_rules.specs.Recasts.{SideState};
 
     ghost Value = { SideState };
 

@@ -1,7 +1,8 @@
 //! Runs of the program.
 
 use memory_streams::{Fault, MemSink, MemSource, SureSink};
-use script_runner::{Served, Session, run_words, serve};
+use script_runner::{Served, run_words, serve};
+use sessions::Session;
 use std::alloc::{AllocError, Global};
 
 /// The most bytes that are kept of what the program writes.

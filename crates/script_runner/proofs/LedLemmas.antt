@@ -7,13 +7,13 @@ use Rattle.std.proofs.lemmas.List.Sums.{sum_by-append, count_by-le-length}
 use Rattle.script_streams.specs.Streams.{SinkState, TakenWhole, Rose, greatest_count}
 use Rattle.script_streams.proofs.StreamLaws.{Wrote-append, Wrote-nothing}
 use Rattle.script_runner.specs.declared.serving.Progress.{Progress}
-use Rattle.script_runner.specs.declared.session.Session.{Session}
+use Rattle.sessions.specs.declared.session.Session.{Session}
 use Rattle.session_rules.specs.Session.{FlatSession}
-use Rattle.script_runner.specs.Standing.{Turns, Replied}
+use Rattle.sessions.specs.Standing.{Turns, Replied}
 use Rattle.session_rules.specs.Script.{cut, is_refused, whole_lines, all_lines, written, IsInOneLine, Turn, Transcript}
 use Rattle.script_runner.specs.Progress.{IsLineSoFar, refusals, memory_refusals, Led, Went, Broken, Broke, LineAnswered, LineBroken, PieceAnswered, PieceBroken}
 use Rattle.session_rules.specs.Step.{memory_reply}
-use Rattle.script_runner.proofs.CutLemmas.{cut-append_line, cut-append_break, length-all_lines}
+use Rattle.session_rules.proofs.CutLemmas.{cut-append_line, cut-append_break, length-all_lines}
 
 -- ---- transcripts
 

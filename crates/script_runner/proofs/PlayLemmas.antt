@@ -11,9 +11,9 @@ use Rattle.script_play.proofs.LengthLemmas.{length-script}
 use Rattle.script_runner.specs.declared.playing.Summary.{Summary}
 use Rattle.script_runner.specs.declared.serving.Served.{Served}
 use Rattle.script_runner.specs.declared.serving.Served.TheVariants.{Ended, ReadFault, WriteFault, TooLong}
-use Rattle.script_runner.specs.declared.session.Session.{Session}
+use Rattle.sessions.specs.declared.session.Session.{Session}
 use Rattle.session_rules.specs.Session.{new_session}
-use Rattle.script_runner.specs.Standing.{StandsFor}
+use Rattle.sessions.specs.Standing.{StandsFor}
 use Rattle.session_rules.specs.Script.{all_lines, written, Transcript}
 use Rattle.script_runner.specs.Serving.{Serves, ServedAll}
 use Rattle.script_runner.specs.Runs.{most_script_bytes}

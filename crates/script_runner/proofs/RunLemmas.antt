@@ -8,9 +8,9 @@ use Rattle.script_streams.specs.Streams.{SourceState, SinkState, Gave, NothingLe
 use Rattle.script_runner.specs.declared.running.Status.TheVariants as status
 use Rattle.script_runner.specs.declared.serving.Served.{Served}
 use Rattle.script_runner.specs.declared.serving.Served.TheVariants.{Ended, ReadFault, WriteFault, TooLong}
-use Rattle.script_runner.specs.declared.session.Session.{Session}
+use Rattle.sessions.specs.declared.session.Session.{Session}
 use Rattle.session_rules.specs.Session.{FlatSession, new_session}
-use Rattle.script_runner.specs.Standing.{StandsFor}
+use Rattle.sessions.specs.Standing.{StandsFor}
 use Rattle.session_rules.specs.Script.{all_lines, written, is_refused, Transcript}
 use Rattle.script_runner.specs.Progress.{refusals}
 use Rattle.script_runner.specs.Serving.{Serves, ServedAll}

@@ -9,10 +9,10 @@ use Rattle.unit_text.specs.declared.kind.Kind.TheVariants.{Mixed}
 use Rattle.text_rules.specs.declared.Op.{Op}
 use Rattle.hiding_rules.specs.Hidden.{standard_scanner}
 use Rattle.document_rules.specs.Document.{FlatState, new_document, after_batch}
-use Rattle.script_runner.specs.declared.session.Session.{Session}
+use Rattle.sessions.specs.declared.session.Session.{Session}
 use Rattle.group_rules.specs.Group.{doc_in, with_doc, new_group}
 use Rattle.session_rules.specs.Session.{FlatSession, new_session}
-use Rattle.script_runner.specs.Standing.{Turns}
+use Rattle.sessions.specs.Standing.{Turns}
 use Rattle.session_rules.specs.Step.{answered, out_of_memory}
 use Rattle.session_rules.specs.Script.{most_line_bytes, whole_lines, all_lines, Turn, Transcript}
 use Rattle.script_runner.specs.Progress.{Broken}

@@ -10,8 +10,8 @@ use Rattle.script_streams.specs.Streams.{SourceState, SinkState, Wrote, Gave, Gi
 use Rattle.script_streams.proofs.StreamLaws.{Wrote-append, Wrote-nothing, Gave-append, Gave-nothing}
 use Rattle.script_runner.specs.declared.line.PartialLine.{PartialLine}
 use Rattle.script_runner.specs.declared.serving.Progress.{Progress}
-use Rattle.script_runner.specs.declared.session.Session.{Session}
-use Rattle.script_runner.specs.Standing.{Turns}
+use Rattle.sessions.specs.declared.session.Session.{Session}
+use Rattle.sessions.specs.Standing.{Turns}
 use Rattle.session_rules.specs.Script.{cut, most_line_bytes, whole_lines, last_line, written}
 use Rattle.script_runner.specs.Progress.{IsLineSoFar, refusals, memory_refusals, Led, LineAnswered, LineBroken, PieceAnswered, PieceBroken, AnswersPiece}
 use Rattle.script_runner.specs.declared.serving.Served.{Served}

@@ -12,6 +12,7 @@ use Rattle.group_rules.specs.Group.{doc_in}
 use Rattle.session_rules.specs.Session.{FlatSession, new_session}
 use Rattle.session_rules.specs.Script.{all_lines, written, Transcript}
 use Rattle.script_runner.specs.Progress.{refusals, memory_refusals}
+use Rattle.script_runner.specs.Runs.{EndsWith}
 
 -- a word of the line with its number
 abbrev pub part : List ℕ → ℕ → List ℕ
@@ -63,6 +64,10 @@ Plays status.Memory count seed out out' = out' ≡ out
 Plays status.Usage count seed out out' = ⊥
 Plays status.ReadFault count seed out out' = ⊥
 Plays status.TooLong count seed out out' = ⊥
+
+-- the same by the number of the status
+abbrev pub EndsPlay : ℕ → ℕ → ℕ → SinkState → SinkState → Type 0
+EndsPlay number count seed out out' = EndsWith number (λ status. Plays status count seed out out')
 
 -- the script was read to its end, and every reply written
 abbrev pub HasEnded : Served → Type 0

@@ -5,8 +5,8 @@ use Rattle.script_streams.specs.declared.Failed.{Failed}
 use Rattle.script_streams.specs.Streams.{SinkState, greatest_count, Rose, Wrote, StartsWith, TakenWhole, Cut}
 use Rattle.script_runner.specs.declared.line.PartialLine.{PartialLine}
 use Rattle.script_runner.specs.declared.serving.Progress.{Progress}
-use Rattle.script_runner.specs.declared.session.Session.{Session}
-use Rattle.script_runner.specs.Standing.{Turns, Replied}
+use Rattle.sessions.specs.declared.session.Session.{Session}
+use Rattle.sessions.specs.Standing.{Turns, Replied}
 use Rattle.session_rules.specs.Step.{memory_reply}
 use Rattle.session_rules.specs.Script.{cut, whole_lines, most_line_bytes, is_blank, is_refused, written}
 

@@ -1,14 +1,14 @@
 -- What a run of the program does, by the status that it ends with.
-use Rattle.std.specs.Prelude.{◌≡◌, ℕ, suc, ◌+◌, ◌^◌, ◌≤◌, nat_lt, if◌then◌else◌, List, ◌++◌, length, Some, codes}
+use Rattle.std.specs.Prelude.{◌≡◌, ℕ, suc, ◌+◌, ◌^◌, ◌<◌, ◌≤◌, ◌⊎◌, nat_lt, if◌then◌else◌, List, ◌++◌, length, Some, codes}
 use Rattle.std.specs.List.{list_any}
 use Rattle.script_streams.specs.Streams.{SourceState, SinkState, Wrote, Rose, StartsWith}
 use Rattle.script_runner.specs.declared.running.Status.{Status}
 use Rattle.script_runner.specs.declared.running.Status.TheVariants as status
 use Rattle.script_runner.specs.declared.serving.Served.{Served}
 use Rattle.script_runner.specs.declared.serving.Served.TheVariants.{Ended, ReadFault, WriteFault, TooLong}
-use Rattle.script_runner.specs.declared.session.Session.{Session}
+use Rattle.sessions.specs.declared.session.Session.{Session}
 use Rattle.session_rules.specs.Session.{FlatSession, new_session}
-use Rattle.script_runner.specs.Standing.{StandsFor}
+use Rattle.sessions.specs.Standing.{StandsFor}
 use Rattle.session_rules.specs.Script.{all_lines, written, is_refused, Transcript}
 use Rattle.script_runner.specs.Serving.{ServedAll, ServedToReadFault, ServedToWriteFault, ServedToLimit}
 
@@ -69,6 +69,29 @@ pub record IsTold (script before : List ℕ) (out out' : SinkState) (number : �
   pub told : length before + length (written replies) ≤ out.room
       → out'.taken ≡ Some (before ++ written replies)
 
+-- where the source tells its script, and the sink what it took before and after
+abbrev pub IsAnsweredFrom : SourceState → SinkState → SinkState → ℕ → Type 0
+IsAnsweredFrom src out out' number = (script before after : List ℕ)
+    → src.left ≡ Some script → out.taken ≡ Some before → out'.taken ≡ Some after → IsAnswered script before after number
+
+-- where the source tells its script, and the sink what it took before
+abbrev pub IsToldFrom : SourceState → SinkState → SinkState → ℕ → Type 0
+IsToldFrom src out out' number = (script before : List ℕ)
+    → src.left ≡ Some script → out.taken ≡ Some before → IsTold script before out out' number
+
+-- no read ever fails
+abbrev pub ReadsWell : {S : Type 0} → (S → SourceState) → Type 0
+ReadsWell {S} state = (s : S) → (state s).faults ≡ 0
+
+-- no write ever fails
+abbrev pub WritesWell : {K : Type 0} → (K → SinkState) → Type 0
+WritesWell {K} state = (k : K) → (state k).faults ≡ 0
+
+-- a script within the limit is answered, unless there is no memory to begin with
+abbrev pub IsAnsweredWithin : SourceState → ℕ → Type 0
+IsAnsweredWithin src number = (script : List ℕ) → src.left ≡ Some script → length script < most_script_bytes
+    → (number ≤ 1) ⊎ (number ≡ 3)
+
 -- the script was answered to its end, and this many replies begin with `!`
 pub record AnswersAll (src src' : SourceState) (out out' : SinkState) (refused : ℕ) : Type 0 where
   pub memory : ℕ
@@ -93,3 +116,7 @@ Runs status.WriteFault src src' out out' = FromNew (λ start end. ServedToWriteF
 Runs status.TooLong src src' out out' = FromNew (λ start end. ServedToLimit most_script_bytes start end src src' out out')
 -- the words `run` are a command
 Runs status.Usage src src' out out' = ⊥
+
+-- the same by the number of the status
+abbrev pub EndsRun : ℕ → SourceState → SourceState → SinkState → SinkState → Type 0
+EndsRun number src src' out out' = EndsWith number (λ status. Runs status src src' out out')

@@ -3,8 +3,8 @@ use Rattle.std.specs.Prelude.{◌≡◌, ℕ, ◌+◌, ◌<◌, ◌≤◌, ◌�
 use Rattle.script_streams.specs.Streams.{SourceState, SinkState, greatest_count, Gave, NothingLeft, Wrote, Rose}
 use Rattle.script_runner.specs.declared.serving.Served.{Served}
 use Rattle.script_runner.specs.declared.serving.Served.TheVariants.{Ended, ReadFault, WriteFault, TooLong}
-use Rattle.script_runner.specs.declared.session.Session.{Session}
-use Rattle.script_runner.specs.Standing.{Replied}
+use Rattle.sessions.specs.declared.session.Session.{Session}
+use Rattle.sessions.specs.Standing.{Replied}
 use Rattle.session_rules.specs.Script.{whole_lines, all_lines, written}
 use Rattle.script_runner.specs.Progress.{refusals, memory_refusals, Led, Broken}
 use Rattle.script_runner.specs.declared.serving.Progress.{Progress}

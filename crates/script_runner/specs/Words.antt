@@ -1,7 +1,9 @@
 -- Which command the words of the command line are.
-use Rattle.std.specs.Prelude.{ℕ, ◌-◌, ◌^◌, if◌then◌else◌, List, [], ◌∷◌, Option, Some, None, codes}
+use Rattle.std.specs.Prelude.{ℕ, ◌-◌, ◌^◌, if◌then◌else◌, List, [], ◌∷◌, map, Option, Some, None, codes, string_bytes}
 use Rattle.std.specs.Str.{bytes_eq}
 use Rattle.std.specs.Str.Parse.{digits_value, without_leading_plus}
+use Rattle.std.specs.declared.string.String.{String}
+use Rattle.std.specs.declared.alloc.Global.{Global}
 use Rattle.clap.specs.ValueTests.{is_unsigned_in}
 use Rattle.script_play.specs.declared.TheConstants.{MOST_LINES}
 use Rattle.script_runner.specs.declared.words.Words.{Words}
@@ -37,3 +39,6 @@ command_with name (count ∷ seed ∷ other ∷ others) = NoCommand
 abbrev pub words_command : List (List ℕ) → Words
 words_command [] = NoCommand
 words_command (name ∷ words) = command_with name (arguments words)
+
+abbrev pub command_of : List (String Global) → Words
+command_of words = words_command (map string_bytes words)

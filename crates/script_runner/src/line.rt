@@ -1,13 +1,11 @@
 //! The line that is being read.
 
 ghost use Rattle.std.specs.Prelude.{◌≡◌, ℕ, List, [], ◌++◌, nat_lt};
-ghost use Rattle.session_rules.specs.Script.{is_blank_byte, is_blank, most_line_bytes};
+ghost use Rattle.session_rules.specs.Script.{most_line_bytes};
 ghost use Rattle.script_runner.specs.Progress.{IsLineSoFar};
 
+use sessions::{MOST_LINE_BYTES, is_blank};
 use std::alloc::Global;
-
-/// The most bytes that a line may have, its LF not counted.
-pub const MOST_LINE_BYTES: usize = 0x100_0000;
 
 /// What has come of a line. Its bytes are kept up to the limit, where there is memory for them.
 #[derive(Drop)]
@@ -63,16 +61,4 @@ impl PartialLine {
         self.is_blank = true;
         self.is_lost = false;
     }
-}
-
-pub(crate) fn is_blank(bytes: &[u8]) -> bool
-    ensures { result ≡ is_blank bytes.now }
-{
-    bytes.iter().all(|byte| is_blank_byte(*byte))
-}
-
-fn is_blank_byte(byte: u8) -> bool
-    ensures { result ≡ is_blank_byte byte }
-{
-    byte == b' ' || byte == b'\t' || byte == b'\r'
 }

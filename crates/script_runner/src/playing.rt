@@ -7,11 +7,11 @@ ghost use Rattle.script_runner.specs.Playing.{part, line_of, SumsUp, Shows, Play
 
 use crate::running::{MOST_SCRIPT_BYTES, Status, read_buffer};
 use crate::serving::{Served, serve};
-use crate::session::Session;
 use arrayvec::ArrayVec;
 use itoa::Buffer;
 use script_play::{PlaySource, TallySink};
 use script_streams::{Sink, write_whole};
+use sessions::Session;
 use std::alloc::Global;
 
 /// What came of a script that was played, in numbers.

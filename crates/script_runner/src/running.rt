@@ -1,19 +1,19 @@
 //! What a run of the program does.
 
-ghost use Rattle.std.specs.Prelude.{◌≡◌, ◌≢◌, ◌≤◌, ◌<◌, ◌⊎◌, ℕ, List, Some, map, string_bytes, vec_len, IfOk, length};
+ghost use Rattle.std.specs.Prelude.{◌≡◌, ◌≢◌, ◌≤◌, ◌⊎◌, ℕ, List, vec_len, IfOk};
 ghost use Rattle.session_rules.specs.Session.{FlatSession};
 ghost use Rattle.session_rules.specs.Step.{memory_reply};
 ghost use Rattle.session_rules.specs.Script.{turn, Transcript, IsDecided};
-ghost use Rattle.script_runner.specs.Words.{words_command};
-ghost use Rattle.script_runner.specs.Playing.{Plays};
+ghost use Rattle.script_runner.specs.Words.{command_of};
+ghost use Rattle.script_runner.specs.Playing.{EndsPlay};
 ghost use Rattle.script_runner.specs.Obeying.{Obeys};
-ghost use Rattle.script_runner.specs.Runs.{most_script_bytes, number_of, status_after, EndsWith, ShowsUsage, Runs, IsAnswered, IsTold};
+ghost use Rattle.script_runner.specs.Runs.{number_of, status_after, EndsRun, EndsWith, IsAnsweredFrom, IsAnsweredWithin, IsToldFrom, ReadsWell, Runs, ShowsUsage, WritesWell};
 
 use crate::playing::play;
 use crate::serving::{Served, serve};
-use crate::session::Session;
 use crate::words::{Words, words_of};
 use script_streams::{Sink, Source, write_whole};
+use sessions::Session;
 use std::alloc::{AllocError, Global};
 
 /// The most bytes of a script.
@@ -49,7 +49,7 @@ pub(crate) enum Status {
 /// `run` answers the script of `src` on `out`. `play COUNT SEED` answers the script that the two numbers stand for, with
 /// at most [`MOST_LINES`](script_play::MOST_LINES) lines, and writes one line on `out` that sums the replies up; 3 also
 /// where a reply is `! memory`, and nothing is written then; never 4 nor 6.
-#[tactic(auto, using(crate::proofs::DecidedLemmas::decided, crate::proofs::DecidedLemmas::never_memory, crate::proofs::ObeyLemmas::for_run, crate::proofs::ObeyLemmas::for_play, crate::proofs::ObeyLemmas::for_none))]
+#[tactic(auto, using(session_rules::proofs::DecidedLemmas::decided, session_rules::proofs::DecidedLemmas::never_memory, crate::proofs::ObeyLemmas::for_run, crate::proofs::ObeyLemmas::for_play, crate::proofs::ObeyLemmas::for_none))]
 pub fn run_words<S: Source, K: Sink, E: Sink>(
     alloc: Global,
     words: &[String],
@@ -59,54 +59,41 @@ pub fn run_words<S: Source, K: Sink, E: Sink>(
 ) -> u8
     // The program answers as the flat documents do: where the source tells what it holds and `out` what it took, the
     // bytes written for a script that was answered are the replies to all of its lines, one by one, by new documents.
-    ensures headline { words_command (map string_bytes words.now) ≡ Words.Run → result ≤ 1
-        → (script before after : List ℕ)
-        → (S.state src.old).left ≡ Some script → (K.state out.old).taken ≡ Some before
-        → (K.state out.new).taken ≡ Some after → IsAnswered script before after result }
+    ensures headline { command_of words.now ≡ Words.Run → result ≤ 1
+        → IsAnsweredFrom (S.state src.old) (K.state out.old) (K.state out.new) result }
 
     // A sink that told what it took before tells the replies too, where it has room for them.
-    ensures told { words_command (map string_bytes words.now) ≡ Words.Run → result ≤ 1
-        → (script before : List ℕ)
-        → (S.state src.old).left ≡ Some script → (K.state out.old).taken ≡ Some before
-        → IsTold script before (K.state out.old) (K.state out.new) result }
+    ensures told { command_of words.now ≡ Words.Run → result ≤ 1
+        → IsToldFrom (S.state src.old) (K.state out.old) (K.state out.new) result }
 
     // What was written leaves no choice. A flat reply is never `! memory`, so the replies tell where memory was wanting.
     ensures flat { (f : FlatSession) (line : List ℕ) → (turn f line).0 ≢ memory_reply }
-    ensures decided { (start : FlatSession) (lines replies : List (List ℕ)) (end : FlatSession)
+    ensures decided { (start end : FlatSession) (lines replies : List (List ℕ))
         → Transcript start lines replies end → IsDecided start lines replies end }
 
     // What stands at each status, for streams that tell and for others.
-    ensures run { words_command (map string_bytes words.now) ≡ Words.Run
-        → EndsWith result (λ status.
-        Runs status (S.state src.old) (S.state src.new) (K.state out.old) (K.state out.new)) }
-    ensures play { (count seed : ℕ)
-        → words_command (map string_bytes words.now) ≡ Words.Play count seed
-        → EndsWith result (λ status. Plays status count seed (K.state out.old) (K.state out.new)) }
-    ensures usage { words_command (map string_bytes words.now) ≡ Words.NoCommand
+    ensures run { command_of words.now ≡ Words.Run
+        → EndsRun result (S.state src.old) (S.state src.new) (K.state out.old) (K.state out.new) }
+    ensures play { (count seed : ℕ) → command_of words.now ≡ Words.Play count seed
+        → EndsPlay result count seed (K.state out.old) (K.state out.new) }
+    ensures usage { command_of words.now ≡ Words.NoCommand
         → EndsWith result (λ status. ShowsUsage status (E.state err.old) (E.state err.new)) }
 
     // Each command leaves alone what is not its own.
-    ensures run_leaves_err { words_command (map string_bytes words.now) ≡ Words.Run
-        → err.new ≡ err.old }
+    ensures run_leaves_err { command_of words.now ≡ Words.Run → err.new ≡ err.old }
     ensures play_leaves_source { (count seed : ℕ)
-        → words_command (map string_bytes words.now) ≡ Words.Play count seed → src.new ≡ src.old }
+        → command_of words.now ≡ Words.Play count seed → src.new ≡ src.old }
     ensures play_leaves_err { (count seed : ℕ)
-        → words_command (map string_bytes words.now) ≡ Words.Play count seed → err.new ≡ err.old }
-    ensures usage_leaves_source { words_command (map string_bytes words.now) ≡ Words.NoCommand
-        → src.new ≡ src.old }
-    ensures usage_leaves_out { words_command (map string_bytes words.now) ≡ Words.NoCommand
-        → out.new ≡ out.old }
+        → command_of words.now ≡ Words.Play count seed → err.new ≡ err.old }
+    ensures usage_leaves_source { command_of words.now ≡ Words.NoCommand → src.new ≡ src.old }
+    ensures usage_leaves_out { command_of words.now ≡ Words.NoCommand → out.new ≡ out.old }
 
     // Where no fault can come, a script within the limit is answered, unless there is no memory to begin with; and one
     // that is played is, unless memory is wanting.
-    ensures complete { words_command (map string_bytes words.now) ≡ Words.Run
-        → ((s : S) → (S.state s).faults ≡ 0)
-        → ((k : K) → (K.state k).faults ≡ 0)
-        → (script : List ℕ) → (S.state src.old).left ≡ Some script
-        → length script < most_script_bytes → (result ≤ 1) ⊎ (result ≡ 3) }
-    ensures play_complete { (count seed : ℕ)
-        → words_command (map string_bytes words.now) ≡ Words.Play count seed
-        → ((k : K) → (K.state k).faults ≡ 0) → (result ≤ 1) ⊎ (result ≡ 3) }
+    ensures complete { command_of words.now ≡ Words.Run → ReadsWell S.state → WritesWell K.state
+        → IsAnsweredWithin (S.state src.old) result }
+    ensures play_complete { (count seed : ℕ) → command_of words.now ≡ Words.Play count seed
+        → WritesWell K.state → (result ≤ 1) ⊎ (result ≡ 3) }
 {
     number_of(obey(alloc, words, src, out, err))
 }
@@ -119,7 +106,7 @@ fn obey<S: Source, K: Sink, E: Sink>(
     out: &mut K,
     err: &mut E,
 ) -> Status
-    ensures { Obeys S.state K.state E.state (words_command (map string_bytes words.now)) result
+    ensures { Obeys S.state K.state E.state (command_of words.now) result
         src.old src.new out.old out.new err.old err.new }
 {
     match words_of(alloc, words) {

@@ -2,18 +2,18 @@
 
 ghost use Rattle.std.specs.Prelude.{◌≡◌, ◌<◌, ◌+◌, length, min, [], ◌∷◌, ◌++◌, if◌then◌else◌, is_err, IfNone, IfSome};
 ghost use Rattle.script_streams.specs.Streams.{greatest_count};
-ghost use Rattle.script_runner.specs.Bytes.{is_for_memory};
+ghost use Rattle.sessions.specs.Bytes.{is_for_memory};
 ghost use Rattle.session_rules.specs.Script.{IsInOneLine};
 ghost use Rattle.script_runner.specs.Progress.{IsLineSoFar, AnswersLine, AnswersPiece};
 ghost use Rattle.script_runner.specs.Serving.{Serves, Finishes};
 
 use crate::line::PartialLine;
-use crate::outcome::{Outcome, Refused, write_outcome};
+use crate::outcome::write_outcome;
 use crate::reply::reply_at_end;
-use crate::session::Session;
 use memchr::memchr;
 use script_lines::Refusal;
 use script_streams::{Failed, Sink, Source};
+use sessions::{Outcome, Refused, Session};
 use std::alloc::Global;
 
 /// How serving a script ended.

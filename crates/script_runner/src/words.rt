@@ -1,11 +1,11 @@
 //! Which command the words of the command line are.
 
-ghost use Rattle.std.specs.Prelude.{◌≡◌, ◌≤◌, ℕ, Ok, false, IfSome, IfOk, map, string_bytes, codes};
+ghost use Rattle.std.specs.Prelude.{◌≡◌, ◌≤◌, ℕ, Ok, false, IfSome, IfOk, codes};
 ghost use Rattle.clap.specs.Walk.{rows_of, rule_of};
 ghost use Rattle.clap.specs.Words.{app_of, found_of, subcommand_rows_of};
 ghost use Rattle.clap.specs.declared.builder.command.Command.TheViews.{out-Command};
 ghost use Rattle.script_play.specs.Script.{IsCount};
-ghost use Rattle.script_runner.specs.Words.{words_command};
+ghost use Rattle.script_runner.specs.Words.{command_of};
 ghost use Rattle.script_runner.specs.CommandLine.{command_found, command_line, number_at, number_rule, play_line, played};
 
 use clap::error::ErrorKind;
@@ -26,8 +26,7 @@ pub(crate) enum Words {
 
 /// The command that the words are; an error where there is no memory to read them.
 pub(crate) fn words_of(alloc: Global, words: &[String]) -> Result<Words, AllocError>
-    ensures command { IfOk result (λ command.
-        command ≡ words_command (map string_bytes words.now)) }
+    ensures command { IfOk result (λ command. command ≡ command_of words.now) }
     ensures count { (count seed : ℕ) → result ≡ Ok (Words.Play count seed) → IsCount count }
 {
     match command_line(alloc)?.try_get_matches_from(words) {

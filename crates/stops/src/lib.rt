@@ -3,7 +3,7 @@
 
 ghost use Rattle.std.specs.Prelude.{◌≡◌, ◌≤◌, ◌++◌, true, length, take, vec_len, OnOk, OnErr};
 ghost use Rattle.unicode_segmentation.specs.Grapheme.{graphemes};
-ghost use Rattle.stop_rules.specs.Stops.{stops_of, starts_from, width};
+ghost use Rattle.document_rules.specs.Stops.{stops_of, starts_from, width};
 
 use std::alloc::{AllocError, Global};
 use unicode_segmentation::UnicodeSegmentation;

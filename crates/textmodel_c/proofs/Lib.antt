@@ -1,4 +1,5 @@
 mod Boxed
+pub mod SmallPlaces
 mod Handles
 pub mod Firsts
 pub mod JoinedTexts

@@ -99,7 +99,8 @@ with_table (Ok table) rule = rule table
 -- a new document with brackets of its own
 abbrev pub group_open_with : ℕ → List PairUnits → List ℕ → List ℕ → FlatGroup → Result FlatGroup FlatRefusal
 group_open_with number pairs brackets text g =
-    with_kind (kind_of number) (λ kind. with_table (table_or_range (pairs_of pairs brackets)) (λ table. group_open g FIRST text (plain_scanner table) kind))
+    let told = table_or_range (pairs_of pairs brackets) in
+    with_kind (kind_of number) (λ kind. with_table told (λ table. group_open g FIRST text (plain_scanner table) kind))
 
 abbrev pub group_eol_as : ℕ → FlatGroup → Result (Option FlatGroup) FlatRefusal
 group_eol_as number g = with_kind (kind_of number) (group_eol g FIRST)

@@ -15,11 +15,11 @@ use Rattle.group_rules.specs.Outcomes.{MovesAll}
 use Rattle.group_rules.specs.Group.{FlatGroup}
 use Rattle.model_group.specs.State.{documents}
 use Rattle.document_rules.specs.Snapshots.{flat_peek_of, flat_skipped}
-use Rattle.script_runner.specs.declared.session.Session.{Session}
+use Rattle.sessions.specs.declared.session.Session.{Session}
 use Rattle.session_rules.specs.Session.{new_session}
-use Rattle.script_runner.specs.Standing.{StandsFor, Turns, BeginsAnew}
-use Rattle.script_runner.specs.Bytes.{bytes_of_outcome}
-use Rattle.script_runner.specs.declared.outcome.Reply.TheVariants.{Nothing}
+use Rattle.sessions.specs.Standing.{StandsFor, Turns, BeginsAnew}
+use Rattle.sessions.specs.Bytes.{bytes_of_outcome}
+use Rattle.sessions.specs.declared.outcome.Reply.TheVariants.{Nothing}
 use Rattle.textmodel_c.specs.declared.status.Status.{Status}
 use Rattle.textmodel_c.specs.declared.status.Status.TheVariants as status
 use Rattle.textmodel_c.specs.declared.document.Document.{Document}

@@ -1,15 +1,15 @@
 //! Script lines and their replies.
 
 ghost use Rattle.std.specs.Prelude.{◌≡◌, length, IfNone};
-ghost use Rattle.script_runner.specs.Bytes.{bytes_of_outcome};
-ghost use Rattle.script_runner.specs.Standing.{Turns};
+ghost use Rattle.sessions.specs.Bytes.{bytes_of_outcome};
+ghost use Rattle.sessions.specs.Standing.{Turns};
 ghost use Rattle.textmodel_c.specs.Told.{CopiedFrom, HasAnswered, Leaves, RepliesHeld};
 
 use crate::document::Document;
 use crate::handle::Handle;
 use crate::status::Status;
 use script_lines::refusal;
-use script_runner::{Outcome, Refused};
+use sessions::{Outcome, Refused};
 use std::alloc::Global;
 
 /// The version of this library: ten thousand times the major number, a hundred times the minor one, and the patch.

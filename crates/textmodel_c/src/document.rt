@@ -6,7 +6,7 @@ ghost use Rattle.textmodel_c.specs.Told.{IsNew};
 
 use model_core::Model;
 use model_group::Group;
-use script_runner::{Outcome, Reply, Session};
+use sessions::{Outcome, Reply, Session};
 use std::alloc::{AllocError, Global};
 
 /// The number of the document that the calls are on.

@@ -10,7 +10,7 @@ use crate::document::FIRST;
 use crate::handle::Handle;
 use crate::status::Status;
 use model_core::{BracketTable, Hiding, ModelError, TableError, Units, units_of};
-use script_runner::Session;
+use sessions::Session;
 use std::alloc::{AllocError, Global};
 use std::str::from_utf8;
 use unit_text::Kind;

@@ -5,11 +5,10 @@ ghost use Rattle.std.specs.List.{All};
 ghost use Rattle.unit_text.specs.Units.{IsPaired};
 ghost use Rattle.document_rules.specs.Outcomes.{Changes};
 ghost use Rattle.document_rules.specs.Paired.{IsPairedState};
-ghost use Rattle.model_page.specs.LineMarks.{marked_backwards};
 ghost use Rattle.model_core.specs.Prepared.{need_of, Acts, ActsAlone, ArePairedTexts, CanCommit, HasActed, IsChangeOf, IsEnough, PreparesEdit};
 ghost use Rattle.model_core.specs.State.{LeftAfter, KeptAfter, GrownAfter, KeepsParse};
 ghost use Rattle.document_rules.specs.Document.{greatest_version, text_now, flat_edit};
-ghost use Rattle.model_core.specs.Edited.{HasEdited, one_edit, ops_as_done};
+ghost use Rattle.model_core.specs.Edited.{HasEdited, marks_edited, one_edit};
 
 use crate::errors::error_of;
 use crate::latest::Latest;
@@ -38,8 +37,7 @@ impl Model {
         ensures parsed { self.new.parsed ≡ self.old.parsed }
         ensures tree { self.new.tree ≡ self.old.tree }
         ensures states { self.new.states ≡ self.old.states }
-        ensures marks { LeftAfter result (marked_backwards self.old.document.units
-            (ops_as_done self.old.document ops.items) self.old.marks)
+        ensures marks { LeftAfter result (marks_edited self.old ops.items)
             self.old.marks self.new.marks }
         ensures fresh { KeptAfter (length ops.items) result self.old.fresh self.new.fresh }
         ensures pieces { GrownAfter (length ops.items) result self.old.pieces self.new.pieces }

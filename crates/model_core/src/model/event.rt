@@ -1,9 +1,9 @@
 //! The last change of a document, as an event.
 
-ghost use Rattle.std.specs.Prelude.{◌≡◌, ◌↔◌, ◌<◌, Some, length, option_map, IfOk, IfSome, IsNone};
+ghost use Rattle.std.specs.Prelude.{◌≡◌, ◌↔◌, ◌<◌, Some, length, IfOk, IfSome, IsNone};
 ghost use Rattle.batch_rules.specs.Events.{TakeTo};
-ghost use Rattle.document_rules.specs.Document.{FlatText, LastChange, flat_event};
-ghost use Rattle.model_core.specs.History.{last_of, latest_steps};
+ghost use Rattle.document_rules.specs.Document.{FlatText, flat_event};
+ghost use Rattle.model_core.specs.History.{last_batches, last_of, latest_steps};
 
 use crate::latest::Latest;
 use crate::model::Model;
@@ -38,8 +38,7 @@ fn latest_batches(
 ) -> Result<Vec<Batch>, AllocError>
     requires { 0 < length (latest_steps latest history.now.stack) }
     ensures { (now : FlatText) → IfOk result (λ batches.
-        option_map (λ (last : LastChange). last.batches) (last_of (Some latest) now history.now.stack)
-        ≡ Some batches.items) }
+        last_batches (last_of (Some latest) now history.now.stack) ≡ Some batches.items) }
 {
     let Some(step) = next_step(history, latest.way()) else {
         unreachable!()

@@ -2,7 +2,7 @@ use Rattle.std.proofs.Common.{◌≡◌, ◌+◌, ◌≤◌, ◌++◌, true, len
 use Rattle.std.specs.List.{concat}
 use Rattle.unicode_segmentation.specs.Grapheme.{graphemes}
 use Rattle.unicode_segmentation.specs.Iter.{graphemes_left}
-use Rattle.stop_rules.specs.Stops.{starts_from}
+use Rattle.document_rules.specs.Stops.{starts_from}
 use Rattle.stops.proofs.push_stops.Given as goal
 
 abbrev pub invariant-loop-cluster : goal.invariant-loop-cluster

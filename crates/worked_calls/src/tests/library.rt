@@ -2,7 +2,7 @@
 //! has one way out.
 
 use super::documents::open;
-use model_core::{Model, ModelError, Op};
+use model_core::{Kind, Model, ModelError, Op};
 use std::alloc::Global;
 use std::test::Fail;
 use text_lengths::Span;
@@ -15,11 +15,12 @@ fn a_document_is_edited_and_read(rt: HostRuntime) -> Result<(), Fail> {
     Ok(())
 }
 
-/// `abc` is put in, `b` is taken out, and `XY` comes in the place of `a`.
+/// `abc` is put in, `b` is taken out, `XY` comes in the place of `a`, and `Z` in that of each `Y`. Other line endings
+/// change nothing here.
 #[test]
 fn a_document_is_edited_by_calls_of_one_edit(rt: HostRuntime) -> Result<(), Fail> {
     let shown = first_line_of_single_edits(rt.alloc())?;
-    assert_eq!(rt; shown.as_slice(), b"XYc".as_slice());
+    assert_eq!(rt; shown.as_slice(), b"XZc".as_slice());
     Ok(())
 }
 
@@ -45,6 +46,8 @@ fn edit_by_single_edits(alloc: Global, model: &mut Model) -> Result<Vec<u8>, Fai
     insert_abc(model)?;
     remove_b(model)?;
     replace_a(model)?;
+    replace_each_y(model)?;
+    model.set_eol(Kind::Lf)?;
     first_line(alloc, model)
 }
 
@@ -58,6 +61,10 @@ fn remove_b(model: &mut Model) -> Result<(), ModelError> {
 
 fn replace_a(model: &mut Model) -> Result<(), ModelError> {
     model.replace(Span { start: 0, end: 1 }, &[0x58, 0x59])
+}
+
+fn replace_each_y(model: &mut Model) -> Result<bool, ModelError> {
+    model.replace_all(&[0x59], &[0x5A])
 }
 
 fn edit(alloc: Global, model: &mut Model) -> Result<(), Fail> {

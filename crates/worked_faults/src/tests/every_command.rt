@@ -29,4 +29,5 @@ pub const EVERY_COMMAND: &str = r#"
 {"cmd":"close","id":1} => ok
 {"cmd":"replace","find":"x","text":"yy"} => ok 5 9 3
 {"cmd":"eol","kind":"crlf"} => ok 6 11 3
+{"cmd":"joint","edits":[{"doc":0,"ops":[{"at":[0,0],"text":"z"}]},{"doc":1,"ops":[{"at":[0,0],"text":"w"}]}]} => ok 0 7 12 3 1 2 1 1
 "#;

@@ -29,7 +29,7 @@ const ALL: u64 = u64::MAX;
 /// Two units, and one character.
 const EMOJI: &str = "\u{1F600}";
 
-const KINDS: &[Kind] = &[
+const TEXTS: &[Kind] = &[
     Kind {
         name: "breaks",
         parts: &[("a\\r\\nb", 1)],
@@ -58,6 +58,9 @@ const KINDS: &[Kind] = &[
         scripts: 4,
         rounds: 60,
     },
+];
+
+const BRACKETS: &[Kind] = &[
     Kind {
         name: "standard brackets",
         parts: &[("f(x) { a[0] }\\n", 12)],
@@ -77,6 +80,9 @@ const KINDS: &[Kind] = &[
         scripts: 3,
         rounds: 40,
     },
+];
+
+const DEEP_BRACKETS: &[Kind] = &[
     // At the end more brackets are open than a parse keeps open, so that edits make text of the last ones and brackets again.
     Kind {
         name: "more brackets than are kept open",
@@ -87,19 +93,23 @@ const KINDS: &[Kind] = &[
         scripts: 2,
         rounds: 30,
     },
-    Kind {
-        name: "comments and strings",
-        parts: &[
-            ("f(x) { // ]\\n", 4),
-            ("/* ( */ g[\\\"(\\\"]\\n", 3),
-            ("h('\\\\'') }\\n", 2),
-        ],
-        members: r#","marks":{"line":"//","block":["/*","*/"],"quotes":["\"","'"]}"#,
-        places: ALL,
-        texts: ["/*", "*/(", "//", "\\\"", "'", "\\\\", "\\n", ""],
-        scripts: 8,
-        rounds: 60,
-    },
+];
+
+const COMMENTS: &[Kind] = &[Kind {
+    name: "comments and strings",
+    parts: &[
+        ("f(x) { // ]\\n", 4),
+        ("/* ( */ g[\\\"(\\\"]\\n", 3),
+        ("h('\\\\'') }\\n", 2),
+    ],
+    members: r#","marks":{"line":"//","block":["/*","*/"],"quotes":["\"","'"]}"#,
+    places: ALL,
+    texts: ["/*", "*/(", "//", "\\\"", "'", "\\\\", "\\n", ""],
+    scripts: 8,
+    rounds: 60,
+}];
+
+const LONG_COMMENTS: &[Kind] = &[
     // Edits at the top begin and end a comment that goes on to a line in the middle, or to the end.
     Kind {
         name: "long comments",
@@ -114,6 +124,9 @@ const KINDS: &[Kind] = &[
         scripts: 4,
         rounds: 60,
     },
+];
+
+const MARKS_BESIDE_BRACKETS: &[Kind] = &[
     // Some brackets begin as a mark does, and some have a mark inside them.
     Kind {
         name: "marks beside brackets",
@@ -264,10 +277,45 @@ impl Growing {
 }
 
 #[test]
-fn the_flat_document_answers_the_same(rt: HostRuntime) -> Result<(), Fail> {
-    for kind in KINDS {
+fn edits_of_texts(rt: HostRuntime) -> Result<(), Fail> {
+    expect_all_same(&rt, TEXTS)?;
+    Ok(())
+}
+
+#[test]
+fn edits_among_brackets(rt: HostRuntime) -> Result<(), Fail> {
+    expect_all_same(&rt, BRACKETS)?;
+    Ok(())
+}
+
+#[test]
+fn edits_among_deep_brackets(rt: HostRuntime) -> Result<(), Fail> {
+    expect_all_same(&rt, DEEP_BRACKETS)?;
+    Ok(())
+}
+
+#[test]
+fn edits_among_comments(rt: HostRuntime) -> Result<(), Fail> {
+    expect_all_same(&rt, COMMENTS)?;
+    Ok(())
+}
+
+#[test]
+fn edits_among_long_comments(rt: HostRuntime) -> Result<(), Fail> {
+    expect_all_same(&rt, LONG_COMMENTS)?;
+    Ok(())
+}
+
+#[test]
+fn edits_among_marks_beside_brackets(rt: HostRuntime) -> Result<(), Fail> {
+    expect_all_same(&rt, MARKS_BESIDE_BRACKETS)?;
+    Ok(())
+}
+
+fn expect_all_same<R: AllocGlobal + Abort>(rt: &R, kinds: &[Kind]) -> Result<(), AllocError> {
+    for kind in kinds {
         for seed in 0..kind.scripts {
-            expect_same(&rt, kind, seed)?;
+            expect_same(rt, kind, seed)?;
         }
     }
     Ok(())

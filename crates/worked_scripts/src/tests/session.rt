@@ -1,8 +1,9 @@
 //! Lines that a caller hands to a session, one by one.
 
 use memory_streams::MemSink;
-use script_runner::{Session, write_outcome};
+use script_runner::write_outcome;
 use script_streams::Failed;
+use sessions::Session;
 use std::alloc::{AllocError, Global};
 use std::test::Fail;
 

@@ -1,5 +1,5 @@
 use Rattle.std.proofs.Common.{◌<◌, ap, arith}
-use Rattle.recast_rules.specs.Moves.{line_moves}
+use Rattle.decoration_rules.specs.LineMoves.{line_moves}
 use Rattle.recasts.proofs.Steps.{behind_content, content_after, line_from-within, last_move, same_later, moves_later}
 use Rattle.recasts.proofs.lines.line_moves.Goals as goal
 

@@ -1,6 +1,6 @@
 use Rattle.std.proofs.Common.{◌≡◌, ◌-◌, ◌≤◌, ◌++◌, length, drop}
 use Rattle.text_rules.specs.Lines.{lines_of}
-use Rattle.recast_rules.specs.Moves.{moves_from, line_moves, HaveSameContents}
+use Rattle.decoration_rules.specs.LineMoves.{moves_from, line_moves, HaveSameContents}
 use Rattle.recasts.proofs.lines.line_moves.Given as goal
 
 abbrev pub invariant-loop-moves : goal.invariant-loop-moves

@@ -4,9 +4,9 @@ use Rattle.std.proofs.lemmas.Grind.{common_steps}
 use Rattle.script_lines.specs.declared.reason.Refusal.{Refusal}
 use Rattle.script_lines.specs.declared.reason.Refusal.TheVariants.{Syntax, Unknown, Range, Overlap, Limit, Memory, Gap, Joint}
 use Rattle.script_lines.specs.Replies.{refusal_reply}
-use Rattle.script_runner.specs.declared.outcome.Reply.{Reply}
-use Rattle.script_runner.specs.declared.outcome.Refused.{Refused}
-use Rattle.script_runner.specs.Bytes.{bytes_of, bytes_of_outcome, is_memory, is_for_memory}
+use Rattle.sessions.specs.declared.outcome.Reply.{Reply}
+use Rattle.sessions.specs.declared.outcome.Refused.{Refused}
+use Rattle.sessions.specs.Bytes.{bytes_of, bytes_of_outcome, is_memory, is_for_memory}
 use Rattle.session_rules.specs.Script.{is_refused}
 use Rattle.script_runner.specs.Progress.{refusals, memory_refusals}
 use Rattle.script_runner.proofs.serving.answer_line.Goals as goal

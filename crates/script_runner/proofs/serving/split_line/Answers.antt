@@ -1,7 +1,7 @@
 use Rattle.std.proofs.Common.{◌≡◌, ◌<◌, length, take, arith}
 use Rattle.std.proofs.lemmas.Bool.{false_from_ne_true}
 use Rattle.std.proofs.lemmas.List.{length-take-le, get_or-take}
-use Rattle.script_runner.proofs.CutLemmas.{in_one_line}
+use Rattle.session_rules.proofs.CutLemmas.{in_one_line}
 use Rattle.script_runner.proofs.serving.split_line.Goals as goal
 
 pub returns-in_err-at-clause-none : goal.returns-in_err-at-clause-none

@@ -2,7 +2,7 @@ use Rattle.std.proofs.Common.{◌≡◌, ◌+◌, ◌≤◌, ◌∙◌, false, l
 use Rattle.std.proofs.lemmas.Grind.{common_steps}
 use Rattle.unit_text.specs.Kinds.{normalized}
 use Rattle.batch_rules.specs.Batches.{most_units}
-use Rattle.recast_rules.specs.Recasts.{RecastState}
+use Rattle.decoration_rules.specs.Recasts.{RecastState}
 use Rattle.document_rules.specs.Document.{greatest_version, is_same_kind}
 use Rattle.model_page.specs.declared.change.Change.TheVariants.{Endings}
 use Rattle.model_page.specs.declared.change.Way.TheVariants.{On}

@@ -4,8 +4,8 @@ use Rattle.decoration_rules.specs.Lines.{length_now}
 use Rattle.decoration_rules.proofs.LineLemmas.{LieIn-carried}
 use Rattle.hiding_rules.specs.Hidden.{scanner}
 use Rattle.document_rules.specs.Document.{FlatText}
-use Rattle.recast_rules.specs.Moves.{line_moves, HaveSameContents}
-use Rattle.recast_rules.proofs.Moves.{length_now-moves}
+use Rattle.decoration_rules.specs.LineMoves.{line_moves, HaveSameContents}
+use Rattle.decoration_rules.proofs.LineMoves.{length_now-moves}
 use Rattle.model_page.specs.Changes.{text_from, text_to}
 use Rattle.model_page.specs.State.{PageState, flat_text}
 use Rattle.model_page.proofs.Staying.{stays_recast}

@@ -1,8 +1,8 @@
 use Rattle.std.proofs.Common.{subst}
 use Rattle.unit_text.specs.Kinds.{IsOfKind}
-use Rattle.recast_rules.specs.Moves.{HaveSameContents}
-use Rattle.recast_rules.specs.Recasts.{RecastState}
-use Rattle.recast_rules.proofs.Recasts.{same_contents, after_of_kind, lines_on}
+use Rattle.decoration_rules.specs.LineMoves.{HaveSameContents}
+use Rattle.decoration_rules.specs.Recasts.{RecastState}
+use Rattle.decoration_rules.proofs.Recasts.{same_contents, after_of_kind, lines_on}
 use Rattle.recasts.proofs.recast.Recast.after.Goals as goal
 
 pub returns-clause-contents : goal.returns-clause-contents

@@ -1,7 +1,7 @@
 use Rattle.std.proofs.Common.{sym, subst}
-use Rattle.recast_rules.specs.Moves.{HaveSameContents}
-use Rattle.recast_rules.specs.Recasts.{RecastState}
-use Rattle.recast_rules.proofs.Recasts.{same_contents, lines_back}
+use Rattle.decoration_rules.specs.LineMoves.{HaveSameContents}
+use Rattle.decoration_rules.specs.Recasts.{RecastState}
+use Rattle.decoration_rules.proofs.Recasts.{same_contents, lines_back}
 use Rattle.recasts.proofs.recast.Recast.before.Goals as goal
 
 pub returns-clause-contents : goal.returns-clause-contents

@@ -1,9 +1,9 @@
 use Rattle.std.proofs.Common.{◌≡◌, ◌∙◌, List, ℕ, map, ap, ap₂, sym, subst, arith}
 use Rattle.unit_text.specs.Kinds.{normalized}
-use Rattle.recast_rules.specs.Moves.{line_moves, turned, HaveSameContents}
-use Rattle.recast_rules.specs.Recasts.{SideState, AreSides}
-use Rattle.recast_rules.proofs.Contents.{contents-normalized}
-use Rattle.recast_rules.proofs.Moves.{line_moves-turned}
+use Rattle.decoration_rules.specs.LineMoves.{line_moves, turned, HaveSameContents}
+use Rattle.decoration_rules.specs.Recasts.{SideState, AreSides}
+use Rattle.decoration_rules.proofs.Contents.{contents-normalized}
+use Rattle.decoration_rules.proofs.LineMoves.{line_moves-turned}
 use Rattle.recasts.proofs.recast.Recast.of.Goals as goal
 
 pub line_moves-requires : goal.line_moves-requires

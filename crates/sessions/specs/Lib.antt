@@ -1,0 +1,4 @@
+pub mod Standing
+pub mod Bytes
+pub mod Told
+pub mod Joint

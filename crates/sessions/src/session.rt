@@ -1,0 +1,116 @@
+//! What is kept from one line to the next.
+
+ghost use Rattle.std.specs.Prelude.{◌≡◌, ◌<◌, [], None, IfOk, OnOk, OnErr};
+ghost use Rattle.hiding_rules.specs.Hidden.{scanner};
+ghost use Rattle.document_rules.specs.Outcomes.{Changes};
+ghost use Rattle.group_rules.specs.declared.TheConstants.{DOC_COUNT};
+ghost use Rattle.group_rules.specs.Group.{group_open};
+ghost use Rattle.model_group.specs.State.{documents};
+ghost use Rattle.session_rules.specs.Session.{new_session};
+ghost use Rattle.sessions.specs.Standing.{AreFresh, BeginsAnew, StandsFor, Turns};
+ghost use Rattle.sessions.specs.Bytes.{bytes_of_outcome};
+ghost use Rattle.sessions.specs.Told.{IsAccepted};
+
+use crate::line::{MOST_LINE_BYTES, is_blank};
+use crate::outcome::{Outcome, Refused, Reply};
+use crate::reply::reply_to_bytes;
+use mirror_model::Mirror;
+use model_core::{BracketTable, Event, Hiding, Kind, ModelError};
+use model_group::{DOC_COUNT, Group};
+use script_lines::Refusal;
+use std::alloc::{AllocError, Global};
+
+/// What follows a document.
+#[derive(Drop)]
+pub struct Follower {
+    /// The text that follows the document by its events, where one was begun.
+    pub mirror: Option<Mirror>,
+    /// The events that were sent, the first one first.
+    pub sent: Vec<Event>,
+}
+
+impl Follower {
+    /// Nothing was mirrored or sent.
+    fn new(alloc: Global) -> Follower
+        ensures mirror { result.mirror ≡ None }
+        ensures sent { result.sent.items ≡ [] }
+    {
+        Follower {
+            mirror: None,
+            sent: Vec::new(alloc),
+        }
+    }
+}
+
+/// Answers lines, one after another: the documents, what follows each of them, and where replies take their memory.
+#[derive(Drop)]
+pub struct Session {
+    pub alloc: Global,
+    pub group: Group,
+    /// By the numbers of their documents.
+    pub followers: Vec<Follower>,
+}
+
+impl Session {
+    /// A session with empty documents.
+    pub fn new(alloc: Global) -> Result<Session, AllocError>
+        ensures { IfOk result (λ session. StandsFor session new_session) }
+    {
+        let group = Group::new(alloc)?;
+        let followers = new_followers(alloc)?;
+        Ok(Session {
+            alloc,
+            group,
+            followers,
+        })
+    }
+
+    /// Opens a new document of this number as `Group::open_doc` does. The mirror and the events of the old one go with it.
+    pub fn open_doc(
+        &mut self,
+        doc: u64,
+        text: &[u16],
+        table: BracketTable,
+        kind: Kind,
+        hiding: Hiding,
+    ) -> Result<(), ModelError>
+        requires { doc < DOC_COUNT }
+        ensures documents { let g = documents self.old.group in
+            Changes result g (documents self.new.group)
+            (group_open g doc text.now (scanner table hiding) kind) }
+        ensures followers { OnOk result
+            (BeginsAnew doc self.old.followers.items self.new.followers.items) }
+        ensures kept { OnErr result (self.new.followers.items ≡ self.old.followers.items) }
+    {
+        self.group.open_doc(doc, text, table, kind, hiding)?;
+        if let Some(follower) = self.followers.get_mut(doc as usize) {
+            *follower = Follower::new(self.alloc);
+        }
+        Ok(())
+    }
+
+    /// Answers a whole line, which comes without its LF.
+    pub fn answer(&mut self, line: &[u8]) -> Outcome
+        ensures turn { Turns self.old line.now (bytes_of_outcome result) self.new }
+        ensures accepted { IsAccepted result }
+    {
+        if line.len() > MOST_LINE_BYTES {
+            return Err(Refused(Refusal::Limit));
+        }
+        if is_blank(line) {
+            return Ok(Reply::Nothing);
+        }
+        reply_to_bytes(self, line)
+    }
+}
+
+/// One for each document, and nothing was mirrored or sent.
+fn new_followers(alloc: Global) -> Result<Vec<Follower>, AllocError>
+    ensures { IfOk result (λ followers. AreFresh followers.items) }
+{
+    let mut followers = Vec::with_capacity(alloc, DOC_COUNT as usize)?;
+    for _ in 0..DOC_COUNT {
+        followers.push(Follower::new(alloc))?;
+    }
+    Ok(followers)
+}

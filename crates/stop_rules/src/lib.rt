@@ -1,2 +1,0 @@
-//! Where a cursor may stop in a line: definitions alone, which contracts cite. `stops` finds the places.
-#![tactic(auto)]

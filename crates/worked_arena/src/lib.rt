@@ -1,5 +1,0 @@
-//! Tests of the arena.
-#![tactic(auto)]
-
-#[cfg(test)]
-mod arena;

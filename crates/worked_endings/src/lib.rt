@@ -1,5 +1,0 @@
-//! Tests of kinds of line ending.
-#![tactic(auto)]
-
-#[cfg(test)]
-mod endings;
