@@ -3,6 +3,7 @@
 use super::documents::open;
 use model_core::Model;
 use std::alloc::{AllocError, Global};
+use std::process::Abort;
 use std::test::Fail;
 use text_lengths::Position;
 use unit_text::units_of;
@@ -12,19 +13,16 @@ const LINES: u64 = 1000;
 /// Inside the pair of a line in the middle.
 const MIDDLE: u64 = 1501;
 
-#[test]
-fn an_edited_line_is_the_only_one_asked_for(rt: HostRuntime) -> Result<(), Fail> {
-    let counts = asked_in_turn(rt.alloc())?;
+pub fn expect_one_line_asked<R: AllocGlobal + Abort>(
+    rt: &R,
+    model: &mut Model,
+) -> Result<(), Fail> {
+    let counts = ask_edit_and_ask(rt.alloc(), model)?;
     assert_eq!(rt; counts, (LINES, 1));
     Ok(())
 }
 
 /// How many lines the first question asked for, and how many the one after an edit.
-fn asked_in_turn(alloc: Global) -> Result<(u64, u64), Fail> {
-    let mut model = Model::new(alloc);
-    ask_edit_and_ask(alloc, &mut model)
-}
-
 fn ask_edit_and_ask(alloc: Global, model: &mut Model) -> Result<(u64, u64), Fail> {
     let text = pairs(alloc)?;
     open(model, &text)?;

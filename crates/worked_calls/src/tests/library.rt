@@ -1,37 +1,49 @@
-//! The document as a library: as README shows it, and by the calls that make one edit. A function that owns a document
-//! has one way out.
+//! The document as a library. One function owns it for all that is tried, since to drop a document is dear to prove.
 
+use super::asked::expect_one_line_asked;
 use super::documents::open;
+use super::mirrors::expect_a_mirror_that_follows;
+use super::prepared::expect_a_change_in_two_parts;
+use super::rewritten::expect_the_plain_text;
 use model_core::{Kind, Model, ModelError, Op};
-use std::alloc::Global;
+use std::alloc::{AllocError, Global};
+use std::process::Abort;
 use std::test::Fail;
 use text_lengths::Span;
 use unit_text::{Units, units_of, utf8_of};
 
 #[test]
-fn a_document_is_edited_and_read(rt: HostRuntime) -> Result<(), Fail> {
-    let shown = first_line_of_a_batch(rt.alloc())?;
+fn a_document_as_a_library(rt: HostRuntime) -> Result<(), Fail> {
+    expect_each(&rt)
+}
+
+fn expect_each<R: AllocGlobal + Abort>(rt: &R) -> Result<(), Fail> {
+    let mut model = Model::new(rt.alloc());
+    expect_each_of(rt, &mut model)
+}
+
+fn expect_each_of<R: AllocGlobal + Abort>(rt: &R, model: &mut Model) -> Result<(), Fail> {
+    expect_single_edits(rt, model)?;
+    expect_a_batch(rt, model)?;
+    expect_one_line_asked(rt, model)?;
+    expect_a_change_in_two_parts(rt, model)?;
+    expect_the_plain_text(rt, model)?;
+    expect_a_mirror_that_follows(rt, model)
+}
+
+/// As README shows it.
+fn expect_a_batch<R: AllocGlobal + Abort>(rt: &R, model: &mut Model) -> Result<(), Fail> {
+    let shown = edit_by_a_batch(rt.alloc(), model)?;
     assert_eq!(rt; shown.as_slice(), b"aXd".as_slice());
     Ok(())
 }
 
 /// `abc` is put in, `b` is taken out, `XY` comes in the place of `a`, and `Z` in that of each `Y`. Other line endings
 /// change nothing here.
-#[test]
-fn a_document_is_edited_by_calls_of_one_edit(rt: HostRuntime) -> Result<(), Fail> {
-    let shown = first_line_of_single_edits(rt.alloc())?;
+fn expect_single_edits<R: AllocGlobal + Abort>(rt: &R, model: &mut Model) -> Result<(), Fail> {
+    let shown = edit_by_single_edits(rt.alloc(), model)?;
     assert_eq!(rt; shown.as_slice(), b"XZc".as_slice());
     Ok(())
-}
-
-fn first_line_of_a_batch(alloc: Global) -> Result<Vec<u8>, Fail> {
-    let mut model = Model::new(alloc);
-    edit_by_a_batch(alloc, &mut model)
-}
-
-fn first_line_of_single_edits(alloc: Global) -> Result<Vec<u8>, Fail> {
-    let mut model = Model::new(alloc);
-    edit_by_single_edits(alloc, &mut model)
 }
 
 fn edit_by_a_batch(alloc: Global, model: &mut Model) -> Result<Vec<u8>, Fail> {
@@ -39,7 +51,7 @@ fn edit_by_a_batch(alloc: Global, model: &mut Model) -> Result<Vec<u8>, Fail> {
     units_of("ab\ncd", &mut text)?;
     open(model, &text)?;
     edit(alloc, model)?;
-    first_line(alloc, model)
+    Ok(first_line(alloc, model)?)
 }
 
 fn edit_by_single_edits(alloc: Global, model: &mut Model) -> Result<Vec<u8>, Fail> {
@@ -48,7 +60,7 @@ fn edit_by_single_edits(alloc: Global, model: &mut Model) -> Result<Vec<u8>, Fai
     replace_a(model)?;
     replace_each_y(model)?;
     model.set_eol(Kind::Lf)?;
-    first_line(alloc, model)
+    Ok(first_line(alloc, model)?)
 }
 
 fn insert_abc(model: &mut Model) -> Result<(), ModelError> {
@@ -80,7 +92,11 @@ fn edit(alloc: Global, model: &mut Model) -> Result<(), Fail> {
 fn first_line(alloc: Global, model: &Model) -> Result<Vec<u8>, Fail> {
     let mut line = Vec::new(alloc);
     model.line(1, &mut line)?;
+    Ok(shown(alloc, &line)?)
+}
+
+fn shown(alloc: Global, units: &[u16]) -> Result<Vec<u8>, AllocError> {
     let mut shown = Vec::new(alloc);
-    utf8_of(&line, &mut shown)?;
+    utf8_of(units, &mut shown)?;
     Ok(shown)
 }

@@ -1,17 +1,32 @@
-//! A mirror that follows a document by its events. A function that owns a document has one way out.
+//! A mirror that follows a document by its events.
 
 use super::documents::open;
 use mirror_model::{Event, Mirror, Tally};
 use model_core::Model;
 use std::alloc::{AllocError, Global};
+use std::process::Abort;
 use std::test::Fail;
 
 /// Of two events the second comes first, the first comes twice, and the second again.
-#[test]
-fn events_come_in_another_order_and_again(rt: HostRuntime) -> Result<(), Fail> {
+pub fn expect_a_mirror_that_follows<R: AllocGlobal + Abort>(
+    rt: &R,
+    model: &mut Model,
+) -> Result<(), Fail> {
+    let events = events_of_two_edits(rt.alloc(), model)?;
+    expect_text_of_both(rt, &events)
+}
+
+fn expect_text_of_both<R: AllocGlobal + Abort>(rt: &R, events: &[Event]) -> Result<(), Fail> {
     let mut mirror = Mirror::of_text(rt.alloc(), 1, &[0x61, 0x62])?;
-    let events = second_first_first_second(rt.alloc())?;
-    let told = mirror.follow(&events);
+    expect_both_taken(rt, &mut mirror, events)
+}
+
+fn expect_both_taken<R: AllocGlobal + Abort>(
+    rt: &R,
+    mirror: &mut Mirror,
+    events: &[Event],
+) -> Result<(), Fail> {
+    let told = mirror.follow(events);
     let wanted = Tally {
         applied: 2,
         old: 1,
@@ -28,11 +43,6 @@ fn events_come_in_another_order_and_again(rt: HostRuntime) -> Result<(), Fail> {
 }
 
 /// The events by which `x` comes before `ab`, and `y` behind it.
-fn second_first_first_second(alloc: Global) -> Result<Vec<Event>, Fail> {
-    let mut model = Model::new(alloc);
-    events_of_two_edits(alloc, &mut model)
-}
-
 fn events_of_two_edits(alloc: Global, model: &mut Model) -> Result<Vec<Event>, Fail> {
     open(model, &[0x61, 0x62])?;
     model.insert(0, &[0x78])?;

@@ -3,6 +3,7 @@
 use super::documents::open;
 use model_core::{Model, Op};
 use std::alloc::{AllocError, Global};
+use std::process::Abort;
 use std::test::Fail;
 use text_lengths::Span;
 use unit_text::Units;
@@ -16,9 +17,11 @@ struct Seen {
     can_redo: bool,
 }
 
-#[test]
-fn a_change_is_prepared_and_then_committed(rt: HostRuntime) -> Result<(), Fail> {
-    let (prepared, edited, undone) = seen_in_turn(rt.alloc())?;
+pub fn expect_a_change_in_two_parts<R: AllocGlobal + Abort>(
+    rt: &R,
+    model: &mut Model,
+) -> Result<(), Fail> {
+    let (prepared, edited, undone) = edit_and_undo(rt.alloc(), model)?;
     assert_eq!(rt; prepared, (6, 1));
     assert_eq!(rt; (edited.units, edited.version), (5, 2));
     assert_eq!(rt; (edited.can_undo, edited.can_redo), (true, false));
@@ -28,11 +31,6 @@ fn a_change_is_prepared_and_then_committed(rt: HostRuntime) -> Result<(), Fail> 
 }
 
 /// The units and the version when an edit is prepared; and what is seen when it is committed, and when it is undone.
-fn seen_in_turn(alloc: Global) -> Result<((u64, u64), Seen, Seen), Fail> {
-    let mut model = Model::new(alloc);
-    edit_and_undo(alloc, &mut model)
-}
-
 fn edit_and_undo(alloc: Global, model: &mut Model) -> Result<((u64, u64), Seen, Seen), Fail> {
     open(model, &[0x61, 0x62, 0x63, 0x64, 0x65, 0x66])?;
     let prepared = edit_later(alloc, model)?;

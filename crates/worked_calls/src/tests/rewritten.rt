@@ -4,6 +4,7 @@
 use super::documents::open;
 use model_core::Model;
 use std::alloc::{AllocError, Global};
+use std::process::Abort;
 use std::test::Fail;
 use text_lengths::Span;
 
@@ -23,19 +24,20 @@ struct Texts {
     redone: Vec<u16>,
 }
 
-#[test]
-fn a_text_in_many_pieces_is_the_plain_one(rt: HostRuntime) -> Result<(), Fail> {
-    let texts = texts_in_turn(rt.alloc())?;
+pub fn expect_the_plain_text<R: AllocGlobal + Abort>(
+    rt: &R,
+    model: &mut Model,
+) -> Result<(), Fail> {
+    let texts = edit_and_undo(rt.alloc(), model)?;
     let first = letters(rt.alloc())?;
-    assert!(rt; texts.edited.as_slice() == texts.plain.as_slice());
-    assert!(rt; texts.undone.as_slice() == first.as_slice());
-    assert!(rt; texts.redone.as_slice() == texts.plain.as_slice());
+    expect_texts(rt, &texts, first.as_slice());
     Ok(())
 }
 
-fn texts_in_turn(alloc: Global) -> Result<Texts, Fail> {
-    let mut model = Model::new(alloc);
-    edit_and_undo(alloc, &mut model)
+fn expect_texts(rt: &impl Abort, texts: &Texts, first: &[u16]) {
+    assert!(rt; texts.edited.as_slice() == texts.plain.as_slice());
+    assert!(rt; texts.undone.as_slice() == first);
+    assert!(rt; texts.redone.as_slice() == texts.plain.as_slice());
 }
 
 fn edit_and_undo(alloc: Global, model: &mut Model) -> Result<Texts, Fail> {
