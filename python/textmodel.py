@@ -17,9 +17,9 @@ kind of Python's own: `PlaceError` of IndexError, `MissingError` of KeyError, `O
 A document stays on the thread that made it, and ThreadError, a RuntimeError, is raised on any other. Calls on documents of
 several threads go on at once.
 
-The library, libtextmodel.so, is the one that the environment variable TEXTMODEL_LIBRARY names, else the one beside this file.
+The library, libtextmodel.so, is taken from where the environment variable TEXTMODEL_LIBRARY names, else from beside this file.
 In a checkout it is then the one in bin/ or, with a RuntimeWarning that nothing of it is proved, in bin/unproved_library. Else it is
-the one that the loader finds.
+where the loader finds it.
 """
 import ctypes
 import enum

@@ -81,7 +81,7 @@ def flat_faults():
     fields = {command.name: [field.name for field in command.fields] for command in commands()}
     for name, first in found.items():
         if first and first not in fields.get(name, []):
-            yield f"bench/flat.c: `{name}` begins with `{first}`, which is none of its fields"
+            yield f"bench/flat.c: `{name}` begins with `{first}`, which is not a field of it"
 
 
 # ---- the definitions
