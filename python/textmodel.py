@@ -18,8 +18,8 @@ A document stays on the thread that made it, and ThreadError, a RuntimeError, is
 several threads go on at once.
 
 The library, libtextmodel.so, is taken from where the environment variable TEXTMODEL_LIBRARY names, else from beside this file.
-In a checkout it is then the one in bin/ or, with a RuntimeWarning that nothing of it is proved, in bin/unproved_library. Else it is
-where the loader finds it.
+In a checkout it is then taken from bin/ or, with a RuntimeWarning that nothing of it is proved, from bin/unproved_library, and
+else from where the loader finds it.
 """
 import ctypes
 import enum
