@@ -1,7 +1,7 @@
 """The scripts that bench/run times: each case is made from a seed of its own, so that it is the same in every run."""
 import json
 import random
-from collections.abc import Iterator
+from collections.abc import Callable, Iterator
 from functools import lru_cache, partial
 from typing import NamedTuple
 
@@ -246,6 +246,16 @@ def torn(text: str) -> Lines:
     return [*opened(text), edit(*(op(place, place + 1, json.dumps(text[place])[1:-1]) for place in places))]
 
 
+def scattered(count: int) -> Callable[[str], Lines]:
+    """A document of a text, of which so many units at random places were put in again, each by a line of its own."""
+
+    def document(text: str) -> Lines:
+        places = random.Random(17).choices(range(len(text)), k=count)
+        return [*opened(text), *(edit(op(place, place + 1, json.dumps(text[place])[1:-1])) for place in places)]
+
+    return document
+
+
 def find(sought: str) -> str:
     """A line that looks for a text."""
     return f'{{"cmd":"find","text":"{sought}"}}'
@@ -263,13 +273,18 @@ def misnamed(line: str) -> str:
 
 def find_cases(scale: Scale) -> Iterator[Case]:
     """Searches of all of a text, which find what its end has. Where the name is another stands for what is refused."""
-    for way, document in (("one piece", opened), (f"{PIECES:,} pieces", torn)):
+    ways = [("one piece", opened), (f"{PIECES:,} pieces", torn)]
+    ways += [(f"after {count:,} edits", scattered(count)) for count in (10_000, 50_000)]
+    for way, document in ways:
         for what, sought, filler, tail, often in SEARCHES:
             for units, flat in scale.texts[1:]:
                 count = max(1, scale.count * often // units)
                 lines, refused = ([line] * count for line in (find(sought), misnamed(find(sought))))
                 setup = document(ended(filler, units, tail))
                 yield Case(f"find, {what}, {way}", size_of(units), setup, lines, refused, min(flat, count))
+    units = scale.texts[-1][0] // 8
+    lines, refused = ([line] * 2 for line in (find("a" * (units - 1) + "b"), misnamed(find("a" * (units - 1) + "b"))))
+    yield Case("find, half of the text", size_of(2 * units), opened("a" * 2 * units), lines, refused, 2)
 
 
 def with_places(count: int) -> tuple[Lines, list[int]]:

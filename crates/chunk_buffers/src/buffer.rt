@@ -64,18 +64,16 @@ impl Buffer {
         Ok(Buffer { units, ends })
     }
 
-    /// A buffer that holds the text, and no more room than it takes. It fails where memory is short, and for a text that is longer
-    /// than a buffer.
-    pub(crate) fn of_text(alloc: Global, text: &[u16]) -> Result<Buffer, AllocError>
-        ensures units { IfOk result (λ buffer. buffer.units ≡ text.now) }
-        ensures fits { OnOk result (length text.now ≤ most_units) }
+    /// A buffer of this text, which it takes over. It fails where memory is short, and for a text that is longer than a buffer.
+    pub(crate) fn of_vec(alloc: Global, units: Vec<u16>) -> Result<Buffer, AllocError>
+        ensures units { IfOk result (λ buffer. buffer.units ≡ units.items) }
+        ensures fits { OnOk result (length units.items ≤ most_units) }
     {
-        if text.len() > MOST_UNITS {
+        if units.len() > MOST_UNITS {
             return Err(AllocError);
         }
-        let mut ends = Vec::with_capacity(alloc, count_breaks(text) as usize)?;
-        find_break_ends(text, 0, &mut ends)?;
-        let units = Vec::from_slice(alloc, text)?;
+        let mut ends = Vec::with_capacity(alloc, count_breaks(units.as_slice()) as usize)?;
+        find_break_ends(units.as_slice(), 0, &mut ends)?;
         Ok(Buffer { units, ends })
     }
 

@@ -169,18 +169,19 @@ impl Chunks {
         (span, breaks as u32)
     }
 
-    /// Appends the text to a buffer of its own, which takes the memory for it and no more, and answers where it lies and how many breaks
-    /// it has. It fails where memory is short, and for a text that is longer than a buffer may be.
-    pub fn append_whole(&mut self, text: &[u16]) -> Result<(ChunkSpan, u32), AllocError>
-        ensures shown { IfOk result (λ at. units_at self.new.buffers at.0 ≡ text.now) }
+    /// Takes the text over as a buffer of its own, without a copy, and answers where it lies and how many breaks it has. It fails where
+    /// memory is short, and for a text that is longer than a buffer may be.
+    pub fn append_whole(&mut self, text: Vec<u16>) -> Result<(ChunkSpan, u32), AllocError>
+        ensures shown { IfOk result (λ at. units_at self.new.buffers at.0 ≡ text.items) }
         ensures inside { IfOk result (λ at. LiesIn self.new.buffers at.0) }
-        ensures breaks { IfOk result (λ at. at.1 ≡ break_count text.now) }
+        ensures breaks { IfOk result (λ at. at.1 ≡ break_count text.items) }
         ensures grown { Extends self.old.buffers self.new.buffers }
         ensures units { OnOk result
-            (unit_count self.new.buffers ≡ unit_count self.old.buffers + length text.now) }
+            (unit_count self.new.buffers ≡ unit_count self.old.buffers + length text.items) }
         ensures err { OnErr result (self.new ≡ self.old) }
     {
-        let buffer = Buffer::of_text(self.alloc, text)?;
+        let len = text.len();
+        let buffer = Buffer::of_vec(self.alloc, text)?;
         let breaks = buffer.break_count();
         let number = self.buffers.len();
         if number == MOST_BUFFERS {
@@ -191,7 +192,7 @@ impl Chunks {
         let span = ChunkSpan {
             buffer: number as u32,
             start: 0,
-            units: text.len() as u32,
+            units: len as u32,
         };
         Ok((span, breaks as u32))
     }

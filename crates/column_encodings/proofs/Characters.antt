@@ -75,7 +75,7 @@ pub offset_past : (encoding : Encoding) (character : List ℕ) (after : List (Li
 offset_past encoding character after column some fits =
     rw (ne_eqb column 0 (omega arith), le-leb (width encoding character) column fits)
 
-shift_twice : (m n k : ℕ) (found : Option ℕ) → m + n ≡ k
+pub shift_twice : (m n k : ℕ) (found : Option ℕ) → m + n ≡ k
     → option_map (λ offset. m + offset) (option_map (λ offset. n + offset) found) ≡ option_map (λ offset. k + offset) found
 shift_twice m n k None sum = refl
 shift_twice m n k (Some offset) sum = ap Some (omega arith)

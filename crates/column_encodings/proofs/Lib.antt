@@ -6,3 +6,5 @@ pub mod Outside
 pub mod Laws
 pub mod Lengths
 pub mod Utf16
+mod Ascii
+mod Blocks

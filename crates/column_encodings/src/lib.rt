@@ -1,10 +1,14 @@
 //! Columns of a line, counted in bytes of UTF-8, in units of UTF-16 or in code points, as language servers count them.
 #![tactic(auto)]
 
-ghost use Rattle.std.specs.Prelude.{◌≡◌, ◌+◌, ◌<◌, ◌≤◌, ◌∷◌, [], length, IfNone, IfSome};
+mod lanes;
+
+ghost use Rattle.std.specs.Prelude.{◌≡◌, ℕ, ◌+◌, ◌-◌, ◌<◌, ◌≤◌, ◌∷◌, [], length, None, IfNone, IfSome};
 ghost use Rattle.unit_text.specs.Units.{is_place};
 ghost use Rattle.column_encodings.specs.Columns.{characters, width, lone_width, length_in, column_in, offset_of};
+ghost use Rattle.column_encodings.specs.Walk.{LeadsOn};
 
+use crate::lanes::ascii_in_front;
 use unit_text::cuts_pair;
 
 /// What a column counts.
@@ -38,12 +42,13 @@ pub fn offset_of(encoding: Encoding, units: &[u16], column: u64) -> Option<u64>
     if encoding == Encoding::Utf16 {
         return is_place(units, column).then_some(column);
     }
-    let mut rest = units;
-    let mut left = column;
+    let (ascii, mut rest) = past_ascii(units, column);
+    let mut left = column - ascii;
     while left > 0 {
-        let (character, after) = split_character(rest)?;
-        left = left.checked_sub(width(encoding, character))?;
-        rest = after;
+        let (others, behind) = past_columns(encoding, rest, left)?;
+        let (ascii, next) = past_ascii(behind, others);
+        left = others - ascii;
+        rest = next;
     }
     Some((units.len() - rest.len()) as u64)
 }
@@ -60,13 +65,71 @@ fn length_in(encoding: Encoding, units: &[u16]) -> u64
     if encoding == Encoding::Utf16 {
         return units.len() as u64;
     }
+    let (mut length, mut rest) = past_ascii(units, u64::MAX);
+    while !rest.is_empty() {
+        let (some, behind) = past_characters(encoding, rest);
+        let (ascii, next) = past_ascii(behind, u64::MAX);
+        length += some + ascii;
+        rest = next;
+    }
+    length
+}
+
+/// So many characters are gone over one by one before ASCII is looked for again.
+const STRETCH: usize = 64;
+
+// What the first characters take, and what stands behind them.
+fn past_characters(encoding: Encoding, units: &[u16]) -> (u64, &[u16])
+    ensures length { length_in encoding units.now ≡ result.0 + length_in encoding result.1.now }
+    ensures fewer { 0 < length units.now → length result.1.now < length units.now }
+    ensures within { length result.1.now ≤ length units.now }
+{
     let mut rest = units;
     let mut length = 0;
-    while let Some((character, after)) = split_character(rest) {
+    for _step in 0..STRETCH {
+        let Some((character, after)) = split_character(rest) else {
+            break;
+        };
         length += width(encoding, character);
         rest = after;
     }
-    length
+    (length, rest)
+}
+
+// What is left of the column behind the first characters, and what stands there; None where it is inside a character or beyond the end.
+fn past_columns(encoding: Encoding, units: &[u16], column: u64) -> Option<(u64, &[u16])>
+    requires { 0 < column }
+    ensures none { IfNone result (offset_of encoding units.now column ≡ None) }
+    ensures some { IfSome result
+        (λ found. LeadsOn encoding units.now column found.1.now found.0) }
+    ensures fewer { IfSome result (λ found. length found.1.now < length units.now) }
+{
+    let mut rest = units;
+    let mut left = column;
+    for _step in 0..STRETCH {
+        if left == 0 {
+            break;
+        }
+        let (character, after) = split_character(rest)?;
+        left = left.checked_sub(width(encoding, character))?;
+        rest = after;
+    }
+    Some((left, rest))
+}
+
+// How many ASCII units stand in front, of which `most` at most are passed over, and what stands behind them.
+fn past_ascii(units: &[u16], most: u64) -> (u64, &[u16])
+    ensures few { result.0 ≤ most }
+    ensures all { result.0 + length result.1.now ≡ length units.now }
+    ensures length { (encoding : Encoding)
+        → length_in encoding units.now ≡ result.0 + length_in encoding result.1.now }
+    ensures offset { (encoding : Encoding) (column : ℕ) → result.0 ≤ column
+        → LeadsOn encoding units.now column result.1.now (column - result.0) }
+{
+    let looked_at = most.min(units.len() as u64) as usize;
+    let ascii = ascii_in_front(&units[..looked_at]);
+    let (front, behind) = units.split_at(ascii);
+    (front.len() as u64, behind)
 }
 
 // The units of the first character, and those after it.

@@ -1,14 +1,14 @@
 //! A batch that was checked.
 
 ghost use Rattle.std.specs.Prelude.{◌≡◌, ℕ, ◌+◌, ◌<◌, ◌≤◌, ◌^◌, [], ◌∷◌, length, Err, IfOk, List};
-ghost use Rattle.batch_rules.specs.Batches.{most_units, applied_from, applied, checked_batch, ops_in, sorted_ops, inverse_from, text_units, StandFrom, FollowFrom};
+ghost use Rattle.batch_rules.specs.Batches.{most_units, applied_from, applied, checked_batch, ops_in, inverse_from, text_units, StandFrom, FollowFrom};
 ghost use Rattle.batch_rules.specs.Events.{length_after, whole_op};
 ghost use Rattle.edit_batches.specs.Outcomes.{Checks};
 
 use crate::checks::{has_bad_span, is_too_long, length_after, overlap};
 use crate::inverse::inverse_of;
 use crate::kinds::ops_in;
-use crate::order::sorted_ops;
+use crate::order::Sorted;
 use batch_rules::BatchError;
 use std::alloc::{AllocError, Global};
 use std::marker::Model;
@@ -35,21 +35,17 @@ impl Model for Batch {
 }
 
 impl Batch {
-    /// A batch of these edits of the text, in whatever order they come, with texts of its kind. `Range` where a span is none of the
-    /// text; else `Overlap` where two of them overlap; else `Limit` where the new text would be too long. It takes memory only where
-    /// they do not come in their order, as `sorted_ops` gives them, or a text has other line endings.
-    pub fn checked<F: Flat>(ops: Vec<Op>, text: &F) -> Result<Batch, BatchError>
-        ensures rule { Checks result
-            (checked_batch (F.kind text.now) (F.units text.now) ops.items) }
+    /// A batch of these edits of the text, with texts of its kind. `Range` where a span is none of the text; else `Overlap` where two
+    /// of them overlap; else `Limit` where the new text would be too long. It takes memory only where a text has other line endings.
+    pub fn checked<F: Flat>(ops: Sorted, text: &F) -> Result<Batch, BatchError>
+        ensures rule { Checks result (checked_batch (F.kind text.now) (F.units text.now) ops) }
         ensures standing { IfOk result (λ b. StandFrom 0 (F.units text.now) b) }
         ensures fits { IfOk result
             (λ b. length (applied_from 0 (F.units text.now) b) ≤ most_units) }
         ensures texts { IfOk result (λ b. text_units b ≤ most_units) }
-        ensures sure { sorted_ops ops.items ≡ ops.items → ops_in (F.kind text.now) ops.items ≡ ops.items
-            → ¬ (result ≡ Err BatchError.Memory) }
+        ensures sure { ops_in (F.kind text.now) ops ≡ ops → ¬ (result ≡ Err BatchError.Memory) }
     {
-        let given = ops_in(ops, text.kind()).map_err(|_| BatchError::Memory)?;
-        let ops = sorted_ops(given).map_err(|_| BatchError::Memory)?;
+        let ops = ops_in(ops.into_ops(), text.kind()).map_err(|_| BatchError::Memory)?;
         if has_bad_span(&ops, text) {
             return Err(BatchError::Range);
         }

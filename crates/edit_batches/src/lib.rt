@@ -11,5 +11,5 @@ mod order;
 pub use batch::{Batch, one_op};
 pub use batch_rules::BatchError;
 pub use event::Event;
-pub use order::sorted_ops;
+pub use order::Sorted;
 pub use text_rules::{MOST_TEXT_UNITS, Op};

@@ -4,10 +4,54 @@ ghost use Rattle.std.specs.Prelude.{◌≡◌, true, false, IfOk, IsOk};
 ghost use Rattle.batch_rules.specs.Batches.{stands_before, sorted_ops};
 
 use std::alloc::AllocError;
+use std::marker::Model;
 use text_rules::Op;
 
-/// The edits in their order: by end, then by start, then as they came. It takes memory only where they came in another one.
-pub fn sorted_ops(mut ops: Vec<Op>) -> Result<Vec<Op>, AllocError>
+/// Edits in their order: by end, then by start, then as they came. Contracts see the list of them.
+#[derive(Drop)]
+pub struct Sorted {
+    ops: Vec<Op>,
+}
+
+impl Model for Sorted {
+    ghost use Rattle.std.specs.Prelude.{◌≡◌, List};
+    ghost use Rattle.text_rules.specs.declared.Op.{Op};
+    ghost use Rattle.batch_rules.specs.Batches.{sorted_ops};
+
+    ghost Value = { List Op };
+
+    ghost view = { λ s. s.ops.items };
+
+    ghost invariant = { λ s. sorted_ops s.ops.items ≡ s.ops.items };
+}
+
+impl Sorted {
+    /// The edits, put in their order. It takes memory only where they come in another one.
+    pub fn of(ops: Vec<Op>) -> Result<Sorted, AllocError>
+        ensures sorted { IfOk result (λ sorted. sorted ≡ sorted_ops ops.items) }
+        ensures sure { sorted_ops ops.items ≡ ops.items → IsOk result }
+    {
+        let ops = sorted_ops(ops)?;
+        Ok(Sorted { ops })
+    }
+
+    /// The edits, in their order.
+    pub fn ops(&self) -> &[Op]
+        ensures ops { result.now ≡ self.now }
+        ensures in_order { sorted_ops self.now ≡ self.now }
+    {
+        self.ops.as_slice()
+    }
+
+    pub(crate) fn into_ops(self) -> Vec<Op>
+        ensures ops { result.items ≡ self }
+        ensures in_order { sorted_ops self ≡ self }
+    {
+        self.ops
+    }
+}
+
+fn sorted_ops(mut ops: Vec<Op>) -> Result<Vec<Op>, AllocError>
     ensures sorted { IfOk result (λ sorted. sorted.items ≡ sorted_ops ops.items) }
     ensures sure { sorted_ops ops.items ≡ ops.items → IsOk result }
 {

@@ -1,12 +1,18 @@
 -- An element passes from one side of the cursor to the other.
 use Rattle.std.proofs.Common.{◌≡◌, ℕ, suc, ◌+◌, ◌-◌, ◌<◌, ◌≤◌, true, false, List, [], ◌∷◌, ◌++◌, take, drop, length, map, get_or, Option, Some, None, refl, sym, ◌∙◌, ap, subst, arith}
 use Rattle.std.specs.Prelude.{reverse, is_some, min}
+use Rattle.std.specs.List.{slice_get}
 use Rattle.std.proofs.Math.Seq.{take-suc, drop-cons}
+use Rattle.std.proofs.lemmas.Option.{get_or_from_slice_get}
 use Rattle.std.proofs.lemmas.List.{reverse-append, length-take, length-drop, length-map, length-reverse}
 use Rattle.edit_stack.specs.declared.element.Element.{Element}
 use Rattle.edit_stack.specs.Element.{step_of}
 use Rattle.edit_stack.specs.Lists.{opened}
 use Rattle.undo_rules.specs.Stack.{Step, Stack, undone_lists, redone_lists}
+
+-- an item that was read
+pub item_read : {X : Type 0} (xs : List X) (n : ℕ) (x : X) → slice_get xs n ≡ Some x → x ≡ get_or xs n x
+item_read xs n x read = sym (get_or_from_slice_get xs n x x read)
 
 -- the item at the cursor
 at_cursor : {X : Type 0} (xs : List X) (n : ℕ) → n < length xs → (x : X) × (take (n + 1) xs ≡ take n xs ++ x ∷ []) × (drop n xs ≡ x ∷ drop (n + 1) xs)

@@ -1,3 +1,2 @@
 mod Cursors
-mod InRows
 mod Tags

@@ -1,15 +1,15 @@
 -- The tags of the elements, as they are read, put on and taken off.
-use Rattle.std.proofs.Common.{◌≡◌, ℕ, ◌+◌, ◌-◌, ◌<◌, ◌≤◌, ◌||◌, Bool, true, false, List, [], ◌∷◌, ◌++◌, take, drop, set, length, map, get_or, Option, Some, None, refl, sym, ◌∙◌, ap, subst, arith}
-use Rattle.std.specs.Prelude.{reverse, is_some, option_and_then}
-use Rattle.std.specs.List.{list_any}
+use Rattle.std.proofs.Common.{◌≡◌, ℕ, ◌+◌, ◌-◌, ◌<◌, ◌≤◌, ◌||◌, Bool, true, false, List, [], ◌∷◌, ◌++◌, take, drop, set, length, map, get_or, Option, Some, None, refl, sym, ◌∙◌, ap, subst, arith, inl, inr}
+use Rattle.std.specs.Prelude.{reverse, is_some, option_and_then, option_map}
+use Rattle.std.specs.List.{list_any, slice_get}
 use Rattle.std.proofs.Math.Seq.{take-set-lt}
 use Rattle.std.proofs.lemmas.List.{append-nil, map-append, reverse-append, reverse-reverse, length-take, length-map, length-append, length-set, take-append-drop, take-set, take_more, take_more_set, take-map, drop_more, drop_all, drop-map, drop-set-lt, map_more, map_push, get_or-map, get_or-take, get_or-set_same, get_or_append_left}
 use Rattle.std.proofs.lemmas.List.Folds.{list_any-append, list_any_at}
-use Rattle.std.proofs.lemmas.Option.{none-some, slice_get-get_or}
+use Rattle.std.proofs.lemmas.Option.{none-some, slice_get-get_or, slice_get_cases, slice_get_within}
 use Rattle.edit_stack.specs.declared.element.Element.{Element}
 use Rattle.edit_stack.specs.Element.{step_of}
 use Rattle.edit_stack.specs.Lists.{opened}
-use Rattle.edit_stack.proofs.Cursors.{before, behind, length_before}
+use Rattle.edit_stack.proofs.Cursors.{item_read, before, behind, length_before}
 use Rattle.undo_rules.specs.declared.Tag.{Tag}
 use Rattle.undo_rules.specs.Stack.{Step, Stack}
 use Rattle.undo_rules.specs.Tags.{has_tag, without_tag, tagged, untagged, all_steps, holds, tag_at}
@@ -46,14 +46,20 @@ module _ {C : Type 0} where
   length_kept : (es : List (Element C)) (kept : ℕ) → kept ≤ length es → length (map step_of (take kept es)) ≡ kept
   length_kept es kept within = omega (arith, within, length-map (take kept es) (step_of {C = C}), length-take kept es)
 
-  step_kept : (es : List (Element C)) (kept at : ℕ) (e : Element C) → kept ≤ length es → at < kept → e ≡ get_or es at e
+  step_kept : (es : List (Element C)) (kept at : ℕ) (e : Element C) → kept ≤ length es → at < kept → slice_get es at ≡ Some e
       → get_or (map step_of (take kept es)) at (step_of e) ≡ step_of e
   step_kept es kept at e within inside read =
       get_or-map (step_of {C = C}) (take kept es) at e (step_of e) (omega (arith, within, inside, length-take kept es))
-      ∙ ap step_of (get_or-take kept es at e inside ∙ sym read)
+      ∙ ap step_of (get_or-take kept es at e inside ∙ sym (item_read es at e read))
+
+  pub not_found : (p : Step C → Bool) (es : List (Element C)) (at : ℕ) (e : Element C) → slice_get es at ≡ Some e → p (step_of e) ≡ false
+      → list_any p (map step_of (take at es)) ≡ false → list_any p (map step_of (take (at + 1) es)) ≡ false
+  not_found p es at e read fails none =
+      ap (list_any p) (map_more (step_of {C = C}) es at e (slice_get_within es at e read) ∙ ap (λ x. map step_of (take at es) ++ step_of x ∷ []) (sym (item_read es at e read)))
+      ∙ list_any-append p (map step_of (take at es)) (step_of e ∷ []) ∙ ap (λ b. b || list_any p (step_of e ∷ [])) none ∙ ap (λ b. b || false) fails
 
   pub has_found : (p : Step C → Bool) (es : List (Element C)) (kept at : ℕ) (e : Element C) → kept ≤ length es → at < kept
-      → e ≡ get_or es at e → p (step_of e) ≡ true → true ≡ list_any p (map step_of (take kept es))
+      → slice_get es at ≡ Some e → p (step_of e) ≡ true → true ≡ list_any p (map step_of (take kept es))
   has_found p es kept at e within inside read passes =
       sym (list_any_at p (map step_of (take kept es)) at (step_of e) (omega (arith, inside, length_kept es kept within))
       (ap p (step_kept es kept at e within inside read) ∙ passes))
@@ -69,7 +75,7 @@ module _ {C : Type 0} where
     pub all_count : length (all_steps s) ≡ kept + length (opened o)
     all_count = ap length steps ∙ length-append (map step_of (take kept es)) (opened o) ∙ ap (λ n. n + length (opened o)) (length_kept es kept within)
 
-    pub tag_closed : (k : ℕ) (e : Element C) → k < kept → e ≡ get_or es k e → e.tag ≡ tag_at s k
+    pub tag_closed : (k : ℕ) (e : Element C) → k < kept → slice_get es k ≡ Some e → e.tag ≡ tag_at s k
     tag_closed k e inside read =
         let at_place : get_or (all_steps s) k (step_of e) ≡ step_of e =
         ap (λ l. get_or l k (step_of e)) steps ∙ get_or_append_left (map step_of (take kept es)) (opened o) (step_of e) k (omega (arith, inside, length_kept es kept within))
@@ -80,8 +86,30 @@ module _ {C : Type 0} where
   last_before es n e within read =
       ap (λ l. map step_of (reverse l)) (take_more es n e within ∙ ap (λ x. take n es ++ x ∷ []) (sym read)) ∙ ap (map step_of) (reverse-append (take n es) (e ∷ []))
 
+  was_last : (es : List (Element C)) (kept n : ℕ) (e : Element C) → n < kept → slice_get es n ≡ Some e → before (take kept es) (n + 1) ≡ step_of e ∷ before (take kept es) n
+  was_last es kept n e inside read =
+      last_before (take kept es) n e (omega (arith, inside, slice_get_within es n e read, length-take kept es)) (item_read es n e read ∙ sym (get_or-take kept es n e inside))
+
+  pub next_undone : (es : List (Element C)) (done kept : ℕ) → 0 < done → done ≤ kept → kept ≤ length es
+      → slice_get (before (take kept es) done) 0 ≡ option_map step_of (slice_get es (done - 1))
+  next_undone es done kept some le within = elim (slice_get_cases es (done - 1)).1 [
+    | inl (e, lt, read, same) ↦ let back : (done - 1) + 1 ≡ done = omega (arith, some) in
+        subst (λ m. slice_get (before (take kept es) m) 0 ≡ option_map step_of (slice_get es (done - 1))) back
+        (ap (λ l. slice_get l 0) (was_last es kept (done - 1) e (omega (arith, some, le)) read) ∙ sym (ap (option_map step_of) read))
+    | inr (past, none) ↦ absurd (omega (arith, past, some, le, within))
+  ]
+
+  pub next_redone : (es : List (Element C)) (done kept : ℕ) → done < kept → kept ≤ length es
+      → slice_get (behind (take kept es) done) 0 ≡ option_map step_of (slice_get es done)
+  next_redone es done kept lt within = elim (slice_get_cases es done).1 [
+    | inl (e, there, read, same) ↦
+        ap (λ l. slice_get (map (step_of {C = C}) l) 0) (drop_more (take kept es) done e (omega (arith, lt, there, length-take kept es)))
+        ∙ ap (λ x. Some (step_of x)) (get_or-take kept es done e lt ∙ same) ∙ sym (ap (option_map step_of) read)
+    | inr (past, none) ↦ absurd (omega (arith, past, lt, within))
+  ]
+
   pub tag_put : (o : Option (Element C)) (es : List (Element C)) (done kept : ℕ) (e : Element C) (tag : Tag) → o ≡ None → done ≤ kept → kept ≤ length es
-      → 0 < length (before (take kept es) done) → e ≡ get_or es (done - 1) e → let after = take kept (set es (done - 1) (record e { tag = Some tag })) in
+      → 0 < length (before (take kept es) done) → slice_get es (done - 1) ≡ Some e → let after = take kept (set es (done - 1) (record e { tag = Some tag })) in
       record { undo = opened o ++ before after done; redo = behind after done; is_open = is_some o }
       ≡ tagged (record { undo = opened o ++ before (take kept es) done; redo = behind (take kept es) done; is_open = is_some o }) tag
   tag_put (Some last) es done kept e tag closed le within some read = absurd (none-some last (sym closed))
@@ -96,7 +124,7 @@ module _ {C : Type 0} where
       ∙ ap (λ l. step_of own ∷ map step_of (reverse l)) (take-set now n own) in
       let redo : behind (take kept (set es n own)) (n + 1) ≡ behind now (n + 1) =
       ap (λ l. behind l (n + 1)) is ∙ ap (map step_of) (drop-set-lt (n + 1) now n own (omega arith)) in
-      let was : before now (n + 1) ≡ step_of e ∷ before now n = last_before now n e there (read ∙ sym (get_or-take kept es n e inside)) in
+      let was = was_last es kept n e inside read in
       subst (λ m. record { undo = before (take kept (set es n own)) m; redo = behind (take kept (set es n own)) m; is_open = false }
       ≡ tagged (record { undo = before now m; redo = behind now m; is_open = false }) tag) back
       ((λ i. record { undo = undo i; redo = redo i; is_open = false })
@@ -104,12 +132,12 @@ module _ {C : Type 0} where
 
   -- one element more is mapped
   pub one_mapped : (f : Step C → Step C) (es old : List (Element C)) (at : ℕ) (e new : Element C) → at < length es → length es ≡ length old
-      → map step_of (take at es) ≡ map f (map step_of (take at old)) → drop at es ≡ drop at old → e ≡ get_or es at e → step_of new ≡ f (step_of e)
+      → map step_of (take at es) ≡ map f (map step_of (take at old)) → drop at es ≡ drop at old → slice_get es at ≡ Some e → step_of new ≡ f (step_of e)
       → map step_of (take (at + 1) (set es at new)) ≡ map f (map step_of (take (at + 1) old))
   one_mapped f es old at e new within long so_far rest read step =
       let there : at < length old = omega (arith, within, long) in
       let same : e ≡ get_or old at e =
-      read ∙ sym (ap (λ l. get_or l 0 e) (drop_more es at e within)) ∙ ap (λ l. get_or l 0 e) rest ∙ ap (λ l. get_or l 0 e) (drop_more old at e there) in
+      item_read es at e read ∙ sym (ap (λ l. get_or l 0 e) (drop_more es at e within)) ∙ ap (λ l. get_or l 0 e) rest ∙ ap (λ l. get_or l 0 e) (drop_more old at e there) in
       ap (map step_of) (take_more_set es at new within) ∙ map_push (step_of {C = C}) (take at es) new ∙ (λ i. so_far i ++ step i ∷ [])
       ∙ ap (λ x. map f (map step_of (take at old)) ++ f (step_of x) ∷ []) same
       ∙ sym (map_push f (map step_of (take at old)) (step_of (get_or old at e))) ∙ sym (ap (map f) (map_more (step_of {C = C}) old at e there))

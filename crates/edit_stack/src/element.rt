@@ -4,7 +4,7 @@ ghost use Rattle.std.specs.Prelude.{◌≡◌, ◌<◌, Some, length, slice_get}
 ghost use Rattle.undo_rules.specs.Tags.{has_tag, without_tag};
 ghost use Rattle.edit_stack.specs.Element.{step_of};
 
-use crate::rows::RowList;
+use paged_list::PagedList;
 use undo_rules::Tag;
 
 /// The changes that one undo takes back, at least one, the alternative versions before and after them, and what they share
@@ -13,7 +13,7 @@ use undo_rules::Tag;
 pub struct Element<C> {
     pub(crate) first: C,
     /// The changes behind the first.
-    pub(crate) more: RowList<C>,
+    pub(crate) more: PagedList<C>,
     pub(crate) alt_before: u64,
     pub(crate) alt_after: u64,
     pub(crate) tag: Option<Tag>,

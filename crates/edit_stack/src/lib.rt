@@ -2,7 +2,6 @@
 #![tactic(auto)]
 
 mod element;
-mod rows;
 mod stack;
 
 pub use element::Element;

@@ -8,7 +8,7 @@ ghost use Rattle.undo_rules.specs.Stack.{empty_stack, pushed, stopped, undone, r
 ghost use Rattle.undo_rules.specs.Tags.{has_tag, without_tag, tagged, untagged, all_steps, holds, tag_at};
 
 use crate::element::Element;
-use crate::rows::RowList;
+use paged_list::PagedList;
 use std::alloc::{AllocError, Global};
 use std::marker::Model;
 use undo_rules::Tag;
@@ -22,7 +22,7 @@ use undo_rules::Tag;
 pub struct EditStack<C> {
     alloc: Global,
     /// The closed elements, in the order in which they were made, and those that can be had no more.
-    elements: RowList<Element<C>>,
+    elements: PagedList<Element<C>>,
     /// So many of the elements are done. The next to undo is the last of these.
     done: usize,
     /// So many are done or can be redone. The next to redo is the first that is not done.
@@ -50,7 +50,7 @@ impl<C: Drop> EditStack<C> {
     {
         EditStack {
             alloc,
-            elements: RowList::new(alloc),
+            elements: PagedList::new(alloc),
             done: 0,
             kept: 0,
             open_element: None,
@@ -86,7 +86,7 @@ impl<C: Drop> EditStack<C> {
             None => {
                 self.open_element = Some(Element {
                     first: change,
-                    more: RowList::new(self.alloc),
+                    more: PagedList::new(self.alloc),
                     alt_before,
                     alt_after,
                     tag: None,
@@ -108,6 +108,7 @@ impl<C: Drop> EditStack<C> {
     }
 
     /// What the next undo takes back.
+    #[tactic(auto, using(crate::proofs::Tags::next_undone))]
     pub fn undo_next(&self) -> Option<&Element<C>>
         ensures { option_map step_of (option_copied result) ≡ slice_get self.now.stack.undo 0 }
     {
@@ -119,6 +120,7 @@ impl<C: Drop> EditStack<C> {
     }
 
     /// What the next redo makes again.
+    #[tactic(auto, using(crate::proofs::Tags::next_redone))]
     pub fn redo_next(&self) -> Option<&Element<C>>
         ensures { option_map step_of (option_copied result) ≡ slice_get self.now.stack.redo 0 }
     {
@@ -211,7 +213,7 @@ impl<C: Drop> EditStack<C> {
 }
 
 /// Takes the tag off the first `kept` elements.
-fn untag_first<C: Drop>(elements: &mut RowList<Element<C>>, kept: usize, tag: Tag)
+fn untag_first<C: Drop>(elements: &mut PagedList<Element<C>>, kept: usize, tag: Tag)
     requires { kept ≤ length elements.old.items }
     ensures items { map step_of (take kept elements.new.items)
         ≡ map (without_tag tag) (map step_of (take kept elements.old.items)) }
@@ -224,7 +226,7 @@ fn untag_first<C: Drop>(elements: &mut RowList<Element<C>>, kept: usize, tag: Ta
 }
 
 /// Whether one of the first `kept` elements has the tag.
-fn has_first<C: Drop>(elements: &RowList<Element<C>>, kept: usize, tag: Tag) -> bool
+fn has_first<C: Drop>(elements: &PagedList<Element<C>>, kept: usize, tag: Tag) -> bool
     requires { kept ≤ length elements.now.items }
     ensures { result ≡ list_any (has_tag tag) (map step_of (take kept elements.now.items)) }
 {
@@ -237,7 +239,7 @@ fn has_first<C: Drop>(elements: &RowList<Element<C>>, kept: usize, tag: Tag) -> 
 }
 
 /// Puts the element behind the first `at`. What stood there goes.
-fn put_at<C: Drop>(elements: &mut RowList<Element<C>>, at: usize, element: Element<C>)
+fn put_at<C: Drop>(elements: &mut PagedList<Element<C>>, at: usize, element: Element<C>)
     requires place { at ≤ length elements.old.items }
     requires room { at < elements.old.capacity }
     ensures items { take (at + 1) elements.new.items ≡ take at elements.old.items ++ element ∷ [] }
@@ -253,13 +255,13 @@ fn put_at<C: Drop>(elements: &mut RowList<Element<C>>, at: usize, element: Eleme
 }
 
 /// Lets one go that is not among the first `kept`.
-fn let_one_go<C: Drop>(elements: &mut RowList<Element<C>>, kept: usize)
+fn let_one_go<C: Drop>(elements: &mut PagedList<Element<C>>, kept: usize)
     requires { kept ≤ length elements.old.items }
     ensures items { take kept elements.new.items ≡ take kept elements.old.items }
     ensures len { kept ≤ length elements.new.items }
     ensures capacity { elements.new.capacity ≡ elements.old.capacity }
 {
     if kept < elements.len() {
-        elements.drop_last();
+        elements.pop();
     }
 }

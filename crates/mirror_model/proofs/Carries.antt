@@ -13,8 +13,7 @@ use Rattle.batch_rules.specs.Batches.{most_units, applied_from, text_units, Stan
 use Rattle.batch_rules.specs.Events.{is_misfit, first_misfit, after_batches}
 use Rattle.batch_rules.proofs.Standing.{text_units_applied}
 use Rattle.edit_batches.proofs.Lengths.{standing_below}
-use Rattle.model_page.specs.Counts.{text_breaks}
-use Rattle.model_page.specs.Needs.{need_of_ops, need_of_batches}
+use Rattle.text_batches.specs.Needs.{text_breaks, need_of_ops, need_of_batches}
 
 -- the first of batches that fit, and those after it
 pub record IsFit (x : List ℕ) (ops : List Op) (rest : List (List Op)) : Type 0 where

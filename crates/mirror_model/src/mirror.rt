@@ -9,9 +9,9 @@ ghost use Rattle.mirror_model.specs.Outcomes.{Takes};
 
 use edit_batches::{Batch, Event};
 use mirror_rules::MirrorError;
-use model_page::{apply_to_text, need_of_batches};
 use std::alloc::{AllocError, Global};
 use std::marker::Model;
+use text_batches::{apply_to_text, need_of_batches};
 use text_buffer::TextBuffer;
 use unit_text::{Flat, Kind};
 
@@ -36,12 +36,12 @@ impl Model for Mirror {
 }
 
 impl Mirror {
-    /// A mirror of the document's text at this version.
-    pub fn of_text(alloc: Global, version: u64, text: &[u16]) -> Result<Mirror, AllocError>
-        requires { length text.now ≤ most_units }
-        ensures { IfOk result (λ m. m ≡ record { version = version; units = text.now }) }
+    /// A mirror of the document's text at this version, which it takes over.
+    pub fn of_text(alloc: Global, version: u64, text: Vec<u16>) -> Result<Mirror, AllocError>
+        requires { length text.items ≤ most_units }
+        ensures { IfOk result (λ m. m ≡ record { version = version; units = text.items }) }
     {
-        let text = TextBuffer::of_units(alloc, text, Kind::Mixed)?;
+        let text = TextBuffer::of_vec(alloc, text, Kind::Mixed)?;
         Ok(Mirror { version, text })
     }
 

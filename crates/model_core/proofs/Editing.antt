@@ -17,13 +17,13 @@ use Rattle.undo_rules.specs.Stack.{Stack}
 use Rattle.snapshot_rules.specs.Snapshots.{FlatShelf}
 use Rattle.document_rules.specs.Document.{FlatText, greatest_version, is_same_kind, flat_edit, flat_eol}
 use Rattle.document_rules.proofs.PairedEndings.{paired_texts_in}
+use Rattle.text_batches.specs.Needs.{need_of_ops}
 use Rattle.model_page.specs.declared.change.Change.{Change}
 use Rattle.model_page.specs.declared.change.Change.TheVariants.{Ops, Endings}
 use Rattle.model_page.specs.declared.change.Way.TheVariants.{On}
 use Rattle.model_page.specs.Carrying.{decorations_over}
 use Rattle.batch_rules.specs.Events.{whole_op}
 use Rattle.model_page.specs.Changes.{text_from, text_to, led, ops_by, Leads}
-use Rattle.model_page.specs.Needs.{need_of_ops}
 use Rattle.model_page.specs.State.{PageState, flat_text, HasRoom, CanFollow}
 use Rattle.model_page.proofs.Recasts.{applied-whole}
 use Rattle.hiding_rules.specs.Hidden.{Scanner}

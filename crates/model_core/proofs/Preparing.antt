@@ -22,19 +22,19 @@ use Rattle.document_rules.specs.Refusals.{FlatRefusal}
 use Rattle.document_rules.specs.Document.{FlatText, FlatChange, FlatState, text_now, greatest_version, after_batch, edited_by, flat_edit, is_same_kind, flat_eol}
 use Rattle.document_rules.specs.Paired.{IsPairedState}
 use Rattle.document_rules.proofs.PairedStates.{IsPairedState-edit, IsPairedState-eol}
+use Rattle.text_batches.specs.Growth.{GrownBy}
+use Rattle.text_batches.specs.Needs.{need_of_ops}
 use Rattle.model_page.specs.declared.change.Way.{Way}
 use Rattle.model_page.specs.declared.change.Way.TheVariants.{Back, On}
 use Rattle.model_core.specs.declared.ready.Action.{Action}
 use Rattle.model_core.specs.declared.ready.Action.TheVariants.{Make, Move}
 use Rattle.model_core.specs.State.{ModelState, KeepsRoom, KeepsParse}
 use Rattle.model_page.specs.Staying.{KeptBy}
-use Rattle.model_page.specs.State.{GrownBy}
 use Rattle.model_core.specs.Ways.{next_steps}
 use Rattle.text_buffer.specs.Room as text_room
 use Rattle.text_buffer.specs.declared.room.Need as text_need
 use Rattle.model_page.specs.Changes.{ops_by}
 use Rattle.model_page.specs.LineMarks.{marked_backwards}
-use Rattle.model_page.specs.Needs.{need_of_ops}
 use Rattle.model_core.specs.Edited.{ops_as_done}
 use Rattle.model_core.specs.Prepared.{Prepared, IsEnough, need_of, next_op_count, next_unit_count, next_break_count, IsRecastOf, IsChangeOf, CanAct, CanCommit, Acts, HasActed, ArePairedTexts, batch_of, recast_of, IsEditReady, IsEolReady, IsMoveReady}
 use Rattle.model_core.proofs.Editing.{edited_paired}

@@ -15,6 +15,7 @@ use Rattle.document_rules.proofs.PairedStates.{IsPairedState-undo, IsPairedState
 use Rattle.document_rules.specs.Refusals.{limit}
 use Rattle.snapshot_rules.specs.Snapshots.{FlatShelf}
 use Rattle.document_rules.specs.Document.{FlatText, FlatChange, FlatState, greatest_version, batches_back, batches_on}
+use Rattle.text_batches.specs.Needs.{text_breaks}
 use Rattle.model_page.specs.declared.change.Change.{Change}
 use Rattle.model_page.specs.declared.change.Change.TheVariants.{Ops, Endings}
 use Rattle.model_page.specs.declared.change.Way.{Way}
@@ -24,7 +25,7 @@ use Rattle.model_page.specs.Ways.{text_by, changes_by, LeadBy, decorations_by, b
 use Rattle.model_core.specs.Prepared.{ops_along, next_op_count, deed_marking, next_marking_count, next_unit_count, next_break_count}
 use Rattle.batch_rules.specs.Events.{whole_op}
 use Rattle.model_page.specs.Changes.{ops_by, led, deed_of, text_back, changes_back, changes_on, Leads, LeadBack, LeadOn}
-use Rattle.model_page.specs.Counts.{text_breaks, op_count, unit_count, breaks_along, marking_ops, marking_count}
+use Rattle.model_page.specs.Counts.{op_count, unit_count, breaks_along, marking_ops, marking_count}
 use Rattle.model_core.specs.History.{undo_steps, redo_steps, history_of, latest_along, latest_steps, last_of, IsHistory}
 use Rattle.model_core.specs.declared.latest.Latest.{Latest}
 use Rattle.hiding_rules.specs.Hidden.{Scanner}

@@ -11,6 +11,8 @@ use Rattle.undo_rules.specs.Stack.{Step}
 use Rattle.document_rules.specs.declared.ModelError.{ModelError}
 use Rattle.document_rules.specs.Outcomes.{RefusedFor}
 use Rattle.document_rules.specs.Document.{FlatText, Deed, FlatChange, FlatState, batch, recast, ops_on, ops_back, text_now, recast_to, after_batch, after_recast, flat_edit, flat_stop, is_same_kind, flat_eol}
+use Rattle.text_batches.specs.Growth.{GrownBy}
+use Rattle.text_batches.specs.Needs.{text_breaks, need_of_ops}
 use Rattle.model_page.specs.declared.change.Change.{Change}
 use Rattle.model_page.specs.declared.change.Way.{Way}
 use Rattle.model_page.specs.declared.change.Way.TheVariants.{Back, On}
@@ -23,10 +25,8 @@ use Rattle.model_core.specs.Ways.{next_steps, flat_move}
 use Rattle.model_core.specs.Edited.{ops_as_done}
 use Rattle.model_page.specs.declared.change.Change.TheVariants.{Ops, Endings}
 use Rattle.model_page.specs.Changes.{text_from, text_to, ops_by}
-use Rattle.model_page.specs.Counts.{text_breaks, marking_ops}
+use Rattle.model_page.specs.Counts.{marking_ops}
 use Rattle.model_page.specs.LineMarks.{marks_over}
-use Rattle.model_page.specs.Needs.{need_of_ops}
-use Rattle.model_page.specs.State.{GrownBy}
 use Rattle.model_page.specs.Staying.{KeptBy}
 use Rattle.model_page.specs.Ways.{marked_step}
 

@@ -8,8 +8,8 @@ use Rattle.line_states.specs.Settling.{Borders}
 use Rattle.node_reuse.specs.ParsedTree.{ParsedTree}
 use Rattle.document_rules.specs.declared.ModelError.{ModelError}
 use Rattle.document_rules.specs.Document.{FlatState}
+use Rattle.text_batches.specs.Growth.{GrownBy}
 use Rattle.model_page.specs.Staying.{HasAsked, KeptBy, lines_to_ask}
-use Rattle.model_page.specs.State.{GrownBy}
 
 -- the room that was made for changes
 pub record Room : Type 0 where

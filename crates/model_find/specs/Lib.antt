@@ -1,1 +1,3 @@
-pub mod Walk
+pub mod Ahead
+pub mod Matching
+pub mod Searching

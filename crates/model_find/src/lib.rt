@@ -1,66 +1,116 @@
 //! Where a text stands in another one, which is read run by run, and the edits that replace it everywhere.
 #![tactic(auto)]
 
+mod borders;
 mod lanes;
-mod walk;
+mod search;
+mod starts;
 
-ghost use Rattle.std.specs.Prelude.{◌≡◌, ◌<◌, ◌++◌, length, take, drop, vec_len, IfOk, OnOk, OnErr};
+ghost use Rattle.std.specs.Prelude.{◌≡◌, ◌+◌, ◌*◌, ◌<◌, ◌≤◌, ◌^◌, ◌++◌, length, take, drop, IfOk, OnOk, OnErr};
 ghost use Rattle.search_rules.specs.Occurrences.{occurrences, AreOccurrences};
 ghost use Rattle.search_rules.specs.Replacing.{replacing};
+ghost use Rattle.model_find.specs.Matching.{AreBorders};
 
-use crate::walk::next_after;
+use crate::borders::borders_of;
+use crate::search::Search;
 use std::alloc::{AllocError, Global};
+use std::sync::ledger::Ledger;
+use steps::Steps;
 use text_lengths::Span;
 use text_rules::Op;
-use unit_text::{Flat, Units};
+use unit_text::{ByRuns, Flat, Kind, Reader, Units};
 
 /// Appends the spans of the text at which these units stand, from left to right, none overlapping the one before. After an error `out`
-/// is as it was. The text is read once; at each place where the first unit stands the others are compared with it, so at worst it
-/// takes time in how many units the text has times how many are sought.
-pub fn find_all<F: Flat>(text: &F, sought: &[u16], out: &mut Vec<Span>) -> Result<(), AllocError>
+/// is as it was. A text of n units in which m are sought takes at most 4 * (n + m) looks at a unit, each of which is a step, and memory
+/// for m numbers.
+pub fn find_all<F: Flat, L: Ledger>(
+    text: &F,
+    sought: &[u16],
+    out: &mut Vec<Span>,
+    looks: &mut Steps<L>,
+) -> Result<(), AllocError>
     requires some { 0 < length sought.now }
     ensures ok { OnOk result (out.new.items ≡ out.old.items
         ++ occurrences (F.kind text.now) (F.units text.now) sought.now) }
     ensures occurrences { OnOk result (AreOccurrences (F.kind text.now) (F.units text.now) sought.now
         (drop (length out.old.items) out.new.items)) }
     ensures err { OnErr result (out.new.items ≡ out.old.items) }
+    ensures cost { looks.new ≤ looks.old + 4 * (length (F.units text.now) + length sought.now) }
 {
-    let before = out.len();
-    let appended = push_all(text, sought, out);
-    if appended.is_err() {
-        out.truncate(before);
-    }
-    appended
+    find_in(ByRuns::new(text), text.kind(), sought, out, looks)
 }
 
-// After an error some of the spans stand behind what was there.
-fn push_all<F: Flat>(text: &F, sought: &[u16], out: &mut Vec<Span>) -> Result<(), AllocError>
+/// The same in a text of this kind that is read by such a reader, of which it takes all that is left.
+pub fn find_in<'t, R: Reader<'t>, L: Ledger>(
+    reader: R,
+    kind: Kind,
+    sought: &[u16],
+    out: &mut Vec<Span>,
+    looks: &mut Steps<L>,
+) -> Result<(), AllocError>
     requires some { 0 < length sought.now }
-    ensures ok { OnOk result (out.new.items ≡ out.old.items
-        ++ occurrences (F.kind text.now) (F.units text.now) sought.now) }
-    ensures before { take (vec_len out.old) out.new.items ≡ out.old.items }
+    requires small { length (R.left reader) < 2 ^ 64 }
+    ensures ok { OnOk result (out.new.items
+        ≡ out.old.items ++ occurrences kind (R.left reader) sought.now) }
+    ensures occurrences { OnOk result (AreOccurrences kind (R.left reader) sought.now
+        (drop (length out.old.items) out.new.items)) }
+    ensures err { OnErr result (out.new.items ≡ out.old.items) }
+    ensures cost { looks.new ≤ looks.old + 4 * (length (R.left reader) + length sought.now) }
 {
-    let mut at = 0;
-    while let Some(span) = next_after(text, sought, at) {
-        out.push(span)?;
-        at = span.end;
+    let borders = borders_of(*out.allocator(), kind, sought, looks)?;
+    find_by(reader, kind, sought, &borders, out, looks)
+}
+
+// The same, where the borders of the sought units are known.
+fn find_by<'t, R: Reader<'t>, L: Ledger>(
+    reader: R,
+    kind: Kind,
+    sought: &[u16],
+    borders: &[usize],
+    out: &mut Vec<Span>,
+    looks: &mut Steps<L>,
+) -> Result<(), AllocError>
+    requires some { 0 < length sought.now }
+    requires small { length (R.left reader) < 2 ^ 64 }
+    requires borders { AreBorders kind sought.now borders.now }
+    requires all { length borders.now ≡ length sought.now }
+    ensures ok { OnOk result (out.new.items
+        ≡ out.old.items ++ occurrences kind (R.left reader) sought.now) }
+    ensures err { OnErr result (out.new.items ≡ out.old.items) }
+    ensures cost { looks.new ≤ looks.old + 4 * length (R.left reader) }
+{
+    let mut search = Search {
+        kind,
+        sought,
+        borders,
+        at: 0,
+        before: 0,
+        matched: 0,
+    };
+    let before = out.len();
+    let found = search.through_all(reader, out, looks);
+    if found.is_err() {
+        out.truncate(before);
     }
-    Ok(())
+    found
 }
 
 /// The edits that put a text in the place of each span at which the sought units stand, and force no decoration.
-pub fn ops_for<F: Flat>(
+pub fn ops_for<'t, R: Reader<'t>, L: Ledger>(
     alloc: Global,
-    text: &F,
+    reader: R,
+    kind: Kind,
     sought: &[u16],
     with: &[u16],
+    looks: &mut Steps<L>,
 ) -> Result<Vec<Op>, AllocError>
     requires some { 0 < length sought.now }
+    requires small { length (R.left reader) < 2 ^ 64 }
     ensures { IfOk result (λ ops. ops.items
-        ≡ replacing (occurrences (F.kind text.now) (F.units text.now) sought.now) with.now) }
+        ≡ replacing (occurrences kind (R.left reader) sought.now) with.now) }
 {
     let mut spans = Vec::new(alloc);
-    find_all(text, sought, &mut spans)?;
+    find_in(reader, kind, sought, &mut spans, looks)?;
     ops_at(alloc, &spans, with)
 }
 

@@ -1,6 +1,5 @@
 pub mod Turns
 pub mod Carries
-pub mod Texts
 pub mod TextLines
 pub mod DirtyEdits
 pub mod EditedMarks

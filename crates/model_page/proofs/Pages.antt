@@ -9,6 +9,8 @@ use Rattle.chunk_buffers.specs.Chunks.{Extends}
 use Rattle.chunk_buffers.proofs.Spans.{Extends-refl, Extends-trans}
 use Rattle.decoration_rules.specs.Decorations.{Decorations}
 use Rattle.mark_rules.specs.declared.Mark.{Mark}
+use Rattle.text_batches.specs.Growth.{HasGrown}
+use Rattle.text_batches.specs.Needs.{need_of_ops}
 use Rattle.model_page.specs.declared.change.Change.{Change}
 use Rattle.model_page.specs.declared.change.Way.{Way}
 use Rattle.model_page.specs.declared.change.Way.TheVariants.{Back, On}
@@ -18,13 +20,12 @@ use Rattle.model_page.specs.declared.change.Change.TheVariants.{Ops, Endings}
 use Rattle.model_page.specs.Changes.{ops_by, led}
 use Rattle.model_page.specs.Counts.{op_count}
 use Rattle.model_page.specs.LineMarks.{marked_backwards, marks_over}
-use Rattle.model_page.specs.Needs.{need_of_ops}
 use Rattle.model_page.specs.Staying.{StaysWith}
 use Rattle.model_page.specs.Ways.{forces, text_by, changes_by, LeadBy, decorations_by, marked_along}
-use Rattle.model_page.specs.State.{PageState, IsPage, flat_text, CanApply, CanFollow, CanLead, HasGrown, HasRoom, HasSpent, KeepsParse, Renews, is_fresh}
+use Rattle.model_page.specs.State.{PageState, IsPage, flat_text, CanApply, CanFollow, CanLead, HasRoom, HasSpent, KeepsParse, Renews, is_fresh}
 use Rattle.model_page.proofs.Carries.{carried_with-none}
 use Rattle.model_page.proofs.Staying.{stays_as, stays_applied, clean_where_fresh}
-use Rattle.model_page.proofs.Texts.{IsTextAfter, text_before, text_after}
+use Rattle.text_batches.proofs.Texts.{IsTextAfter, text_before, text_after}
 use Rattle.model_page.proofs.Turns.{IsFit, IsNext}
 
 -- what so many of the ops leave

@@ -4,7 +4,7 @@ use Rattle.std.proofs.lemmas.List.{drop_all}
 use Rattle.batch_rules.specs.Batches.{applied_from, text_units}
 use Rattle.line_starts.specs.Starts.{break_count}
 use Rattle.batch_rules.specs.Events.{whole_op}
-use Rattle.model_page.specs.Counts.{text_breaks}
+use Rattle.text_batches.specs.Needs.{text_breaks}
 
 -- the op that puts a text in the place of another leaves that text
 pub applied-whole : (x y : List ℕ) → applied_from 0 x (whole_op x y) ≡ y

@@ -1,16 +1,11 @@
 -- How many ops there are on a way, and how many units and breaks their texts have.
 use Rattle.std.specs.Prelude.{ℕ, List, length, sum_by}
-use Rattle.text_rules.specs.declared.Op.{Op}
-use Rattle.line_starts.specs.Starts.{break_count}
 use Rattle.batch_rules.specs.Batches.{text_units}
+use Rattle.text_batches.specs.Needs.{text_breaks}
 use Rattle.model_page.specs.declared.change.Change.{Change}
 use Rattle.model_page.specs.declared.change.Change.TheVariants.{Ops, Endings}
 use Rattle.model_page.specs.declared.change.Way.{Way}
 use Rattle.model_page.specs.Changes.{ops_by}
-
--- how many breaks the texts of the ops have together
-abbrev pub text_breaks : List Op → ℕ
-text_breaks ops = sum_by (λ op. break_count op.text) ops
 
 -- how many ops there are on the way, and how many units and breaks the texts of these have
 abbrev pub op_count : Way → List Change → ℕ

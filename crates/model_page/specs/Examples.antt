@@ -5,20 +5,10 @@ use Rattle.mark_rules.specs.declared.Mark.TheVariants.{Kept, New}
 use Rattle.mark_rules.specs.Marks.{clean_marks}
 use Rattle.unit_text.specs.declared.kind.Kind.TheVariants.{Mixed}
 use Rattle.document_rules.specs.Document.{FlatChange, batch}
-use Rattle.model_page.specs.Counts.{text_breaks}
 use Rattle.model_page.specs.LineMarks.{marked_by, marked_backwards, marked_back}
 
 abbrev insert : ℕ → Op
 insert at = record { span = record { start = at; end = at }; text = codes "x"; force = false }
-
--- a CR and an LF in the texts of two ops
-abbrev two_halves_of_a_pair : List Op
-two_halves_of_a_pair =
-    record { span = record { start = 0; end = 0 }; text = codes "\r"; force = false }
-    ∷ record { span = record { start = 0; end = 0 }; text = codes "\n"; force = false } ∷ []
-
-each_text_counts_alone : text_breaks two_halves_of_a_pair ≡ 2
-each_text_counts_alone = refl
 
 -- `a`, a break, `b`, a break and `c`
 abbrev three_lines : List ℕ

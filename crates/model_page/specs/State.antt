@@ -1,5 +1,5 @@
 -- What contracts see of a page, the text side of a document: what may be done with it, and what that leaves.
-use Rattle.std.specs.Prelude.{◌≡◌, ℕ, ◌+◌, ◌*◌, ◌≤◌, Bool, true, false, List, length, replicate, Option, None, is_some, Result, OnOk, OnErr}
+use Rattle.std.specs.Prelude.{◌≡◌, ℕ, ◌+◌, ◌≤◌, Bool, true, false, List, length, replicate, Option, None, is_some, Result, OnOk, OnErr}
 use Rattle.unit_text.specs.declared.kind.Kind.{Kind}
 use Rattle.unit_text.specs.Kinds.{IsOfKind}
 use Rattle.text_rules.specs.declared.Op.{Op}
@@ -20,12 +20,13 @@ use Rattle.node_reuse.specs.ParsedTree.{ParsedTree}
 use Rattle.text_buffer.specs.Text.{Text}
 use Rattle.text_buffer.specs.Room as text_room
 use Rattle.text_buffer.specs.declared.room.Need.{Need}
+use Rattle.text_batches.specs.Needs.{need_of_ops}
 use Rattle.model_page.specs.declared.change.Change.{Change}
 use Rattle.model_page.specs.declared.change.Change.TheVariants.{Ops, Endings}
 use Rattle.model_page.specs.declared.change.Way.{Way}
 use Rattle.model_page.specs.Changes.{ops_by, text_from}
 use Rattle.model_page.specs.Carrying.{AreIn}
-use Rattle.model_page.specs.Needs.{need_of_ops, need_along}
+use Rattle.model_page.specs.Needs.{need_along}
 use Rattle.model_page.specs.Staying.{fresh_tree, HasAsked, StaysWith, lines_to_ask}
 use Rattle.model_page.specs.Ways.{LeadBy}
 
@@ -94,15 +95,6 @@ pub record HasSpent (need : Need) (old new : PageState) : Type 0 where
   pub marks : old.spare ≤ new.spare + need.edits
 
 -- ---- what a call leaves
-
--- so many ops add two pieces each at most
-abbrev pub GrownBy : ℕ → ℕ → ℕ → Type 0
-GrownBy ops old new = new ≤ old + 2 * ops
-
--- so many ops add two pieces each at most, and buffers are only appended to
-pub record HasGrown (ops : ℕ) (old new : Text) : Type 0 where
-  pub pieces : GrownBy ops (length old.spans) (length new.spans)
-  pub buffers : Extends old.buffers new.buffers
 
 -- the last parse, and what it went by
 pub record KeepsParse (old new : PageState) : Type 0 where

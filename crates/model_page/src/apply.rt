@@ -9,9 +9,10 @@ ghost use Rattle.model_page.specs.Carrying.{edit_with, carried_with, decorations
 ghost use Rattle.model_page.specs.Changes.{led, ops_by, text_from, text_to};
 ghost use Rattle.model_page.specs.Counts.{op_count};
 ghost use Rattle.model_page.specs.LineMarks.{marked_backwards, marks_over};
-ghost use Rattle.model_page.specs.Needs.{need_of_ops};
+ghost use Rattle.text_batches.specs.Growth.{HasGrown};
+ghost use Rattle.text_batches.specs.Needs.{need_of_ops};
 ghost use Rattle.model_page.specs.Placed.{op_of};
-ghost use Rattle.model_page.specs.State.{CanApply, CanFollow, CanLead, HasGrown, HasRoom, HasSpent, KeepsParse, flat_text};
+ghost use Rattle.model_page.specs.State.{CanApply, CanFollow, CanLead, HasRoom, HasSpent, KeepsParse, flat_text};
 ghost use Rattle.model_page.specs.Ways.{text_by, changes_by, decorations_by, marked_along, place_at};
 
 use crate::change::{Change, Way, batch_for};

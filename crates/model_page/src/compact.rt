@@ -42,7 +42,7 @@ impl Page {
         }
         let mut units = Vec::new(self.alloc);
         self.text.value(Span { start: 0, end: len }, &mut units)?;
-        let text = TextBuffer::of_units(self.alloc, units.as_slice(), self.text.kind())?;
+        let text = TextBuffer::of_vec(self.alloc, units, self.text.kind())?;
         Ok(Some(text))
     }
 

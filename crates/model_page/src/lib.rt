@@ -11,7 +11,6 @@ mod form;
 mod last_parse;
 mod page;
 mod placed;
-mod plain;
 mod text_lines;
 
 pub use change::{Change, Way, need_of, need_of_step};
@@ -19,4 +18,3 @@ pub use compact::LEAST_COMPACTED;
 pub use events::{batch_along, batches_along};
 pub use page::Page;
 pub use placed::{PlacedBatch, PlacedRecast};
-pub use plain::{apply_to_text, need_of_batches};

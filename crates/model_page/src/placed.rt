@@ -6,10 +6,10 @@ ghost use Rattle.batch_rules.specs.Batches.{most_units, applied_from, inverse_fr
 ghost use Rattle.decoration_rules.specs.Lines.{AreLineMoves};
 ghost use Rattle.decoration_rules.specs.LineMoves.{line_moves, HaveSameContents};
 ghost use Rattle.model_page.specs.Changes.{text_from, text_to};
-ghost use Rattle.model_page.specs.Needs.{need_of_ops};
+ghost use Rattle.text_batches.specs.Needs.{need_of_ops};
 ghost use Rattle.model_page.specs.Placed.{op_of};
 
-use crate::change::{Way, need_of_batch, need_of_text};
+use crate::change::Way;
 use crate::form::{Form, MOST_SHORT, Place, PlacedOps, short, short_inverse};
 use chunk_buffers::ChunkSpan;
 use edit_batches::Batch;
@@ -17,6 +17,7 @@ use recasts::{Recast, Side};
 use std::alloc::{AllocError, Global};
 use std::cell::Cell;
 use std::marker::Model;
+use text_batches::{need_of_batch, need_of_text};
 use text_buffer::{Need, TextBuffer};
 use text_lengths::Span;
 use text_rules::Op;

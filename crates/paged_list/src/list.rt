@@ -10,16 +10,16 @@ use std::alloc::{AllocError, Global};
 use std::marker::Model;
 
 /// A list of fewer than 2^32 items in pages of raw memory, which go back to the allocator at its end. No item is ever
-/// moved: to make room is to ask the allocator for pages, whatever is there. Only `reserve` takes memory.
+/// moved: to make room is to ask the allocator for pages, whatever is there. Only `reserve` takes memory. The items go with
+/// the list, the last one first.
 ///
 /// A contract sees the items, and how many there is room for.
-#[derive(Drop)]
-pub struct PagedList<T: Copy> {
+pub struct PagedList<T> {
     slots: Slots<T>,
     len: usize,
 }
 
-impl<T: Copy> Model for PagedList<T> {
+impl<T> Model for PagedList<T> {
     ghost use Rattle.std.specs.Prelude.{length};
     ghost use Rattle.paged_list.specs.List.{Paged, paged, paged_code, values, IsLaid};
 
@@ -32,7 +32,17 @@ impl<T: Copy> Model for PagedList<T> {
     ghost invariant = { λ a. IsLaid a.slots a.len };
 }
 
-impl<T: Copy> PagedList<T> {
+impl<T: Drop> Drop for PagedList<T> {
+    fn drop(mut self) {
+        for _ in 0..self.len() {
+            self.pop();
+        }
+        let PagedList { slots, len: _ } = self;
+        drop(slots);
+    }
+}
+
+impl<T> PagedList<T> {
     ghost use Rattle.paged_list.specs.ItemLends.{lends_item};
 
     /// A list with no item and no room.
@@ -48,6 +58,7 @@ impl<T: Copy> PagedList<T> {
     pub fn len(&self) -> usize
         ensures value { result ≡ length self.now.items }
         ensures room { result ≤ self.now.capacity }
+        ensures few { self.now.capacity < 2 ^ 32 }
     {
         self.len
     }
@@ -118,7 +129,10 @@ impl<T: Copy> PagedList<T> {
     {
         self.slots.get_mut(index)
     }
+}
 
+impl<T: Drop> PagedList<T> {
+    /// Puts an item in the place of another, which goes.
     pub fn set(&mut self, index: usize, item: T)
         requires { index < length self.old.items }
         ensures { self.new ≡ paged (slice_set self.old.items index item) self.old.capacity }

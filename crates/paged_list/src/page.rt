@@ -9,13 +9,13 @@ use std::marker::Model;
 use std_alloc::room::may_hold;
 
 /// Slots that go back to their allocator at the page's end.
-pub struct Page<T: Copy> {
+pub struct Page<T> {
     block: Block<T, Global>,
     count: usize,
     alloc: Global,
 }
 
-impl<T: Copy> Model for Page<T> {
+impl<T> Model for Page<T> {
     ghost use Rattle.std.specs.Prelude.{◌≡◌, ◌<◌, List, Option, length};
     ghost use Rattle.std.specs.Coded.{coded_list, coded_option};
 
@@ -28,7 +28,7 @@ impl<T: Copy> Model for Page<T> {
     ghost invariant = { λ p. (0 < p.count) × (length p.block.holds ≡ p.count) × (p.block.from ≡ p.alloc) };
 }
 
-impl<T: Copy> Drop for Page<T> {
+impl<T> Drop for Page<T> {
     fn drop(self) {
         let Page {
             block,
@@ -39,7 +39,7 @@ impl<T: Copy> Drop for Page<T> {
     }
 }
 
-impl<T: Copy> Page<T> {
+impl<T> Page<T> {
     ghost use Rattle.paged_list.specs.PageLends.{page_lends};
 
     /// A page of `count` empty slots.

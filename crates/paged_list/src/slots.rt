@@ -14,12 +14,12 @@ const MOST_PAGES: usize = 32;
 
 /// Slots, each empty or holding a value. A page stays where it is from its making to the row's end.
 #[derive(Drop)]
-pub struct Slots<T: Copy> {
+pub struct Slots<T> {
     pages: Vec<Page<T>>,
     alloc: Global,
 }
 
-impl<T: Copy> Model for Slots<T> {
+impl<T> Model for Slots<T> {
     ghost use Rattle.std.specs.Prelude.{List, Option};
     ghost use Rattle.std.specs.Coded.{coded_list, coded_option};
     ghost use Rattle.paged_list.specs.Pages.{row, ArePages};
@@ -54,7 +54,7 @@ fn spot_of(index: usize) -> Spot
     }
 }
 
-impl<T: Copy> Slots<T> {
+impl<T> Slots<T> {
     ghost use Rattle.paged_list.specs.RowLends.{row_lends};
 
     pub(crate) fn new(alloc: Global) -> Slots<T>

@@ -3,6 +3,7 @@ pub mod Cuts
 pub mod Looking
 pub mod Places
 pub mod Costs
+pub mod Walking
 pub mod Prolonged
 pub mod Neighbours
 pub mod Runs

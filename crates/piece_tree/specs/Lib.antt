@@ -4,4 +4,5 @@ pub mod Adding
 pub mod Inside
 pub mod Runs
 pub mod Costs
+pub mod Walking
 mod Examples

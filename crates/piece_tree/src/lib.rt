@@ -10,4 +10,4 @@ mod tree;
 mod weave;
 
 pub use piece::{Found, Piece, PieceId, PieceSum, piece_of};
-pub use tree::PieceTree;
+pub use tree::{PieceTree, PieceWalk};

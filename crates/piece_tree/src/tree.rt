@@ -8,6 +8,8 @@ ghost use Rattle.piece_tree.specs.Inside.{TellsSpan};
 ghost use Rattle.piece_tree.specs.Pieces.{pieces_of, unit_count, break_count_of, listed, span_of, IsPieceOf, spliced, IsFound, AreNeighbours, IsAmong, AtEntry, StandsAt, first_of, last_of};
 ghost use Rattle.piece_tree.specs.Costs.{WithinLookUps};
 
+mod walking;
+
 use crate::edits::replace_units;
 use crate::piece::{Found, Piece, PieceId, PieceSum};
 use crate::weave::{PieceWeave, Sought, found};
@@ -17,6 +19,7 @@ use std::alloc::{AllocError, Global};
 use std::marker::Model;
 use std::sync::ledger::Ledger;
 use steps::Steps;
+pub use walking::PieceWalk;
 
 /// How many pieces a splice may add: what goes on past one that it cuts, and one that is new.
 const PIECES_A_SPLICE: u64 = 2;

@@ -30,6 +30,7 @@ pub mod Stopping
 pub mod Steps
 pub mod TakingOut
 pub mod Turning
+pub mod Walking
 pub mod Walks
 pub mod OwnNames
 pub mod Nearest

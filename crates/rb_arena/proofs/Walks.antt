@@ -10,20 +10,20 @@ use denote.Enum.Bare.{sameb}
 use Rattle.rb_rules.specs.contracts.slot.Side.{the_type}
 use Rattle.rb_rules.specs.declared.slot.Side.{Side}
 use Rattle.rb_rules.specs.declared.slot.Slot.{Slot}
-use Rattle.rb_rules.specs.Tree.{Tree, Hole, tip, top, on, other, plug, above, root_of, depth, height}
-use Rattle.rb_rules.specs.Memory.{Made, Spot, AtSpot, here, below, child, place_of}
-use Rattle.rb_rules.proofs.Live.{Live, forks_on, child-sided, live_root}
+use Rattle.rb_rules.specs.Tree.{Tree, Hole, tip, top, on, other, forked, plug, above, root_of, depth, height}
+use Rattle.rb_rules.specs.Memory.{Made, Spot, here, below, child, place_of, side_by_name}
+use Rattle.rb_rules.proofs.Live.{Live, forks_on, child-sided, live_above, live_root, no_place, side_is}
 use Rattle.rb_rules.proofs.Ups.{slot_above, hole_top}
 use Rattle.rb_rules.proofs.Spots.{upper_is}
 use Rattle.rb_rules.specs.declared.slot.Side.TheVariants.{Left, Right}
 use Rattle.rb_rules.proofs.Memories.{opened}
 use Rattle.rb_arena.specs.declared.links.Links.{Links}
-use Rattle.rb_arena.specs.Ends.{HangsAt, IsEnd, HangsPast, IsFirstPast, NearsEnd, StandsAbove, LowAt, StandsLow, IsAboveOn, IsBeside, NearsAbove}
+use Rattle.rb_arena.specs.Ends.{edge, rise, way, HangsAt, IsEnd, EndsAfter, HangsPast, IsFirstPast, NearsEnd, LowAt, StandsLow, IsAboveOn, RisesAfter, IsParent, IsBeside, IsBesideAfter, NearsAbove}
 use Rattle.rb_arena.specs.Placing.{above_place, right_of, StartsAt, HangsAfter}
 use Rattle.rb_arena.specs.RbTree.{end_hole, up_on}
 use Rattle.rb_arena.proofs.Growing.{forked_here, height-forked, height-below, end_fork, up_past, sides_differ, same_side, hole_depth, no_height, no_root, neighbour_none, neighbour_some}
 use Rattle.rb_arena.proofs.Paths.{above-place}
-use Rattle.rb_arena.proofs.Slots.{child-slot, upper_at}
+use Rattle.rb_arena.proofs.Slots.{Upper, child-slot, upper_at}
 
 sides_apart : Left ≡ Right → ⊥
 sides_apart e = cc
@@ -46,49 +46,95 @@ module _ {D : Type 0} where
   up_here Left Right c i d x k e = absurd (sides_apart (sym e))
   up_here Right Left c i d x k e = absurd (sides_apart e)
 
-  place_lives : (tree : Links D) {beside : Tree D} (k : Hole D) (t : Tree D) → Made beside tree.nodes.live tree.root (plug k t) → (at : Option (ℕ × Side)) → at ≡ place_of k
-      → StandsAbove tree at
-  unfolding StandsAbove
-  place_lives tree k t made None e = tt
-  place_lives tree k t made (Some a) e = let u = upper_at tree.nodes.live tree.root k t made (sym e) in (u.spot, u.made)
+  edge-fork : (side : Side) (c : Bool) (i : ℕ) (d : D) (x y : Tree D) → edge side (forked side c i d x y) ≡ 1 + edge side x
+  edge-fork Left c i d x y = refl
+  edge-fork Right c i d x y = refl
+
+  edge_tip : (side : Side) (t : Tree D) → t ≡ tip → edge side t ≡ 0
+  edge_tip Left t is = ap (edge Left) is
+  edge_tip Right t is = ap (edge Right) is
+
+  rise_top : (side : Side) (k : Hole D) → k ≡ top → rise side k ≡ 0
+  rise_top Left k is = ap (rise Left) is
+  rise_top Right k is = ap (rise Right) is
+
+  rise_here : (side z : Side) (c : Bool) (i : ℕ) (d : D) (x : Tree D) (k : Hole D) → z ≡ side → rise side (on z c i d x k) ≡ 1
+  rise_here Left Left c i d x k e = refl
+  rise_here Right Right c i d x k e = refl
+  rise_here Left Right c i d x k e = absurd (sides_apart (sym e))
+  rise_here Right Left c i d x k e = absurd (sides_apart e)
+
+  rise_past : (side z : Side) (c : Bool) (i : ℕ) (d : D) (x : Tree D) (k : Hole D) → (z ≡ side → ⊥) → rise side (on z c i d x k) ≡ 1 + rise side k
+  rise_past Left Left c i d x k differ = absurd (differ refl)
+  rise_past Left Right c i d x k differ = refl
+  rise_past Right Left c i d x k differ = refl
+  rise_past Right Right c i d x k differ = absurd (differ refl)
+
+  -- the way from a node, by whether there is a subtree on that side
+  way_up : (side : Side) (s : Spot D) → root_of (below side s) ≡ None → way side s ≡ rise (other side) s.hole
+  way_up side s none = ap (λ o. elim o [ None ↦ rise (other side) s.hole | Some i ↦ edge (other side) (below side s) ]) none
+
+  way_down : (side : Side) (s : Spot D) (j : ℕ) → root_of (below side s) ≡ Some j → way side s ≡ edge (other side) (below side s)
+  way_down side s j some = ap (λ o. elim o [ None ↦ rise (other side) s.hole | Some i ↦ edge (other side) (below side s) ]) some
 
 module _ {D : Type 0} (tree : Links D) where
-  pub nears_end_first : (from : Option (ℕ × Side)) (below : Option ℕ) (side : Side) → NearsEnd tree from below side from below 128
+  pub nears_end_first : (from : Option (ℕ × Side)) (below : Option ℕ) (side : Side) → NearsEnd tree from below side from below 128 0
   unfolding NearsEnd
-  nears_end_first from below side = λ beside t k (at, is, low). (t, (k, at, is, low, refl))
+  nears_end_first from below side = λ beside t k (at, is, low). (t, (k, at, is, low, refl, omega arith))
 
   module _ (from : Option (ℕ × Side)) (below : Option ℕ) (side : Side) (at : Option (ℕ × Side)) where
-    pub nears_end_next : (id : ℕ) (here_ next : Option ℕ) (slot : Slot D) (n more : ℕ) → NearsEnd tree from below side at here_ more → here_ ≡ Some id → node tree.nodes id ≡ Some slot → next ≡ child side slot → more ≡ n + 1
-        → NearsEnd tree from below side (Some (id, side)) next n
+    pub nears_end_next : (id : ℕ) (here_ next : Option ℕ) (slot : Slot D) (n more gone : ℕ) → NearsEnd tree from below side at here_ more gone → here_ ≡ Some id → node tree.nodes id ≡ Some slot → next ≡ child side slot → more ≡ n + 1
+        → NearsEnd tree from below side (Some (id, side)) next n (gone + 1)
     unfolding NearsEnd
-    nears_end_next id here_ next slot n more nears some read is one = λ beside t k h.
-        let (t2, (k2, (e, made), r, le, same)) = nears beside t k h in let m = tree.nodes.live in
+    nears_end_next id here_ next slot n more gone nears some read is one = λ beside t k h.
+        let (t2, (k2, (e, made), r, le, same, took)) = nears beside t k h in let m = tree.nodes.live in
         let (b, (d, x, y, forks)) = forks_on side t2 id (sym r ∙ some) in
         let made2 = subst (λ q. Made beside m tree.root (plug k2 q)) forks made in
         let there = slot_above m tree.root side b id d y k2 x made2 in
         let found = is ∙ ap (λ o. child side (unwrap_or o slot)) (sym read ∙ there) ∙ (child-sided side (above k2) (root_of x) (root_of y) b d).0 in
         let high = ap height forks in let higher = height-forked side b id d x y in
-        (x, (on side b id d y k2, (refl, made2), found, omega (arith, high, higher, le, one), sym (ap (end_hole side k2) forks ∙ end_fork side k2 b id d x y) ∙ same))
+        let past = ap (edge side) forks in let one_more = edge-fork side b id d x y in (
+          x,
+          (
+            on side b id d y k2,
+            (refl, made2),
+            found,
+            omega (arith, high, higher, le, one),
+            sym (ap (end_hole side k2) forks ∙ end_fork side k2 b id d x y) ∙ same,
+            omega (arith, past, one_more, took),
+          ),
+        )
 
     end_tip : (k : Hole D) (t : Tree D) → t ≡ tip → end_hole side k t ≡ k
     end_tip k t is = ap (end_hole side k) is ∙ hole_of_tip side k
 
-    pub end_none : (n : ℕ) → NearsEnd tree from below side at None n → IsEnd tree from below side at
-    unfolding NearsEnd IsEnd
-    end_none n nears = λ beside t k h.
-        let (t2, (k2, (e, made), r, le, same)) = nears beside t k h in e ∙ ap place_of (sym (end_tip k2 t2 (no_root t2 (sym r))) ∙ same)
+    module _ (gone : ℕ) where
+      pub end_none : (n : ℕ) → NearsEnd tree from below side at None n gone → IsEnd tree from below side at
+      unfolding NearsEnd IsEnd
+      end_none n nears = λ beside t k h.
+          let (t2, (k2, (e, made), r, le, same, took)) = nears beside t k h in e ∙ ap place_of (sym (end_tip k2 t2 (no_root t2 (sym r))) ∙ same)
 
-    pub end_over : (next : Option ℕ) → NearsEnd tree from below side at next 0 → IsEnd tree from below side at
-    unfolding NearsEnd IsEnd
-    end_over next nears = λ beside t k h.
-        let (t2, (k2, (e, made), r, le, same)) = nears beside t k h in e ∙ ap place_of (sym (end_tip k2 t2 (no_height t2 le)) ∙ same)
+      pub end_over : (next : Option ℕ) → NearsEnd tree from below side at next 0 gone → IsEnd tree from below side at
+      unfolding NearsEnd IsEnd
+      end_over next nears = λ beside t k h.
+          let (t2, (k2, (e, made), r, le, same, took)) = nears beside t k h in e ∙ ap place_of (sym (end_tip k2 t2 (no_height t2 le)) ∙ same)
+
+      pub none_after : (n steps : ℕ) → NearsEnd tree from below side at None n gone → steps ≡ gone → EndsAfter tree from below side steps
+      unfolding NearsEnd EndsAfter
+      none_after n steps nears is = λ beside t k h.
+          let (t2, (k2, (e, made), r, le, same, took)) = nears beside t k h in let none = edge_tip side t2 (no_root t2 (sym r)) in omega (arith, is, took, none)
+
+      pub over_after : (next : Option ℕ) (steps : ℕ) → NearsEnd tree from below side at next 0 gone → steps ≡ gone → EndsAfter tree from below side steps
+      unfolding NearsEnd EndsAfter
+      over_after next steps nears is = λ beside t k h.
+          let (t2, (k2, (e, made), r, le, same, took)) = nears beside t k h in let none = edge_tip side t2 (no_height t2 le) in omega (arith, is, took, none)
 
     -- the subtree below a node on the walk, if there is one, is live
-    pub next_lives : (id : ℕ) (here_ next : Option ℕ) (slot : Slot D) (n : ℕ) → HangsAt tree from below → NearsEnd tree from below side at here_ n → here_ ≡ Some id → node tree.nodes id ≡ Some slot → next ≡ child side slot
+    pub next_lives : (id : ℕ) (here_ next : Option ℕ) (slot : Slot D) (n gone : ℕ) → HangsAt tree from below → NearsEnd tree from below side at here_ n gone → here_ ≡ Some id → node tree.nodes id ≡ Some slot → next ≡ child side slot
         → IfSome next (λ i. IsLive tree.nodes i)
     unfolding HangsAt NearsEnd
-    next_lives id here_ next slot n (beside, (t, (k, h))) nears some read is =
-        let (t2, (k2, (e, made), r, le, same)) = nears beside t k h in let m = tree.nodes.live in
+    next_lives id here_ next slot n gone (beside, (t, (k, h))) nears some read is =
+        let (t2, (k2, (e, made), r, le, same, took)) = nears beside t k h in let m = tree.nodes.live in
         let (b, (d, x, y, forks)) = forks_on side t2 id (sym r ∙ some) in
         let made2 = subst (λ q. Made beside m tree.root (plug k2 q)) forks made in
         let there = slot_above m tree.root side b id d y k2 x made2 in
@@ -113,51 +159,70 @@ module _ {D : Type 0} (tree : Links D) where
           omega (arith, high, low),
         )
 
-    pub nears_above_first : (at : Option (ℕ × Side)) → AtSpot tree.nodes.live tree.root id (λ s. at ≡ place_of s.hole) → NearsAbove tree id side at 128
-    unfolding NearsAbove
-    nears_above_first at placed = λ s (made, low). (s.hole, (here s id, placed s made, made, refl, omega (arith, low)))
+    -- the node above another, by the slot that was read of it
+    upper : (q : Spot D) (low high : ℕ) (slot : Slot D) → Made q.beside tree.nodes.live tree.root (plug q.hole (here q low)) → above q.hole ≡ Some high → node tree.nodes high ≡ Some slot
+        → Upper tree.nodes.live tree.root q.beside q.hole (here q low) (high, side_by_name slot low)
+    upper q low high slot made named read = upper_at tree.nodes.live tree.root q.hole (here q low) made (sym (side_is tree.nodes.live tree.root q low made high named slot read))
 
-    pub nears_above_next : (here_ : Option (ℕ × Side)) (at : ℕ × Side) (next : Option (ℕ × Side)) (n more : ℕ) → NearsAbove tree id side here_ more → here_ ≡ Some at → AtSpot tree.nodes.live tree.root at.0 (λ s. next ≡ place_of s.hole)
-        → sameb the_type at.1 side ≡ false → more ≡ n + 1 → NearsAbove tree id side next n
-    unfolding NearsAbove
-    nears_above_next here_ at next n more nears some placed differ one = λ s low.
-        let (k, (t, e, made, up, dep)) = nears s low in
-        let u = upper_at tree.nodes.live tree.root k t made (sym e ∙ some) in let deep = ap depth u.hole_is in (
-          u.spot.hole,
-          (
-            here u.spot at.0,
-            placed u.spot u.made,
-            rw u.is_beside at u.made,
-            sym (ap (up_on side) u.hole_is ∙ up_past side at.1 u.spot.red at.0 u.spot.datum _ u.spot.hole (sides_differ at.1 side differ)) ∙ up,
-            omega (arith, dep, deep, one),
-          ),
-        )
+    pub nears_above_first : (parent : Option ℕ) → IsParent tree id parent → NearsAbove tree id side id parent 128 0
+    unfolding IsParent NearsAbove
+    nears_above_first parent is = λ s (made, low). (s, made, is s (made, low), refl, omega (arith, low), omega arith)
 
-    pub above_over : (at : Option (ℕ × Side)) → NearsAbove tree id side at 0 → IsAboveOn tree id side None
-    unfolding NearsAbove IsAboveOn
-    above_over at nears = λ s low. let (k, (t, e, made, up, dep)) = nears s low in sym (up_top side k (hole_depth k dep)) ∙ up
+    module _ (low : ℕ) (here_ : Option ℕ) (gone : ℕ) where
+      pub above_lives : (high n : ℕ) → StandsLow tree id → NearsAbove tree id side low here_ n gone → here_ ≡ Some high → IsLive tree.nodes high
+      unfolding StandsLow NearsAbove
+      above_lives high n (s, there) nears some = let (q, made, next, up, dep, took) = nears s there in live_above tree.nodes.live tree.root q low made high (sym next ∙ some)
 
-    pub above_none : (here_ : Option (ℕ × Side)) (n : ℕ) → NearsAbove tree id side here_ n → here_ ≡ None → IsAboveOn tree id side None
-    unfolding NearsAbove IsAboveOn
-    above_none here_ n nears none = λ s low. let (k, (t, e, made, up, dep)) = nears s low in sym (up_top side k (hole_top k (sym e ∙ none))) ∙ up
+      pub above_over : NearsAbove tree id side low here_ 0 gone → IsAboveOn tree id side None
+      unfolding NearsAbove IsAboveOn
+      above_over nears = λ s there. let (q, made, next, up, dep, took) = nears s there in sym (up_top side q.hole (hole_depth q.hole dep)) ∙ up
 
-    pub above_found : (here_ : Option (ℕ × Side)) (at : ℕ × Side) (n : ℕ) → NearsAbove tree id side here_ n → here_ ≡ Some at → sameb the_type at.1 side ≡ true → IsAboveOn tree id side (Some at.0)
-    unfolding NearsAbove IsAboveOn
-    above_found here_ at n nears some same = λ s low.
-        let (k, (t, e, made, up, dep)) = nears s low in
-        let u = upper_at tree.nodes.live tree.root k t made (sym e ∙ some) in
-        sym (ap (up_on side) u.hole_is ∙ up_here side at.1 u.spot.red at.0 u.spot.datum _ u.spot.hole (same_side at.1 side same)) ∙ up
+      pub over_rises : (steps : ℕ) → NearsAbove tree id side low here_ 0 gone → steps ≡ gone → RisesAfter tree id side steps
+      unfolding NearsAbove RisesAfter
+      over_rises steps nears is = λ s there. let (q, made, next, up, dep, took) = nears s there in let none = rise_top side q.hole (hole_depth q.hole dep) in omega (arith, is, took, none)
 
-    pub first_stands : (at : Option (ℕ × Side)) → StandsLow tree id → AtSpot tree.nodes.live tree.root id (λ s. at ≡ place_of s.hole) → StandsAbove tree at
-    unfolding StandsLow
-    first_stands at (s, there) placed = place_lives tree s.hole (here s id) there.0 at (placed s there.0)
+      pub above_none : (n : ℕ) → NearsAbove tree id side low here_ n gone → here_ ≡ None → IsAboveOn tree id side None
+      unfolding NearsAbove IsAboveOn
+      above_none n nears none = λ s there.
+          let (q, made, next, up, dep, took) = nears s there in sym (up_top side q.hole (hole_top q.hole (no_place q.hole (sym next ∙ none)))) ∙ up
 
-    pub next_stands : (here_ : Option (ℕ × Side)) (at : ℕ × Side) (next : Option (ℕ × Side)) (n : ℕ) → StandsLow tree id → NearsAbove tree id side here_ n → here_ ≡ Some at
-        → AtSpot tree.nodes.live tree.root at.0 (λ s. next ≡ place_of s.hole) → StandsAbove tree next
-    unfolding StandsLow NearsAbove
-    next_stands here_ at next n (s, there) nears some placed =
-        let (k, (t, e, made, up, dep)) = nears s there in let u = upper_at tree.nodes.live tree.root k t made (sym e ∙ some) in
-        place_lives tree u.spot.hole (here u.spot at.0) u.made next (placed u.spot u.made)
+      pub none_rises : (n steps : ℕ) → NearsAbove tree id side low here_ n gone → here_ ≡ None → steps ≡ gone → RisesAfter tree id side steps
+      unfolding NearsAbove RisesAfter
+      none_rises n steps nears none is = λ s there.
+          let (q, made, next, up, dep, took) = nears s there in let no_more = rise_top side q.hole (hole_top q.hole (no_place q.hole (sym next ∙ none))) in omega (arith, is, took, no_more)
+
+      module _ (high : ℕ) (slot : Slot D) (z : Side) (n : ℕ) (some : here_ ≡ Some high) (read : node tree.nodes high ≡ Some slot) (z_is : z ≡ side_by_name slot low) where
+        pub nears_above_next : (next : Option ℕ) (more : ℕ) → NearsAbove tree id side low here_ more gone → sameb the_type z side ≡ false → next ≡ slot.parent → more ≡ n + 1 → NearsAbove tree id side high next n (gone + 1)
+        unfolding NearsAbove
+        nears_above_next next more nears differ is one = λ s there.
+            let (q, made, named, up, dep, took) = nears s there in let u = upper q low high slot made (sym named ∙ some) read in
+            let apart = λ (e : side_by_name slot low ≡ side). sides_differ z side differ (z_is ∙ e) in
+            let deep = ap depth u.hole_is in
+            let past = ap (rise side) u.hole_is ∙ rise_past side (side_by_name slot low) u.spot.red high u.spot.datum _ u.spot.hole apart in (
+              u.spot,
+              u.made,
+              is ∙ ap (λ (l : Slot D). l.parent) (upper_is tree.nodes.live tree.root u.spot high u.made Left slot read),
+              sym (ap (up_on side) u.hole_is ∙ up_past side (side_by_name slot low) u.spot.red high u.spot.datum _ u.spot.hole apart) ∙ up,
+              omega (arith, dep, deep, one),
+              omega (arith, took, past),
+            )
+
+        pub above_found : NearsAbove tree id side low here_ n gone → sameb the_type z side ≡ true → IsAboveOn tree id side (Some high)
+        unfolding NearsAbove IsAboveOn
+        above_found nears same = λ s there.
+            let (q, made, named, up, dep, took) = nears s there in let u = upper q low high slot made (sym named ∙ some) read in
+            sym (ap (up_on side) u.hole_is ∙ up_here side (side_by_name slot low) u.spot.red high u.spot.datum _ u.spot.hole (sym z_is ∙ same_side z side same)) ∙ up
+
+        pub found_rises : (steps : ℕ) → NearsAbove tree id side low here_ n gone → sameb the_type z side ≡ true → steps ≡ gone + 1 → RisesAfter tree id side steps
+        unfolding NearsAbove RisesAfter
+        found_rises steps nears same is = λ s there.
+            let (q, made, named, up, dep, took) = nears s there in let u = upper q low high slot made (sym named ∙ some) read in
+            let one = ap (rise side) u.hole_is ∙ rise_here side (side_by_name slot low) u.spot.red high u.spot.datum _ u.spot.hole (sym z_is ∙ same_side z side same) in
+            omega (arith, is, took, one)
+
+    pub parent_read : (slot : Slot D) → node tree.nodes id ≡ Some slot → IsParent tree id slot.parent
+    unfolding IsParent
+    parent_read slot read = λ s (made, low). ap (λ (l : Slot D). l.parent) (upper_is tree.nodes.live tree.root s id made Left slot read)
 
     pub beside_above : (slot : Slot D) (found : Option ℕ) → node tree.nodes id ≡ Some slot → child side slot ≡ None → IsAboveOn tree id (other side) found → IsBeside tree id side found
     unfolding IsAboveOn IsBeside
@@ -177,6 +242,19 @@ module _ {D : Type 0} (tree : Links D) where
         let starts = starts_beside s slot under low read is in
         let some_below = λ (none : root_of (below side s) ≡ None). none-some i (sym none ∙ sym starts.1 ∙ some) in
         is_above ∙ ap above_place (end s.beside (below side s) (hole_beside s) starts) ∙ above-place (end_hole (other side) (hole_beside s) (below side s)) ∙ sym (neighbour_some side id s some_below)
+
+    pub above_after : (slot : Slot D) (steps : ℕ) → node tree.nodes id ≡ Some slot → child side slot ≡ None → RisesAfter tree id (other side) steps → IsBesideAfter tree id side steps
+    unfolding RisesAfter IsBesideAfter
+    above_after slot steps read none rises = λ s low.
+        let below_none = sym (child-slot side s) ∙ ap (child side) (sym (upper_is tree.nodes.live tree.root s id low.0 Left slot read)) ∙ none in
+        rises s low ∙ sym (way_up side s below_none)
+
+    pub end_after : (slot : Slot D) (under : Option ℕ) (i steps : ℕ) → node tree.nodes id ≡ Some slot → under ≡ child side slot → under ≡ Some i
+        → EndsAfter tree (Some (id, side)) under (other side) steps → IsBesideAfter tree id side steps
+    unfolding EndsAfter IsBesideAfter
+    end_after slot under i steps read is some ends = λ s low.
+        let starts = starts_beside s slot under low read is in
+        ends s.beside (below side s) (hole_beside s) starts ∙ sym (way_down side s i (sym starts.1 ∙ some))
 
   -- the place right after a node, or before all nodes
   module _ (id : Option ℕ) where
@@ -208,8 +286,8 @@ module _ {D : Type 0} (tree : Links D) where
 
   pub ruleset past = (past_top, first_top, past_node, first_past)
 
-  pub ruleset to_end = (nears_end_first, nears_end_next, end_none, end_over, first_lives, next_lives)
+  pub ruleset to_end = (nears_end_first, nears_end_next, end_none, end_over, none_after, over_after, first_lives, next_lives)
 
-  pub ruleset up = (nears_above_first, nears_above_next, above_over, above_none, above_found, first_stands, next_stands)
+  pub ruleset up = (nears_above_first, nears_above_next, above_lives, above_over, over_rises, above_none, none_rises, above_found, found_rises)
 
-  pub ruleset sideways = (beside_above, hangs_beside, beside_end)
+  pub ruleset sideways = (parent_read, beside_above, above_after, hangs_beside, beside_end, end_after)

@@ -1,6 +1,9 @@
--- Worked examples: an item that has another right behind it, and the one entry that comes in the place of both.
-use Rattle.std.proofs.Common.{◌≡◌, ℕ, List, [], ◌∷◌, length, length-append, refl, ap, arith}
+-- Worked examples: an item that has another right behind it, the one entry that comes in the place of both, and what a walk costs.
+use Rattle.std.proofs.Common.{◌≡◌, ◌≤◌, ◌+◌, ◌*◌, ℕ, List, [], ◌∷◌, length, length-append, refl, ap, arith}
+use Rattle.std.specs.Prelude.{sum_by}
+use Rattle.std.proofs.lemmas.List.Sums.{sum_by-cons}
 use Rattle.rb_arena.specs.Pairs.{HasNext, HasMerged}
+use Rattle.rb_arena.specs.Walking.{AreCalls}
 
 abbrev three : List (ℕ × ℕ)
 three = (1, 10) ∷ (2, 20) ∷ (3, 30) ∷ []
@@ -28,3 +31,11 @@ none_between_is_passed_over is = let e = is [] 10 (2, 20) ((3, 30) ∷ []) refl 
 
 the_next_one_does_not_stay : HasMerged three ((1, 30) ∷ (2, 20) ∷ (3, 30) ∷ []) 1 (1, 30) → ⊥
 the_next_one_does_not_stay is = absurd (omega (arith, ap length (is [] 10 (2, 20) ((3, 30) ∷ []) refl)))
+
+-- so many calls of `Walk::next` take at most three steps each, and those that were due
+calls_take : (due : ℕ) (calls : List (ℕ × ℕ)) → AreCalls due calls → sum_by (λ c. c.0) calls ≤ 3 * length calls + due
+calls_take due [] are = omega arith
+calls_take due (c ∷ cs) (first, rest) =
+    let more = calls_take c.1 cs rest in
+    let sum = sum_by-cons (λ (c : ℕ × ℕ). c.0) c cs in
+    omega (arith, first, more, sum)

@@ -17,4 +17,5 @@ pub mod Shifting
 pub mod Stopping
 pub mod RbTree
 pub mod Names
+pub mod Walking
 pub mod Merging

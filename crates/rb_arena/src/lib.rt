@@ -16,4 +16,4 @@ mod sums;
 mod tree;
 mod walk;
 
-pub use tree::RbTree;
+pub use tree::{RbTree, Walk};

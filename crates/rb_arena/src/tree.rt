@@ -9,6 +9,7 @@ mod edits;
 mod items;
 mod loose;
 mod search;
+mod walking;
 
 use crate::insert::parent_at;
 use crate::leave::item_at;
@@ -19,6 +20,7 @@ use raw_arena::{Arena, NodeId};
 use rb_rules::{Data, Side, Weave};
 use std::alloc::{AllocError, Global};
 use std::marker::Model;
+pub use walking::Walk;
 
 /// A list of items in a red-black tree that keeps sums of them.
 ///

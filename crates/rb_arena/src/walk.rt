@@ -1,15 +1,61 @@
 //! Walks to an end of a subtree, and to the node beside a node.
+ghost use Rattle.std.specs.Prelude.{◌≡◌, ◌-◌, Some};
+ghost use Rattle.raw_arena.specs.Arena.{node};
+ghost use Rattle.steps.specs.Counting.{IsFor};
 ghost use Rattle.rb_rules.specs.declared.slot.Side.TheVariants.{Left};
-ghost use Rattle.rb_arena.specs.Ends.{HangsAt, IsEnd, HangsPast, IsFirstPast, StandsLow, IsAboveOn, IsBeside};
+ghost use Rattle.rb_arena.specs.Ends.{HangsAt, IsEnd, EndsAfter, HangsPast, IsFirstPast, StandsLow};
+ghost use Rattle.rb_arena.specs.Ends.{IsParent, IsAboveOn, RisesAfter, IsBeside, IsBesideAfter};
 
 use crate::climb::LONGEST;
 use crate::insert::parent_at;
-use crate::links::{Links, Place, node_of, place, read};
+use crate::links::{Links, Place, node_of, visit};
 use raw_arena::NodeId;
-use rb_rules::Side;
+use rb_rules::{Side, Slot};
+use std::marker::Brand;
+use std::sync::ledger::{Blank, Ledger};
+use steps::Steps;
 
-/// The last place on that side of a subtree that hangs at a place.
+/// The last place on that side of a subtree that hangs at a place. Each node on the way counts as a step.
 #[tactic(auto, using(crate::proofs::Walks::to_end))]
+fn end_from<D: Copy, L: Ledger>(
+    tree: &Links<D>,
+    from: Place,
+    below: Option<NodeId>,
+    side: Side,
+    steps: &mut Steps<L>,
+) -> Place
+    requires { HangsAt tree.now from below }
+    ensures end { IsEnd tree.now from below side result }
+    ensures cost { EndsAfter tree.now from below side (steps.new - steps.old) }
+{
+    let mut at = from;
+    let mut next = below;
+    for _turn in 0..LONGEST {
+        let Some(id) = next else {
+            return at;
+        };
+        at = Some((id, side));
+        next = visit(&tree.nodes, id, steps).child(side);
+    }
+    at
+}
+
+fn end_blank<D: Copy, L: Ledger>(
+    tree: &Links<D>,
+    from: Place,
+    below: Option<NodeId>,
+    side: Side,
+    blank: Blank,
+) -> Place
+    requires hangs { HangsAt tree.now from below }
+    requires blank { IsFor L.Ledger blank }
+    ensures { IsEnd tree.now from below side result }
+{
+    let mut steps = Steps::<L>::new(blank);
+    end_from(tree, from, below, side, &mut steps)
+}
+
+/// The same, and counts no step.
 pub(crate) fn end_place<D: Copy>(
     tree: &Links<D>,
     from: Place,
@@ -19,17 +65,7 @@ pub(crate) fn end_place<D: Copy>(
     requires { HangsAt tree.now from below }
     ensures { IsEnd tree.now from below side result }
 {
-    let mut at = from;
-    let mut next = below;
-    for _turn in 0..LONGEST {
-        let Some(id) = next else {
-            return at;
-        };
-        at = Some((id, side));
-        #[tactic(auto, unfolding(crate::specs::Nodes::Lives))]
-        next = read(&tree.nodes, id).child(side);
-    }
-    at
+    end_blank::<D, Brand>(tree, from, below, side, Blank::new(1))
 }
 
 /// The first place of a subtree that hangs at a place.
@@ -56,37 +92,106 @@ pub(crate) fn place_after<D: Copy>(tree: &Links<D>, id: Option<NodeId>) -> Place
     }
 }
 
-/// The nearest node above that one that has it on that side.
+/// The nearest node above that one that has it on that side; `parent` stands right above it. Each node on the way counts as a step.
 #[tactic(auto, using(crate::proofs::Walks::up))]
-pub(crate) fn above_on<D: Copy>(tree: &Links<D>, id: NodeId, side: Side) -> Option<NodeId>
-    requires { StandsLow tree.now id }
-    ensures { IsAboveOn tree.now id side result }
+fn rise_on<D: Copy, L: Ledger>(
+    tree: &Links<D>,
+    id: NodeId,
+    parent: Option<NodeId>,
+    side: Side,
+    steps: &mut Steps<L>,
+) -> Option<NodeId>
+    requires stands { StandsLow tree.now id }
+    requires parent { IsParent tree.now id parent }
+    ensures above { IsAboveOn tree.now id side result }
+    ensures cost { RisesAfter tree.now id side (steps.new - steps.old) }
 {
-    #[tactic(auto, unfolding(crate::specs::Ends::StandsLow))]
-    let mut at = place(tree, id);
+    let mut low = id;
+    let mut next = parent;
     for _turn in 0..LONGEST {
-        let Some(above) = at else {
+        let Some(above) = next else {
             return None;
         };
-        if above.1 == side {
-            return Some(above.0);
+        let slot = visit(&tree.nodes, above, steps);
+        if slot.side_of(low) == side {
+            return Some(above);
         }
-        #[tactic(auto, unfolding(crate::specs::Ends::StandsAbove))]
-        let next = place(tree, above.0);
-        at = next;
+        low = above;
+        next = slot.parent;
     }
     None
 }
 
-/// The node right beside that one in the order of the tree, on that side.
+fn rise_blank<D: Copy, L: Ledger>(
+    tree: &Links<D>,
+    id: NodeId,
+    parent: Option<NodeId>,
+    side: Side,
+    blank: Blank,
+) -> Option<NodeId>
+    requires stands { StandsLow tree.now id }
+    requires parent { IsParent tree.now id parent }
+    requires blank { IsFor L.Ledger blank }
+    ensures { IsAboveOn tree.now id side result }
+{
+    let mut steps = Steps::<L>::new(blank);
+    rise_on(tree, id, parent, side, &mut steps)
+}
+
+/// The nearest node above that one that has it on that side. It counts no step.
+#[tactic(auto, using(crate::proofs::Walks::parent_read), unfolding(crate::specs::Ends::StandsLow))]
+pub(crate) fn above_on<D: Copy>(tree: &Links<D>, id: NodeId, side: Side) -> Option<NodeId>
+    requires { StandsLow tree.now id }
+    ensures { IsAboveOn tree.now id side result }
+{
+    let parent = node_of(tree, id).parent;
+    rise_blank::<D, Brand>(tree, id, parent, side, Blank::new(1))
+}
+
+/// The node right beside that one in the order of the tree, on that side, from the slot that was read of that one. Each node that is
+/// visited counts as a step.
 #[tactic(auto, using(crate::proofs::Walks::sideways), unfolding(crate::specs::Ends::StandsLow))]
+pub(crate) fn beside_of<D: Copy, L: Ledger>(
+    tree: &Links<D>,
+    id: NodeId,
+    slot: &Slot<D>,
+    side: Side,
+    steps: &mut Steps<L>,
+) -> Option<NodeId>
+    requires stands { StandsLow tree.now id }
+    requires slot { node tree.now.nodes id ≡ Some slot.now }
+    ensures beside { IsBeside tree.now id side result }
+    ensures cost { IsBesideAfter tree.now id side (steps.new - steps.old) }
+{
+    let below = slot.child(side);
+    match below {
+        None => rise_on(tree, id, slot.parent, side.other(), steps),
+        Some(_) => parent_at(&end_from(tree, Some((id, side)), below, side.other(), steps)),
+    }
+}
+
+fn beside_blank<D: Copy, L: Ledger>(
+    tree: &Links<D>,
+    id: NodeId,
+    slot: &Slot<D>,
+    side: Side,
+    blank: Blank,
+) -> Option<NodeId>
+    requires stands { StandsLow tree.now id }
+    requires slot { node tree.now.nodes id ≡ Some slot.now }
+    requires blank { IsFor L.Ledger blank }
+    ensures { IsBeside tree.now id side result }
+{
+    let mut steps = Steps::<L>::new(blank);
+    beside_of(tree, id, slot, side, &mut steps)
+}
+
+/// The node right beside that one in the order of the tree, on that side. It counts no step.
+#[tactic(auto, unfolding(crate::specs::Ends::StandsLow))]
 pub(crate) fn neighbour<D: Copy>(tree: &Links<D>, id: NodeId, side: Side) -> Option<NodeId>
     requires { StandsLow tree.now id }
     ensures { IsBeside tree.now id side result }
 {
-    let below = node_of(tree, id).child(side);
-    match below {
-        None => above_on(tree, id, side.other()),
-        Some(_) => parent_at(&end_place(tree, Some((id, side)), below, side.other())),
-    }
+    let slot = node_of(tree, id);
+    beside_blank::<D, Brand>(tree, id, &slot, side, Blank::new(1))
 }

@@ -45,7 +45,7 @@ fn mirror_of(alloc: Global, model: &Model) -> Result<Mirror, AllocError>
 {
     let mut text = Vec::new(alloc);
     model.text(&mut text)?;
-    Mirror::of_text(alloc, model.versions().0, &text)
+    Mirror::of_text(alloc, model.versions().0, text)
 }
 
 pub(crate) fn send_reply(session: &mut Session, doc: u64) -> Outcome
@@ -62,13 +62,16 @@ fn send_event(model: &Model, follower: &mut Follower) -> Outcome
     ensures { TellsAfter model.now.document (send_answer model.now.document)
         follower.old result follower.new }
 {
+    let sent = follower.sent.as_slice().len();
+    if sent >= MOST_SENT {
+        if model.has_last_event() {
+            return Err(Refused(Refusal::Limit));
+        }
+        return Ok(Reply::Short(Short::none()));
+    }
     let Some(event) = model.last_event()? else {
         return Ok(Reply::Short(Short::none()));
     };
-    let sent = follower.sent.as_slice().len();
-    if sent >= MOST_SENT {
-        return Err(Refused(Refusal::Limit));
-    }
     let from = event.from();
     if follower.sent.push(event).is_err() {
         return Err(Refused(Refusal::Memory));

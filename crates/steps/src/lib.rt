@@ -10,7 +10,7 @@ use std::marker::Model;
 use std::sync::ledger::{Blank, Book, Ledger, Share};
 pub use trail::Trail;
 
-/// How many steps were taken, for any ledger `L`. It takes no bytes, and only `tick` changes it.
+/// How many steps were taken, for any ledger `L`. It takes no bytes, and only `tick` and `add` change it.
 ///
 /// A caller that counts nothing hands in one that it made of a blank ledger.
 #[derive(Drop)]
@@ -44,5 +44,12 @@ impl<L: Ledger> Steps<L> {
         ensures { self.new ≡ self.old + 1 }
     {
         self.book.add(&mut self.share, 1);
+    }
+
+    /// So many steps more.
+    pub fn add(&mut self, steps: u64)
+        ensures { self.new ≡ self.old + steps }
+    {
+        self.book.add(&mut self.share, steps);
     }
 }

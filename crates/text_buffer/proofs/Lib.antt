@@ -8,6 +8,7 @@ pub mod Found
 pub mod Walks
 pub mod LineWalks
 pub mod RunWalks
+pub mod Reading
 pub mod Followed
 pub mod Edited
 pub mod Growing

@@ -1,4 +1,5 @@
 pub mod Room
+pub mod Reading
 pub mod Text
 pub mod Views
 pub mod Remembering

@@ -2,76 +2,107 @@
 
 ghost use Rattle.std.specs.Prelude.{◌≡◌, ◌+◌, ◌-◌, ◌<◌, ◌≤◌, ◌++◌, [], length, take, drop, min, vec_len, vec_capacity, MatchOption, IfSome};
 ghost use Rattle.std.specs.Option.{ForNone};
-ghost use Rattle.text_buffer.specs.Views.{IsView, units_in};
+ghost use Rattle.steps.specs.Counting.{IsFor};
+ghost use Rattle.piece_tree.specs.Costs.{WithinLookUps};
+ghost use Rattle.text_buffer.specs.Views.{IsView, units_in, entries_in};
 
-use crate::cursor::Cursor;
 use crate::view::View;
-use std::marker::Model;
+use chunk_buffers::Chunks;
+use piece_tree::PieceWalk;
+use std::marker::{Brand, Model};
+use std::sync::ledger::{Blank, Ledger};
+use steps::Steps;
 use text_lengths::Span;
+use unit_text::Reader;
 
-/// A reader of a text from a place on. Contracts see the units that it has not given yet. Each run is a piece of the text, or what is
-/// left of one: a reader makes one search at most.
+/// A reader of a text from a place on. Contracts see the units that it has not given yet, and how many more steps than three for each
+/// run of them it may still take. Each run is a piece of the text, or what is left of one: a reader makes one search at most.
 #[derive(Drop)]
 pub struct Runs<'t> {
-    view: View<'t>,
-    // How many units come before those that are left.
-    before: u64,
-    // Where these begin, if there are any.
-    next: Option<Cursor>,
+    chunks: &'t Chunks,
+    // The pieces of the runs that are left.
+    walk: PieceWalk<'t>,
+    // How many units of the first of them come before those that are left.
+    past: u64,
 }
 
 impl<'t> Model for Runs<'t> {
-    ghost use Rattle.std.specs.Prelude.{ℕ, List, ◌≡◌, length, drop, MatchOption};
-    ghost use Rattle.text_buffer.specs.Views.{IsView, units_in};
-    ghost use Rattle.text_buffer.specs.Places.{HasRun};
+    ghost use Rattle.text_buffer.specs.Reading.{Reading, left_of, CanRead};
 
-    ghost Value = { List ℕ };
+    ghost Value = { Reading };
 
-    ghost view = { λ r. drop r.before (units_in r.view) };
+    ghost view = { λ r. record { left = left_of r.chunks.now.buffers r.walk.left r.past; due = r.walk.due } };
 
-    ghost invariant = { λ r. IsView r.view × MatchOption r.next
-        (r.before ≡ length (units_in r.view))
-        (HasRun r.view.pieces.now r.view.chunks.now r.before) };
+    ghost invariant = { λ r. CanRead r.chunks.now.buffers r.walk.left r.past };
 }
 
 impl<'t> Runs<'t> {
     // A reader of the text from the offset on.
+    #[tactic(auto, using(crate::proofs::Reading::starting))]
     pub(crate) fn new(view: &View<'t>, offset: u64) -> Runs<'t>
         requires view { IsView view.now }
         requires within { offset ≤ length (units_in view.now) }
-        ensures { result ≡ drop offset (units_in view.now) }
+        ensures left { result.left ≡ drop offset (units_in view.now) }
+        ensures due { WithinLookUps 2 (length (entries_in view.now)) result.due }
     {
         if offset == view.len() {
             return Runs {
-                view: *view,
-                before: offset,
-                next: None,
+                chunks: view.chunks,
+                walk: view.pieces.walk_from(None),
+                past: 0,
             };
         }
+        let found = view.piece_at(&None, offset);
         Runs {
-            view: *view,
-            before: offset,
-            next: Some(view.cursor_at(offset)),
+            chunks: view.chunks,
+            walk: view.pieces.walk_from(Some(found.id)),
+            past: offset - found.before.units,
         }
     }
 
-    /// The next units; None where none is left.
-    pub fn next(&mut self) -> Option<&'t [u16]>
-        ensures run { MatchOption result (self.old ≡ []) (λ run. self.old ≡ run.now ++ self.new) }
+    /// The next units; None where none is left. Each node that is visited is a step.
+    #[tactic(auto, using(crate::proofs::Reading::reading))]
+    pub fn next_counted<L: Ledger>(&mut self, steps: &mut Steps<L>) -> Option<&'t [u16]>
+        ensures run { MatchOption result (self.old.left ≡ [])
+            (λ run. self.old.left ≡ run.now ++ self.new.left) }
         ensures some { IfSome result (λ run. 0 < length run.now) }
-        ensures end { ForNone result (self.new ≡ []) }
+        ensures end { ForNone result (self.new.left ≡ []) }
+        ensures cost { (steps.new - steps.old) + self.new.due ≤ self.old.due + 3 }
     {
-        let cursor = self.next?;
-        let run = self.view.run(&cursor);
-        self.before += run.len() as u64;
-        self.next = self.view.next(&cursor);
+        let (_, piece) = self.walk.next(steps)?;
+        let units = self.chunks.units(piece.span);
+        let run = &units[self.past as usize..];
+        self.past = 0;
         Some(run)
+    }
+
+    /// `next_counted`, with steps that nobody counts.
+    pub fn next(&mut self) -> Option<&'t [u16]>
+        ensures run { MatchOption result (self.old.left ≡ [])
+            (λ run. self.old.left ≡ run.now ++ self.new.left) }
+        ensures some { IfSome result (λ run. 0 < length run.now) }
+        ensures end { ForNone result (self.new.left ≡ []) }
+        ensures due { self.new.due ≤ self.old.due + 3 }
+    {
+        self.next_for::<Brand>(Blank::new(1))
+    }
+
+    fn next_for<L: Ledger>(&mut self, blank: Blank) -> Option<&'t [u16]>
+        requires { IsFor L.Ledger blank }
+        ensures run { MatchOption result (self.old.left ≡ [])
+            (λ run. self.old.left ≡ run.now ++ self.new.left) }
+        ensures some { IfSome result (λ run. 0 < length run.now) }
+        ensures end { ForNone result (self.new.left ≡ []) }
+        ensures due { self.new.due ≤ self.old.due + 3 }
+    {
+        let mut steps = Steps::<L>::new(blank);
+        self.next_counted(&mut steps)
     }
 
     /// Reads the next units into `out`: as many as fit and are there. Answers how many.
     pub(crate) fn read_into(&mut self, out: &mut [u16]) -> usize
-        ensures count { result ≡ min (length out.old) (length self.old) }
-        ensures units { out.new ≡ take result self.old ++ drop result out.old }
+        ensures count { result ≡ min (length out.old) (length self.old.left) }
+        ensures units { out.new ≡ take result self.old.left ++ drop result out.old }
     {
         let mut done = 0;
         while done < out.len() {
@@ -81,6 +112,14 @@ impl<'t> Runs<'t> {
             done += copy_at(run, done, out);
         }
         done
+    }
+}
+
+impl<'t> Reader<'t> for Runs<'t> {
+    ghost left = { λ reading. reading.left };
+
+    fn next_run(&mut self) -> Option<&'t [u16]> {
+        self.next()
     }
 }
 

@@ -78,6 +78,17 @@ impl TextBuffer {
         ensures kind { IfOk result (λ text. text.kind ≡ kind) }
         ensures spans { IfOk result (λ text. length text.spans ≤ 1) }
     {
+        let copy = Vec::from_slice(alloc, units)?;
+        TextBuffer::of_vec(alloc, copy, kind)
+    }
+
+    /// `of_units`, of units that it takes over: none is copied.
+    pub fn of_vec(alloc: Global, units: Vec<u16>, kind: Kind) -> Result<TextBuffer, AllocError>
+        requires { IsOfKind kind units.items }
+        ensures units { IfOk result (λ text. text.units ≡ units.items) }
+        ensures kind { IfOk result (λ text. text.kind ≡ kind) }
+        ensures spans { IfOk result (λ text. length text.spans ≤ 1) }
+    {
         if units.is_empty() {
             return Ok(TextBuffer {
                 kind,
@@ -404,7 +415,8 @@ impl TextBuffer {
     /// A reader of its units from the offset on, run by run.
     pub fn runs_from(&self, offset: u64) -> Runs<'_>
         requires { offset ≤ length self.now.units }
-        ensures { result ≡ drop offset self.now.units }
+        ensures left { result.left ≡ drop offset self.now.units }
+        ensures due { WithinLookUps 2 (length self.now.spans) result.due }
     {
         Runs::new(&self.view(), offset)
     }

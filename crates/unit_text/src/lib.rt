@@ -4,12 +4,14 @@
 mod flat;
 mod kind;
 mod quote;
+mod reader;
 mod units;
 mod utf8;
 
 pub use flat::Flat;
 pub use kind::{Kind, is_of_kind, norm_of};
 pub use quote::quoted;
+pub use reader::{ByRuns, Reader};
 pub use units::{Units, cuts_pair};
 pub use utf8::{units_of, utf8_of};
 

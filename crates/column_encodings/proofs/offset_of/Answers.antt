@@ -1,18 +1,35 @@
-use Rattle.std.proofs.Common.{◌≡◌, ◌-◌, length, arith, rules}
+use Rattle.std.proofs.Common.{◌≡◌, ◌-◌, ◌<◌, length, sym, arith, rules}
 use Rattle.column_encodings.specs.declared.Encoding.TheVariants.{Utf16}
-use Rattle.column_encodings.proofs.Characters.{offset_step}
+use Rattle.column_encodings.specs.Columns.{offset_of}
+use Rattle.column_encodings.proofs.Ascii.{none_past, offset_step_past}
 use Rattle.column_encodings.proofs.Utf16.{offset_of-utf16, place_within}
 use Rattle.column_encodings.proofs.offset_of.Goals as goal
 
+pub loop-left-init : goal.loop-left-init
+loop-left-init c =
+    let units = c.args.units.now in
+    let rest = c.past_ascii-ascii.result.1.now in
+    let past = c.past_ascii-ascii.ensures in record {
+      offset = offset_step_past c.args.encoding units rest 0 (length units - length rest) c.args.column (c.args.column - c.past_ascii-ascii.result.0) _
+          (omega arith) (past.offset c.args.encoding c.args.column past.few) (sym (none_past (offset_of c.args.encoding units c.args.column)));
+      within = omega (arith, past.all);
+    }
+
 pub loop-left-preserved : goal.loop-left-preserved
 loop-left-preserved c =
-    let first = c.in_ok-character.ensures.first in
-    let all = c.in_ok-character.ensures.all in
-    let end = length c.args.units.now in record {
-      offset = offset_step c.args.encoding c.loop-left.rest.now c.in_ok-character.character.now c.in_ok-character.after.now
-          (end - length c.loop-left.rest.now) (end - length c.in_ok-character.after.now) c.loop-left.left c.in_ok-left.left _ first
-          (omega arith) (omega arith) (omega (arith, c.in_ok-left.ensures, c.width.ensures)) (omega (arith, c.in_ok-left.ensures, c.width.ensures)) c.loop-left.invariant.offset;
-      within = omega arith;
+    let end = length c.args.units.now in
+    let rest = c.loop-left.rest.now in
+    let others = c.in_ok-others.others in
+    let behind = c.in_ok-others.behind.now in
+    let next = c.past_ascii-ascii-in-loop-left.result.1.now in
+    let past = c.past_ascii-ascii-in-loop-left.ensures in
+    let within = c.loop-left.invariant.within in
+    let fewer : length behind < length rest = c.in_ok-others.ensures.fewer in record {
+      offset = offset_step_past c.args.encoding behind next (end - length behind) (end - length next) others (others - c.past_ascii-ascii-in-loop-left.result.0) _
+          (omega (arith, past.all, fewer, within)) (past.offset c.args.encoding others past.few)
+          (offset_step_past c.args.encoding rest behind (end - length rest) (end - length behind) c.loop-left.left others _
+          (omega (arith, fewer, within)) c.in_ok-others.ensures.some c.loop-left.invariant.offset);
+      within = omega (arith, past.all, fewer, within);
     }
 
 pub returns-then-eq-clause-offset : goal.returns-then-eq-clause-offset

@@ -16,7 +16,7 @@ use crate::model::Model;
 use crate::ready::{Action, Ready};
 use crate::walk::keep;
 use document_rules::ModelError;
-use edit_batches::{Batch, one_op, sorted_ops};
+use edit_batches::{Batch, Sorted, one_op};
 use model_page::{Change, Way, need_of};
 use text_lengths::{Span, raised};
 use text_rules::Op;
@@ -76,8 +76,8 @@ impl Model {
         ensures parse { KeepsParse self.old self.new }
         ensures ready { PreparesEdit ops.items result self.new }
     {
-        let ops = sorted_ops(ops).map_err(|_| ModelError::Memory)?;
-        self.page.seek(&ops);
+        let ops = Sorted::of(ops).map_err(|_| ModelError::Memory)?;
+        self.page.seek(ops.ops());
         let batch = Batch::checked(ops, self.page.text()).map_err(error_of)?;
         let next = raised(self.version, 1).ok_or(ModelError::Limit)?;
         let change = Change::of_batch(self.alloc, batch, self.page.text()).map_err(

@@ -6,7 +6,7 @@ ghost use Rattle.document_rules.specs.Paired.{IsPairedState};
 ghost use Rattle.document_rules.specs.Document.{is_same_kind, flat_eol};
 ghost use Rattle.model_core.specs.Prepared.{PreparesEol};
 ghost use Rattle.model_core.specs.State.{AfterMove, KeepsParse};
-ghost use Rattle.model_page.specs.State.{GrownBy};
+ghost use Rattle.text_batches.specs.Growth.{GrownBy};
 
 use crate::errors::recast_error_of;
 use crate::model::Model;

@@ -1,6 +1,6 @@
 //! The last change of a document, as an event.
 
-ghost use Rattle.std.specs.Prelude.{◌≡◌, ◌↔◌, ◌<◌, Some, length, IfOk, IfSome, IsNone};
+ghost use Rattle.std.specs.Prelude.{◌≡◌, ◌↔◌, ◌<◌, Some, false, length, IfOk, IfSome, IsNone};
 ghost use Rattle.batch_rules.specs.Events.{TakeTo};
 ghost use Rattle.document_rules.specs.Document.{FlatText, flat_event};
 ghost use Rattle.model_core.specs.History.{last_batches, last_of, latest_steps};
@@ -14,6 +14,16 @@ use model_page::{Change, Way, batch_along, batches_along};
 use std::alloc::{AllocError, Global};
 
 impl Model {
+    /// Whether there was a change, of which `last_event` would copy the batches: always but in version 1.
+    pub fn has_last_event(&self) -> bool
+        ensures { (result ≡ false) ↔ (self.now.document.version ≡ 1) }
+    {
+        match self.latest {
+            None => false,
+            Some(_) => true,
+        }
+    }
+
     /// The last change: the version before it, and copies of the batches that were carried out, in their order. An undo has the
     /// inverses, and other line endings are a batch that puts the whole text in. None exactly in version 1.
     pub fn last_event(&self) -> Result<Option<Event>, AllocError>

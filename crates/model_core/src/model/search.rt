@@ -1,27 +1,32 @@
 //! Where a text stands in the document, and a replace of all of it.
 
-ghost use Rattle.std.specs.Prelude.{◌≡◌, ◌++◌, ◌<◌, Ok, Err, true, length, IfErr, OnOk, OnErr};
+ghost use Rattle.std.specs.Prelude.{◌≡◌, ◌+◌, ◌*◌, ◌++◌, ◌<◌, ◌≤◌, Ok, Err, true, length, IfOk, IfErr, OnOk, OnErr};
 ghost use Rattle.unit_text.specs.Units.{IsPaired};
 ghost use Rattle.document_rules.specs.Refusals.{limit};
 ghost use Rattle.document_rules.specs.Outcomes.{Moves};
 ghost use Rattle.document_rules.specs.Paired.{IsPairedState};
+ghost use Rattle.steps.specs.Counting.{IsFor};
 ghost use Rattle.search_rules.specs.Occurrences.{AreOccurrences};
-ghost use Rattle.search_rules.specs.Replacing.{flat_find, flat_replace_all, replaced, TakesBack};
+ghost use Rattle.search_rules.specs.Replacing.{flat_find, flat_replace_all, replaced, replacing, TakesBack};
 ghost use Rattle.model_core.specs.Replaced.{IsForRoom, HasReplaced, PreparesReplace};
 ghost use Rattle.model_core.specs.State.{KeepsParse};
 
 use crate::model::Model;
 use crate::ready::Ready;
 use document_rules::ModelError;
-use model_find::{find_all, ops_for};
+use model_find::{find_in, ops_for};
 use std::alloc::AllocError;
+use std::marker::Brand;
+use std::sync::ledger::{Blank, Ledger};
+use steps::Steps;
 use text_lengths::Span;
-use text_rules::MOST_TEXT_UNITS;
+use text_rules::{MOST_TEXT_UNITS, Op};
 use unit_text::{Flat, Units};
 
 impl Model {
     /// Appends the spans of the text at which these units stand, from left to right, none overlapping the one before. Unit stands for
-    /// unit, and both ends of a span are places of the text. After an error `out` is as it was.
+    /// unit, and both ends of a span are places of the text. After an error `out` is as it was. It takes memory for a number for each of
+    /// the units beside the spans.
     pub fn find(&self, sought: &[u16], out: &mut Vec<Span>) -> Result<(), AllocError>
         requires some { 0 < length sought.now }
         ensures ok { OnOk result (out.new.items
@@ -30,7 +35,44 @@ impl Model {
             AreOccurrences f.kind f.units sought.now (flat_find f sought.now) }
         ensures err { OnErr result (out.new.items ≡ out.old.items) }
     {
-        find_all(self.page.text(), sought, out)
+        self.find_for::<Brand>(sought, out, Blank::new(1))
+    }
+
+    fn find_for<L: Ledger>(
+        &self,
+        sought: &[u16],
+        out: &mut Vec<Span>,
+        blank: Blank,
+    ) -> Result<(), AllocError>
+        requires some { 0 < length sought.now }
+        requires blank { IsFor L.Ledger blank }
+        ensures ok { OnOk result (out.new.items
+            ≡ out.old.items ++ flat_find self.now.document sought.now) }
+        ensures occurrences { let f = self.now.document in
+            AreOccurrences f.kind f.units sought.now (flat_find f sought.now) }
+        ensures err { OnErr result (out.new.items ≡ out.old.items) }
+    {
+        self.find_counted(sought, out, &mut Steps::<L>::new(blank))
+    }
+
+    /// `find`, which counts the units that it looks at, of the text and of those that are sought: each look is a step.
+    pub fn find_counted<L: Ledger>(
+        &self,
+        sought: &[u16],
+        out: &mut Vec<Span>,
+        looks: &mut Steps<L>,
+    ) -> Result<(), AllocError>
+        requires some { 0 < length sought.now }
+        ensures ok { OnOk result (out.new.items
+            ≡ out.old.items ++ flat_find self.now.document sought.now) }
+        ensures occurrences { let f = self.now.document in
+            AreOccurrences f.kind f.units sought.now (flat_find f sought.now) }
+        ensures err { OnErr result (out.new.items ≡ out.old.items) }
+        ensures cost { looks.new
+            ≤ looks.old + 4 * (length self.now.document.units + length sought.now) }
+    {
+        let text = self.page.text();
+        find_in(text.runs_from(0), text.kind(), sought, out, looks)
     }
 
     /// Puts a text in the place of each span that `find` finds, at once, as the next version, and answers whether there was one.
@@ -69,13 +111,37 @@ impl Model {
         if self.outgrows(sought, with).map_err(|_| ModelError::Memory)? {
             return Err(ModelError::Limit);
         }
-        let ops = ops_for(self.alloc, self.page.text(), sought, with).map_err(
-            |_| ModelError::Memory,
-        )?;
+        let ops = self
+            .replacing_for::<Brand>(sought, with, Blank::new(1))
+            .map_err(|_| ModelError::Memory)?;
         if ops.is_empty() {
             return Ok(None);
         }
         Ok(Some(self.prepare(ops)?))
+    }
+
+    // The edits that put the text in the place of each span that `find` finds.
+    fn replacing_for<L: Ledger>(
+        &self,
+        sought: &[u16],
+        with: &[u16],
+        blank: Blank,
+    ) -> Result<Vec<Op>, AllocError>
+        requires some { 0 < length sought.now }
+        requires blank { IsFor L.Ledger blank }
+        ensures { IfOk result (λ ops. ops.items
+            ≡ replacing (flat_find self.now.document sought.now) with.now) }
+    {
+        let text = self.page.text();
+        let mut looks = Steps::<L>::new(blank);
+        ops_for(
+            self.alloc,
+            text.runs_from(0),
+            text.kind(),
+            sought,
+            with,
+            &mut looks,
+        )
     }
 
     // Whether the text would be too long with the new one in each place. It is found out before there is a copy of that for each.

@@ -3,7 +3,7 @@ ghost use Rattle.std.specs.Prelude.{List, ℕ, replicate};
 ghost use Rattle.unit_text.specs.declared.kind.Kind.TheVariants.{Mixed};
 
 use batch_rules::BatchError;
-use edit_batches::{Batch, MOST_TEXT_UNITS, Op};
+use edit_batches::{Batch, MOST_TEXT_UNITS, Op, Sorted};
 use std::alloc::{AllocError, Global};
 use std::test::Fail;
 use text_lengths::Span;
@@ -65,7 +65,8 @@ fn one_more(alloc: Global, count: u64) -> Result<Batch, BatchError> {
         force: false,
     };
     let ops = vec![in alloc; op].map_err(|_| BatchError::Memory)?;
-    Batch::checked(ops, &Letters { count })
+    let sorted = Sorted::of(ops).map_err(|_| BatchError::Memory)?;
+    Batch::checked(sorted, &Letters { count })
 }
 
 #[test]

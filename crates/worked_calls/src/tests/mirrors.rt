@@ -17,7 +17,7 @@ pub fn expect_a_mirror_that_follows<R: AllocGlobal + Abort>(
 }
 
 fn expect_text_of_both<R: AllocGlobal + Abort>(rt: &R, events: &[Event]) -> Result<(), Fail> {
-    let mut mirror = Mirror::of_text(rt.alloc(), 1, &[0x61, 0x62])?;
+    let mut mirror = Mirror::of_text(rt.alloc(), 1, vec![in rt.alloc(); 0x61, 0x62]?)?;
     expect_both_taken(rt, &mut mirror, events)
 }
 

@@ -58,7 +58,7 @@ fn agrees(
 #[test]
 fn breaks_of_parts(rt: HostRuntime) -> Result<(), Fail> {
     let mut chunks = Chunks::new(rt.alloc());
-    let (whole, _breaks) = chunks.append_whole(&mixed())?;
+    let (whole, _breaks) = chunks.append_whole(Vec::from_slice(rt.alloc(), &mixed())?)?;
     let end = whole.units as u64;
     for from in 0..end {
         for len in [1, 2, 63, 64, 65, 80] {

@@ -5,9 +5,9 @@ use Rattle.std.proofs.lemmas.List.Elements.{All-get_or}
 use Rattle.std.proofs.lemmas.Option.{get_or_from_slice_get, slice_get_within}
 use Rattle.batch_rules.specs.Batches.{most_units, text_units}
 use Rattle.edit_stack.specs.Element.{step_of}
+use Rattle.text_batches.specs.Needs.{text_breaks}
 use Rattle.model_page.specs.declared.change.Change.{Change}
 use Rattle.model_page.specs.Changes.{ops_by}
-use Rattle.model_page.specs.Counts.{text_breaks}
 use Rattle.model_page.proofs.change.need_of_step.Goals as goal
 
 pub need_of-need-requires : goal.need_of-need-requires

@@ -6,11 +6,11 @@ use Rattle.text_buffer.specs.Text.{Text}
 use Rattle.batch_rules.proofs.Standing.{accepted, text_units_applied}
 use Rattle.document_rules.specs.Document.{greatest_version}
 use Rattle.model_core.specs.State.{ModelState}
+use Rattle.text_batches.specs.Needs.{need_of_ops}
 use Rattle.model_page.specs.declared.change.Change.{Change}
 use Rattle.model_page.specs.declared.change.Change.TheVariants.{Ops}
 use Rattle.model_page.specs.declared.change.Way.TheVariants.{On}
 use Rattle.model_page.specs.Changes.{ops_by}
-use Rattle.model_page.specs.Needs.{need_of_ops}
 use Rattle.model_page.specs.State.{PageState, IsUntouched, flat_text}
 use Rattle.model_core.specs.declared.ready.Action.TheVariants.{Make}
 use Rattle.model_core.proofs.Untouched.{history_untouched, shelf_untouched, document_untouched}
@@ -23,11 +23,11 @@ kept : (c : After-reserve-2) → IsUntouched c.self.inside.page c.reserve-2.new.
 kept c = subst (λ (page : PageState). IsUntouched page c.reserve-2.new.self) c.seek.ensures c.reserve-2.ensures.same
 
 -- what is told of the text of before
-told : (c : After-checked) → Checks c.checked.result (checked_batch c.seek.new.self.text.kind c.seek.new.self.text.units c.in_ok-ops.ops.items)
-told c = subst (λ (t : Text). Checks c.checked.result (checked_batch t.kind t.units c.in_ok-ops.ops.items)) c.text.ensures.text c.checked.ensures.rule
+told : (c : After-checked) → Checks c.checked.result (checked_batch c.seek.new.self.text.kind c.seek.new.self.text.units c.in_ok-ops.ops)
+told c = subst (λ (t : Text). Checks c.checked.result (checked_batch t.kind t.units c.in_ok-ops.ops)) c.text.ensures.text c.checked.ensures.rule
 
 -- the ops in their order
-sorted_at : (c : After-checked) → c.in_ok-ops.ops.items ≡ sorted_ops c.args.ops.items
+sorted_at : (c : After-checked) → c.in_ok-ops.ops ≡ sorted_ops c.args.ops.items
 sorted_at c = grind (arith, common_steps)
 
 -- what was told is the batch
@@ -41,7 +41,7 @@ changed c = grind (arith, common_steps)
 pub need_of-requires : goal.need_of-requires
 need_of-requires c =
     let x = c.seek.new.self.text in
-    let rule = accepted_of_all (flat_text x) c.args.ops.items c.in_ok-ops.ops.items c.in_ok-batch.batch c.checked.result
+    let rule = accepted_of_all (flat_text x) c.args.ops.items c.in_ok-ops.ops c.in_ok-batch.batch c.checked.result
     (sorted_at (goal.at.need_of-requires c).After-checked) (told (goal.at.need_of-requires c).After-checked) (taken (goal.at.need_of-requires c).After-raised) in
     let ok = accepted x.kind x.units (ops_in x.kind c.args.ops.items) c.in_ok-batch.batch rule in
     let is = changed (goal.at.need_of-requires c).After-reserve in
@@ -90,7 +90,7 @@ returns-clause-ready c =
     let sorted = c.in_ok-batch.batch in
     let text = c.reserve-2.ensures.same.units in
     let kind = c.reserve-2.ensures.same.kind in
-    let rule = accepted_of_all (flat_text x) c.args.ops.items c.in_ok-ops.ops.items c.in_ok-batch.batch c.checked.result
+    let rule = accepted_of_all (flat_text x) c.args.ops.items c.in_ok-ops.ops c.in_ok-batch.batch c.checked.result
     (sorted_at (goal.at.returns-clause-ready c).After-checked) (told (goal.at.returns-clause-ready c).After-checked) (taken (goal.at.returns-clause-ready c).After-raised) in
     let is = changed (goal.at.returns-clause-ready c).After-reserve in
     let need : c.need_of.result ≡ need_of_ops sorted = c.need_of.ensures ∙ ap (λ (change : Change). need_of_ops (ops_by On change)) is in
@@ -111,10 +111,10 @@ returns-clause-ready c =
 
 pub returns-in_err-batch-clause-ready : goal.returns-in_err-batch-clause-ready
 returns-in_err-batch-clause-ready c =
-    let known = told_of_all (flat_text c.seek.new.self.text) c.args.ops.items c.in_ok-ops.ops.items c.checked.result (grind (arith, common_steps)) (told (goal.at.returns-in_err-batch-clause-ready c).After-checked) in
+    let known = told_of_all (flat_text c.seek.new.self.text) c.args.ops.items c.in_ok-ops.ops c.checked.result (grind (arith, common_steps)) (told (goal.at.returns-in_err-batch-clause-ready c).After-checked) in
     grind (arith, common_steps, known)
 
 pub returns-in_err-next-clause-ready : goal.returns-in_err-next-clause-ready
 returns-in_err-next-clause-ready c =
-    let known = told_of_all (flat_text c.seek.new.self.text) c.args.ops.items c.in_ok-ops.ops.items c.checked.result (grind (arith, common_steps)) (told (goal.at.returns-in_err-next-clause-ready c).After-checked) in
+    let known = told_of_all (flat_text c.seek.new.self.text) c.args.ops.items c.in_ok-ops.ops c.checked.result (grind (arith, common_steps)) (told (goal.at.returns-in_err-next-clause-ready c).After-checked) in
     grind (arith, common_steps, known)

@@ -4,10 +4,10 @@ use Rattle.unit_text.specs.Kinds.{normalized}
 use Rattle.batch_rules.specs.Batches.{most_units}
 use Rattle.decoration_rules.specs.Recasts.{RecastState}
 use Rattle.document_rules.specs.Document.{greatest_version, is_same_kind}
+use Rattle.text_batches.specs.Needs.{need_of_ops}
 use Rattle.model_page.specs.declared.change.Change.TheVariants.{Endings}
 use Rattle.model_page.specs.declared.change.Way.TheVariants.{On}
 use Rattle.model_page.specs.Changes.{ops_by}
-use Rattle.model_page.specs.Needs.{need_of_ops}
 use Rattle.model_core.specs.declared.ready.Action.TheVariants.{Make}
 use Rattle.model_core.specs.State.{ModelState}
 use Rattle.model_core.proofs.Untouched.{history_untouched, shelf_untouched, document_untouched}

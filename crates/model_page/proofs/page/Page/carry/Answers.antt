@@ -17,8 +17,8 @@ use Rattle.model_page.proofs.Carries.{IsCarried, carried_turn}
 use Rattle.model_page.proofs.Marking.{touched, marked, marks_fit, marks_lines}
 use Rattle.model_page.proofs.Pages.{IsPageAfter, page_before, page_after, still_page}
 use Rattle.model_page.proofs.Staying.{marked_turn}
-use Rattle.model_page.proofs.Texts.{text_turn, room_now}
-use Rattle.model_page.proofs.Turns.{turn, IsTurn}
+use Rattle.text_batches.proofs.Texts.{text_turn, room_now}
+use Rattle.text_batches.proofs.Turns.{turn, IsTurn}
 use Rattle.model_page.proofs.page.Page.carry.Goals as goal
 use Rattle.model_page.proofs.page.Page.carry.Goals.{After-edit_with-edit, After-replace_again-dirty}
 

@@ -1,8 +1,8 @@
-use Rattle.std.proofs.Common.{◌≡◌, ℕ, ◌-◌, ◌<◌, ◌++◌, ◌∷◌, [], Option, Some, ap, sym, ◌∙◌, arith}
+use Rattle.std.proofs.Common.{ℕ, ◌-◌, ◌<◌, ◌++◌, ◌∷◌, Option, Some, ap, sym, ◌∙◌, arith}
 use Rattle.rb_rules.specs.declared.slot.Data.{Data}
 use Rattle.rb_rules.specs.Tree.{Tree, Hole}
 use Rattle.rb_rules.specs.Woven.{entries}
-use Rattle.rb_arena.specs.Items.{BeginsWith, Lists, values_of}
+use Rattle.rb_arena.specs.Items.{Lists, values_of}
 use Rattle.rb_arena.specs.declared.links.Links.{Links}
 use Rattle.rb_arena.specs.Shifting.{CanLevel, CanLevelAt}
 use Rattle.rb_arena.proofs.Levelling.{Topmost, topmost, spot, held_item, held_right}

@@ -7,12 +7,12 @@ pub returns-in_default-clause-count : goal.returns-in_default-clause-count
 returns-in_default-clause-count c =
     let told = c.loop-done.invariant in
     let left = told.rest (omega (arith, c.loop-done-test.true, told.size)) in
-    omega (arith, told.within, told.there, ap length (sym left ∙ c.in_default.ensures.run), length-drop c.loop-done.done c.args.self.now)
+    omega (arith, told.within, told.there, ap length (sym left ∙ c.in_default.ensures.run), length-drop c.loop-done.done c.args.self.now.left)
 
 pub loop-done-preserved : goal.loop-done-preserved
 loop-done-preserved c =
     let told = c.loop-done.invariant in
-    let whole = c.args.self.now in let run = c.in-Some.run'.now in let next = c.next.new.self in
+    let whole = c.args.self.now.left in let run = c.in-Some.run'.now in let next = c.next.new.self.left in
     let done = c.loop-done.done in let count = c.copy_at-done.result in
     let more = sym (told.rest (omega (arith, c.loop-done-test.true, told.size))) ∙ c.in-Some.ensures.run in
     let size = ap length more ∙ length-append run next in

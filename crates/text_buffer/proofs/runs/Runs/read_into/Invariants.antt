@@ -5,9 +5,9 @@ abbrev pub invariant-loop-done : goal.invariant-loop-done
 invariant-loop-done l = record {
   size : length l.out ≡ length l.fn.out;
   within : l.done ≤ length l.fn.out;
-  there : l.done ≤ length l.fn.self;
-  read : l.out ≡ take l.done l.fn.self ++ drop l.done l.fn.out;
-  rest : l.done < length l.fn.out → l.self ≡ drop l.done l.fn.self;
+  there : l.done ≤ length l.fn.self.left;
+  read : l.out ≡ take l.done l.fn.self.left ++ drop l.done l.fn.out;
+  rest : l.done < length l.fn.out → l.self.left ≡ drop l.done l.fn.self.left;
 }
 
 abbrev pub decreases-loop-done : goal.decreases-loop-done

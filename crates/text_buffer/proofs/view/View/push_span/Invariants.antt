@@ -5,9 +5,9 @@ use Rattle.text_buffer.proofs.view.View.push_span.Given as goal
 
 abbrev pub invariant-loop-left : goal.invariant-loop-left
 invariant-loop-left l = record {
-  copied : l.out.items ++ take l.left l.runs
+  copied : l.out.items ++ take l.left l.runs.left
       ≡ l.fn.out.items ++ take (l.fn.span.end - l.fn.span.start) (drop l.fn.span.start (spelled l.self.chunks.now.buffers (pieces_of l.self.pieces.now.entries)));
-  enough : l.left ≤ length l.runs;
+  enough : l.left ≤ length l.runs.left;
   room : vec_len l.out + l.left ≤ vec_capacity l.out;
 }
 

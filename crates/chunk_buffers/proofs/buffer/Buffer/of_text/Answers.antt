@@ -1,7 +1,0 @@
-use Rattle.std.proofs.Common.{arith}
-use Rattle.line_starts.proofs.Starts.{break_ends_at_is}
-use Rattle.chunk_buffers.proofs.buffer.Buffer.of_text.Goals as goal
-
-pub invariant_of-result : goal.invariant_of-result
-invariant_of-result c =
-    (rw (c.in_ok-find_break_ends.ensures.ok, c.in_ok-ends.ensures.items, c.in_ok-units.ensures.items) (break_ends_at_is 0 c.args.text.now), omega (arith, c.in_ok-units.ensures.len))

@@ -1,0 +1,69 @@
+//! ASCII by lanes: several units are looked at together.
+#![tactic(auto)]
+
+ghost use Rattle.std.specs.Prelude.{◌≡◌, ◌+◌, ◌≤◌, nat_le, length, drop, map};
+ghost use Rattle.std.specs.Char.{is_ascii};
+ghost use Rattle.std.specs.List.{prefix_len};
+ghost use Rattle.std.specs.Simd.Lanes.{chunk, mask_l};
+
+use std::simd::prelude::*;
+
+/// How many units are looked at together.
+const LANES: usize = 32;
+
+/// The first unit that is not ASCII.
+const BEYOND_ASCII: u16 = 0x80;
+
+/// How many units are ASCII in front of the first that is not.
+pub(crate) fn ascii_in_front(units: &[u16]) -> usize
+    ensures ascii { result ≡ prefix_len is_ascii units.now }
+    ensures within { result ≤ length units.now }
+{
+    let mut at = 0;
+    while at + LANES <= units.len() {
+        let ascii = ascii_in_block(units, at);
+        if ascii < LANES {
+            return at + ascii;
+        }
+        at += LANES;
+    }
+    at + ascii_one_by_one(units, at)
+}
+
+// The same of `LANES` units alone.
+#[inline(always)]
+fn ascii_in_block(units: &[u16], at: usize) -> usize
+    requires { at + 32 ≤ length units.now }
+    ensures ascii { result ≡ prefix_len is_ascii (chunk at 32 units.now) }
+    ensures within { result ≤ 32 }
+{
+    let others = others_in_block(units, at);
+    if others == 0 {
+        LANES
+    } else {
+        others.trailing_zeros() as usize
+    }
+}
+
+// Which of `LANES` units are not ASCII: a bit for each, the lowest for the first.
+#[inline(always)]
+fn others_in_block(units: &[u16], at: usize) -> u64
+    requires { at + 32 ≤ length units.now }
+    ensures { result ≡ mask_l (map (λ unit. nat_le 0x80 unit) (chunk at 32 units.now)) }
+{
+    let block = u16x32::from_slice(&units[at..]);
+    block.simd_ge(u16x32::splat(BEYOND_ASCII)).to_bitmask()
+}
+
+// The same of the units from a place on.
+fn ascii_one_by_one(units: &[u16], from: usize) -> usize
+    requires { from ≤ length units.now }
+    ensures ascii { result ≡ prefix_len is_ascii (drop from units.now) }
+    ensures within { from + result ≤ length units.now }
+{
+    let mut at = from;
+    while at < units.len() && units[at] < BEYOND_ASCII {
+        at += 1;
+    }
+    at - from
+}

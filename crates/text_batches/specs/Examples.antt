@@ -1,0 +1,13 @@
+-- Worked examples of the definitions.
+use Rattle.std.specs.Prelude.{◌≡◌, List, [], ◌∷◌, codes, false, refl}
+use Rattle.text_rules.specs.declared.Op.{Op}
+use Rattle.text_batches.specs.Needs.{text_breaks}
+
+-- a CR and an LF in the texts of two ops
+abbrev two_halves_of_a_pair : List Op
+two_halves_of_a_pair =
+    record { span = record { start = 0; end = 0 }; text = codes "\r"; force = false }
+    ∷ record { span = record { start = 0; end = 0 }; text = codes "\n"; force = false } ∷ []
+
+each_text_counts_alone : text_breaks two_halves_of_a_pair ≡ 2
+each_text_counts_alone = refl

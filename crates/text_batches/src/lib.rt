@@ -1,0 +1,8 @@
+//! Batches on a text in pieces: what room they ask for, and how each is carried out.
+#![tactic(auto)]
+
+mod apply;
+mod needs;
+
+pub use apply::apply_to_text;
+pub use needs::{joined, need_of_batch, need_of_batches, need_of_text};
