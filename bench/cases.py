@@ -273,11 +273,11 @@ def misnamed(line: str) -> str:
 
 def find_cases(scale: Scale) -> Iterator[Case]:
     """Searches of all of a text, which find what its end has. Where the name is another stands for what is refused."""
-    ways = [("one piece", opened), (f"{PIECES:,} pieces", torn)]
-    ways += [(f"after {count:,} edits", scattered(count)) for count in (10_000, 50_000)]
-    for way, document in ways:
+    ways = [("one piece", opened, scale.texts[1:]), (f"{PIECES:,} pieces", torn, scale.texts[1:])]
+    ways += [(f"after {count:,} edits", scattered(count), scale.texts[1:2]) for count in (10_000, 50_000)]
+    for way, document, texts in ways:
         for what, sought, filler, tail, often in SEARCHES:
-            for units, flat in scale.texts[1:]:
+            for units, flat in texts:
                 count = max(1, scale.count * often // units)
                 lines, refused = ([line] * count for line in (find(sought), misnamed(find(sought))))
                 setup = document(ended(filler, units, tail))
