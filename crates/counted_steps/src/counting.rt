@@ -2,11 +2,10 @@
 
 use bracket_nodes::{Kinds, NodeRef};
 use node_reuse::{Old, Token};
-use std::sync::ledger::Ledger;
 use steps::Steps;
 use text_lengths::Length;
 
-/// What a reader sees of an old text, and how often it asked for what stands there.
+/// What a reader sees of an old text, and how often it asked it.
 #[derive(Drop)]
 pub(crate) struct Counting<'c, O> {
     pub old: O,
@@ -16,7 +15,7 @@ pub(crate) struct Counting<'c, O> {
 impl<O: Old> Old for Counting<'_, O> {
     ghost text = { λ c. O.text c.old };
 
-    fn longest_at<L: Ledger>(
+    fn longest_at<L>(
         &mut self,
         place: Length,
         opened: Kinds,
@@ -27,11 +26,12 @@ impl<O: Old> Old for Counting<'_, O> {
         self.old.longest_at(place, opened, level, steps)
     }
 
-    fn is_kept(&mut self, line: u64) -> bool {
-        self.old.is_kept(line)
+    fn new_from<L>(&mut self, line: u64, steps: &mut Steps<L>) -> u64 {
+        *self.calls = self.calls.saturating_add(1);
+        self.old.new_from(line, steps)
     }
 
-    fn token_at<L: Ledger>(&mut self, place: Length, steps: &mut Steps<L>) -> Option<Token> {
+    fn token_at<L>(&mut self, place: Length, steps: &mut Steps<L>) -> Option<Token> {
         *self.calls = self.calls.saturating_add(1);
         self.old.token_at(place, steps)
     }

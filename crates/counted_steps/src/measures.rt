@@ -9,7 +9,6 @@ ghost use Rattle.bracket_tree_rules.specs.Tree.{nesting, highest};
 ghost use Rattle.node_reuse.specs.Paying.{most_steps};
 ghost use Rattle.node_reuse.specs.Texts.{IsTight};
 ghost use Rattle.counted_steps.specs.Edited.{IsMarkedEdit};
-ghost use Rattle.steps.specs.Counting.{IsFor};
 
 use crate::counting::Counting;
 use crate::shapes::{Shape, line_of};
@@ -20,8 +19,6 @@ use bracket_scan::{BracketTable, Hiding};
 use line_states::States;
 use node_reuse::{OldReader, Parsed, reparse};
 use std::alloc::{AllocError, Global};
-use std::marker::Brand;
-use std::sync::ledger::{Blank, Ledger};
 use steps::Steps;
 use unit_text::Units;
 
@@ -80,20 +77,13 @@ pub(crate) fn measure(
 ) -> Result<Measured, AllocError> {
     let text = shape.text(alloc, brackets)?;
     let line = line_of(alloc, line)?;
-    measure_in::<Brand>(alloc, text, line, Blank::new(1))
+    measure_in(alloc, text, line)
 }
 
 #[tactic(auto, using(crate::proofs::Edits::laws))]
-fn measure_in<L: Ledger>(
-    alloc: Global,
-    mut text: TextLines,
-    line: Units,
-    blank: Blank,
-) -> Result<Measured, AllocError>
-    requires { IsFor L.Ledger blank }
-{
+fn measure_in(alloc: Global, mut text: TextLines, line: Units) -> Result<Measured, AllocError> {
     let table = BracketTable::standard();
-    let mut steps = Steps::<L>::new(blank);
+    let mut steps = Steps::new();
     let mut tokens = Vec::new(alloc);
     table.scan(line.as_slice(), &mut tokens)?;
     let (parsed, mut states) = first_parse(alloc, &table, &mut text, &mut steps)?;
@@ -113,7 +103,7 @@ fn measure_in<L: Ledger>(
 
 /// The parse of a text that was not parsed before, and the states of its lines.
 #[tactic(auto, using(crate::proofs::Edits::laws))]
-fn first_parse<L: Ledger>(
+fn first_parse<L>(
     alloc: Global,
     table: &BracketTable,
     text: &mut TextLines,

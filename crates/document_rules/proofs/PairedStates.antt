@@ -1,9 +1,9 @@
 -- No call brings a lone surrogate into a document that has none, where the texts that it is given have none.
-use Rattle.std.proofs.Common.{◌≡◌, ℕ, ◌+◌, ◌<◌, ◌||◌, not, map, drop, filter, find, option_map, arith, Bool, true, false, nat_lt, nat_le, if◌then◌else◌, List, [], ◌∷◌, ◌++◌, length, Option, Some, None, IfSome, Result, Ok, Err, refl, ap, sym, subst}
+use Rattle.std.proofs.Common.{◌≡◌, ℕ, ◌+◌, ◌<◌, ◌&&◌, ◌||◌, not, map, take, drop, reverse, filter, find, option_map, arith, Bool, true, false, nat_lt, nat_le, if◌then◌else◌, List, [], ◌∷◌, ◌++◌, length, Option, Some, None, IfSome, Result, Ok, Err, refl, ap, sym, subst}
 use Rattle.std.specs.Prelude.{⊤, All}
 use Rattle.std.proofs.lemmas.Bool.{eqb-true, ne_eqb, leb-false}
-use Rattle.std.proofs.lemmas.List.{drop_all}
-use Rattle.std.proofs.lemmas.List.Elements.{All-nil, All-cons, All-head, All-tail, All-push, All-filter}
+use Rattle.std.proofs.lemmas.List.{drop_all, reverse-append}
+use Rattle.std.proofs.lemmas.List.Elements.{All-nil, All-cons, All-head, All-tail, All-push, All-append, All-take, All-drop, All-filter}
 use Rattle.std.specs.Char.Utf16.{utf16_chars}
 use Rattle.unit_text.specs.declared.kind.Kind.{Kind}
 use Rattle.unit_text.specs.Units.{cuts_pair, IsPaired}
@@ -20,14 +20,14 @@ use Rattle.decoration_rules.specs.Refusals.{DecoRefusal}
 use Rattle.decoration_rules.specs.declared.NewDeco.{NewDeco}
 use Rattle.decoration_rules.specs.Decorations.{Decorations, decorated}
 use Rattle.undo_rules.specs.declared.Tag.{Tag}
-use Rattle.undo_rules.specs.Tags.{has_tag, without_tag, tagged_front}
+use Rattle.undo_rules.specs.Tags.{has_tag, without_tag, tagged_front, is_member, passes, all_steps, tagged_count, untagged_last}
 use Rattle.undo_rules.specs.Stack.{Step, Stack, joined, new_step, undone_lists, redone_lists, undone, redone}
 use Rattle.snapshot_rules.specs.Refusals.{ShelfRefusal}
 use Rattle.snapshot_rules.specs.Snapshots.{Snapshot, FlatShelf, IsRising, IsSound, empty_shelf, has_id, skipped, front, is_full, is_open, flat_take, flat_close}
 use Rattle.document_rules.proofs.PairedEndings.{IsPaired-normalized, paired_texts_in}
 use Rattle.document_rules.specs.declared.ModelError.{ModelError}
 use Rattle.document_rules.specs.Refusals.{FlatRefusal, limit}
-use Rattle.document_rules.specs.Document.{greatest_version, FlatText, Deed, batch, recast, FlatChange, FlatState, new_document, flat_open, text_now, after_deed, after_batch, edited_by, flat_edit, is_same_kind, recast_to, carried_to, after_recast, flat_eol, carried_by, flat_stop, flat_tag, flat_untag, text_before, text_after, carried_back, carried_on, batches_back, batches_on, returned, undone_step, flat_undo, redone_step, flat_redo, with_decorations, flat_decorate}
+use Rattle.document_rules.specs.Document.{greatest_version, FlatText, Deed, batch, recast, FlatChange, FlatState, new_document, flat_open, text_now, after_deed, after_batch, edited_by, flat_edit, is_same_kind, recast_to, carried_to, after_recast, flat_eol, carried_by, flat_stop, flat_tag, flat_untag, flat_untag_last, text_before, text_after, carried_back, carried_on, batches_back, batches_on, returned, undone_step, flat_undo, redone_step, flat_redo, with_decorations, flat_decorate}
 use Rattle.document_rules.specs.Outcomes.{Changes, ChangesWith, Moves}
 use Rattle.document_rules.specs.Snapshots.{with_shelf, flat_snapshot, flat_skipped, flat_close_of, EndsBesidePairs}
 use Rattle.document_rules.specs.Paired.{IsPairedDeed, IsPairedChange, ArePairedSteps, IsPairedShelf, IsPairedState}
@@ -72,6 +72,12 @@ paired_front tag [] kept = kept
 paired_front tag (step ∷ steps) kept =
     All-cons IsPairedStep (record step { tag = Some tag }) steps (All-head IsPairedStep step steps kept) (All-tail IsPairedStep step steps kept)
 
+paired_reverse : (steps : List (Step FlatChange)) → ArePairedSteps steps → ArePairedSteps (reverse steps)
+paired_reverse [] kept = kept
+paired_reverse (step ∷ steps) kept =
+    subst ArePairedSteps (sym (reverse-append (step ∷ []) steps))
+    (All-push IsPairedStep (reverse steps) step (paired_reverse steps (All-tail IsPairedStep step steps kept)) (All-head IsPairedStep step steps kept))
+
 paired_without : (is_it : Bool) (step : Step FlatChange) → IsPairedStep step → IsPairedStep (if is_it then record step { tag = None } else step)
 paired_without true step h = h
 paired_without false step h = h
@@ -81,6 +87,13 @@ paired_untagged tag [] kept = kept
 paired_untagged tag (step ∷ steps) kept =
     All-cons IsPairedStep (without_tag tag step) (map (without_tag tag) steps)
     (paired_without (has_tag tag step) step (All-head IsPairedStep step steps kept)) (paired_untagged tag steps (All-tail IsPairedStep step steps kept))
+
+paired_untagged_last : (n c : ℕ) (steps : List (Step FlatChange)) → ArePairedSteps steps → ArePairedSteps (untagged_last n c steps)
+paired_untagged_last n c [] kept = kept
+paired_untagged_last n c (step ∷ steps) kept =
+    let is_last = passes (is_member n) step.tag && nat_lt (tagged_count n steps) c in
+    All-cons IsPairedStep (if is_last then record step { tag = None } else step) (untagged_last n c steps)
+    (paired_without is_last step (All-head IsPairedStep step steps kept)) (paired_untagged_last n c steps (All-tail IsPairedStep step steps kept))
 
 paired_before : (now : FlatText) (changes : List FlatChange) → IsPaired now.units → All IsPairedChange changes → IsPaired (text_before now changes).units
 paired_before now [] h kept = h
@@ -217,6 +230,18 @@ untagged_paired f tag h = record {
   redo = paired_untagged tag f.history.redo h.redo;
   shelf = h.shelf;
 }
+
+pub untagged_last_paired : (f : FlatState) (n c : ℕ) → IsPairedState f → IsPairedState (flat_untag_last f n c)
+untagged_last_paired f n c h =
+    let steps = untagged_last n c (all_steps f.history) in
+    let done = length f.history.undo in
+    let paired = paired_untagged_last n c (all_steps f.history) (All-append IsPairedStep _ _ (paired_reverse f.history.undo h.undo) h.redo) in
+    record {
+      units = h.units;
+      undo = paired_reverse (take done steps) (All-take IsPairedStep done steps paired);
+      redo = All-drop IsPairedStep done steps paired;
+      shelf = h.shelf;
+    }
 
 after_recast_paired : (f : FlatState) (kind : Kind) → IsPairedState f → IsPairedState (after_recast f kind)
 after_recast_paired f kind h =

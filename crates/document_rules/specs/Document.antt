@@ -27,7 +27,7 @@ use Rattle.decoration_rules.specs.Decorations.{Decorations, no_decorations, deco
 use Rattle.decoration_rules.specs.LineMoves.{line_moves}
 use Rattle.undo_rules.specs.declared.Tag.{Tag}
 use Rattle.undo_rules.specs.Stack.{Step, Stack, empty_stack, pushed, stopped, undone, redone}
-use Rattle.undo_rules.specs.Tags.{tagged, untagged}
+use Rattle.undo_rules.specs.Tags.{tagged, untagged, all_steps, untagged_last, with_steps}
 use Rattle.snapshot_rules.specs.Snapshots.{FlatShelf, empty_shelf}
 use Rattle.document_rules.specs.Refusals.{FlatRefusal, unknown, range, overlap, limit}
 
@@ -168,6 +168,10 @@ flat_tag f tag = record f { history = tagged f.history tag }
 -- no step is one of these documents any more
 abbrev pub flat_untag : FlatState → Tag → FlatState
 flat_untag f tag = record f { history = untagged f.history tag }
+
+-- the last c steps that it made with document n are steps alone
+abbrev pub flat_untag_last : FlatState → ℕ → ℕ → FlatState
+flat_untag_last f n c = record f { history = with_steps f.history (untagged_last n c (all_steps f.history)) }
 
 -- ---- a change of line endings
 

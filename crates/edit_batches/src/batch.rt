@@ -35,7 +35,7 @@ impl Model for Batch {
 }
 
 impl Batch {
-    /// A batch of these edits of the text, with texts of its kind. `Range` where a span is none of the text; else `Overlap` where two
+    /// A batch of these edits of the text, with texts of its kind. `Range` where a span is invalid; else `Overlap` where two
     /// of them overlap; else `Limit` where the new text would be too long. It takes memory only where a text has other line endings.
     pub fn checked<F: Flat>(ops: Sorted, text: &F) -> Result<Batch, BatchError>
         ensures rule { Checks result (checked_batch (F.kind text.now) (F.units text.now) ops) }

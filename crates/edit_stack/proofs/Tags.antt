@@ -13,15 +13,11 @@ use Rattle.edit_stack.proofs.Cursors.{item_read, before, behind, length_before}
 use Rattle.undo_rules.specs.declared.Tag.{Tag}
 use Rattle.undo_rules.specs.Stack.{Step, Stack}
 use Rattle.undo_rules.specs.Tags.{has_tag, without_tag, tagged, untagged, all_steps, holds, tag_at}
+use Rattle.undo_rules.proofs.LastTags.{map_reverse}
 
 or_false : (b : Bool) → (b || false) ≡ b
 or_false true = refl
 or_false false = refl
-
-map_reverse : {X Y : Type 0} (f : X → Y) (xs : List X) → map f (reverse xs) ≡ reverse (map f xs)
-map_reverse f [] = refl
-map_reverse f (x ∷ xs) =
-    ap (map f) (reverse-append (x ∷ []) xs) ∙ map_push f (reverse xs) x ∙ ap (λ l. l ++ f x ∷ []) (map_reverse f xs) ∙ sym (reverse-append (f x ∷ []) (map f xs))
 
 module _ {C : Type 0} where
   -- the closed elements in the order in which they were made

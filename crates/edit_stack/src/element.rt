@@ -1,7 +1,7 @@
 //! One step of undo.
 
-ghost use Rattle.std.specs.Prelude.{◌≡◌, ◌<◌, Some, length, slice_get};
-ghost use Rattle.undo_rules.specs.Tags.{has_tag, without_tag};
+ghost use Rattle.std.specs.Prelude.{◌≡◌, ◌-◌, ◌<◌, ◌∷◌, [], Some, length, slice_get};
+ghost use Rattle.undo_rules.specs.Tags.{has_tag, is_member, passes, tagged_count, untagged_last, without_tag};
 ghost use Rattle.edit_stack.specs.Element.{step_of};
 
 use paged_list::PagedList;
@@ -76,6 +76,30 @@ impl<C> Element<C> {
     {
         if self.has(tag) {
             self.tag = None;
+        }
+    }
+    /// Takes its tag off where that is one of this document and `count` is not 0. Answers how many tags are still to be taken off.
+    pub(crate) fn untag_of(&mut self, doc: u64, count: u64) -> u64
+        requires { doc < 64 }
+        ensures step { step_of self.new ∷ [] ≡ untagged_last doc count (step_of self.old ∷ []) }
+        ensures left { result ≡ count - tagged_count doc (step_of self.old ∷ []) }
+        ensures room { self.new.more ≡ self.old.more }
+    {
+        if count == 0 || !self.names(doc) {
+            return count;
+        }
+        self.tag = None;
+        count - 1
+    }
+
+    // Whether it has a tag of this document.
+    fn names(&self, doc: u64) -> bool
+        requires { doc < 64 }
+        ensures { result ≡ passes (is_member doc) (step_of self.now).tag }
+    {
+        match self.tag {
+            Some(tag) => (tag.members >> doc) & 1 == 1,
+            None => false,
         }
     }
 }

@@ -1,11 +1,12 @@
 //! The two lists.
 
-ghost use Rattle.std.specs.Prelude.{◌≡◌, ◌+◌, ◌^◌, ◌<◌, ◌≤◌, ◌++◌, ◌∷◌, [], length, map, take, slice_get, OnOk, option_map};
+ghost use Rattle.std.specs.Prelude.{◌≡◌, ◌+◌, ◌-◌, ◌^◌, ◌<◌, ◌≤◌, ◌++◌, ◌∷◌, [], is_some, length, map, take, slice_get, OnOk, option_map};
 ghost use Rattle.std.specs.List.{list_any};
 ghost use Rattle.std.specs.Option.{option_copied};
 ghost use Rattle.edit_stack.specs.Element.{step_of};
+ghost use Rattle.edit_stack.specs.Lists.{may_join, opened};
 ghost use Rattle.undo_rules.specs.Stack.{empty_stack, pushed, stopped, undone, redone};
-ghost use Rattle.undo_rules.specs.Tags.{has_tag, without_tag, tagged, untagged, all_steps, holds, tag_at};
+ghost use Rattle.undo_rules.specs.Tags.{has_tag, without_tag, tagged, tagged_count, untagged, untagged_last, with_steps, all_steps, holds, tag_at};
 
 use crate::element::Element;
 use paged_list::PagedList;
@@ -177,6 +178,18 @@ impl<C: Drop> EditStack<C> {
         untag_first(&mut self.elements, self.kept, tag);
     }
 
+    /// Takes the tag off the last `count` of the steps that have one of this document, or off all of these where there are fewer. No step
+    /// before them is looked at.
+    pub fn untag_last(&mut self, doc: u64, count: u64)
+        requires { doc < 64 }
+        ensures stack { self.new.stack ≡ with_steps self.old.stack
+            (untagged_last doc count (all_steps self.old.stack)) }
+        ensures room { self.new.spare ≡ self.old.spare }
+    {
+        let left = untag_open(&mut self.open_element, doc, count);
+        untag_closed(&mut self.elements, self.kept, doc, left);
+    }
+
     /// Whether a step has this tag.
     pub fn holds(&self, tag: Tag) -> bool
         ensures { result ≡ holds self.now.stack tag }
@@ -222,6 +235,37 @@ fn untag_first<C: Drop>(elements: &mut PagedList<Element<C>>, kept: usize, tag: 
 {
     for at in 0..kept {
         elements.get_mut(at).untag(tag);
+    }
+}
+
+/// Takes the tag off an open element, as `Element::untag_of` does.
+fn untag_open<C: Drop>(open: &mut Option<Element<C>>, doc: u64, count: u64) -> u64
+    requires { doc < 64 }
+    ensures steps { opened open.new ≡ untagged_last doc count (opened open.old) }
+    ensures left { result ≡ count - tagged_count doc (opened open.old) }
+    ensures still { is_some open.new ≡ is_some open.old }
+    ensures room { may_join open.new ≡ may_join open.old }
+{
+    match open {
+        Some(element) => element.untag_of(doc, count),
+        None => count,
+    }
+}
+
+/// Takes the tag off the last `count` of the first `kept` elements that have one of this document.
+fn untag_closed<C: Drop>(elements: &mut PagedList<Element<C>>, kept: usize, doc: u64, count: u64)
+    requires kept { kept ≤ length elements.old.items }
+    requires doc { doc < 64 }
+    ensures items { map step_of (take kept elements.new.items)
+        ≡ untagged_last doc count (map step_of (take kept elements.old.items)) }
+    ensures len { length elements.new.items ≡ length elements.old.items }
+    ensures capacity { elements.new.capacity ≡ elements.old.capacity }
+{
+    let mut left = count;
+    let mut at = kept;
+    while left > 0 && at > 0 {
+        at -= 1;
+        left = elements.get_mut(at).untag_of(doc, left);
     }
 }
 

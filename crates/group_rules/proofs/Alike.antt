@@ -3,10 +3,11 @@ use Rattle.std.proofs.Common.{◌≡◌, ℕ, suc, ◌+◌, ◌&&◌, ◌||◌, 
 use Rattle.std.proofs.lemmas.List.{length-set}
 use Rattle.std.proofs.lemmas.List.Elements.{All-head, All-tail, All-weaker}
 use Rattle.undo_rules.specs.declared.Tag.{Tag}
+use Rattle.undo_rules.specs.Tags.{is_member}
 use Rattle.document_rules.specs.Refusals.{FlatRefusal, unknown, range, overlap, limit}
 use Rattle.document_rules.specs.Document.{FlatState, empty_document, flat_edit}
 use Rattle.group_rules.specs.declared.TheConstants.{DOC_COUNT}
-use Rattle.group_rules.specs.Group.{FlatGroup, doc_in, each_from, is_member, lost_by_change, without_tags, with_changed}
+use Rattle.group_rules.specs.Group.{FlatGroup, doc_in, each_from, lost_by_change, without_tags, with_changed}
 use Rattle.group_rules.specs.Joint.{FlatBatch, docs_of, names_badly, is_refused_for, some_refused, joint_refusal, least_of, tag_of, batch_for, lost_by_joint, joined_doc, joined}
 use Rattle.group_rules.specs.Going.{Going, is_front, is_last_version, some_last_from, other_next_from, gone_or_same, all_gone}
 use Rattle.group_rules.proofs.Members.{least_kept}

@@ -4,9 +4,10 @@ use Rattle.std.proofs.lemmas.Bool.{false_from_ne_true}
 use Rattle.std.proofs.lemmas.List.Elements.{All-nil, All-head, All-tail, All-append, All-weaker}
 use Rattle.std.proofs.lemmas.List.Folds.{list_any_none}
 use Rattle.undo_rules.specs.declared.Tag.{Tag}
+use Rattle.undo_rules.specs.Tags.{is_member}
 use Rattle.document_rules.specs.Document.{FlatState, empty_document, flat_untag}
 use Rattle.group_rules.specs.declared.TheConstants.{DOC_COUNT}
-use Rattle.group_rules.specs.Group.{FlatGroup, doc_in, each_from, is_member, lost_by_change, without_tags, with_changed}
+use Rattle.group_rules.specs.Group.{FlatGroup, doc_in, each_from, lost_by_change, without_tags, with_changed}
 use Rattle.group_rules.specs.Joint.{FlatBatch, docs_of, tag_of, batch_for, lost_by_joint, joined_doc, joined}
 use Rattle.group_rules.specs.Going.{Going, gone_or_same, all_gone}
 use Rattle.group_rules.proofs.Members.{is_named, batch_for_none}

@@ -1,16 +1,18 @@
 -- What holds of the tags in each document of a group before a call holds of those after it, and of the tag of a joint edit.
-use Rattle.std.proofs.Common.{◌≡◌, ℕ, Bool, true, false, if◌then◌else◌, List, [], ◌∷◌, Option, Some, None, IfSome, Result, Ok, Err, All, refl}
+use Rattle.std.proofs.Common.{◌≡◌, ℕ, Bool, true, false, if◌then◌else◌, List, [], ◌∷◌, Option, Some, None, IfSome, Result, Ok, Err, All, refl, sym, subst}
 use Rattle.std.proofs.lemmas.List.Elements.{All-head}
 use Rattle.text_rules.specs.declared.Op.{Op}
 use Rattle.undo_rules.specs.declared.Tag.{Tag}
 use Rattle.undo_rules.specs.Stack.{Step}
+use Rattle.undo_rules.specs.Tags.{is_member}
 use Rattle.document_rules.specs.Refusals.{FlatRefusal}
-use Rattle.document_rules.specs.Document.{FlatChange, FlatState, flat_untag}
+use Rattle.document_rules.specs.Document.{FlatChange, FlatState}
 use Rattle.search_rules.specs.Replacing.{edited_alone}
-use Rattle.group_rules.specs.Group.{FlatGroup, doc_in, with_doc, each_from, is_member, lost_by_change, lost_by_open, without_tags, with_changed}
+use Rattle.group_rules.specs.Group.{FlatGroup, doc_in, with_doc, each_from, lost_by_change, lost_by_open, without_tags, with_changed}
 use Rattle.group_rules.specs.Joint.{FlatBatch, tag_of, batch_for, lost_by_joint, tagged_after, joined_doc, joined}
 use Rattle.group_rules.specs.Going.{Going, undoing, redoing, front_tag, gone_or_same, all_gone}
-use Rattle.group_rules.proofs.KeptTags.{IsFor, AllTags, tags_from_steps, tags_from_AllTags, kept_tagged, kept_untagged, kept_alone, kept_undo, kept_redo}
+use Rattle.group_rules.proofs.KeptTags.{IsFor, AllTags, tags_from_steps, tags_from_AllTags, kept_tagged, kept_losing, kept_alone, kept_undo, kept_redo}
+use Rattle.group_rules.proofs.Losing.{lost_in, without_tags-is}
 use Rattle.group_rules.proofs.Members.{is_named, named_batch}
 use Rattle.group_rules.proofs.Places.{with_doc_kept, each_kept}
 
@@ -26,15 +28,9 @@ lost_by_change_kept P f h = tags_from_steps P f.history.redo h.redo
 pub lost_by_open_kept : (P : Tag → Type 0) (f : FlatState) → AllTags P f.history → All P (lost_by_open f)
 lost_by_open_kept P f h = tags_from_AllTags P f.history h
 
-kept_one_less : (P : Tag → Type 0) (is_it : Bool) (tag : Tag) (f : FlatState) → AllTags P f.history
-    → AllTags P (if is_it then flat_untag f tag else f).history
-kept_one_less P true tag f h = kept_untagged P f.history tag h
-kept_one_less P false tag f h = h
-
 pub kept_without_tags : (P : Tag → Type 0) (tags : List Tag) (n : ℕ) (f : FlatState) → AllTags P f.history → AllTags P (without_tags tags n f).history
-kept_without_tags P [] n f h = h
-kept_without_tags P (tag ∷ tags) n f h =
-    kept_without_tags P tags n (if is_member n tag then flat_untag f tag else f) (kept_one_less P (is_member n tag) tag f h)
+kept_without_tags P tags n f h =
+    subst (λ (f : FlatState). AllTags P f.history) (sym (without_tags-is tags n f)) (kept_losing P (lost_in tags n) f.history h)
 
 -- ---- one document
 

@@ -1,20 +1,21 @@
 -- What holds of the tags of a document's steps before a call holds of those after it: no rule of one document makes a tag.
-use Rattle.std.proofs.Common.{◌≡◌, ℕ, ◌+◌, ◌-◌, ◌||◌, ◌<◌, arith, map, reverse, Bool, true, false, nat_lt, nat_le, if◌then◌else◌, List, [], ◌∷◌, ◌++◌, length, Option, Some, None, IfSome, option_to_list, Result, Ok, Err, All, refl, sym, subst}
+use Rattle.std.proofs.Common.{◌≡◌, ℕ, ◌+◌, ◌-◌, not, ◌<◌, arith, map, reverse, Bool, nat_lt, List, [], ◌∷◌, ◌++◌, length, Option, Some, None, IfSome, option_to_list, Ok, All, sym, subst}
 use Rattle.std.proofs.lemmas.List.{length-reverse, reverse-reverse, get_or-reverse, length-append, get_or_append_left, get_or-append-add}
-use Rattle.std.proofs.lemmas.List.Elements.{All-nil, All-cons, All-head, All-tail, All-append}
+use Rattle.std.proofs.lemmas.List.Elements.{All-nil, All-cons, All-head, All-tail, All-append, All-filter}
 use Rattle.unit_text.specs.declared.kind.Kind.{Kind}
 use Rattle.unit_text.specs.Kinds.{normalized}
 use Rattle.text_rules.specs.declared.Op.{Op}
-use Rattle.batch_rules.specs.Refusals.{BatchRefusal}
-use Rattle.batch_rules.specs.Batches.{most_units, checked_batch}
+use Rattle.batch_rules.specs.Batches.{most_units}
 use Rattle.hiding_rules.specs.Hidden.{Scanner}
 use Rattle.undo_rules.specs.declared.Tag.{Tag}
-use Rattle.undo_rules.specs.Stack.{Step, Stack, empty_stack, new_step, joined, pushed, undone_lists, redone_lists}
-use Rattle.undo_rules.specs.Tags.{has_tag, without_tag, tagged_front, tagged, untagged, all_steps}
-use Rattle.document_rules.specs.Refusals.{FlatRefusal, limit}
-use Rattle.document_rules.specs.Document.{greatest_version, FlatChange, FlatState, flat_open, edited_by, flat_edit, is_same_kind, after_batch, after_recast, flat_eol, undone_step, flat_undo, redone_step, flat_redo}
-use Rattle.search_rules.specs.Replacing.{closed_after, edited_alone, flat_find, replacing, flat_replace_all}
+use Rattle.undo_rules.specs.Stack.{Step, Stack, empty_stack}
+use Rattle.undo_rules.specs.Tags.{tagged_front, tagged, all_steps}
+use Rattle.document_rules.specs.Document.{FlatChange, FlatState, flat_open, flat_edit, flat_eol, flat_undo, flat_redo}
+use Rattle.search_rules.specs.Replacing.{edited_alone, flat_replace_all}
 use Rattle.group_rules.specs.Group.{tags_of}
+use Rattle.group_rules.specs.Going.{undoing, redoing, front_tag}
+use Rattle.group_rules.proofs.Changed.{IsChanged, accepted_value, changed_edit, changed_eol, changed_alone, changed_replace_all, HasMoved, undoing_moves, redoing_moves}
+use Rattle.group_rules.proofs.Losing.{losing, losing_all, tags_of-losing}
 
 -- ---- steps
 
@@ -30,49 +31,12 @@ pub record AllTags (P : Tag → Type 0) (s : Stack FlatChange) : Type 0 where
 pub no_tags : (P : Tag → Type 0) → AllTags P empty_stack
 no_tags P = record { undo = All-nil (IsFor P); redo = All-nil (IsFor P) }
 
-tags_joined : (P : Tag → Type 0) (is_open : Bool) (steps : List (Step FlatChange)) (change : FlatChange) (before after : ℕ) → All (IsFor P) steps
-    → All (IsFor P) (joined is_open steps change before after)
-tags_joined P true (step ∷ steps) change before after kept =
-    All-cons (IsFor P) (record step { changes = step.changes ++ change ∷ []; alt_after = after }) steps (All-head (IsFor P) step steps kept)
-    (All-tail (IsFor P) step steps kept)
-tags_joined P true [] change before after kept = All-cons (IsFor P) (new_step change before after) [] tt (All-nil (IsFor P))
-tags_joined P false steps change before after kept = All-cons (IsFor P) (new_step change before after) steps tt kept
-
-kept_pushed : (P : Tag → Type 0) (s : Stack FlatChange) (change : FlatChange) (before after : ℕ) → AllTags P s
-    → AllTags P (pushed s change before after)
-kept_pushed P s change before after h =
-    record { undo = tags_joined P s.is_open s.undo change before after h.undo; redo = All-nil (IsFor P) }
-
-kept_undone : (P : Tag → Type 0) (undo redo : List (Step FlatChange)) → All (IsFor P) undo → All (IsFor P) redo → AllTags P (undone_lists undo redo)
-kept_undone P [] redo h k = record { undo = h; redo = k }
-kept_undone P (step ∷ steps) redo h k =
-    record { undo = All-tail (IsFor P) step steps h; redo = All-cons (IsFor P) step redo (All-head (IsFor P) step steps h) k }
-
-kept_redone : (P : Tag → Type 0) (undo redo : List (Step FlatChange)) (is_open : Bool) → All (IsFor P) undo → All (IsFor P) redo
-    → AllTags P (redone_lists undo redo is_open)
-kept_redone P undo [] is_open h k = record { undo = h; redo = k }
-kept_redone P undo (step ∷ steps) is_open h k =
-    record { undo = All-cons (IsFor P) step undo (All-head (IsFor P) step steps k) h; redo = All-tail (IsFor P) step steps k }
-
 tags_front : (P : Tag → Type 0) (tag : Tag) (steps : List (Step FlatChange)) → P tag → All (IsFor P) steps → All (IsFor P) (tagged_front steps tag)
 tags_front P tag [] p kept = kept
 tags_front P tag (step ∷ steps) p kept = All-cons (IsFor P) (record step { tag = Some tag }) steps p (All-tail (IsFor P) step steps kept)
 
 pub kept_tagged : (P : Tag → Type 0) (s : Stack FlatChange) (tag : Tag) → P tag → AllTags P s → AllTags P (tagged s tag)
 kept_tagged P s tag p h = record { undo = tags_front P tag s.undo p h.undo; redo = h.redo }
-
-tag_without : (P : Tag → Type 0) (is_it : Bool) (step : Step FlatChange) → IsFor P step → IsFor P (if is_it then record step { tag = None } else step)
-tag_without P true step h = tt
-tag_without P false step h = h
-
-tags_without : (P : Tag → Type 0) (tag : Tag) (steps : List (Step FlatChange)) → All (IsFor P) steps → All (IsFor P) (map (without_tag tag) steps)
-tags_without P tag [] kept = kept
-tags_without P tag (step ∷ steps) kept =
-    All-cons (IsFor P) (without_tag tag step) (map (without_tag tag) steps) (tag_without P (has_tag tag step) step (All-head (IsFor P) step steps kept))
-    (tags_without P tag steps (All-tail (IsFor P) step steps kept))
-
-pub kept_untagged : (P : Tag → Type 0) (s : Stack FlatChange) (tag : Tag) → AllTags P s → AllTags P (untagged s tag)
-kept_untagged P s tag h = record { undo = tags_without P tag s.undo h.undo; redo = tags_without P tag s.redo h.redo }
 
 -- ---- between the steps and the list of their tags
 
@@ -122,73 +86,54 @@ tags_from_AllTags P s h =
 
 -- ---- the rules of one document
 
-accepted_value : (P : Tag → Type 0) (refused : Bool) (new f : FlatState) → (if refused then Err limit else Ok new) ≡ Ok f → AllTags P new.history
-    → AllTags P f.history
-accepted_value P true new f same h = absurd cc
-accepted_value P false new f same h = let is : new ≡ f = cc in subst (λ (g : FlatState). AllTags P g.history) is h
-
-accepted_move : (P : Tag → Type 0) (refused : Bool) (new f : FlatState) → (if refused then Err limit else Ok (Some new)) ≡ Ok (Some f)
-    → AllTags P new.history → AllTags P f.history
-accepted_move P true new f same h = absurd cc
-accepted_move P false new f same h = let is : new ≡ f = cc in subst (λ (g : FlatState). AllTags P g.history) is h
-
 -- a new document has no steps
 pub kept_open : (P : Tag → Type 0) (text : List ℕ) (scanner : Scanner) (kind : Kind) (f : FlatState) → flat_open text scanner kind ≡ Ok f
     → AllTags P f.history
-kept_open P text scanner kind f done = accepted_value P (nat_lt most_units (length (normalized kind text))) _ f done (no_tags P)
+kept_open P text scanner kind f done =
+    accepted_value (λ f. AllTags P f.history) (nat_lt most_units (length (normalized kind text))) _ f done (no_tags P)
 
-kept_edited : (P : Tag → Type 0) (f g : FlatState) (r : Result (List Op) BatchRefusal) → edited_by f r ≡ Ok g → AllTags P f.history → AllTags P g.history
-kept_edited P f g (Err why) done h = absurd cc
-kept_edited P f g (Ok ops) done h =
-    accepted_value P (nat_le greatest_version f.version) (after_batch f ops) g done (kept_pushed P f.history _ f.alternative (f.version + 1) h)
+pub kept_losing : (P : Tag → Type 0) (test : Tag → Bool) (s : Stack FlatChange) → AllTags P s → AllTags P (losing_all test s)
+kept_losing P test s h = record { undo = less s.undo h.undo; redo = less s.redo h.redo }
+  where
+    less : (steps : List (Step FlatChange)) → All (IsFor P) steps → All (IsFor P) (map (losing test) steps)
+    less steps h =
+        steps_from_tags P (map (losing test) steps)
+        (subst (All P) (sym (tags_of-losing test steps)) (All-filter (λ tag. not (test tag)) P (tags_of steps) (tags_from_steps P steps h)))
+
+kept_changed : (P : Tag → Type 0) (f g : FlatState) → IsChanged f g → AllTags P f.history → AllTags P g.history
+kept_changed P f g changed h = record {
+  undo = steps_from_tags P g.history.undo (subst (All P) (sym changed.undo) (tags_from_steps P f.history.undo h.undo));
+  redo = subst (All (IsFor P)) (sym changed.redo) (All-nil (IsFor P));
+}
 
 pub kept_edit : (P : Tag → Type 0) (f g : FlatState) (ops : List Op) → flat_edit f ops ≡ Ok g → AllTags P f.history → AllTags P g.history
-kept_edit P f g ops done h = kept_edited P f g (checked_batch f.kind f.units ops) done h
-
-kept_recast : (P : Tag → Type 0) (f g : FlatState) (kind : Kind) (same refused : Bool)
-    → (if same then Ok None else (if refused then Err limit else Ok (Some (after_recast f kind)))) ≡ Ok (Some g) → AllTags P f.history → AllTags P g.history
-kept_recast P f g kind true refused done h = absurd cc
-kept_recast P f g kind false refused done h =
-    let pushed_on = kept_pushed P (record f.history { is_open = false }) _ f.alternative (f.version + 1) (record { undo = h.undo; redo = h.redo }) in
-    accepted_move P refused (after_recast f kind) g done (record { undo = pushed_on.undo; redo = pushed_on.redo })
+kept_edit P f g ops done h = kept_changed P f g (changed_edit f g ops done) h
 
 pub kept_eol : (P : Tag → Type 0) (f g : FlatState) (kind : Kind) → flat_eol f kind ≡ Ok (Some g) → AllTags P f.history → AllTags P g.history
-kept_eol P f g kind done h =
-    kept_recast P f g kind (is_same_kind kind f.kind) (nat_lt most_units (length (normalized kind f.units)) || nat_le greatest_version f.version) done h
-
-kept_closed : (P : Tag → Type 0) (g : FlatState) (r : Result FlatState FlatRefusal) → closed_after r ≡ Ok (Some g)
-    → ((f : FlatState) → r ≡ Ok f → AllTags P f.history) → AllTags P g.history
-kept_closed P g (Err why) done h = absurd cc
-kept_closed P g (Ok f) done h =
-    let is : record f { history = record f.history { is_open = false } } ≡ g = cc in
-    let tags = h f refl in
-    subst (λ (g : FlatState). AllTags P g.history) is (record { undo = tags.undo; redo = tags.redo })
+kept_eol P f g kind done h = kept_changed P f g (changed_eol f g kind done) h
 
 -- a batch as a step of its own
 pub kept_alone : (P : Tag → Type 0) (f g : FlatState) (ops : List Op) → edited_alone f ops ≡ Ok (Some g) → AllTags P f.history → AllTags P g.history
-kept_alone P f g [] done h = absurd cc
-kept_alone P f g (op ∷ ops) done h =
-    let closed = record f { history = record f.history { is_open = false } } in
-    kept_closed P g (flat_edit closed (op ∷ ops)) done (λ new e. kept_edit P closed new (op ∷ ops) e (record { undo = h.undo; redo = h.redo }))
+kept_alone P f g ops done h = kept_changed P f g (changed_alone f g ops done) h
 
 pub kept_replace_all : (P : Tag → Type 0) (f g : FlatState) (sought text : List ℕ) → flat_replace_all f sought text ≡ Ok (Some g) → AllTags P f.history
     → AllTags P g.history
-kept_replace_all P f g sought text done h = kept_alone P f g (replacing (flat_find f sought) text) done h
+kept_replace_all P f g sought text done h = kept_changed P f g (changed_replace_all f g sought text done) h
 
-kept_undone_step : (P : Tag → Type 0) (f g : FlatState) (steps : List (Step FlatChange)) → undone_step f steps ≡ Ok (Some g) → AllTags P f.history
-    → AllTags P g.history
-kept_undone_step P f g [] done h = absurd cc
-kept_undone_step P f g (step ∷ steps) done h =
-    accepted_move P (nat_le greatest_version f.version) _ g done (kept_undone P f.history.undo f.history.redo h.undo h.redo)
+kept_moved : (P : Tag → Type 0) (from to : FlatState → List (Step FlatChange)) (tag : Option Tag) (f g : FlatState) → HasMoved from to tag f g
+    → All (IsFor P) (from f) → All (IsFor P) (to f) → All (IsFor P) (from g) × All (IsFor P) (to g)
+kept_moved P from to tag f g moved h k =
+    let parts = tag_first P tag (tags_of (from g)) (subst (All P) moved.taken (tags_from_steps P (from f) h)) in (
+      steps_from_tags P (from g) parts.1,
+      steps_from_tags P (to g) (subst (All P) (sym moved.put) (first_tag P tag (tags_of (to f)) parts.0 (tags_from_steps P (to f) k))),
+    )
 
 pub kept_undo : (P : Tag → Type 0) (f g : FlatState) → flat_undo f ≡ Ok (Some g) → AllTags P f.history → AllTags P g.history
-kept_undo P f g done h = kept_undone_step P f g f.history.undo done h
-
-kept_redone_step : (P : Tag → Type 0) (f g : FlatState) (steps : List (Step FlatChange)) → redone_step f steps ≡ Ok (Some g) → AllTags P f.history
-    → AllTags P g.history
-kept_redone_step P f g [] done h = absurd cc
-kept_redone_step P f g (step ∷ steps) done h =
-    accepted_move P (nat_le greatest_version f.version) _ g done (kept_redone P f.history.undo f.history.redo f.history.is_open h.undo h.redo)
+kept_undo P f g done h =
+    let lists = kept_moved P undoing.steps redoing.steps (front_tag f.history.undo) f g (undoing_moves.moved f g done) h.undo h.redo in
+    record { undo = lists.0; redo = lists.1 }
 
 pub kept_redo : (P : Tag → Type 0) (f g : FlatState) → flat_redo f ≡ Ok (Some g) → AllTags P f.history → AllTags P g.history
-kept_redo P f g done h = kept_redone_step P f g f.history.redo done h
+kept_redo P f g done h =
+    let lists = kept_moved P redoing.steps undoing.steps (front_tag f.history.redo) f g (redoing_moves.moved f g done) h.redo h.undo in
+    record { undo = lists.1; redo = lists.0 }

@@ -5,3 +5,12 @@ pub mod Kept
 pub mod Alike
 pub mod Apart
 pub mod Together
+pub mod Times
+pub mod InOrder
+pub mod AllSteps
+pub mod Losing
+pub mod Changed
+pub mod Shared
+pub mod SharedGoing
+pub mod SharedJoint
+pub mod Last

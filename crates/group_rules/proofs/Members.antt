@@ -1,14 +1,16 @@
 -- Which documents are members of the tag of a joint edit: those that its batches are for.
-use Rattle.std.proofs.Common.{◌≡◌, ℕ, zero, suc, ◌+◌, ◌/◌, ◌^◌, ◌==◌, ◌||◌, ◌≢◌, arith, min, nat_le, Bool, true, false, if◌then◌else◌, List, [], ◌∷◌, Some, None, All, refl, sym, ap, subst, ◌∙◌, eqb-true, pow-suc, ⊎_elim}
-use Rattle.std.proofs.lemmas.Bool.{or_parts, eqb-false, cases_eq, true_from_ne_false}
+use Rattle.std.proofs.Common.{◌≡◌, ℕ, zero, suc, ◌+◌, ◌/◌, ◌^◌, ◌==◌, ◌||◌, ◌≢◌, ◌<◌, ◌≤◌, get_or, arith, min, nat_le, Bool, true, false, if◌then◌else◌, List, [], ◌∷◌, Some, None, All, refl, sym, ap, subst, ◌∙◌, eqb-true, pow-suc, ⊎_elim}
+use Rattle.std.proofs.lemmas.Bool.{or_parts, eqb-false, eq-eqb, cases_eq, true_from_ne_false}
+use Rattle.std.proofs.lemmas.List.Folds.{list_any_at}
 use Rattle.std.proofs.lemmas.List.Elements.{All-head, All-tail}
 use Rattle.std.proofs.lemmas.List.Sums.{sum_by-cons}
 use Rattle.std.proofs.lemmas.Nat.Bits.{bit_at_lowest, bit_at-suc, bit_at-zero}
 use Rattle.std.specs.Int.{bit_at}
 use Rattle.std.specs.List.{list_any}
 use Rattle.text_rules.specs.declared.Op.{Op}
+use Rattle.undo_rules.specs.Tags.{is_member}
 use Rattle.group_rules.specs.declared.TheConstants.{DOC_COUNT}
-use Rattle.group_rules.specs.Group.{FlatGroup, is_member}
+use Rattle.group_rules.specs.Group.{FlatGroup}
 use Rattle.group_rules.specs.Joint.{FlatBatch, docs_of, names_badly, members_of, least_of, tag_of, batch_for}
 
 -- ---- the bits of a sum of different powers of two
@@ -93,3 +95,18 @@ least_kept P (b ∷ batches) past h =
     lesser : (m n : ℕ) → P m → P n → P (min m n)
     lesser m n p q =
         ⊎_elim (λ (e : m ≡ min m n). subst P e p) (λ no. let e : n ≡ min m n = omega arith in subst P e q) (cases_eq m (min m n))
+
+-- no batch is for a lower one
+pub least_below : (batches : List FlatBatch) (n : ℕ) → is_named n batches ≡ true → least_of batches ≤ n
+least_below [] n named = absurd cc
+least_below (b ∷ batches) n named = by (b.doc == n) refl (λ more. least_below batches n more)
+  where
+    by : (t : Bool) → (b.doc == n) ≡ t → (is_named n batches ≡ true → least_of batches ≤ n) → min b.doc (least_of batches) ≤ n
+    by true e later = omega (arith, eqb-true b.doc n e)
+    by false e later = omega (arith, later (sym (ap (λ t. t || is_named n batches) e) ∙ named))
+
+-- a batch is for the least, if there is one
+pub least_named : (batches : List FlatBatch) → least_of batches < DOC_COUNT → is_named (least_of batches) batches ≡ true
+least_named batches below =
+    least_kept (λ n. n < DOC_COUNT → is_named n batches ≡ true) batches (λ past. absurd (omega (arith, past)))
+    (λ i d inside lower. list_any_at (λ m. m == get_or (docs_of batches) i d) (docs_of batches) i d inside (eq-eqb _ _ refl)) below

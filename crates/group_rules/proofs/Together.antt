@@ -13,18 +13,20 @@ use Rattle.batch_rules.specs.Refusals as refused
 use Rattle.batch_rules.specs.Batches.{checked_batch}
 use Rattle.undo_rules.specs.declared.Tag.{Tag}
 use Rattle.undo_rules.specs.Stack.{Step}
+use Rattle.undo_rules.specs.Tags.{is_member}
 use Rattle.document_rules.specs.Refusals.{FlatRefusal, unknown, range, overlap, limit}
-use Rattle.document_rules.specs.Document.{FlatChange, FlatState, empty_document, greatest_version, flat_open, flat_edit, flat_eol, edited_by, after_batch, flat_stop, undone_step, redone_step}
+use Rattle.document_rules.specs.Document.{FlatChange, FlatState, greatest_version, flat_open, flat_edit, flat_eol, edited_by, after_batch, flat_stop, flat_tag}
 use Rattle.search_rules.specs.Replacing.{flat_replace_all, edited_alone, closed_after}
 use Rattle.group_rules.specs.declared.TheConstants.{DOC_COUNT}
 use Rattle.group_rules.specs.Refusals.{plain}
-use Rattle.group_rules.specs.Group.{FlatGroup, doc_in, with_doc, each_from, is_member, lost_by_change, lost_by_open, without_tags, with_changed, changed_in, moved_in, group_open, group_edit, group_eol, group_replace_all}
+use Rattle.group_rules.specs.Group.{FlatGroup, doc_in, with_doc, each_from, lost_by_change, lost_by_open, without_tags, with_changed, changed_in, moved_in, group_open, group_edit, group_eol, group_replace_all}
 use Rattle.group_rules.specs.Joint.{FlatBatch, docs_of, names_badly, is_refused_for, some_refused, joint_refusal, tag_of, batch_for, lost_by_joint, tagged_after, joined_doc, joined, unless_refused, group_joint}
-use Rattle.group_rules.specs.Going.{Going, undoing, redoing, front_tag, is_front, is_last_version, some_last_from, other_next_from, unless_other, gone_or_same, all_gone, gone_in, go_by, group_go}
+use Rattle.group_rules.specs.Going.{Going, front_tag, is_front, is_last_version, some_last_from, other_next_from, unless_other, gone_or_same, all_gone, gone_in, go_by, group_go}
 use Rattle.group_rules.specs.Together.{Stay, AllGoOn, members_of_any, reached, named_by, reached_by_joint, gone_with}
 use Rattle.group_rules.proofs.Members.{batch_for_none, named_kept}
 use Rattle.group_rules.proofs.Places.{doc_in_past, each_past, doc_in-with_same, doc_in-with_other, doc_in-each, doc_in-each_left}
 use Rattle.group_rules.proofs.Apart.{without_tags_left}
+use Rattle.group_rules.proofs.Changed.{IsMoving, gone_moved}
 
 -- none of the items passes the test
 none_pass : {X : Type 0} (test : X → Bool) (xs : List X) → list_any test xs ≡ false → All (λ x. test x ≡ false) xs
@@ -74,7 +76,7 @@ replace_all_others_stay g h n sought text done =
 
 -- ---- a joint edit
 
-accepted_joint : (new h : FlatGroup) (why : Option FlatRefusal) → unless_refused new why ≡ Ok h → (why ≡ None) × (new ≡ h)
+pub accepted_joint : (new h : FlatGroup) (why : Option FlatRefusal) → unless_refused new why ≡ Ok h → (why ≡ None) × (new ≡ h)
 accepted_joint new h (Some why) done = absurd cc
 accepted_joint new h None done = (refl, cc)
 
@@ -97,13 +99,13 @@ record IsAccepted (r : Result FlatState FlatRefusal) : Type 0 where
   within : is_refused_for limit r ≡ false
 
 -- so are all batches, and the numbers are those of documents
-record AreAccepted (g : FlatGroup) (batches : List FlatBatch) : Type 0 where
-  named : names_badly (docs_of batches) ≡ false
+pub record AreAccepted (g : FlatGroup) (batches : List FlatBatch) : Type 0 where
+  pub named : names_badly (docs_of batches) ≡ false
   in_range : some_refused range g batches ≡ false
   apart : some_refused overlap g batches ≡ false
   within : some_refused limit g batches ≡ false
 
-accepted_batches : (g : FlatGroup) (batches : List FlatBatch) → joint_refusal g batches ≡ None → AreAccepted g batches
+pub accepted_batches : (g : FlatGroup) (batches : List FlatBatch) → joint_refusal g batches ≡ None → AreAccepted g batches
 accepted_batches g batches none =
     by (names_badly (docs_of batches)) (some_refused range g batches) (some_refused overlap g batches) (some_refused limit g batches)
     refl refl refl refl none
@@ -118,7 +120,7 @@ accepted_batches g batches none =
     by false false false true eb er eo el none = absurd cc
     by false false false false eb er eo el none = record { named = eb; in_range = er; apart = eo; within = el }
 
-all_numbered : (docs : List ℕ) → names_badly docs ≡ false → All (λ n. n < DOC_COUNT) docs
+pub all_numbered : (docs : List ℕ) → names_badly docs ≡ false → All (λ n. n < DOC_COUNT) docs
 all_numbered [] good = All-nil (λ n. n < DOC_COUNT)
 all_numbered (n ∷ docs) good =
     let parts = or_parts (nat_le DOC_COUNT n || list_any (λ m. m == n) docs) (names_badly docs) good in
@@ -138,27 +140,32 @@ named_batch_for P (b ∷ batches) n h named =
         (b.ops, refl, subst (λ k. P k b.ops) (eqb-true b.doc n e) (All-head (λ (b : FlatBatch). P b.doc b.ops) b batches h))
     by false e later = later (sym (ap (λ t. t || named_by batches n) e) ∙ named)
 
--- an accepted batch with ops makes the next version
-joined_next : (tag : Tag) (f : FlatState) (ops : List Op) → 0 < length ops → IsAccepted (flat_edit f ops)
-    → (tagged_after tag f (edited_alone f ops)).version ≡ f.version + 1
-joined_next tag f [] some accepted = absurd (omega arith)
-joined_next tag f (op ∷ ops) some accepted = by (checked_batch f.kind f.units (op ∷ ops)) accepted
+-- the document after a joint edit with a batch for it
+abbrev pub after_joint : Tag → FlatState → List Op → FlatState
+after_joint tag f checked = flat_tag (flat_stop (after_batch (flat_stop f) checked)) tag
+
+-- an accepted batch with ops is carried out
+joined_made : (tag : Tag) (f : FlatState) (ops : List Op) → 0 < length ops → IsAccepted (flat_edit f ops)
+    → (checked : List Op) × (tagged_after tag f (edited_alone f ops) ≡ after_joint tag f checked)
+joined_made tag f [] some accepted = absurd (omega arith)
+joined_made tag f (op ∷ ops) some accepted = by (checked_batch f.kind f.units (op ∷ ops)) accepted
   where
     in_time : (late : Bool) (checked : List Op) → IsAccepted (if late then Err limit else Ok (after_batch f checked))
-        → (tagged_after tag f (closed_after (if late then Err limit else Ok (after_batch (flat_stop f) checked)))).version ≡ f.version + 1
+        → tagged_after tag f (closed_after (if late then Err limit else Ok (after_batch (flat_stop f) checked))) ≡ after_joint tag f checked
     in_time true checked accepted = absurd (true≢false accepted.within)
     in_time false checked accepted = refl
 
     by : (r : Result (List Op) BatchRefusal) → IsAccepted (edited_by f r)
-        → (tagged_after tag f (closed_after (edited_by (flat_stop f) r))).version ≡ f.version + 1
+        → (checked : List Op) × (tagged_after tag f (closed_after (edited_by (flat_stop f) r)) ≡ after_joint tag f checked)
     by (Err refused.range) accepted = absurd (true≢false accepted.in_range)
     by (Err refused.overlap) accepted = absurd (true≢false accepted.apart)
     by (Err refused.limit) accepted = absurd (true≢false accepted.within)
-    by (Ok checked) accepted = in_time (nat_le greatest_version f.version) checked accepted
+    by (Ok checked) accepted = (checked, in_time (nat_le greatest_version f.version) checked accepted)
 
-joined_all_go_on : (g : FlatGroup) (batches : List FlatBatch) → length g ≡ DOC_COUNT → AreAccepted g batches
-    → All (λ (b : FlatBatch). 0 < length b.ops) batches → AllGoOn (named_by batches) g (joined g batches)
-joined_all_go_on g batches long accepted some k named =
+pub joined_named : (g : FlatGroup) (batches : List FlatBatch) (k : ℕ) → length g ≡ DOC_COUNT → AreAccepted g batches
+    → All (λ (b : FlatBatch). 0 < length b.ops) batches → named_by batches k ≡ true
+    → (checked : List Op) × (doc_in (joined g batches) k ≡ after_joint (tag_of g batches) (doc_in g k) checked)
+joined_named g batches k long accepted some named =
     let tag = tag_of g batches in
     let lost = lost_by_joint g batches in
     let f = doc_in g k in
@@ -173,8 +180,15 @@ joined_all_go_on g batches long accepted some k named =
         within = none_pass (refused limit) batches accepted.within i d inside;
       },
     )) named in
-    ap (λ (d : FlatState). d.version) (doc_in-each (λ n f. joined_doc tag lost n f (batch_for n batches)) g k (omega arith))
-    ∙ ap (λ b. (joined_doc tag lost k f b).version) found.1 ∙ joined_next tag f found.0 found.2.0 found.2.1
+    let made = joined_made tag f found.0 found.2.0 found.2.1 in (
+      made.0,
+      doc_in-each (λ n f. joined_doc tag lost n f (batch_for n batches)) g k (omega arith)
+          ∙ ap (λ b. joined_doc tag lost k f b) found.1 ∙ made.1,
+    )
+
+pub joined_all_go_on : (g : FlatGroup) (batches : List FlatBatch) → length g ≡ DOC_COUNT → AreAccepted g batches
+    → All (λ (b : FlatBatch). 0 < length b.ops) batches → AllGoOn (named_by batches) g (joined g batches)
+joined_all_go_on g batches long accepted some k named = ap (λ (f : FlatState). f.version) (joined_named g batches k long accepted some named).1
 
 pub joint_all_go_on : (g h : FlatGroup) (batches : List FlatBatch) → length g ≡ DOC_COUNT → group_joint g batches ≡ Ok h
     → All (λ (b : FlatBatch). 0 < length b.ops) batches → AllGoOn (named_by batches) g h
@@ -184,13 +198,13 @@ joint_all_go_on g h batches long done some =
 
 -- ---- undo and redo
 
-accepted_gone : (g h : FlatGroup) (n : ℕ) (r : Result (Option FlatState) FlatRefusal) → gone_in g n r ≡ Ok (Some h)
+pub accepted_gone : (g h : FlatGroup) (n : ℕ) (r : Result (Option FlatState) FlatRefusal) → gone_in g n r ≡ Ok (Some h)
     → (f : FlatState) × (r ≡ Ok (Some f)) × (with_doc g n f ≡ h)
 accepted_gone g h n (Err why) done = absurd cc
 accepted_gone g h n (Ok None) done = absurd cc
 accepted_gone g h n (Ok (Some f)) done = (f, refl, cc)
 
-accepted_together : (last : Bool) (other : Option ℕ) (new h : FlatGroup) → (if last then Err (plain limit) else unless_other other new) ≡ Ok (Some h)
+pub accepted_together : (last : Bool) (other : Option ℕ) (new h : FlatGroup) → (if last then Err (plain limit) else unless_other other new) ≡ Ok (Some h)
     → (last ≡ false) × (other ≡ None) × (new ≡ h)
 accepted_together true other new h done = absurd cc
 accepted_together false (Some k) new h done = absurd cc
@@ -213,57 +227,8 @@ pub go_others_stay : (going : Going) (g h : FlatGroup) (n : ℕ) → length g �
     → Stay (gone_with n (front_tag (going.steps (doc_in g n)))) g h
 go_others_stay going g h n long done = go_by_others_stay going g h n (front_tag (going.steps (doc_in g n))) long done
 
--- a way on which each step makes the next version
-pub record IsStepping (going : Going) : Type 0 where
-  pub next : (f new : FlatState) → going.rule f ≡ Ok (Some new) → new.version ≡ f.version + 1
-  -- only the last version keeps a document from the step that comes next
-  pub gone : (f : FlatState) (tag : Tag) → is_front tag (going.steps f) ≡ true → is_last_version f ≡ false
-      → (gone_or_same f (going.rule f)).version ≡ f.version + 1
-  pub none : going.rule empty_document ≡ Ok None
-
-version_made : (last : Bool) (made new : FlatState) → (if last then Err limit else Ok (Some made)) ≡ Ok (Some new)
-    → new.version ≡ made.version
-version_made true made new done = absurd cc
-version_made false made new done = let is : new ≡ made = cc in ap (λ (f : FlatState). f.version) is
-
-version_gone : (last : Bool) (f made : FlatState) → last ≡ false → (gone_or_same f (if last then Err limit else Ok (Some made))).version ≡ made.version
-version_gone true f made not_last = absurd cc
-version_gone false f made not_last = refl
-
-undone_next : (f new : FlatState) (steps : List (Step FlatChange)) → undone_step f steps ≡ Ok (Some new) → new.version ≡ f.version + 1
-undone_next f new [] done = absurd cc
-undone_next f new (step ∷ steps) done = version_made (is_last_version f) _ new done
-
-undone_gone : (f : FlatState) (tag : Tag) (steps : List (Step FlatChange)) → is_front tag steps ≡ true → is_last_version f ≡ false
-    → (gone_or_same f (undone_step f steps)).version ≡ f.version + 1
-undone_gone f tag [] front not_last = absurd cc
-undone_gone f tag (step ∷ steps) front not_last = version_gone (is_last_version f) f _ not_last
-
-pub undoing_steps : IsStepping undoing
-undoing_steps = record {
-  next = λ f new done. undone_next f new f.history.undo done;
-  gone = λ f tag front not_last. undone_gone f tag f.history.undo front not_last;
-  none = refl;
-}
-
-redone_next : (f new : FlatState) (steps : List (Step FlatChange)) → redone_step f steps ≡ Ok (Some new) → new.version ≡ f.version + 1
-redone_next f new [] done = absurd cc
-redone_next f new (step ∷ steps) done = version_made (is_last_version f) _ new done
-
-redone_gone : (f : FlatState) (tag : Tag) (steps : List (Step FlatChange)) → is_front tag steps ≡ true → is_last_version f ≡ false
-    → (gone_or_same f (redone_step f steps)).version ≡ f.version + 1
-redone_gone f tag [] front not_last = absurd cc
-redone_gone f tag (step ∷ steps) front not_last = version_gone (is_last_version f) f _ not_last
-
-pub redoing_steps : IsStepping redoing
-redoing_steps = record {
-  next = λ f new done. redone_next f new f.history.redo done;
-  gone = λ f tag front not_last. redone_gone f tag f.history.redo front not_last;
-  none = refl;
-}
-
 -- no member is in its last version
-members_in_time : (n k m : ℕ) (tag : Tag) (g : FlatGroup) → m ≡ n + k → k < length g → some_last_from n tag g ≡ false → is_member m tag ≡ true
+pub members_in_time : (n k m : ℕ) (tag : Tag) (g : FlatGroup) → m ≡ n + k → k < length g → some_last_from n tag g ≡ false → is_member m tag ≡ true
     → is_last_version (doc_in g k) ≡ false
 members_in_time n k m tag [] at inside none member = absurd (omega arith)
 members_in_time n zero m tag (f ∷ g) at inside none member =
@@ -279,7 +244,7 @@ none_here true n rest none = absurd cc
 none_here false n rest none = (refl, none)
 
 -- each member has the step of the tag next
-members_in_front : (going : Going) (n k m : ℕ) (tag : Tag) (g : FlatGroup) → m ≡ n + k → k < length g → other_next_from n going tag g ≡ None
+pub members_in_front : (going : Going) (n k m : ℕ) (tag : Tag) (g : FlatGroup) → m ≡ n + k → k < length g → other_next_from n going tag g ≡ None
     → is_member m tag ≡ true → is_front tag (going.steps (doc_in g k)) ≡ true
 members_in_front going n k m tag [] at inside none member = absurd (omega arith)
 members_in_front going n zero m tag (f ∷ g) at inside none member =
@@ -290,19 +255,19 @@ members_in_front going n (suc k) m tag (f ∷ g) at inside none member =
     let parts = none_here (is_member n tag && not (is_front tag (going.steps f))) n (other_next_from (suc n) going tag g) none in
     members_in_front going (suc n) k m tag g (omega arith) (omega arith) parts.1 member
 
-go_by_all_go_on : (going : Going) (g h : FlatGroup) (n : ℕ) (tag : Option Tag) → IsStepping going → length g ≡ DOC_COUNT
-    → go_by going g n tag ≡ Ok (Some h) → AllGoOn (gone_with n tag) g h
-go_by_all_go_on going g h n None steps long done =
+go_by_all_go_on : (going : Going) (to : FlatState → List (Step FlatChange)) (g h : FlatGroup) (n : ℕ) (tag : Option Tag)
+    → IsMoving going to → length g ≡ DOC_COUNT → go_by going g n tag ≡ Ok (Some h) → AllGoOn (gone_with n tag) g h
+go_by_all_go_on going to g h n None moves long done =
     let accepted = accepted_gone g h n (going.rule (doc_in g n)) done in
     let f = accepted.0 in
     let inside : n < length g =
     ⊎_elim (λ inside. inside)
-    (λ past. let none = ap going.rule (doc_in_past g n past) ∙ steps.none in let rule = accepted.1 in absurd cc)
+    (λ past. let none = ap going.rule (doc_in_past g n past) ∙ moves.none in let rule = accepted.1 in absurd cc)
     (cases_lt n (length g)) in
-    let new = ap (λ (d : FlatState). d.version) (doc_in-with_same g n f inside) ∙ steps.next (doc_in g n) f accepted.1 in
+    let new = ap (λ (d : FlatState). d.version) (doc_in-with_same g n f inside) ∙ (moves.moved (doc_in g n) f accepted.1).version in
     subst (AllGoOn (gone_with n None) g) accepted.2
     (λ k on. subst (λ i. (doc_in (with_doc g n f) i).version ≡ (doc_in g i).version + 1) (sym (eqb-true k n on)) new)
-go_by_all_go_on going g h n (Some tag) steps long done =
+go_by_all_go_on going to g h n (Some tag) moves long done =
     let accepted = accepted_together (some_last_from 0 tag g) (other_next_from 0 going tag g) (all_gone going g tag) h done in
     let change = λ (k : ℕ) (f : FlatState). if is_member k tag then gone_or_same f (going.rule f) else f in
     subst (AllGoOn (gone_with n (Some tag)) g) accepted.2 (λ k on.
@@ -312,9 +277,9 @@ go_by_all_go_on going g h n (Some tag) steps long done =
     let f = doc_in g k in
     ap (λ (d : FlatState). d.version) (doc_in-each change g k inside)
     ∙ ap (λ t. (if t then gone_or_same f (going.rule f) else f).version) parts.1
-    ∙ steps.gone f tag (members_in_front going 0 k k tag g (omega arith) inside accepted.1 parts.1)
-    (members_in_time 0 k k tag g (omega arith) inside accepted.0 parts.1))
+    ∙ (gone_moved going to f tag moves (members_in_front going 0 k k tag g (omega arith) inside accepted.1 parts.1)
+    (members_in_time 0 k k tag g (omega arith) inside accepted.0 parts.1)).version)
 
-pub go_all_go_on : (going : Going) (g h : FlatGroup) (n : ℕ) → IsStepping going → length g ≡ DOC_COUNT → group_go going g n ≡ Ok (Some h)
-    → AllGoOn (gone_with n (front_tag (going.steps (doc_in g n)))) g h
-go_all_go_on going g h n steps long done = go_by_all_go_on going g h n (front_tag (going.steps (doc_in g n))) steps long done
+pub go_all_go_on : (going : Going) (to : FlatState → List (Step FlatChange)) (g h : FlatGroup) (n : ℕ) → IsMoving going to → length g ≡ DOC_COUNT
+    → group_go going g n ≡ Ok (Some h) → AllGoOn (gone_with n (front_tag (going.steps (doc_in g n)))) g h
+go_all_go_on going to g h n moves long done = go_by_all_go_on going to g h n (front_tag (going.steps (doc_in g n))) moves long done

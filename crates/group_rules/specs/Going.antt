@@ -2,11 +2,11 @@
 use Rattle.std.specs.Prelude.{ℕ, suc, Bool, false, ◌&&◌, ◌||◌, not, nat_le, if◌then◌else◌, List, [], ◌∷◌, Option, Some, None, Result, Ok, Err}
 use Rattle.undo_rules.specs.declared.Tag.{Tag}
 use Rattle.undo_rules.specs.Stack.{Step}
-use Rattle.undo_rules.specs.Tags.{has_tag}
+use Rattle.undo_rules.specs.Tags.{has_tag, is_member}
 use Rattle.document_rules.specs.Refusals.{FlatRefusal, limit}
 use Rattle.document_rules.specs.Document.{FlatChange, FlatState, greatest_version, flat_undo, flat_redo}
 use Rattle.group_rules.specs.Refusals.{GroupRefusal, plain, joint}
-use Rattle.group_rules.specs.Group.{FlatGroup, doc_in, with_doc, each_from, is_member}
+use Rattle.group_rules.specs.Group.{FlatGroup, doc_in, with_doc, each_from}
 
 -- a way on which steps are gone
 pub record Going : Type 0 where

@@ -1,9 +1,8 @@
 -- The flat group: a flat document for each number, and what a change of one of them means to the others.
-use Rattle.std.specs.Prelude.{ℕ, suc, Bool, ◌==◌, if◌then◌else◌, List, [], ◌∷◌, ◌++◌, replicate, slice_get, slice_set, unwrap_or, Option, Some, None, option_to_list, Result, Ok, Err}
-use Rattle.std.specs.Int.{bit_at}
+use Rattle.std.specs.Prelude.{ℕ, suc, if◌then◌else◌, List, [], ◌∷◌, ◌++◌, replicate, slice_get, slice_set, unwrap_or, Option, Some, None, option_to_list, Result, Ok, Err}
 use Rattle.undo_rules.specs.declared.Tag.{Tag}
 use Rattle.undo_rules.specs.Stack.{Step}
-use Rattle.undo_rules.specs.Tags.{all_steps}
+use Rattle.undo_rules.specs.Tags.{is_member, all_steps}
 use Rattle.unit_text.specs.declared.kind.Kind.{Kind}
 use Rattle.text_rules.specs.declared.Op.{Op}
 use Rattle.hiding_rules.specs.Hidden.{Scanner}
@@ -33,10 +32,6 @@ each_from n change [] = []
 each_from n change (f ∷ g) = change n f ∷ each_from (suc n) change g
 
 -- ---- tags that are lost
-
--- whether the tag is of the document of this number
-abbrev pub is_member : ℕ → Tag → Bool
-is_member n tag = bit_at tag.members n == 1
 
 -- the tags of these steps
 abbrev pub tags_of : List (Step FlatChange) → List Tag

@@ -4,4 +4,5 @@ pub mod Joint
 pub mod Going
 pub mod Outcomes
 pub mod Together
+pub mod Shared
 mod Examples

@@ -2,8 +2,9 @@
 use Rattle.std.specs.Prelude.{◌≡◌, ℕ, ◌+◌, ◌==◌, ◌&&◌, ◌||◌, nat_lt, Bool, true, false, List, Option, Some, None}
 use Rattle.std.specs.List.{list_any}
 use Rattle.undo_rules.specs.declared.Tag.{Tag}
+use Rattle.undo_rules.specs.Tags.{is_member}
 use Rattle.group_rules.specs.declared.TheConstants.{DOC_COUNT}
-use Rattle.group_rules.specs.Group.{FlatGroup, doc_in, is_member}
+use Rattle.group_rules.specs.Group.{FlatGroup, doc_in}
 use Rattle.group_rules.specs.Joint.{FlatBatch, docs_of, lost_by_joint}
 
 -- every document that is not among these is as it was

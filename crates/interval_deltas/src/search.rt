@@ -1,5 +1,4 @@
 //! Searches in the tree, which nobody counts.
-ghost use Rattle.steps.specs.Counting.{IsFor};
 ghost use Rattle.rb_arena.specs.Searching.{Found};
 ghost use Rattle.rb_arena.specs.RbTree.{AtItem, IsItem};
 ghost use Rattle.decoration_rules.specs.Marks.{IsInOrder};
@@ -10,14 +9,12 @@ use crate::ends::Greatest;
 use crate::weave::{KeptMark, Marks, Place, Sought, placed};
 use raw_arena::NodeId;
 use rb_arena::RbTree;
-use std::marker::Brand;
-use std::sync::ledger::{Blank, Ledger};
 use steps::Steps;
 
 fn search(tree: &RbTree<Marks>, sought: Sought) -> Option<(NodeId, KeptMark, Greatest)>
     ensures { Found marks mark_turn sought tree.now.items result }
 {
-    search_for::<Brand>(tree, sought, Blank::new(1))
+    tree.descend(sought, &mut Steps::new())
 }
 
 /// The same among the decorations after that one.
@@ -29,33 +26,7 @@ fn search_after(
     requires { IsItem tree.now.items id }
     ensures { AtItem tree.now.items id (λ us x vs. Found marks mark_turn sought vs result) }
 {
-    search_after_for::<Brand>(tree, id, sought, Blank::new(1))
-}
-
-fn search_for<L: Ledger>(
-    tree: &RbTree<Marks>,
-    sought: Sought,
-    blank: Blank,
-) -> Option<(NodeId, KeptMark, Greatest)>
-    requires blank { IsFor L.Ledger blank }
-    ensures { Found marks mark_turn sought tree.now.items result }
-{
-    let mut steps = Steps::<L>::new(blank);
-    tree.descend(sought, &mut steps)
-}
-
-fn search_after_for<L: Ledger>(
-    tree: &RbTree<Marks>,
-    id: NodeId,
-    sought: Sought,
-    blank: Blank,
-) -> Option<(NodeId, KeptMark, Greatest)>
-    requires blank { IsFor L.Ledger blank }
-    requires named { IsItem tree.now.items id }
-    ensures { AtItem tree.now.items id (λ us x vs. Found marks mark_turn sought vs result) }
-{
-    let mut steps = Steps::<L>::new(blank);
-    tree.descend_after(id, sought, &mut steps)
+    tree.descend_after(id, sought, &mut Steps::new())
 }
 
 /// The last decoration that stands before a place.

@@ -5,11 +5,11 @@ use Rattle.std.proofs.lemmas.Bool.{cases_lt, eq-eqb, ne_eqb}
 use Rattle.std.proofs.lemmas.List.{append_assoc, append-nil, length-append, replicate_more, get_or_at, get_or_append_left, take_at, drop_at, drop_all, nil_from_length}
 use Rattle.mark_rules.specs.declared.Mark.{Mark}
 use Rattle.mark_rules.specs.declared.Mark.TheVariants.{Kept, New}
-use Rattle.mark_rules.specs.Marks.{kept_marks, mark_at, kept_run, has_new, SpansNew}
+use Rattle.mark_rules.specs.Marks.{kept_marks, mark_at, kept_run, new_run, has_new, SpansNew}
 use Rattle.mark_rules.proofs.MarkLaws.{length-kept_marks, kept_run-kept_marks, has_new-append, has_new-kept_marks}
 use Rattle.line_hunks.specs.declared.run.Run.{Run}
 use Rattle.line_hunks.specs.declared.run.Place.{Place}
-use Rattle.line_hunks.specs.Run.{is_new, later_mark, marks_from, run_marks, lines_in, kept_of, kept_lines}
+use Rattle.line_hunks.specs.Run.{is_new, later_mark, marks_from, run_marks, lines_in, kept_of, kept_lines, new_of}
 use Rattle.line_hunks.specs.Runs.{marks_up, marks_down, marks_around, StandsBy, Stands}
 use Rattle.line_hunks.specs.Places.{EndsNew, IsPlace}
 use Rattle.line_hunks.proofs.RunMarks.{length-marks_from, length-marks_up, marks_from-split}
@@ -37,6 +37,17 @@ apart-down : (mark : Mark) (runs : List Run) → StandsBy mark runs → is_new m
 apart-down mark [] stands kept = refl
 apart-down mark (run ∷ runs) stands kept =
     kept_run-new run.first run.lines (marks_down runs) (not-mark (is_new run.first) (is_new mark) stands.0 kept) stands.1
+
+-- Behind a new run no line is new.
+
+new_run-kept : (mark : Mark) (lines : ℕ) (marks : List Mark) → is_new mark ≡ false → 0 < lines → new_run (marks_from mark lines ++ marks) ≡ 0
+new_run-kept mark zero marks is some = absurd (omega arith)
+new_run-kept New (suc lines) marks is some = (cc)
+new_run-kept (Kept number) (suc lines) marks is some = refl
+
+ends-down : (mark : Mark) (runs : List Run) → StandsBy mark runs → is_new mark ≡ true → new_run (marks_down runs) ≡ 0
+ends-down mark [] stands new = refl
+ends-down mark (run ∷ runs) stands new = new_run-kept run.first run.lines (marks_down runs) (stands.0 ∙ ap not new) stands.1
 
 -- Before a kept run the last line is new.
 
@@ -68,6 +79,7 @@ gap-place front gap back n before stands line within = record {
   range = stands.range;
   under = under-up gap.first front stands.before;
   apart = apart-down gap.first back stands.behind;
+  ends = ends-down gap.first back stands.behind;
 }
 
 -- What a place tells.
@@ -82,6 +94,15 @@ kept_of-run : (mark : Mark) (before lines : ℕ) (behind : List Mark) → 0 < li
     → kept_of (later_mark mark before) lines ≡ kept_run (marks_from (later_mark mark before) lines ++ behind)
 kept_of-run New before lines behind some apart = sym (kept_run-new New lines behind refl some)
 kept_of-run (Kept number) before lines behind some apart = sym (kept_run-kept_marks (number + before) lines behind some (apart refl))
+
+new_run-replicate : (lines : ℕ) (behind : List Mark) → new_run behind ≡ 0 → new_run (replicate lines New ++ behind) ≡ lines
+new_run-replicate zero behind ends = ends
+new_run-replicate (suc lines) behind ends = ap suc (new_run-replicate lines behind ends)
+
+new_of-run : (mark : Mark) (before lines : ℕ) (behind : List Mark) → 0 < lines → (is_new mark ≡ true → new_run behind ≡ 0)
+    → new_of (later_mark mark before) lines ≡ new_run (marks_from (later_mark mark before) lines ++ behind)
+new_of-run New before lines behind some ends = sym (new_run-replicate lines behind (ends refl))
+new_of-run (Kept number) before lines behind some ends = sym (new_run-kept (Kept (number + before)) lines behind refl some)
 
 module _ (marks : List Mark) (n : ℕ) (place : Place) (is : IsPlace marks n place) where
   -- the lines before line n, and those from it on
@@ -115,6 +136,10 @@ module _ (marks : List Mark) (n : ℕ) (place : Place) (is : IsPlace marks n pla
   pub kept-here : kept_of (later_mark place.run.first place.before) (place.run.lines - place.before) ≡ kept_run (drop (n - 1) marks)
   kept-here =
       kept_of-run place.run.first place.before (place.run.lines - place.before) is.upper (omega (arith, is.within)) is.apart ∙ ap kept_run (sym rest-here)
+
+  pub new-here : new_of (later_mark place.run.first place.before) (place.run.lines - place.before) ≡ new_run (drop (n - 1) marks)
+  new-here =
+      new_of-run place.run.first place.before (place.run.lines - place.before) is.upper (omega (arith, is.within)) is.ends ∙ ap new_run (sym rest-here)
 
 -- A text in which no line is new.
 

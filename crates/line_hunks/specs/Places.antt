@@ -1,8 +1,8 @@
 -- Where a line stands among the marks.
-use Rattle.std.specs.Prelude.{ℕ, ◌≡◌, ◌+◌, ◌<◌, false, List, ◌++◌, length}
+use Rattle.std.specs.Prelude.{ℕ, ◌≡◌, ◌+◌, ◌<◌, true, false, List, ◌++◌, length}
 use Rattle.mark_rules.specs.declared.Mark.{Mark}
 use Rattle.mark_rules.specs.declared.Mark.TheVariants.{New}
-use Rattle.mark_rules.specs.Marks.{mark_at, kept_run}
+use Rattle.mark_rules.specs.Marks.{mark_at, kept_run, new_run}
 use Rattle.line_hunks.specs.declared.run.Place.{Place}
 use Rattle.line_hunks.specs.Run.{is_new, run_marks, IsInRange}
 
@@ -10,7 +10,7 @@ use Rattle.line_hunks.specs.Run.{is_new, run_marks, IsInRange}
 abbrev pub EndsNew : List Mark → Type 0
 EndsNew marks = mark_at (length marks) marks ≡ New
 
--- line n stands here; beside a kept run no line goes on
+-- line n stands here; no line beside the run belongs to it
 pub record IsPlace (marks : List Mark) (n : ℕ) (place : Place) : Type 0 where
   pub lower : List Mark
   pub upper : List Mark
@@ -20,3 +20,4 @@ pub record IsPlace (marks : List Mark) (n : ℕ) (place : Place) : Type 0 where
   pub range : IsInRange place.run
   pub under : is_new place.run.first ≡ false → EndsNew lower
   pub apart : is_new place.run.first ≡ false → kept_run upper ≡ 0
+  pub ends : is_new place.run.first ≡ true → new_run upper ≡ 0

@@ -44,6 +44,11 @@ kept_of (Kept number) lines = lines
 abbrev pub kept_lines : Run → ℕ
 kept_lines run = kept_of run.first run.lines
 
+-- how many of them are new
+abbrev pub new_of : Mark → ℕ → ℕ
+new_of New lines = lines
+new_of (Kept number) lines = 0
+
 -- the number behind the last one
 abbrev pub numbers_end : Mark → ℕ → ℕ
 numbers_end New lines = lines

@@ -1,7 +1,6 @@
 //! A search in the tree, which nobody counts.
 
 ghost use Rattle.std.specs.Prelude.{◌≡◌, ◌<◌};
-ghost use Rattle.steps.specs.Counting.{IsFor};
 ghost use Rattle.line_hunks.specs.Run.{lines_in};
 ghost use Rattle.line_hunks.specs.Sides.{runs_of, FindsLine};
 
@@ -9,8 +8,6 @@ use crate::run::Place;
 use crate::weave::RunWeave;
 use raw_arena::NodeId;
 use rb_arena::RbTree;
-use std::marker::Brand;
-use std::sync::ledger::{Blank, Ledger};
 use steps::Steps;
 
 /// Where the line behind so many stands, and the name of its run.
@@ -18,16 +15,7 @@ pub(crate) fn find(tree: &RbTree<RunWeave>, lines: u64) -> (NodeId, Place)
     requires { lines < lines_in (runs_of tree.now.items) }
     ensures { FindsLine tree.now.items lines result.0 result.1 }
 {
-    find_for::<Brand>(tree, lines, Blank::new(1))
-}
-
-fn find_for<L: Ledger>(tree: &RbTree<RunWeave>, lines: u64, blank: Blank) -> (NodeId, Place)
-    requires blank { IsFor L.Ledger blank }
-    requires within { lines < lines_in (runs_of tree.now.items) }
-    ensures { FindsLine tree.now.items lines result.0 result.1 }
-{
-    let mut steps = Steps::<L>::new(blank);
-    let Some(found) = tree.descend(lines, &mut steps) else {
+    let Some(found) = tree.descend(lines, &mut Steps::new()) else {
         unreachable!();
     };
     let place = Place {

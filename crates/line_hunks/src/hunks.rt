@@ -2,7 +2,7 @@
 
 ghost use Rattle.std.specs.Prelude.{◌≡◌, ◌+◌, ◌-◌, ◌^◌, ◌<◌, ◌≤◌, [], ◌∷◌, ◌++◌, drop, length, replicate, false, not, OnOk, OnErr, IfSome, IfNone};
 ghost use Rattle.mark_rules.specs.declared.Mark.TheVariants.{New};
-ghost use Rattle.mark_rules.specs.Marks.{clean_marks, edited_marks, kept_marks, mark_at, kept_run, has_new, SpansNew, Rises};
+ghost use Rattle.mark_rules.specs.Marks.{clean_marks, edited_marks, kept_marks, mark_at, kept_run, new_run, has_new, SpansNew, Rises};
 ghost use Rattle.line_hunks.specs.Numbers.{AreNumbers};
 
 use crate::runs::Runs;
@@ -171,6 +171,16 @@ impl Hunks {
         ensures { result ≡ kept_run (drop (n - 1) self.now.marks) }
     {
         self.at(n).1
+    }
+
+    /// How many lines from line `n` on are new, one after another; 0 where line `n` is kept. One look-up.
+    pub fn new_from(&self, n: u64) -> u64
+        requires some { 1 ≤ n }
+        requires within { n ≤ length self.now.marks }
+        ensures { result ≡ new_run (drop (n - 1) self.now.marks) }
+    {
+        let place = self.runs.place(n);
+        place.run.split(place.before).1.fresh()
     }
 
     /// The first and the last new line, None where no line is new. Takes no memory.

@@ -2,7 +2,7 @@
 
 ghost use Rattle.std.specs.Prelude.{◌≡◌, ◌-◌, ◌<◌, ◌≤◌};
 ghost use Rattle.mark_rules.specs.declared.Mark.TheVariants.{New};
-ghost use Rattle.line_hunks.specs.Run.{later_mark, head_of, tail_of, kept_lines, IsInRange};
+ghost use Rattle.line_hunks.specs.Run.{later_mark, head_of, tail_of, kept_lines, new_of, IsInRange};
 
 use mark_rules::Mark;
 
@@ -41,6 +41,16 @@ impl Run {
         match self.first {
             Mark::Kept(_) => self.lines,
             Mark::New => 0,
+        }
+    }
+
+    /// How many of the lines are new: all or none.
+    pub(crate) fn fresh(self) -> u64
+        ensures { result ≡ new_of self.first self.lines }
+    {
+        match self.first {
+            Mark::Kept(_) => 0,
+            Mark::New => self.lines,
         }
     }
 

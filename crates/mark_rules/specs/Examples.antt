@@ -3,7 +3,7 @@ use Rattle.std.specs.Prelude.{◌≡◌, true, false, List, [], ◌∷◌, drop,
 use Rattle.std.proofs.Common.{arith}
 use Rattle.mark_rules.specs.declared.Mark.{Mark}
 use Rattle.mark_rules.specs.declared.Mark.TheVariants.{Kept, New}
-use Rattle.mark_rules.specs.Marks.{clean_marks, edited_marks, mark_at, kept_run, has_new, SpansNew}
+use Rattle.mark_rules.specs.Marks.{clean_marks, edited_marks, mark_at, kept_run, new_run, has_new, SpansNew}
 
 five_lines_are_kept : clean_marks 5 ≡ Kept 1 ∷ Kept 2 ∷ Kept 3 ∷ Kept 4 ∷ Kept 5 ∷ []
 five_lines_are_kept = refl
@@ -33,6 +33,9 @@ two_lines_are_kept_behind_the_edit = refl
 -- line 2 is gone, so line 3 does not go on from line 1
 a_gap_in_the_numbers_ends_a_run : kept_run (Kept 1 ∷ Kept 3 ∷ []) ≡ 1
 a_gap_in_the_numbers_ends_a_run = refl
+
+two_lines_are_new_from_line_three_on : new_run (drop 2 (edited_marks 3 1 2 two_became_one)) ≡ 2
+two_lines_are_new_from_line_three_on = refl
 
 an_edit_leaves_a_new_line : has_new two_became_one ≡ true
 an_edit_leaves_a_new_line = refl

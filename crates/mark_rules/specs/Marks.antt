@@ -32,6 +32,12 @@ kept_run [] = 0
 kept_run (New ∷ marks) = 0
 kept_run (Kept i ∷ marks) = suc (numbered (suc i) marks)
 
+-- how many lines from the front on are new
+abbrev pub new_run : List Mark → ℕ
+new_run [] = 0
+new_run (New ∷ marks) = suc (new_run marks)
+new_run (Kept i ∷ marks) = 0
+
 abbrev pub has_new : List Mark → Bool
 has_new [] = false
 has_new (New ∷ marks) = true

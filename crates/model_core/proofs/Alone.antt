@@ -1,13 +1,13 @@
 -- A prepared change that is carried out as a step of undo of its own, between two closings of the open step.
-use Rattle.std.proofs.Common.{◌≡◌, List, refl, ap, sym, subst, ◌∙◌, arith}
+use Rattle.std.proofs.Common.{◌≡◌, List, refl, ap, subst, ◌∙◌}
 use Rattle.mark_rules.specs.declared.Mark.{Mark}
 use Rattle.document_rules.specs.Document.{FlatState, flat_stop}
 use Rattle.model_page.specs.declared.change.Way.TheVariants.{Back, On}
-use Rattle.model_page.specs.Staying.{KeptBy}
 use Rattle.model_core.specs.declared.ready.Action.{Action}
 use Rattle.model_core.specs.declared.ready.Action.TheVariants.{Make, Move}
 use Rattle.model_core.specs.Prepared.{Prepared, CanCommit, Acts, ActsAlone, HasActed, Need, need_of, marks_after, marking_count}
 use Rattle.model_core.specs.State.{ModelState, KeepsParse}
+use Rattle.model_core.proofs.Leaving.{leaves_from, leaves_until, leaves_as}
 use Rattle.model_core.proofs.Preparing.{IsSameText, can_still_commit}
 
 -- ---- it may be carried out once the step is closed
@@ -43,16 +43,10 @@ module _ (old closed made new : ModelState) (action : Action) (first : closed.do
 
   pub left_alone : HasActed action old new
   left_alone =
-      let marking : marking_count action closed.document ≡ marking_count action old.document = ap (marking_count action) first ∙ same_marking action old.document in
-      let need : need_of action closed.document ≡ need_of action old.document = ap (need_of action) first ∙ same_need action old.document in
-      let edits = ap (λ (n : Need). n.text.edits) need in
-      record {
-        parsed = left.parsed ∙ acted.parsed ∙ kept.parsed;
-        tree = left.tree ∙ acted.tree ∙ kept.tree;
-        states = left.states ∙ acted.states ∙ kept.states;
-        marks = left.marks ∙ acted.marks ∙ ap (λ f. marks_after action f closed.marks) first ∙ same_marks action old.document closed.marks
-            ∙ ap (marks_after action old.document) kept.marks;
-        fresh = subst (KeptBy (marking_count action old.document) old.fresh) (sym left.fresh)
-            (subst (λ b. KeptBy (marking_count action old.document) b made.fresh) kept.fresh (subst (λ n. KeptBy n closed.fresh made.fresh) marking acted.fresh));
-        pieces = omega (arith, acted.pieces, kept.pieces, left.pieces, edits);
-      }
+      let f : FlatState = old.document in
+      let edits = ap (λ (n : Need). n.text.edits) (ap (need_of action) first ∙ same_need action f) in
+      let marking = ap (marking_count action) first ∙ same_marking action f in
+      let marks = ap (λ f. marks_after action f closed.marks) first ∙ same_marks action f closed.marks ∙ ap (marks_after action f) kept.marks in
+      leaves_until _ _ _ old made new
+      (leaves_from _ _ _ old closed made kept (leaves_as _ (need_of action f).text.edits _ (marking_count action f) _ (marks_after action f old.marks) closed made edits marking marks acted))
+      left

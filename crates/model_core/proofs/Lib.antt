@@ -1,6 +1,8 @@
+pub mod Leaving
 pub mod LineLemmas
 pub mod Histories
 pub mod Tags
+pub mod LastTags
 pub mod LastChanges
 pub mod Taking
 pub mod Editing

@@ -22,22 +22,21 @@ use Rattle.document_rules.specs.Refusals.{FlatRefusal}
 use Rattle.document_rules.specs.Document.{FlatText, FlatChange, FlatState, text_now, greatest_version, after_batch, edited_by, flat_edit, is_same_kind, flat_eol}
 use Rattle.document_rules.specs.Paired.{IsPairedState}
 use Rattle.document_rules.proofs.PairedStates.{IsPairedState-edit, IsPairedState-eol}
-use Rattle.text_batches.specs.Growth.{GrownBy}
 use Rattle.text_batches.specs.Needs.{need_of_ops}
 use Rattle.model_page.specs.declared.change.Way.{Way}
 use Rattle.model_page.specs.declared.change.Way.TheVariants.{Back, On}
 use Rattle.model_core.specs.declared.ready.Action.{Action}
 use Rattle.model_core.specs.declared.ready.Action.TheVariants.{Make, Move}
-use Rattle.model_core.specs.State.{ModelState, KeepsRoom, KeepsParse}
-use Rattle.model_page.specs.Staying.{KeptBy}
+use Rattle.model_core.specs.State.{ModelState, KeepsRoom, KeepsParse, Leaves}
 use Rattle.model_core.specs.Ways.{next_steps}
 use Rattle.text_buffer.specs.Room as text_room
 use Rattle.text_buffer.specs.declared.room.Need as text_need
 use Rattle.model_page.specs.Changes.{ops_by}
 use Rattle.model_page.specs.LineMarks.{marked_backwards}
-use Rattle.model_core.specs.Edited.{ops_as_done}
+use Rattle.model_core.specs.Edited.{ops_as_done, marks_edited, HasEdited, HasRecast}
 use Rattle.model_core.specs.Prepared.{Prepared, IsEnough, need_of, next_op_count, next_unit_count, next_break_count, IsRecastOf, IsChangeOf, CanAct, CanCommit, Acts, HasActed, ArePairedTexts, batch_of, recast_of, IsEditReady, IsEolReady, IsMoveReady}
 use Rattle.model_core.proofs.Editing.{edited_paired}
+use Rattle.model_core.proofs.Leaving.{leaves_from, leaves_as}
 use Rattle.model_core.proofs.Stepping.{IsPairedState-by}
 use Rattle.model_page.specs.declared.change.Change.TheVariants.{Ops, Endings}
 
@@ -146,16 +145,19 @@ IsPairedState-acted (Move way) old new done texts paired = IsPairedState-by way 
 pub record IsEdited (ops : List Op) (old new : ModelState) : Type 0 where
   pub document : flat_edit old.document ops ≡ Ok new.document
   pub paired : IsPaired old.document.units → All HasPairedText ops → IsPaired new.document.units
-  pub marks : new.marks ≡ marked_backwards old.document.units (ops_as_done old.document ops) old.marks
-  pub fresh : KeptBy (length ops) old.fresh new.fresh
-  pub pieces : GrownBy (length ops) old.pieces new.pieces
+  pub parse : HasEdited ops (Ok tt) old new
 
 -- by other line endings that are set where they were prepared
 pub record IsRecast (kind : Kind) (old new : ModelState) : Type 0 where
   pub document : flat_eol old.document kind ≡ Ok (Some new.document)
-  pub marks : new.marks ≡ old.marks
-  pub fresh : new.fresh ≡ old.fresh
-  pub pieces : GrownBy 1 old.pieces new.pieces
+  pub parse : HasRecast (Ok true) old new
+
+-- the ops of a batch as they were prepared
+pub edits_leave : (ops : List Op) (mid new : ModelState) → HasActed (batch_of mid.document (ops_as_done mid.document ops)) mid new
+    → Leaves (length ops) (length ops) (marks_edited mid ops) mid new
+edits_leave ops mid new left =
+    let count = length-as_done mid.document ops in
+    leaves_as _ (length ops) _ (length ops) _ (marks_edited mid ops) mid new count count refl left
 
 module _ (old mid new : ModelState) (ready : Prepared) (same : mid.document ≡ old.document) (kept : KeepsParse old mid)
     (done : Acts ready.action mid.document new.document) (acted : HasActed ready.action mid new) where
@@ -171,14 +173,15 @@ module _ (old mid new : ModelState) (ready : Prepared) (same : mid.document ≡ 
       let whole : new.document ≡ after_batch f sorted =
       one_document (flat_edit f sorted) new.document (after_batch f sorted) made (again ∙ is.accepted) in
       let units : new.document.units ≡ applied_from 0 f.units sorted = ap (λ (g : FlatState). g.units) whole in
+      let marks : marks_edited mid ops ≡ marks_edited old ops =
+      ap (λ (g : FlatState). marked_backwards g.units (ops_as_done g ops) mid.marks) same
+      ∙ ap (marked_backwards old.document.units (ops_as_done old.document ops)) kept.marks in
       record {
         document = ap (λ g. flat_edit g ops) (sym same) ∙ sym again ∙ made;
         paired = λ paired texts.
             subst IsPaired (sym units) (edited_paired (text_now f) ops sorted rule (subst (λ (g : FlatState). IsPaired g.units) (sym same) paired) texts);
-        marks = left.marks ∙ ap (λ (g : FlatState). marked_backwards g.units (ops_as_done g ops) mid.marks) same
-            ∙ ap (marked_backwards old.document.units (ops_as_done old.document ops)) kept.marks;
-        fresh = subst (λ b. KeptBy (length ops) b new.fresh) kept.fresh (subst (λ n. KeptBy n mid.fresh new.fresh) (length-as_done f ops) left.fresh);
-        pieces = omega (arith, left.pieces, kept.pieces, length-as_done f ops);
+        parse = leaves_from (length ops) (length ops) (marks_edited old ops) old mid new kept
+            (subst (λ m. Leaves (length ops) (length ops) m mid new) marks (edits_leave ops mid new left));
       }
 
   pub recast_as_prepared : (kind : Kind) → IsEolReady kind mid ready → IsRecast kind old new
@@ -188,9 +191,7 @@ module _ (old mid new : ModelState) (ready : Prepared) (same : mid.document ≡ 
       let left : HasActed action mid new = subst (λ a. HasActed a mid new) is.action acted in
       record {
         document = ap (λ g. flat_eol g kind) (sym same) ∙ made;
-        marks = left.marks ∙ kept.marks;
-        fresh = left.fresh ∙ kept.fresh;
-        pieces = omega (arith, left.pieces, kept.pieces);
+        parse = leaves_from 1 0 old.marks old mid new kept (subst (λ m. Leaves 1 0 m mid new) kept.marks left);
       }
 
 -- ---- calls between, which leave the text, the version, the steps and the room

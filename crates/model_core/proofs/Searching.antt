@@ -10,12 +10,12 @@ use Rattle.document_rules.specs.Document.{FlatState, after_batch, flat_edit, fla
 use Rattle.search_rules.specs.Replacing.{flat_replace_all}
 use Rattle.search_rules.proofs.Replacing.{replace_refusal, made_as_edit, refused_as_edit}
 use Rattle.model_page.specs.LineMarks.{marked_backwards}
-use Rattle.model_page.specs.Staying.{KeptBy}
 use Rattle.model_core.specs.Edited.{ops_as_done}
 use Rattle.model_core.specs.Prepared.{Prepared, Acts, ActsAlone, HasActed, batch_of}
 use Rattle.model_core.specs.Replaced.{IsForRoom, replacing_ops, HasReplaced, IsReplaceReady}
 use Rattle.model_core.specs.State.{ModelState, KeepsParse}
-use Rattle.model_core.proofs.Preparing.{ruled, edit_again, length-as_done}
+use Rattle.model_core.proofs.Leaving.{leaves_from, leaves_as}
+use Rattle.model_core.proofs.Preparing.{ruled, edit_again, edits_leave}
 
 -- ---- refusals
 
@@ -57,35 +57,20 @@ module _ (mid new : ModelState) (ready : Prepared) (alone : ActsAlone ready.acti
       let rule : checked_batch f.kind f.units ops ≡ Ok sorted = ruled f ops (checked_batch f.kind f.units ops) (after_batch f sorted) refl is.ready.accepted in
       let does : flat_edit (flat_stop f) sorted ≡ Ok alone.made = subst (λ a. Acts a (flat_stop f) alone.made) is.ready.action alone.acts in
       let edited : flat_edit (flat_stop f) ops ≡ Ok alone.made = sym (edit_again (flat_stop f) ops sorted rule) ∙ does in
-      let acts : HasActed (batch_of f sorted) mid new = subst (λ a. HasActed a mid new) is.ready.action acted in
       record {
         document = made_as_edit f alone.made sought text is.some edited ∙ ap (λ g. Ok (Some g)) (sym alone.closed);
-        parse = record {
-          parsed = acts.parsed;
-          tree = acts.tree;
-          states = acts.states;
-          marks = acts.marks;
-          fresh = subst (λ n. KeptBy n mid.fresh new.fresh) (length-as_done f ops) acts.fresh;
-          pieces = omega (arith, acts.pieces, length-as_done f ops);
-        };
+        parse = edits_leave ops mid new (subst (λ a. HasActed a mid new) is.ready.action acted);
       }
 
   pub replaced_as_prepared : (old : ModelState) (sought text : List ℕ) → mid.document ≡ old.document → KeepsParse old mid → IsReplaceReady sought text mid ready
       → IsReplaced sought text old new
   replaced_as_prepared old sought text same before is =
       let there = carried_out sought text is in
-      let f : FlatState = old.document in
-      let ops : List Op = replacing_ops f sought text in
-      let parse = there.parse in
+      let ops : List Op = replacing_ops old.document sought text in
+      let count = ap (λ g. length (replacing_ops g sought text)) same in
+      let marks = ap (λ (g : FlatState). marked_backwards g.units (ops_as_done g (replacing_ops g sought text)) mid.marks) same
+      ∙ ap (marked_backwards old.document.units (ops_as_done old.document ops)) before.marks in
       record {
         document = ap (λ g. flat_replace_all g sought text) (sym same) ∙ there.document;
-        parse = record {
-          parsed = parse.parsed ∙ before.parsed;
-          tree = parse.tree ∙ before.tree;
-          states = parse.states ∙ before.states;
-          marks = parse.marks ∙ ap (λ (g : FlatState). marked_backwards g.units (ops_as_done g (replacing_ops g sought text)) mid.marks) same
-              ∙ ap (marked_backwards f.units (ops_as_done f ops)) before.marks;
-          fresh = subst (λ b. KeptBy (length ops) b new.fresh) before.fresh (subst (λ g. KeptBy (length (replacing_ops g sought text)) mid.fresh new.fresh) same parse.fresh);
-          pieces = omega (arith, parse.pieces, before.pieces, ap (λ g. length (replacing_ops g sought text)) same);
-        };
+        parse = leaves_from (length ops) (length ops) _ old mid new before (leaves_as _ (length ops) _ (length ops) _ _ mid new count count marks there.parse);
       }

@@ -66,7 +66,7 @@ module _ (now : FlatText) (s : Stack Change) (tag : Tag) where
 -- ---- a tag that is taken off
 
 -- each step gets the tag that this makes of its own
-abbrev retagged : {C : Type 0} → (Option Tag → Option Tag) → Step C → Step C
+abbrev pub retagged : {C : Type 0} → (Option Tag → Option Tag) → Step C → Step C
 retagged f step = record step { tag = f step.tag }
 
 abbrev all_retagged : {C : Type 0} → (Option Tag → Option Tag) → Stack C → Stack C
@@ -84,25 +84,25 @@ untagged_is {C} s tag =
     ap (λ (g : Step C → Step C). record s { undo = map g s.undo; redo = map g s.redo }) (λ i. λ step. off_by (has_tag tag step) step i)
 
 module _ (f : Option Tag → Option Tag) where
-  undo_steps-retagged : (now : FlatText) (ss : List (Step Change)) → undo_steps now (map (retagged f) ss) ≡ map (retagged f) (undo_steps now ss)
+  pub undo_steps-retagged : (now : FlatText) (ss : List (Step Change)) → undo_steps now (map (retagged f) ss) ≡ map (retagged f) (undo_steps now ss)
   undo_steps-retagged now [] = refl
   undo_steps-retagged now (s ∷ ss) =
       ap (λ l. retagged f (step_with s (changes_back now s.changes)) ∷ l) (undo_steps-retagged (text_back now s.changes) ss)
 
-  redo_steps-retagged : (now : FlatText) (ss : List (Step Change)) → redo_steps now (map (retagged f) ss) ≡ map (retagged f) (redo_steps now ss)
+  pub redo_steps-retagged : (now : FlatText) (ss : List (Step Change)) → redo_steps now (map (retagged f) ss) ≡ map (retagged f) (redo_steps now ss)
   redo_steps-retagged now [] = refl
   redo_steps-retagged now (s ∷ ss) =
       ap (λ l. retagged f (step_with s (changes_on now s.changes)) ∷ l) (redo_steps-retagged (text_on now s.changes) ss)
 
-  back-retagged : (now : FlatText) (ss : List (Step Change)) → StepsLeadBack now ss → StepsLeadBack now (map (retagged f) ss)
+  pub back-retagged : (now : FlatText) (ss : List (Step Change)) → StepsLeadBack now ss → StepsLeadBack now (map (retagged f) ss)
   back-retagged now [] old = tt
   back-retagged now (s ∷ ss) old = (old.0, back-retagged (text_back now s.changes) ss old.1)
 
-  on-retagged : (now : FlatText) (ss : List (Step Change)) → StepsLeadOn now ss → StepsLeadOn now (map (retagged f) ss)
+  pub on-retagged : (now : FlatText) (ss : List (Step Change)) → StepsLeadOn now ss → StepsLeadOn now (map (retagged f) ss)
   on-retagged now [] old = tt
   on-retagged now (s ∷ ss) old = (old.0, on-retagged (text_on now s.changes) ss old.1)
 
-  last_of_steps-retagged : (latest : Latest) (now : FlatText) (ss : List (Step Change))
+  pub last_of_steps-retagged : (latest : Latest) (now : FlatText) (ss : List (Step Change))
       → last_of_steps latest now (map (retagged f) ss) ≡ last_of_steps latest now ss
   last_of_steps-retagged latest now [] = refl
   last_of_steps-retagged latest now (s ∷ ss) = refl
@@ -147,14 +147,14 @@ module _ (now : FlatText) (s : Stack Change) (tag : Tag) where
 
 -- ---- the tags that there are
 
-abbrev tags_of : {C : Type 0} → List (Step C) → List (Option Tag)
+abbrev pub tags_of : {C : Type 0} → List (Step C) → List (Option Tag)
 tags_of ss = map (λ s. s.tag) ss
 
-undo_tags : (now : FlatText) (ss : List (Step Change)) → tags_of (undo_steps now ss) ≡ tags_of ss
+pub undo_tags : (now : FlatText) (ss : List (Step Change)) → tags_of (undo_steps now ss) ≡ tags_of ss
 undo_tags now [] = refl
 undo_tags now (s ∷ ss) = ap (λ l. s.tag ∷ l) (undo_tags (text_back now s.changes) ss)
 
-redo_tags : (now : FlatText) (ss : List (Step Change)) → tags_of (redo_steps now ss) ≡ tags_of ss
+pub redo_tags : (now : FlatText) (ss : List (Step Change)) → tags_of (redo_steps now ss) ≡ tags_of ss
 redo_tags now [] = refl
 redo_tags now (s ∷ ss) = ap (λ l. s.tag ∷ l) (redo_tags (text_on now s.changes) ss)
 
@@ -186,7 +186,7 @@ same_length : {C D : Type 0} (ss : List (Step C)) (rs : List (Step D)) → tags_
 same_length {C} {D} ss rs same = sym (length-map ss (λ (s : Step C). s.tag)) ∙ ap length same ∙ length-map rs (λ (s : Step D). s.tag)
 
 module _ (now : FlatText) (s : Stack Change) where
-  same_tags : tags_of (all_steps (history_of now s)) ≡ tags_of (all_steps s)
+  pub same_tags : tags_of (all_steps (history_of now s)) ≡ tags_of (all_steps s)
   same_tags = made_tags now s.undo (redo_steps now s.redo) s.redo (redo_tags now s.redo)
 
   pub length-undo : length (undo_steps now s.undo) ≡ length s.undo

@@ -4,11 +4,11 @@ use Rattle.document_rules.specs.declared.ModelError.{ModelError}
 use Rattle.model_page.specs.declared.change.Way.{Way}
 use Rattle.model_page.specs.Ways.{marked_step}
 use Rattle.model_core.specs.Prepared.{next_op_count, next_marking_count}
-use Rattle.model_core.specs.State.{ModelState, HasMoved}
+use Rattle.model_core.specs.State.{ModelState, AfterMove, Leaves}
 use Rattle.model_core.specs.Ways.{next_steps}
 
 -- as the ops of the step do that comes next on the way
 abbrev pub HasGone : Way → Result Bool ModelError → ModelState → ModelState → Type 0
 HasGone way result old new =
     let steps = next_steps way old.document.history in
-    HasMoved (next_op_count steps) (next_marking_count steps) (marked_step way old.marks steps) result old new
+    AfterMove result (Leaves (next_op_count steps) (next_marking_count steps) (marked_step way old.marks steps)) old new

@@ -11,3 +11,4 @@ pub mod Prepared
 pub mod Going
 pub mod Decorating
 mod Examples
+pub mod Questions

@@ -1,12 +1,12 @@
 -- What a new model with a text is.
-use Rattle.std.specs.Prelude.{◌≡◌, ◌≤◌, ℕ, false, List, length, replicate, None, Result, Ok, Err}
+use Rattle.std.specs.Prelude.{◌≡◌, ◌≤◌, ℕ, false, List, length, replicate, None, Result, Ok, Err, ⊤}
 use Rattle.text_rules.specs.Lines.{lines_of}
 use Rattle.mark_rules.specs.declared.Mark.TheVariants.{New}
 use Rattle.document_rules.specs.declared.ModelError.{ModelError}
 use Rattle.document_rules.specs.Refusals.{FlatRefusal}
 use Rattle.document_rules.specs.Outcomes.{RefusedFor}
 use Rattle.document_rules.specs.Document.{FlatState}
-use Rattle.model_core.specs.State.{ModelState}
+use Rattle.model_core.specs.State.{ModelState, AfterCall}
 
 -- it stands for the rule's new document, or is refused for the rule's reason
 abbrev pub Opens : Result ModelState ModelError → Result FlatState FlatRefusal → Type 0
@@ -20,3 +20,7 @@ pub record IsUnparsed (units : List ℕ) (m : ModelState) : Type 0 where
   pub marks : m.marks ≡ replicate (length (lines_of units)) New
   pub fresh : m.fresh ≡ false
   pub pieces : m.pieces ≤ 1
+
+-- a new model took the place of the old one, or was refused
+abbrev pub HasOpened : List ℕ → Result ⊤ ModelError → ModelState → ModelState → Type 0
+HasOpened units result old new = AfterCall result (λ _ m. IsUnparsed units m) old new

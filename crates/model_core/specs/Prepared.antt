@@ -11,14 +11,13 @@ use Rattle.undo_rules.specs.Stack.{Step}
 use Rattle.document_rules.specs.declared.ModelError.{ModelError}
 use Rattle.document_rules.specs.Outcomes.{RefusedFor}
 use Rattle.document_rules.specs.Document.{FlatText, Deed, FlatChange, FlatState, batch, recast, ops_on, ops_back, text_now, recast_to, after_batch, after_recast, flat_edit, flat_stop, is_same_kind, flat_eol}
-use Rattle.text_batches.specs.Growth.{GrownBy}
 use Rattle.text_batches.specs.Needs.{text_breaks, need_of_ops}
 use Rattle.model_page.specs.declared.change.Change.{Change}
 use Rattle.model_page.specs.declared.change.Way.{Way}
 use Rattle.model_page.specs.declared.change.Way.TheVariants.{Back, On}
 use Rattle.model_core.specs.declared.ready.Action.{Action}
 use Rattle.model_core.specs.declared.ready.Action.TheVariants.{Make, Move}
-use Rattle.model_core.specs.State.{Room, ModelState}
+use Rattle.model_core.specs.State.{Room, ModelState, Leaves}
 use Rattle.text_buffer.specs.Room as text_room
 use Rattle.text_buffer.specs.declared.room.Need as text_need
 use Rattle.model_core.specs.Ways.{next_steps, flat_move}
@@ -27,7 +26,6 @@ use Rattle.model_page.specs.declared.change.Change.TheVariants.{Ops, Endings}
 use Rattle.model_page.specs.Changes.{text_from, text_to, ops_by}
 use Rattle.model_page.specs.Counts.{marking_ops}
 use Rattle.model_page.specs.LineMarks.{marks_over}
-use Rattle.model_page.specs.Staying.{KeptBy}
 use Rattle.model_page.specs.Ways.{marked_step}
 
 -- what contracts see of one
@@ -151,13 +149,10 @@ marking_count (Make change) f = marking_ops On change
 marking_count (Move way) f = next_marking_count (next_steps way f.history)
 
 -- what it leaves of the last parse and of the pieces
-pub record HasActed (action : Action) (old new : ModelState) : Type 0 where
-  pub parsed : new.parsed ≡ old.parsed
-  pub tree : new.tree ≡ old.tree
-  pub states : new.states ≡ old.states
-  pub marks : new.marks ≡ marks_after action old.document old.marks
-  pub fresh : KeptBy (marking_count action old.document) old.fresh new.fresh
-  pub pieces : GrownBy (need_of action old.document).text.edits old.pieces new.pieces
+abbrev pub HasActed : Action → ModelState → ModelState → Type 0
+HasActed action old new =
+    let f = old.document in
+    Leaves (need_of action f).text.edits (marking_count action f) (marks_after action f old.marks) old new
 
 -- no new text has a lone surrogate; other line endings and a move bring none
 abbrev pub HasPairedTexts : Change → Type 0

@@ -9,7 +9,7 @@ use Rattle.search_rules.specs.Replacing.{flat_find, replacing, flat_replace_all}
 use Rattle.model_page.specs.LineMarks.{marked_backwards}
 use Rattle.model_core.specs.Edited.{ops_as_done}
 use Rattle.model_core.specs.Prepared.{Prepared, IsEditReady}
-use Rattle.model_core.specs.State.{ModelState, HasMoved}
+use Rattle.model_core.specs.State.{ModelState, AfterMove, Leaves}
 
 -- for want of room: a limit, or memory
 abbrev pub IsForRoom : ModelError → Type 0
@@ -27,7 +27,7 @@ replacing_ops f sought text = replacing (flat_find f sought) text
 abbrev pub HasReplaced : List ℕ → List ℕ → Result Bool ModelError → ModelState → ModelState → Type 0
 HasReplaced sought text result old new =
     let f = old.document in let ops = replacing_ops f sought text in
-    HasMoved (length ops) (length ops) (marked_backwards f.units (ops_as_done f ops) old.marks) result old new
+    AfterMove result (Leaves (length ops) (length ops) (marked_backwards f.units (ops_as_done f ops) old.marks)) old new
 
 -- the ops are prepared, which are some
 pub record IsReplaceReady (sought text : List ℕ) (now : ModelState) (prepared : Prepared) : Type 0 where

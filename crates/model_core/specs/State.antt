@@ -43,36 +43,14 @@ pub record ModelState : Type 0 where
   -- what can be changed without taking memory
   pub room : Room
 
--- Whether the tree is that of the text of now after a call of so many ops: what changes nothing leaves it so.
-abbrev pub KeptAfter : ℕ → Result ⊤ ModelError → Bool → Bool → Type 0
-KeptAfter ops (Ok x) old new = KeptBy ops old new
-KeptAfter ops (Err e) old new = new ≡ old
-
--- What a call leaves, where an accepted one leaves this: what changes nothing leaves what was there.
-abbrev pub LeftAfter : {X : Type 0} → Result ⊤ ModelError → X → X → X → Type 0
-LeftAfter (Ok x) accepted old new = new ≡ accepted
-LeftAfter (Err e) accepted old new = new ≡ old
-
--- In how many pieces the text lies after a call of so many ops: what changes nothing leaves them.
-abbrev pub GrownAfter : ℕ → Result ⊤ ModelError → ℕ → ℕ → Type 0
-GrownAfter ops (Ok x) old new = GrownBy ops old new
-GrownAfter ops (Err e) old new = new ≡ old
-
--- of a call that answers whether there was anything to do: the first holds where there was, else the second
-abbrev pub AfterMove : Result Bool ModelError → Type 0 → Type 0 → Type 0
-AfterMove (Ok true) moved same = moved
-AfterMove (Ok false) moved same = same
-AfterMove (Err e) moved same = same
-
--- what a call of so many ops, so many of which mark lines, leaves of the last parse and of the pieces, where it answers whether there was
--- anything to do
-pub record HasMoved (ops marking : ℕ) (left : List Mark) (result : Result Bool ModelError) (old new : ModelState) : Type 0 where
+-- what so many ops leave of the last parse and of the pieces, of which so many mark lines, and these are the marks then
+pub record Leaves (ops marking : ℕ) (marked : List Mark) (old new : ModelState) : Type 0 where
   pub parsed : new.parsed ≡ old.parsed
   pub tree : new.tree ≡ old.tree
   pub states : new.states ≡ old.states
-  pub marks : AfterMove result (new.marks ≡ left) (new.marks ≡ old.marks)
-  pub fresh : AfterMove result (KeptBy marking old.fresh new.fresh) (new.fresh ≡ old.fresh)
-  pub pieces : AfterMove result (GrownBy ops old.pieces new.pieces) (new.pieces ≡ old.pieces)
+  pub marks : new.marks ≡ marked
+  pub fresh : KeptBy marking old.fresh new.fresh
+  pub pieces : GrownBy ops old.pieces new.pieces
 
 -- the last parse, what the lines are to it, and the pieces are as they were, and room that was there stays
 pub record KeepsParse (old new : ModelState) : Type 0 where
@@ -83,6 +61,17 @@ pub record KeepsParse (old new : ModelState) : Type 0 where
   pub fresh : new.fresh ≡ old.fresh
   pub pieces : new.pieces ≡ old.pieces
   pub room : KeepsRoom old.room new.room
+
+-- of a call that leaves this where it is accepted; a refused one keeps the last parse, the pieces and the room
+abbrev pub AfterCall : Result ⊤ ModelError → (ModelState → ModelState → Type 0) → ModelState → ModelState → Type 0
+AfterCall (Ok x) left old new = left old new
+AfterCall (Err e) left old new = KeepsParse old new
+
+-- the same of a call that answers whether there was anything to do
+abbrev pub AfterMove : Result Bool ModelError → (ModelState → ModelState → Type 0) → ModelState → ModelState → Type 0
+AfterMove (Ok true) left old new = left old new
+AfterMove (Ok false) left old new = KeepsParse old new
+AfterMove (Err e) left old new = KeepsParse old new
 
 -- What a question about brackets leaves: it parses the text where the tree is not that of the text of now, asks for the
 -- lines alone that are new or begin in another state, and keeps each line then. An error leaves all as it was. Room that was there stays.

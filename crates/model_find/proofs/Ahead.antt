@@ -1,113 +1,99 @@
 -- What marks tell of the next places of a run.
-use Rattle.std.proofs.Common.{◌≡◌, ℕ, zero, suc, ◌+◌, ◌-◌, ◌*◌, ◌/◌, ◌^◌, ◌<◌, ◌≤◌, ◌==◌, eqb, leb, Bool, cond, true, false, not, ◌&&◌, ◌||◌, List, [], ◌∷◌, length, drop, map, get_or, refl, ap, sym, subst, ◌∙◌, arith, bit_and}
-use native.Mathlib.Nat.{pow-suc, pow-zero, mul_comm, zero-div, div-one, div-div-eq-div-mul}
+use Rattle.std.proofs.Common.{◌≡◌, ℕ, zero, suc, ◌+◌, ◌-◌, ◌*◌, ◌/◌, ◌%◌, ◌^◌, ◌<◌, ◌≤◌, ◌==◌, eqb, leb, Bool, cond, true, false, ◌&&◌, ◌||◌, List, [], ◌∷◌, length, map, get_or, refl, ap, sym, subst, ◌∙◌, inl, inr, arith, bit_and, w64}
+use native.Mathlib.Nat.{div-div-eq-div-mul}
 use lib.Count.{count_trailing_zeros}
 use lib.Lanes.{chunk, zip2, mask_l, top}
-use Rattle.std.specs.Int.{from_bool}
-use Rattle.std.specs.List.{prefix_len}
-use Rattle.std.proofs.lemmas.Bool.{leb-true, not-true, false_from_ne_true}
-use Rattle.std.proofs.lemmas.List.{length-drop, get_or-drop, map-id}
-use Rattle.std.proofs.lemmas.List.Sums.{prefix_len_passes}
-use Rattle.std.proofs.lemmas.Simd.{length-chunk, length-zip2, get_or-chunk, get_or-zip2, trailing_mask_l}
+use Rattle.std.specs.Int.{bit_at, from_bool}
+use Rattle.std.proofs.lemmas.Bool.{leb-true, false_from_ne_true, cases_lt}
+use Rattle.std.proofs.lemmas.Grind.{pow_more}
+use Rattle.std.proofs.lemmas.Nat.{pow_below, pow_pos, pow-add}
+use Rattle.std.proofs.lemmas.Nat.Bits.{bit_at_lowest, bit_at-suc, bit_at-zero, bit_at_above, bit_at-trailing_zeros}
+use Rattle.std.proofs.lemmas.Simd.{length-chunk, length-zip2, get_or-chunk, get_or-zip2, mask_l-lt, bit_mask_l}
+use Rattle.std.proofs.Math.Nat.{div-lt_iff_lt-mul}
 use Rattle.model_find.specs.declared.starts.Starts.{Starts}
 use Rattle.model_find.specs.Matching.{may_begin}
 use Rattle.model_find.specs.Ahead.{KnowsStarts}
 
--- ---- marks by the bits of a number
+one_bit : (here : Bool) → cond here 1 0 ≡ from_bool here
+one_bit true = refl
+one_bit false = refl
 
-halved : (m : Bool) (n : ℕ) → (cond m 1 0 + 2 * n) / 2 ≡ n
-halved true n = omega arith
-halved false n = omega arith
-
-mask_dropped : (k : ℕ) (ms : List Bool) → mask_l ms / 2 ^ k ≡ mask_l (drop k ms)
-mask_dropped zero ms = ap (λ n. mask_l ms / n) (pow-zero 2) ∙ div-one (mask_l ms)
-mask_dropped (suc k) [] = zero-div (2 ^ suc k)
-mask_dropped (suc k) (m ∷ ms) =
-    ap (λ n. mask_l (m ∷ ms) / n) (pow-suc 2 k ∙ mul_comm (2 ^ k) 2) ∙ sym (div-div-eq-div-mul (mask_l (m ∷ ms)) 2 (2 ^ k))
-    ∙ ap (λ n. n / 2 ^ k) (halved m (mask_l ms)) ∙ mask_dropped k ms
-
-unmarked : (ms : List Bool) → mask_l ms ≡ 0 → (k : ℕ) → get_or ms k false ≡ false
-unmarked [] none k = refl
-unmarked (true ∷ ms) none k = absurd (omega (arith, none))
-unmarked (false ∷ ms) none zero = refl
-unmarked (false ∷ ms) none (suc k) = unmarked ms (omega (arith, none)) k
-
-some_marked : (ms : List Bool) → 0 < mask_l ms → prefix_len not ms < length ms
-some_marked [] some = absurd (omega arith)
-some_marked (true ∷ ms) some = omega arith
-some_marked (false ∷ ms) some = omega (arith, some_marked ms (omega arith))
-
-lowest_marked : (ms : List Bool) → length ms ≤ 64 → 0 < mask_l ms → count_trailing_zeros 64 (mask_l ms) ≡ prefix_len not ms
-lowest_marked ms few some =
-    subst (λ l. 0 < mask_l l → count_trailing_zeros 64 (mask_l l) ≡ prefix_len not ms) (map-id ms) (trailing_mask_l (λ m. m) 64 ms few) some
-
--- ---- of a run
+unmarked : (here : Bool) → from_bool here ≡ 0 → here ≡ false
+unmarked true none = absurd (omega (arith, none))
+unmarked false none = refl
 
 module _ (run sought : List ℕ) (s : Starts) (knows : KnowsStarts run sought s) where
+  none_at : (k : ℕ) → s.at ≤ k → k < s.at + s.known → bit_at s.marks (k - s.at) ≡ 0 → may_begin run sought k ≡ false
+  none_at k from below none =
+      let is : s.at + (k - s.at) ≡ k = omega arith in
+      ap (may_begin run sought) (sym is) ∙ unmarked _ (sym (knows.tells (k - s.at) (omega arith)) ∙ none)
+
   pub none_begins : s.marks ≡ 0 → (k : ℕ) → s.at ≤ k → k < s.at + s.known → may_begin run sought k ≡ false
-  none_begins none k from below =
-      let i : ℕ = k - s.at in
-      let is : s.at + i ≡ k = omega arith in
-      ap (may_begin run sought) (sym is) ∙ sym (knows.tells i (omega arith)) ∙ unmarked knows.marked (sym knows.bits ∙ none) i
+  none_begins none k from below = none_at k from below (ap (λ m. bit_at m (k - s.at)) none ∙ bit_at-zero (k - s.at))
 
   module _ (some : 0 < s.marks) where
-    marked : 0 < mask_l knows.marked
-    marked = omega (arith, knows.bits, some)
-
-    lowest : count_trailing_zeros 64 s.marks ≡ prefix_len not knows.marked
-    lowest = ap (count_trailing_zeros 64) knows.bits ∙ lowest_marked knows.marked (omega (arith, knows.count, knows.few)) marked
+    first : (count_trailing_zeros 64 s.marks < 64) × (bit_at s.marks (count_trailing_zeros 64 s.marks) ≡ 1)
+        × ((i : ℕ) → i < count_trailing_zeros 64 s.marks → bit_at s.marks i ≡ 0)
+    first = bit_at-trailing_zeros w64 s.marks some (omega (arith, knows.lowest, pow_below s.known 64 (omega (arith, knows.few))))
 
     pub first_within : count_trailing_zeros 64 s.marks < s.known
-    first_within = omega (arith, lowest, knows.count, some_marked knows.marked marked)
+    first_within = elim (cases_lt (count_trailing_zeros 64 s.marks) s.known) [
+      | inl within ↦ within
+      | inr beyond ↦ absurd (omega (arith, first.1, bit_at_above s.marks s.known (count_trailing_zeros 64 s.marks) knows.lowest beyond))
+    ]
 
     pub none_before : (k : ℕ) → s.at ≤ k → k < s.at + count_trailing_zeros 64 s.marks → may_begin run sought k ≡ false
-    none_before k from below =
-        let i : ℕ = k - s.at in
-        let is : s.at + i ≡ k = omega arith in
-        ap (may_begin run sought) (sym is) ∙ sym (knows.tells i (omega (arith, first_within)))
-        ∙ not-true _ (prefix_len_passes not knows.marked i false (omega (arith, lowest)))
+    none_before k from below = none_at k from (omega (arith, first_within)) (first.2 (k - s.at) (omega arith))
 
   -- from a later place on
   pub passed : (at : ℕ) → s.at ≤ at → at - s.at < s.known
       → KnowsStarts run sought (record { at = at; known = s.known - (at - s.at); marks = s.marks / 2 ^ (at - s.at) })
   passed at ordered within =
       let n : ℕ = at - s.at in
+      let all : s.known - n + n ≡ s.known = omega arith in
       let there : (k : ℕ) → s.at + (n + k) ≡ at + k = λ k. omega arith in
       record {
         within = omega (arith, knows.within);
         few = omega (arith, knows.few);
-        marked = drop n knows.marked;
-        count = omega (arith, length-drop n knows.marked, knows.count);
-        bits = ap (λ (m : ℕ). m / 2 ^ n) knows.bits ∙ mask_dropped n knows.marked;
-        tells = λ k below. get_or-drop n knows.marked k false ∙ knows.tells (n + k) (omega arith) ∙ ap (may_begin run sought) (there k);
+        lowest = (div-lt_iff_lt-mul (pow_pos n)).1 (subst (λ p. s.marks < p) (ap (λ k. 2 ^ k) (sym all) ∙ pow-add 2 (s.known - n) n) knows.lowest);
+        tells = λ k below. ap (λ m. m % 2) (div-div-eq-div-mul s.marks (2 ^ n) (2 ^ k) ∙ ap (λ p. s.marks / p) (sym (pow-add 2 n k)))
+            ∙ knows.tells (n + k) (omega arith) ∙ ap (λ place. from_bool (may_begin run sought place)) (there k);
       }
 
-one_bit : (m : Bool) → from_bool m ≡ mask_l (m ∷ [])
-one_bit true = omega arith
-one_bit false = omega arith
+-- from the place before it on
 
--- one place
-pub one_known : (run sought : List ℕ) (at : ℕ) → at < length run
-    → KnowsStarts run sought (record { at = at; known = 1; marks = from_bool (may_begin run sought at) })
-one_known run sought at inside =
-    let here : Bool = may_begin run sought at in
-    record {
-      within = omega arith;
-      few = omega arith;
-      marked = here ∷ [];
-      count = refl;
-      bits = one_bit here;
-      tells = λ k below.
-          let is : 0 ≡ k = omega arith in
-          let place : at ≡ at + 0 = omega arith in
-          subst (λ (i : ℕ). get_or (here ∷ []) i false ≡ may_begin run sought (at + i)) is (ap (may_begin run sought) place);
-    }
+bit : (here : Bool) → from_bool here ≤ 1
+bit true = omega arith
+bit false = omega arith
+
+lowest : (marks : ℕ) (here : Bool) → (2 * marks + from_bool here) % 2 ≡ from_bool here
+lowest marks true = omega arith
+lowest marks false = omega arith
+
+others : (marks : ℕ) (here : Bool) → (2 * marks + from_bool here) / 2 ≡ marks
+others marks true = omega arith
+others marks false = omega arith
+
+pub marks_fit : (run sought : List ℕ) (s : Starts) → KnowsStarts run sought s → s.known < 32 → (here : Bool) → 2 * s.marks + from_bool here < 2 ^ 64
+marks_fit run sought s knows more here = omega (arith, knows.lowest, pow_below s.known 32 more, bit here)
+
+pub one_before : (run sought : List ℕ) (s t : Starts) → KnowsStarts run sought s → t.at + 1 ≡ s.at → t.known ≡ s.known + 1 → t.known ≤ 32
+    → t.marks ≡ 2 * s.marks + from_bool (may_begin run sought t.at) → KnowsStarts run sought t
+one_before run sought s t knows before known few marks = record {
+  within = omega (arith, knows.within);
+  few = few;
+  lowest = subst (λ n. t.marks < 2 ^ n) (sym known) (omega (arith, knows.lowest, bit (may_begin run sought t.at), pow_more 2 s.known));
+  tells = tells;
+}
+  where
+    tells : (k : ℕ) → k < t.known → bit_at t.marks k ≡ from_bool (may_begin run sought (t.at + k))
+    tells zero below = ap (λ m. bit_at m 0) marks ∙ bit_at_lowest _ ∙ lowest s.marks (may_begin run sought t.at)
+        ∙ ap (λ place. from_bool (may_begin run sought place)) (omega arith)
+    tells (suc k) below = ap (λ m. bit_at m (suc k)) marks ∙ bit_at-suc _ k ∙ ap (λ m. bit_at m k) (others s.marks (may_begin run sought t.at))
+        ∙ knows.tells k (omega arith) ∙ ap (λ place. from_bool (may_begin run sought place)) (omega arith)
 
 -- several places
 module _ (run sought : List ℕ) (at : ℕ) where
-  last : ℕ
-  last = length sought - 1
-
   -- both units stand where the sought ones may begin
   abbrev both : ℕ → ℕ → Bool
   both u v = u == get_or sought 0 0 && v == get_or sought (length sought - 1) 0
@@ -120,18 +106,18 @@ module _ (run sought : List ℕ) (at : ℕ) where
       let lasts = chunk (at + n) 32 run in
       let first_long = length-chunk at 32 run (omega arith) in
       let last_long = length-chunk (at + n) 32 run (omega arith) in
+      let marked = zip2 both firsts lasts in
+      let count = length-zip2 both firsts lasts (first_long ∙ sym last_long) ∙ first_long in
       record {
         within = omega arith;
         few = omega arith;
-        marked = zip2 both firsts lasts;
-        count = length-zip2 both firsts lasts (first_long ∙ sym last_long) ∙ first_long;
-        bits = refl;
+        lowest = subst (λ l. mask_l marked < 2 ^ l) count (mask_l-lt marked);
         tells = λ k below.
             let there : at + n + k ≡ at + k + n = omega arith in
             let short : leb (length run) (at + k + n) ≡ false = false_from_ne_true _ (λ long. absurd (omega (arith, leb-true _ _ long))) in
-            get_or-zip2 both firsts lasts k 0 0 false (omega (arith, first_long)) (omega (arith, last_long))
+            bit_mask_l marked k ∙ one_bit _ ∙ ap from_bool (get_or-zip2 both firsts lasts k 0 0 false (omega (arith, first_long)) (omega (arith, last_long))
             ∙ (λ i. get_or-chunk at 32 run k 0 below i == get_or sought 0 0 && get_or-chunk (at + n) 32 run k 0 below i == get_or sought n 0)
-            ∙ (λ i. get_or run (at + k) 0 == get_or sought 0 0 && (sym short i || get_or run (there i) 0 == get_or sought n 0));
+            ∙ (λ i. get_or run (at + k) 0 == get_or sought 0 0 && (sym short i || get_or run (there i) 0 == get_or sought n 0)));
       }
 
 -- ---- by lanes

@@ -1,9 +1,8 @@
 -- How a text goes on with the sought units, unit after unit, and where these do not stand.
-use Rattle.std.proofs.Common.{◌≡◌, ℕ, zero, suc, ◌+◌, ◌-◌, ◌<◌, ◌≤◌, ◌==◌, eqb, ltb, leb, ◌&&◌, ◌||◌, not, Bool, true, false, List, [], ◌∷◌, ◌++◌, length, take, drop, get_or, refl, ap, sym, subst, ◌∙◌, inl, inr, arith}
+use Rattle.std.proofs.Common.{◌≡◌, ℕ, zero, suc, ◌+◌, ◌-◌, ◌<◌, ◌≤◌, ◌==◌, ltb, leb, ◌&&◌, ◌||◌, not, Bool, true, false, List, [], ◌∷◌, ◌++◌, length, take, drop, get_or, refl, ap, sym, subst, ◌∙◌, inl, inr, arith}
 use Rattle.std.specs.Int.{from_bool}
-use Rattle.std.specs.List.{starts_with}
 use Rattle.std.specs.Char.Utf16.{is_high_surrogate, is_low_surrogate}
-use Rattle.std.proofs.lemmas.Bool.{true≢false, lt-ltb, le-leb, leb-true, eq-eqb, eqb-true, and_parts, and_from, and_right, or_left, or_right, not-true, not_from_false, false_from_ne_true, cond-false, cases_Bool, cases_lt, cases_eq}
+use Rattle.std.proofs.lemmas.Bool.{true≢false, lt-ltb, le-leb, eq-eqb, eqb-true, and_parts, and_from, and_right, or_left, or_right, not-true, not_from_false, false_from_ne_true, cond-false, cases_Bool, cases_lt, cases_eq}
 use Rattle.std.proofs.lemmas.Bool.Decides.{Decides-eqb}
 use Rattle.std.proofs.lemmas.List.{get_or-drop, get_or-take, append_assoc, append-nil, get_or_past, length-append, length-drop, length-take, drop-drop, drop_at, take_at, take-take, take_all, get_or_append_left, get_or_push}
 use Rattle.std.proofs.lemmas.List.Prefix.{front_reads, front_from_reads}
@@ -11,11 +10,11 @@ use Rattle.std.proofs.lemmas.Slice.Eq.{starts_is}
 use Rattle.text_lengths.specs.declared.Span.{Span}
 use Rattle.unit_text.specs.declared.kind.Kind.{Kind}
 use Rattle.unit_text.specs.declared.kind.Kind.TheVariants.{Mixed, Lf, Crlf}
-use Rattle.unit_text.specs.Kinds.{cuts_in, cuts_ending, is_place_in}
+use Rattle.unit_text.specs.Kinds.{cuts_in, cuts_ending}
 use Rattle.unit_text.specs.Units.{cuts_pair}
 use Rattle.unit_text.specs.Endings.{line_feed, carriage_return}
 use Rattle.search_rules.specs.Occurrences.{stands_at, span_at, occurrences_after}
-use Rattle.search_rules.proofs.Walking.{places_of, stands_within, found_after, none_between, none_after}
+use Rattle.search_rules.proofs.Walking.{places_of, found_after, none_between, none_after}
 use Rattle.model_find.specs.Matching.{EndsWith, IsLongest, AreBorders, HasRead, IsRunAt, unit_before, may_begin}
 
 -- ---- between two units

@@ -1,3 +1,4 @@
 pub mod Ahead
 pub mod Matching
 pub mod Searching
+mod Examples

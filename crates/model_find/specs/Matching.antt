@@ -1,6 +1,6 @@
 -- How far a text has come with the sought units, and what a search knows of the sought units themselves (Knuth, Morris, Pratt: Fast
 -- pattern matching in strings, 1977). A border of a list is a front of it that also ends it.
-use Rattle.std.specs.Prelude.{ℕ, ◌≡◌, ◌+◌, ◌-◌, ◌<◌, ◌≤◌, ◌==◌, ◌&&◌, ◌||◌, Bool, false, nat_le, if◌then◌else◌, List, [], ◌∷◌, ◌++◌, length, take, drop, slice_index, MatchOption}
+use Rattle.std.specs.Prelude.{ℕ, ◌≡◌, ◌+◌, ◌-◌, ◌<◌, ◌≤◌, ◌==◌, ◌&&◌, ◌||◌, Bool, false, nat_le, if◌then◌else◌, List, ◌++◌, length, take, drop, slice_index}
 use Rattle.text_lengths.specs.declared.Span.{Span}
 use Rattle.unit_text.specs.declared.kind.Kind.{Kind}
 use Rattle.unit_text.specs.Kinds.{cuts_in}

@@ -1,16 +1,8 @@
 -- Where a search stands.
-use Rattle.std.specs.Prelude.{ℕ, ◌≡◌, ◌-◌, ◌<◌, ◌≤◌, List, length, slice_index}
+use Rattle.std.specs.Prelude.{ℕ, ◌≡◌, ◌-◌, ◌<◌, List, length, slice_index}
 use Rattle.text_lengths.specs.declared.Span.{Span}
 use Rattle.model_find.specs.declared.search.Search.{Search}
-use Rattle.model_find.specs.Matching.{AreBorders, HasRead, IsRunAt}
-
--- some units are sought, the borders of all their fronts are known, and no more of them are matched than there are and than were read
-pub record IsSound (s : Search) : Type 0 where
-  pub some : 0 < length s.sought.now
-  pub borders : AreBorders s.kind s.sought.now s.borders.now
-  pub all : length s.borders.now ≡ length s.sought.now
-  pub few : s.matched ≤ length s.sought.now
-  pub behind : s.matched ≤ s.at
+use Rattle.model_find.specs.Matching.{HasRead, IsRunAt}
 
 -- the same is sought in texts of the same kind
 pub record IsSame (s t : Search) : Type 0 where

@@ -5,7 +5,6 @@ ghost use Rattle.unit_text.specs.Kinds.{cuts_in};
 ghost use Rattle.model_find.specs.Matching.{AreBorders, ExtendsTo};
 
 use std::alloc::{AllocError, Global};
-use std::sync::ledger::Ledger;
 use steps::Steps;
 use unit_text::{CARRIAGE_RETURN, Kind, LINE_FEED, cuts_pair};
 
@@ -19,7 +18,7 @@ pub(crate) fn cuts_between(kind: Kind, before: u16, unit: u16) -> bool
 
 /// With how many of the sought units a text ends after one unit more, where it ended with so many before it. The borders are known of as
 /// many fronts.
-pub(crate) fn extended<L: Ledger>(
+pub(crate) fn extended<L>(
     kind: Kind,
     sought: &[u16],
     borders: &[usize],
@@ -58,7 +57,7 @@ fn begins(kind: Kind, sought: &[u16], before: u16, unit: u16) -> bool
 }
 
 /// For each front of the sought units, from the shortest on, how many units its longest border has that is shorter than itself.
-pub(crate) fn borders_of<L: Ledger>(
+pub(crate) fn borders_of<L>(
     alloc: Global,
     kind: Kind,
     sought: &[u16],

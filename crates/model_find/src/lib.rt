@@ -9,12 +9,10 @@ mod starts;
 ghost use Rattle.std.specs.Prelude.{◌≡◌, ◌+◌, ◌*◌, ◌<◌, ◌≤◌, ◌^◌, ◌++◌, length, take, drop, IfOk, OnOk, OnErr};
 ghost use Rattle.search_rules.specs.Occurrences.{occurrences, AreOccurrences};
 ghost use Rattle.search_rules.specs.Replacing.{replacing};
-ghost use Rattle.model_find.specs.Matching.{AreBorders};
 
 use crate::borders::borders_of;
 use crate::search::Search;
 use std::alloc::{AllocError, Global};
-use std::sync::ledger::Ledger;
 use steps::Steps;
 use text_lengths::Span;
 use text_rules::Op;
@@ -23,7 +21,7 @@ use unit_text::{ByRuns, Flat, Kind, Reader, Units};
 /// Appends the spans of the text at which these units stand, from left to right, none overlapping the one before. After an error `out`
 /// is as it was. A text of n units in which m are sought takes at most 4 * (n + m) looks at a unit, each of which is a step, and memory
 /// for m numbers.
-pub fn find_all<F: Flat, L: Ledger>(
+pub fn find_all<F: Flat, L>(
     text: &F,
     sought: &[u16],
     out: &mut Vec<Span>,
@@ -41,7 +39,7 @@ pub fn find_all<F: Flat, L: Ledger>(
 }
 
 /// The same in a text of this kind that is read by such a reader, of which it takes all that is left.
-pub fn find_in<'t, R: Reader<'t>, L: Ledger>(
+pub fn find_in<'t, R: Reader<'t>, L>(
     reader: R,
     kind: Kind,
     sought: &[u16],
@@ -58,45 +56,24 @@ pub fn find_in<'t, R: Reader<'t>, L: Ledger>(
     ensures cost { looks.new ≤ looks.old + 4 * (length (R.left reader) + length sought.now) }
 {
     let borders = borders_of(*out.allocator(), kind, sought, looks)?;
-    find_by(reader, kind, sought, &borders, out, looks)
-}
-
-// The same, where the borders of the sought units are known.
-fn find_by<'t, R: Reader<'t>, L: Ledger>(
-    reader: R,
-    kind: Kind,
-    sought: &[u16],
-    borders: &[usize],
-    out: &mut Vec<Span>,
-    looks: &mut Steps<L>,
-) -> Result<(), AllocError>
-    requires some { 0 < length sought.now }
-    requires small { length (R.left reader) < 2 ^ 64 }
-    requires borders { AreBorders kind sought.now borders.now }
-    requires all { length borders.now ≡ length sought.now }
-    ensures ok { OnOk result (out.new.items
-        ≡ out.old.items ++ occurrences kind (R.left reader) sought.now) }
-    ensures err { OnErr result (out.new.items ≡ out.old.items) }
-    ensures cost { looks.new ≤ looks.old + 4 * length (R.left reader) }
-{
     let mut search = Search {
         kind,
         sought,
-        borders,
+        borders: &borders,
         at: 0,
         before: 0,
         matched: 0,
     };
     let before = out.len();
-    let found = search.through_all(reader, out, looks);
-    if found.is_err() {
+    if let Err(error) = search.through_all(reader, out, looks) {
         out.truncate(before);
+        return Err(error);
     }
-    found
+    Ok(())
 }
 
 /// The edits that put a text in the place of each span at which the sought units stand, and force no decoration.
-pub fn ops_for<'t, R: Reader<'t>, L: Ledger>(
+pub fn ops_for<'t, R: Reader<'t>, L>(
     alloc: Global,
     reader: R,
     kind: Kind,

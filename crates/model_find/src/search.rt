@@ -2,14 +2,12 @@
 
 ghost use Rattle.std.specs.Prelude.{◌≡◌, ℕ, ◌+◌, ◌-◌, ◌*◌, ◌<◌, ◌≤◌, ◌^◌, false, List, length, take, slice_index, OnOk};
 ghost use Rattle.text_lengths.specs.declared.Span.{Span};
-ghost use Rattle.model_find.specs.Matching.{may_begin};
+ghost use Rattle.model_find.specs.Matching.{AreBorders, may_begin};
 ghost use Rattle.model_find.specs.Ahead.{KnowsStarts};
-ghost use Rattle.model_find.specs.Searching.{IsSound, IsSame, StandsIn, ReadsRun, PassesOver, ReadsUnit, SettlesBefore};
 
 use crate::borders::{cuts_between, extended};
 use crate::starts::Starts;
 use std::alloc::AllocError;
-use std::sync::ledger::Ledger;
 use steps::Steps;
 use text_lengths::Span;
 use unit_text::{Kind, Reader};
@@ -26,17 +24,23 @@ pub(crate) struct Search<'s> {
     pub before: u16,
     /// With how many of the sought units they end.
     pub matched: usize,
+    ghost some: { 0 < length sought.now },
+    ghost fronts: { AreBorders kind sought.now borders.now },
+    ghost all: { length borders.now ≡ length sought.now },
+    ghost few: { matched ≤ length sought.now },
+    ghost behind: { matched ≤ at },
 }
 
 impl Search<'_> {
+    ghost use Rattle.model_find.specs.Searching.{IsSame, StandsIn, ReadsRun, PassesOver, ReadsUnit, SettlesBefore};
+
     /// Reads what is left of the text, and appends the spans that are found. After an error some of them stand behind what was there.
-    pub(crate) fn through_all<'t, R: Reader<'t>, L: Ledger>(
+    pub(crate) fn through_all<'t, R: Reader<'t>, L>(
         &mut self,
         mut reader: R,
         out: &mut Vec<Span>,
         looks: &mut Steps<L>,
     ) -> Result<(), AllocError>
-        requires sound { IsSound self.old }
         requires front { self.old.at ≡ 0 }
         requires small { length (R.left reader) < 2 ^ 64 }
         ensures found { (all : List Span) → StandsIn (R.left reader) all out.old.items self.old
@@ -51,15 +55,13 @@ impl Search<'_> {
     }
 
     // Reads the run that comes next in the text, and appends the spans that are found, but for one that ends with the run.
-    fn through<L: Ledger>(
+    fn through<L>(
         &mut self,
         run: &[u16],
         out: &mut Vec<Span>,
         looks: &mut Steps<L>,
     ) -> Result<(), AllocError>
-        requires sound { IsSound self.old }
-        requires small { self.old.at + length run.now < 2 ^ 64 }
-        ensures sound { IsSound self.new }
+        requires { self.old.at + length run.now < 2 ^ 64 }
         ensures same { IsSame self.old self.new }
         ensures at { OnOk result (self.new.at ≡ self.old.at + length run.now) }
         ensures reads { OnOk result
@@ -78,20 +80,18 @@ impl Search<'_> {
     }
 
     // Where nothing is matched: passes places of the run at which the sought text can't begin. Answers where the search goes on.
-    fn skip<L: Ledger>(
+    fn skip<L>(
         &mut self,
         run: &[u16],
         from: usize,
         starts: &mut Starts,
         looks: &mut Steps<L>,
     ) -> usize
-        requires sound { IsSound self.old }
         requires knows { KnowsStarts run.now self.old.sought.now starts.old }
         requires behind { starts.old.at ≤ from }
         requires within { from ≤ length run.now }
         requires read { from ≤ self.old.at }
         requires small { self.old.at + (length run.now - from) < 2 ^ 64 }
-        ensures sound { IsSound self.new }
         ensures same { IsSame self.old self.new }
         ensures on { from ≤ result }
         ensures within { result ≤ length run.now }
@@ -118,7 +118,6 @@ impl Search<'_> {
         requires within { to ≤ length run.now }
         requires small { self.old.at + (to - from) < 2 ^ 64 }
         requires read { from ≤ self.old.at }
-        requires some { 0 < length self.old.sought.now }
         requires matched { self.old.matched ≡ 0 }
         requires none { (k : ℕ) → from ≤ k → k < to
             → may_begin run.now self.old.sought.now k ≡ false }
@@ -134,15 +133,13 @@ impl Search<'_> {
     }
 
     // Reads the unit that comes next in the text, and appends the span that ends before it, if one is found there.
-    fn feed<L: Ledger>(
+    fn feed<L>(
         &mut self,
         unit: u16,
         out: &mut Vec<Span>,
         looks: &mut Steps<L>,
     ) -> Result<(), AllocError>
-        requires sound { IsSound self.old }
-        requires small { self.old.at + 1 < 2 ^ 64 }
-        ensures sound { IsSound self.new }
+        requires { self.old.at + 1 < 2 ^ 64 }
         ensures same { IsSame self.old self.new }
         ensures at { OnOk result (self.new.at ≡ self.old.at + 1) }
         ensures reads { OnOk result
@@ -166,14 +163,12 @@ impl Search<'_> {
     }
 
     // Where all of the sought units are matched: appends their span, unless no place of the text is between them and the unit after them.
-    fn settle<L: Ledger>(
+    fn settle<L>(
         &mut self,
         unit: u16,
         out: &mut Vec<Span>,
         looks: &mut Steps<L>,
     ) -> Result<(), AllocError>
-        requires sound { IsSound self.old }
-        ensures sound { IsSound self.new }
         ensures same { IsSame self.old self.new }
         ensures place { (self.new.at ≡ self.old.at) × (self.new.before ≡ self.old.before) }
         ensures part { OnOk result (self.new.matched < length self.old.sought.now) }
@@ -198,7 +193,6 @@ impl Search<'_> {
 
     // Appends the span that ends with the text, if one is found there.
     fn finish(&self, out: &mut Vec<Span>) -> Result<(), AllocError>
-        requires sound { IsSound self.now }
         ensures found { (x : List ℕ) (all : List Span) → StandsIn x all out.old.items self.now
             → self.now.at ≡ length x → OnOk result (out.new.items ≡ all) }
         ensures before { take (length out.old.items) out.new.items ≡ out.old.items }
@@ -212,7 +206,6 @@ impl Search<'_> {
 
     // The span of the matched units.
     fn found(&self) -> Span
-        requires { self.now.matched ≤ self.now.at }
         ensures { result ≡ record { start = self.now.at - self.now.matched; end = self.now.at } }
     {
         Span {

@@ -5,7 +5,6 @@ ghost use Rattle.model_find.specs.Matching.{may_begin};
 ghost use Rattle.model_find.specs.Ahead.{KnowsStarts};
 
 use crate::lanes::{LANES, both_in_block};
-use std::sync::ledger::Ledger;
 use steps::Steps;
 
 /// What is known of the next places of a run: at which of them the sought text may begin, a bit for each, the lowest for the first.
@@ -50,12 +49,7 @@ impl Starts {
     }
 
     /// The first place from here on at which the sought text may begin; the length of the run where there is none.
-    pub(crate) fn next<L: Ledger>(
-        &mut self,
-        run: &[u16],
-        sought: &[u16],
-        looks: &mut Steps<L>,
-    ) -> usize
+    pub(crate) fn next<L>(&mut self, run: &[u16], sought: &[u16], looks: &mut Steps<L>) -> usize
         requires some { 0 < length sought.now }
         requires knows { KnowsStarts run.now sought.now self.old }
         ensures knows { KnowsStarts run.now sought.now self.new }
@@ -74,57 +68,47 @@ impl Starts {
             if self.at == run.len() {
                 return self.at;
             }
-            self.look(run, sought, looks);
+            self.look(run, sought);
+            looks.add(2 * self.known as u64);
         }
         self.at + self.marks.trailing_zeros() as usize
     }
 
-    // Looks at the next places, where nothing is known of them.
-    fn look<L: Ledger>(&mut self, run: &[u16], sought: &[u16], looks: &mut Steps<L>)
+    // Looks at the next places, where nothing is known of them: twice at each. The last places of a run are looked at one by one.
+    fn look(&mut self, run: &[u16], sought: &[u16])
         requires some { 0 < length sought.now }
         requires inside { self.old.at < length run.now }
         ensures knows { KnowsStarts run.now sought.now self.new }
         ensures at { self.new.at ≡ self.old.at }
         ensures further { 0 < self.new.known }
-        ensures cost { looks.new ≡ looks.old + 2 * self.new.known }
     {
         let last = sought.len() - 1;
         let left = run.len() - self.at;
-        if left < LANES || left - LANES < last {
-            self.look_at_one(run, sought, looks);
+        if left < LANES + last {
+            self.known = left.min(LANES);
+            self.marks = marks_one_by_one(run, sought, self.at, self.known);
         } else {
-            self.look_at_many(run, sought, looks);
+            self.known = LANES;
+            self.marks = both_in_block(run, self.at, sought[0], last, sought[last]);
         }
     }
+}
 
-    // Looks at the next place.
-    fn look_at_one<L: Ledger>(&mut self, run: &[u16], sought: &[u16], looks: &mut Steps<L>)
-        requires some { 0 < length sought.now }
-        requires inside { self.old.at < length run.now }
-        ensures knows { KnowsStarts run.now sought.now self.new }
-        ensures at { self.new.at ≡ self.old.at }
-        ensures further { 0 < self.new.known }
-        ensures cost { looks.new ≡ looks.old + 2 * self.new.known }
-    {
-        self.marks = u64::from(may_begin(run, sought, self.at));
-        self.known = 1;
-        looks.add(2);
+// At which of so many places the sought text may begin: a bit for each, the lowest for the first.
+#[inline(always)]
+fn marks_one_by_one(run: &[u16], sought: &[u16], at: usize, known: usize) -> u64
+    requires some { 0 < length sought.now }
+    requires within { at + known ≤ length run.now }
+    requires few { known ≤ 32 }
+    ensures { KnowsStarts run.now sought.now (record { at = at; known = known; marks = result }) }
+{
+    let mut marks = 0;
+    let mut from = at + known;
+    while from > at {
+        from -= 1;
+        marks = 2 * marks + u64::from(may_begin(run, sought, from));
     }
-
-    // Looks at the next `LANES` places together, from each of which on the run has as many units as are sought.
-    fn look_at_many<L: Ledger>(&mut self, run: &[u16], sought: &[u16], looks: &mut Steps<L>)
-        requires some { 0 < length sought.now }
-        requires inside { self.old.at + (length sought.now - 1) + 32 ≤ length run.now }
-        ensures knows { KnowsStarts run.now sought.now self.new }
-        ensures at { self.new.at ≡ self.old.at }
-        ensures further { 0 < self.new.known }
-        ensures cost { looks.new ≡ looks.old + 2 * self.new.known }
-    {
-        let last = sought.len() - 1;
-        self.marks = both_in_block(run, self.at, sought[0], last, sought[last]);
-        self.known = LANES;
-        looks.add(2 * LANES as u64);
-    }
+    marks
 }
 
 // Whether the sought text may begin at a place of the run: its first unit stands there, and its last one where it would end, if that is in

@@ -1,22 +1,22 @@
 -- Changes of several documents: prepared one after another, and then carried out one after another.
-use Rattle.std.proofs.Common.{◌≡◌, ◌≢◌, ℕ, ◌==◌, ◌<◌, arith, set, Bool, true, false, if◌then◌else◌, List, [], ◌∷◌, ◌++◌, length, get_or, Option, Some, None, slice_get, All, ◌⊎◌, inl, inr, refl, sym, subst, ap, ◌∙◌}
+use Rattle.std.proofs.Common.{◌≡◌, ◌≢◌, ℕ, zero, suc, ◌==◌, ◌<◌, arith, set, Bool, true, false, if◌then◌else◌, List, [], ◌∷◌, ◌++◌, length, get_or, Option, Some, None, slice_get, All, ◌⊎◌, inl, inr, refl, sym, subst, ap, ◌∙◌, ⊎_elim}
 use Rattle.std.proofs.lemmas.Bool.{cases_eq, eqb-false, eq-eqb, ne_eqb}
 use Rattle.std.proofs.lemmas.List.{length-append, length-set, get_or_at}
+use Rattle.std.proofs.lemmas.List.Elements.{All-push}
 use Rattle.std.proofs.lemmas.Option.{slice_get_within, slice_get_read}
 use Rattle.document_rules.specs.Document.{FlatState}
 use Rattle.group_rules.specs.declared.TheConstants.{DOC_COUNT}
-use Rattle.group_rules.specs.Group.{FlatGroup, doc_in, each_from}
+use Rattle.group_rules.specs.Group.{doc_in, each_from}
 use Rattle.group_rules.proofs.Places.{length-each_from}
 use Rattle.model_core.specs.declared.ready.Action.{Action}
-use Rattle.model_core.specs.State.{ModelState}
+use Rattle.model_core.specs.State.{ModelState, KeepsParse}
 use Rattle.model_core.specs.Prepared.{Prepared, CanCommit}
 use Rattle.model_core.proofs.Preparing.{IsSameText, can_still_commit}
 use Rattle.model_group.specs.declared.joint.DocReady.{DocReady}
-use Rattle.model_group.specs.State.{GroupState, OnDoc, documents}
-use Rattle.model_group.specs.Prepared.{ready_for, AreApart, IsReadyIn, Keeps, Committed, CommitAll}
-use Rattle.model_group.proofs.Lists.{slice_get-set_same, slice_get-set_other, item_within, same_items, slice_get-each, length-documents, document_at, doc_in-is}
-use Rattle.model_group.proofs.Parses.{KeepsParse-same}
-use Rattle.model_group.proofs.Changing.{documents_prepared}
+use Rattle.model_group.specs.State.{GroupState, OnDoc, EachModel, KeepAll, documents}
+use Rattle.model_group.specs.Prepared.{ready_for, AreApart, AreReady, IsReadyIn, Keeps, Prepares, Does, Committed, CommitAll}
+use Rattle.model_group.proofs.Lists.{slice_get-set_same, slice_get-set_other, set_back, item_within, same_items, slice_get-each, length-documents, document_at, doc_in-is, documents-set}
+use Rattle.model_group.proofs.Parses.{KeepsParse-same, KeepsParse-then}
 
 -- ---- what was prepared for a document
 
@@ -24,14 +24,14 @@ not_first : (is_it : Bool) (x : Prepared) (rest : Option Prepared) → (if is_it
 not_first true x rest none = absurd cc
 not_first false x rest none = (refl, none)
 
-pub ready_for-at : (xs : List DocReady) (r : DocReady) (ys : List DocReady) → ready_for r.doc xs ≡ None
+ready_for-at : (xs : List DocReady) (r : DocReady) (ys : List DocReady) → ready_for r.doc xs ≡ None
     → ready_for r.doc (xs ++ r ∷ ys) ≡ Some r.ready
 ready_for-at [] r ys none = rw (eq-eqb r.doc r.doc refl) refl
 ready_for-at (x ∷ xs) r ys none =
     let parts = not_first (x.doc == r.doc) x.ready (ready_for r.doc xs) none in
     rw (parts.0) (ready_for-at xs r ys parts.1)
 
-pub ready_for-other : (xs : List DocReady) (r : DocReady) (n : ℕ) → n ≢ r.doc → ready_for n (xs ++ r ∷ []) ≡ ready_for n xs
+ready_for-other : (xs : List DocReady) (r : DocReady) (n : ℕ) → n ≢ r.doc → ready_for n (xs ++ r ∷ []) ≡ ready_for n xs
 ready_for-other [] r n other = rw (ne_eqb r.doc n (λ e. other (sym e))) refl
 ready_for-other (x ∷ xs) r n other =
     ap (λ (rest : Option Prepared). if x.doc == n then Some x.ready else rest) (ready_for-other xs r n other)
@@ -47,23 +47,74 @@ ready_for-before (x ∷ xs) r ys apart =
     rw (ne_eqb x.doc r.doc other) rest
 
 -- one for another document joins them
-pub AreApart-more : (xs : List DocReady) (r : DocReady) → AreApart xs → ready_for r.doc xs ≡ None → AreApart (xs ++ r ∷ [])
+AreApart-more : (xs : List DocReady) (r : DocReady) → AreApart xs → ready_for r.doc xs ≡ None → AreApart (xs ++ r ∷ [])
 AreApart-more [] r apart none = (refl, tt)
 AreApart-more (x ∷ xs) r apart none =
     let parts = not_first (x.doc == r.doc) x.ready (ready_for r.doc xs) none in
     (ready_for-other xs r x.doc (eqb-false x.doc r.doc parts.0) ∙ apart.0, AreApart-more xs r apart.1 parts.1)
 
+-- the one at each place is that for its document
+ready_item : (ready : List DocReady) (k : ℕ) (d : DocReady) → AreApart ready → k < length ready
+    → ready_for (get_or ready k d).doc ready ≡ Some (get_or ready k d).ready
+ready_item [] k d apart lt = absurd (omega arith)
+ready_item (x ∷ ready) zero d apart lt = rw (eq-eqb x.doc x.doc refl) refl
+ready_item (x ∷ ready) (suc k) d apart lt =
+    let r : DocReady = get_or ready k d in
+    let there : ready_for r.doc ready ≡ Some r.ready = ready_item ready k d apart.1 (omega arith) in
+    let other : x.doc ≢ r.doc = λ same. absurd (let e : None ≡ Some r.ready = sym apart.0 ∙ ap (λ n. ready_for n ready) same ∙ there in cc) in
+    rw (ne_eqb x.doc r.doc other) there
+
+module _ (is now : ℕ → ModelState → Option Prepared → Type 0) (g : GroupState) (ready : List DocReady) (h : AreReady is g ready) where
+  -- what is told of each
+  pub each_ready : (P : ModelState → Prepared → Type 0) → ((n : ℕ) (m : ModelState) (r : Prepared) → is n m (Some r) → P m r)
+      → All (IsReadyIn P g) ready
+  each_ready P told k d lt =
+      let r : DocReady = get_or ready k d in
+      record {
+        there = h.there k d lt;
+        ready = λ m at. told r.doc m r.ready (subst (is r.doc m) (ready_item ready k d h.apart lt) (h.each r.doc m at));
+      }
+
+  -- one for another document joins them
+  pub ready_more : (r : DocReady) → r.doc < DOC_COUNT → ready_for r.doc ready ≡ None
+      → ((n : ℕ) (m : ModelState) (x : Option Prepared) → n ≢ r.doc → is n m x → now n m x)
+      → ((m : ModelState) → slice_get g r.doc ≡ Some m → now r.doc m (Some r.ready)) → AreReady now g (ready ++ r ∷ [])
+  ready_more r there none others one = record {
+    apart = AreApart-more ready r h.apart none;
+    there = All-push (λ (r : DocReady). r.doc < DOC_COUNT) ready r h.there there;
+    each = λ n m at.
+        ⊎_elim
+        (λ same. subst (λ i. now i m (ready_for i (ready ++ r ∷ []))) (sym same)
+        (subst (now r.doc m) (sym (ready_for-at ready r [] none)) (one m (ap (slice_get g) (sym same) ∙ at))))
+        (λ other. subst (now n m) (sym (ready_for-other ready r n other)) (others n m (ready_for n ready) other (h.each n m at)))
+        (cases_eq n r.doc);
+  }
+
 -- ---- the document that a call is on
 
 module _ (n : ℕ) (call : ModelState → ModelState → Type 0) (old new : GroupState) (on : OnDoc n call old new) where
-  pub after_is : (k : ModelState) → slice_get new n ≡ Some k → on.after ≡ k
-  after_is k is =
-      let here : slice_get (set old n on.after) n ≡ Some on.after = slice_get-set_same old n on.after (slice_get_within old n on.before on.is) in
-      let e : Some on.after ≡ Some k = sym here ∙ ap (λ g. slice_get g n) (sym on.rest) ∙ is in
-      cc
+  pub there_after : slice_get new n ≡ Some on.after
+  there_after = ap (λ g. slice_get g n) on.rest ∙ slice_get-set_same old n on.after (slice_get_within old n on.before on.is)
 
-  beside : (i : ℕ) → (i ≡ n → ⊥) → slice_get new i ≡ slice_get old i
+  pub after_is : (k : ModelState) → slice_get new n ≡ Some k → on.after ≡ k
+  after_is k is = let e : Some on.after ≡ Some k = sym there_after ∙ is in cc
+
+  pub beside : (i : ℕ) → i ≢ n → slice_get new i ≡ slice_get old i
   beside i other = ap (λ g. slice_get g i) on.rest ∙ slice_get-set_other old n i on.after other
+
+  -- what was done of each model
+  pub each_on : EachModel (λ i m k. (i ≡ n → call m k) × (i ≢ n → k ≡ m)) old new
+  each_on i m k was is = (
+    λ same.
+        let before : on.before ≡ m = let e : Some on.before ≡ Some m = sym on.is ∙ ap (slice_get old) (sym same) ∙ was in cc in
+        subst (λ m. call m k) before (subst (call on.before) (after_is k (ap (slice_get new) (sym same) ∙ is)) on.done),
+    λ other. let e : Some k ≡ Some m = sym is ∙ beside i other ∙ was in cc,
+  )
+
+  pub documents_kept : on.after.document ≡ on.before.document → documents new ≡ documents old
+  documents_kept same =
+      ap documents on.rest ∙ documents-set old n on.after ∙ ap (set (documents old) n) same
+      ∙ set_back (documents old) n on.before.document (document_at old n on.before on.is)
 
 -- the model that is read
 pub model_at : (g items : GroupState) (n : ℕ) (m : ModelState) → items ≡ g → length items ≡ DOC_COUNT → n < DOC_COUNT → m ≡ get_or items n m
@@ -86,22 +137,21 @@ module _ (act : Action → FlatState → FlatState → Type 0) where
       was.1 ∙ ap (λ (m : ModelState). Some m) (sym same)
 
   one_more : (ready : List DocReady) (r : DocReady) (old mid new : GroupState) → CommitAll act ready old mid → ready_for r.doc ready ≡ None
-      → OnDoc r.doc (λ m k. act r.ready.action m.document k.document) mid new → CommitAll act (ready ++ r ∷ []) old new
+      → OnDoc r.doc (Does act r.ready.action) mid new → CommitAll act (ready ++ r ∷ []) old new
   one_more ready r old mid new done none next = record {
     count = ap length next.rest ∙ length-set mid r.doc next.after ∙ done.count;
     each = λ n m k is also. more n m k is also (cases_eq n r.doc);
   } where
-    more : (n : ℕ) (m k : ModelState) → slice_get old n ≡ Some m → slice_get new n ≡ Some k → (n ≡ r.doc) ⊎ (n ≡ r.doc → ⊥)
+    more : (n : ℕ) (m k : ModelState) → slice_get old n ≡ Some m → slice_get new n ≡ Some k → (n ≡ r.doc) ⊎ (n ≢ r.doc)
         → Committed act (ready_for n (ready ++ r ∷ [])) m k
     more n m k is also (inl same) =
-        let before : slice_get old r.doc ≡ Some next.before = untouched ready old mid r.doc next.before done none next.is in
-        let m_is : next.before ≡ m = let e : Some next.before ≡ Some m = sym before ∙ ap (slice_get old) (sym same) ∙ is in cc in
-        let k_is : next.after ≡ k = after_is r.doc _ mid new next k (ap (slice_get new) (sym same) ∙ also) in
+        let at : slice_get mid r.doc ≡ Some m =
+        let before = untouched ready old mid r.doc next.before done none next.is in
+        next.is ∙ sym before ∙ ap (slice_get old) (sym same) ∙ is in
         let found : ready_for n (ready ++ r ∷ []) ≡ Some r.ready =
         ap (λ n. ready_for n (ready ++ r ∷ [])) same ∙ ready_for-at ready r [] none in
         subst (λ found. Committed act found m k) (sym found)
-        (subst (λ (m : ModelState). act r.ready.action m.document k.document) m_is
-        (subst (λ (k : ModelState). act r.ready.action next.before.document k.document) k_is next.done))
+        ((each_on r.doc _ mid new next n m k (ap (slice_get mid) same ∙ at) also).0 same)
     more n m k is also (inr other) =
         subst (λ found. Committed act found m k) (sym (ready_for-other ready r n other))
         (done.each n m k is (sym (beside r.doc _ mid new next n other) ∙ also))
@@ -119,36 +169,59 @@ module _ (act : Action → FlatState → FlatState → Type 0) where
         let was : IsReadyIn P old r = subst (IsReadyIn P old) (get_or_at xs r rest r (length xs) refl) at_place in
         record { there = was.there; ready = λ m is. was.ready m (untouched xs old now r.doc m done none_before is) }
 
-    pub next_done : (new : GroupState) → OnDoc r.doc (λ m k. act r.ready.action m.document k.document) now new
+    pub next_done : (new : GroupState) → OnDoc r.doc (Does act r.ready.action) now new
         → CommitAll act (xs ++ r ∷ []) old new
     next_done new next = one_more xs r old now new done none_before next
 
--- ---- what is prepared keeps the documents, and what was prepared before
+-- ---- what is prepared keeps all models, and what was prepared before
 
--- each model keeps its document, and room that was there stays
-pub record KeepAll (old new : GroupState) : Type 0 where
-  pub documents : documents new ≡ documents old
-  pub each : (n : ℕ) (k : ModelState) → slice_get new n ≡ Some k → (m : ModelState) × (slice_get old n ≡ Some m) × Keeps m k
+pub same_count : (old new : GroupState) → documents new ≡ documents old → length new ≡ length old
+same_count old new same = sym (length-documents new) ∙ ap length same ∙ length-documents old
 
-keeps_same : (m : ModelState) → Keeps m m
-keeps_same m = record { document = refl; parse = KeepsParse-same m }
+pub keep_same : (g : GroupState) → KeepAll g g
+keep_same g = record {
+  documents = refl;
+  parses = λ n m k was is. let same : m ≡ k = cc in subst (KeepsParse m) same (KeepsParse-same m);
+}
 
-module _ (n : ℕ) (call : ModelState → ModelState → Type 0) (old new : GroupState) (on : OnDoc n call old new)
-    (keeps : (m k : ModelState) → call m k → Keeps m k) where
+pub keep_then : (a b c : GroupState) → KeepAll a b → KeepAll b c → KeepAll a c
+keep_then a b c first next = record {
+  documents = next.documents ∙ first.documents;
+  parses = λ n m k was is.
+      let mid = item_within b n (omega (arith, slice_get_within a n m was, same_count a b first.documents)) in
+      KeepsParse-then m mid.0 k (first.parses n m mid.0 was mid.1) (next.parses n mid.0 k mid.1 is);
+}
+
+-- the model as it was
+pub kept_at : (old new : GroupState) (n : ℕ) (k : ModelState) → KeepAll old new → slice_get new n ≡ Some k
+    → (m : ModelState) × (slice_get old n ≡ Some m) × Keeps m k
+kept_at old new n k kept is =
+    let m = item_within old n (omega (arith, slice_get_within new n k is, same_count old new kept.documents)) in
+    let same : Some k.document ≡ Some m.0.document =
+    sym (document_at new n k is) ∙ ap (λ g. slice_get g n) kept.documents ∙ document_at old n m.0 m.1 in
+    (m.0, m.1, record { document = cc; parse = kept.parses n m.0 k m.1 is })
+
+module _ (n : ℕ) (told : ModelState → Type 0) (old new : GroupState) (on : OnDoc n (Prepares told) old new) where
   pub kept_all : KeepAll old new
   kept_all = record {
-    documents = ap documents on.rest ∙ documents_prepared n old on.before on.after on.is (keeps on.before on.after on.done).document;
-    each = λ i k is. each i k is (cases_eq i n);
-  } where
-    each : (i : ℕ) (k : ModelState) → slice_get new i ≡ Some k → (i ≡ n) ⊎ (i ≡ n → ⊥) → (m : ModelState) × (slice_get old i ≡ Some m) × Keeps m k
-    each i k is (inl same) =
-        let now : on.after ≡ k = after_is n call old new on k (ap (slice_get new) (sym same) ∙ is) in
-        (on.before, ap (slice_get old) same ∙ on.is, subst (Keeps on.before) now (keeps on.before on.after on.done))
-    each i k is (inr other) = (k, sym (beside n call old new on i other) ∙ is, keeps_same k)
+    documents = documents_kept n (Prepares told) old new on on.done.kept.document;
+    parses = λ i m k was is.
+        let each = each_on n (Prepares told) old new on i m k was is in
+        ⊎_elim (λ same. (each.0 same).kept.parse) (λ other. subst (KeepsParse m) (sym (each.1 other)) (KeepsParse-same m)) (cases_eq i n);
+  }
 
-  -- its document is as before all
-  pub kept_document : (g : FlatGroup) → documents old ≡ g → on.after.document ≡ doc_in g n
-  kept_document g same = (keeps on.before on.after on.done).document ∙ sym (doc_in-is old n on.before on.is) ∙ ap (λ g. doc_in g n) same
+  pub kept_document : doc_in (documents old) n ≡ on.after.document
+  kept_document = doc_in-is old n on.before on.is ∙ sym on.done.kept.document
+
+-- so what was prepared on it stays so
+pub ready_kept : (is : ℕ → ModelState → Option Prepared → Type 0)
+    → ((n : ℕ) (m k : ModelState) (x : Option Prepared) → Keeps m k → is n m x → is n k x)
+    → (old new : GroupState) (ready : List DocReady) → KeepAll old new → AreReady is old ready → AreReady is new ready
+ready_kept is keep old new ready kept h = record {
+  apart = h.apart;
+  there = h.there;
+  each = λ n k at. let was = kept_at old new n k kept at in keep n was.0 k (ready_for n ready) was.2 (h.each n was.0 was.1);
+}
 
 -- what is as the commit asks stays so
 same_text : (f g : FlatState) → g ≡ f → IsSameText f g

@@ -1,10 +1,13 @@
 -- Undo and redo of a step in all of its documents.
-use Rattle.std.proofs.Common.{◌≡◌, ◌≢◌, ℕ, zero, suc, ◌+◌, ◌&&◌, ◌||◌, ◌<◌, ◌≤◌, arith, not, Bool, true, false, if◌then◌else◌, List, [], ◌∷◌, ◌++◌, length, drop, get_or, Option, Some, None, Result, Ok, Err, MatchResult, IsErrAnd, All, slice_get, ◌⊎◌, inl, inr, refl, sym, subst, ap, ◌∙◌}
-use Rattle.std.proofs.lemmas.Bool.{or_parts, cases_eq, cases_lt, eq-eqb, ne_eqb}
+use Rattle.std.proofs.Common.{◌≡◌, ◌≢◌, ℕ, zero, suc, ◌+◌, ◌&&◌, ◌||◌, ◌<◌, ◌≤◌, arith, not, Bool, true, false, if◌then◌else◌, List, [], ◌∷◌, ◌++◌, length, drop, get_or, Option, Some, None, Result, Ok, Err, MatchResult, IsErrAnd, All, slice_get, refl, true≢false, sym, subst, ap, ◌∙◌, ⊎_elim, eqb-true, nat_lt, ◌==◌}
+use Rattle.std.proofs.lemmas.Bool.{or_parts, and_parts, cases_eq, cases_lt, eqb-false, lt-ltb, le-ltb, ltb-true}
+use Rattle.std.proofs.lemmas.List.Elements.{All-nil}
+use Rattle.std.specs.Prelude.{⊤}
 use Rattle.std.proofs.lemmas.List.{drop_all}
 use Rattle.std.proofs.lemmas.Option.{slice_get_within, slice_get_read}
 use Rattle.undo_rules.specs.declared.Tag.{Tag}
 use Rattle.undo_rules.specs.Stack.{Step}
+use Rattle.undo_rules.specs.Tags.{is_member}
 use Rattle.document_rules.specs.declared.ModelError.{ModelError}
 use Rattle.document_rules.specs.declared.ModelError.TheVariants.{Unknown, Range, Overlap, Limit, Memory}
 use Rattle.document_rules.specs.Refusals.{FlatRefusal, limit}
@@ -14,20 +17,30 @@ use Rattle.group_rules.specs.Outcomes.{IsRefusedFor, MovesAll}
 use Rattle.group_rules.specs.declared.GroupError.{GroupError}
 use Rattle.group_rules.specs.declared.GroupError.TheVariants.{Memory as GroupMemory}
 use Rattle.group_rules.specs.declared.TheConstants.{DOC_COUNT}
-use Rattle.group_rules.specs.Group.{FlatGroup, doc_in, with_doc, is_member}
-use Rattle.group_rules.specs.Going.{Going, is_front, is_last_version, some_last_from, other_next_from, gone_or_same, all_gone, go_together, gone_in}
+use Rattle.group_rules.specs.Group.{FlatGroup, doc_in, with_doc}
+use Rattle.group_rules.specs.Going.{Going, undoing, redoing, is_front, is_last_version, some_last_from, other_next_from, gone_or_same, all_gone, go_together, gone_in, group_go}
+use Rattle.group_rules.specs.Together.{Stay, AllGoOn}
+use Rattle.group_rules.proofs.Changed.{IsMoving, undoing_moves, redoing_moves}
+use Rattle.group_rules.proofs.Together.{go_others_stay, go_all_go_on}
+use Rattle.mark_rules.specs.declared.Mark.{Mark}
+use Rattle.model_page.specs.Ways.{marked_step}
 use Rattle.model_page.specs.declared.change.Way.{Way}
 use Rattle.model_page.specs.declared.change.Way.TheVariants.{Back, On}
-use Rattle.model_core.specs.State.{ModelState}
+use Rattle.model_core.specs.declared.ready.Action.TheVariants.{Move}
+use Rattle.model_core.specs.State.{ModelState, KeepsParse, Leaves}
+use Rattle.model_core.specs.Going.{HasGone}
 use Rattle.model_core.specs.Ways.{next_steps, flat_move}
-use Rattle.model_core.specs.Prepared.{Prepared, CanCommit, Acts, IsMoveReady, PreparesMove}
+use Rattle.model_core.specs.Prepared.{Prepared, CanCommit, Acts, HasActed, IsMoveReady, PreparesMove, next_op_count, next_marking_count}
+use Rattle.model_core.proofs.Leaving.{leaves_from, leaves_as}
 use Rattle.model_group.specs.Errors.{group_error_of}
 use Rattle.model_group.specs.declared.joint.DocReady.{DocReady}
-use Rattle.model_group.specs.State.{GroupState, OnDoc, documents}
-use Rattle.model_group.specs.Prepared.{ready_for, AreApart, IsReadyIn, Keeps, CommitAll, Committed, going_along, PreparesStep, IsStepReady, AreStepsReady}
-use Rattle.model_group.proofs.Lists.{length-documents, document_at, doc_in-is, documents-set}
-use Rattle.model_group.proofs.Changing.{documents_prepared}
-use Rattle.model_group.proofs.Committing.{ready_for-at, ready_for-other, AreApart-more, after_is, KeepAll, kept_all, can_commit_kept, each_document}
+use Rattle.model_group.specs.Calls.{GoesOrStays, TheyGo, going_with}
+use Rattle.model_group.specs.State.{GroupState, OnDoc, KeepAll, KeepAllParses, documents}
+use Rattle.model_group.specs.Prepared.{ready_for, IsReadyIn, Keeps, Prepares, CommitAll, Committed, going_along, IsStepReady, AreStepsReady}
+use Rattle.model_group.proofs.Lists.{item_within, length-documents, document_at, doc_in-is, documents-set}
+use Rattle.model_group.proofs.Parses.{KeepsParse-same}
+use Rattle.model_group.proofs.Changing.{all_stay}
+use Rattle.model_group.proofs.Committing.{each_ready, ready_more, ready_kept, after_is, there_after, each_on, documents_kept, same_count, kept_at, kept_all, can_commit_kept, each_document}
 
 -- ---- a walk over the documents
 
@@ -139,97 +152,119 @@ alone_refused g n Overlap rule why = ap (gone_in g n) why
 alone_refused g n Limit rule why = ap (gone_in g n) why
 alone_refused g n Memory rule why = tt
 
+goes_or_stays : (way : Way) (goes : Bool) (m k : ModelState) → (goes ≡ true → HasGone way (Ok true) m k) → (goes ≡ false → KeepsParse m k)
+    → GoesOrStays way goes m k
+goes_or_stays way true m k go stay = go refl
+goes_or_stays way false m k go stay = stay refl
+
 -- the answer of the document is told of the group
 module _ (way : Way) (n : ℕ) (old new : GroupState) where
   rule_is : (before : ModelState) → slice_get old n ≡ Some before → (going_along way).rule (doc_in (documents old) n) ≡ flat_move way before.document
   rule_is before is = rule_along way (doc_in (documents old) n) ∙ ap (flat_move way) (doc_in-is old n before is)
 
+  abbrev IsTold : Result Bool GroupError → Type 0
+  IsTold told =
+      MovesAll told (documents old) (documents new) (gone_in (documents old) n ((going_along way).rule (doc_in (documents old) n)))
+      × TheyGo way (λ i. i == n) told old new
+
+  module _ (answer : Result Bool ModelError)
+      (on : OnDoc n (λ m k. Moves answer m.document k.document (flat_move way m.document) × HasGone way answer m k) old new) where
+    all_keep : ((m k : ModelState) → HasGone way answer m k → KeepsParse m k) → KeepAllParses old new
+    all_keep keeps i m k was is =
+        let each = each_on n _ old new on i m k was is in
+        ⊎_elim (λ same. keeps m k (each.0 same).1) (λ other. subst (KeepsParse m) (sym (each.1 other)) (KeepsParse-same m)) (cases_eq i n)
+
   pub alone_moved : (answer : Result Bool ModelError) (told : Result Bool GroupError)
       → MatchResult answer (λ moved. told ≡ Ok moved) (λ e. IsErrAnd told (λ y. y ≡ group_error_of e))
-      → OnDoc n (λ old new. Moves answer old.document new.document (flat_move way old.document)) old new
-      → MovesAll told (documents old) (documents new) (gone_in (documents old) n ((going_along way).rule (doc_in (documents old) n)))
+      → OnDoc n (λ m k. Moves answer m.document k.document (flat_move way m.document) × HasGone way answer m k) old new → IsTold told
   alone_moved (Ok true) told is on =
-      let rule = ap (gone_in (documents old) n) (rule_is on.before on.is ∙ on.done) in
-      let made : documents new ≡ with_doc (documents old) n on.after.document = ap documents on.rest ∙ documents-set old n on.after in
-      subst (λ told. MovesAll told (documents old) (documents new) (gone_in (documents old) n ((going_along way).rule (doc_in (documents old) n)))) (sym is)
-      (rule ∙ ap (λ g. Ok (Some g)) (sym made))
-  alone_moved (Ok false) told is on =
       let rule = ap (gone_in (documents old) n) (rule_is on.before on.is ∙ on.done.0) in
-      subst (λ told. MovesAll told (documents old) (documents new) (gone_in (documents old) n ((going_along way).rule (doc_in (documents old) n)))) (sym is)
-      (rule, ap documents on.rest ∙ documents_prepared n old on.before on.after on.is on.done.1)
+      let made : documents new ≡ with_doc (documents old) n on.after.document = ap documents on.rest ∙ documents-set old n on.after in
+      subst IsTold (sym is) (
+        rule ∙ ap (λ g. Ok (Some g)) (sym made),
+        λ i m k was at.
+            let each = each_on n _ old new on i m k was at in
+            goes_or_stays way (i == n) m k (λ e. (each.0 (eqb-true i n e)).1)
+            (λ e. subst (KeepsParse m) (sym (each.1 (eqb-false i n e))) (KeepsParse-same m)),
+      )
+  alone_moved (Ok false) told is on =
+      let rule = ap (gone_in (documents old) n) (rule_is on.before on.is ∙ on.done.0.0) in
+      subst IsTold (sym is) ((rule, documents_kept n _ old new on on.done.0.1), all_keep (Ok false) on (λ m k kept. kept))
   alone_moved (Err e) (Ok x) is on = absurd is
   alone_moved (Err e) (Err y) is on = (
-    ap documents on.rest ∙ documents_prepared n old on.before on.after on.is on.done.0,
-    subst (λ y. IsRefusedFor y (gone_in (documents old) n ((going_along way).rule (doc_in (documents old) n)))) (sym is)
-        (alone_refused (documents old) n e _ (subst (RefusedFor e) (sym (rule_is on.before on.is)) on.done.1)),
+    (
+      documents_kept n _ old new on on.done.0.0,
+      subst (λ y. IsRefusedFor y (gone_in (documents old) n ((going_along way).rule (doc_in (documents old) n)))) (sym is)
+          (alone_refused (documents old) n e _ (subst (RefusedFor e) (sym (rule_is on.before on.is)) on.done.0.1)),
+    ),
+    all_keep (Err e) on (λ m k kept. kept),
   )
 
 -- ---- prepared one after another
 
 step_kept : (way : Way) (of_tag : Bool) (old new : ModelState) (ready : Option Prepared) → Keeps old new → IsStepReady way of_tag old ready
     → IsStepReady way of_tag new ready
-step_kept way of_tag old new None kept is = λ member. ap (flat_move way) kept.document ∙ is member
+step_kept way of_tag old new None kept is = λ member. ap (λ f. next_steps way f.history) kept.document ∙ is member
 step_kept way of_tag old new (Some ready) kept is =
     (is.0, record { action = is.1.action; can = can_commit_kept old new ready kept is.1.can })
 
-pub no_steps : (way : Way) (tag : Tag) (g : GroupState) → AreStepsReady way tag 0 g []
-no_steps way tag g = record { apart = tt; below = λ n past. refl; each = λ n m lt is. absurd (omega arith) }
+-- none is ready for a document that is no member
+no_member : (way : Way) (of_tag : Bool) (m : ModelState) (x : Option Prepared) → of_tag ≡ false → IsStepReady way of_tag m x → x ≡ None
+no_member way of_tag m None not is = refl
+no_member way of_tag m (Some r) not is = absurd (true≢false (sym is.0 ∙ not))
 
-module _ (way : Way) (tag : Tag) (end : ℕ) where
-  steps_kept : (ready : List DocReady) (old new : GroupState) → KeepAll old new → AreStepsReady way tag end old ready
-      → AreStepsReady way tag end new ready
-  steps_kept ready old new kept h = record {
-    apart = h.apart;
-    below = h.below;
-    each = λ n k lt is.
-        let was = kept.each n k is in step_kept way (is_member n tag) was.0 k (ready_for n ready) was.2 (h.each n was.0 lt was.1);
-  }
+pub no_steps : (way : Way) (tag : Tag) (g : GroupState) → AreStepsReady way tag 0 g []
+no_steps way tag g = record {
+  apart = tt;
+  there = All-nil (λ (r : DocReady). r.doc < DOC_COUNT);
+  each = λ n m at member. absurd (omega (arith, ltb-true n 0 (and_parts (nat_lt n 0) (is_member n tag) member).0));
+}
+
+-- another document is below the next number too
+below_next : (n end : ℕ) → n ≢ end → nat_lt n (end + 1) ≡ nat_lt n end
+below_next n end other =
+    ⊎_elim (λ below. lt-ltb n (end + 1) (omega (arith, below)) ∙ sym (lt-ltb n end below))
+    (λ past. le-ltb n (end + 1) (omega (arith, past, other)) ∙ sym (le-ltb n end past)) (cases_lt n end)
+
+module _ (way : Way) (tag : Tag) (end : ℕ) (g : GroupState) (ready : List DocReady) (h : AreStepsReady way tag end g ready) where
+  none_yet : (m : ModelState) → slice_get g end ≡ Some m → ready_for end ready ≡ None
+  none_yet m at =
+      no_member way (nat_lt end end && is_member end tag) m (ready_for end ready) (ap (λ t. t && is_member end tag) (le-ltb end end (omega arith)))
+      (h.each end m at)
+
+  others : (n : ℕ) (m : ModelState) (x : Option Prepared) → n ≢ end → IsStepReady way (nat_lt n end && is_member n tag) m x
+      → IsStepReady way (nat_lt n (end + 1) && is_member n tag) m x
+  others n m x other is = subst (λ t. IsStepReady way (t && is_member n tag) m x) (sym (below_next n end other)) is
 
   -- nothing is to be prepared for the next document
-  none_more : (ready : List DocReady) (g : GroupState) → AreStepsReady way tag end g ready
-      → ((m : ModelState) → slice_get g end ≡ Some m → IsStepReady way (is_member end tag) m None) → AreStepsReady way tag (end + 1) g ready
-  none_more ready g h next = record {
+  pub none_more : ((m : ModelState) → slice_get g end ≡ Some m → is_member end tag ≡ true → next_steps way m.document.history ≡ [])
+      → AreStepsReady way tag (end + 1) g ready
+  none_more none = record {
     apart = h.apart;
-    below = λ n past. h.below n (omega (arith, past));
-    each = λ n m lt is. each n m lt is (cases_eq n end);
-  } where
-    each : (n : ℕ) (m : ModelState) → n < end + 1 → slice_get g n ≡ Some m → (n ≡ end) ⊎ (n ≡ end → ⊥)
-        → IsStepReady way (is_member n tag) m (ready_for n ready)
-    each n m lt is (inl same) =
-        let here : IsStepReady way (is_member end tag) m None = next m (ap (slice_get g) (sym same) ∙ is) in
-        subst (λ r. IsStepReady way (is_member n tag) m r) (sym (h.below n (omega (arith, same))))
-        (subst (λ k. IsStepReady way (is_member k tag) m None) (sym same) here)
-    each n m lt is (inr other) = h.each n m (omega (arith, lt, other)) is
+    there = h.there;
+    each = λ n m at.
+        ⊎_elim
+        (λ same.
+        let here = ap (slice_get g) (sym same) ∙ at in
+        subst (λ i. IsStepReady way (nat_lt i (end + 1) && is_member i tag) m (ready_for i ready)) (sym same)
+        (subst (IsStepReady way (nat_lt end (end + 1) && is_member end tag) m) (sym (none_yet m here))
+        (λ member. none m here (and_parts (nat_lt end (end + 1)) (is_member end tag) member).1)))
+        (λ other. others n m (ready_for n ready) other (h.each n m at)) (cases_eq n end);
+  }
 
   -- its step is prepared
-  one_step_more : (ready : List DocReady) (g : GroupState) (r : DocReady) → AreStepsReady way tag end g ready → r.doc ≡ end
-      → is_member end tag ≡ true → ((m : ModelState) → slice_get g end ≡ Some m → IsMoveReady way m r.ready)
-      → AreStepsReady way tag (end + 1) g (ready ++ r ∷ [])
-  one_step_more ready g r h doc member next = record {
-    apart = AreApart-more ready r h.apart none;
-    below = λ n past. ready_for-other ready r n (λ e. omega (arith, e, doc, past)) ∙ h.below n (omega (arith, past));
-    each = λ n m lt is. each n m lt is (cases_eq n end);
-  } where
-    none : ready_for r.doc ready ≡ None
-    none = h.below r.doc (omega (arith, doc))
-
-    each : (n : ℕ) (m : ModelState) → n < end + 1 → slice_get g n ≡ Some m → (n ≡ end) ⊎ (n ≡ end → ⊥)
-        → IsStepReady way (is_member n tag) m (ready_for n (ready ++ r ∷ []))
-    each n m lt is (inl same) =
-        let found : ready_for n (ready ++ r ∷ []) ≡ Some r.ready =
-        ap (λ n. ready_for n (ready ++ r ∷ [])) (same ∙ sym doc) ∙ ready_for-at ready r [] none in
-        subst (λ q. IsStepReady way (is_member n tag) m q) (sym found)
-        (ap (λ k. is_member k tag) same ∙ member, next m (ap (slice_get g) (sym same) ∙ is))
-    each n m lt is (inr other) =
-        subst (λ q. IsStepReady way (is_member n tag) m q) (sym (ready_for-other ready r n (λ e. other (e ∙ doc))))
-        (h.each n m (omega (arith, lt, other)) is)
+  one_step_more : (one : Prepared) (m : ModelState) → slice_get g end ≡ Some m → end < DOC_COUNT → is_member end tag ≡ true → IsMoveReady way m one
+      → AreStepsReady way tag (end + 1) g (ready ++ record { doc = end; ready = one } ∷ [])
+  one_step_more one m at there member is =
+      ready_more _ (λ n. IsStepReady way (nat_lt n (end + 1) && is_member n tag)) g ready h (record { doc = end; ready = one }) there (none_yet m at) others
+      (λ k also.
+      let e : Some m ≡ Some k = sym at ∙ also in
+      let same : m ≡ k = cc in
+      (ap (λ t. t && is_member end tag) (lt-ltb end (end + 1) (omega arith)) ∙ member, subst (λ m. IsMoveReady way m one) same is))
 
 -- what the call answers that prepares the next one
 module _ (way : Way) (tag : Tag) (doc : ℕ) (answer : Result (Option Prepared) ModelError) (old new : GroupState)
-    (on : OnDoc doc (PreparesStep way answer) old new) where
-  pub step_documents : documents new ≡ documents old
-  step_documents = (kept_all doc (PreparesStep way answer) old new on (λ m k p. p.kept)).documents
-
+    (on : OnDoc doc (Prepares (PreparesMove way answer)) old new) where
   pub memory_alone : (e : ModelError) → answer ≡ Err e → some_last_from 0 tag (documents old) ≡ false → is_member doc tag ≡ true
       → group_error_of e ≡ GroupMemory
   memory_alone e is none member =
@@ -241,75 +276,116 @@ module _ (way : Way) (tag : Tag) (doc : ℕ) (answer : Result (Option Prepared) 
 
   module _ (ready : List DocReady) (h : AreStepsReady way tag doc old ready) where
     still : AreStepsReady way tag doc new ready
-    still = steps_kept way tag doc ready old new (kept_all doc (PreparesStep way answer) old new on (λ m k p. p.kept)) h
+    still = ready_kept _ (λ n. step_kept way (nat_lt n doc && is_member n tag)) old new ready (kept_all doc _ old new on) h
 
-    pub step_prepared : (one : Prepared) → answer ≡ Ok (Some one) → is_member doc tag ≡ true
+    pub step_prepared : (one : Prepared) → answer ≡ Ok (Some one) → doc < DOC_COUNT → is_member doc tag ≡ true
         → AreStepsReady way tag (doc + 1) new (ready ++ record { doc = doc; ready = one } ∷ [])
-    step_prepared one is member =
-        one_step_more way tag doc ready new (record { doc = doc; ready = one }) still refl member
-        (λ m at. subst (λ m. IsMoveReady way m one) (after_is doc _ old new on m at) (subst (λ a. PreparesMove way a on.after) is on.done.ready))
+    step_prepared one is there member =
+        one_step_more way tag doc new ready still one on.after (there_after doc _ old new on) there member
+        (subst (λ a. PreparesMove way a on.after) is on.done.ready)
 
     pub none_prepared : answer ≡ Ok None → AreStepsReady way tag (doc + 1) new ready
     none_prepared is =
-        none_more way tag doc ready new still
+        none_more way tag doc new ready still
         (λ m at member.
-        subst (λ (m : ModelState). flat_move way m.document ≡ Ok None) (after_is doc _ old new on m at)
-        (no_step way on.after.document (subst (λ a. PreparesMove way a on.after) is on.done.ready)))
+        subst (λ (m : ModelState). next_steps way m.document.history ≡ []) (after_is doc _ old new on m at)
+        (subst (λ a. PreparesMove way a on.after) is on.done.ready))
 
 -- ---- carried out
 
-ready_item : (ready : List DocReady) (k : ℕ) (d : DocReady) → AreApart ready → k < length ready
-    → ready_for (get_or ready k d).doc ready ≡ Some (get_or ready k d).ready
-ready_item [] k d apart lt = absurd (omega arith)
-ready_item (x ∷ ready) zero d apart lt = rw (eq-eqb x.doc x.doc refl) refl
-ready_item (x ∷ ready) (suc k) d apart lt =
-    let r : DocReady = get_or ready k d in
-    let there : ready_for r.doc ready ≡ Some r.ready = ready_item ready k d apart.1 (omega arith) in
-    let other : x.doc ≢ r.doc = λ same. absurd (let e : None ≡ Some r.ready = sym apart.0 ∙ ap (λ n. ready_for n ready) same ∙ there in cc) in
-    rw (ne_eqb x.doc r.doc other) there
-
-step_can : (way : Way) (of_tag : Bool) (m : ModelState) (found : Option Prepared) (ready : Prepared) → IsStepReady way of_tag m found
-    → found ≡ Some ready
-    → CanCommit m ready
-step_can way of_tag m None ready is same = absurd cc
-step_can way of_tag m (Some other) ready is same = let e : other ≡ ready = cc in subst (CanCommit m) e is.1.can
-
 pub steps_in : (way : Way) (tag : Tag) (g : GroupState) (ready : List DocReady) → AreStepsReady way tag DOC_COUNT g ready
     → All (IsReadyIn CanCommit g) ready
-steps_in way tag g ready h k d lt =
-    let r : DocReady = get_or ready k d in
-    let found : ready_for r.doc ready ≡ Some r.ready = ready_item ready k d h.apart lt in
-    let there : r.doc < DOC_COUNT = inside (cases_lt r.doc DOC_COUNT) (h.below r.doc) found in
-    record { there = there; ready = λ m at. step_can way (is_member r.doc tag) m (ready_for r.doc ready) r.ready (h.each r.doc m there at) found }
-  where
-    inside : {n : ℕ} {r : Option Prepared} {q : Prepared} → (n < DOC_COUNT) ⊎ (DOC_COUNT ≤ n) → (DOC_COUNT ≤ n → r ≡ None) → r ≡ Some q
-        → n < DOC_COUNT
-    inside (inl below) none found = below
-    inside (inr past) none found = absurd (let e = none past in cc)
+steps_in way tag g ready h = each_ready _ (λ n m x. ⊤) g ready h CanCommit (λ n m r is. is.1.can)
 
-step_done : (way : Way) (of_tag : Bool) (m k : ModelState) (ready : Option Prepared) → IsStepReady way of_tag m ready → Committed Acts ready m k
-    → k.document ≡ (if of_tag then gone_or_same m.document ((going_along way).rule m.document) else m.document)
-step_done way true m k None is done =
-    ap (λ (m : ModelState). m.document) done ∙ sym (ap (gone_or_same m.document) (rule_along way m.document ∙ is refl))
-step_done way false m k None is done = ap (λ (m : ModelState). m.document) done
-step_done way false m k (Some ready) is done = absurd cc
-step_done way true m k (Some ready) is done =
-    let acts : flat_move way m.document ≡ Ok (Some k.document) = subst (λ a. Acts a m.document k.document) is.1.action done in
-    sym (ap (gone_or_same m.document) (rule_along way m.document ∙ acts))
+no_marks : (way : Way) (marks : List Mark) → marked_step way marks [] ≡ marks
+no_marks Back marks = refl
+no_marks On marks = refl
 
-gone_as_rule : (way : Way) (tag : Tag) (mid new : GroupState) (ready : List DocReady) → length mid ≡ DOC_COUNT
-    → AreStepsReady way tag DOC_COUNT mid ready
-    → CommitAll Acts ready mid new → all_gone (going_along way) (documents mid) tag ≡ documents new
-gone_as_rule way tag mid new ready count h done =
-    each_document (λ n f. if is_member n tag then gone_or_same f ((going_along way).rule f) else f) mid new done.count
-    (λ n m k at_mid at_new.
-    step_done way (is_member n tag) m k (ready_for n ready)
-    (h.each n m (omega (arith, slice_get_within mid n m at_mid, count)) at_mid) (done.each n m k at_mid at_new))
+-- no step leaves all as it was
+none_gone : (way : Way) (m k : ModelState) (steps : List (Step FlatChange)) → steps ≡ [] → KeepsParse m k
+    → Leaves (next_op_count steps) (next_marking_count steps) (marked_step way m.marks steps) m k
+none_gone way m k steps none kept =
+    subst (λ steps. Leaves (next_op_count steps) (next_marking_count steps) (marked_step way m.marks steps) m k) (sym none) (record {
+      parsed = kept.parsed;
+      tree = kept.tree;
+      states = kept.states;
+      marks = kept.marks ∙ sym (no_marks way m.marks);
+      fresh = kept.fresh;
+      pieces = omega (arith, kept.pieces);
+    })
 
-pub gone_together : (way : Way) (tag : Tag) (old : FlatGroup) (mid new : GroupState) (ready : List DocReady) → some_last_from 0 tag old ≡ false
-    → other_next_from 0 (going_along way) tag old ≡ None → documents mid ≡ old → length mid ≡ DOC_COUNT → AreStepsReady way tag DOC_COUNT mid ready
-    → CommitAll Acts ready mid new → go_together (going_along way) old tag ≡ Ok (Some (documents new))
-gone_together way tag old mid new ready last next same count h done =
-    let gone : all_gone (going_along way) old tag ≡ documents new =
-    ap (λ g. all_gone (going_along way) g tag) (sym same) ∙ gone_as_rule way tag mid new ready count h done in
-    rw (last, next) (ap (λ g. Ok (Some g)) gone)
+-- what it leaves of the last parse, where the model was prepared for it
+gone_as_kept : (way : Way) (old mid new : ModelState) → Keeps old mid → HasActed (Move way) mid new → HasGone way (Ok true) old new
+gone_as_kept way old mid new kept acted =
+    let next : List (Step FlatChange) = next_steps way old.document.history in
+    let steps : next_steps way mid.document.history ≡ next = ap (λ f. next_steps way f.history) kept.document in
+    leaves_from (next_op_count next) (next_marking_count next) (marked_step way old.marks next) old mid new kept.parse
+    (leaves_as _ (next_op_count next) _ (next_marking_count next) _ (marked_step way old.marks next) mid new (ap next_op_count steps)
+    (ap next_marking_count steps) (ap (marked_step way mid.marks) steps ∙ ap (λ ms. marked_step way ms next) kept.parse.marks) acted)
+
+step_done : (way : Way) (of_tag : Bool) (old mid new : ModelState) (ready : Option Prepared) → Keeps old mid → IsStepReady way of_tag mid ready
+    → Committed Acts ready mid new
+    → (new.document ≡ (if of_tag then gone_or_same old.document ((going_along way).rule old.document) else old.document)) × GoesOrStays way of_tag old new
+step_done way true old mid new None kept is done =
+    let none : next_steps way old.document.history ≡ [] = ap (λ f. next_steps way f.history) (sym kept.document) ∙ is refl in (
+      ap (λ (m : ModelState). m.document) done ∙ kept.document
+          ∙ sym (ap (gone_or_same old.document) (rule_along way old.document ∙ no_step way old.document none)),
+      none_gone way old new (next_steps way old.document.history) none (subst (KeepsParse old) (sym done) kept.parse),
+    )
+step_done way false old mid new None kept is done = (ap (λ (m : ModelState). m.document) done ∙ kept.document, subst (KeepsParse old) (sym done) kept.parse)
+step_done way false old mid new (Some ready) kept is done = absurd cc
+step_done way true old mid new (Some ready) kept is done =
+    let acts : flat_move way mid.document ≡ Ok (Some new.document) = subst (λ a. Acts a mid.document new.document) is.1.action done.document in (
+      sym (ap (gone_or_same old.document) (rule_along way old.document ∙ ap (flat_move way) (sym kept.document) ∙ acts)),
+      gone_as_kept way old mid new kept (subst (λ a. HasActed a mid new) is.1.action done.parse),
+    )
+
+module _ (way : Way) (tag : Tag) (old mid new : GroupState) (ready : List DocReady) (kept : KeepAll old mid) (count : length old ≡ DOC_COUNT)
+    (h : AreStepsReady way tag DOC_COUNT mid ready) (done : CommitAll Acts ready mid new) where
+  each_gone : (n : ℕ) (was k : ModelState) → slice_get old n ≡ Some was → slice_get new n ≡ Some k
+      → (k.document ≡ (if nat_lt n DOC_COUNT && is_member n tag then gone_or_same was.document ((going_along way).rule was.document) else was.document))
+      × GoesOrStays way (nat_lt n DOC_COUNT && is_member n tag) was k
+  each_gone n was k at_old at_new =
+      let m = item_within mid n (omega (arith, slice_get_within old n was at_old, same_count old mid kept.documents)) in
+      let before = kept_at old mid n m.0 kept m.1 in
+      let e : Some before.0 ≡ Some was = sym before.1 ∙ at_old in
+      let same : before.0 ≡ was = cc in
+      step_done way (nat_lt n DOC_COUNT && is_member n tag) was m.0 k (ready_for n ready) (subst (λ w. Keeps w m.0) same before.2) (h.each n m.0 m.1)
+      (done.each n m.0 k m.1 at_new)
+
+  pub gone_models : TheyGo way (λ n. nat_lt n DOC_COUNT && is_member n tag) (Ok true) old new
+  gone_models n was k at_old at_new = (each_gone n was k at_old at_new).1
+
+  pub gone_together : some_last_from 0 tag (documents old) ≡ false → other_next_from 0 (going_along way) tag (documents old) ≡ None
+      → go_together (going_along way) (documents old) tag ≡ Ok (Some (documents new))
+  gone_together last next =
+      let gone : all_gone (going_along way) (documents old) tag ≡ documents new =
+      each_document (λ n f. if is_member n tag then gone_or_same f ((going_along way).rule f) else f) old new
+      (done.count ∙ same_count old mid kept.documents) (λ n was k at_old at_new.
+      let within : n < DOC_COUNT = omega (arith, slice_get_within old n was at_old, count) in
+      let member = ap (λ t. t && is_member n tag) (lt-ltb n DOC_COUNT within) in
+      (each_gone n was k at_old at_new).0
+      ∙ ap (λ t. if t then gone_or_same was.document ((going_along way).rule was.document) else was.document) member) in
+      rw (last, next) (ap (λ g. Ok (Some g)) gone)
+
+-- ---- which documents go on
+
+moving : (way : Way) → (to : FlatState → List (Step FlatChange)) × IsMoving (going_along way) to
+moving Back = (redoing.steps, undoing_moves)
+moving On = (undoing.steps, redoing_moves)
+
+module _ (way : Way) (doc : ℕ) (old new : GroupState) (count : length old ≡ DOC_COUNT) where
+  long : length (documents old) ≡ DOC_COUNT
+  long = length-documents old ∙ count
+
+  pub go_stays : (result : Result Bool GroupError) → MovesAll result (documents old) (documents new) (group_go (going_along way) (documents old) doc)
+      → Stay (going_with way old doc) (documents old) (documents new)
+  go_stays (Ok true) done = go_others_stay (going_along way) (documents old) (documents new) doc long done
+  go_stays (Ok false) done = all_stay _ (documents old) (documents new) done.1
+  go_stays (Err e) done = all_stay _ (documents old) (documents new) done.0
+
+  pub go_all : (result : Result Bool GroupError) → MovesAll result (documents old) (documents new) (group_go (going_along way) (documents old) doc)
+      → result ≡ Ok true → AllGoOn (going_with way old doc) (documents old) (documents new)
+  go_all result done is =
+      go_all_go_on (going_along way) (moving way).0 (documents old) (documents new) doc (moving way).1 long
+      (subst (λ r. MovesAll r (documents old) (documents new) (group_go (going_along way) (documents old) doc)) is done)

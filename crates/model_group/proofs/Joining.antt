@@ -1,11 +1,13 @@
 -- The batches of a joint edit: prepared one after another, spared while tags are lost, and carried out as the rule does it.
-use Rattle.std.proofs.Common.{◌≡◌, ℕ, ◌+◌, ◌==◌, ◌||◌, ◌<◌, arith, Bool, true, false, nat_le, if◌then◌else◌, List, [], ◌∷◌, ◌++◌, length, take, get_or, append-nil, Option, Some, None, MatchOption, Result, Ok, Err, All, slice_get, refl, sym, subst, ap, ◌∙◌}
+use Rattle.std.proofs.Common.{true≢false, ◌≡◌, ◌≢◌, ℕ, ◌+◌, ◌==◌, ◌||◌, ◌<◌, map, arith, Bool, true, false, nat_le, if◌then◌else◌, List, [], ◌∷◌, ◌++◌, length, take, get_or, append-nil, Option, Some, None, MatchOption, Result, Ok, Err, All, slice_get, refl, sym, subst, ap, ◌∙◌}
 use Rattle.std.specs.Prelude.{⊤}
+use Rattle.std.specs.Result.{IsErr}
+use Rattle.group_rules.specs.declared.GroupError.{GroupError}
 use Rattle.std.specs.List.{flat_map}
-use Rattle.std.proofs.lemmas.Bool.{or_parts, eqb-true}
-use Rattle.std.proofs.lemmas.List.Elements.{All-nil, All-cons, All-head, All-tail}
+use Rattle.std.proofs.lemmas.Bool.{or_parts, leb-false, eq-eqb, ne_eqb}
+use Rattle.std.proofs.lemmas.List.Elements.{All-nil, All-head, All-tail}
 use Rattle.std.proofs.lemmas.Grind.{flat_map-append}
-use Rattle.std.proofs.lemmas.List.{take_more}
+use Rattle.std.proofs.lemmas.List.{take_more, length-map, map-append, get_or-map}
 use Rattle.std.proofs.lemmas.Option.{slice_get_within}
 use Rattle.text_rules.specs.declared.Op.{Op}
 use Rattle.batch_rules.specs.Refusals.{BatchRefusal}
@@ -17,21 +19,25 @@ use Rattle.document_rules.specs.Refusals.{limit}
 use Rattle.document_rules.specs.Document.{greatest_version, FlatState, after_batch, edited_by, flat_edit, flat_stop}
 use Rattle.search_rules.specs.Replacing.{closed_after, edited_alone}
 use Rattle.group_rules.specs.declared.TheConstants.{DOC_COUNT}
-use Rattle.group_rules.specs.Group.{FlatGroup, doc_in, lost_by_change}
+use Rattle.group_rules.specs.Group.{FlatGroup, doc_in, lost_by_change, without_tags}
 use Rattle.group_rules.specs.Joint.{FlatBatch, docs_of, names_badly, members_of, tag_of, batch_for, lost_by_joint, tagged_after, joined_doc, joined, joint_refusal, unless_refused, group_joint}
-use Rattle.group_rules.proofs.Members.{is_named, named_batch}
-use Rattle.model_core.specs.State.{ModelState}
-use Rattle.model_core.specs.Edited.{ops_as_done}
-use Rattle.model_core.specs.Prepared.{Prepared, Acts, ActsAlone, batch_of, IsEditReady}
-use Rattle.model_core.proofs.Preparing.{ruled, edit_again}
+use Rattle.group_rules.proofs.Members.{is_named, batch_for_none, named_batch}
+use Rattle.model_page.specs.LineMarks.{marked_backwards}
+use Rattle.model_core.specs.State.{ModelState, KeepsParse, Leaves}
+use Rattle.model_core.specs.Edited.{ops_as_done, marks_edited, HasEdited}
+use Rattle.model_core.specs.Prepared.{Prepared, Acts, ActsAlone, HasActed, PreparesEdit, batch_of, IsEditReady}
+use Rattle.model_core.proofs.Leaving.{leaves_from}
+use Rattle.model_core.proofs.Preparing.{ruled, edit_again, edits_leave}
+use Rattle.model_group.specs.Calls.{HasJoined, AllJoin}
 use Rattle.model_group.specs.declared.joint.DocReady.{DocReady}
-use Rattle.model_group.specs.State.{GroupState, OnDoc, documents}
+use Rattle.model_group.specs.State.{GroupState, OnDoc, KeepAll, KeepAllParses, documents}
 use Rattle.model_group.specs.Losing.{has_doc, LoseTags}
-use Rattle.model_group.specs.Prepared.{ready_for, AreApart, IsReadyIn, Keeps, CommitAll, Committed, PreparesBatch, IsBatchReady, AreBatchesReady, IsSomeEdit, ActsTagged, first_of, IsFirstOf}
+use Rattle.model_group.specs.Prepared.{ready_for, IsReadyIn, Keeps, Prepares, Does, CommitAll, Committed, IsBatchReady, AreBatchesReady, IsSomeEdit, ActsTagged, first_of, IsFirstOf}
 use Rattle.model_group.proofs.Lists.{item_within}
 use Rattle.model_group.proofs.Losses.{both_lost, spared_doc, document_lost}
-use Rattle.model_group.proofs.Naming.{named_bit, all_there, all_named}
-use Rattle.model_group.proofs.Committing.{after_is, KeepAll, kept_all, kept_document, can_commit_kept, each_document}
+use Rattle.model_group.proofs.Naming.{is_bad, named_bit, all_there, all_named, docs_of-append}
+use Rattle.model_group.proofs.Parses.{KeepsParse-then}
+use Rattle.model_group.proofs.Committing.{each_ready, ready_more, ready_kept, there_after, after_is, same_count, kept_at, kept_all, kept_document, can_commit_kept, each_document}
 use Rattle.model_group.proofs.Refusing.{more_refused, more_accepted}
 
 -- ---- prepared one after another
@@ -43,50 +49,65 @@ edit_kept ops old new ready kept is = record {
   can = can_commit_kept old new ready kept is.can;
 }
 
-batches_kept : (batches : List FlatBatch) (ready : List DocReady) (old new : GroupState) → KeepAll old new → AreBatchesReady old batches ready
-    → AreBatchesReady new batches ready
-batches_kept [] [] old new kept h = tt
-batches_kept (b ∷ batches) (r ∷ ready) old new kept h = (
-  record {
-    doc = h.0.doc;
-    ready = λ k at.
-        let was = kept.each b.doc k at in edit_kept b.ops was.0 k r.ready was.2 (h.0.ready was.0 was.1);
-  },
-  batches_kept batches ready old new kept h.1,
-)
-batches_kept [] (r ∷ ready) old new kept h = absurd h
-batches_kept (b ∷ batches) [] old new kept h = absurd h
+batch_kept : (ops : Option (List Op)) (old new : ModelState) (ready : Option Prepared) → Keeps old new → IsBatchReady ops old ready
+    → IsBatchReady ops new ready
+batch_kept None old new ready kept is = is
+batch_kept (Some ops) old new None kept is = absurd is
+batch_kept (Some ops) old new (Some ready) kept is = edit_kept ops old new ready kept is
 
-batches_more : (batches : List FlatBatch) (ready : List DocReady) (g : GroupState) (b : FlatBatch) (r : DocReady) → AreBatchesReady g batches ready
-    → IsBatchReady g b r → AreBatchesReady g (batches ++ b ∷ []) (ready ++ r ∷ [])
-batches_more [] [] g b r h is = (is, tt)
-batches_more (x ∷ batches) (y ∷ ready) g b r h is = (h.0, batches_more batches ready g b r h.1 is)
-batches_more [] (y ∷ ready) g b r h is = absurd h
-batches_more (x ∷ batches) [] g b r h is = absurd h
+pub no_batches : (g : GroupState) → AreBatchesReady g [] []
+no_batches g = record {
+  docs = refl;
+  all = record { apart = tt; there = All-nil (λ (r : DocReady). r.doc < DOC_COUNT); each = λ n m at. refl };
+}
+
+batch_for-at : (batches : List FlatBatch) (b : FlatBatch) → batch_for b.doc batches ≡ None → batch_for b.doc (batches ++ b ∷ []) ≡ Some b.ops
+batch_for-at [] b none = rw (eq-eqb b.doc b.doc refl) refl
+batch_for-at (x ∷ batches) b none = by (x.doc == b.doc) none (batch_for-at batches b)
+  where
+    by : (t : Bool) → (if t then Some x.ops else batch_for b.doc batches) ≡ None
+        → (batch_for b.doc batches ≡ None → batch_for b.doc (batches ++ b ∷ []) ≡ Some b.ops)
+        → (if t then Some x.ops else batch_for b.doc (batches ++ b ∷ [])) ≡ Some b.ops
+    by true none later = absurd cc
+    by false none later = later none
+
+batch_for-other : (batches : List FlatBatch) (b : FlatBatch) (n : ℕ) → n ≢ b.doc → batch_for n (batches ++ b ∷ []) ≡ batch_for n batches
+batch_for-other [] b n other = rw (ne_eqb b.doc n (λ e. other (sym e))) refl
+batch_for-other (x ∷ batches) b n other = ap (λ (rest : Option (List Op)). if x.doc == n then Some x.ops else rest) (batch_for-other batches b n other)
 
 -- the batch that was prepared, and those before it
-module _ (b : FlatBatch) (ready : Prepared) (old new : GroupState) (on : OnDoc b.doc (PreparesBatch b.ops (Ok ready)) old new) where
-  pub prepared_more : (batches : List FlatBatch) (before : List DocReady) → AreBatchesReady old batches before
+module _ (b : FlatBatch) (ready : Prepared) (old new : GroupState) (on : OnDoc b.doc (Prepares (PreparesEdit b.ops (Ok ready))) old new) where
+  pub prepared_more : (batches : List FlatBatch) (before : List DocReady) → is_bad b.doc batches ≡ false → AreBatchesReady old batches before
       → AreBatchesReady new (batches ++ b ∷ []) (before ++ record { doc = b.doc; ready = ready } ∷ [])
-  prepared_more batches before h =
-      batches_more batches before new b (record { doc = b.doc; ready = ready })
-      (batches_kept batches before old new (kept_all b.doc _ old new on (λ m k p. p.kept)) h)
-      (record { doc = refl; ready = λ k at. subst (λ m. IsEditReady b.ops m ready) (after_is b.doc _ old new on k at) on.done.ready })
+  prepared_more batches before fine h =
+      let parts = or_parts (nat_le DOC_COUNT b.doc) (is_named b.doc batches) fine in
+      let none : batch_for b.doc batches ≡ None = batch_for_none batches b.doc parts.1 in
+      let still = ready_kept _ (λ n. batch_kept (batch_for n batches)) old new before (kept_all b.doc _ old new on) h.all in
+      record {
+        docs = map-append (λ (r : DocReady). r.doc) before _ ∙ ap (λ docs. docs ++ b.doc ∷ []) h.docs ∙ sym (docs_of-append batches (b ∷ []));
+        all = ready_more _ (λ n. IsBatchReady (batch_for n (batches ++ b ∷ []))) new before still (record { doc = b.doc; ready = ready })
+            (leb-false DOC_COUNT b.doc parts.0)
+            (subst (λ ops. IsBatchReady ops on.after (ready_for b.doc before)) none (still.each b.doc on.after (there_after b.doc _ old new on)))
+            (λ n m x other is. subst (λ ops. IsBatchReady ops m x) (sym (batch_for-other batches b n other)) is)
+            (λ m at.
+            subst (λ ops. IsBatchReady ops m (Some ready)) (sym (batch_for-at batches b none))
+            (subst (λ m. IsEditReady b.ops m ready) (after_is b.doc _ old new on m at) on.done.ready));
+      }
 
   pub accepted_more : (g : FlatGroup) (batches : List FlatBatch) (refusal : Option ModelError) → documents old ≡ g → IsFirstOf g batches refusal
       → IsFirstOf g (batches ++ b ∷ []) refusal
   accepted_more g batches refusal same first =
-      let f : on.after.document ≡ doc_in g b.doc = kept_document b.doc _ old new on (λ m k p. p.kept) g same in
+      let f : doc_in g b.doc ≡ on.after.document = ap (λ g. doc_in g b.doc) (sym same) ∙ kept_document b.doc _ old new on in
       more_accepted g batches b refusal (after_batch on.after.document (ops_as_done on.after.document b.ops)) first
-      (ap (λ f. flat_edit f b.ops) (sym f) ∙ on.done.ready.accepted)
+      (ap (λ f. flat_edit f b.ops) f ∙ on.done.ready.accepted)
 
 -- it was refused
-pub refused_more : (b : FlatBatch) (e : ModelError) (old new : GroupState) (on : OnDoc b.doc (PreparesBatch b.ops (Err e)) old new) (g : FlatGroup)
+pub refused_more : (b : FlatBatch) (e : ModelError) (old new : GroupState) (on : OnDoc b.doc (Prepares (PreparesEdit b.ops (Err e))) old new) (g : FlatGroup)
     (batches : List FlatBatch) (refusal : Option ModelError) → documents old ≡ g → IsFirstOf g batches refusal
     → IsFirstOf g (batches ++ b ∷ []) (Some (first_of refusal e))
 refused_more b e old new on g batches refusal same first =
-    more_refused g batches b refusal e first
-    (subst (λ f. RefusedFor e (flat_edit f b.ops)) (kept_document b.doc _ old new on (λ m k p. p.kept) g same) on.done.ready)
+    let f : doc_in g b.doc ≡ on.after.document = ap (λ g. doc_in g b.doc) (sym same) ∙ kept_document b.doc _ old new on in
+    more_refused g batches b refusal e first (subst (λ f. RefusedFor e (flat_edit f b.ops)) (sym f) on.done.ready)
 
 pub unless_told : {A B : Type 0} (refusal : Option ModelError) → (A → B) → MatchOption refusal A (λ e. ⊤) → MatchOption refusal B (λ e. ⊤)
 unless_told None step h = step h
@@ -94,64 +115,24 @@ unless_told (Some e) step h = tt
 
 -- ---- the documents that they are for
 
-none_ready : (batches : List FlatBatch) (ready : List DocReady) (g : GroupState) (n : ℕ) → AreBatchesReady g batches ready
-    → is_named n batches ≡ false
-    → ready_for n ready ≡ None
-none_ready [] [] g n h none = refl
-none_ready (b ∷ batches) (r ∷ ready) g n h none =
-    let parts = or_parts (b.doc == n) (is_named n batches) none in
-    let other : (r.doc == n) ≡ false = ap (λ d. d == n) h.0.doc ∙ parts.0 in
-    rw other (none_ready batches ready g n h.1 parts.1)
-none_ready [] (r ∷ ready) g n h none = absurd h
-none_ready (b ∷ batches) [] g n h none = absurd h
-
-pub batches_apart : (batches : List FlatBatch) (ready : List DocReady) (g : GroupState) → AreBatchesReady g batches ready
-    → names_badly (docs_of batches) ≡ false → AreApart ready
-batches_apart [] [] g h good = tt
-batches_apart (b ∷ batches) (r ∷ ready) g h good =
-    let parts = or_parts (nat_le DOC_COUNT b.doc || is_named b.doc batches) (names_badly (docs_of batches)) good in
-    let alone = or_parts (nat_le DOC_COUNT b.doc) (is_named b.doc batches) parts.0 in
-    (ap (λ n. ready_for n ready) h.0.doc ∙ none_ready batches ready g b.doc h.1 alone.1, batches_apart batches ready g h.1 parts.1)
-batches_apart [] (r ∷ ready) g h good = absurd h
-batches_apart (b ∷ batches) [] g h good = absurd h
-
 -- what holds of each document that a batch is for
 docs_kept : (P : ℕ → Type 0) (batches : List FlatBatch) (ready : List DocReady) (g : GroupState) → AreBatchesReady g batches ready
-    → All P (docs_of batches)
-    → All (λ (r : DocReady). P r.doc) ready
-docs_kept P [] [] g h all = All-nil (λ (r : DocReady). P r.doc)
-docs_kept P (b ∷ batches) (r ∷ ready) g h all =
-    All-cons (λ (r : DocReady). P r.doc) r ready (subst P (sym h.0.doc) (All-head P b.doc (docs_of batches) all))
-    (docs_kept P batches ready g h.1 (All-tail P b.doc (docs_of batches) all))
-docs_kept P [] (r ∷ ready) g h all = absurd h
-docs_kept P (b ∷ batches) [] g h all = absurd h
-
-batches_in : (batches : List FlatBatch) (ready : List DocReady) (g : GroupState) → AreBatchesReady g batches ready
-    → All (λ n. n < DOC_COUNT) (docs_of batches)
-    → All (IsReadyIn IsSomeEdit g) ready
-batches_in [] [] g h all = All-nil (IsReadyIn IsSomeEdit g)
-batches_in (b ∷ batches) (r ∷ ready) g h all =
-    let there : b.doc < DOC_COUNT = All-head (λ n. n < DOC_COUNT) b.doc (docs_of batches) all in
-    All-cons (IsReadyIn IsSomeEdit g) r ready
-    (record {
-      there = subst (λ n. n < DOC_COUNT) (sym h.0.doc) there;
-      ready = λ m at. record { ops = b.ops; is = h.0.ready m (ap (slice_get g) (sym h.0.doc) ∙ at) };
-    })
-    (batches_in batches ready g h.1 (All-tail (λ n. n < DOC_COUNT) b.doc (docs_of batches) all))
-batches_in [] (r ∷ ready) g h all = absurd h
-batches_in (b ∷ batches) [] g h all = absurd h
+    → All P (docs_of batches) → All (λ (r : DocReady). P r.doc) ready
+docs_kept P batches ready g is all k d lt =
+    subst P (get_or-map (λ (r : DocReady). r.doc) ready k d d.doc lt)
+    (subst (All P) (sym is.docs) all k d.doc (omega (arith, lt, length-map ready (λ (r : DocReady). r.doc))))
 
 -- ---- tags that are lost before
 
+flat_map-map : {A B C : Type 0} (f : B → List C) (h : A → B) (xs : List A) → flat_map f (map h xs) ≡ flat_map (λ x. f (h x)) xs
+flat_map-map f h [] = refl
+flat_map-map f h (x ∷ xs) = ap (λ rest. f (h x) ++ rest) (flat_map-map f h xs)
+
 batches_lost : (batches : List FlatBatch) (ready : List DocReady) (g : GroupState) (f : FlatGroup) → AreBatchesReady g batches ready
     → flat_map (λ (r : DocReady). lost_by_change (doc_in f r.doc)) ready ≡ lost_by_joint f batches
-batches_lost [] [] g f h = refl
-batches_lost (b ∷ batches) (r ∷ ready) g f h =
-    let rest : flat_map (λ (r : DocReady). lost_by_change (doc_in f r.doc)) ready ≡ lost_by_joint f batches = batches_lost batches ready g f h.1 in
-    let first : lost_by_change (doc_in f r.doc) ≡ lost_by_change (doc_in f b.doc) = ap (λ n. lost_by_change (doc_in f n)) h.0.doc in
-    rw (first, rest) refl
-batches_lost [] (r ∷ ready) g f h = absurd h
-batches_lost (b ∷ batches) [] g f h = absurd h
+batches_lost batches ready g f h =
+    let lost : ℕ → List Tag = λ n. lost_by_change (doc_in f n) in
+    sym (flat_map-map lost (λ (r : DocReady). r.doc) ready) ∙ ap (flat_map lost) h.docs ∙ flat_map-map lost (λ (b : FlatBatch). b.doc) batches
 
 -- what the next document could redo is lost too
 pub lost_more : (ready : List DocReady) (i : ℕ) (r : DocReady) (spared : ℕ) (old mid new : GroupState) → i < length ready → r ≡ get_or ready i r
@@ -181,24 +162,18 @@ pub all_spared : (batches : List FlatBatch) (ready : List DocReady) (g : GroupSt
 all_spared batches ready g members good set is =
     docs_kept (λ n. (n < DOC_COUNT) × (has_doc members n ≡ true)) batches ready g is (members_spared batches members good set)
 
--- of what was prepared nothing is lost
-batches_left : (lost : List Tag) (spared : ℕ) (batches : List FlatBatch) (ready : List DocReady) (old new : GroupState) → LoseTags lost spared old new
-    → All (λ n. (n < DOC_COUNT) × (has_doc spared n ≡ true)) (docs_of batches) → AreBatchesReady old batches ready → AreBatchesReady new batches ready
-batches_left lost spared [] [] old new left all h = tt
-batches_left lost spared (b ∷ batches) (r ∷ ready) old new left all h =
-    let is_spared = All-head (λ n. (n < DOC_COUNT) × (has_doc spared n ≡ true)) b.doc (docs_of batches) all in (
-      record { doc = h.0.doc; ready = λ m at. h.0.ready m (sym (left.same b.doc is_spared.1) ∙ at) },
-      batches_left lost spared batches ready old new left
-          (All-tail (λ n. (n < DOC_COUNT) × (has_doc spared n ≡ true)) b.doc (docs_of batches) all) h.1,
-    )
-batches_left lost spared [] (r ∷ ready) old new left all h = absurd h
-batches_left lost spared (b ∷ batches) [] old new left all h = absurd h
+some_edit : (ops : Option (List Op)) (m : ModelState) (r : Prepared) → IsBatchReady ops m (Some r) → IsSomeEdit m r
+some_edit None m r is = absurd cc
+some_edit (Some ops) m r is = record { ops = ops; is = is }
 
+-- of what was prepared nothing is lost
 pub all_left : (lost : List Tag) (batches : List FlatBatch) (ready : List DocReady) (old new : GroupState) (members : ℕ)
-    → names_badly (docs_of batches) ≡ false
-    → members ≡ members_of batches → LoseTags lost members old new → AreBatchesReady old batches ready → All (IsReadyIn IsSomeEdit new) ready
-all_left lost batches ready old new members good set left is =
-    batches_in batches ready new (batches_left lost members batches ready old new left (members_spared batches members good set) is) (all_there batches good)
+    → names_badly (docs_of batches) ≡ false → members ≡ members_of batches → LoseTags lost members old new → AreBatchesReady old batches ready
+    → All (IsReadyIn IsSomeEdit new) ready
+all_left lost batches ready old new members good set left is k d lt =
+    let there = each_ready _ (λ n m x. ⊤) old ready is.all IsSomeEdit (λ n. some_edit (batch_for n batches)) k d lt in
+    let spared = (all_spared batches ready old members good set is k d lt).1 in
+    record { there = there.there; ready = λ m at. there.ready m (sym (left.same _ spared) ∙ at) }
 
 -- ---- carried out
 
@@ -238,29 +213,11 @@ alone_as_rule tag ops m ready new is some done =
     some_alone f ops some ∙ ap closed_after edited ∙ ap (λ g. Ok (Some g)) (sym done.alone.closed) in
     done.tagged ∙ sym (ap (tagged_after tag f) made)
 
--- the one for a document
-batch_ready : (batches : List FlatBatch) (ready : List DocReady) (g : GroupState) (n : ℕ) (ops : List Op) → AreBatchesReady g batches ready
-    → batch_for n batches ≡ Some ops
-    → (r : Prepared) × (ready_for n ready ≡ Some r) × ((m : ModelState) → slice_get g n ≡ Some m → IsEditReady ops m r)
-batch_ready [] [] g n ops h found = absurd cc
-batch_ready (b ∷ batches) (r ∷ ready) g n ops h found =
-    by (b.doc == n) refl (ap (λ d. d == n) h.0.doc) found (batch_ready batches ready g n ops h.1)
-  where
-    by : (here : Bool) → (b.doc == n) ≡ here → (r.doc == n) ≡ (b.doc == n) → (if here then Some b.ops else batch_for n batches) ≡ Some ops
-        → (batch_for n batches ≡ Some ops → (r : Prepared) × (ready_for n ready ≡ Some r) × ((m : ModelState) → slice_get g n ≡ Some m → IsEditReady ops m r))
-        → (q : Prepared) × (ready_for n (r ∷ ready) ≡ Some q) × ((m : ModelState) → slice_get g n ≡ Some m → IsEditReady ops m q)
-    by true e same found later =
-        let ops_is : b.ops ≡ ops = cc in
-        (r.ready, rw (same ∙ e) refl, λ m at. subst (λ ops. IsEditReady ops m r.ready) ops_is (h.0.ready m (ap (slice_get g) (eqb-true b.doc n e) ∙ at)))
-    by false e same found later = let there = later found in (there.0, rw (same ∙ e) there.1, there.2)
-batch_ready [] (r ∷ ready) g n ops h found = absurd h
-batch_ready (b ∷ batches) [] g n ops h found = absurd h
-
-batch_kept : (P : List Op → Type 0) (batches : List FlatBatch) (n : ℕ) (ops : List Op) → All (λ (b : FlatBatch). P b.ops) batches
+some_batch : (P : List Op → Type 0) (batches : List FlatBatch) (n : ℕ) (ops : List Op) → All (λ (b : FlatBatch). P b.ops) batches
     → batch_for n batches ≡ Some ops → P ops
-batch_kept P [] n ops all found = absurd cc
-batch_kept P (b ∷ batches) n ops all found =
-    by (b.doc == n) found (λ later. batch_kept P batches n ops (All-tail (λ (b : FlatBatch). P b.ops) b batches all) later)
+some_batch P [] n ops all found = absurd cc
+some_batch P (b ∷ batches) n ops all found =
+    by (b.doc == n) found (λ later. some_batch P batches n ops (All-tail (λ (b : FlatBatch). P b.ops) b batches all) later)
   where
     by : (here : Bool) → (if here then Some b.ops else batch_for n batches) ≡ Some ops → (batch_for n batches ≡ Some ops → P ops) → P ops
     by true found later = let is : b.ops ≡ ops = cc in subst P is (All-head (λ (b : FlatBatch). P b.ops) b batches all)
@@ -275,50 +232,73 @@ not_named (b ∷ batches) n none = by (b.doc == n) none (λ later. not_named bat
     by true none later = absurd cc
     by false none later = later none
 
+-- what it leaves of the last parse, where the model was prepared for it
+edited_as_kept : (ops : List Op) (old mid new : ModelState) (ready : Prepared) → Keeps old mid → IsEditReady ops mid ready → HasActed ready.action mid new
+    → HasEdited ops (Ok tt) old new
+edited_as_kept ops old mid new ready kept is acted =
+    let left = edits_leave ops mid new (subst (λ a. HasActed a mid new) is.action acted) in
+    let marks : marks_edited mid ops ≡ marks_edited old ops =
+    ap (λ (f : FlatState). marked_backwards f.units (ops_as_done f ops) mid.marks) kept.document
+    ∙ ap (marked_backwards old.document.units (ops_as_done old.document ops)) kept.parse.marks in
+    leaves_from (length ops) (length ops) (marks_edited old ops) old mid new kept.parse
+    (subst (λ m. Leaves (length ops) (length ops) m mid new) marks left)
+
 -- The group after all is the one that the rule makes.
-module _ (batches : List FlatBatch) (ready : List DocReady) (mid left new : GroupState) (good : names_badly (docs_of batches) ≡ false)
-    (some : All (λ (b : FlatBatch). 0 < length b.ops) batches) (is : AreBatchesReady mid batches ready)
-    (lost : LoseTags (lost_by_joint (documents mid) batches) (members_of batches) mid left)
-    (done : CommitAll (ActsTagged (tag_of (documents mid) batches)) ready left new) where
-  one_joined : (n : ℕ) (m k : ModelState) (ops : Option (List Op)) → batch_for n batches ≡ ops → slice_get mid n ≡ Some m → slice_get new n ≡ Some k
-      → k.document ≡ joined_doc (tag_of (documents mid) batches) (lost_by_joint (documents mid) batches) n m.document ops
-  one_joined n m k (Some ops) found at_mid at_new =
-      let spared : has_doc (members_of batches) n ≡ true = named_bit batches (members_of batches) n good refl ∙ named_batch batches n ops found in
-      let there = batch_ready batches ready mid n ops is found in
-      let does = subst (λ r. Committed (ActsTagged (tag_of (documents mid) batches)) r m k) there.1
-      (done.each n m k (lost.same n spared ∙ at_mid) at_new) in
-      let any = batch_kept (λ ops. 0 < length ops) batches n ops some found in
-      alone_as_rule (tag_of (documents mid) batches) ops m there.0 k.document (there.2 m at_mid) any does
-  one_joined n m k None none at_mid at_new =
-      let other : is_named n batches ≡ false = not_named batches n none in
-      let bare : has_doc (members_of batches) n ≡ false = named_bit batches (members_of batches) n good refl ∙ other in
-      let between = item_within left n (omega (arith, slice_get_within mid n m at_mid, lost.count)) in
-      let same : k ≡ between.0 =
-      subst (λ r. Committed (ActsTagged (tag_of (documents mid) batches)) r between.0 k) (none_ready batches ready mid n is other)
-      (done.each n between.0 k between.1 at_new) in
-      ap (λ (m : ModelState). m.document) same
-      ∙ document_lost (lost_by_joint (documents mid) batches) (members_of batches) n mid left m between.0 lost bare at_mid between.1
+pub record IsJoined (batches : List FlatBatch) (old new : GroupState) : Type 0 where
+  pub documents : group_joint (documents old) batches ≡ Ok (documents new)
+  pub models : AllJoin batches (Ok tt) old new
 
-  all_joined : joined (documents mid) batches ≡ documents new
-  all_joined =
-      each_document (λ n f. joined_doc (tag_of (documents mid) batches) (lost_by_joint (documents mid) batches) n f (batch_for n batches)) mid new
-      (done.count ∙ lost.count) (λ n m k at_mid at_new. one_joined n m k (batch_for n batches) refl at_mid at_new)
+module _ (batches : List FlatBatch) (ready : List DocReady) (members : ℕ) (tag : Tag) (old mid left new : GroupState)
+    (good : names_badly (docs_of batches) ≡ false) (some : All (λ (b : FlatBatch). 0 < length b.ops) batches) (set : members ≡ members_of batches)
+    (tag_is : tag ≡ tag_of (documents old) batches) (kept : KeepAll old mid) (is : AreBatchesReady mid batches ready)
+    (lost : LoseTags (flat_map (λ (r : DocReady). lost_by_change (doc_in (documents mid) r.doc)) ready) members mid left)
+    (done : CommitAll (ActsTagged tag) ready left new) where
+  lost_is : flat_map (λ (r : DocReady). lost_by_change (doc_in (documents mid) r.doc)) ready ≡ lost_by_joint (documents old) batches
+  lost_is = batches_lost batches ready mid (documents mid) is ∙ ap (λ g. lost_by_joint g batches) kept.documents
 
-  joined_as_rule : joint_refusal (documents mid) batches ≡ None → group_joint (documents mid) batches ≡ Ok (documents new)
-  joined_as_rule accepted = ap (unless_refused (joined (documents mid) batches)) accepted ∙ ap (λ g. Ok g) all_joined
+  one_joined : (n : ℕ) (was m between k : ModelState) (ops : Option (List Op)) (found : Option Prepared) → batch_for n batches ≡ ops
+      → slice_get mid n ≡ Some m → slice_get left n ≡ Some between → Keeps was m → IsBatchReady ops m found → Committed (ActsTagged tag) found between k
+      → (k.document ≡ joined_doc (tag_of (documents old) batches) (lost_by_joint (documents old) batches) n was.document ops) × HasJoined ops was k
+  one_joined n was m between k (Some ops) (Some r) named at_mid at_left keeps ready does =
+      let spared : has_doc members n ≡ true = named_bit batches members n good set ∙ named_batch batches n ops named in
+      let e : Some between ≡ Some m = sym at_left ∙ lost.same n spared ∙ at_mid in
+      let same : between ≡ m = cc in
+      let done = subst (λ m. Does (ActsTagged tag) r.action m k) same does in (
+        alone_as_rule tag ops m r k.document ready (some_batch (λ ops. 0 < length ops) batches n ops some named) done.document
+            ∙ ap (λ t. tagged_after t m.document (edited_alone m.document ops)) tag_is
+            ∙ ap (λ f. tagged_after (tag_of (documents old) batches) f (edited_alone f ops)) keeps.document,
+        edited_as_kept ops was m k r keeps ready done.parse,
+      )
+  one_joined n was m between k (Some ops) None named at_mid at_left keeps ready does = absurd ready
+  one_joined n was m between k None (Some r) none at_mid at_left keeps ready does = absurd cc
+  one_joined n was m between k None None none at_mid at_left keeps ready does =
+      let bare : has_doc members n ≡ false = named_bit batches members n good set ∙ not_named batches n none in (
+        ap (λ (m : ModelState). m.document) does ∙ document_lost _ members n mid left m between lost bare at_mid at_left
+            ∙ ap (λ tags. without_tags tags n m.document) lost_is ∙ ap (without_tags (lost_by_joint (documents old) batches) n) keeps.document,
+        KeepsParse-then was m k keeps.parse (subst (KeepsParse m) (sym does) (lost.each n m between at_mid at_left).parse),
+      )
 
-pub joint_done : (batches : List FlatBatch) (ready : List DocReady) (members : ℕ) (tag : Tag) (old : FlatGroup) (mid left new : GroupState)
-    → names_badly (docs_of batches) ≡ false → All (λ (b : FlatBatch). 0 < length b.ops) batches → members ≡ members_of batches
-    → tag ≡ tag_of old batches
-    → documents mid ≡ old → AreBatchesReady mid batches ready
-    → LoseTags (flat_map (λ (r : DocReady). lost_by_change (doc_in (documents mid) r.doc)) ready) members mid left
-    → CommitAll (ActsTagged tag) ready left new
-    → joint_refusal old batches ≡ None → group_joint old batches ≡ Ok (documents new)
-joint_done batches ready members tag old mid left new good some set tag_is same is lost done accepted =
-    let lost_is : LoseTags (lost_by_joint (documents mid) batches) (members_of batches) mid left =
-    subst (λ members. LoseTags (lost_by_joint (documents mid) batches) members mid left) set
-    (subst (λ (tags : List Tag). LoseTags tags members mid left) (batches_lost batches ready mid (documents mid) is) lost) in
-    let done_is : CommitAll (ActsTagged (tag_of (documents mid) batches)) ready left new =
-    subst (λ t. CommitAll (ActsTagged t) ready left new) (tag_is ∙ ap (λ g. tag_of g batches) (sym same)) done in
-    ap (λ g. group_joint g batches) (sym same)
-    ∙ joined_as_rule batches ready mid left new good some is lost_is done_is (ap (λ g. joint_refusal g batches) same ∙ accepted)
+  each_joined : (n : ℕ) (was k : ModelState) → slice_get old n ≡ Some was → slice_get new n ≡ Some k
+      → (k.document ≡ joined_doc (tag_of (documents old) batches) (lost_by_joint (documents old) batches) n was.document (batch_for n batches))
+      × HasJoined (batch_for n batches) was k
+  each_joined n was k at_old at_new =
+      let m = item_within mid n (omega (arith, slice_get_within old n was at_old, same_count old mid kept.documents)) in
+      let between = item_within left n (omega (arith, slice_get_within mid n m.0 m.1, lost.count)) in
+      let before = kept_at old mid n m.0 kept m.1 in
+      let e : Some before.0 ≡ Some was = sym before.1 ∙ at_old in
+      let same : before.0 ≡ was = cc in
+      one_joined n was m.0 between.0 k (batch_for n batches) (ready_for n ready) refl m.1 between.1 (subst (λ w. Keeps w m.0) same before.2)
+      (is.all.each n m.0 m.1) (done.each n between.0 k between.1 at_new)
+
+  pub all_joined : joint_refusal (documents old) batches ≡ None → IsJoined batches old new
+  all_joined accepted = record {
+    documents = ap (unless_refused (joined (documents old) batches)) accepted
+        ∙ ap (λ g. Ok g) (each_document (λ n f. joined_doc (tag_of (documents old) batches) (lost_by_joint (documents old) batches) n f (batch_for n batches)) old new
+        (done.count ∙ lost.count ∙ same_count old mid kept.documents) (λ n was k at_old at_new. (each_joined n was k at_old at_new).0));
+    models = λ n was k at_old at_new. (each_joined n was k at_old at_new).1;
+  }
+
+-- a refusal leaves all models as they were
+pub refused_models : (batches : List FlatBatch) (r : Result ⊤ GroupError) (old new : GroupState) → IsErr r → KeepAllParses old new → AllJoin batches r old new
+refused_models batches (Ok x) old new is kept = absurd (true≢false (sym is))
+refused_models batches (Err e) old new is kept = kept

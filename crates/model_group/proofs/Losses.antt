@@ -6,9 +6,9 @@ use Rattle.std.proofs.lemmas.Nat.Bits.{bit_at-pow_same, bit_at-pow_other}
 use Rattle.std.proofs.lemmas.Option.{slice_get_within}
 use Rattle.undo_rules.specs.declared.Tag.{Tag}
 use Rattle.undo_rules.specs.Stack.{Step, Stack}
-use Rattle.undo_rules.specs.Tags.{all_steps}
+use Rattle.undo_rules.specs.Tags.{all_steps, is_member}
 use Rattle.document_rules.specs.Document.{FlatChange, FlatState, flat_untag}
-use Rattle.group_rules.specs.Group.{doc_in, each_from, is_member, tags_of, without_tags, with_changed}
+use Rattle.group_rules.specs.Group.{doc_in, each_from, tags_of, without_tags, with_changed}
 use Rattle.group_rules.proofs.Places.{length-each_from}
 use Rattle.model_core.specs.State.{ModelState, KeepsParse}
 use Rattle.model_group.specs.State.{GroupState, OnDoc, documents}

@@ -2,7 +2,7 @@
 use Rattle.std.proofs.Common.{◌≡◌, ℕ, ◌+◌, ◌==◌, ◌||◌, ◌<◌, arith, min, nat_le, Bool, true, false, List, [], ◌∷◌, ◌++◌, length, map, take, drop, get_or, All, refl, sym, ap, ◌∙◌}
 use Rattle.std.specs.List.{list_any}
 use Rattle.std.proofs.Math.Bool.{or-false}
-use Rattle.std.proofs.lemmas.Bool.{or_parts, or_left, or_right, eq-eqb, eqb-true, eqb-false, ne_eqb, leb-false, both_ways}
+use Rattle.std.proofs.lemmas.Bool.{or_parts, or_left, or_right, eq-eqb, eqb-true, eqb-false, ne_eqb, leb-false, both_ways, false_from_ne_true}
 use Rattle.std.proofs.lemmas.List.{take_more, drop_more, take-append-drop, map-append}
 use Rattle.std.proofs.lemmas.List.Elements.{All-nil, All-cons}
 use Rattle.std.proofs.lemmas.List.Folds.{list_any-append, list_any_at}
@@ -34,7 +34,7 @@ least_of-push (x ∷ batches) b = ap (min x.doc) (least_of-push batches b) ∙ o
 
 -- ---- documents that are there, none twice
 
-docs_of-append : (xs ys : List FlatBatch) → docs_of (xs ++ ys) ≡ docs_of xs ++ docs_of ys
+pub docs_of-append : (xs ys : List FlatBatch) → docs_of (xs ++ ys) ≡ docs_of xs ++ docs_of ys
 docs_of-append xs ys = map-append (λ (b : FlatBatch). b.doc) xs ys
 
 -- one that is not there, or was named before
@@ -86,25 +86,23 @@ badly_named (x ∷ batches) b more bad =
         (or_right (nat_le DOC_COUNT x.doc) (is_named x.doc (batches ++ b ∷ more)) here)
     by false false false p n s bad later = absurd cc
 
--- each of them is one of the group
+-- each of them is one of the group, and none of those before
+fine_batch : (batches : List FlatBatch) (b : FlatBatch) (more : List FlatBatch) → names_badly (docs_of (batches ++ b ∷ more)) ≡ false
+    → is_bad b.doc batches ≡ false
+fine_batch batches b more good =
+    false_from_ne_true (is_bad b.doc batches) (λ bad. both_ways (names_badly (docs_of (batches ++ b ∷ more))) good (badly_named batches b more bad))
+
 is_there : (batches : List FlatBatch) (b : FlatBatch) (more : List FlatBatch) → names_badly (docs_of (batches ++ b ∷ more)) ≡ false
     → b.doc < DOC_COUNT
 is_there batches b more good =
-    leb-false DOC_COUNT b.doc (by (nat_le DOC_COUNT b.doc) refl)
-  where
-    by : (past : Bool) → nat_le DOC_COUNT b.doc ≡ past → past ≡ false
-    by true p =
-        let bad = badly_named batches b more (or_left (nat_le DOC_COUNT b.doc) (is_named b.doc batches) p) in
-        absurd (both_ways (names_badly (docs_of (batches ++ b ∷ more))) good bad)
-    by false p = refl
+    leb-false DOC_COUNT b.doc (or_parts (nat_le DOC_COUNT b.doc) (is_named b.doc batches) (fine_batch batches b more good)).0
 
-pub batch_there : (xs : List DocBatch) (b : DocBatch) (ys all : List DocBatch) → xs ++ b ∷ ys ≡ all
-    → names_badly (docs_of (map flat_batch all)) ≡ false
-    → b.doc < DOC_COUNT
-batch_there xs b ys all whole good =
+pub batch_fine : (xs : List DocBatch) (b : DocBatch) (ys all : List DocBatch) → xs ++ b ∷ ys ≡ all
+    → names_badly (docs_of (map flat_batch all)) ≡ false → is_bad b.doc (map flat_batch xs) ≡ false
+batch_fine xs b ys all whole good =
     let split : map flat_batch all ≡ map flat_batch xs ++ flat_batch b ∷ map flat_batch ys =
     ap (map flat_batch) (sym whole) ∙ map-append flat_batch xs (b ∷ ys) in
-    is_there (map flat_batch xs) (flat_batch b) (map flat_batch ys) (sym (ap (λ batches. names_badly (docs_of batches)) split) ∙ good)
+    fine_batch (map flat_batch xs) (flat_batch b) (map flat_batch ys) (sym (ap (λ batches. names_badly (docs_of batches)) split) ∙ good)
 
 pub all_there : (batches : List FlatBatch) → names_badly (docs_of batches) ≡ false → All (λ n. n < DOC_COUNT) (docs_of batches)
 all_there [] good = All-nil (λ n. n < DOC_COUNT)

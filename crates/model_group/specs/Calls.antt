@@ -1,30 +1,51 @@
--- What calls on the model of one document say.
-use Rattle.std.specs.Prelude.{◌≡◌, ℕ, true, List, Result, Ok, Err, OnOk, ⊤}
-use Rattle.std.specs.List.{All}
-use Rattle.bracket_rules.specs.declared.Entry.{Entry}
+-- What calls on the models of documents say.
+use Rattle.std.specs.Prelude.{◌≡◌, ℕ, Bool, true, false, List, Option, Some, None, Result, Ok, Err, ⊤}
+use Rattle.text_rules.specs.declared.Op.{Op}
 use Rattle.document_rules.specs.declared.ModelError.{ModelError}
-use Rattle.document_rules.specs.declared.ModelError.TheVariants as error
-use Rattle.document_rules.specs.Refusals.{FlatRefusal}
-use Rattle.document_rules.specs.Document.{FlatState}
-use Rattle.document_rules.specs.Outcomes.{Appends, ChangesWith, Gives}
+use Rattle.document_rules.specs.Outcomes.{ChangesWith}
 use Rattle.document_rules.specs.Snapshots.{flat_snapshot}
-use Rattle.document_rules.specs.Brackets.{flat_brackets, IsSmall}
-use Rattle.model_core.specs.State.{ModelState, KeepsParse, Renews}
+use Rattle.group_rules.specs.declared.GroupError.{GroupError}
+use Rattle.group_rules.specs.Group.{doc_in}
+use Rattle.group_rules.specs.Joint.{FlatBatch, batch_for}
+use Rattle.group_rules.specs.Going.{front_tag}
+use Rattle.group_rules.specs.Together.{gone_with}
+use Rattle.model_page.specs.declared.change.Way.{Way}
+use Rattle.model_core.specs.Edited.{HasEdited}
+use Rattle.model_core.specs.Going.{HasGone}
+use Rattle.model_core.specs.State.{ModelState, KeepsParse}
+use Rattle.model_group.specs.State.{GroupState, EachModel, KeepAllParses, documents}
+use Rattle.model_group.specs.Prepared.{going_along}
 
 -- the text of now was kept, under the id that is answered
 abbrev pub Shelves : Result ℕ ModelError → ModelState → ModelState → Type 0
 Shelves result old new =
     ChangesWith old.document.shelf.next_id result old.document new.document (flat_snapshot old.document) × KeepsParse old new
 
--- a question about brackets, which wants no memory where the tree is of the text of now
-abbrev pub Asks : {A : Type 0} → (FlatState → Result A FlatRefusal) → Result A ModelError → ModelState → ModelState → Type 0
-Asks rule result old new =
-    Gives result (rule old.document) × Renews result old new × (old.fresh ≡ true → ¬ (result ≡ Err error.Memory))
+-- ---- calls on several documents
 
--- the brackets of the lines from one to another were appended, and their places are small
-abbrev pub AppendsBrackets : ℕ → ℕ → Result ⊤ ModelError → List Entry → List Entry → ModelState → ModelState → Type 0
-AppendsBrackets from to result out out' old new =
-    Appends result out out' (flat_brackets old.document from to)
-    × ((entries : List Entry) → flat_brackets old.document from to ≡ Ok entries
-    → OnOk result (All (λ (e : Entry). IsSmall e.place) entries))
-    × Renews result old new
+-- the model of a document that has a batch, and of one that has none
+abbrev pub HasJoined : Option (List Op) → ModelState → ModelState → Type 0
+HasJoined (Some ops) old new = HasEdited ops (Ok tt) old new
+HasJoined None old new = KeepsParse old new
+
+abbrev pub AllJoin : List FlatBatch → Result ⊤ GroupError → GroupState → GroupState → Type 0
+AllJoin batches (Ok x) old new = EachModel (λ n m k. HasJoined (batch_for n batches) m k) old new
+AllJoin batches (Err e) old new = KeepAllParses old new
+
+-- the model of a document that goes its next step, and of one that stays
+abbrev pub GoesOrStays : Way → Bool → ModelState → ModelState → Type 0
+GoesOrStays way true old new = HasGone way (Ok true) old new
+GoesOrStays way false old new = KeepsParse old new
+
+-- these documents go their next step, if there is one, and the others stay
+abbrev pub TheyGo : Way → (ℕ → Bool) → Result Bool GroupError → GroupState → GroupState → Type 0
+TheyGo way docs (Ok true) old new = EachModel (λ n m k. GoesOrStays way (docs n) m k) old new
+TheyGo way docs (Ok false) old new = KeepAllParses old new
+TheyGo way docs (Err e) old new = KeepAllParses old new
+
+-- the document of this number and those that go its next step with it
+abbrev pub going_with : Way → GroupState → ℕ → ℕ → Bool
+going_with way g doc = let f = doc_in (documents g) doc in gone_with doc (front_tag ((going_along way).steps f))
+
+abbrev pub AllGo : Way → ℕ → Result Bool GroupError → GroupState → GroupState → Type 0
+AllGo way doc result old new = TheyGo way (going_with way old doc) result old new

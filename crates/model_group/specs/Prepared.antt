@@ -1,23 +1,24 @@
 -- Changes of several documents that were prepared before the first of them is carried out.
-use Rattle.std.specs.Prelude.{◌≡◌, ℕ, ◌<◌, ◌≤◌, ◌==◌, nat_le, Bool, true, false, if◌then◌else◌, List, [], ◌∷◌, length, slice_get, Option, Some, None, Result, Ok, ⊤}
+use Rattle.std.specs.Prelude.{◌≡◌, ℕ, ◌<◌, ◌==◌, ◌&&◌, nat_lt, nat_le, Bool, true, false, if◌then◌else◌, List, [], ◌∷◌, length, map, slice_get, Option, Some, None, All, ⊤}
 use Rattle.undo_rules.specs.declared.Tag.{Tag}
+use Rattle.undo_rules.specs.Tags.{is_member}
 use Rattle.text_rules.specs.declared.Op.{Op}
 use Rattle.document_rules.specs.declared.ModelError.{ModelError}
 use Rattle.document_rules.specs.declared.ModelError.TheVariants.{Unknown, Range, Overlap, Limit, Memory}
 use Rattle.document_rules.specs.Refusals.{range, overlap, limit}
 use Rattle.document_rules.specs.Document.{FlatState, flat_tag}
 use Rattle.group_rules.specs.declared.TheConstants.{DOC_COUNT}
-use Rattle.group_rules.specs.Group.{FlatGroup, is_member}
-use Rattle.group_rules.specs.Joint.{FlatBatch, some_refused}
+use Rattle.group_rules.specs.Group.{FlatGroup, doc_in, lost_by_change, with_changed}
+use Rattle.group_rules.specs.Joint.{FlatBatch, batch_for, docs_of, some_refused}
 use Rattle.group_rules.specs.Going.{Going, undoing, redoing}
 use Rattle.model_page.specs.declared.change.Way.{Way}
 use Rattle.model_page.specs.declared.change.Way.TheVariants.{Back, On}
 use Rattle.model_core.specs.declared.ready.Action.{Action}
 use Rattle.model_core.specs.State.{ModelState, KeepsParse}
-use Rattle.model_core.specs.Prepared.{Prepared, ActsAlone, IsEditReady, IsMoveReady, PreparesEdit, PreparesMove}
-use Rattle.model_core.specs.Ways.{flat_move}
+use Rattle.model_core.specs.Prepared.{Prepared, ActsAlone, HasActed, IsEditReady, IsMoveReady}
+use Rattle.model_core.specs.Ways.{next_steps}
 use Rattle.model_group.specs.declared.joint.DocReady.{DocReady}
-use Rattle.model_group.specs.State.{GroupState}
+use Rattle.model_group.specs.State.{GroupState, ActsOn, documents}
 
 -- ---- for each document at most one
 
@@ -35,40 +36,55 @@ pub record IsReadyIn (P : ModelState → Prepared → Type 0) (g : GroupState) (
   pub there : r.doc < DOC_COUNT
   pub ready : (m : ModelState) → slice_get g r.doc ≡ Some m → P m r.ready
 
--- the model keeps its document, and room that was there stays
+-- Each was prepared for another document of the group, and what there is for a document is as this says of its number and model.
+pub record AreReady (is : ℕ → ModelState → Option Prepared → Type 0) (g : GroupState) (ready : List DocReady) : Type 0 where
+  pub apart : AreApart ready
+  pub there : All (λ (r : DocReady). r.doc < DOC_COUNT) ready
+  pub each : (n : ℕ) (m : ModelState) → slice_get g n ≡ Some m → is n m (ready_for n ready)
+
+-- the model keeps its document, its last parse, and room that was there
 pub record Keeps (old new : ModelState) : Type 0 where
   pub document : new.document ≡ old.document
   pub parse : KeepsParse old new
 
+-- a call prepares a change on the model, and what it answers is told of that
+pub record Prepares (told : ModelState → Type 0) (old new : ModelState) : Type 0 where
+  pub kept : Keeps old new
+  pub ready : told new
+
 -- ---- what is done
+
+-- a change of the model, by this rule of the document
+pub record Does (act : Action → FlatState → FlatState → Type 0) (action : Action) (old new : ModelState) : Type 0 where
+  pub document : act action old.document new.document
+  pub parse : HasActed action old new
 
 abbrev pub Committed : (Action → FlatState → FlatState → Type 0) → Option Prepared → ModelState → ModelState → Type 0
 Committed act None old new = new ≡ old
-Committed act (Some ready) old new = act ready.action old.document new.document
+Committed act (Some ready) old new = Does act ready.action old new
 
 -- Each was carried out on its document, by this rule, and the models of the other documents are as they were.
 pub record CommitAll (act : Action → FlatState → FlatState → Type 0) (ready : List DocReady) (old new : GroupState) : Type 0 where
   pub count : length new ≡ length old
   pub each : (n : ℕ) (m k : ModelState) → slice_get old n ≡ Some m → slice_get new n ≡ Some k → Committed act (ready_for n ready) m k
 
+-- It was carried out on its document, by this rule, and the tags are lost of what that could redo.
+pub record Commits (act : Action → FlatState → FlatState → Type 0) (one : DocReady) (old new : GroupState) : Type 0 where
+  pub documents : let g = documents old in
+      documents new ≡ with_changed g (lost_by_change (doc_in g one.doc)) one.doc (doc_in (documents new) one.doc)
+  pub models : ActsOn one.doc (Does act one.ready.action) old new
+
 -- ---- batches
 
--- a batch is prepared on the model, which keeps its document, or refused
-pub record PreparesBatch (ops : List Op) (result : Result Prepared ModelError) (old new : ModelState) : Type 0 where
-  pub kept : Keeps old new
-  pub ready : PreparesEdit ops result new
+abbrev pub IsBatchReady : Option (List Op) → ModelState → Option Prepared → Type 0
+IsBatchReady None m ready = ready ≡ None
+IsBatchReady (Some ops) m None = ⊥
+IsBatchReady (Some ops) m (Some ready) = IsEditReady ops m ready
 
--- a prepared batch, and the number of its document
-pub record IsBatchReady (g : GroupState) (b : FlatBatch) (r : DocReady) : Type 0 where
-  pub doc : r.doc ≡ b.doc
-  pub ready : (m : ModelState) → slice_get g b.doc ≡ Some m → IsEditReady b.ops m r.ready
-
--- each batch in its order
-abbrev pub AreBatchesReady : GroupState → List FlatBatch → List DocReady → Type 0
-AreBatchesReady g [] [] = ⊤
-AreBatchesReady g (b ∷ batches) (r ∷ ready) = IsBatchReady g b r × AreBatchesReady g batches ready
-AreBatchesReady g [] (r ∷ ready) = ⊥
-AreBatchesReady g (b ∷ batches) [] = ⊥
+-- each batch, in its order
+pub record AreBatchesReady (g : GroupState) (batches : List FlatBatch) (ready : List DocReady) : Type 0 where
+  pub docs : map (λ (r : DocReady). r.doc) ready ≡ docs_of batches
+  pub all : AreReady (λ n. IsBatchReady (batch_for n batches)) g ready
 
 -- an edit of some ops
 pub record IsSomeEdit (now : ModelState) (ready : Prepared) : Type 0 where
@@ -115,18 +131,11 @@ abbrev pub going_along : Way → Going
 going_along Back = undoing
 going_along On = redoing
 
--- a step is prepared on the model, which keeps its document, or refused
-pub record PreparesStep (way : Way) (result : Result (Option Prepared) ModelError) (old new : ModelState) : Type 0 where
-  pub kept : Keeps old new
-  pub ready : PreparesMove way result new
-
 -- the step of a document of the tag; there may be none
 abbrev pub IsStepReady : Way → Bool → ModelState → Option Prepared → Type 0
-IsStepReady way of_tag m None = of_tag ≡ true → flat_move way m.document ≡ Ok None
+IsStepReady way of_tag m None = of_tag ≡ true → next_steps way m.document.history ≡ []
 IsStepReady way of_tag m (Some ready) = (of_tag ≡ true) × IsMoveReady way m ready
 
 -- the steps of the tag's documents below this number
-pub record AreStepsReady (way : Way) (tag : Tag) (end : ℕ) (g : GroupState) (ready : List DocReady) : Type 0 where
-  pub apart : AreApart ready
-  pub below : (n : ℕ) → end ≤ n → ready_for n ready ≡ None
-  pub each : (n : ℕ) (m : ModelState) → n < end → slice_get g n ≡ Some m → IsStepReady way (is_member n tag) m (ready_for n ready)
+abbrev pub AreStepsReady : Way → Tag → ℕ → GroupState → List DocReady → Type 0
+AreStepsReady way tag end g ready = AreReady (λ n. IsStepReady way (nat_lt n end && is_member n tag)) g ready

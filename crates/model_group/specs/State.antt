@@ -1,7 +1,7 @@
 -- What contracts see of a group: a model for each number.
-use Rattle.std.specs.Prelude.{◌≡◌, ℕ, List, map, slice_get, slice_set, Some}
+use Rattle.std.specs.Prelude.{◌≡◌, ◌≢◌, ℕ, List, map, slice_get, slice_set, Some}
 use Rattle.group_rules.specs.Group.{FlatGroup}
-use Rattle.model_core.specs.State.{ModelState}
+use Rattle.model_core.specs.State.{ModelState, KeepsParse}
 
 abbrev pub GroupState : Type 0
 GroupState = List ModelState
@@ -17,3 +17,20 @@ pub record OnDoc (n : ℕ) (call : ModelState → ModelState → Type 0) (old ne
   pub is : slice_get old n ≡ Some before
   pub done : call before after
   pub rest : new ≡ slice_set old n after
+
+-- what holds of each model by its number
+abbrev pub EachModel : (ℕ → ModelState → ModelState → Type 0) → GroupState → GroupState → Type 0
+EachModel holds old new = (n : ℕ) (m k : ModelState) → slice_get old n ≡ Some m → slice_get new n ≡ Some k → holds n m k
+
+-- every model keeps its last parse, its pieces and its room
+abbrev pub KeepAllParses : GroupState → GroupState → Type 0
+KeepAllParses old new = EachModel (λ n m k. KeepsParse m k) old new
+
+-- every document stays as well
+pub record KeepAll (old new : GroupState) : Type 0 where
+  pub documents : documents new ≡ documents old
+  pub parses : KeepAllParses old new
+
+-- a call on the model of this number, beside which every other one keeps its last parse, its pieces and its room
+abbrev pub ActsOn : ℕ → (ModelState → ModelState → Type 0) → GroupState → GroupState → Type 0
+ActsOn doc call old new = EachModel (λ n m k. (n ≡ doc → call m k) × (n ≢ doc → KeepsParse m k)) old new

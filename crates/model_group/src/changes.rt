@@ -4,13 +4,21 @@ ghost use Rattle.std.specs.Prelude.{◌<◌, length};
 ghost use Rattle.hiding_rules.specs.Hidden.{scanner};
 ghost use Rattle.document_rules.specs.Outcomes.{Changes, Moves};
 ghost use Rattle.group_rules.specs.declared.TheConstants.{DOC_COUNT};
-ghost use Rattle.group_rules.specs.Group.{group_open, group_edit, group_eol, group_replace_all};
-ghost use Rattle.model_group.specs.State.{documents};
+ghost use Rattle.group_rules.specs.Group.{doc_in, lost_by_change, lost_by_open, group_open, group_edit, group_eol, group_replace_all};
+ghost use Rattle.group_rules.specs.Together.{Stay, reached};
+ghost use Rattle.model_core.specs.Edited.{HasEdited, HasRecast};
+ghost use Rattle.model_core.specs.Opened.{HasOpened};
+ghost use Rattle.model_core.specs.Prepared.{Acts, ActsAlone, CanCommit, PreparesEol};
+ghost use Rattle.model_core.specs.Replaced.{HasReplaced, PreparesReplace};
+ghost use Rattle.model_group.specs.Prepared.{Commits, Does, IsReadyIn, Prepares};
+ghost use Rattle.model_group.specs.State.{ActsOn, OnDoc, documents};
+ghost use Rattle.unit_text.specs.Kinds.{normalized};
 
 use crate::group::Group;
+use crate::joint::DocReady;
 use crate::members::Members;
 use document_rules::ModelError;
-use model_core::{BracketTable, Hiding, Kind, Model, Op};
+use model_core::{BracketTable, Hiding, Kind, Model, Op, Ready};
 
 impl Group {
     /// Puts a new document in place of the one of this number, as `Model::open_doc` does.
@@ -23,8 +31,12 @@ impl Group {
         hiding: Hiding,
     ) -> Result<(), ModelError>
         requires { doc < DOC_COUNT }
-        ensures { Changes result (documents self.old) (documents self.new)
+        ensures documents { Changes result (documents self.old) (documents self.new)
             (group_open (documents self.old) doc text.now (scanner table hiding) kind) }
+        ensures models { ActsOn doc (HasOpened (normalized kind text.now) result)
+            self.old self.new }
+        ensures stay { Stay (reached doc (lost_by_open (doc_in (documents self.old) doc)))
+            (documents self.old) (documents self.new) }
     {
         let model = Model::opened(self.alloc, text, table, kind, hiding)?;
         self.lose_all(doc);
@@ -35,26 +47,30 @@ impl Group {
     /// Carries out the edits at once, as `Model::edit` does.
     pub fn edit(&mut self, doc: u64, ops: Vec<Op>) -> Result<(), ModelError>
         requires { doc < DOC_COUNT }
-        ensures { Changes result (documents self.old) (documents self.new)
+        ensures documents { Changes result (documents self.old) (documents self.new)
             (group_edit (documents self.old) doc ops.items) }
+        ensures models { ActsOn doc (HasEdited ops.items result) self.old self.new }
+        ensures stay { Stay (reached doc (lost_by_change (doc_in (documents self.old) doc)))
+            (documents self.old) (documents self.new) }
     {
-        let ready = self.models[doc as usize].prepare(ops)?;
-        self.lose_redo(doc, Members::one(doc));
-        self.models[doc as usize].commit(ready);
+        let ready = self.prepare_batch(doc, ops)?;
+        self.commit(DocReady { doc, ready });
         Ok(())
     }
 
     /// Changes the line endings to those of the kind, as `Model::set_eol` does.
     pub fn set_eol(&mut self, doc: u64, kind: Kind) -> Result<bool, ModelError>
         requires { doc < DOC_COUNT }
-        ensures { Moves result (documents self.old) (documents self.new)
+        ensures documents { Moves result (documents self.old) (documents self.new)
             (group_eol (documents self.old) doc kind) }
+        ensures models { ActsOn doc (HasRecast result) self.old self.new }
+        ensures stay { Stay (reached doc (lost_by_change (doc_in (documents self.old) doc)))
+            (documents self.old) (documents self.new) }
     {
-        let Some(ready) = self.models[doc as usize].prepare_eol(kind)? else {
+        let Some(ready) = self.prepare_eol(doc, kind)? else {
             return Ok(false);
         };
-        self.lose_redo(doc, Members::one(doc));
-        self.models[doc as usize].commit(ready);
+        self.commit(DocReady { doc, ready });
         Ok(true)
     }
 
@@ -67,14 +83,63 @@ impl Group {
     ) -> Result<bool, ModelError>
         requires there { doc < DOC_COUNT }
         requires some { 0 < length sought.now }
-        ensures { Moves result (documents self.old) (documents self.new)
+        ensures documents { Moves result (documents self.old) (documents self.new)
             (group_replace_all (documents self.old) doc sought.now with.now) }
+        ensures models { ActsOn doc (HasReplaced sought.now with.now result)
+            self.old self.new }
+        ensures stay { Stay (reached doc (lost_by_change (doc_in (documents self.old) doc)))
+            (documents self.old) (documents self.new) }
     {
-        let Some(ready) = self.models[doc as usize].prepare_replace_all(sought, with)? else {
+        let Some(ready) = self.prepare_replace_all(doc, sought, with)? else {
             return Ok(false);
         };
-        self.lose_redo(doc, Members::one(doc));
-        self.models[doc as usize].commit_alone(ready);
+        self.commit_alone(DocReady { doc, ready });
         Ok(true)
+    }
+
+    fn prepare_eol(&mut self, doc: u64, kind: Kind) -> Result<Option<Ready>, ModelError>
+        requires { doc < DOC_COUNT }
+        ensures { OnDoc doc (Prepares (PreparesEol kind result)) self.old self.new }
+    {
+        self.models[doc as usize].prepare_eol(kind)
+    }
+
+    fn prepare_replace_all(
+        &mut self,
+        doc: u64,
+        sought: &[u16],
+        with: &[u16],
+    ) -> Result<Option<Ready>, ModelError>
+        requires there { doc < DOC_COUNT }
+        requires some { 0 < length sought.now }
+        ensures { OnDoc doc (Prepares (PreparesReplace sought.now with.now result))
+            self.old self.new }
+    {
+        self.models[doc as usize].prepare_replace_all(sought, with)
+    }
+
+    // Carries out what was prepared, after what the document could redo is lost.
+    fn commit(&mut self, one: DocReady)
+        requires { IsReadyIn CanCommit self.old one }
+        ensures { Commits Acts one self.old self.new }
+    {
+        self.lose_redo(one.doc, Members::one(one.doc));
+        self.commit_step(one);
+    }
+
+    // The same as a step of undo of its own.
+    fn commit_alone(&mut self, one: DocReady)
+        requires { IsReadyIn CanCommit self.old one }
+        ensures { Commits ActsAlone one self.old self.new }
+    {
+        self.lose_redo(one.doc, Members::one(one.doc));
+        self.step_alone(one);
+    }
+
+    fn step_alone(&mut self, one: DocReady)
+        requires { IsReadyIn CanCommit self.old one }
+        ensures { OnDoc one.doc (Does ActsAlone one.ready.action) self.old self.new }
+    {
+        self.models[one.doc as usize].commit_alone(one.ready);
     }
 }

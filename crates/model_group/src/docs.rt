@@ -9,12 +9,14 @@ ghost use Rattle.document_rules.specs.Brackets.{flat_match, flat_level};
 ghost use Rattle.group_rules.specs.Group.{doc_in};
 ghost use Rattle.model_core.specs.Decorating.{HasDecorated};
 ghost use Rattle.model_core.specs.State.{KeepsParse};
-ghost use Rattle.model_group.specs.Calls.{AppendsBrackets, Asks, Shelves};
+ghost use Rattle.model_core.specs.Questions.{AppendsBrackets, AreFewSteps, Asks};
+ghost use Rattle.model_group.specs.Calls.{Shelves};
 ghost use Rattle.model_group.specs.State.{OnDoc, documents};
 
 use crate::group::Group;
 use document_rules::ModelError;
 use model_core::{Entry, NewDeco, Position};
+use steps::Steps;
 
 impl Group {
     /// The next edit of the document begins a step of undo.
@@ -77,34 +79,47 @@ impl Group {
         self.models[doc as usize].locate(p)
     }
 
-    /// Appends the brackets of these lines.
-    pub fn brackets_in(
+    /// Appends the brackets of these lines. Each call that asks the tree of the last parse for a node or a bracket is a step.
+    pub fn brackets_in<L>(
         &mut self,
         doc: u64,
         from: u64,
         to: u64,
         out: &mut Vec<Entry>,
+        steps: &mut Steps<L>,
     ) -> Result<(), ModelError>
         requires { doc < DOC_COUNT }
-        ensures { OnDoc doc (AppendsBrackets from to result out.old.items out.new.items)
-            self.old self.new }
+        ensures { OnDoc doc (λ m k. AppendsBrackets from to result out.old.items
+            out.new.items m k × AreFewSteps steps.old steps.new m) self.old self.new }
     {
-        self.models[doc as usize].brackets_in(from, to, out)
+        self.models[doc as usize].brackets_in_counted(from, to, out, steps)
     }
 
-    /// The partner of the bracket at the position, and how many units it has.
-    pub fn match_at(&mut self, doc: u64, p: Position) -> Result<Option<(Position, u64)>, ModelError>
+    /// The partner of the bracket at the position, and how many units it has. Steps are counted as by `brackets_in`.
+    pub fn match_at<L>(
+        &mut self,
+        doc: u64,
+        p: Position,
+        steps: &mut Steps<L>,
+    ) -> Result<Option<(Position, u64)>, ModelError>
         requires { doc < DOC_COUNT }
-        ensures { OnDoc doc (Asks (λ f. flat_match f p) result) self.old self.new }
+        ensures { OnDoc doc (λ old new. Asks (λ f. flat_match f p) result old new
+            × AreFewSteps steps.old steps.new old) self.old self.new }
     {
-        self.models[doc as usize].match_at(p)
+        self.models[doc as usize].match_at_counted(p, steps)
     }
 
-    /// How many brackets are open at the position.
-    pub fn level_at(&mut self, doc: u64, p: Position) -> Result<u64, ModelError>
+    /// How many brackets are open at the position. Steps are counted as by `brackets_in`.
+    pub fn level_at<L>(
+        &mut self,
+        doc: u64,
+        p: Position,
+        steps: &mut Steps<L>,
+    ) -> Result<u64, ModelError>
         requires { doc < DOC_COUNT }
-        ensures { OnDoc doc (Asks (λ f. flat_level f p) result) self.old self.new }
+        ensures { OnDoc doc (λ old new. Asks (λ f. flat_level f p) result old new
+            × AreFewSteps steps.old steps.new old) self.old self.new }
     {
-        self.models[doc as usize].level_at(p)
+        self.models[doc as usize].level_at_counted(p, steps)
     }
 }

@@ -1,17 +1,21 @@
 //! Undo and redo.
 
-ghost use Rattle.std.specs.Prelude.{◌≡◌, ◌+◌, ◌<◌, ◌&&◌, true, false, not, length, IfOk, IfErr, OnOk};
+ghost use Rattle.std.specs.Prelude.{◌≡◌, ◌==◌, ◌+◌, ◌<◌, ◌&&◌, nat_lt, true, false, not, length, Ok, IfOk, IfErr, OnOk};
 ghost use Rattle.std.specs.List.{All};
+ghost use Rattle.undo_rules.specs.Tags.{is_member};
 ghost use Rattle.document_rules.specs.Outcomes.{Moves};
 ghost use Rattle.document_rules.specs.Document.{flat_undo, flat_redo};
 ghost use Rattle.group_rules.specs.declared.TheConstants.{DOC_COUNT};
-ghost use Rattle.group_rules.specs.Going.{group_undo, group_redo, group_go, go_together, gone_in, front_tag, is_front, is_last_version, some_last_from, other_next_from};
-ghost use Rattle.group_rules.specs.Group.{doc_in, is_member};
+ghost use Rattle.group_rules.specs.Going.{group_undo, group_redo, group_go, go_by, go_together, gone_in, front_tag, is_front, is_last_version, some_last_from, other_next_from};
+ghost use Rattle.group_rules.specs.Group.{doc_in};
 ghost use Rattle.group_rules.specs.Outcomes.{MovesAll};
-ghost use Rattle.model_core.specs.Prepared.{Acts, CanCommit};
+ghost use Rattle.group_rules.specs.Together.{Stay, AllGoOn, gone_with};
+ghost use Rattle.model_core.specs.Going.{HasGone};
+ghost use Rattle.model_core.specs.Prepared.{Acts, CanCommit, PreparesMove};
 ghost use Rattle.model_core.specs.Ways.{flat_move};
-ghost use Rattle.model_group.specs.State.{OnDoc, documents};
-ghost use Rattle.model_group.specs.Prepared.{AreApart, AreStepsReady, CommitAll, IsReadyIn, PreparesStep, going_along};
+ghost use Rattle.model_group.specs.Calls.{AllGo, TheyGo, going_with};
+ghost use Rattle.model_group.specs.State.{KeepAll, OnDoc, documents};
+ghost use Rattle.model_group.specs.Prepared.{AreApart, AreStepsReady, CommitAll, Does, IsReadyIn, Prepares, going_along};
 
 use crate::errors::group_error_of;
 use crate::group::Group;
@@ -31,8 +35,13 @@ impl Group {
     /// is not the last one of the least document that it names. All memory is taken before the first change.
     pub fn undo(&mut self, doc: u64) -> Result<bool, GroupError>
         requires { doc < DOC_COUNT }
-        ensures { MovesAll result (documents self.old) (documents self.new)
+        ensures documents { MovesAll result (documents self.old) (documents self.new)
             (group_undo (documents self.old) doc) }
+        ensures models { AllGo Way.Back doc result self.old self.new }
+        ensures stay { Stay (going_with Way.Back self.old doc)
+            (documents self.old) (documents self.new) }
+        ensures all { result ≡ Ok true → AllGoOn (going_with Way.Back self.old doc)
+            (documents self.old) (documents self.new) }
     {
         self.go(Way::Back, doc)
     }
@@ -40,18 +49,39 @@ impl Group {
     /// Goes on to the text after the step that was undone last, as `undo` goes back.
     pub fn redo(&mut self, doc: u64) -> Result<bool, GroupError>
         requires { doc < DOC_COUNT }
-        ensures { MovesAll result (documents self.old) (documents self.new)
+        ensures documents { MovesAll result (documents self.old) (documents self.new)
             (group_redo (documents self.old) doc) }
+        ensures models { AllGo Way.On doc result self.old self.new }
+        ensures stay { Stay (going_with Way.On self.old doc)
+            (documents self.old) (documents self.new) }
+        ensures all { result ≡ Ok true → AllGoOn (going_with Way.On self.old doc)
+            (documents self.old) (documents self.new) }
     {
         self.go(Way::On, doc)
     }
 
     fn go(&mut self, way: Way, doc: u64) -> Result<bool, GroupError>
         requires { doc < DOC_COUNT }
-        ensures { MovesAll result (documents self.old) (documents self.new)
+        ensures documents { MovesAll result (documents self.old) (documents self.new)
             (group_go (going_along way) (documents self.old) doc) }
+        ensures models { AllGo way doc result self.old self.new }
+        ensures stay { Stay (going_with way self.old doc)
+            (documents self.old) (documents self.new) }
+        ensures all { result ≡ Ok true → AllGoOn (going_with way self.old doc)
+            (documents self.old) (documents self.new) }
     {
-        match next_tag(&self.models[doc as usize], way) {
+        let tag = next_tag(&self.models[doc as usize], way);
+        self.go_by(way, doc, tag)
+    }
+
+    // The step that has this tag, or none.
+    fn go_by(&mut self, way: Way, doc: u64, tag: Option<Tag>) -> Result<bool, GroupError>
+        requires { doc < DOC_COUNT }
+        ensures documents { MovesAll result (documents self.old) (documents self.new)
+            (go_by (going_along way) (documents self.old) doc tag) }
+        ensures models { TheyGo way (gone_with doc tag) result self.old self.new }
+    {
+        match tag {
             Some(tag) => self.go_together(way, tag),
             None => self.go_alone(way, doc),
         }
@@ -60,8 +90,10 @@ impl Group {
     // One step of the document alone.
     fn go_alone(&mut self, way: Way, doc: u64) -> Result<bool, GroupError>
         requires { doc < DOC_COUNT }
-        ensures { let old = documents self.old in MovesAll result old (documents self.new)
+        ensures documents { let old = documents self.old in
+            MovesAll result old (documents self.new)
             (gone_in old doc ((going_along way).rule (doc_in old doc))) }
+        ensures models { TheyGo way (λ n. n == doc) result self.old self.new }
     {
         self.go_one(way, doc).map_err(group_error_of)
     }
@@ -69,7 +101,7 @@ impl Group {
     fn go_one(&mut self, way: Way, doc: u64) -> Result<bool, ModelError>
         requires { doc < DOC_COUNT }
         ensures { OnDoc doc (λ old new. Moves result old.document new.document
-            (flat_move way old.document)) self.old self.new }
+            (flat_move way old.document) × HasGone way result old new) self.old self.new }
     {
         match way {
             Way::Back => self.undo_one(doc),
@@ -80,7 +112,7 @@ impl Group {
     fn undo_one(&mut self, doc: u64) -> Result<bool, ModelError>
         requires { doc < DOC_COUNT }
         ensures { OnDoc doc (λ old new. Moves result old.document new.document
-            (flat_undo old.document)) self.old self.new }
+            (flat_undo old.document) × HasGone Way.Back result old new) self.old self.new }
     {
         self.models[doc as usize].undo()
     }
@@ -88,15 +120,17 @@ impl Group {
     fn redo_one(&mut self, doc: u64) -> Result<bool, ModelError>
         requires { doc < DOC_COUNT }
         ensures { OnDoc doc (λ old new. Moves result old.document new.document
-            (flat_redo old.document)) self.old self.new }
+            (flat_redo old.document) × HasGone Way.On result old new) self.old self.new }
     {
         self.models[doc as usize].redo()
     }
 
     // The step of the tag in all of its documents.
     fn go_together(&mut self, way: Way, tag: Tag) -> Result<bool, GroupError>
-        ensures { MovesAll result (documents self.old) (documents self.new)
+        ensures documents { MovesAll result (documents self.old) (documents self.new)
             (go_together (going_along way) (documents self.old) tag) }
+        ensures models { TheyGo way (λ n. nat_lt n DOC_COUNT && is_member n tag) result
+            self.old self.new }
     {
         if self.some_last(tag) {
             return Err(GroupError::Limit);
@@ -135,10 +169,11 @@ impl Group {
     }
 
     // Prepares the step in each of the tag's documents.
+    #[tactic(auto, using(crate::proofs::Committing::keep_same, crate::proofs::Committing::keep_then, crate::proofs::Goings::no_steps))]
     fn prepare_steps(&mut self, way: Way, tag: Tag) -> Result<Vec<DocReady>, GroupError>
         requires { some_last_from 0 tag (documents self.old) ≡ false }
-        ensures count { length self.new ≡ DOC_COUNT }
-        ensures documents { documents self.new ≡ documents self.old }
+        ensures count { length self.old ≡ DOC_COUNT }
+        ensures kept { KeepAll self.old self.new }
         ensures ready { IfOk result
             (λ ready. AreStepsReady way tag DOC_COUNT self.new ready.items) }
         ensures memory { IfErr result (λ e. e ≡ GroupError.Memory) }
@@ -153,6 +188,7 @@ impl Group {
     }
 
     // Prepares the step of the document too, if it is one of the tag's.
+    #[tactic(auto, using(crate::proofs::Committing::keep_same))]
     fn prepare_step(
         &mut self,
         way: Way,
@@ -163,7 +199,7 @@ impl Group {
         requires there { doc < DOC_COUNT }
         requires last { some_last_from 0 tag (documents self.old) ≡ false }
         requires ready { AreStepsReady way tag doc self.old ready.old.items }
-        ensures documents { documents self.new ≡ documents self.old }
+        ensures kept { KeepAll self.old self.new }
         ensures ready { OnOk result (AreStepsReady way tag (doc + 1) self.new ready.new.items) }
         ensures memory { IfErr result (λ e. e ≡ GroupError.Memory) }
     {
@@ -181,7 +217,7 @@ impl Group {
 
     fn prepare_move(&mut self, way: Way, doc: u64) -> Result<Option<Ready>, ModelError>
         requires { doc < DOC_COUNT }
-        ensures { OnDoc doc (PreparesStep way result) self.old self.new }
+        ensures { OnDoc doc (Prepares (PreparesMove way result)) self.old self.new }
     {
         let model = &mut self.models[doc as usize];
         match way {
@@ -200,11 +236,9 @@ impl Group {
         }
     }
 
-    fn commit_step(&mut self, one: DocReady)
+    pub(crate) fn commit_step(&mut self, one: DocReady)
         requires { IsReadyIn CanCommit self.old one }
-        ensures { OnDoc one.doc
-            (λ old new. Acts one.ready.action old.document new.document)
-            self.old self.new }
+        ensures { OnDoc one.doc (Does Acts one.ready.action) self.old self.new }
     {
         self.models[one.doc as usize].commit(one.ready);
     }

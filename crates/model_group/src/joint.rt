@@ -1,14 +1,17 @@
 //! One batch in each of several documents, all or none.
 
-ghost use Rattle.std.specs.Prelude.{◌≡◌, ◌<◌, ◌≤◌, true, false, Some, None, length, map, IfOk, IfErr, if◌then◌else◌};
+ghost use Rattle.std.specs.Prelude.{◌≡◌, ◌<◌, ◌≤◌, true, false, Some, None, length, map, IfOk, IfErr, OnOk, if◌then◌else◌};
 ghost use Rattle.std.specs.List.{All, flat_map};
 ghost use Rattle.group_rules.specs.declared.TheConstants.{DOC_COUNT};
 ghost use Rattle.group_rules.specs.Group.{doc_in, lost_by_change};
 ghost use Rattle.group_rules.specs.Joint.{flat_batch, docs_of, names_badly, joint_refusal, members_of, least_of, tag_of, group_joint};
 ghost use Rattle.group_rules.specs.Outcomes.{ChangesAll, IsRefusedFor};
-ghost use Rattle.model_group.specs.State.{OnDoc, documents};
+ghost use Rattle.group_rules.specs.Together.{Stay, AllGoOn, named_by, reached_by_joint};
+ghost use Rattle.model_group.specs.Calls.{AllJoin};
+ghost use Rattle.model_group.specs.State.{KeepAll, OnDoc, documents};
 ghost use Rattle.model_group.specs.Losing.{has_doc, LoseTags};
-ghost use Rattle.model_group.specs.Prepared.{AreApart, AreBatchesReady, ActsTagged, CommitAll, IsReadyIn, IsSomeEdit, PreparesBatch, cause, first_of};
+ghost use Rattle.model_core.specs.Prepared.{PreparesEdit};
+ghost use Rattle.model_group.specs.Prepared.{AreApart, AreBatchesReady, ActsTagged, CommitAll, Does, IsReadyIn, IsSomeEdit, Prepares, cause, first_of};
 
 use crate::errors::group_error_of;
 use crate::group::Group;
@@ -32,8 +35,13 @@ impl Group {
     pub fn joint(&mut self, batches: Vec<DocBatch>) -> Result<(), GroupError>
         requires several { 2 ≤ length batches.items }
         requires some { All (λ b. 0 < length b.ops.items) batches.items }
-        ensures { ChangesAll result (documents self.old) (documents self.new)
+        ensures documents { ChangesAll result (documents self.old) (documents self.new)
             (group_joint (documents self.old) (map flat_batch batches.items)) }
+        ensures models { AllJoin (map flat_batch batches.items) result self.old self.new }
+        ensures stay { Stay (reached_by_joint (documents self.old) (map flat_batch batches.items))
+            (documents self.old) (documents self.new) }
+        ensures all { OnOk result (AllGoOn (named_by (map flat_batch batches.items))
+            (documents self.old) (documents self.new)) }
     {
         let members = members_of(&batches).ok_or(GroupError::Unknown)?;
         let tag = self.tag_of(&batches, members);
@@ -58,10 +66,12 @@ impl Group {
         }
     }
 
-    // Prepares each batch. The refusal that comes first by its cause stands for all.
+    // Prepares each batch. Of several refusals the first by its cause is answered.
+    #[tactic(auto, using(crate::proofs::Committing::keep_same))]
     fn prepare_batches(&mut self, batches: Vec<DocBatch>) -> Result<Vec<DocReady>, GroupError>
         requires { names_badly (docs_of (map flat_batch batches.items)) ≡ false }
-        ensures documents { documents self.new ≡ documents self.old }
+        ensures count { length self.old ≡ DOC_COUNT }
+        ensures kept { KeepAll self.old self.new }
         ensures ready { IfOk result
             (λ ready. AreBatchesReady self.new (map flat_batch batches.items) ready.items) }
         ensures accepted { IfOk result (λ ready.
@@ -88,9 +98,9 @@ impl Group {
         }
     }
 
-    fn prepare_batch(&mut self, doc: u64, ops: Vec<Op>) -> Result<Ready, ModelError>
+    pub(crate) fn prepare_batch(&mut self, doc: u64, ops: Vec<Op>) -> Result<Ready, ModelError>
         requires { doc < DOC_COUNT }
-        ensures { OnDoc doc (PreparesBatch ops.items result) self.old self.new }
+        ensures { OnDoc doc (Prepares (PreparesEdit ops.items result)) self.old self.new }
     {
         self.models[doc as usize].prepare(ops)
     }
@@ -120,9 +130,7 @@ impl Group {
 
     fn commit_batch(&mut self, one: DocReady, tag: Tag)
         requires { IsReadyIn IsSomeEdit self.old one }
-        ensures { OnDoc one.doc
-            (λ old new. ActsTagged tag one.ready.action old.document new.document)
-            self.old self.new }
+        ensures { OnDoc one.doc (Does (ActsTagged tag) one.ready.action) self.old self.new }
     {
         let model = &mut self.models[one.doc as usize];
         model.commit_alone(one.ready);

@@ -2,8 +2,8 @@
 
 ghost use Rattle.std.specs.Prelude.{◌≡◌, ◌==◌, ◌+◌, ◌^◌, ◌<◌, false};
 ghost use Rattle.std.specs.Int.{bit_at};
+ghost use Rattle.undo_rules.specs.Tags.{is_member};
 ghost use Rattle.group_rules.specs.declared.TheConstants.{DOC_COUNT};
-ghost use Rattle.group_rules.specs.Group.{is_member};
 
 use group_rules::DOC_COUNT;
 use std::marker::Model;

@@ -14,7 +14,6 @@ use bracket_nodes::{Entry, Node};
 use line_states::LineStates;
 use node_reuse::{Parsed, reparse};
 use std::alloc::{AllocError, Global};
-use std::sync::ledger::Ledger;
 use steps::Steps;
 
 impl Page {
@@ -42,8 +41,8 @@ impl Page {
     }
 
     /// Parses the text again, where the tree of the last parse is not that of it. An error comes only there, and leaves all
-    /// as it was. Each call that asks the old tree for a node or a bracket is a step.
-    pub fn renew<L: Ledger>(&mut self, steps: &mut Steps<L>) -> Result<(), AllocError>
+    /// as it was. Each call that asks the old text is a step.
+    pub fn renew<L>(&mut self, steps: &mut Steps<L>) -> Result<(), AllocError>
         ensures parse { Renews result self.old self.new }
         ensures sure { is_fresh self.old ≡ true → OnErr result ⊥ }
         ensures steps { TakesFewSteps self.old.tree self.old.states self.old.marks
@@ -59,8 +58,8 @@ impl Page {
 
     /// Appends the brackets of the lines `from` to `to`, both counted from 0 and both included, in the order of the text. The
     /// text is parsed again where the tree of the last parse is not that of it. After an error `out` is as it was, and so is
-    /// the page. Each call that asks the old tree for a node or a bracket is a step.
-    pub fn brackets_in<L: Ledger>(
+    /// the page. Each call that asks the old text is a step.
+    pub fn brackets_in<L>(
         &mut self,
         from: u64,
         to: u64,
@@ -85,12 +84,8 @@ impl Page {
     }
 
     // The parse of the text, with what may be taken over of the last one, and the states of its lines. It asks for the
-    // lines alone that are new or begin in another state. Each call that asks the old tree for a node or a bracket is a
-    // step.
-    fn parse_again<L: Ledger>(
-        &self,
-        steps: &mut Steps<L>,
-    ) -> Result<(Parsed, LineStates), AllocError>
+    // lines alone that are new or begin in another state. Each call that asks the old text is a step.
+    fn parse_again<L>(&self, steps: &mut Steps<L>) -> Result<(Parsed, LineStates), AllocError>
         ensures parsed { IfOk result (λ new. IsParseOf self.now.scanner self.now.text.units
             self.now.states self.now.marks new.0) }
         ensures states { IfOk result (λ new.

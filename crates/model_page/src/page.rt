@@ -139,7 +139,7 @@ impl Page {
         self.text.seek(ops);
     }
 
-    /// The offset of the position, or None where it is none of the text. What is looked up is remembered for the edit that
+    /// The offset of the position, or None where it is invalid. What is looked up is remembered for the edit that
     /// comes next.
     pub fn locate(&mut self, position: Position) -> Option<u64>
         ensures offset { result ≡ (if is_position self.old.text.units position

@@ -14,5 +14,6 @@ pub mod KeptReader
 pub mod ReaderCalls
 pub mod WholeReader
 pub mod OneRun
+pub mod NewRuns
 pub mod ReaderPays
 pub mod StepBound

@@ -23,7 +23,7 @@ use Rattle.node_reuse.proofs.KeptSteps.{rows_count}
 
 -- ---- lines that are kept up to the last one
 
-none_behind : (n : ℕ) (lines : List ℕ) → n ∷ lines ≡ [] → ⊥
+pub none_behind : (n : ℕ) (lines : List ℕ) → n ∷ lines ≡ [] → ⊥
 none_behind n lines e = let clash : suc (length lines) ≡ 0 = ap length e in absurd (omega arith)
 
 not_earlier : (n : ℕ) (marks : List Mark) (m : ℕ) (lines : List ℕ) → new_from n marks ≡ m ∷ lines → n ≤ m
@@ -32,7 +32,7 @@ not_earlier n (New ∷ marks) m lines e = let first : n ≡ m = ap (λ (ls : Lis
 not_earlier n (Kept i ∷ marks) m lines e = omega (arith, not_earlier (suc n) marks m lines e)
 
 -- behind a new line and a kept one no line of the run is left
-none_new : (n : ℕ) (marks : List Mark) → IsOneRun (n ∷ new_from (suc (suc n)) marks) → new_from (suc (suc n)) marks ≡ []
+pub none_new : (n : ℕ) (marks : List Mark) → IsOneRun (n ∷ new_from (suc (suc n)) marks) → new_from (suc (suc n)) marks ≡ []
 none_new n marks one = of (new_from (suc (suc n)) marks) refl one
   where
     of : (lines : List ℕ) → new_from (suc (suc n)) marks ≡ lines → IsOneRun (n ∷ lines) → lines ≡ []

@@ -1,5 +1,5 @@
 -- What the calls of a reader come to.
-use Rattle.std.proofs.Common.{◌≡◌, ℕ, suc, ◌+◌, ◌<◌, ◌≤◌, ◌≢◌, ◌⊎◌, inl, inr, Bool, true, false, eqb, Result, Ok, Err, List, [], ◌∷◌, ◌++◌, length, get_or, refl, ap, sym, ◌∙◌, subst, arith, append_assoc}
+use Rattle.std.proofs.Common.{◌≡◌, ℕ, suc, ◌+◌, ◌<◌, ◌≤◌, ◌≢◌, ◌⊎◌, inl, inr, Bool, true, false, eqb, Result, Ok, Err, List, [], ◌∷◌, ◌++◌, length, drop, get_or, refl, ap, sym, ◌∙◌, subst, arith, append_assoc}
 use Rattle.std.specs.Prelude.{IfOk, OnOk, OnErr}
 use Rattle.std.proofs.lemmas.List.{append-nil}
 use Rattle.std.proofs.lemmas.Bool.Decides.{eqb_tells}
@@ -15,6 +15,7 @@ use Rattle.bracket_nodes.specs.Source.{Ahead, Comes, AsksOn}
 use Rattle.bracket_nodes.proofs.Parsing.{AsksOn-then}
 use Rattle.mark_rules.specs.declared.Mark.{Mark}
 use Rattle.mark_rules.specs.declared.Mark.TheVariants.{Kept, New}
+use Rattle.mark_rules.specs.Marks.{new_run}
 use Rattle.reuse_rules.specs.Following.{Reached}
 use Rattle.node_reuse.specs.declared.line.Line.{Line}
 use Rattle.line_states.specs.Lines.{content_at}
@@ -146,35 +147,42 @@ entered_asks s p n line to old new borrows number h unscanned new_mark e f = rec
         let all : length (unasked s.old.marks p line.scanned) ≡ suc (length (new_lines_at (suc p.lines) s.old.marks)) = ap length (left ∙ first) in
         omega arith
 
+-- what is known of new lines at a place
+pub record IsKnown (s : Sight) (p : Length) (line : Line) (new_to : ℕ) : Type 0 where
+  pub told : new_to ≤ p.lines + new_run (drop p.lines s.old.marks)
+  pub scanned : line.scanned ≡ true → p.lines < new_to
+
 -- the lines that it reads are settled as before
-pub still_settled : {A E : Type 0} (r : Result A E) (s : Sight) (settled : SettledState) (p q : Length) (from to : Line) → Stands s settled p from
-    → OnOk r (StandsAt s q to) → OnOk r (Stands s settled q to)
-still_settled (Ok x) s settled p q from to h at = record { at = at; marks = h.marks; states = h.states }
-still_settled (Err e) s settled p q from to h at = tt
+pub still_settled : {A E : Type 0} (r : Result A E) (s : Sight) (settled : SettledState) (p q : Length) (from to : Line) (new_to told : ℕ)
+    → Stands s settled p from new_to → IsKnown s q to told → OnOk r (StandsAt s q to) → OnOk r (Stands s settled q to told)
+still_settled (Ok x) s settled p q from to new_to told h known at =
+    record { at = at; marks = h.marks; states = h.states; told = known.told; scanned = known.scanned }
+still_settled (Err e) s settled p q from to new_to told h known at = tt
 
 -- ---- a call in a new line, whose lines have the same contents afterwards
 
 -- what came next, from this line on, which was entered, to that one
 pub record NextInNew {E : Type 0} (r : Result Next E) (before after : Sight) (settled : SettledState) (asked told : Asked) (p q : Length) (start to : Line)
-    (kinds level : ℕ) : Type 0 where
+    (new_to kinds level : ℕ) : Type 0 where
   pub comes : IfOk r (Comes (seen_at before asked p start) (seen_at after told q to) kinds level)
-  pub stands : OnOk r (Stands after settled q to)
+  pub stands : OnOk r (Stands after settled q to new_to)
   pub asks : AsksOn (asking_at before asked p start) (asking_at after told q to)
 
 pub new_call : {E : Type 0} (r : Result Next E) (by : Scanner) (before after : List (List ℕ)) (old : OldText) (settled : SettledState) → after ≡ before
-    → (asked told borrows : List ℕ) (p q : Length) (start from to : Line) (kinds level : ℕ) → Stands (sight by before old) settled p start
+    → (asked told borrows : List ℕ) (p q : Length) (start from to : Line) (was_to new_to kinds level : ℕ)
+    → Stands (sight by before old) settled p start was_to → IsKnown (sight by before old) q to new_to
     → IfOk r (ReadsOn (sight by before old) p from q to kinds level) → OnErr r (q ≡ p) → OnErr r (to ≡ from)
     → AsksOn (asking_at (sight by before old) (asked_so asked borrows) p start)
     (asking_at (sight by before old) (asked_so told borrows) p from)
-    → NextInNew r (sight by before old) (sight by after old) settled (asked_so asked borrows) (asked_so told borrows) p q start to kinds level
-new_call r by before after old settled same asked told borrows p q start from to kinds level stands reads place line entered =
+    → NextInNew r (sight by before old) (sight by after old) settled (asked_so asked borrows) (asked_so told borrows) p q start to new_to kinds level
+new_call r by before after old settled same asked told borrows p q start from to was_to new_to kinds level stands known reads place line entered =
     let s = sight by before old in
     let was = asked_so asked borrows in
     let now = asked_so told borrows in
-    subst (λ (x : List (List ℕ)). NextInNew r s (sight by x old) settled was now p q start to kinds level) (sym same)
+    subst (λ (x : List (List ℕ)). NextInNew r s (sight by x old) settled was now p q start to new_to kinds level) (sym same)
     (record {
       comes = comes_from_if r s now was p from start (seen_at s now q to) kinds level (reads_comes r s now p q from to kinds level reads);
-      stands = still_settled r s settled p q start to stands (reads_stands r s p q from to kinds level reads);
+      stands = still_settled r s settled p q start to was_to new_to stands known (reads_stands r s p q from to kinds level reads);
       asks =
           AsksOn-then (asking_at s was p start) (asking_at s now p from) (asking_at s now q to) entered
           (reads_asks r s now p q from to kinds level reads place line);
@@ -198,6 +206,11 @@ last_line s p count same within = either (eqb_tells (p.lines + 1) count)
     either (inr more) = let number = more.1 in subst (IsLast s p) (sym more.0) (omega arith)
 
 -- ---- a line that was entered
+
+-- a line that is not known to be new was not scanned
+pub unscanned : (scanned : Bool) (line new_to : ℕ) → (scanned ≡ true → line < new_to) → new_to ≤ line → scanned ≡ false
+unscanned true line new_to h untold = absurd (omega (arith, h refl))
+unscanned false line new_to h untold = refl
 
 -- a reader that stands within a line which it did not scan stands in a kept one
 pub entered_kept : (s : Sight) (p : Length) (line : Line) → StandsAt s p line → line.scanned ≡ false → 0 < p.columns → IsKept s p

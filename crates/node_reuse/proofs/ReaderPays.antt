@@ -29,7 +29,7 @@ use Rattle.node_reuse.specs.Texts.{line_tokens}
 use Rattle.node_reuse.specs.OldText.{OldText, IsReusable, IsLongestReusable, NoneReusable, IsOldToken, HasOldBracket}
 use Rattle.node_reuse.specs.Reading.{StaysIfThere}
 use Rattle.node_reuse.specs.Reader.{Sight, sight, sight_rows, sight_weights, IsKept, mark_of, new_lines_at, unasked, tokens_left, StandsAt}
-use Rattle.node_reuse.specs.Paying.{all_paired_in, nesting_in, way_price_in, token_count, tokens_read, tokens_ahead, paying_at}
+use Rattle.node_reuse.specs.Paying.{all_paired_in, nesting_in, way_price_in, token_count, tokens_read, tokens_ahead, runs_ahead, paying_at, paying_so}
 use Rattle.node_reuse.proofs.OldPlaces.{same_line}
 use Rattle.node_reuse.proofs.KeptEnds.{bracket_fits}
 use Rattle.node_reuse.proofs.KeptReader.{FollowsOld, following, run_left}
@@ -41,9 +41,9 @@ inside_marks s p line h = omega (arith, h.sound.counted, lines_within s p line h
 
 -- ---- brackets
 
-two_calls : (opening : Bool) → bracket_price calls opening ≡ 2
-two_calls true = refl
-two_calls false = refl
+three_calls : (opening : Bool) → bracket_price calls opening ≡ 3
+three_calls true = refl
+three_calls false = refl
 
 pays_for : (opening : Bool) (old new : Paying) (k w : ℕ) → PaysOn old new → new.opens + bracket_price openings opening ≤ old.opens → PaysFor old new (NextBracket k w opening)
 pays_for true old new k w h fewer = (h, omega (arith, fewer))
@@ -85,10 +85,10 @@ module _ (s : Sight) (p : Length) (line : Line) (steps kinds level : ℕ) (h : S
   same_tokens : (q : Length) → unasked s.old.marks q line.scanned ≡ unasked s.old.marks p line.scanned → tokens_ahead s q line ≡ tokens_ahead s p line
   same_tokens q e = ap (λ (lines : List ℕ). tokens_read line.scanned line + token_count s.by s.contents lines) e
 
-  pub kept_node_pays : (n : Tree) → IsLongestReusable s.old p kinds level n
-      → PaysOn (paying_at s steps p line) (paying_at s (steps + 1) (length_plus p (tree_length n)) line)
+  pub kept_node_pays : (n : Tree) (after : ℕ) → after ≤ steps + 2 → IsLongestReusable s.old p kinds level n
+      → PaysOn (paying_at s steps p line) (paying_at s after (length_plus p (tree_length n)) line)
   unfolding t
-  kept_node_pays n longest =
+  kept_node_pays n after taken longest =
       let whole = followed.whole in
       let l = followed.line in
       let r : Reusable t s.old.marks p kinds level n = subst (λ (o : OldText). IsReusable o p kinds level n) whole longest.reusable in
@@ -103,7 +103,7 @@ module _ (s : Sight) (p : Length) (line : Line) (steps kinds level : ℕ) (h : S
       let left = same_tokens q (run_left s p q line.scanned (tree_length n).lines scanned refl all) in
       record {
         known = refl;
-        pays = omega (arith, pays calls, way calls p, way calls q);
+        pays = omega (arith, taken, pays calls, way calls p, way calls q);
         opens = omega (arith, pays openings, way openings p, way openings q, left);
         deepest = refl;
       }
@@ -112,11 +112,11 @@ module _ (s : Sight) (p : Length) (line : Line) (steps kinds level : ℕ) (h : S
       lines_in lines zero g = g
       lines_in lines (suc columns) g = omega (arith, g)
 
-  pub kept_bracket_pays : (found : Token) → NoneReusable s.old p kinds level → IsOldToken s.old p found
-      → PaysFor (paying_at s steps p line) (paying_at s (steps + 2) (length_of p.lines (p.columns + found.len)) line)
+  pub kept_bracket_pays : (found : Token) (after : ℕ) → after ≤ steps + 3 → NoneReusable s.old p kinds level → IsOldToken s.old p found
+      → PaysFor (paying_at s steps p line) (paying_at s after (length_of p.lines (p.columns + found.len)) line)
       (NextBracket found.kind found.len found.opening)
   unfolding t
-  kept_bracket_pays found none o =
+  kept_bracket_pays found after taken none o =
       let whole = followed.whole in
       let l = followed.line in
       let b : Bracket = o.bracket in
@@ -130,14 +130,14 @@ module _ (s : Sight) (p : Length) (line : Line) (steps kinds level : ℕ) (h : S
       empty stands place fits.wide in
       let q = length_plus p (wide b.len) in
       let left = same_tokens q (run_left s p q line.scanned 0 scanned refl (omega arith)) in
-      subst (λ (x : Token). PaysFor (paying_at s steps p line) (paying_at s (steps + 2) (length_of p.lines (p.columns + x.len)) line) (NextBracket x.kind x.len x.opening))
+      subst (λ (x : Token). PaysFor (paying_at s steps p line) (paying_at s after (length_of p.lines (p.columns + x.len)) line) (NextBracket x.kind x.len x.opening))
       (sym o.shows)
-      (subst (λ (x : Length). PaysFor (paying_at s steps p line) (paying_at s (steps + 2) x line) (NextBracket b.kind b.len b.opening))
+      (subst (λ (x : Length). PaysFor (paying_at s steps p line) (paying_at s after x line) (NextBracket b.kind b.len b.opening))
       (same_length q (length_of p.lines (p.columns + b.len)) (omega arith) refl)
-      (pays_for b.opening (paying_at s steps p line) (paying_at s (steps + 2) q line) b.kind b.len
+      (pays_for b.opening (paying_at s steps p line) (paying_at s after q line) b.kind b.len
       (record {
         known = refl;
-        pays = omega (arith, pays calls, two_calls b.opening, way calls p, way calls q);
+        pays = omega (arith, taken, pays calls, three_calls b.opening, way calls p, way calls q);
         opens = omega (arith, pays openings, way openings p, way openings q, left);
         deepest = refl;
       })
@@ -247,14 +247,39 @@ pub entered_pays_if : {A E : Type 0} (r : Result A E) (s : Sight) (p : Length) (
 entered_pays_if (Ok x) s p n line to steps e h unscanned new tokens scanned = entered_pays s p line to steps h unscanned scanned new (rw e tokens)
 entered_pays_if (Err x) s p n line to steps e h unscanned new tokens scanned = tt
 
+-- ---- a call
+
+pub room_at : (s : Sight) (steps : ℕ) (p : Length) (line : Line) (new_to level : ℕ) → HasRoom (paying_so s steps p line new_to) level
+    → HasRoom (paying_at s steps p line) level
+room_at s steps p line new_to level h = record { known = h.known; room = h.room }
+
+-- what comes was paid after so many steps, and the steps after those are off the runs that are ahead
+module _ (s : Sight) (p q : Length) (line to : Line) (steps paid after new_to told : ℕ)
+    (less : after + runs_ahead s.old.marks q.lines told ≤ paid + runs_ahead s.old.marks p.lines new_to) where
+  on_so : PaysOn (paying_at s steps p line) (paying_at s paid q to) → PaysOn (paying_so s steps p line new_to) (paying_so s after q to told)
+  on_so h = record { known = h.known; pays = omega (arith, h.pays, less); opens = h.opens; deepest = h.deepest }
+
+  pays_so : (n : Next) → PaysFor (paying_at s steps p line) (paying_at s paid q to) n → PaysFor (paying_so s steps p line new_to) (paying_so s after q to told) n
+  pays_so End h = tt
+  pays_so (Ready n) h = on_so h
+  pays_so (NextBracket kind w true) h = (on_so h.0, h.1)
+  pays_so (NextBracket kind w false) h = on_so h
+
+  pub pays_so_if : {E : Type 0} (r : Result Next E) → IfOk r (PaysFor (paying_at s steps p line) (paying_at s paid q to))
+      → IfOk r (PaysFor (paying_so s steps p line new_to) (paying_so s after q to told))
+  pays_so_if (Err e) h = tt
+  pays_so_if (Ok n) h = pays_so n h
+
 -- a call in a new line, whose lines have the same contents afterwards
 pub new_pays : {E : Type 0} (r : Result Next E) (by : Scanner) (before after : List (List ℕ)) (old : OldText) → after ≡ before
     → (steps : ℕ) (p q : Length) (start from to : Line)
     → PaysOn (paying_at (sight by before old) steps p start) (paying_at (sight by before old) steps p from)
     → IfOk r (PaysFor (paying_at (sight by before old) steps p from) (paying_at (sight by before old) steps q to))
-    → IfOk r (PaysFor (paying_at (sight by before old) steps p start) (paying_at (sight by after old) steps q to))
-new_pays (Err e) by before after old same steps p q start from to entered read = tt
-new_pays (Ok n) by before after old same steps p q start from to entered read =
+    → (ticked new_to told : ℕ) → ticked + runs_ahead old.marks q.lines told ≤ steps + runs_ahead old.marks p.lines new_to
+    → IfOk r (PaysFor (paying_so (sight by before old) steps p start new_to) (paying_so (sight by after old) ticked q to told))
+new_pays (Err e) by before after old same steps p q start from to entered read ticked new_to told less = tt
+new_pays (Ok n) by before after old same steps p q start from to entered read ticked new_to told less =
     let s = sight by before old in
-    subst (λ (x : List (List ℕ)). PaysFor (paying_at s steps p start) (paying_at (sight by x old) steps q to) n) (sym same)
-    (PaysFor-then (paying_at s steps p start) (paying_at s steps p from) (paying_at s steps q to) n entered read)
+    subst (λ (x : List (List ℕ)). PaysFor (paying_so s steps p start new_to) (paying_so (sight by x old) ticked q to told) n) (sym same)
+    (pays_so s p q start to steps steps ticked new_to told less n
+    (PaysFor-then (paying_at s steps p start) (paying_at s steps p from) (paying_at s steps q to) n entered read))

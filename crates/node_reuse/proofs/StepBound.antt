@@ -18,8 +18,9 @@ use Rattle.node_reuse.specs.declared.line.Line.{Line}
 use Rattle.line_states.specs.Lines.{new_lines}
 use Rattle.node_reuse.specs.Reading.{AgreesWith, AgreesIfThere}
 use Rattle.node_reuse.specs.Reader.{Sight, sight_rows, unasked}
-use Rattle.node_reuse.specs.Paying.{all_paired_in, nesting_in, way_price_in, token_count, tokens_read, tokens_ahead, paying_at, most_steps, TakesFewSteps}
+use Rattle.node_reuse.specs.Paying.{all_paired_in, nesting_in, way_price_in, token_count, tokens_read, tokens_ahead, paying_so, most_steps, TakesFewSteps}
 use Rattle.node_reuse.proofs.OneRun.{one_run_price}
+use Rattle.node_reuse.proofs.NewRuns.{one_run}
 
 module _ (old : Tree) (marks : List Mark) (now : List Row) (agrees : AgreesWith old marks now) (one : IsOneRun (new_lines marks)) where
   from_start : (c : Costs) (to : Length) → price c no_length to no_length old ≤ way_bound c (highest old) old
@@ -31,7 +32,7 @@ module _ (old : Tree) (marks : List Mark) (now : List Row) (agrees : AgreesWith 
   to_end : (c : Costs) (from to : Length) → IsUpTo (tree_length old) to → price c from to no_length old ≤ way_bound c (highest old) old
   to_end c from to h = price_to_end c (highest old) from to no_length old agrees.tree (omega arith) (ends to h)
 
-  pub way_calls : way_price calls old marks no_length ≤ 2 * (1 + (2 * highest old + nesting old * (2 * highest old + 4)))
+  pub way_calls : way_price calls old marks no_length ≤ 2 * (2 + (4 * highest old + nesting old * (4 * highest old + 6)))
   way_calls =
       omega (
         arith,
@@ -48,11 +49,11 @@ module _ (old : Tree) (marks : List Mark) (now : List Row) (agrees : AgreesWith 
             (λ from to h. none_opens from to no_length old (ends to h)) one,
       )
 
--- as many again as the paths and what stands beside them cost
-within_bound : (n h : ℕ) → 2 + 2 * (1 + (2 * h + n * (2 * h + 4))) ≤ 16 * ((n + 1) * (h + 1))
+-- the end, the run of new lines, and twice a path with what stands beside it
+within_bound : (n h : ℕ) → 4 + 2 * (2 + (4 * h + n * (4 * h + 6))) ≤ 16 * ((n + 1) * (h + 1))
 within_bound n h =
-    let four : n * (2 * h + 4) ≤ n * (4 * (h + 1)) = mul-le-mul_left n (omega arith) in
-    grind (arith, four)
+    let eight : n * (4 * h + 6) ≤ n * (8 * (h + 1)) = mul-le-mul_left n (omega arith) in
+    grind (arith, eight)
 
 module _ (s : Sight) (line : Line) (steps : ℕ) (old : Tree) (there : s.old.tree ≡ Some old) (paired : all_paired old ≡ true)
     (agrees : AgreesIfThere s.old.tree s.old.marks (sight_rows s)) (one : IsOneRun (new_lines s.old.marks)) where
@@ -60,7 +61,7 @@ module _ (s : Sight) (line : Line) (steps : ℕ) (old : Tree) (there : s.old.tre
   agreed = subst (λ (o : Option Tree). AgreesIfThere o s.old.marks (sight_rows s)) there agrees
 
   start_room : 2 * nesting old + token_count s.by s.contents (new_lines s.old.marks) ≤ MOST_OPEN → line.scanned ≡ false
-      → HasRoom (paying_at s steps no_length line) 0
+      → HasRoom (paying_so s steps no_length line 0) 0
   start_room room unscanned =
       let deep : nesting_in s.old.tree ≡ nesting old = ap nesting_in there in
       let way : way_price_in openings s.old.tree s.old.marks no_length ≡ way_price openings old s.old.marks no_length =
@@ -72,15 +73,15 @@ module _ (s : Sight) (line : Line) (steps : ℕ) (old : Tree) (there : s.old.tre
         room = omega (arith, deep, way, tokens, way_openings old s.old.marks (sight_rows s) agreed one, room);
       }
 
-  steps_within : (after d : ℕ) → after ≤ steps + (paying_at s steps no_length line).due → after ≤ steps + most_steps (nesting old) (highest old) d
+  steps_within : (after d : ℕ) → after ≤ steps + (paying_so s steps no_length line 0).due → after ≤ steps + most_steps (nesting old) (highest old) d
   steps_within after d spent =
       let way : way_price_in calls s.old.tree s.old.marks no_length ≡ way_price calls old s.old.marks no_length =
       ap (λ (o : Option Tree). way_price_in calls o s.old.marks no_length) there in
-      omega (arith, spent, way, way_calls old s.old.marks (sight_rows s) agreed one, within_bound (nesting old) (highest old))
+      omega (arith, spent, way, way_calls old s.old.marks (sight_rows s) agreed one, one_run s.old.marks one, within_bound (nesting old) (highest old))
 
 -- a reader that was at the start, and spends no more than is due there if it has room, takes few steps
 pub few_steps : (s : Sight) (line : Line) (from to : ℕ) → AgreesIfThere s.old.tree s.old.marks (sight_rows s) → line.scanned ≡ false
-    → (HasRoom (paying_at s from no_length line) 0 → to ≤ from + (paying_at s from no_length line).due)
+    → (HasRoom (paying_so s from no_length line 0) 0 → to ≤ from + (paying_so s from no_length line 0).due)
     → TakesFewSteps s.old s.by s.contents (new_lines s.old.marks) from to
 few_steps s line from to agrees unscanned spends = λ old there paired one room.
     steps_within s line from old there paired agrees one to (token_count s.by s.contents (new_lines s.old.marks))

@@ -47,8 +47,8 @@ abbrev pub ReadsKeptLine : {E : Type 0} → OldText → Length → Length → �
 ReadsKeptLine old p p' kinds level result = (s : Sight) (line : Line) → s.old ≡ old → IsKept s p → line.scanned ≡ false → StandsAt s p line
     → IfOk result (ReadsOn s p line p' line kinds level)
 
--- ... from so many steps on to so many
+-- ... from so many steps on to so many, where one step more at most was taken there
 abbrev pub PaysForKeptLine : {E : Type 0} → OldText → Length → ℕ → Length → ℕ → ℕ → Result Next E → Type 0
-PaysForKeptLine old p steps p' steps' level result = (s : Sight) (line : Line) → s.old ≡ old → IsKept s p → line.scanned ≡ false
-    → StandsAt s p line → HasRoom (paying_at s steps p line) level
+PaysForKeptLine old p asked p' steps' level result = (s : Sight) (line : Line) (steps : ℕ) → s.old ≡ old → IsKept s p
+    → line.scanned ≡ false → StandsAt s p line → asked ≤ steps + 1 → HasRoom (paying_at s steps p line) level
     → IfOk result (PaysFor (paying_at s steps p line) (paying_at s steps' p' line))

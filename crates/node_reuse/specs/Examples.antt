@@ -9,6 +9,7 @@ use Rattle.bracket_tree_rules.specs.Weights.{tree_weights}
 use Rattle.line_states.specs.Lines.{text_weights, new_lines}
 use Rattle.node_reuse.specs.Texts.{row_weights}
 use Rattle.node_reuse.specs.Reader.{unasked}
+use Rattle.node_reuse.specs.Paying.{new_runs, runs_ahead}
 
 -- lines 2 and 3 of five became three lines
 edited_lines_are_read : new_lines (edited_marks 2 2 3 (clean_marks 5)) ≡ 2 ∷ 3 ∷ 4 ∷ []
@@ -23,6 +24,13 @@ all_new_lines_are_left = refl
 
 a_scanned_line_is_not_asked_for_again : unasked (edited_marks 2 2 3 (clean_marks 5)) (length_of 1 7) true ≡ 3 ∷ 4 ∷ []
 a_scanned_line_is_not_asked_for_again = refl
+
+-- however many lines it has
+new_lines_one_after_another_are_one_run : new_runs (edited_marks 2 2 3 (clean_marks 5)) ≡ 1
+new_lines_one_after_another_are_one_run = refl
+
+a_run_that_is_known_is_not_asked_for : runs_ahead (edited_marks 2 2 3 (clean_marks 5)) 1 4 ≡ 0
+a_run_that_is_known_is_not_asked_for = refl
 
 -- `ab`, a break and `c`
 a_break_weighs_one : text_weights ((97 ∷ 98 ∷ []) ∷ (99 ∷ []) ∷ []) ≡ 3 ∷ 1 ∷ []

@@ -1,10 +1,11 @@
 -- What a reader of the text of now pays: a step for each call that asks the old text.
-use Rattle.std.specs.Prelude.{◌≡◌, ℕ, ◌+◌, ◌*◌, ◌≤◌, Bool, true, false, if◌then◌else◌, List, [], ◌∷◌, length, Option, Some, None, refl}
+use Rattle.std.specs.Prelude.{◌≡◌, ℕ, suc, ◌+◌, ◌-◌, ◌*◌, ◌≤◌, Bool, true, false, if◌then◌else◌, List, [], ◌∷◌, drop, length, Option, Some, None, refl}
 use Rattle.text_lengths.specs.declared.Length.{Length}
 use Rattle.bracket_rules.specs.declared.TheConstants.{MOST_OPEN}
 use Rattle.bracket_tree_rules.specs.Tree.{Tree, nesting, highest}
 use Rattle.bracket_nodes.specs.Paying.{Paying}
 use Rattle.mark_rules.specs.declared.Mark.{Mark}
+use Rattle.mark_rules.specs.declared.Mark.TheVariants.{Kept, New}
 use Rattle.reuse_rules.specs.Prices.{Costs, calls, openings, all_paired}
 use Rattle.reuse_rules.specs.Ways.{way_price, IsOneRun}
 use Rattle.node_reuse.specs.declared.line.Line.{Line}
@@ -41,16 +42,34 @@ tokens_read scanned line = if scanned then length (tokens_left line) else 0
 abbrev pub tokens_ahead : Sight → Length → Line → ℕ
 tokens_ahead s p line = tokens_read line.scanned line + token_count s.by s.contents (unasked s.old.marks p line.scanned)
 
+-- how many runs of new lines there are
+abbrev pub new_runs : List Mark → ℕ
+new_runs [] = 0
+new_runs (New ∷ []) = 1
+new_runs (New ∷ New ∷ marks) = new_runs (New ∷ marks)
+new_runs (New ∷ Kept i ∷ marks) = suc (new_runs marks)
+new_runs (Kept i ∷ marks) = new_runs marks
+
+-- ... from line j on, from 0, where those before line `new_to` are known
+abbrev pub runs_ahead : List Mark → ℕ → ℕ → ℕ
+runs_ahead marks j new_to = new_runs (drop (j + (new_to - j)) marks)
+
 -- ---- what is paid
 
--- at place p, after so many steps: two more for the end
+-- at place p, after so many steps: three more for the end
 abbrev pub paying_at : Sight → ℕ → Length → Line → Paying
 paying_at s steps p line = record {
   known = all_paired_in s.old.tree;
   paid = steps;
-  due = 2 + way_price_in calls s.old.tree s.old.marks p;
+  due = 3 + way_price_in calls s.old.tree s.old.marks p;
   opens = way_price_in openings s.old.tree s.old.marks p + tokens_ahead s p line;
   deepest = nesting_in s.old.tree;
+}
+
+-- ... and one more for each run of new lines that the old text was not yet asked for
+abbrev pub paying_so : Sight → ℕ → Length → Line → ℕ → Paying
+paying_so s steps p line new_to = record (paying_at s steps p line) {
+  due = (paying_at s steps p line).due + runs_ahead s.old.marks p.lines new_to;
 }
 
 -- ---- a bound

@@ -1,5 +1,5 @@
 -- A reader of the text of now: what it sees, what it keeps true from call to call, and which lines it has yet to ask for.
-use Rattle.std.specs.Prelude.{◌≡◌, ℕ, suc, ◌+◌, ◌<◌, Bool, true, false, List, [], ◌∷◌, length, drop}
+use Rattle.std.specs.Prelude.{◌≡◌, ℕ, suc, ◌+◌, ◌<◌, ◌≤◌, Bool, true, false, List, [], ◌∷◌, length, drop}
 use Rattle.std.specs.Borrow.{MutBor}
 use Rattle.text_lengths.specs.declared.Length.{Length}
 use Rattle.bracket_rules.specs.declared.Token.{Token}
@@ -14,7 +14,7 @@ use Rattle.bracket_nodes.specs.declared.parser.Next.{Next}
 use Rattle.bracket_nodes.specs.Source.{Ahead, Asking, Comes, AsksOn}
 use Rattle.mark_rules.specs.declared.Mark.{Mark}
 use Rattle.mark_rules.specs.declared.Mark.TheVariants.{Kept, New}
-use Rattle.mark_rules.specs.Marks.{mark_at}
+use Rattle.mark_rules.specs.Marks.{mark_at, new_run}
 use Rattle.reuse_rules.specs.Following.{Reached}
 use Rattle.node_reuse.specs.declared.line.Line.{Line}
 use Rattle.node_reuse.specs.OldText.{OldText}
@@ -121,8 +121,11 @@ pub record ReadsOn (s : Sight) (p : Length) (from : Line) (q : Length) (to : Lin
   pub asks : (asked : Asked) → AsksOn (asking_at s asked p from) (asking_at s asked q to)
   pub stands : StandsAt s q to
 
--- it stands there, and the lines that it reads were settled: each begins in its state, and a restarted one is as a new one
-pub record Stands (s : Sight) (settled : SettledState) (p : Length) (line : Line) : Type 0 where
+-- It stands there, and the lines that it reads were settled: each begins in its state, and a restarted one is as a new one.
+-- Those before line `new_to`, from 0, are known to be new, with the one that was scanned.
+pub record Stands (s : Sight) (settled : SettledState) (p : Length) (line : Line) (new_to : ℕ) : Type 0 where
   pub at : StandsAt s p line
   pub marks : s.old.marks ≡ settled.marks
   pub states : settled.states.begins ≡ line_states s.by s.contents
+  pub told : new_to ≤ p.lines + new_run (drop p.lines s.old.marks)
+  pub scanned : line.scanned ≡ true → p.lines < new_to

@@ -1,5 +1,5 @@
 -- The lines of a text of now: what they may weigh, and which of them are read.
-use Rattle.std.specs.Prelude.{◌≡◌, ◌++◌, ℕ, suc, ◌+◌, ◌-◌, ◌≤◌, List, [], ◌∷◌, length, slice_index, slice_index_or}
+use Rattle.std.specs.Prelude.{ℕ, ◌+◌, ◌-◌, ◌≤◌, List, [], ◌∷◌, slice_index, slice_index_or}
 use Rattle.text_lengths.specs.Length.{length_of}
 use Rattle.bracket_rules.specs.declared.Token.{Token}
 use Rattle.hiding_rules.specs.declared.LineState.TheVariants.{Code}
@@ -10,7 +10,6 @@ use Rattle.bracket_rules.specs.Rows.{Row}
 use Rattle.bracket_tree_rules.specs.Tree.{Tree, tree_rows}
 use Rattle.bracket_tree_rules.specs.Weights.{tree_weights, AreCovered}
 use Rattle.mark_rules.specs.declared.Mark.{Mark}
-use Rattle.mark_rules.specs.declared.Mark.TheVariants.{Kept, New}
 use Rattle.reuse_rules.specs.Reuse.{IsKeptAs}
 use Rattle.bracket_tree_rules.specs.Leaves.{line_weight}
 

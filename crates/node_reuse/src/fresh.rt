@@ -1,5 +1,5 @@
 // What comes in a new line.
-ghost use Rattle.std.specs.Prelude.{◌≡◌, ◌-◌, ◌^◌, ◌<◌, true, IfOk, OnErr};
+ghost use Rattle.std.specs.Prelude.{◌≡◌, ◌-◌, ◌^◌, ◌<◌, ◌≤◌, true, IfOk, OnErr};
 ghost use Rattle.bracket_rules.specs.Table.{AreInLine};
 ghost use Rattle.bracket_tree_rules.specs.Tree.{text, wide};
 ghost use Rattle.node_reuse.specs.Calls.{ReadsNewLine, PaysForNewLine};
@@ -28,6 +28,8 @@ pub(crate) fn next_of_line(
     requires fits { place.old.lines < 2 ^ 62 }
     ensures reads { ReadsNewLine last place.old line.old place.new line.new result }
     ensures pays { PaysForNewLine place.old line.old place.new line.new result }
+    ensures forward { place.old.lines ≤ place.new.lines }
+    ensures in_line { line.new.scanned ≡ true → place.new.lines ≡ place.old.lines }
     ensures same_place { OnErr result (place.new ≡ place.old) }
     ensures same_line { OnErr result (line.new ≡ line.old) }
 {

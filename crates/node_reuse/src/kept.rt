@@ -6,13 +6,12 @@ use crate::old::Old;
 use bracket_nodes::{Kinds, Next};
 use bracket_rules::MOST_OPEN;
 use std::alloc::AllocError;
-use std::sync::ledger::Ledger;
 use steps::Steps;
 use text_lengths::Length;
 
 // What comes next in a kept line, where brackets of these kinds are open, `level` of them: the longest old node that may
 // stand there, else the old bracket, else the end of the text. An error leaves the reader where it was.
-pub(crate) fn next_of_old<O: Old, L: Ledger>(
+pub(crate) fn next_of_old<O: Old, L>(
     old: &mut O,
     place: &mut Length,
     opened: Kinds,
@@ -25,6 +24,7 @@ pub(crate) fn next_of_old<O: Old, L: Ledger>(
     ensures pays { PaysForKeptLine (O.text old.old)
         place.old steps.old place.new steps.new level result }
     ensures steps { steps.new ≤ steps.old + 2 }
+    ensures forward { place.old.lines ≤ place.new.lines }
     ensures same_text { O.text old.new ≡ O.text old.old }
     ensures same_place { OnErr result (place.new ≡ place.old) }
 {

@@ -1,6 +1,6 @@
 // The marks of the lines, of which the one that was looked up last is remembered.
 ghost use Rattle.std.specs.Prelude.{◌≡◌, ◌+◌, ◌^◌, ◌<◌, drop, length, IfSome};
-ghost use Rattle.mark_rules.specs.Marks.{mark_at, kept_run, Rises};
+ghost use Rattle.mark_rules.specs.Marks.{mark_at, kept_run, new_run, Rises};
 
 use line_hunks::Hunks;
 use mark_rules::Mark;
@@ -60,7 +60,19 @@ impl<'h> LineMarks<'h> {
         (self.mark, self.kept)
     }
 
-    // The same by what is remembered; None where that is too little.
+    // How many lines from this one on are new, one after another; 0 where it is kept.
+    pub fn new_from(&mut self, line: u64) -> u64
+        requires { line < length self.old }
+        ensures run { result ≡ new_run (drop line self.old) }
+        ensures same { self.new ≡ self.old }
+    {
+        match self.at(line).0 {
+            Mark::Kept(_) => 0,
+            Mark::New => self.hunks.new_from(line + 1),
+        }
+    }
+
+    // The same as `at` by what is remembered; None where that is too little.
     fn remembered(&self, line: u64) -> Option<(Mark, u64)>
         ensures mark { IfSome result (λ told. told.0 ≡ mark_at (line + 1) self.now) }
         ensures kept { IfSome result (λ told. told.1 ≡ kept_run (drop line self.now)) }

@@ -15,25 +15,22 @@ use line_states::Settled;
 use mark_rules::Mark;
 use std::alloc::Global;
 use std::marker::Model;
-use std::sync::ledger::Ledger;
 use steps::Steps;
 use text_lengths::Length;
 
-/// An old text, from a place of the text of now. Lines are counted from 0. Only `longest_at` and `token_at` lead to the
-/// nodes of an old text, and each takes one step. All leave the text as it was; none fails for want of memory.
+/// An old text, from a place of the text of now. Lines are counted from 0. Each call takes one step and leaves the text as it
+/// was; none fails for want of memory.
 pub trait Old {
     ghost use Rattle.std.specs.Borrow.{sem};
     ghost use Rattle.std.specs.Io.BufRead.{Rests};
-    ghost use Rattle.std.specs.Prelude.{true, false, ℕ};
-    ghost use Rattle.mark_rules.specs.declared.Mark.TheVariants.{Kept, New};
-    ghost use Rattle.mark_rules.specs.Marks.{mark_at};
+    ghost use Rattle.mark_rules.specs.Marks.{new_run};
     ghost use Rattle.node_reuse.specs.OldText.{OldText, Fits64, IsLongestReusable, NoneReusable, IsOldToken, NoOldBracket};
 
     ghost text: { Self → OldText };
 
     /// The longest node of the old tree that may stand at this place of the text of now, where brackets of these kinds
     /// are open, `level` of them.
-    fn longest_at<L: Ledger>(
+    fn longest_at<L>(
         &mut self,
         place: Length,
         opened: Kinds,
@@ -49,16 +46,16 @@ pub trait Old {
         ensures step { steps.new ≡ steps.old + 1 }
         ensures* same { sem 𝓛 (Rests Self.row self.entry (λ after. text after ≡ text self.old)) };
 
-    /// Whether this line is kept: an old line stands in its place, with the brackets that it has now. No step.
-    fn is_kept(&mut self, line: u64) -> bool
+    /// How many lines from this one on are new, one after another; 0 where this one is kept: an old line stands in its
+    /// place, with the brackets that it has now.
+    fn new_from<L>(&mut self, line: u64, steps: &mut Steps<L>) -> u64
         requires { line < length (text self.old).marks }
-        ensures kept { result ≡ true → (i : ℕ)
-            × (mark_at (line + 1) (text self.old).marks ≡ Kept i) }
-        ensures new { result ≡ false → mark_at (line + 1) (text self.old).marks ≡ New }
+        ensures run { result ≡ new_run (drop line (text self.old).marks) }
+        ensures step { steps.new ≡ steps.old + 1 }
         ensures same { text self.new ≡ text self.old };
 
     /// The old bracket at this place of the text of now, as one of its line; none where the line is new.
-    fn token_at<L: Ledger>(&mut self, place: Length, steps: &mut Steps<L>) -> Option<Token>
+    fn token_at<L>(&mut self, place: Length, steps: &mut Steps<L>) -> Option<Token>
         requires { place.lines < length (text self.old).marks }
         ensures some { IfSome result (IsOldToken (text self.old) place) }
         ensures none { IfNone result (NoOldBracket (text self.old) place) }
@@ -168,7 +165,7 @@ impl<'a> OldReader<'a> {
 impl Old for OldReader<'_> {
     ghost text = { λ old. old };
 
-    fn longest_at<L: Ledger>(
+    fn longest_at<L>(
         &mut self,
         place: Length,
         opened: Kinds,
@@ -180,14 +177,12 @@ impl Old for OldReader<'_> {
         self.lent(found)
     }
 
-    fn is_kept(&mut self, line: u64) -> bool {
-        match self.marks.at(line).0 {
-            Mark::Kept(_) => true,
-            Mark::New => false,
-        }
+    fn new_from<L>(&mut self, line: u64, steps: &mut Steps<L>) -> u64 {
+        steps.tick();
+        self.marks.new_from(line)
     }
 
-    fn token_at<L: Ledger>(&mut self, place: Length, steps: &mut Steps<L>) -> Option<Token> {
+    fn token_at<L>(&mut self, place: Length, steps: &mut Steps<L>) -> Option<Token> {
         steps.tick();
         self.bracket_at(place)
     }

@@ -20,7 +20,6 @@ use bracket_scan::{BracketTable, Hiding};
 use line_states::{Lines, Settled};
 use std::alloc::{AllocError, Global};
 use std::marker::Model;
-use std::sync::ledger::Ledger;
 use steps::Steps;
 use text_lengths::Length;
 
@@ -59,11 +58,11 @@ impl Parsed {
 
 /// The tree of a text of now, whose lines were settled, by the table and what hides brackets, with what may be taken over
 /// of an old text that agrees with it under the marks. Each line that is new or restarted is asked for once, in order, and
-/// no other line is. Each look into the nodes of the old text is a step. In no line the tree's leaves weigh more than its
-/// units, and one for its break.
+/// no other line is. Each call that asks the old text is a step. In no line the tree's leaves weigh more than its units, and
+/// one for its break.
 ///
 /// An error is want of memory: some of those lines were asked for then, and nothing else was changed.
-pub fn reparse<O: Old + Drop, Q: Lines, L: Ledger>(
+pub fn reparse<O: Old + Drop, Q: Lines, L>(
     alloc: Global,
     mut old: O,
     settled: &Settled<'_>,
@@ -109,6 +108,7 @@ pub fn reparse<O: Old + Drop, Q: Lines, L: Ledger>(
         lines,
         steps,
         place,
+        new_to: 0,
         line: &mut line,
     };
     let tree = parse(alloc, &mut reader)?;

@@ -17,7 +17,6 @@ use chunk_buffers::{ChunkSpan, Chunks};
 use rb_arena::RbTree;
 use std::alloc::{AllocError, Global};
 use std::marker::Model;
-use std::sync::ledger::Ledger;
 use steps::Steps;
 pub use walking::PieceWalk;
 
@@ -102,7 +101,7 @@ impl PieceTree {
     }
 
     /// The piece that has the unit at this offset. Each node that is visited is a step.
-    pub fn find_offset<L: Ledger>(&self, offset: u64, steps: &mut Steps<L>) -> Found
+    pub fn find_offset<L>(&self, offset: u64, steps: &mut Steps<L>) -> Found
         requires { offset < unit_count (pieces_of self.now.entries) }
         ensures piece { IsFound self.now.entries result }
         ensures start { result.before.units ≤ offset }
@@ -116,7 +115,7 @@ impl PieceTree {
     }
 
     /// The piece that has the `n`-th break. Breaks count from 1. Each node that is visited is a step.
-    pub fn find_line<L: Ledger>(&self, n: u64, steps: &mut Steps<L>) -> Found
+    pub fn find_line<L>(&self, n: u64, steps: &mut Steps<L>) -> Found
         requires first { 0 < n }
         requires there { n ≤ break_count_of (pieces_of self.now.entries) }
         ensures piece { IsFound self.now.entries result }

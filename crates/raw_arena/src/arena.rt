@@ -8,7 +8,6 @@ use crate::name::NodeId;
 use paged_list::PagedList;
 use std::alloc::{AllocError, Global};
 use std::marker::Model;
-use std::sync::ledger::Ledger;
 use steps::Steps;
 
 /// At most so many slots, so that one more than the number of each has 32 bits.
@@ -120,7 +119,7 @@ impl<T: Copy> Arena<T> {
     }
 
     /// The value of that name. It counts as one step.
-    pub fn visit<L: Ledger>(&self, id: NodeId, steps: &mut Steps<L>) -> &T
+    pub fn visit<L>(&self, id: NodeId, steps: &mut Steps<L>) -> &T
         requires { IsLive self.now id }
         ensures value { node self.now id ≡ Some result.now }
         ensures step { steps.new ≡ steps.old + 1 }
@@ -130,7 +129,7 @@ impl<T: Copy> Arena<T> {
     }
 
     /// The value of that name, to write to. It counts as one step.
-    pub fn visit_mut<L: Ledger>(&mut self, id: NodeId, steps: &mut Steps<L>) -> &mut T
+    pub fn visit_mut<L>(&mut self, id: NodeId, steps: &mut Steps<L>) -> &mut T
         requires { IsLive self.old id }
         ensures* writes_back { sem 𝓛 (lends_node T.row self.entry id result) }
         ensures value { node self.old id ≡ Some result.now }

@@ -12,7 +12,6 @@ use crate::links::{Links, Place, place, visit};
 use crate::sums::whole;
 use raw_arena::NodeId;
 use rb_rules::{Data, Side, Slot, Turn, Weave};
-use std::sync::ledger::Ledger;
 use steps::Steps;
 
 /// Where a search stands: at a subtree, with the shift of the path to it, the sum of the items
@@ -76,7 +75,7 @@ fn right_of<W: Weave>(
 
 /// The item at which the search ends that goes down from there, with its name and the sum of the
 /// items before it. Each node on the way counts as a step.
-pub(crate) fn go_down<W: Weave, L: Ledger>(
+pub(crate) fn go_down<W: Weave, L>(
     tree: &Links<Data<W::Item, W::Sum, W::By>>,
     from: Standing<W::Item, W::Sum, W::By>,
     key: W::Key,
@@ -124,7 +123,7 @@ fn through<W: Weave>(
 /// Climbs from a node, past the nodes from which the search among the items after it goes right,
 /// and tells where it goes on. Each node on the way counts once for the shift of its path, and once
 /// when it is passed.
-pub(crate) fn climb<W: Weave, L: Ledger>(
+pub(crate) fn climb<W: Weave, L>(
     tree: &Links<Data<W::Item, W::Sum, W::By>>,
     id: NodeId,
     key: W::Key,

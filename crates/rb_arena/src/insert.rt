@@ -14,8 +14,6 @@ use crate::mend::mend;
 use crate::sums::summed;
 use raw_arena::NodeId;
 use rb_rules::{Data, Packed, Side, Slot, Weave};
-use std::marker::Brand;
-use std::sync::ledger::{Blank, Ledger};
 use steps::Steps;
 
 /// The node above a place.
@@ -42,7 +40,7 @@ fn pass<W: Weave>(side: Side, delta: W::By, by: W::By) -> W::By
 
 /// What the shifts on the path to a place come to. Each node on the path counts as a step.
 #[tactic(auto, using(crate::proofs::Paths::path_shifts))]
-pub(crate) fn shift_to<W: Weave, L: Ledger>(
+pub(crate) fn shift_to<W: Weave, L>(
     tree: &Links<Data<W::Item, W::Sum, W::By>>,
     from: Place,
     steps: &mut Steps<L>,
@@ -67,21 +65,6 @@ pub(crate) fn shift_to<W: Weave, L: Ledger>(
     by
 }
 
-fn blank_shift<W: Weave, L: Ledger>(
-    tree: &Links<Data<W::Item, W::Sum, W::By>>,
-    from: Place,
-    blank: Blank,
-) -> W::By
-    requires place { IsWovenPlace W.Weave tree.now from }
-    requires name { blank.name ≡ L.name }
-    requires parts { blank.parts ≡ L.parts }
-    requires some { 0 < L.parts }
-    ensures { IsShiftTo W.Weave tree.now from result }
-{
-    let mut steps = Steps::<L>::new(blank);
-    shift_to::<W, L>(tree, from, &mut steps)
-}
-
 /// The same, and counts no step.
 #[tactic(auto, using(crate::proofs::Paths::only_shift))]
 pub(crate) fn path_shift<W: Weave>(tree: &Links<Data<W::Item, W::Sum, W::By>>, from: Place) -> W::By
@@ -91,7 +74,7 @@ pub(crate) fn path_shift<W: Weave>(tree: &Links<Data<W::Item, W::Sum, W::By>>, f
     if let Some(only) = W::only_shift() {
         return only;
     }
-    blank_shift::<W, Brand>(tree, from, Blank::new(1))
+    shift_to::<W, _>(tree, from, &mut Steps::new())
 }
 
 pub(crate) fn copy_of(at: &Place) -> Place

@@ -10,8 +10,6 @@ ghost use Rattle.rb_arena.specs.Nodes.{Lives, LivesAt, LivesIf, Rewrites, TurnsA
 
 use raw_arena::{Arena, NodeId};
 use rb_rules::{Packed, Side, Slot};
-use std::marker::Brand;
-use std::sync::ledger::{Blank, Ledger};
 use steps::Steps;
 
 /// A node's place: the node above it, and the side of that.
@@ -25,7 +23,7 @@ pub struct Links<D: Copy> {
 }
 
 /// Reads a node. It counts as a step.
-pub(crate) fn visit<D: Copy, L: Ledger>(
+pub(crate) fn visit<D: Copy, L>(
     nodes: &Arena<Packed<D>>,
     id: NodeId,
     steps: &mut Steps<L>,
@@ -37,54 +35,24 @@ pub(crate) fn visit<D: Copy, L: Ledger>(
     nodes.visit(id, steps).slot()
 }
 
-fn seen<D: Copy, L: Ledger>(nodes: &Arena<Packed<D>>, id: NodeId, blank: Blank) -> Slot<D>
-    requires live { IsLive nodes.now id }
-    requires name { blank.name ≡ L.name }
-    requires parts { blank.parts ≡ L.parts }
-    requires some { 0 < L.parts }
-    ensures { node nodes.now id ≡ Some result }
-{
-    let mut steps = Steps::<L>::new(blank);
-    visit(nodes, id, &mut steps)
-}
-
 /// Reads a node, and counts no step.
 #[tactic(auto, unfolding(crate::specs::Nodes::Lives))]
 pub(crate) fn read<D: Copy>(nodes: &Arena<Packed<D>>, id: NodeId) -> Slot<D>
     requires { Lives nodes.now id }
     ensures { node nodes.now id ≡ Some result }
 {
-    seen::<D, Brand>(nodes, id, Blank::new(1))
-}
-
-#[tactic(auto, using(crate::proofs::Slots::writing))]
-fn overwritten<D: Copy, L: Ledger>(
-    nodes: &mut Arena<Packed<D>>,
-    id: NodeId,
-    slot: Slot<D>,
-    blank: Blank,
-)
-    requires live { IsLive nodes.old id }
-    requires name { blank.name ≡ L.name }
-    requires parts { blank.parts ≡ L.parts }
-    requires some { 0 < L.parts }
-    ensures live { nodes.new.live ≡ map.insert nodes.old.live id slot }
-    ensures kept { KeepLive nodes.old nodes.new }
-    ensures count { KeepsCount nodes.old nodes.new }
-{
-    let mut steps = Steps::<L>::new(blank);
-    *nodes.visit_mut(id, &mut steps) = Packed::of(&slot);
+    visit(nodes, id, &mut Steps::new())
 }
 
 /// Writes a node, and counts no step.
-#[tactic(auto, unfolding(crate::specs::Nodes::Lives))]
+#[tactic(auto, using(crate::proofs::Slots::writing), unfolding(crate::specs::Nodes::Lives))]
 pub(crate) fn write<D: Copy>(nodes: &mut Arena<Packed<D>>, id: NodeId, slot: Slot<D>)
     requires { Lives nodes.old id }
     ensures live { nodes.new.live ≡ map.insert nodes.old.live id slot }
     ensures kept { KeepLive nodes.old nodes.new }
     ensures count { KeepsCount nodes.old nodes.new }
 {
-    overwritten::<D, Brand>(nodes, id, slot, Blank::new(1))
+    *nodes.visit_mut(id, &mut Steps::new()) = Packed::of(&slot);
 }
 
 /// Reads a node of the tree.

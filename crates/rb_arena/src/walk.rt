@@ -1,7 +1,6 @@
 //! Walks to an end of a subtree, and to the node beside a node.
 ghost use Rattle.std.specs.Prelude.{◌≡◌, ◌-◌, Some};
 ghost use Rattle.raw_arena.specs.Arena.{node};
-ghost use Rattle.steps.specs.Counting.{IsFor};
 ghost use Rattle.rb_rules.specs.declared.slot.Side.TheVariants.{Left};
 ghost use Rattle.rb_arena.specs.Ends.{HangsAt, IsEnd, EndsAfter, HangsPast, IsFirstPast, StandsLow};
 ghost use Rattle.rb_arena.specs.Ends.{IsParent, IsAboveOn, RisesAfter, IsBeside, IsBesideAfter};
@@ -11,13 +10,11 @@ use crate::insert::parent_at;
 use crate::links::{Links, Place, node_of, visit};
 use raw_arena::NodeId;
 use rb_rules::{Side, Slot};
-use std::marker::Brand;
-use std::sync::ledger::{Blank, Ledger};
 use steps::Steps;
 
 /// The last place on that side of a subtree that hangs at a place. Each node on the way counts as a step.
 #[tactic(auto, using(crate::proofs::Walks::to_end))]
-fn end_from<D: Copy, L: Ledger>(
+fn end_from<D: Copy, L>(
     tree: &Links<D>,
     from: Place,
     below: Option<NodeId>,
@@ -40,21 +37,6 @@ fn end_from<D: Copy, L: Ledger>(
     at
 }
 
-fn end_blank<D: Copy, L: Ledger>(
-    tree: &Links<D>,
-    from: Place,
-    below: Option<NodeId>,
-    side: Side,
-    blank: Blank,
-) -> Place
-    requires hangs { HangsAt tree.now from below }
-    requires blank { IsFor L.Ledger blank }
-    ensures { IsEnd tree.now from below side result }
-{
-    let mut steps = Steps::<L>::new(blank);
-    end_from(tree, from, below, side, &mut steps)
-}
-
 /// The same, and counts no step.
 pub(crate) fn end_place<D: Copy>(
     tree: &Links<D>,
@@ -65,7 +47,7 @@ pub(crate) fn end_place<D: Copy>(
     requires { HangsAt tree.now from below }
     ensures { IsEnd tree.now from below side result }
 {
-    end_blank::<D, Brand>(tree, from, below, side, Blank::new(1))
+    end_from(tree, from, below, side, &mut Steps::new())
 }
 
 /// The first place of a subtree that hangs at a place.
@@ -94,7 +76,7 @@ pub(crate) fn place_after<D: Copy>(tree: &Links<D>, id: Option<NodeId>) -> Place
 
 /// The nearest node above that one that has it on that side; `parent` stands right above it. Each node on the way counts as a step.
 #[tactic(auto, using(crate::proofs::Walks::up))]
-fn rise_on<D: Copy, L: Ledger>(
+fn rise_on<D: Copy, L>(
     tree: &Links<D>,
     id: NodeId,
     parent: Option<NodeId>,
@@ -122,22 +104,6 @@ fn rise_on<D: Copy, L: Ledger>(
     None
 }
 
-fn rise_blank<D: Copy, L: Ledger>(
-    tree: &Links<D>,
-    id: NodeId,
-    parent: Option<NodeId>,
-    side: Side,
-    blank: Blank,
-) -> Option<NodeId>
-    requires stands { StandsLow tree.now id }
-    requires parent { IsParent tree.now id parent }
-    requires blank { IsFor L.Ledger blank }
-    ensures { IsAboveOn tree.now id side result }
-{
-    let mut steps = Steps::<L>::new(blank);
-    rise_on(tree, id, parent, side, &mut steps)
-}
-
 /// The nearest node above that one that has it on that side. It counts no step.
 #[tactic(auto, using(crate::proofs::Walks::parent_read), unfolding(crate::specs::Ends::StandsLow))]
 pub(crate) fn above_on<D: Copy>(tree: &Links<D>, id: NodeId, side: Side) -> Option<NodeId>
@@ -145,13 +111,13 @@ pub(crate) fn above_on<D: Copy>(tree: &Links<D>, id: NodeId, side: Side) -> Opti
     ensures { IsAboveOn tree.now id side result }
 {
     let parent = node_of(tree, id).parent;
-    rise_blank::<D, Brand>(tree, id, parent, side, Blank::new(1))
+    rise_on(tree, id, parent, side, &mut Steps::new())
 }
 
 /// The node right beside that one in the order of the tree, on that side, from the slot that was read of that one. Each node that is
 /// visited counts as a step.
 #[tactic(auto, using(crate::proofs::Walks::sideways), unfolding(crate::specs::Ends::StandsLow))]
-pub(crate) fn beside_of<D: Copy, L: Ledger>(
+pub(crate) fn beside_of<D: Copy, L>(
     tree: &Links<D>,
     id: NodeId,
     slot: &Slot<D>,
@@ -170,22 +136,6 @@ pub(crate) fn beside_of<D: Copy, L: Ledger>(
     }
 }
 
-fn beside_blank<D: Copy, L: Ledger>(
-    tree: &Links<D>,
-    id: NodeId,
-    slot: &Slot<D>,
-    side: Side,
-    blank: Blank,
-) -> Option<NodeId>
-    requires stands { StandsLow tree.now id }
-    requires slot { node tree.now.nodes id ≡ Some slot.now }
-    requires blank { IsFor L.Ledger blank }
-    ensures { IsBeside tree.now id side result }
-{
-    let mut steps = Steps::<L>::new(blank);
-    beside_of(tree, id, slot, side, &mut steps)
-}
-
 /// The node right beside that one in the order of the tree, on that side. It counts no step.
 #[tactic(auto, unfolding(crate::specs::Ends::StandsLow))]
 pub(crate) fn neighbour<D: Copy>(tree: &Links<D>, id: NodeId, side: Side) -> Option<NodeId>
@@ -193,5 +143,5 @@ pub(crate) fn neighbour<D: Copy>(tree: &Links<D>, id: NodeId, side: Side) -> Opt
     ensures { IsBeside tree.now id side result }
 {
     let slot = node_of(tree, id);
-    beside_blank::<D, Brand>(tree, id, &slot, side, Blank::new(1))
+    beside_of(tree, id, &slot, side, &mut Steps::new())
 }

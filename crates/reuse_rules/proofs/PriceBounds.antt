@@ -237,8 +237,8 @@ bound_by c t lists each e f =
     let pairs : nesting t * pair_bound c (highest t) ≡ nesting t * each = ap (λ (n : ℕ). nesting t * n) pair in
     omega arith
 
-pub calls_bound : (t : Tree) → way_bound calls (highest t) t ≤ 1 + (2 * highest t + nesting t * (2 * highest t + 4))
-calls_bound t = bound_by calls t (2 * highest t) (2 * highest t + 4) (omega arith) (omega arith)
+pub calls_bound : (t : Tree) → way_bound calls (highest t) t ≤ 2 + (4 * highest t + nesting t * (4 * highest t + 6))
+calls_bound t = bound_by calls t (4 * highest t) (4 * highest t + 6) (omega arith) (omega arith)
 
 pub openings_bound : (t : Tree) → way_bound openings (highest t) t ≤ nesting t
 openings_bound t = omega (arith, bound_by openings t 0 1 (omega arith) refl)

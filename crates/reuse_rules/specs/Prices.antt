@@ -24,9 +24,9 @@ pub record Costs : Type 0 where
   pub opening : ℕ
   pub closing : ℕ
 
--- each call that asks for a node or a bracket is one: a bracket comes where no node did
+-- each call that asks is one: for new lines, then for a node, and for a bracket where no node comes
 abbrev pub calls : Costs
-calls = record { node = 1; opening = 2; closing = 2 }
+calls = record { node = 2; opening = 3; closing = 3 }
 
 -- one for each opening bracket that comes on its own
 abbrev pub openings : Costs
@@ -72,15 +72,15 @@ price costs from to p (three a b c) =
 abbrev pub two_lines : Tree
 two_lines = pair 0 1 (three (text (length_of 0 2)) (text (length_of 1 0)) (text (length_of 0 1))) (Some 1)
 
-the_whole_is_one_node : price calls no_length (length_of 2 0) no_length two_lines ≡ 1
+the_whole_is_one_node : price calls no_length (length_of 2 0) no_length two_lines ≡ 2
 the_whole_is_one_node = refl
 
 -- the opening bracket, and two nodes of the list inside
-to_the_second_line : price calls no_length (length_of 1 0) no_length two_lines ≡ 4
+to_the_second_line : price calls no_length (length_of 1 0) no_length two_lines ≡ 7
 to_the_second_line = refl
 
 -- one node of the list, and the closing bracket
-from_the_second_line : price calls (length_of 1 0) (length_of 2 0) no_length two_lines ≡ 3
+from_the_second_line : price calls (length_of 1 0) (length_of 2 0) no_length two_lines ≡ 5
 from_the_second_line = refl
 
 one_bracket_opens : price openings no_length (length_of 1 0) no_length two_lines ≡ 1

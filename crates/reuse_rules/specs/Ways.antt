@@ -40,11 +40,11 @@ IsOneRun (n ∷ next ∷ lines) = (next ≡ suc n) × IsOneRun (next ∷ lines)
 
 -- ---- worked examples: `(ab`, a break and `c)`
 
-where_all_is_kept_the_tree_is_one_node : way_price calls two_lines (clean_marks 2) no_length ≡ 1
+where_all_is_kept_the_tree_is_one_node : way_price calls two_lines (clean_marks 2) no_length ≡ 2
 where_all_is_kept_the_tree_is_one_node = refl
 
-before_a_new_second_line : way_price calls two_lines (edited_marks 2 1 1 (clean_marks 2)) no_length ≡ 4
+before_a_new_second_line : way_price calls two_lines (edited_marks 2 1 1 (clean_marks 2)) no_length ≡ 7
 before_a_new_second_line = refl
 
-behind_a_new_first_line : way_price calls two_lines (edited_marks 1 1 1 (clean_marks 2)) no_length ≡ 3
+behind_a_new_first_line : way_price calls two_lines (edited_marks 1 1 1 (clean_marks 2)) no_length ≡ 5
 behind_a_new_first_line = refl

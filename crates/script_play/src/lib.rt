@@ -1,4 +1,4 @@
-//! A script that a seed stands for, as a source, and a sink that keeps a tally of the replies.
+//! A script made from a seed, as a source, and a sink that keeps a tally of the replies.
 #![tactic(auto)]
 
 mod line;

@@ -1,4 +1,4 @@
-//! The script that a count and a seed stand for, served to a sink that keeps a tally of the replies.
+//! The script made from a count and a seed, served to a sink that keeps a tally of the replies.
 
 ghost use Rattle.std.specs.Prelude.{◌≡◌, ◌≤◌, ◌<◌, ◌+◌, ◌++◌, length, IfSome};
 ghost use Rattle.arrayvec.specs.ArrayVec.{array_vec_len};

@@ -46,7 +46,7 @@ pub(crate) enum Status {
 /// the words or to begin with, and nothing was read or written; 4 where a read and 5 where a write failed; 6 where the
 /// script is longer than the limit of 2^40 - 1 bytes. The words come without the program's name.
 ///
-/// `run` answers the script of `src` on `out`. `play COUNT SEED` answers the script that the two numbers stand for, with
+/// `run` answers the script of `src` on `out`. `play COUNT SEED` answers the script that the two numbers make, with
 /// at most [`MOST_LINES`](script_play::MOST_LINES) lines, and writes one line on `out` that sums the replies up; 3 also
 /// where a reply is `! memory`, and nothing is written then; never 4 nor 6.
 #[tactic(auto, using(session_rules::proofs::DecidedLemmas::decided, session_rules::proofs::DecidedLemmas::never_memory, crate::proofs::ObeyLemmas::for_run, crate::proofs::ObeyLemmas::for_play, crate::proofs::ObeyLemmas::for_none))]

@@ -19,8 +19,7 @@ use std::alloc::Global;
 /// How serving a script ended.
 #[derive(Clone, Copy, PartialEq, Eq, Debug)]
 pub enum Served {
-    /// The script was read to its end, and every reply written: so many of them begin with `!`, and so many of those
-    /// are `! memory`.
+    /// The script was read to its end, and every reply written. `refused` of them begin with `!`, and `memory` of these are `! memory`.
     Ended { refused: u64, memory: u64 },
     /// A read failed.
     ReadFault,

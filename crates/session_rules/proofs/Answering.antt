@@ -5,10 +5,11 @@ use Rattle.std.proofs.lemmas.Bool.{false_from_ne_true}
 use Rattle.std.proofs.lemmas.List.Elements.{All-weaker}
 use Rattle.std.proofs.lemmas.Option.{IfSome_then}
 use Rattle.undo_rules.specs.declared.Tag.{Tag}
+use Rattle.undo_rules.specs.Tags.{is_member}
 use Rattle.document_rules.specs.Refusals.{FlatRefusal, limit}
 use Rattle.document_rules.specs.Document.{FlatState, empty_document}
 use Rattle.group_rules.specs.Refusals.{GroupRefusal, plain}
-use Rattle.group_rules.specs.Group.{FlatGroup, doc_in, is_member, changed_in, moved_in}
+use Rattle.group_rules.specs.Group.{FlatGroup, doc_in, changed_in, moved_in}
 use Rattle.group_rules.specs.Going.{Going, front_tag, some_last_from, other_next_from, unless_other, all_gone, gone_in, go_by, group_go}
 use Rattle.group_rules.proofs.KeptTags.{AllTags}
 use Rattle.group_rules.proofs.Kept.{AllTagsIn, AllTagsIn-with_doc, AllTagsIn-with_changed, AllTagsIn-all_gone, IsKeeping}

@@ -7,10 +7,10 @@ use Rattle.std.proofs.lemmas.List.Folds.{list_any_none}
 use Rattle.std.proofs.lemmas.Option.{unwrap_or-slice_get}
 use Rattle.std.specs.List.{list_any}
 use Rattle.undo_rules.specs.declared.Tag.{Tag}
-use Rattle.undo_rules.specs.Tags.{all_steps}
+use Rattle.undo_rules.specs.Tags.{all_steps, is_member}
 use Rattle.document_rules.specs.Document.{FlatState, empty_document}
 use Rattle.group_rules.specs.declared.TheConstants.{DOC_COUNT}
-use Rattle.group_rules.specs.Group.{new_group, doc_in, is_member, tags_of}
+use Rattle.group_rules.specs.Group.{new_group, doc_in, tags_of}
 use Rattle.group_rules.specs.Joint.{names_badly}
 use Rattle.group_rules.proofs.KeptTags.{AllTags-from_tags}
 use Rattle.group_rules.proofs.Places.{doc_in_past}

@@ -2,9 +2,9 @@
 use Rattle.std.specs.Prelude.{◌≡◌, ℕ, Bool, true, nat_le, if◌then◌else◌, List, [], ◌∷◌, map, length, Option, Some, None}
 use Rattle.std.specs.List.{All, list_any}
 use Rattle.undo_rules.specs.declared.Tag.{Tag}
-use Rattle.undo_rules.specs.Tags.{all_steps}
+use Rattle.undo_rules.specs.Tags.{all_steps, is_member}
 use Rattle.group_rules.specs.declared.TheConstants.{DOC_COUNT}
-use Rattle.group_rules.specs.Group.{FlatGroup, doc_in, is_member, tags_of}
+use Rattle.group_rules.specs.Group.{FlatGroup, doc_in, tags_of}
 use Rattle.script_lines.specs.declared.request.Request.{Request}
 use Rattle.script_lines.specs.declared.request.Request.TheVariants.{One, Joint}
 use Rattle.script_lines.specs.declared.request.DocEdit.{DocEdit}

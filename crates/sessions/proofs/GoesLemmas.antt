@@ -11,12 +11,13 @@ use Rattle.snapshot_rules.specs.Refusals.{ShelfRefusal}
 use Rattle.snapshot_rules.specs.Snapshots.{FlatShelf}
 use Rattle.undo_rules.specs.declared.Tag.{Tag}
 use Rattle.undo_rules.specs.Stack.{Step}
+use Rattle.undo_rules.specs.Tags.{is_member}
 use Rattle.document_rules.specs.Refusals.{FlatRefusal, limit}
 use Rattle.document_rules.specs.Document.{FlatState, FlatChange, greatest_version, after_batch, edited_by, is_same_kind, after_recast, flat_edit, flat_eol, batches_back, undone_step, batches_on, redone_step, flat_stop, flat_untag, with_decorations}
 use Rattle.document_rules.specs.Snapshots.{with_shelf}
 use Rattle.search_rules.specs.Replacing.{flat_find, replacing, closed_after, edited_alone, flat_replace_all}
 use Rattle.group_rules.specs.Refusals.{plain}
-use Rattle.group_rules.specs.Group.{FlatGroup, doc_in, with_doc, each_from, is_member, without_tags, with_changed, lost_by_change, changed_in, moved_in, group_eol, group_replace_all}
+use Rattle.group_rules.specs.Group.{FlatGroup, doc_in, with_doc, each_from, without_tags, with_changed, lost_by_change, changed_in, moved_in, group_eol, group_replace_all}
 use Rattle.group_rules.specs.Joint.{FlatBatch, names_badly, tag_of, batch_for, lost_by_joint, tagged_after, joined_doc, joined, joint_refusal, unless_refused}
 use Rattle.group_rules.specs.Going.{Going, undoing, redoing, front_tag, some_last_from, other_next_from, unless_other, gone_or_same, all_gone, gone_in, go_by, group_undo, group_redo}
 use Rattle.group_rules.proofs.Places.{with_doc_kept, each_kept}

@@ -97,15 +97,16 @@ module _ (old new : Session) (outcome : Result Reply Refused) (followers : new.f
   }
 
 -- a question about one document
-pub tells_asked_of : (s : Session) (n : ℕ) (f : FlatState) (outcome : Result Reply Refused) (answer : FlatState → List ℕ) → doc_in (documents s.group) n ≡ f
-    → TellsBy (answer f, f) f outcome f → TellsOf (λ flat. (answer (doc_in flat.documents n), flat)) s outcome s
-tells_asked_of s n f outcome answer is told =
-    tells_asked s s outcome refl (λ g. answer (doc_in g n)) (record { answer = here told.answer; accepted = told.accepted })
+pub tells_asked_of : (s new : Session) → new.followers.items ≡ s.followers.items → new.group ≡ s.group → (n : ℕ) (f : FlatState) (outcome : Result Reply Refused)
+    (answer : FlatState → List ℕ) → doc_in (documents s.group) n ≡ f
+    → TellsBy (answer f, f) f outcome f → TellsOf (λ flat. (answer (doc_in flat.documents n), flat)) s outcome new
+tells_asked_of s new followers same n f outcome answer is told =
+    tells_asked s new outcome followers (λ g. answer (doc_in g n)) (record { answer = here told.answer; accepted = told.accepted })
   where
     here : Answers (answer f, f) f (bytes_of_outcome outcome) f
-        → Answers (answer (doc_in (documents s.group) n), documents s.group) (documents s.group) (bytes_of_outcome outcome) (documents s.group)
-    here (answered bytes to) = answered (bytes ∙ ap answer (sym is)) refl
-    here (out_of_memory bytes to) = out_of_memory bytes refl
+        → Answers (answer (doc_in (documents s.group) n), documents s.group) (documents s.group) (bytes_of_outcome outcome) (documents new.group)
+    here (answered bytes to) = answered (bytes ∙ ap answer (sym is)) (ap documents same)
+    here (out_of_memory bytes to) = out_of_memory bytes (ap documents same)
 
 -- ---- after a change of what follows one document
 

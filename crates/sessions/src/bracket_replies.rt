@@ -15,6 +15,7 @@ use model_core::{Entry, Status};
 use model_group::Group;
 use script_lines::{Short, long_begin, long_end, long_mark, long_number};
 use std::alloc::{AllocError, Global};
+use steps::{Steps, Uncounted};
 use text_lengths::Position;
 
 pub(crate) fn brackets_reply(
@@ -23,6 +24,7 @@ pub(crate) fn brackets_reply(
     doc: u64,
     from: u64,
     to: u64,
+    steps: &mut Steps<Uncounted>,
 ) -> Outcome
     requires { doc < DOC_COUNT }
     ensures { let g = documents group.old in
@@ -30,7 +32,7 @@ pub(crate) fn brackets_reply(
         (documents group.new) }
 {
     let mut entries = Vec::new(alloc);
-    group.brackets_in(doc, from, to, &mut entries)?;
+    group.brackets_in(doc, from, to, &mut entries, steps)?;
     Ok(list_reply(alloc, entries.as_slice())?)
 }
 
@@ -70,12 +72,17 @@ fn status_letter(status: Status) -> u8
     }
 }
 
-pub(crate) fn match_reply(group: &mut Group, doc: u64, p: Position) -> Outcome
+pub(crate) fn match_reply(
+    group: &mut Group,
+    doc: u64,
+    p: Position,
+    steps: &mut Steps<Uncounted>,
+) -> Outcome
     requires { doc < DOC_COUNT }
     ensures { let g = documents group.old in
         TellsBy (match_answer (flat_match (doc_in g doc) p), g) g result (documents group.new) }
 {
-    match group.match_at(doc, p)? {
+    match group.match_at(doc, p, steps)? {
         Some((partner, len)) => {
             Ok(Reply::Short(Short::ok(&[partner.line, partner.column, len])))
         }
@@ -83,11 +90,16 @@ pub(crate) fn match_reply(group: &mut Group, doc: u64, p: Position) -> Outcome
     }
 }
 
-pub(crate) fn level_reply(group: &mut Group, doc: u64, p: Position) -> Outcome
+pub(crate) fn level_reply(
+    group: &mut Group,
+    doc: u64,
+    p: Position,
+    steps: &mut Steps<Uncounted>,
+) -> Outcome
     requires { doc < DOC_COUNT }
     ensures { let g = documents group.old in
         TellsBy (level_answer (flat_level (doc_in g doc) p), g) g result (documents group.new) }
 {
-    let level = group.level_at(doc, p)?;
+    let level = group.level_at(doc, p, steps)?;
     Ok(Reply::Short(Short::ok(&[level])))
 }

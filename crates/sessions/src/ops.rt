@@ -13,7 +13,7 @@ use script_lines::{LineOp, LineOps, Place};
 use std::alloc::Global;
 use text_lengths::Span;
 
-/// The edits of a document at their spans. `Range` where a position of theirs is none of the text. What was looked up is
+/// The edits of a document at their spans. `Range` where a position of theirs is invalid. What was looked up is
 /// remembered for the edit that comes next.
 pub(crate) fn ops_at(
     alloc: Global,

@@ -32,6 +32,7 @@ use script_lines::{
     Command, LineOps, Refusal, Request, Short, long_begin, long_end, long_text, request_of,
 };
 use std::alloc::{AllocError, Global};
+use steps::{Steps, Uncounted};
 use text_lengths::{Position, Span};
 use unit_text::Kind;
 
@@ -65,6 +66,7 @@ fn carry_out(session: &mut Session, doc: u64, command: Command) -> Outcome
 {
     let alloc = session.alloc;
     let group = &mut session.group;
+    let steps = &mut session.steps;
     match command {
         Command::Open {
             text,
@@ -82,18 +84,18 @@ fn carry_out(session: &mut Session, doc: u64, command: Command) -> Outcome
         Command::Size => size_reply(group.doc(doc)),
         Command::Line { n } => line_reply(alloc, group.doc(doc), n),
         Command::Value { at } => value_reply(alloc, group.doc(doc), at),
-        Command::Offset { p } => offset_reply(group.doc(doc), p),
-        Command::Position { offset } => position_reply(group.doc(doc), offset),
+        Command::Offset { p } => offset_reply(group.doc(doc), p, steps),
+        Command::Position { offset } => position_reply(group.doc(doc), offset, steps),
         Command::Deco { id } => deco_reply(group.doc(doc), id),
         Command::Decos { at, owner } => decos_reply(alloc, group.doc(doc), at, owner),
-        Command::Brackets { from, to } => brackets_reply(alloc, group, doc, from, to),
-        Command::Match { p } => match_reply(group, doc, p),
-        Command::Level { p } => level_reply(group, doc, p),
+        Command::Brackets { from, to } => brackets_reply(alloc, group, doc, from, to, steps),
+        Command::Match { p } => match_reply(group, doc, p, steps),
+        Command::Level { p } => level_reply(group, doc, p, steps),
         Command::Snapshot => snapshot_reply(group, doc),
         Command::Read { id, count } => read_reply(alloc, group, doc, id, count),
         Command::Close { id } => close_reply(group, doc, id),
         Command::Stops { n } => stops_reply(alloc, group.doc(doc), n),
-        Command::Find { sought } => find_reply(alloc, group.doc(doc), sought.as_slice()),
+        Command::Find { sought } => find_reply(alloc, group.doc(doc), sought.as_slice(), steps),
         Command::Replace { sought, text } => {
             replace_reply(group, doc, sought.as_slice(), text.as_slice())
         }
@@ -233,20 +235,22 @@ fn value_reply(alloc: Global, model: &Model, span: Span) -> Outcome
     Ok(text_reply(alloc, units.as_slice())?)
 }
 
-fn offset_reply(model: &Model, p: Position) -> Outcome
+fn offset_reply(model: &Model, p: Position, steps: &mut Steps<Uncounted>) -> Outcome
     ensures answer { bytes_of_outcome result ≡ offset_answer (flat_offset model.now.document p) }
     ensures accepted { IsAccepted result }
 {
-    let offset = model.offset(p).ok_or(Refused(Refusal::Range))?;
+    let offset = model.offset_at(p, steps).ok_or(Refused(Refusal::Range))?;
     Ok(Reply::Short(Short::ok(&[offset])))
 }
 
-fn position_reply(model: &Model, offset: u64) -> Outcome
+fn position_reply(model: &Model, offset: u64, steps: &mut Steps<Uncounted>) -> Outcome
     ensures answer { bytes_of_outcome result
         ≡ position_answer (flat_position model.now.document offset) }
     ensures accepted { IsAccepted result }
 {
-    let p = model.position(offset).ok_or(Refused(Refusal::Range))?;
+    let p = model
+        .position_at(offset, steps)
+        .ok_or(Refused(Refusal::Range))?;
     Ok(Reply::Short(Short::ok(&[p.line, p.column])))
 }
 

@@ -15,15 +15,21 @@ use model_core::Model;
 use model_group::Group;
 use script_lines::{long_begin, long_end, long_number};
 use std::alloc::{AllocError, Global};
+use steps::{Steps, Uncounted};
 use text_lengths::Span;
 
-pub(crate) fn find_reply(alloc: Global, model: &Model, sought: &[u16]) -> Outcome
+pub(crate) fn find_reply(
+    alloc: Global,
+    model: &Model,
+    sought: &[u16],
+    steps: &mut Steps<Uncounted>,
+) -> Outcome
     requires some { 0 < length sought.now }
     ensures { let f = model.now.document in
         TellsBy (spans_reply (flat_find f sought.now), f) f result f }
 {
     let mut found = Vec::new(alloc);
-    model.find(sought, &mut found)?;
+    model.find_counted(sought, &mut found, steps)?;
     Ok(list_reply(alloc, found.as_slice())?)
 }
 

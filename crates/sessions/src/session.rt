@@ -19,6 +19,7 @@ use model_core::{BracketTable, Event, Hiding, Kind, ModelError};
 use model_group::{DOC_COUNT, Group};
 use script_lines::Refusal;
 use std::alloc::{AllocError, Global};
+use steps::{Steps, Uncounted};
 
 /// What follows a document.
 #[derive(Drop)]
@@ -42,13 +43,15 @@ impl Follower {
     }
 }
 
-/// Answers lines, one after another: the documents, what follows each of them, and where replies take their memory.
+/// Answers lines, one after another: the documents, what follows each of them, and where replies take their memory. The steps of its
+/// questions are counted together.
 #[derive(Drop)]
 pub struct Session {
     pub alloc: Global,
     pub group: Group,
     /// By the numbers of their documents.
     pub followers: Vec<Follower>,
+    pub steps: Steps<Uncounted>,
 }
 
 impl Session {
@@ -62,6 +65,7 @@ impl Session {
             alloc,
             group,
             followers,
+            steps: Steps::new(),
         })
     }
 

@@ -4,52 +4,56 @@
 mod trail;
 
 ghost use Rattle.std.specs.Prelude.{◌≡◌, ◌+◌};
-ghost use Rattle.steps.specs.Counting.{IsFor};
 
-use std::marker::Model;
-use std::sync::ledger::{Blank, Book, Ledger, Share};
+use std::marker::{Model, PhantomData};
 pub use trail::Trail;
 
-/// How many steps were taken, for any ledger `L`. It takes no bytes, and only `tick` and `add` change it.
+/// How many steps were taken. It takes no bytes, and only `tick` and `add` change it.
 ///
-/// A caller that counts nothing hands in one that it made of a blank ledger.
+/// A function that is given one for any `L` can't make another of them, so it can't start the count again.
 #[derive(Drop)]
-pub struct Steps<L: Ledger> {
-    book: Book<L>,
-    share: Share<L>,
+pub struct Steps<L> {
+    taken: Trail,
+    of: PhantomData<L>,
 }
 
-impl<L: Ledger> Model for Steps<L> {
-    ghost use Rattle.std.specs.Prelude.{ℕ, ◌<◌};
+/// What a counter counts for that nobody reads.
+#[derive(Drop)]
+pub struct Uncounted;
+
+impl<L> Model for Steps<L> {
+    ghost use Rattle.std.specs.Prelude.{ℕ};
+    ghost use Rattle.std.specs.List.{sum};
 
     ghost Value = { ℕ };
 
-    ghost view = { λ s. s.book.total };
-
-    ghost invariant = { λ s. 0 < s.share.parts };
+    ghost view = { λ s. sum s.taken.numbers };
 }
 
-impl<L: Ledger> Steps<L> {
-    /// No step yet, in a ledger that nothing stands for so far.
-    pub fn new(blank: Blank) -> Steps<L>
-        requires { IsFor L.Ledger blank }
+impl Steps<Uncounted> {
+    /// No step yet.
+    pub fn new() -> Steps<Uncounted>
         ensures { result ≡ 0 }
     {
-        let (book, share) = blank.open();
-        Steps { book, share }
+        Steps {
+            taken: Trail::new(),
+            of: PhantomData,
+        }
     }
+}
 
+impl<L> Steps<L> {
     /// One step more.
     pub fn tick(&mut self)
         ensures { self.new ≡ self.old + 1 }
     {
-        self.book.add(&mut self.share, 1);
+        self.add(1);
     }
 
     /// So many steps more.
     pub fn add(&mut self, steps: u64)
         ensures { self.new ≡ self.old + steps }
     {
-        self.book.add(&mut self.share, steps);
+        self.taken = self.taken.and(&steps);
     }
 }

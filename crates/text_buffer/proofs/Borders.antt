@@ -157,9 +157,6 @@ module _ (b : List (List ℕ)) where
         ]
       ]
 
-  pub length-front : (n : ℕ) (ps : List Piece) → length (front b n ps) ≤ length ps
-  length-front n ps = (length-cut n ps).0
-
   pub length-back : (n : ℕ) (ps : List Piece) → length (back b n ps) ≤ length ps
   length-back n ps = (length-cut n ps).1
 

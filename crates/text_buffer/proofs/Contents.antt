@@ -180,7 +180,7 @@ module _ (x : List ℕ) (k start : ℕ) (d : Line) (there : k < length (lines_of
       sym (ap (take (length line.content)) (rest_is ∙ append_assoc line.content line.break (text_of_lines (drop (k + 1) (lines_of x))))
       ∙ take_at line.content (line.break ++ text_of_lines (drop (k + 1) (lines_of x))) (length line.content) refl)
 
-  start_within : start ≤ length x
+  pub start_within : start ≤ length x
   start_within =
       elim (cases_eq k 0) [
         | inl none ↦ omega (arith, start_is, ap (λ (n : ℕ). line_start x (n + 1)) none, line_start_after x 0 (omega arith))

@@ -1,20 +1,16 @@
 -- The first line of a text, and the lines of a text from the start of one of them on.
-use Rattle.std.proofs.Common.{◌≡◌, ℕ, zero, suc, ◌+◌, ◌-◌, ◌<◌, ◌≤◌, ◌==◌, ◌&&◌, ◌||◌, Bool, true, false, if◌then◌else◌, List, [], ◌∷◌, ◌++◌, length, take, drop, get_or, sum_by, refl, ap, sym, subst, ◌∙◌, append_assoc, add-zero, arith}
+use Rattle.std.proofs.Common.{◌≡◌, ℕ, zero, suc, ◌+◌, ◌-◌, ◌<◌, ◌≤◌, ◌==◌, ◌&&◌, ◌||◌, Bool, true, false, if◌then◌else◌, Some, List, [], ◌∷◌, ◌++◌, length, take, drop, get_or, sum_by, refl, ap, sym, subst, ◌∙◌, append_assoc, add-zero, arith}
 use Rattle.std.proofs.lemmas.Bool.{and_parts, or_parts, eqb-true}
-use Rattle.std.proofs.lemmas.List.{append-nil, drop-drop, drop_more, length-take-le, take-take}
-use Rattle.std.proofs.lemmas.List.Sums.{sum_by-cons, sum_by_more}
+use Rattle.std.proofs.lemmas.List.{append-nil, drop-drop, drop_more, length-drop, length-take-le, take-take}
+use Rattle.std.proofs.lemmas.List.Sums.{sum_by-cons}
 use Rattle.line_starts.specs.Starts.{break_count}
-use Rattle.text_rules.specs.Lines.{Line, lines_of, line_length, line_start, line_feed, carriage_return, begins_with, in_first_line, in_first_break}
+use Rattle.text_rules.specs.Lines.{Line, lines_of, line_at, line_length, line_start, line_feed, carriage_return, begins_with, in_first_line, in_first_break}
 use Rattle.text_rules.specs.Breaks.{joins_pair, break_ends}
 use Rattle.text_rules.proofs.Breaks.{and_false, line_count_is, line_start_is, break_ends_above}
 use Rattle.text_rules.proofs.Places.{line_start_within}
+use Rattle.text_buffer.specs.Reading.{first_line}
 use Rattle.text_buffer.specs.Text.{ends_with_pair}
-use Rattle.text_buffer.proofs.Contents.{first_is_feed, content_end_by, content_of}
-
--- the first of some lines
-abbrev pub first_line : List Line → Line
-first_line [] = record { content = []; break = [] }
-first_line (l ∷ ls) = l
+use Rattle.text_buffer.proofs.Contents.{first_is_feed, content_end_by, content_of, line_at_is}
 
 -- the lines with these units before their first one
 abbrev pub in_front : List ℕ → List Line → List Line
@@ -37,6 +33,10 @@ length-in_first_break : (u : ℕ) (ls : List Line) → length (in_first_break u 
 length-in_first_break u [] = refl
 length-in_first_break u (l ∷ ls) = refl
 
+pub first-in_front : (x : List ℕ) (ls : List Line) → 0 < length ls → (first_line (in_front x ls)).content ≡ x ++ (first_line ls).content
+first-in_front x [] some = absurd (omega arith)
+first-in_front x (l ∷ ls) some = refl
+
 pub in_front-in_front : (x y : List ℕ) (ls : List Line) → in_front x (in_front y ls) ≡ in_front (x ++ y) ls
 in_front-in_front x y [] = refl
 in_front-in_front x y (l ∷ ls) = λ i. record { content = sym (append_assoc x y l.content) i; break = l.break } ∷ ls
@@ -44,7 +44,7 @@ in_front-in_front x y (l ∷ ls) = λ i. record { content = sym (append_assoc x 
 pub some_line : (x : List ℕ) → 0 < length (lines_of x)
 some_line x = omega (arith, line_count_is x)
 
-pub some_break : (x : List ℕ) → (break_count x ≡ 0 → ⊥) → 2 ≤ length (lines_of x)
+pub some_break : (x : List ℕ) → 0 < break_count x → 2 ≤ length (lines_of x)
 some_break x some = omega (arith, some, some_line x)
 
 first_or_none : (ls : List Line) → get_or ls 0 (record { content = []; break = [] }) ≡ first_line ls
@@ -171,14 +171,16 @@ lines_past (suc k) x there =
 pub lines_from : (x : List ℕ) (n : ℕ) → 0 < n → n ≤ length (lines_of x) → lines_of (drop (line_start x n) x) ≡ drop (n - 1) (lines_of x)
 lines_from x n first there = lines_past (n - 1) x (omega arith)
 
-pub first_from : (x : List ℕ) (n : ℕ) (d : Line) → 0 < n → n ≤ length (lines_of x) → first_line (lines_of (drop (line_start x n) x)) ≡ get_or (lines_of x) (n - 1) d
-first_from x n d first there =
-    ap first_line (lines_from x n first there ∙ drop_more (lines_of x) (n - 1) d (omega arith))
+-- the lines from one of them on, of which the first is read
+module _ (x : List ℕ) (n : ℕ) (first : 0 < n) (there : n ≤ length (lines_of x)) (old : List Line) (old_is : old ≡ drop (n - 1) (lines_of x)) where
+  pub first_read : (line : Line) → line_at x n ≡ Some line → first_line old ≡ line
+  first_read line at =
+      let found = line_at_is x n line first there in
+      let same : get_or (lines_of x) (n - 1) line ≡ line = cc in
+      ap first_line (old_is ∙ drop_more (lines_of x) (n - 1) line (omega arith)) ∙ same
 
--- the line after it starts after its units
-pub next_start : (x : List ℕ) (n : ℕ) → 0 < n → n ≤ length (lines_of x) → line_start x (n + 1) ≡ line_start x n + line_length (first_line (lines_of (drop (line_start x n) x)))
-next_start x n first there =
-    let d : Line = record { content = []; break = [] } in
-    let number : n + 1 - 1 ≡ n - 1 + 1 = omega arith in
-    ap (λ (k : ℕ). sum_by line_length (take k (lines_of x))) number ∙ sum_by_more line_length (lines_of x) (n - 1) d (omega arith)
-    ∙ ap (λ (l : Line). line_start x n + line_length l) (sym (first_from x n d first there))
+  pub later_left : (new : List Line) → (2 ≤ length old → new ≡ drop 1 old) → n < length (lines_of x) → new ≡ drop n (lines_of x)
+  later_left new more later =
+      let number : n - 1 + 1 ≡ n = omega arith in
+      more (omega (arith, ap length old_is, length-drop (n - 1) (lines_of x))) ∙ ap (drop 1) old_is ∙ drop-drop 1 (n - 1) (lines_of x)
+      ∙ ap (λ (k : ℕ). drop k (lines_of x)) number

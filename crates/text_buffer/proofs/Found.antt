@@ -2,18 +2,17 @@
 use Rattle.std.proofs.Common.{◌≡◌, ℕ, zero, suc, ◌+◌, ◌-◌, ◌<◌, ◌≤◌, ◌^◌, leb, not, true, false, cond, List, [], ◌∷◌, ◌++◌, length, take, drop, get_or, map, add-zero, zero-add, refl, ap, sym, subst, ◌∙◌, arith}
 use Rattle.std.specs.List.{All}
 use Rattle.std.specs.Prelude.{Option, Some, None, MatchOption, IfSome}
-use Rattle.std.proofs.lemmas.List.{map-append, length-map, length-take-le, take_at, drop_at, take-append-le, drop-append-le, length-append, get_or_append_left, get_or-append_right, get_or-map}
+use Rattle.std.proofs.lemmas.List.{map-append, length-map, length-take-le, take_at, take-append-le, drop-append-le, length-append, get_or_append_left, get_or-append_right, get_or-map}
 use Rattle.std.proofs.lemmas.Bool.{and_parts, leb-true}
 use Rattle.std.proofs.lemmas.List.Sums.{prefix_len-le-length}
-use Rattle.std.proofs.lemmas.List.Elements.{All-head, All-tail, All-take, All-drop, All-same}
+use Rattle.std.proofs.lemmas.List.Elements.{All-head, All-tail}
 use Rattle.chunk_buffers.specs.Chunks.{Shown, units_at, LiesIn}
 use Rattle.line_starts.specs.Starts.{starts_of}
 use Rattle.line_starts.proofs.Starts.{break_count_is, starts_of_is}
 use Rattle.piece_tree.specs.declared.piece.Piece.{Piece}
 use Rattle.piece_tree.specs.declared.piece.Found.{Found}
-use Rattle.piece_tree.specs.Costs.{WithinLookUps}
 use Rattle.piece_tree.specs.Pieces.{Pieces, Entry, pieces_of, unit_count, break_count_of, IsPieceOf, IsFound, AreNeighbours}
-use Rattle.piece_tree.proofs.Sums.{breaks-cons}
+use Rattle.piece_tree.proofs.Sums.{All-parts, breaks-cons}
 use Rattle.unit_text.specs.declared.kind.Kind.{Kind}
 use Rattle.unit_text.specs.Units.{cuts_pair, is_place}
 use Rattle.text_rules.specs.Lines.{lines_of, line_start}
@@ -82,25 +81,6 @@ pub units_shown : {kind : Kind} (tree : Pieces) (chunks : Shown) (seen : Text) �
 units_shown tree chunks seen is shown =
     omega (arith, length-spelled chunks.buffers (pieces_of tree.entries) is.pieces, ap (λ (t : Text). length t.units) shown)
 
-pub lines_shown : {kind : Kind} (tree : Pieces) (chunks : Shown) (seen : Text) → IsText tree chunks → text_of kind tree chunks ≡ seen
-    → break_count_of (pieces_of tree.entries) + 1 ≡ length (lines_of seen.units)
-lines_shown tree chunks seen is shown =
-    line_count_of_pieces chunks.buffers (pieces_of tree.entries) is.pieces is.unsplit ∙ ap (λ (t : Text). length (lines_of t.units)) shown
-
-pub breaks_shown : {kind : Kind} (tree : Pieces) (chunks : Shown) (seen : Text) (offset : ℕ) → IsText tree chunks → text_of kind tree chunks ≡ seen
-    → offset ≡ length seen.units → break_count_of (pieces_of tree.entries) ≡ count_to offset (break_ends 0 seen.units)
-breaks_shown tree chunks seen offset is shown at_end =
-    breaks_of_pieces chunks.buffers (pieces_of tree.entries) is.pieces is.unsplit ∙ ap (λ (t : Text). length (break_ends 0 t.units)) shown
-    ∙ sym (count_to_all 0 offset seen.units (omega (arith, at_end)))
-
--- a look-up among the pieces is one among the spans that contracts see
-pub among_spans : {kind : Kind} (tree : Pieces) (chunks : Shown) (seen : Text) (look_ups nodes : ℕ) → text_of kind tree chunks ≡ seen
-    → WithinLookUps look_ups (length tree.entries) nodes → WithinLookUps look_ups (length seen.spans) nodes
-among_spans tree chunks seen look_ups nodes shown cost =
-    let count : length tree.entries ≡ length (map (λ (p : Piece). p.span) (pieces_of tree.entries)) =
-    sym (length-map (pieces_of tree.entries) (λ p. p.span) ∙ length-map tree.entries (λ e. e.piece)) in
-    subst (λ (n : ℕ). WithinLookUps look_ups n nodes) (count ∙ ap (λ (t : Text). length t.spans) shown) cost
-
 -- whether a text ends with a pair that its second part has whole
 pair_after : (x w : List ℕ) → 0 < length w → joins_pair x w ≡ false → ends_with_pair (x ++ w) ≡ ends_with_pair w
 pair_after x [] some apart = absurd (omega arith)
@@ -126,20 +106,15 @@ module _ (b : List (List ℕ)) (entries : List Entry) (found : Found) (is : IsFo
   pub pieces_are : pieces_of entries ≡ pieces_of is.earlier ++ own ∷ pieces_of is.later
   pieces_are = ap pieces_of is.place ∙ map-append (λ (e : Entry). e.piece) is.earlier _
 
-  all_parts : All (IsPieceOf b) (pieces_of is.earlier ++ own ∷ pieces_of is.later)
-  all_parts = subst (All (IsPieceOf b)) pieces_are all
+  -- what holds of all pieces holds of those before it, and of it and those behind it
+  at_parts : (P : Piece → Type 0) → All P (pieces_of entries) → All P (pieces_of is.earlier) × All P (own ∷ pieces_of is.later)
+  at_parts P of_all = All-parts P (pieces_of is.earlier) (own ∷ pieces_of is.later) (subst (All P) pieces_are of_all)
 
   pub all_earlier : All (IsPieceOf b) (pieces_of is.earlier)
-  all_earlier =
-      All-same (IsPieceOf b) (pieces_of is.earlier) (take (length (pieces_of is.earlier)) (pieces_of is.earlier ++ own ∷ pieces_of is.later))
-      (sym (take_at (pieces_of is.earlier) (own ∷ pieces_of is.later) (length (pieces_of is.earlier)) refl))
-      (All-take (IsPieceOf b) (length (pieces_of is.earlier)) (pieces_of is.earlier ++ own ∷ pieces_of is.later) all_parts)
+  all_earlier = (at_parts (IsPieceOf b) all).0
 
-  all_later : All (IsPieceOf b) (own ∷ pieces_of is.later)
-  all_later =
-      All-same (IsPieceOf b) (own ∷ pieces_of is.later) (drop (length (pieces_of is.earlier)) (pieces_of is.earlier ++ own ∷ pieces_of is.later))
-      (sym (drop_at (pieces_of is.earlier) (own ∷ pieces_of is.later) (length (pieces_of is.earlier)) refl))
-      (All-drop (IsPieceOf b) (length (pieces_of is.earlier)) (pieces_of is.earlier ++ own ∷ pieces_of is.later) all_parts)
+  pub all_later : All (IsPieceOf b) (own ∷ pieces_of is.later)
+  all_later = (at_parts (IsPieceOf b) all).1
 
   pub own_is : IsPieceOf b own
   own_is = All-head (IsPieceOf b) own (pieces_of is.later) all_later
@@ -183,19 +158,7 @@ module _ (b : List (List ℕ)) (entries : List Entry) (found : Found) (is : IsFo
 
   module _ (full : All (λ (p : Piece). 0 < p.span.units) (pieces_of entries)) (unsplit : IsUnsplit b (pieces_of entries)) where
     pub full_earlier : All (λ (p : Piece). 0 < p.span.units) (pieces_of is.earlier)
-    full_earlier =
-        let P : Piece → Type 0 = λ p. 0 < p.span.units in
-        All-same P (pieces_of is.earlier) (take (length (pieces_of is.earlier)) (pieces_of is.earlier ++ own ∷ pieces_of is.later))
-        (sym (take_at (pieces_of is.earlier) (own ∷ pieces_of is.later) (length (pieces_of is.earlier)) refl))
-        (All-take P (length (pieces_of is.earlier)) (pieces_of is.earlier ++ own ∷ pieces_of is.later) (subst (All P) pieces_are full))
-
-    pub found_full : 0 < found.span.units
-    found_full =
-        let P : Piece → Type 0 = λ p. 0 < p.span.units in
-        All-head P own (pieces_of is.later)
-        (All-same P (own ∷ pieces_of is.later) (drop (length (pieces_of is.earlier)) (pieces_of is.earlier ++ own ∷ pieces_of is.later))
-        (sym (drop_at (pieces_of is.earlier) (own ∷ pieces_of is.later) (length (pieces_of is.earlier)) refl))
-        (All-drop P (length (pieces_of is.earlier)) (pieces_of is.earlier ++ own ∷ pieces_of is.later) (subst (All P) pieces_are full)))
+    full_earlier = (at_parts (λ (p : Piece). 0 < p.span.units) full).0
 
     pub parts : (joins_pair earlier_text (own_text ++ later_text) ≡ false) × (IsUnsplit b (pieces_of is.earlier) × IsUnsplit b (own ∷ pieces_of is.later))
     parts = unsplit-parts b (pieces_of is.earlier) (own ∷ pieces_of is.later) all_earlier full_earlier (subst (IsUnsplit b) pieces_are unsplit)
@@ -328,3 +291,5 @@ place_small tree chunks text offset place =
 
 -- the units of a looked-up piece, in the piece and in the text
 pub ruleset units_of_piece = (found_unit, length-units_at)
+
+pub ruleset run_sizes = (length-spelled, length-units_at)

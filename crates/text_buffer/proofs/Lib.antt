@@ -5,9 +5,8 @@ pub mod Replacing
 pub mod Contents
 pub mod FirstLines
 pub mod Found
-pub mod Walks
-pub mod LineWalks
-pub mod RunWalks
+pub mod RunCopies
+pub mod LineCopies
 pub mod Reading
 pub mod Followed
 pub mod Edited

@@ -1,11 +1,8 @@
 -- Positions that are there, and positions that are not.
 use Rattle.std.proofs.Common.{◌≡◌, ℕ, ◌+◌, ◌-◌, ◌<◌, ◌≤◌, ◌&&◌, ◌||◌, ◌==◌, leb, ltb, not, Bool, true, false, if◌then◌else◌, Option, Some, None, List, length, get_or, refl, ap, sym, ◌∙◌, arith}
-use Rattle.std.specs.Option.{unwrap_or}
 use Rattle.std.specs.Char.Utf16.{is_high_surrogate, is_low_surrogate}
 use Rattle.std.proofs.lemmas.Bool.{le-leb, lt-leb}
-use Rattle.std.proofs.lemmas.Bool.Decides.{nat_tests}
 use Rattle.std.proofs.lemmas.List.{get_or_past}
-use Rattle.std.proofs.lemmas.Option.{none-some}
 use Rattle.text_lengths.specs.declared.Position.{Position}
 use Rattle.unit_text.specs.declared.kind.Kind.{Kind}
 use Rattle.unit_text.specs.declared.kind.Kind.TheVariants.{Mixed, Lf, Crlf}
@@ -53,23 +50,6 @@ place_inside kind x offset within whole = ap (λ b. b && not (cuts_in kind x off
 pub past_end : (kind : Kind) (x : List ℕ) (offset : ℕ) → length x < offset → is_place_in kind x offset ≡ false
 past_end kind x offset past = ap (λ b. b && not (cuts_in kind x offset)) (lt-leb offset (length x) past)
 
--- nor is a place where a pair or a line ending is cut
-pub place_cut : (kind : Kind) (x : List ℕ) (offset : ℕ) → offset ≤ length x → cuts_in kind x offset ≡ true → is_place_in kind x offset ≡ false
-place_cut kind x offset within cut = ap (λ b. b && not (cuts_in kind x offset)) (le-leb offset (length x) within) ∙ ap not cut
-
--- where nothing is cut before the end, or at it, is a place
-pub place_if_whole : (kind : Kind) (x : List ℕ) (offset : ℕ) → offset ≤ length x → not (cuts_in kind x offset) ≡ is_place_in kind x offset
-place_if_whole kind x offset within = sym (ap (λ b. b && not (cuts_in kind x offset)) (le-leb offset (length x) within))
-
--- from the end on only the end is one
-pub place_from_end : (kind : Kind) (x : List ℕ) (n offset : ℕ) → n ≡ length x → n ≤ offset → (offset == n) ≡ is_place_in kind x offset
-place_from_end kind x n offset e past = grind (arith, nat_tests, place_at_end, past_end)
-
--- what is answered only at a place
-pub some_at_place : (place : Bool) (n m : ℕ) → Some m ≡ (if place then Some n else None) → (place ≡ true) × (m ≡ n)
-some_at_place true n m e = (refl, ap (λ o. unwrap_or o m) e)
-some_at_place false n m e = absurd (none-some m (sym e))
-
 abbrev answer : List ℕ → Position → Option ℕ
 answer x p = if is_position x p then Some (offset_of x p) else None
 
@@ -78,9 +58,6 @@ none_where x p e = sym (ap {B = Option ℕ} (λ b. if b then Some (offset_of x p
 
 without_line : (x : List ℕ) (p : Position) → line_at x p.line ≡ None → is_position x p ≡ false
 without_line x p e = ap (λ l. has_column l p.column && is_place x (offset_of x p)) e
-
-pub no_line_0 : (x : List ℕ) (p : Position) → p.line ≡ 0 → None ≡ answer x p
-no_line_0 x p e = none_where x p (without_line x p (ap (line_at x) e))
 
 pub no_such_line : (x : List ℕ) (p : Position) → length (lines_of x) < p.line → None ≡ answer x p
 no_such_line x p past = none_where x p (without_line x p (no_line_at x p.line past))
@@ -91,10 +68,6 @@ module _ (x : List ℕ) (p : Position) (d : Line) (first : 0 < p.line) (there : 
 
   column_is : has_column (line_at x p.line) p.column ≡ (leb 1 p.column && leb p.column (content_length + 1))
   column_is = ap (λ l. has_column l p.column) (line_at_is x p.line d first there)
-
-  pub no_column : (p.column ≡ 0) → None ≡ answer x p
-  no_column e =
-      none_where x p (ap (λ b. b && is_place x (offset_of x p)) (column_is ∙ ap (λ b. b && leb p.column (content_length + 1)) (lt-leb 1 p.column (omega arith))))
 
   pub past_column : 0 < p.column → content_length + 1 < p.column → None ≡ answer x p
   past_column some past =

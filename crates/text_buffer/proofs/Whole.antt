@@ -26,7 +26,7 @@ module _ (b : List (List ℕ)) where
   front_of_none [] full = refl
   front_of_none (p ∷ ps) full = front_none b p ps (All-head IsFull p ps full)
 
-  back_of_all : (ps : List Piece) → back b (unit_count ps) ps ≡ []
+  pub back_of_all : (ps : List Piece) → back b (unit_count ps) ps ≡ []
   back_of_all ps = ap (back b (unit_count ps)) (sym (append-nil ps)) ∙ back-append b ps [] (unit_count ps) 0 (omega arith)
 
   spliced_all : (span : Option ChunkSpan) (ps : List Piece) → All IsFull ps → spliced b 0 (unit_count ps) span ps ≡ followed_by b [] span

@@ -1,8 +1,9 @@
--- Worked examples: what an edit takes along.
+-- Worked examples: what an edit takes along, and the runs from an offset on.
 use Rattle.std.specs.Prelude.{◌≡◌, ℕ, false, Some, None, List, [], ◌∷◌, codes, refl}
 use Rattle.chunk_buffers.specs.declared.span.ChunkSpan.{ChunkSpan}
 use Rattle.text_buffer.specs.declared.edit.Spot.{Spot}
 use Rattle.text_buffer.specs.Along.{rest_before, rests_of}
+use Rattle.text_buffer.specs.Reading.{rest_from}
 
 abbrev span : ℕ → ℕ → ChunkSpan
 span start units = record { buffer = 0; start = start; units = units }
@@ -38,3 +39,15 @@ a_long_front_stays = refl
 -- and so are two breaks, an LF each
 two_breaks_stay : rest_before ((10 ∷ 97 ∷ 10 ∷ 98 ∷ []) ∷ []) (place 4 3).found 3 ≡ None
 two_breaks_stay = refl
+
+abbrev three : List (List ℕ)
+three = codes "ab" ∷ codes "cde" ∷ codes "f" ∷ []
+
+the_list_in_which_the_offset_stands_is_cut : rest_from 3 three ≡ codes "de" ∷ codes "f" ∷ []
+the_list_in_which_the_offset_stands_is_cut = refl
+
+one_that_ends_at_the_offset_is_left_out : rest_from 5 three ≡ codes "f" ∷ []
+one_that_ends_at_the_offset_is_left_out = refl
+
+from_the_front_all_are_left : rest_from 0 three ≡ three
+from_the_front_all_are_left = refl

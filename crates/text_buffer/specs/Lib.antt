@@ -3,7 +3,6 @@ pub mod Reading
 pub mod Text
 pub mod Views
 pub mod Remembering
-pub mod Places
 pub mod LookUps
 pub mod Edits
 pub mod Again

@@ -1,27 +1,64 @@
 -- A reader of a text run by run: what is left of it, and what it may still cost.
-use Rattle.std.specs.Prelude.{ℕ, ◌≡◌, ◌<◌, List, [], ◌∷◌, drop}
+use Rattle.std.specs.Prelude.{ℕ, ◌≡◌, ◌-◌, ◌<◌, Option, Some, None, List, [], ◌∷◌, length, drop, map, nat_le, if◌then◌else◌}
 use Rattle.std.specs.List.{All}
+use Rattle.chunk_buffers.specs.declared.span.ChunkSpan.{ChunkSpan}
+use Rattle.chunk_buffers.specs.Chunks.{units_at}
+use Rattle.piece_tree.specs.declared.piece.Found.{Found}
 use Rattle.piece_tree.specs.declared.piece.Piece.{Piece}
-use Rattle.piece_tree.specs.Pieces.{Entry, pieces_of, IsPieceOf}
-use Rattle.text_buffer.specs.Text.{spelled}
+use Rattle.piece_tree.specs.Pieces.{Entry, pieces_of, piece_of, IsPieceOf, IsFound}
+use Rattle.text_rules.specs.Lines.{Line, lines_of}
+use Rattle.text_buffer.specs.declared.rest.Rest.{Rest}
+use Rattle.text_buffer.specs.Text.{spelled, IsUnsplit}
 
 pub record Reading : Type 0 where
-  -- the units that the reader has not given yet
-  pub left : List ℕ
-  -- how many more steps than three for each run of them it may still take
+  -- the runs that the reader has not given yet
+  pub left : List (List ℕ)
+  -- how many more steps than three for each of them it may still take
   pub due : ℕ
 
--- what these pieces spell, but for the first so many units
-abbrev pub left_of : List (List ℕ) → List Entry → ℕ → List ℕ
-left_of buffers entries past = drop past (spelled buffers (pieces_of entries))
+-- what each of the spans spells
+abbrev pub runs_of : List (List ℕ) → List ChunkSpan → List (List ℕ)
+runs_of buffers spans = map (units_at buffers) spans
 
--- so many units are fewer than the first of these pieces has, or none where there is no piece
-abbrev pub BeginsIn : List Entry → ℕ → Type 0
-BeginsIn [] past = past ≡ 0
-BeginsIn (e ∷ entries) past = past < e.piece.span.units
+-- the lists from an offset on: those that end before it or at it are left out, and the one in which it stands is cut there
+abbrev pub rest_from : ℕ → List (List ℕ) → List (List ℕ)
+rest_from offset [] = []
+rest_from offset (x ∷ xs) = if nat_le (length x) offset then rest_from (offset - length x) xs else drop offset x ∷ xs
 
--- the pieces lie in the buffers, none of them is empty, and the reader begins in the first
-pub record CanRead (buffers : List (List ℕ)) (entries : List Entry) (past : ℕ) : Type 0 where
-  pub pieces : All (IsPieceOf buffers) (pieces_of entries)
-  pub full : All (λ (p : Piece). 0 < p.span.units) (pieces_of entries)
-  pub begins : BeginsIn entries past
+-- these are the pieces behind the looked-up one
+pub record AreBehind (entries : List Entry) (found : Found) (left : List Entry) : Type 0 where
+  pub piece : IsFound entries found
+  pub are : left ≡ piece.later
+
+-- a span that may be there, and those of pieces behind it
+abbrev pub spans_with : Option ChunkSpan → List Entry → List ChunkSpan
+spans_with None entries = map (λ p. p.span) (pieces_of entries)
+spans_with (Some span) entries = span ∷ map (λ p. p.span) (pieces_of entries)
+
+abbrev pub spans_left : Rest → List ChunkSpan
+spans_left rest = spans_with rest.first rest.behind.left
+
+abbrev pub pieces_at : List (List ℕ) → List ChunkSpan → List Piece
+pieces_at buffers spans = map (piece_of buffers) spans
+
+abbrev pub pieces_left : List (List ℕ) → Rest → List Piece
+pieces_left buffers rest = pieces_at buffers (spans_left rest)
+
+-- the lines of what is left
+abbrev pub lines_left : List (List ℕ) → Rest → List Line
+lines_left buffers rest = lines_of (spelled buffers (pieces_left buffers rest))
+
+-- the lines of a span and of what is left behind it
+abbrev pub lines_from : List (List ℕ) → ChunkSpan → Rest → List Line
+lines_from buffers span rest = lines_of (spelled buffers (piece_of buffers span ∷ pieces_left buffers rest))
+
+-- the first of some lines
+abbrev pub first_line : List Line → Line
+first_line [] = record { content = []; break = [] }
+first_line (l ∷ ls) = l
+
+-- the pieces lie in the buffers, none of them is empty, and no CR LF lies across the border of two
+pub record CanRead (buffers : List (List ℕ)) (pieces : List Piece) : Type 0 where
+  pub counted : All (IsPieceOf buffers) pieces
+  pub full : All (λ (p : Piece). 0 < p.span.units) pieces
+  pub unsplit : IsUnsplit buffers pieces

@@ -1,14 +1,14 @@
 -- A text to read.
-use Rattle.std.specs.Prelude.{ℕ, ◌≡◌, true, Some, List}
-use Rattle.piece_tree.specs.Pieces.{Entry, StandsAt}
-use Rattle.text_rules.specs.Lines.{Line, line_at}
+use Rattle.std.specs.Prelude.{ℕ, ◌≡◌, ◌<◌, true, List, length, drop, map}
+use Rattle.piece_tree.specs.Pieces.{Entry, pieces_of, StandsAt}
+use Rattle.text_rules.specs.Lines.{lines_of}
 use Rattle.unit_text.specs.declared.kind.Kind.{Kind}
 use Rattle.unit_text.specs.Kinds.{is_place_in}
-use Rattle.text_buffer.specs.declared.cursor.Cursor.{Cursor}
 use Rattle.text_buffer.specs.declared.queries.Place.{Place}
+use Rattle.text_buffer.specs.declared.rest.Rest.{Rest}
 use Rattle.text_buffer.specs.declared.view.View.{View}
+use Rattle.text_buffer.specs.Reading.{runs_of, pieces_left, lines_left, CanRead}
 use Rattle.text_buffer.specs.Text.{units_from, IsTextWith}
-use Rattle.text_buffer.specs.Places.{IsPlace, StartsAt}
 
 -- the pieces and the buffers are a text, of which the remembered pieces are
 abbrev pub IsView : View → Type 0
@@ -24,9 +24,9 @@ entries_in view = view.pieces.now.entries
 abbrev pub buffers_in : View → List (List ℕ)
 buffers_in view = view.chunks.now.buffers
 
--- the line of this number, counted from 1, is this one
-abbrev pub HasLine : View → ℕ → Line → Type 0
-HasLine view n line = line_at (units_in view) n ≡ Some line
+-- what each of the pieces spells
+abbrev pub runs_in : View → List (List ℕ)
+runs_in view = runs_of (buffers_in view) (map (λ p. p.span) (pieces_of (entries_in view)))
 
 -- the offset is a place of a text of the kind, and the piece that was looked up there has its unit, or there is none at the end
 pub record IsPlaceAt (kind : Kind) (view : View) (offset : ℕ) (at : Place) : Type 0 where
@@ -34,10 +34,7 @@ pub record IsPlaceAt (kind : Kind) (view : View) (offset : ℕ) (at : Place) : T
   pub found : StandsAt (entries_in view) at.found offset
   pub there : at.offset ≡ offset
 
--- the cursor stands in one of the pieces
-abbrev pub IsPlaceIn : View → Cursor → Type 0
-IsPlaceIn view = IsPlace (buffers_in view) (entries_in view)
-
--- the line of this number starts at the place
-abbrev pub LineStarts : View → ℕ → Cursor → Type 0
-LineStarts view = StartsAt view.pieces.now view.chunks.now
+-- what is left of the text begins with the line after so many
+pub record GoesOnAfter (view : View) (before : ℕ) (rest : Rest) : Type 0 where
+  pub can : CanRead (buffers_in view) (pieces_left (buffers_in view) rest)
+  pub lines : before < length (lines_of (units_in view)) → lines_left (buffers_in view) rest ≡ drop before (lines_of (units_in view))

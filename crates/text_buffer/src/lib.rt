@@ -3,13 +3,13 @@
 
 mod beside;
 mod breaks;
-mod cursor;
 mod edit;
 mod lines;
 mod look_up;
 mod put;
 mod queries;
 mod remembered;
+mod rest;
 mod room;
 mod runs;
 mod seeking;

@@ -1,34 +1,40 @@
 //! The lines of a text, read one after another.
 
-ghost use Rattle.std.specs.Prelude.{◌≡◌, ◌+◌, ◌<◌, ◌≤◌, ◌++◌, Some, [], length, MatchOption, OnOk, OnErr, IfSome};
+ghost use Rattle.std.specs.Prelude.{◌≡◌, ◌∷◌, ◌+◌, ◌-◌, ◌<◌, ◌≤◌, ◌++◌, Some, None, [], length, take, drop, MatchOption, OnOk, OnErr, IfSome};
+ghost use Rattle.chunk_buffers.specs.Chunks.{units_at, part_of, LiesIn};
+ghost use Rattle.line_starts.specs.Starts.{break_count};
+ghost use Rattle.piece_tree.specs.Pieces.{piece_of};
 ghost use Rattle.text_rules.specs.Lines.{Line, lines_of, line_at};
-ghost use Rattle.text_buffer.specs.Views.{IsView, units_in, entries_in, LineStarts};
+ghost use Rattle.text_buffer.specs.Reading.{pieces_left, lines_left, lines_from, first_line, CanRead};
+ghost use Rattle.text_buffer.specs.Views.{IsView, units_in, buffers_in, GoesOnAfter};
 
-use crate::cursor::Cursor;
+use crate::breaks::without_break;
+use crate::rest::Rest;
 use crate::view::View;
+use chunk_buffers::{ChunkSpan, Chunks};
 use std::alloc::AllocError;
 use std::marker::Model;
+use steps::Steps;
 
-/// A reader of a text's lines. Contracts see the text's units. The line behind the one that was read last costs no
-/// search.
+/// A reader of a text's lines. Contracts see the text's units. The line behind the one that was read last costs no search, unless
+/// memory was short since.
 #[derive(Drop)]
 pub struct LineReader<'t> {
     view: View<'t>,
-    // How many lines come before the place, where there is one.
+    // How many lines come before what is left, where that is known.
     before: u64,
-    next: Option<Cursor>,
+    rest: Option<Rest<'t>>,
 }
 
 impl<'t> Model for LineReader<'t> {
-    ghost use Rattle.std.specs.Prelude.{ℕ, List, ◌+◌, IfSome};
-    ghost use Rattle.text_buffer.specs.Views.{IsView, units_in, LineStarts};
+    ghost use Rattle.std.specs.Prelude.{ℕ, List, IfSome};
+    ghost use Rattle.text_buffer.specs.Views.{IsView, units_in, GoesOnAfter};
 
     ghost Value = { List ℕ };
 
     ghost view = { λ r. units_in r.view };
 
-    ghost invariant = { λ r. IsView r.view
-        × IfSome r.next (LineStarts r.view (r.before + 1)) };
+    ghost invariant = { λ r. IsView r.view × IfSome r.rest (GoesOnAfter r.view r.before) };
 }
 
 impl<'t> LineReader<'t> {
@@ -40,7 +46,7 @@ impl<'t> LineReader<'t> {
         LineReader {
             view: *view,
             before: 0,
-            next: None,
+            rest: None,
         }
     }
 
@@ -53,14 +59,12 @@ impl<'t> LineReader<'t> {
         ensures err { OnErr result (out.new.items ≡ out.old.items) }
         ensures same { self.new ≡ self.old }
     {
-        let Some(start) = start_from(&self.view, self.before, self.next, n) else {
-            return Ok(());
-        };
+        let mut rest = rest_at(&self.view, self.before, self.rest.take(), n);
         let kept = out.len();
-        match self.view.push_line(start, out) {
-            Ok(next) => {
+        match self.view.push_line(&mut rest, out) {
+            Ok(()) => {
                 self.before = n;
-                self.next = next;
+                self.rest = Some(rest);
                 Ok(())
             }
             Err(fault) => {
@@ -71,17 +75,84 @@ impl<'t> LineReader<'t> {
     }
 }
 
-// Where line `n` starts, from where the line after so many starts, if that is known. None where the text has no piece.
-fn start_from(view: &View<'_>, before: u64, next: Option<Cursor>, n: u64) -> Option<Cursor>
+// What is left from the start of line `n` on, of what is left after so many lines, if that is known.
+fn rest_at<'t>(view: &View<'t>, before: u64, rest: Option<Rest<'t>>, n: u64) -> Rest<'t>
     requires view { IsView view.now }
-    requires next { IfSome next (LineStarts view.now (before + 1)) }
+    requires rest { IfSome rest (GoesOnAfter view.now before) }
     requires first { 0 < n }
     requires there { n ≤ length (lines_of (units_in view.now)) }
-    ensures { MatchOption result
-        (entries_in view.now ≡ []) (LineStarts view.now n) }
+    ensures { GoesOnAfter view.now (n - 1) result }
 {
-    match next {
-        Some(start) if before == n - 1 => Some(start),
-        _ => view.start_of_line(n),
+    match rest {
+        Some(rest) if before == n - 1 => rest,
+        _ => {
+            let start = view.start_after(&None, n - 1, &mut Steps::new());
+            view.rest_from(&start.found, start.offset)
+        }
     }
+}
+
+impl View<'_> {
+    // Appends the content of the first line of what is left, and goes on behind it. An error may leave some of the content behind.
+    fn push_line(&self, rest: &mut Rest<'_>, out: &mut Vec<u16>) -> Result<(), AllocError>
+        requires view { IsView self.now }
+        requires can { CanRead (buffers_in self.now) (pieces_left (buffers_in self.now) rest.old) }
+        ensures can { OnOk result
+            (CanRead (buffers_in self.now) (pieces_left (buffers_in self.now) rest.new)) }
+        ensures content { OnOk result (out.new.items
+            ≡ out.old.items ++ (first_line (lines_left (buffers_in self.now) rest.old)).content) }
+        ensures lines { let bs = buffers_in self.now in OnOk result
+            (2 ≤ length (lines_left bs rest.old)
+            → lines_left bs rest.new ≡ drop 1 (lines_left bs rest.old)) }
+        ensures err { OnErr result (take (length out.old.items) out.new.items ≡ out.old.items) }
+    {
+        while let Some(span) = rest.next(&mut Steps::new()) {
+            if 0 < self.chunks.breaks(span) {
+                return self.push_end(span, rest, out);
+            }
+            out.extend_from_slice(self.chunks.units(span))?;
+        }
+        Ok(())
+    }
+
+    // Appends what stands in the span before its first break, and goes on behind that.
+    #[tactic(auto, using(crate::proofs::LineCopies::first_inside))]
+    fn push_end(
+        &self,
+        span: ChunkSpan,
+        rest: &mut Rest<'_>,
+        out: &mut Vec<u16>,
+    ) -> Result<(), AllocError>
+        requires can { CanRead (buffers_in self.now)
+            (piece_of (buffers_in self.now) span ∷ pieces_left (buffers_in self.now) rest.old) }
+        requires taken { rest.old.first ≡ None }
+        requires broken { 0 < break_count (units_at (buffers_in self.now) span) }
+        ensures can { OnOk result
+            (CanRead (buffers_in self.now) (pieces_left (buffers_in self.now) rest.new)) }
+        ensures content { OnOk result (out.new.items ≡ out.old.items
+            ++ (first_line (lines_from (buffers_in self.now) span rest.old)).content) }
+        ensures lines { OnOk result (lines_left (buffers_in self.now) rest.new
+            ≡ drop 1 (lines_from (buffers_in self.now) span rest.old)) }
+        ensures err { OnErr result (out.new.items ≡ out.old.items) }
+    {
+        let units = self.chunks.units(span);
+        let end = self.chunks.nth_break(span, 1);
+        out.extend_from_slice(without_break(&units[..end as usize]))?;
+        rest.first = part_behind(self.chunks, span, end);
+        Ok(())
+    }
+}
+
+// What the span has from that place in it on, if anything.
+fn part_behind(chunks: &Chunks, span: ChunkSpan, from: u64) -> Option<ChunkSpan>
+    requires inside { LiesIn chunks.now.buffers span }
+    requires within { from ≤ span.units }
+    ensures { MatchOption result (from ≡ span.units)
+        (λ part. (part ≡ part_of span from span.units) × (from < span.units)) }
+{
+    let end = span.units as u64;
+    if from == end {
+        return None;
+    }
+    Some(chunks.part(span, from, end))
 }

@@ -3,12 +3,9 @@
 ghost use Rattle.std.specs.Prelude.{◌≡◌, ◌-◌, length, List, IfSome, IsTrue};
 ghost use Rattle.piece_tree.specs.Costs.{WithinLookUps};
 ghost use Rattle.piece_tree.specs.Pieces.{Entry, IsFound};
-ghost use Rattle.steps.specs.Counting.{IsFor};
 ghost use Rattle.text_buffer.specs.LookUps.{Has, IsThere};
 
 use piece_tree::{Found, PieceTree};
-use std::marker::Brand;
-use std::sync::ledger::{Blank, Ledger};
 use steps::Steps;
 
 /// What is looked for: the unit at an offset, or the break of a number, which counts from 1.
@@ -44,7 +41,7 @@ impl Sought {
     }
 
     /// The piece that has it, by a search. Each node that is visited is a step.
-    pub(crate) fn find<L: Ledger>(self, pieces: &PieceTree, steps: &mut Steps<L>) -> Found
+    pub(crate) fn find<L>(self, pieces: &PieceTree, steps: &mut Steps<L>) -> Found
         requires { IsThere pieces.now.entries self }
         ensures has { Has pieces.now.entries result self }
         ensures cost { WithinLookUps 1 (length pieces.now.entries) (steps.new - steps.old) }
@@ -63,23 +60,9 @@ pub(crate) fn piece_near(pieces: &PieceTree, near: &Option<Found>, sought: Sough
     ensures { Has pieces.now.entries result sought }
 {
     let nearest = piece_toward(pieces, near, sought);
-    piece_near_for::<Brand>(pieces, &nearest, sought, Blank::new(1))
-}
-
-fn piece_near_for<L: Ledger>(
-    pieces: &PieceTree,
-    near: &Option<Found>,
-    sought: Sought,
-    blank: Blank,
-) -> Found
-    requires there { IsThere pieces.now.entries sought }
-    requires near { IfSome near.now (IsFound pieces.now.entries) }
-    requires blank { IsFor L.Ledger blank }
-    ensures { Has pieces.now.entries result sought }
-{
-    match near {
-        Some(found) if sought.is_in(found) => *found,
-        _ => sought.find(pieces, &mut Steps::<L>::new(blank)),
+    match nearest {
+        Some(found) if sought.is_in(&found) => found,
+        _ => sought.find(pieces, &mut Steps::new()),
     }
 }
 

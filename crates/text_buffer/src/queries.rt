@@ -5,7 +5,6 @@ ghost use Rattle.std.specs.Prelude.{◌≡◌, ◌+◌, ◌-◌, ◌<◌, ◌≤
 ghost use Rattle.chunk_buffers.specs.Chunks.{units_at, LiesIn};
 ghost use Rattle.piece_tree.specs.Costs.{WithinLookUps};
 ghost use Rattle.piece_tree.specs.Pieces.{IsFound};
-ghost use Rattle.steps.specs.Counting.{IsFor};
 ghost use Rattle.unit_text.specs.Kinds.{IsOfKind, is_place_in};
 ghost use Rattle.text_rules.specs.Lines.{Line, lines_of, line_start};
 ghost use Rattle.text_rules.specs.Positions.{position_of, is_position, offset_of};
@@ -18,8 +17,6 @@ use crate::look_up::{Sought, nearer};
 use crate::view::View;
 use chunk_buffers::Chunks;
 use piece_tree::Found;
-use std::marker::Brand;
-use std::sync::ledger::{Blank, Ledger};
 use steps::Steps;
 use text_lengths::{Position, Span};
 use unit_text::Kind;
@@ -33,7 +30,7 @@ pub(crate) struct Place {
 
 impl View<'_> {
     /// The position of the offset; None where the offset is no place of the text.
-    pub(crate) fn position_at<L: Ledger>(
+    pub(crate) fn position_at<L>(
         &self,
         kind: Kind,
         offset: u64,
@@ -58,11 +55,7 @@ impl View<'_> {
     }
 
     /// The offset of the position; None where it is no position of the text.
-    pub(crate) fn offset_at<L: Ledger>(
-        &self,
-        position: Position,
-        steps: &mut Steps<L>,
-    ) -> Option<u64>
+    pub(crate) fn offset_at<L>(&self, position: Position, steps: &mut Steps<L>) -> Option<u64>
         requires view { IsView self.now }
         ensures offset { let units = units_in self.now in
             result ≡ (if is_position units position then Some (offset_of units position) else None) }
@@ -92,7 +85,7 @@ impl View<'_> {
 
     // The place of this offset, with the piece that has its unit, which is looked for near a piece; None where the offset is no place
     // of the text.
-    fn place_at<L: Ledger>(
+    fn place_at<L>(
         &self,
         kind: Kind,
         near: &Option<Found>,
@@ -125,8 +118,8 @@ impl View<'_> {
         })
     }
 
-    // Where the line after so many breaks starts. The last of these is looked for near a piece.
-    fn start_after<L: Ledger>(
+    /// Where the line after so many breaks starts. The last of these is looked for near a piece.
+    pub(crate) fn start_after<L>(
         &self,
         near: &Option<Found>,
         breaks: u64,
@@ -155,7 +148,7 @@ impl View<'_> {
     }
 
     // Where the content of the line ends that starts there. Its break is looked for in the piece that has the break before it.
-    fn content_end<L: Ledger>(&self, line: u64, start: &Place, steps: &mut Steps<L>) -> Place
+    fn content_end<L>(&self, line: u64, start: &Place, steps: &mut Steps<L>) -> Place
         requires view { IsView self.now }
         requires near { IfSome start.now.found (IsFound (entries_in self.now)) }
         requires first { 0 < line }
@@ -183,46 +176,18 @@ impl View<'_> {
         }
     }
 
-    /// `position_at`, with steps that nobody counts.
-    pub(crate) fn position_for<L: Ledger>(
-        &self,
-        kind: Kind,
-        offset: u64,
-        blank: Blank,
-    ) -> Option<Position>
-        requires view { IsView self.now }
-        requires kind { IsOfKind kind (units_in self.now) }
-        requires blank { IsFor L.Ledger blank }
-        ensures { let units = units_in self.now in
-            result ≡ (if is_place_in kind units offset
-            then Some (position_of units offset) else None) }
-    {
-        self.position_at(kind, offset, &mut Steps::<L>::new(blank))
-    }
-
-    /// `offset_at`, with steps that nobody counts.
-    pub(crate) fn offset_for<L: Ledger>(&self, position: Position, blank: Blank) -> Option<u64>
-        requires view { IsView self.now }
-        requires blank { IsFor L.Ledger blank }
-        ensures { let units = units_in self.now in
-            result ≡ (if is_position units position then Some (offset_of units position) else None) }
-    {
-        self.offset_at(position, &mut Steps::<L>::new(blank))
-    }
-
     /// Where the content of a line stands, by steps that nobody counts.
-    pub(crate) fn line_span_for<L: Ledger>(&self, n: u64, blank: Blank) -> Span
+    pub(crate) fn line_span(&self, n: u64) -> Span
         requires view { IsView self.now }
         requires first { 0 < n }
         requires there { n ≤ length (lines_of (units_in self.now)) }
-        requires blank { IsFor L.Ledger blank }
         ensures start { result.start
             ≡ line_start (units_in self.now) n }
         ensures content { (d : Line) → result.end ≡ result.start + length (slice_index_or
             (lines_of (units_in self.now)) (n - 1) d).content }
         ensures within { result.end ≤ length (units_in self.now) }
     {
-        let mut steps = Steps::<L>::new(blank);
+        let mut steps = Steps::new();
         let start = self.start_after(&None, n - 1, &mut steps);
         let end = self.content_end(n, &start, &mut steps);
         Span {
@@ -232,21 +197,14 @@ impl View<'_> {
     }
 
     /// Whether the offsets are places, by steps that nobody counts. The second is looked for where the first was found.
-    pub(crate) fn has_places_for<L: Ledger>(
-        &self,
-        kind: Kind,
-        start: u64,
-        end: u64,
-        blank: Blank,
-    ) -> bool
+    pub(crate) fn has_places(&self, kind: Kind, start: u64, end: u64) -> bool
         requires view { IsView self.now }
         requires kind { IsOfKind kind (units_in self.now) }
         requires ordered { start ≤ end }
-        requires blank { IsFor L.Ledger blank }
         ensures { let units = units_in self.now in
             result ≡ (is_place_in kind units start && is_place_in kind units end) }
     {
-        let mut steps = Steps::<L>::new(blank);
+        let mut steps = Steps::new();
         if start >= self.len() {
             return end == self.len();
         }

@@ -1,39 +1,36 @@
 //! The units of a text from a place on, run by run.
 
-ghost use Rattle.std.specs.Prelude.{◌≡◌, ◌+◌, ◌-◌, ◌<◌, ◌≤◌, ◌++◌, [], length, take, drop, min, vec_len, vec_capacity, MatchOption, IfSome};
+ghost use Rattle.std.specs.Prelude.{◌≡◌, ◌∷◌, ◌+◌, ◌-◌, ◌<◌, ◌≤◌, ◌++◌, [], length, take, drop, min, vec_len, vec_capacity, MatchOption, IfSome};
+ghost use Rattle.std.specs.List.{concat};
 ghost use Rattle.std.specs.Option.{ForNone};
-ghost use Rattle.steps.specs.Counting.{IsFor};
 ghost use Rattle.piece_tree.specs.Costs.{WithinLookUps};
-ghost use Rattle.text_buffer.specs.Views.{IsView, units_in, entries_in};
+ghost use Rattle.text_buffer.specs.Reading.{rest_from};
+ghost use Rattle.text_buffer.specs.Views.{IsView, units_in, entries_in, runs_in};
 
+use crate::rest::Rest;
 use crate::view::View;
 use chunk_buffers::Chunks;
-use piece_tree::PieceWalk;
-use std::marker::{Brand, Model};
-use std::sync::ledger::{Blank, Ledger};
+use std::marker::Model;
 use steps::Steps;
 use text_lengths::Span;
 use unit_text::Reader;
 
-/// A reader of a text from a place on. Contracts see the units that it has not given yet, and how many more steps than three for each
-/// run of them it may still take. Each run is a piece of the text, or what is left of one: a reader makes one search at most.
+/// A reader of a text from a place on. Contracts see the runs that it has not given yet, and how many more steps than three for each
+/// of them it may still take. Each run is a piece of the text, or what is left of one: a reader makes one search at most.
 #[derive(Drop)]
 pub struct Runs<'t> {
     chunks: &'t Chunks,
-    // The pieces of the runs that are left.
-    walk: PieceWalk<'t>,
-    // How many units of the first of them come before those that are left.
-    past: u64,
+    rest: Rest<'t>,
 }
 
 impl<'t> Model for Runs<'t> {
-    ghost use Rattle.text_buffer.specs.Reading.{Reading, left_of, CanRead};
+    ghost use Rattle.text_buffer.specs.Reading.{Reading, runs_of, spans_left, pieces_left, CanRead};
 
     ghost Value = { Reading };
 
-    ghost view = { λ r. record { left = left_of r.chunks.now.buffers r.walk.left r.past; due = r.walk.due } };
+    ghost view = { λ r. record { left = runs_of r.chunks.now.buffers (spans_left r.rest); due = r.rest.behind.due } };
 
-    ghost invariant = { λ r. CanRead r.chunks.now.buffers r.walk.left r.past };
+    ghost invariant = { λ r. CanRead r.chunks.now.buffers (pieces_left r.chunks.now.buffers r.rest) };
 }
 
 impl<'t> Runs<'t> {
@@ -42,67 +39,44 @@ impl<'t> Runs<'t> {
     pub(crate) fn new(view: &View<'t>, offset: u64) -> Runs<'t>
         requires view { IsView view.now }
         requires within { offset ≤ length (units_in view.now) }
-        ensures left { result.left ≡ drop offset (units_in view.now) }
+        ensures left { result.left ≡ rest_from offset (runs_in view.now) }
+        ensures units { concat result.left ≡ drop offset (units_in view.now) }
         ensures due { WithinLookUps 2 (length (entries_in view.now)) result.due }
     {
-        if offset == view.len() {
-            return Runs {
-                chunks: view.chunks,
-                walk: view.pieces.walk_from(None),
-                past: 0,
-            };
-        }
-        let found = view.piece_at(&None, offset);
         Runs {
             chunks: view.chunks,
-            walk: view.pieces.walk_from(Some(found.id)),
-            past: offset - found.before.units,
+            rest: view.rest_from(&None, offset),
         }
     }
 
     /// The next units; None where none is left. Each node that is visited is a step.
-    #[tactic(auto, using(crate::proofs::Reading::reading))]
-    pub fn next_counted<L: Ledger>(&mut self, steps: &mut Steps<L>) -> Option<&'t [u16]>
+    #[tactic(auto, using(crate::proofs::Reading::reads_on))]
+    pub fn next_counted<L>(&mut self, steps: &mut Steps<L>) -> Option<&'t [u16]>
         ensures run { MatchOption result (self.old.left ≡ [])
-            (λ run. self.old.left ≡ run.now ++ self.new.left) }
+            (λ run. self.old.left ≡ run.now ∷ self.new.left) }
         ensures some { IfSome result (λ run. 0 < length run.now) }
         ensures end { ForNone result (self.new.left ≡ []) }
         ensures cost { (steps.new - steps.old) + self.new.due ≤ self.old.due + 3 }
     {
-        let (_, piece) = self.walk.next(steps)?;
-        let units = self.chunks.units(piece.span);
-        let run = &units[self.past as usize..];
-        self.past = 0;
-        Some(run)
+        let span = self.rest.next(steps)?;
+        Some(self.chunks.units(span))
     }
 
     /// `next_counted`, with steps that nobody counts.
     pub fn next(&mut self) -> Option<&'t [u16]>
         ensures run { MatchOption result (self.old.left ≡ [])
-            (λ run. self.old.left ≡ run.now ++ self.new.left) }
+            (λ run. self.old.left ≡ run.now ∷ self.new.left) }
         ensures some { IfSome result (λ run. 0 < length run.now) }
         ensures end { ForNone result (self.new.left ≡ []) }
         ensures due { self.new.due ≤ self.old.due + 3 }
     {
-        self.next_for::<Brand>(Blank::new(1))
-    }
-
-    fn next_for<L: Ledger>(&mut self, blank: Blank) -> Option<&'t [u16]>
-        requires { IsFor L.Ledger blank }
-        ensures run { MatchOption result (self.old.left ≡ [])
-            (λ run. self.old.left ≡ run.now ++ self.new.left) }
-        ensures some { IfSome result (λ run. 0 < length run.now) }
-        ensures end { ForNone result (self.new.left ≡ []) }
-        ensures due { self.new.due ≤ self.old.due + 3 }
-    {
-        let mut steps = Steps::<L>::new(blank);
-        self.next_counted(&mut steps)
+        self.next_counted(&mut Steps::new())
     }
 
     /// Reads the next units into `out`: as many as fit and are there. Answers how many.
     pub(crate) fn read_into(&mut self, out: &mut [u16]) -> usize
-        ensures count { result ≡ min (length out.old) (length self.old.left) }
-        ensures units { out.new ≡ take result self.old.left ++ drop result out.old }
+        ensures count { result ≡ min (length out.old) (length (concat self.old.left)) }
+        ensures units { out.new ≡ take result (concat self.old.left) ++ drop result out.old }
     {
         let mut done = 0;
         while done < out.len() {
@@ -116,7 +90,7 @@ impl<'t> Runs<'t> {
 }
 
 impl<'t> Reader<'t> for Runs<'t> {
-    ghost left = { λ reading. reading.left };
+    ghost left = { λ reading. concat reading.left };
 
     fn next_run(&mut self) -> Option<&'t [u16]> {
         self.next()

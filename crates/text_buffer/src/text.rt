@@ -1,7 +1,7 @@
 //! The text, with its edits.
 
 ghost use Rattle.std.specs.Prelude.{◌≡◌, ◌+◌, ◌-◌, ◌<◌, ◌≤◌, ◌^◌, ◌++◌, [], false, if◌then◌else◌, length, min, take, drop, OnOk, OnErr, IfOk};
-ghost use Rattle.std.specs.List.{All, flat_map};
+ghost use Rattle.std.specs.List.{All, concat, flat_map};
 ghost use Rattle.chunk_buffers.specs.Chunks.{units_at, unit_count, LiesIn, Extends};
 ghost use Rattle.piece_tree.specs.Costs.{WithinLookUps};
 ghost use Rattle.unit_text.specs.declared.kind.Kind.TheVariants.{Mixed};
@@ -13,6 +13,7 @@ ghost use Rattle.text_rules.specs.Lines.{Line, lines_of, line_at, line_start};
 ghost use Rattle.text_buffer.specs.Again.{TypesOn, CanTypeOn};
 ghost use Rattle.text_buffer.specs.Along.{LeavesLittle};
 ghost use Rattle.text_buffer.specs.Edits.{joins_of, IsTyped, AreSameBefore, AreSameBehind};
+ghost use Rattle.text_buffer.specs.Reading.{runs_of, rest_from};
 ghost use Rattle.text_buffer.specs.Room.{IsEnough, KeepsRoom, HasSpent, need_of_edit, units_beside_text};
 ghost use Rattle.text_buffer.specs.Text.{text_of, GrowsAt};
 ghost use Rattle.text_buffer.specs.Views.{IsView};
@@ -28,8 +29,7 @@ use crate::view::View;
 use chunk_buffers::{ChunkSpan, Chunks};
 use piece_tree::{Piece, PieceTree};
 use std::alloc::{AllocError, Global};
-use std::marker::{Brand, Model};
-use std::sync::ledger::{Blank, Ledger};
+use std::marker::Model;
 use steps::Steps;
 use text_lengths::{Dirty, Position, Span};
 use text_rules::Op;
@@ -328,7 +328,7 @@ impl TextBuffer {
     }
 
     /// The position of the offset; None where the offset is no place of the text. Each node that is visited is a step.
-    pub fn position_at<L: Ledger>(&self, offset: u64, steps: &mut Steps<L>) -> Option<Position>
+    pub fn position_at<L>(&self, offset: u64, steps: &mut Steps<L>) -> Option<Position>
         ensures position { result ≡ (if is_place_in self.now.kind self.now.units offset
             then Some (position_of self.now.units offset) else None) }
         ensures cost { WithinLookUps 3 (length self.now.spans) (steps.new - steps.old) }
@@ -337,7 +337,7 @@ impl TextBuffer {
     }
 
     /// The offset of the position; None where it is no position of the text. Each node that is visited is a step.
-    pub fn offset_at<L: Ledger>(&self, position: Position, steps: &mut Steps<L>) -> Option<u64>
+    pub fn offset_at<L>(&self, position: Position, steps: &mut Steps<L>) -> Option<u64>
         ensures offset { result ≡ (if is_position self.now.units position
             then Some (offset_of self.now.units position) else None) }
         ensures cost { WithinLookUps 4 (length self.now.spans) (steps.new - steps.old) }
@@ -350,8 +350,7 @@ impl TextBuffer {
         ensures { result ≡ (if is_place_in self.now.kind self.now.units offset
             then Some (position_of self.now.units offset) else None) }
     {
-        self.view()
-            .position_for::<Brand>(self.kind, offset, Blank::new(1))
+        self.position_at(offset, &mut Steps::new())
     }
 
     /// `offset_at`, with steps that nobody counts.
@@ -359,7 +358,7 @@ impl TextBuffer {
         ensures { result ≡ (if is_position self.now.units position
             then Some (offset_of self.now.units position) else None) }
     {
-        self.view().offset_for::<Brand>(position, Blank::new(1))
+        self.offset_at(position, &mut Steps::new())
     }
 
     /// Where the content of the line of this number stands, counted from 1.
@@ -372,7 +371,7 @@ impl TextBuffer {
             → result.end ≡ result.start + length line.content }
         ensures within { result.end ≤ length self.now.units }
     {
-        self.view().line_span_for::<Brand>(n, Blank::new(1))
+        self.view().line_span(n)
     }
 
     /// Which lines of the text an edit touches that puts these units in the place of the span, and
@@ -415,7 +414,8 @@ impl TextBuffer {
     /// A reader of its units from the offset on, run by run.
     pub fn runs_from(&self, offset: u64) -> Runs<'_>
         requires { offset ≤ length self.now.units }
-        ensures left { result.left ≡ drop offset self.now.units }
+        ensures left { result.left ≡ rest_from offset (runs_of self.now.buffers self.now.spans) }
+        ensures units { concat result.left ≡ drop offset self.now.units }
         ensures due { WithinLookUps 2 (length self.now.spans) result.due }
     {
         Runs::new(&self.view(), offset)
@@ -451,8 +451,7 @@ impl Flat for TextBuffer {
     }
 
     fn are_places(&self, start: u64, end: u64) -> bool {
-        self.view()
-            .has_places_for::<Brand>(self.kind, start, end, Blank::new(1))
+        self.view().has_places(self.kind, start, end)
     }
 
     fn run(&self, at: u64) -> &[u16] {

@@ -16,7 +16,6 @@ use crate::look_up::{Sought, nearer, piece_near};
 use crate::remembered::Remembered;
 use chunk_buffers::{ChunkSpan, Chunks};
 use piece_tree::{Found, PieceTree};
-use std::sync::ledger::Ledger;
 use steps::Steps;
 use unit_text::{Kind, LINE_FEED, cuts_pair};
 
@@ -28,7 +27,7 @@ pub(crate) struct View<'t> {
     pub remembered: &'t Remembered,
 }
 
-impl View<'_> {
+impl<'t> View<'t> {
     /// How many units the text has.
     #[tactic(auto, using(crate::proofs::Found::sizes))]
     pub(crate) fn len(&self) -> u64
@@ -100,7 +99,7 @@ impl View<'_> {
     }
 
     /// The piece that has what is sought: the piece nearby, one that is remembered, or else by a search.
-    pub(crate) fn piece_with<L: Ledger>(
+    pub(crate) fn piece_with<L>(
         &self,
         near: &Option<Found>,
         sought: Sought,
@@ -140,6 +139,19 @@ impl View<'_> {
         self.chunks.units(self.span_in(found))[(offset - found.before.units) as usize]
     }
 
+    /// The units from the offset to the end of their piece.
+    #[tactic(auto, using(crate::proofs::Found::run_sizes))]
+    pub(crate) fn run_at(&self, offset: u64) -> &'t [u16]
+        requires view { IsView self.now }
+        requires inside { offset < length (units_in self.now) }
+        ensures some { 0 < length result.now }
+        ensures front { result.now ≡ take (length result.now)
+            (drop offset (units_in self.now)) }
+    {
+        let found = self.piece_at(&None, offset);
+        &self.chunks.units(self.span_in(&found))[(offset - found.before.units) as usize..]
+    }
+
     // The span of a looked-up piece.
     fn span_in(&self, found: &Found) -> ChunkSpan
         requires view { IsView self.now }
@@ -166,7 +178,7 @@ impl View<'_> {
 
     /// Whether the offset, whose unit the piece has, stands inside a pair of surrogates. One search is made for the unit before it where
     /// a pair may end at the very start of that piece, and neither the piece nearby nor a remembered one has that unit.
-    pub(crate) fn cuts_pair_beside<L: Ledger>(
+    pub(crate) fn cuts_pair_beside<L>(
         &self,
         near: &Option<Found>,
         found: &Found,
@@ -191,7 +203,7 @@ impl View<'_> {
 
     /// Whether the offset, whose unit the piece has, stands inside a pair of surrogates or, in a text of kind CR LF, inside a line
     /// ending. A search is made for the first alone.
-    pub(crate) fn cuts_beside<L: Ledger>(
+    pub(crate) fn cuts_beside<L>(
         &self,
         kind: Kind,
         near: &Option<Found>,
@@ -214,7 +226,7 @@ impl View<'_> {
 
     /// The piece that has the `n`-th break, and how many of its units stand up to the end of that break: the piece at hand, one that is
     /// remembered, or else by a search. Breaks count from 1.
-    pub(crate) fn break_at<L: Ledger>(
+    pub(crate) fn break_at<L>(
         &self,
         near: &Option<Found>,
         n: u64,

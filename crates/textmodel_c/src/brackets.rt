@@ -16,6 +16,7 @@ use crate::status::Status;
 use model_core::{Entry, ModelError, Position};
 use model_group::Group;
 use std::alloc::{AllocError, Global};
+use steps::Steps;
 
 /// A bracket: where it starts, how many units it has, its kind by the place in the table, how many are open around it, and
 /// what it is: 0 an opening one that is closed later, 1 a closing one that closes an earlier one, 2 an opening one that
@@ -81,7 +82,7 @@ fn entries_in(group: &mut Group, from: u64, to: u64, out: &mut Vec<Entry>) -> Re
     ensures small { OnOk result (All (λ entry. IsSmall entry.place) out.new.items) }
     ensures documents { documents group.new ≡ documents group.old }
 {
-    group.brackets_in(FIRST, from, to, out)
+    group.brackets_in(FIRST, from, to, out, &mut Steps::new())
 }
 
 fn brackets_in(
@@ -144,7 +145,7 @@ fn match_at(group: &mut Group, at: Position) -> Result<Option<(Position, u64)>, 
     ensures partner { Gives result (flat_match (first group.old) at) }
     ensures documents { documents group.new ≡ documents group.old }
 {
-    group.match_at(FIRST, at)
+    group.match_at(FIRST, at, &mut Steps::new())
 }
 
 fn match_out(group: &mut Group, at: Position, partner: &mut Partner) -> Status
@@ -166,7 +167,7 @@ fn match_out(group: &mut Group, at: Position, partner: &mut Partner) -> Status
 }
 
 /// The other bracket of a pair, where one of the two starts at the position; `Nothing` where none does. `Range` where the
-/// position is none of the text.
+/// position is invalid.
 #[unsafe(no_mangle)]
 pub extern "C" fn tm_match(
     alloc: Global,
@@ -195,7 +196,7 @@ fn level_at(group: &mut Group, at: Position) -> Result<u64, ModelError>
     ensures level { Gives result (flat_level (first group.old) at) }
     ensures documents { documents group.new ≡ documents group.old }
 {
-    group.level_at(FIRST, at)
+    group.level_at(FIRST, at, &mut Steps::new())
 }
 
 fn level_out(group: &mut Group, at: Position, level: &mut u64) -> Status
@@ -206,7 +207,7 @@ fn level_out(group: &mut Group, at: Position, level: &mut u64) -> Status
     Status::of_given(answer, level)
 }
 
-/// How many brackets are open after those that start before the position. `Range` where it is none of the text.
+/// How many brackets are open after those that start before the position. `Range` where it is invalid.
 #[unsafe(no_mangle)]
 pub extern "C" fn tm_level(
     alloc: Global,

@@ -31,7 +31,7 @@ fn column_as(model: &Model, encoding: u32, at: Position) -> Result<u64, ModelErr
 }
 
 /// How many bytes of UTF-8, units of UTF-16 or code points of its line stand before the position, by `encoding`, which is 8, 16 or
-/// 32. `Range` where it is another number, or the position is none of the text.
+/// 32. `Range` where it is another number, or the position is invalid.
 #[unsafe(no_mangle)]
 pub extern "C" fn tm_column(
     alloc: Global,

@@ -93,7 +93,7 @@ fn edit_between(
     edit_span(alloc, group, span, text, force)
 }
 
-/// `tm_edit` of the units from one position up to another. `Range` where one of them is none of the text.
+/// `tm_edit` of the units from one position up to another. `Range` where one of them is invalid.
 #[unsafe(no_mangle)]
 pub extern "C" fn tm_edit_at(
     alloc: Global,
@@ -170,7 +170,7 @@ fn edit_joined(
 }
 
 /// Carries out the ops at once, as the next version. Their texts stand one after another in `text`. `Range` where these do
-/// not fill it, or a span is none of the text; else `Overlap` where two spans overlap; else `Limit` where the new text or
+/// not fill it, or a span is invalid; else `Overlap` where two spans overlap; else `Limit` where the new text or
 /// the version would pass its limit.
 #[unsafe(no_mangle)]
 pub extern "C" fn tm_batch(

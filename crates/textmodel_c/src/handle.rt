@@ -14,9 +14,9 @@ use std::marker::Model;
 use std::mem::replace;
 use std::ptr::null_mut;
 
-/// A document on the heap, or nothing where the address is null.
+/// A document on the heap, or nothing where the address is null. It can't be dropped, so that no document is left behind unseen: what
+/// it holds is taken out.
 #[repr(C)]
-#[derive(Drop)]
 pub struct Handle {
     at: *mut (),
     alloc: Global,
@@ -71,11 +71,13 @@ impl Handle {
         Some(raw.into_box())
     }
 
-    /// Puts a document into the handle, which is empty.
+    /// Puts a document into the handle, in place of what it held.
     pub(crate) fn put(&mut self, document: Box<Document>)
-        requires empty { self.old.held ≡ None }
         ensures { self.new.held ≡ Some document.value }
     {
-        *self = Handle::of_raw(RawBox::of(document));
+        let held = replace(self, Handle::of_raw(RawBox::of(document)));
+        if let Some(raw) = held.into_raw() {
+            drop(raw.into_box());
+        }
     }
 }

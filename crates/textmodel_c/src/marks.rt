@@ -91,7 +91,7 @@ fn decorate(
 
 /// Takes decorations of an owner out and puts new ones in, all of it or none, and tells the first new id, or the next free
 /// one where nothing is added. `Unknown` where a named one is not live, has another owner or is named twice; else
-/// `Range` where a span is none of the text or a mode is above 3; else `Limit` where too many would be live, or an id
+/// `Range` where a span is invalid or a mode is above 3; else `Limit` where too many would be live, or an id
 /// would pass the greatest one.
 #[unsafe(no_mangle)]
 pub extern "C" fn tm_decorate(

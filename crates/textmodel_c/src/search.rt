@@ -13,6 +13,7 @@ use crate::status::Status;
 use model_core::{Model, ModelError, Span};
 use model_group::Group;
 use std::alloc::{AllocError, Global};
+use steps::Steps;
 
 /// A span of the text at which the sought one stands.
 #[repr(C)]
@@ -54,7 +55,7 @@ fn found_in(
     }
     let mut spans = Vec::new(alloc);
     model
-        .find(sought, &mut spans)
+        .find_counted(sought, &mut spans, &mut Steps::new())
         .map_err(|_| ModelError::Memory)?;
     append_found(&spans, out).map_err(|_| ModelError::Memory)
 }

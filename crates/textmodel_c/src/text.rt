@@ -12,6 +12,7 @@ use crate::lists::hand_out_of;
 use crate::status::Status;
 use model_core::{Model, ModelError, Position, Span, utf8_of};
 use std::alloc::Global;
+use steps::Steps;
 use unit_text::Kind;
 
 /// A place as a line and a column, both counted from 1. A column counts UTF-16 units.
@@ -30,7 +31,6 @@ pub extern "C" fn tm_make(alloc: Global, handle: &mut Handle) -> u32
     let Ok(document) = Document::new(alloc) else {
         return Status::Memory.number();
     };
-    drop(handle.take(alloc));
     handle.put(document);
     Status::Ok.number()
 }
@@ -170,7 +170,7 @@ pub extern "C" fn tm_position(
     let Some(document) = handle.take(alloc) else {
         return Status::Empty.number();
     };
-    let found = first(&document.session.group).position(offset);
+    let found = first(&document.session.group).position_at(offset, &mut Steps::new());
     handle.put(document);
     let Some(Position { line, column }) = found else {
         return Status::Nothing.number();
@@ -179,7 +179,7 @@ pub extern "C" fn tm_position(
     Status::Ok.number()
 }
 
-/// The offset of the position; `Nothing` where it is none of the text.
+/// The offset of the position; `Nothing` where it is invalid.
 #[unsafe(no_mangle)]
 pub extern "C" fn tm_offset(
     alloc: Global,
@@ -195,7 +195,10 @@ pub extern "C" fn tm_offset(
     let Some(document) = handle.take(alloc) else {
         return Status::Empty.number();
     };
-    let found = first(&document.session.group).offset(Position { line, column });
+    let found = first(&document.session.group).offset_at(
+        Position { line, column },
+        &mut Steps::new(),
+    );
     handle.put(document);
     let Some(found) = found else {
         return Status::Nothing.number();

@@ -1,8 +1,8 @@
 -- Worked examples of the definitions.
-use Rattle.std.specs.Prelude.{◌≡◌, [], ◌∷◌, ℕ, true, false, Some, None, refl}
+use Rattle.std.specs.Prelude.{◌≡◌, [], ◌∷◌, ℕ, false, Some, None, refl}
 use Rattle.undo_rules.specs.declared.Tag.{Tag}
-use Rattle.undo_rules.specs.Stack.{Stack, empty_stack, pushed, stopped, undone, redone}
-use Rattle.undo_rules.specs.Tags.{tagged, untagged, holds, tag_at}
+use Rattle.undo_rules.specs.Stack.{Step, Stack, empty_stack, pushed, stopped, undone, redone}
+use Rattle.undo_rules.specs.Tags.{tagged, untagged, holds, tag_at, untagged_last}
 
 two_changes_are_one_step : (pushed (pushed (empty_stack {C = ℕ}) 7 1 2) 8 2 3).undo
     ≡ record { changes = 7 ∷ 8 ∷ []; alt_before = 1; alt_after = 3; tag = None } ∷ []
@@ -43,3 +43,15 @@ the_tag_of_other_documents_stays = refl
 
 a_change_empties_the_list_that_had_it : holds (pushed two_steps 9 2 4) both ≡ false
 a_change_empties_the_list_that_had_it = refl
+
+-- documents 0 and 1 made two steps at once, and 0 and 2 then a third one
+abbrev shared : ℕ → ℕ → Step ℕ
+shared version members =
+    record { changes = []; alt_before = 0; alt_after = 0; tag = Some (record { least = 0; version = version; members = members }) }
+
+abbrev alone : Step ℕ → Step ℕ
+alone step = record step { tag = None }
+
+the_last_one_that_they_share_is_a_step_alone :
+    untagged_last 1 1 (shared 2 3 ∷ shared 3 3 ∷ shared 4 5 ∷ []) ≡ shared 2 3 ∷ alone (shared 3 3) ∷ shared 4 5 ∷ []
+the_last_one_that_they_share_is_a_step_alone = refl

@@ -2,12 +2,9 @@
 ghost use Rattle.std.specs.Prelude.{◌≡◌, ◌≤◌, Some, IfOk};
 ghost use Rattle.std.specs.FinMap as map;
 ghost use Rattle.raw_arena.specs.Arena.{node};
-ghost use Rattle.steps.specs.Counting.{IsFor};
 
 use raw_arena::{Arena, NodeId};
 use std::alloc::{AllocError, Global};
-use std::marker::Brand;
-use std::sync::ledger::{Blank, Ledger};
 use steps::Steps;
 
 /// Of two values the first is taken out again.
@@ -24,14 +21,13 @@ fn put_two_take_one(arena: &mut Arena<u64>) -> NodeId
 }
 
 /// The value that is left, before another is written there and after.
-fn what_is_left<L: Ledger>(alloc: Global, blank: Blank) -> Result<(u64, u64), AllocError>
-    requires { IsFor L.Ledger blank }
+fn what_is_left(alloc: Global) -> Result<(u64, u64), AllocError>
     ensures { IfOk result (λ x. (x.0 ≡ 9) × (x.1 ≡ 4)) }
 {
     let mut arena: Arena<u64> = Arena::new(alloc);
     arena.reserve(2)?;
     let left = put_two_take_one(&mut arena);
-    let mut steps = Steps::<L>::new(blank);
+    let mut steps = Steps::new();
     let before = *arena.visit(left, &mut steps);
     *arena.visit_mut(left, &mut steps) = 4;
     Ok((before, *arena.visit(left, &mut steps)))
@@ -39,6 +35,6 @@ fn what_is_left<L: Ledger>(alloc: Global, blank: Blank) -> Result<(u64, u64), Al
 
 #[test]
 fn the_second_of_two_values_is_left(rt: HostRuntime) {
-    let left = what_is_left::<Brand>(rt.alloc(), Blank::new(1));
+    let left = what_is_left(rt.alloc());
     assert!(rt; matches!(left, Ok((9, 4))));
 }

@@ -10,7 +10,7 @@ use text_lengths::Position;
 
 impl Model {
     /// How many bytes of UTF-8, units of UTF-16 or code points of its line stand before the position, as the encoding says. A
-    /// surrogate that stands in no pair counts as U+FFFD. `Range` where the position is none of the text.
+    /// surrogate that stands in no pair counts as U+FFFD. `Range` where the position is invalid.
     pub fn column_in(&self, encoding: Encoding, at: Position) -> Result<u64, ModelError>
         ensures { Gives result (flat_column_in self.now.document encoding at) }
     {

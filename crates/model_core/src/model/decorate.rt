@@ -18,7 +18,7 @@ use text_rules::is_bad_span;
 impl Model {
     /// Takes decorations of an owner out and puts new ones in, all of it or none, and answers the first new id, or the
     /// next free one where nothing is added. `Unknown` where a named one is not live, has another owner or is named
-    /// twice; else `Range` where a span is none of the text or a mode is above 3; else `Limit` where too many would be
+    /// twice; else `Range` where a span is invalid or a mode is above 3; else `Limit` where too many would be
     /// live, or an id would pass the greatest one.
     pub fn decorate(
         &mut self,
@@ -44,7 +44,7 @@ impl Model {
     }
 
     /// Appends the decorations that share a unit with the span, or touch it: all of them, or those of one owner. Their
-    /// spans lie in the text. `Range` where the span is none of the text; after an error `out` is as it was.
+    /// spans lie in the text. `Range` where the span is invalid; after an error `out` is as it was.
     pub fn decos_in(
         &self,
         span: Span,

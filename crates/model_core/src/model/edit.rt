@@ -1,14 +1,14 @@
 //! Edits of a document: prepared, and carried out.
 
-ghost use Rattle.std.specs.Prelude.{◌≡◌, ◌+◌, ◌≤◌, [], length, IfOk};
+ghost use Rattle.std.specs.Prelude.{◌≡◌, ◌+◌, ◌≤◌};
 ghost use Rattle.std.specs.List.{All};
 ghost use Rattle.unit_text.specs.Units.{IsPaired};
 ghost use Rattle.document_rules.specs.Outcomes.{Changes};
 ghost use Rattle.document_rules.specs.Paired.{IsPairedState};
 ghost use Rattle.model_core.specs.Prepared.{need_of, Acts, ActsAlone, ArePairedTexts, CanCommit, HasActed, IsChangeOf, IsEnough, PreparesEdit};
-ghost use Rattle.model_core.specs.State.{LeftAfter, KeptAfter, GrownAfter, KeepsParse};
+ghost use Rattle.model_core.specs.State.{KeepsParse};
 ghost use Rattle.document_rules.specs.Document.{greatest_version, text_now, flat_edit};
-ghost use Rattle.model_core.specs.Edited.{HasEdited, marks_edited, one_edit};
+ghost use Rattle.model_core.specs.Edited.{HasEdited};
 
 use crate::errors::error_of;
 use crate::latest::Latest;
@@ -16,14 +16,14 @@ use crate::model::Model;
 use crate::ready::{Action, Ready};
 use crate::walk::keep;
 use document_rules::ModelError;
-use edit_batches::{Batch, Sorted, one_op};
+use edit_batches::{Batch, Sorted};
 use model_page::{Change, Way, need_of};
-use text_lengths::{Span, raised};
+use text_lengths::raised;
 use text_rules::Op;
 use unit_text::Flat;
 
 impl Model {
-    /// Carries out the edits at once, which makes the next version. `Range` where a span is none of the text; else
+    /// Carries out the edits at once, which makes the next version. `Range` where a span is invalid; else
     /// `Overlap` where two spans overlap; else `Limit` where the new text or the version would pass its limit. The edits
     /// are kept with the texts that they came with; all other memory is taken before the first change. The tree of the
     /// last parse stays, and each line that an edit touches is marked as new.
@@ -34,40 +34,11 @@ impl Model {
             → IsPaired self.new.document.units }
         ensures paired_state { All (λ op. IsPaired op.text) ops.items
             → IsPairedState self.old.document → IsPairedState self.new.document }
-        ensures parsed { self.new.parsed ≡ self.old.parsed }
-        ensures tree { self.new.tree ≡ self.old.tree }
-        ensures states { self.new.states ≡ self.old.states }
-        ensures marks { LeftAfter result (marks_edited self.old ops.items)
-            self.old.marks self.new.marks }
-        ensures fresh { KeptAfter (length ops.items) result self.old.fresh self.new.fresh }
-        ensures pieces { GrownAfter (length ops.items) result self.old.pieces self.new.pieces }
+        ensures parse { HasEdited ops.items result self.old self.new }
     {
         let ready = self.prepare(ops)?;
         self.commit(ready);
         Ok(())
-    }
-
-    /// Puts these units in at the offset: an `edit` of one op, which forces no decoration.
-    pub fn insert(&mut self, at: u64, text: &[u16]) -> Result<(), ModelError>
-        ensures { HasEdited (one_edit (record { start = at; end = at }) text.now)
-            result self.old self.new }
-    {
-        self.replace(Span { start: at, end: at }, text)
-    }
-
-    /// Takes the units of the span out: an `edit` of one op, which forces no decoration.
-    pub fn remove(&mut self, span: Span) -> Result<(), ModelError>
-        ensures { HasEdited (one_edit span []) result self.old self.new }
-    {
-        self.replace(span, &[])
-    }
-
-    /// Puts these units in the place of the span: an `edit` of one op, which forces no decoration.
-    pub fn replace(&mut self, span: Span, text: &[u16]) -> Result<(), ModelError>
-        ensures { HasEdited (one_edit span text.now) result self.old self.new }
-    {
-        let ops = one_op(self.alloc, span, text, false).map_err(|_| ModelError::Memory)?;
-        self.edit(ops)
     }
 
     /// Prepares to carry out the edits, with the refusals of `edit`, and makes room for it. The document stays as it is.

@@ -1,12 +1,12 @@
 //! The line endings of a document: another kind of them, prepared and set.
 
-ghost use Rattle.std.specs.Prelude.{◌≡◌, ◌≤◌};
+ghost use Rattle.std.specs.Prelude.{◌≡◌};
 ghost use Rattle.document_rules.specs.Outcomes.{Moves};
 ghost use Rattle.document_rules.specs.Paired.{IsPairedState};
 ghost use Rattle.document_rules.specs.Document.{is_same_kind, flat_eol};
+ghost use Rattle.model_core.specs.Edited.{HasRecast};
 ghost use Rattle.model_core.specs.Prepared.{PreparesEol};
-ghost use Rattle.model_core.specs.State.{AfterMove, KeepsParse};
-ghost use Rattle.text_batches.specs.Growth.{GrownBy};
+ghost use Rattle.model_core.specs.State.{KeepsParse};
 
 use crate::errors::recast_error_of;
 use crate::model::Model;
@@ -25,13 +25,7 @@ impl Model {
         ensures document { Moves result self.old.document self.new.document
             (flat_eol self.old.document kind) }
         ensures paired_state { IsPairedState self.old.document → IsPairedState self.new.document }
-        ensures parsed { self.new.parsed ≡ self.old.parsed }
-        ensures tree { self.new.tree ≡ self.old.tree }
-        ensures states { self.new.states ≡ self.old.states }
-        ensures marks { self.new.marks ≡ self.old.marks }
-        ensures fresh { self.new.fresh ≡ self.old.fresh }
-        ensures pieces { AfterMove result (GrownBy 1 self.old.pieces self.new.pieces)
-            (self.new.pieces ≡ self.old.pieces) }
+        ensures parse { HasRecast result self.old self.new }
     {
         let Some(ready) = self.prepare_eol(kind)? else {
             return Ok(false);

@@ -9,10 +9,8 @@ ghost use Rattle.model_page.specs.State.{IsNew};
 ghost use Rattle.document_rules.specs.Outcomes.{Changes, RefusedFor};
 ghost use Rattle.hiding_rules.specs.Hidden.{scanner, standard_scanner};
 ghost use Rattle.document_rules.specs.Paired.{IsPairedState};
-ghost use Rattle.text_rules.specs.Lines.{lines_of};
 ghost use Rattle.mark_rules.specs.declared.Mark.TheVariants.{New};
-ghost use Rattle.model_core.specs.Opened.{Opens, IsUnparsed};
-ghost use Rattle.model_core.specs.State.{LeftAfter};
+ghost use Rattle.model_core.specs.Opened.{Opens, HasOpened, IsUnparsed};
 ghost use Rattle.document_rules.specs.Document.{new_document, unless_too_long, flat_open};
 
 use crate::model::Model;
@@ -84,13 +82,7 @@ impl Model {
             (flat_open text.now (scanner table hiding) kind) }
         ensures paired_state { IsPaired text.now → IsPairedState self.old.document
             → IsPairedState self.new.document }
-        ensures parsed { LeftAfter result None self.old.parsed self.new.parsed }
-        ensures tree { LeftAfter result None self.old.tree self.new.tree }
-        ensures marks { LeftAfter result (replicate (length (lines_of (normalized kind text.now))) New)
-            self.old.marks self.new.marks }
-        ensures fresh { LeftAfter result false self.old.fresh self.new.fresh }
-        ensures pieces { OnOk result (self.new.pieces ≤ 1) }
-        ensures kept_pieces { OnErr result (self.new.pieces ≡ self.old.pieces) }
+        ensures parse { HasOpened (normalized kind text.now) result self.old self.new }
     {
         *self = Model::opened(self.alloc, text, table, kind, hiding)?;
         Ok(())

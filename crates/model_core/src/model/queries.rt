@@ -11,7 +11,6 @@ ghost use Rattle.document_rules.specs.Stops.{flat_stops};
 use crate::model::Model;
 use document_rules::ModelError;
 use std::alloc::AllocError;
-use std::sync::ledger::Ledger;
 use steps::Steps;
 use stops::stops;
 use text_lengths::{Position, Span};
@@ -71,7 +70,7 @@ impl Model {
         stops(self.alloc, content.as_slice(), out).map_err(|_| ModelError::Memory)
     }
 
-    /// Appends the units of the span. `Range` where it is none of the text; after an error `out` is as it was.
+    /// Appends the units of the span. `Range` where it is invalid; after an error `out` is as it was.
     pub fn value(&self, span: Span, out: &mut Vec<u16>) -> Result<(), ModelError>
         ensures { Appends result out.old.items out.new.items (flat_value self.now.document span) }
     {
@@ -93,21 +92,7 @@ impl Model {
         text.copy(0, text.len(), out)
     }
 
-    /// The position of the offset, or None where it is no place of the text.
-    pub fn position(&self, offset: u64) -> Option<Position>
-        ensures { result ≡ flat_position self.now.document offset }
-    {
-        self.page.text().position(offset)
-    }
-
-    /// The offset of the position, or None where it is none of the text.
-    pub fn offset(&self, p: Position) -> Option<u64>
-        ensures { result ≡ flat_offset self.now.document p }
-    {
-        self.page.text().offset(p)
-    }
-
-    /// As `offset`, and what it looks up is remembered for the edit that comes next.
+    /// As `offset_at`, and what it looks up is remembered for the edit that comes next.
     pub fn locate(&mut self, p: Position) -> Option<u64>
         ensures offset { result ≡ flat_offset self.old.document p }
         ensures same { self.new ≡ self.old }
@@ -115,16 +100,16 @@ impl Model {
         self.page.locate(p)
     }
 
-    /// `position`, which counts: each node that a search visits is a step.
-    pub fn position_at<L: Ledger>(&self, offset: u64, steps: &mut Steps<L>) -> Option<Position>
+    /// The position of the offset, or None where it is no place of the text. Each node that a search visits is a step.
+    pub fn position_at<L>(&self, offset: u64, steps: &mut Steps<L>) -> Option<Position>
         ensures position { result ≡ flat_position self.now.document offset }
         ensures cost { WithinLookUps 3 self.now.pieces (steps.new - steps.old) }
     {
         self.page.text().position_at(offset, steps)
     }
 
-    /// `offset`, which counts: each node that a search visits is a step.
-    pub fn offset_at<L: Ledger>(&self, p: Position, steps: &mut Steps<L>) -> Option<u64>
+    /// The offset of the position, or None where it is invalid. Each node that a search visits is a step.
+    pub fn offset_at<L>(&self, p: Position, steps: &mut Steps<L>) -> Option<u64>
         ensures offset { result ≡ flat_offset self.now.document p }
         ensures cost { WithinLookUps 4 self.now.pieces (steps.new - steps.old) }
     {

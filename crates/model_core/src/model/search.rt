@@ -5,7 +5,6 @@ ghost use Rattle.unit_text.specs.Units.{IsPaired};
 ghost use Rattle.document_rules.specs.Refusals.{limit};
 ghost use Rattle.document_rules.specs.Outcomes.{Moves};
 ghost use Rattle.document_rules.specs.Paired.{IsPairedState};
-ghost use Rattle.steps.specs.Counting.{IsFor};
 ghost use Rattle.search_rules.specs.Occurrences.{AreOccurrences};
 ghost use Rattle.search_rules.specs.Replacing.{flat_find, flat_replace_all, replaced, replacing, TakesBack};
 ghost use Rattle.model_core.specs.Replaced.{IsForRoom, HasReplaced, PreparesReplace};
@@ -16,8 +15,6 @@ use crate::ready::Ready;
 use document_rules::ModelError;
 use model_find::{find_in, ops_for};
 use std::alloc::AllocError;
-use std::marker::Brand;
-use std::sync::ledger::{Blank, Ledger};
 use steps::Steps;
 use text_lengths::Span;
 use text_rules::{MOST_TEXT_UNITS, Op};
@@ -35,28 +32,11 @@ impl Model {
             AreOccurrences f.kind f.units sought.now (flat_find f sought.now) }
         ensures err { OnErr result (out.new.items ≡ out.old.items) }
     {
-        self.find_for::<Brand>(sought, out, Blank::new(1))
-    }
-
-    fn find_for<L: Ledger>(
-        &self,
-        sought: &[u16],
-        out: &mut Vec<Span>,
-        blank: Blank,
-    ) -> Result<(), AllocError>
-        requires some { 0 < length sought.now }
-        requires blank { IsFor L.Ledger blank }
-        ensures ok { OnOk result (out.new.items
-            ≡ out.old.items ++ flat_find self.now.document sought.now) }
-        ensures occurrences { let f = self.now.document in
-            AreOccurrences f.kind f.units sought.now (flat_find f sought.now) }
-        ensures err { OnErr result (out.new.items ≡ out.old.items) }
-    {
-        self.find_counted(sought, out, &mut Steps::<L>::new(blank))
+        self.find_counted(sought, out, &mut Steps::new())
     }
 
     /// `find`, which counts the units that it looks at, of the text and of those that are sought: each look is a step.
-    pub fn find_counted<L: Ledger>(
+    pub fn find_counted<L>(
         &self,
         sought: &[u16],
         out: &mut Vec<Span>,
@@ -112,7 +92,7 @@ impl Model {
             return Err(ModelError::Limit);
         }
         let ops = self
-            .replacing_for::<Brand>(sought, with, Blank::new(1))
+            .replacing(sought, with)
             .map_err(|_| ModelError::Memory)?;
         if ops.is_empty() {
             return Ok(None);
@@ -121,26 +101,19 @@ impl Model {
     }
 
     // The edits that put the text in the place of each span that `find` finds.
-    fn replacing_for<L: Ledger>(
-        &self,
-        sought: &[u16],
-        with: &[u16],
-        blank: Blank,
-    ) -> Result<Vec<Op>, AllocError>
+    fn replacing(&self, sought: &[u16], with: &[u16]) -> Result<Vec<Op>, AllocError>
         requires some { 0 < length sought.now }
-        requires blank { IsFor L.Ledger blank }
         ensures { IfOk result (λ ops. ops.items
             ≡ replacing (flat_find self.now.document sought.now) with.now) }
     {
         let text = self.page.text();
-        let mut looks = Steps::<L>::new(blank);
         ops_for(
             self.alloc,
             text.runs_from(0),
             text.kind(),
             sought,
             with,
-            &mut looks,
+            &mut Steps::new(),
         )
     }
 

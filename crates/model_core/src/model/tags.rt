@@ -2,7 +2,7 @@
 
 ghost use Rattle.std.specs.Prelude.{◌≡◌, ◌+◌, ◌<◌, ◌^◌, length, slice_get, option_and_then};
 ghost use Rattle.undo_rules.specs.Tags.{all_steps, holds, tag_at};
-ghost use Rattle.document_rules.specs.Document.{flat_tag, flat_untag};
+ghost use Rattle.document_rules.specs.Document.{flat_tag, flat_untag, flat_untag_last};
 ghost use Rattle.document_rules.specs.Paired.{IsPairedState};
 ghost use Rattle.model_core.specs.State.{KeepsParse};
 ghost use Rattle.model_core.specs.Ways.{next_steps};
@@ -30,6 +30,16 @@ impl Model {
         ensures parse { KeepsParse self.old self.new }
     {
         self.history.untag(tag);
+    }
+
+    /// Takes the tag off the last `count` of the steps that have one of this document, or off all of these where there are fewer.
+    pub fn untag_last(&mut self, doc: u64, count: u64)
+        requires { doc < 64 }
+        ensures document { self.new.document ≡ flat_untag_last self.old.document doc count }
+        ensures paired_state { IsPairedState self.old.document → IsPairedState self.new.document }
+        ensures parse { KeepsParse self.old self.new }
+    {
+        self.history.untag_last(doc, count);
     }
 
     /// Whether a step has this tag.

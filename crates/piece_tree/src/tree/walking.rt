@@ -10,7 +10,6 @@ use crate::tree::PieceTree;
 use crate::weave::PieceWeave;
 use rb_arena::Walk;
 use std::marker::Model;
-use std::sync::ledger::Ledger;
 use steps::Steps;
 
 /// A walk over the pieces of a text in their order, from one of them on. Contracts see the pieces that it has not told yet, and how many
@@ -46,7 +45,7 @@ impl PieceTree {
 impl<'t> PieceWalk<'t> {
     /// The next piece with its name; None where all were told. Each node that is visited is a step.
     #[tactic(auto, using(crate::proofs::Walking::walk_told))]
-    pub fn next<L: Ledger>(&mut self, steps: &mut Steps<L>) -> Option<(PieceId, Piece)>
+    pub fn next<L>(&mut self, steps: &mut Steps<L>) -> Option<(PieceId, Piece)>
         ensures piece { MatchOption result (self.old.left ≡ [])
             (λ told. self.old.left ≡ record { id = told.0; piece = told.1 } ∷ self.new.left) }
         ensures end { ForNone result (self.new.left ≡ []) }

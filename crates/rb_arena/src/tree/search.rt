@@ -8,12 +8,11 @@ use crate::links::Links;
 use crate::tree::RbTree;
 use raw_arena::NodeId;
 use rb_rules::{Data, Weave};
-use std::sync::ledger::Ledger;
 use steps::Steps;
 
 /// The item at which a search ends that goes on so. Each node that is visited counts as a step.
 #[tactic(auto, using(crate::proofs::Seeing::going_on))]
-fn go_on<W: Weave, L: Ledger>(
+fn go_on<W: Weave, L>(
     tree: &Links<Data<W::Item, W::Sum, W::By>>,
     next: Next<W::Item, W::Sum, W::By>,
     key: W::Key,
@@ -33,11 +32,7 @@ impl<W: Weave> RbTree<W> {
     /// Searches for a key: an item at which the search ends, with its name and the sum of the items before it. The search ends
     /// where `turn` says stop, or between two items that point at each other. Each node that is visited counts as a step.
     #[tactic(auto, using(crate::proofs::Seeing::descending))]
-    pub fn descend<L: Ledger>(
-        &self,
-        key: W::Key,
-        steps: &mut Steps<L>,
-    ) -> Option<(NodeId, W::Item, W::Sum)>
+    pub fn descend<L>(&self, key: W::Key, steps: &mut Steps<L>) -> Option<(NodeId, W::Item, W::Sum)>
         ensures found { Found W.weaving W.turn key self.now.items result }
         ensures cost { 2 ^ (steps.new - steps.old) ≤ (length self.now.items + 1) ^ 2 }
     {
@@ -52,7 +47,7 @@ impl<W: Weave> RbTree<W> {
 
     /// Searches for a key among the items after that one, with sums that begin after it. Each node that is visited counts as a step.
     #[tactic(auto, using(crate::proofs::Seeing::descending_after))]
-    pub fn descend_after<L: Ledger>(
+    pub fn descend_after<L>(
         &self,
         id: NodeId,
         key: W::Key,

@@ -10,7 +10,6 @@ use crate::walk::beside_of;
 use raw_arena::NodeId;
 use rb_rules::{Data, Side, Weave};
 use std::marker::Model;
-use std::sync::ledger::Ledger;
 use steps::Steps;
 
 /// A walk over the items of a tree in their order, from one of them on.
@@ -54,7 +53,7 @@ impl<'t, W: Weave> Walk<'t, W> {
     /// The next item with its name, as its node keeps it: with the shifts of the nodes above it the item comes of that. None where all
     /// were told. Each node that is visited counts as a step.
     #[tactic(auto, using(crate::proofs::Walking::stepping))]
-    pub fn next<L: Ledger>(&mut self, steps: &mut Steps<L>) -> Option<(NodeId, W::Item)>
+    pub fn next<L>(&mut self, steps: &mut Steps<L>) -> Option<(NodeId, W::Item)>
         ensures item { MatchOption result (self.old.left ≡ [])
             (λ told. TellsFirst W.weaving self.old.left self.new.left told) }
         ensures end { ForNone result (self.new.left ≡ []) }

@@ -1,11 +1,11 @@
 //! How many lines a question about brackets asks for.
 
-use super::documents::open;
+use super::documents::{open, put};
 use model_core::Model;
 use std::alloc::{AllocError, Global};
 use std::process::Abort;
 use std::test::Fail;
-use text_lengths::Position;
+use text_lengths::{Position, Span};
 use unit_text::units_of;
 
 const LINES: u64 = 1000;
@@ -27,7 +27,11 @@ fn ask_edit_and_ask(alloc: Global, model: &mut Model) -> Result<(u64, u64), Fail
     let text = pairs(alloc)?;
     open(model, &text)?;
     let first = asked(model)?;
-    model.insert(MIDDLE, &[0x28, 0x29])?;
+    let middle = Span {
+        start: MIDDLE,
+        end: MIDDLE,
+    };
+    put(alloc, model, middle, &[0x28, 0x29])?;
     Ok((first, asked(model)?))
 }
 

@@ -1,7 +1,7 @@
 //! The document as a library. One function owns it for all that is tried, since to drop a document is dear to prove.
 
 use super::asked::expect_one_line_asked;
-use super::documents::open;
+use super::documents::{open, put};
 use super::mirrors::expect_a_mirror_that_follows;
 use super::prepared::expect_a_change_in_two_parts;
 use super::rewritten::expect_the_plain_text;
@@ -55,24 +55,12 @@ fn edit_by_a_batch(alloc: Global, model: &mut Model) -> Result<Vec<u8>, Fail> {
 }
 
 fn edit_by_single_edits(alloc: Global, model: &mut Model) -> Result<Vec<u8>, Fail> {
-    insert_abc(model)?;
-    remove_b(model)?;
-    replace_a(model)?;
+    put(alloc, model, Span { start: 0, end: 0 }, &[0x61, 0x62, 0x63])?;
+    put(alloc, model, Span { start: 1, end: 2 }, &[])?;
+    put(alloc, model, Span { start: 0, end: 1 }, &[0x58, 0x59])?;
     replace_each_y(model)?;
     model.set_eol(Kind::Lf)?;
     Ok(first_line(alloc, model)?)
-}
-
-fn insert_abc(model: &mut Model) -> Result<(), ModelError> {
-    model.insert(0, &[0x61, 0x62, 0x63])
-}
-
-fn remove_b(model: &mut Model) -> Result<(), ModelError> {
-    model.remove(Span { start: 1, end: 2 })
-}
-
-fn replace_a(model: &mut Model) -> Result<(), ModelError> {
-    model.replace(Span { start: 0, end: 1 }, &[0x58, 0x59])
 }
 
 fn replace_each_y(model: &mut Model) -> Result<bool, ModelError> {

@@ -1,11 +1,12 @@
 //! A mirror that follows a document by its events.
 
-use super::documents::open;
+use super::documents::{open, put};
 use mirror_model::{Event, Mirror, Tally};
 use model_core::Model;
 use std::alloc::{AllocError, Global};
 use std::process::Abort;
 use std::test::Fail;
+use text_lengths::Span;
 
 /// Of two events the second comes first, the first comes twice, and the second again.
 pub fn expect_a_mirror_that_follows<R: AllocGlobal + Abort>(
@@ -45,9 +46,9 @@ fn expect_both_taken<R: AllocGlobal + Abort>(
 /// The events by which `x` comes before `ab`, and `y` behind it.
 fn events_of_two_edits(alloc: Global, model: &mut Model) -> Result<Vec<Event>, Fail> {
     open(model, &[0x61, 0x62])?;
-    model.insert(0, &[0x78])?;
+    put(alloc, model, Span { start: 0, end: 0 }, &[0x78])?;
     let mut firsts = twice(alloc, model)?;
-    model.insert(3, &[0x79])?;
+    put(alloc, model, Span { start: 3, end: 3 }, &[0x79])?;
     let mut seconds = twice(alloc, model)?;
     let mut events = Vec::new(alloc);
     move_one(&mut seconds, &mut events)?;

@@ -1,7 +1,7 @@
 //! A small text in many pieces, which is written anew, beside a plain list of its units; and short and longer ops, which the
 //! history keeps in two forms.
 
-use super::documents::open;
+use super::documents::{open, put};
 use model_core::Model;
 use std::alloc::{AllocError, Global};
 use std::process::Abort;
@@ -59,7 +59,7 @@ fn edit_beside(alloc: Global, model: &mut Model) -> Result<Vec<u16>, Fail> {
     let mut plain = letters(alloc)?;
     open(model, plain.as_slice())?;
     for turn in 0..EDITS {
-        edit(model, &mut plain, turn)?;
+        edit(alloc, model, &mut plain, turn)?;
     }
     Ok(plain)
 }
@@ -71,7 +71,7 @@ fn letters(alloc: Global) -> Result<Vec<u16>, AllocError> {
 }
 
 /// Puts other units in the place of one, or of nine each seventh time, in both.
-fn edit(model: &mut Model, plain: &mut Vec<u16>, turn: usize) -> Result<(), Fail> {
+fn edit(alloc: Global, model: &mut Model, plain: &mut Vec<u16>, turn: usize) -> Result<(), Fail> {
     let at = turn.wrapping_mul(2_741) % (LEN - 9);
     let len = if turn % 7 == 0 { 9 } else { 1 };
     let letter = LETTER + 1 + (turn % 20) as u16;
@@ -80,7 +80,7 @@ fn edit(model: &mut Model, plain: &mut Vec<u16>, turn: usize) -> Result<(), Fail
         start: at as u64,
         end: (at + len) as u64,
     };
-    model.replace(span, &units[..len])?;
+    put(alloc, model, span, &units[..len])?;
     for place in at..at + len {
         if let Some(unit) = plain.get_mut(place) {
             *unit = letter;

@@ -1,6 +1,6 @@
-use Rattle.std.proofs.Common.{◌≡◌, ℕ, ◌+◌, ◌-◌, ◌<◌, ◌≤◌, ◌++◌, ◌∷◌, [], List, length, get_or, refl, sym, ap, subst, ◌∙◌, arith}
+use Rattle.std.proofs.Common.{ℕ, ◌-◌, length, refl, sym, ap, subst, ◌∙◌, arith}
 use Rattle.std.proofs.lemmas.List.{length_push}
-use Rattle.model_find.specs.Matching.{IsLongest, AreBorders}
+use Rattle.model_find.specs.Matching.{AreBorders}
 use Rattle.model_find.proofs.Matching.{up_to_fewer, unit_after, one_border_more}
 use Rattle.model_find.proofs.borders.borders_of.Goals as goal
 

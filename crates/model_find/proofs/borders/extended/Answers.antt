@@ -1,4 +1,4 @@
-use Rattle.std.proofs.Common.{◌≡◌, ℕ, ◌+◌, ◌-◌, ◌<◌, ◌≤◌, false, true, List, length, get_or, cond, sym, ap, subst, ◌∙◌, inl, inr, arith}
+use Rattle.std.proofs.Common.{◌≡◌, ◌+◌, length, sym, subst, arith}
 use Rattle.model_find.specs.Matching.{IsLongest}
 use Rattle.model_find.proofs.Matching.{Falls, falls_first, falls_next, falls_found, falls_last}
 use Rattle.model_find.proofs.borders.extended.Goals as goal

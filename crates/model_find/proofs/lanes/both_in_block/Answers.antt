@@ -1,4 +1,4 @@
-use Rattle.std.proofs.Common.{ℕ, ◌+◌, ◌-◌, ◌%◌, ◌^◌, ◌==◌, ◌&&◌, ap, sym, ◌∙◌, arith, bit_and, map}
+use Rattle.std.proofs.Common.{ℕ, ◌+◌, ◌%◌, ◌^◌, ◌==◌, ◌&&◌, ap, sym, ◌∙◌, arith, bit_and, map}
 use lib.Lanes.{chunk, zip2, mask_l, top}
 use Rattle.std.proofs.lemmas.Simd.{length-chunk, length-zip2, mask_l-mod, zip2_splat}
 use Rattle.model_find.proofs.Ahead.{hit, lanes_both}

@@ -1,11 +1,5 @@
-use Rattle.std.proofs.Common.{◌≡◌, ℕ, ◌+◌, ◌∙◌, sym, subst, arith}
-use Rattle.text_lengths.specs.declared.Length.{Length}
-use Rattle.text_lengths.specs.Length.{length_of}
-use Rattle.bracket_rules.specs.declared.Token.{Token}
+use Rattle.std.proofs.Common.{◌+◌, ◌∙◌, sym, subst, arith}
 use Rattle.bracket_tree_rules.specs.Tree.{Tree}
-use Rattle.bracket_nodes.specs.declared.parser.Next.TheVariants.{Bracket}
-use Rattle.bracket_nodes.specs.Paying.{PaysFor}
-use Rattle.node_reuse.specs.Paying.{paying_at}
 use Rattle.bracket_nodes.specs.Borrowed.{node_of}
 use Rattle.node_reuse.specs.OldText.{OldText, IsReusable, IsLongestReusable, NoneReusable, IsOldToken, NoOldBracket}
 use Rattle.node_reuse.proofs.KeptReader.{kept_node, kept_bracket, kept_end}
@@ -32,20 +26,16 @@ returns-clause-reads g c = λ s line old kept scanned h.
     (subst (λ (o : OldText). NoOldBracket o c.args.place.now) (sym (old ∙ sym c.longest_at.follows.holds-at-none)) c.in_default-token_at.ensures.none)
 
 pub returns-in-Some-clause-pays : goal.returns-in-Some-clause-pays
-returns-in-Some-clause-pays g c = λ s line old kept scanned h room.
+returns-in-Some-clause-pays g c = λ s line steps old kept scanned h asked room.
     let n : Tree = node_of c.in-Some.node in
     let longest : IsLongestReusable s.old c.args.place.now c.args.opened c.args.level n =
     subst (λ (o : OldText). IsLongestReusable o c.args.place.now c.args.opened c.args.level n) (sym old) c.in-Some.ensures.some in
     rw (c.plus.ensures, c.length-length.ensures, c.longest_at.ensures.step)
-    (kept_node_pays s c.args.place.now line c.args.steps.now c.args.opened c.args.level h kept scanned room n longest)
+    (kept_node_pays s c.args.place.now line steps c.args.opened c.args.level h kept scanned room n (c.args.steps.now + 1) (omega (arith, asked)) longest)
 
 pub returns-in-Some-token_at-clause-pays : goal.returns-in-Some-token_at-clause-pays
-returns-in-Some-token_at-clause-pays g c = λ s line old kept scanned h room.
-    let two : c.args.steps.now + 2 ≡ c.token_at.new.steps = omega (arith, c.longest_at.ensures.step, c.token_at.ensures.step) in
-    let found : Token = c.in-Some-token_at.token in
-    let p : Length = c.args.place.now in
-    subst (λ (n : ℕ). PaysFor (paying_at s c.args.steps.now p line) (paying_at s n (length_of p.lines (p.columns + found.len)) line)
-    (Bracket found.kind found.len found.opening)) two
-    (kept_bracket_pays s c.args.place.now line c.args.steps.now c.args.opened c.args.level h kept scanned room c.in-Some-token_at.token
+returns-in-Some-token_at-clause-pays g c = λ s line steps old kept scanned h asked room.
+    (kept_bracket_pays s c.args.place.now line steps c.args.opened c.args.level h kept scanned room c.in-Some-token_at.token c.token_at.new.steps
+    (omega (arith, asked, c.longest_at.ensures.step, c.token_at.ensures.step))
     (subst (λ (o : OldText). NoneReusable o c.args.place.now c.args.opened c.args.level) (sym old) c.in_default.ensures.none)
     (subst (λ (o : OldText). IsOldToken o c.args.place.now c.in-Some-token_at.token) (sym (old ∙ sym c.longest_at.follows.holds-at-none)) c.in-Some-token_at.ensures.some))

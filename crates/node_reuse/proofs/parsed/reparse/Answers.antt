@@ -1,4 +1,4 @@
-use Rattle.std.proofs.Common.{rules, arith, ◌≡◌, ◌+◌, ◌≤◌, subst, sym, ◌∙◌, ap, length, List, [], Result, Ok, Err, ℕ}
+use Rattle.std.proofs.Common.{rules, arith, true, false, ◌≡◌, ◌+◌, ◌≤◌, subst, sym, ◌∙◌, ap, length, List, [], Result, Ok, Err, ℕ}
 use Rattle.std.specs.Prelude.{OnErr}
 use Rattle.hiding_rules.specs.Hidden.{Scanner, scanner}
 use Rattle.bracket_tree_rules.specs.Tree.{Tree, nesting, highest}
@@ -27,6 +27,8 @@ parse-requires-clause-stands g c =
           c.in_ok-line.ensures.scanned c.in_ok-line.ensures.asked;
       marks = c.requires.marks;
       states = c.requires.states;
+      told = omega arith;
+      scanned = λ e. let clash : true ≡ false = sym e ∙ c.in_ok-line.ensures.scanned in cc;
     }
 
 pub parse-requires-clause-some : goal.parse-requires-clause-some

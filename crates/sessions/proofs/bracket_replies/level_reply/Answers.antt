@@ -6,8 +6,8 @@ use Rattle.sessions.proofs.bracket_replies.level_reply.Goals as goal
 
 pub returns-in_err-level : goal.returns-in_err-level
 returns-in_err-level c =
-    tells_asked_on _ _ _ _ c.level_at.ensures _ (λ f. level_answer (flat_level f c.args.p)) c.level_at.ensures.done.1.document (search rules)
+    tells_asked_on _ _ _ _ c.level_at.ensures _ (λ f. level_answer (flat_level f c.args.p)) c.level_at.ensures.done.0.parse.document (search rules)
 
 pub returns : goal.returns
 returns c =
-    tells_asked_on _ _ _ _ c.level_at.ensures _ (λ f. level_answer (flat_level f c.args.p)) c.level_at.ensures.done.1.document (search rules)
+    tells_asked_on _ _ _ _ c.level_at.ensures _ (λ f. level_answer (flat_level f c.args.p)) c.level_at.ensures.done.0.parse.document (search rules)

@@ -51,7 +51,7 @@ returns-in_err-joint c =
     rw (p.1, p.2) (tells_unjoined (documents c.args.group.now) c.args.edits c.as_slice-2.result.now
     (docs_are (goal.at.returns-in_err-joint c).After-names_badly) good batches e (documents c.joint.new.self) c.in_ok-batches.ensures.found
     (subst (λ s. ChangesAll (Err e) (documents s) (documents c.joint.new.self) (group_joint (documents s) batches)) c.in_ok-batches.ensures.same
-    c.in_err-joint.ensures))
+    c.in_err-joint.ensures.documents))
 
 pub tell_all-requires-clause-there : goal.tell_all-requires-clause-there
 tell_all-requires-clause-there c =
@@ -66,6 +66,6 @@ returns c =
     let docs = c.as_slice-2.result.now in
     tells_joined (documents c.args.group.now) c.args.edits docs (docs_are (goal.at.returns c).After-names_badly) good batches new _
     c.in_ok-batches.ensures.found
-    (subst (λ s. group_joint (documents s) batches ≡ Ok new) c.in_ok-batches.ensures.same c.in_ok-joint.ensures)
+    (subst (λ s. group_joint (documents s) batches ≡ Ok new) c.in_ok-batches.ensures.same c.in_ok-joint.ensures.documents)
     (c.tell_all.ensures.told ∙ ap (λ x. x ++ joint_reply new c.as_slice-3.result.now) c.in_ok-reply.ensures.empty
     ∙ ap (joint_reply new) (c.as_slice-3.ensures.value ∙ sym c.as_slice-2.ensures.value))

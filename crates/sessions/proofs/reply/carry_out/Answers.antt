@@ -70,32 +70,32 @@ returns-in-Close c =
 
 pub returns-in-Offset : goal.returns-in-Offset
 returns-in-Offset c =
-    rw c.in-Offset.is (tells_asked_of _ c.args.doc _ _ (λ f. offset_answer (flat_offset f c.in-Offset.p))
+    rw c.in-Offset.is (tells_asked_of _ _ refl refl c.args.doc _ _ (λ f. offset_answer (flat_offset f c.in-Offset.p))
     (doc_in-is c.args.session.now.group c.args.doc c.doc-in-Offset.result.now c.doc-in-Offset.ensures) (record { answer = answered c.offset_reply.ensures.answer refl; accepted = c.offset_reply.ensures.accepted }))
 
 pub returns-in-Position : goal.returns-in-Position
 returns-in-Position c =
-    rw c.in-Position.is (tells_asked_of _ c.args.doc _ _ (λ f. position_answer (flat_position f c.in-Position.offset))
+    rw c.in-Position.is (tells_asked_of _ _ refl refl c.args.doc _ _ (λ f. position_answer (flat_position f c.in-Position.offset))
     (doc_in-is c.args.session.now.group c.args.doc c.doc-in-Position.result.now c.doc-in-Position.ensures) (record { answer = answered c.position_reply.ensures.answer refl; accepted = c.position_reply.ensures.accepted }))
 
 pub returns-in-Deco : goal.returns-in-Deco
 returns-in-Deco c =
-    rw c.in-Deco.is (tells_asked_of _ c.args.doc _ _ (λ f. deco_answer (flat_deco f c.in-Deco.id))
+    rw c.in-Deco.is (tells_asked_of _ _ refl refl c.args.doc _ _ (λ f. deco_answer (flat_deco f c.in-Deco.id))
     (doc_in-is c.args.session.now.group c.args.doc c.doc-in-Deco.result.now c.doc-in-Deco.ensures) (record { answer = answered c.deco_reply.ensures.answer refl; accepted = c.deco_reply.ensures.accepted }))
 
 pub returns-in-Decos : goal.returns-in-Decos
 returns-in-Decos c =
-    rw c.in-Decos.is (tells_asked_of _ c.args.doc _ _ (λ f. decos_answer (flat_decos f c.in-Decos.at c.in-Decos.owner))
+    rw c.in-Decos.is (tells_asked_of _ _ refl refl c.args.doc _ _ (λ f. decos_answer (flat_decos f c.in-Decos.at c.in-Decos.owner))
     (doc_in-is c.args.session.now.group c.args.doc c.doc-in-Decos.result.now c.doc-in-Decos.ensures) c.decos_reply.ensures)
 
 pub returns-in-Stops : goal.returns-in-Stops
 returns-in-Stops c =
-    rw c.in-Stops.is (tells_asked_of _ c.args.doc _ _ (λ f. stops_answer (flat_stops f c.in-Stops.n))
+    rw c.in-Stops.is (tells_asked_of _ _ refl refl c.args.doc _ _ (λ f. stops_answer (flat_stops f c.in-Stops.n))
     (doc_in-is c.args.session.now.group c.args.doc c.doc-in-Stops.result.now c.doc-in-Stops.ensures) c.stops_reply.ensures)
 
 pub returns-in-Find : goal.returns-in-Find
 returns-in-Find c =
     let f = c.doc-in-Find.result.now.document in
-    rw c.in-Find.is (tells_asked_of _ c.args.doc f _ (λ f. spans_reply (flat_find f c.in-Find.sought))
+    rw c.in-Find.is (tells_asked_of _ _ refl refl c.args.doc f _ (λ f. spans_reply (flat_find f c.in-Find.sought))
     (doc_in-is c.args.session.now.group c.args.doc c.doc-in-Find.result.now c.doc-in-Find.ensures)
     (subst (λ x. TellsBy (spans_reply (flat_find f x), f) f c.find_reply.result f) c.as_slice-in-Find.ensures.value c.find_reply.ensures))

@@ -6,7 +6,7 @@ use Rattle.textmodel_c.proofs.brackets.level_at.Goals as goal
 pub returns-clause-level : goal.returns-clause-level
 returns-clause-level c =
     on_first (λ f g. Gives c.level_at.result (flat_level f c.args.at)) c.args.group.now c.level_at.new.self c.level_at.ensures
-    c.level_at.ensures.done.0
+    c.level_at.ensures.done.0.answer
 
 pub returns-clause-documents : goal.returns-clause-documents
-returns-clause-documents c = documents_kept c.args.group.now c.level_at.new.self c.level_at.ensures c.level_at.ensures.done.1.document
+returns-clause-documents c = documents_kept c.args.group.now c.level_at.new.self c.level_at.ensures c.level_at.ensures.done.0.parse.document

@@ -4,9 +4,9 @@ use Rattle.raw_arena.proofs.Names.{get-insert_same}
 use Rattle.worked_parts.proofs.arena.what_is_left.Goals as goal
 
 pub visit-requires : goal.visit-requires
-visit-requires g c = (4, get-insert_same c.put_two_take_one-left.new.arena.live c.put_two_take_one-left.result 4)
+visit-requires c = (4, get-insert_same c.put_two_take_one-left.new.arena.live c.put_two_take_one-left.result 4)
 
 pub returns : goal.returns
-returns g c =
+returns c =
     let left = c.put_two_take_one-left in
     (ap (λ o. unwrap_or o 0) (sym c.visit-before.ensures.value ∙ left.ensures.value), ap (λ o. unwrap_or o 0) (sym c.visit.ensures.value ∙ get-insert_same left.new.arena.live left.result 4))

@@ -19,11 +19,5 @@ pub returns-clause-paired_state : goal.returns-clause-paired_state
 returns-clause-paired_state c =
     λ texts paired. IsPairedState-edit (Ok tt) c.args.self.now.document _ c.args.ops.items (edited (goal.at.returns-clause-paired_state c).After-commit).document texts paired
 
-pub returns-clause-marks : goal.returns-clause-marks
-returns-clause-marks c = (edited (goal.at.returns-clause-marks c).After-commit).marks
-
-pub returns-clause-fresh : goal.returns-clause-fresh
-returns-clause-fresh c = (edited (goal.at.returns-clause-fresh c).After-commit).fresh
-
-pub returns-clause-pieces : goal.returns-clause-pieces
-returns-clause-pieces c = (edited (goal.at.returns-clause-pieces c).After-commit).pieces
+pub returns-clause-parse : goal.returns-clause-parse
+returns-clause-parse c = (edited (goal.at.returns-clause-parse c).After-commit).parse

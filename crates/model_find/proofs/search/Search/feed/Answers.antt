@@ -1,4 +1,4 @@
-use Rattle.std.proofs.Common.{Bor, ◌≡◌, ℕ, ◌+◌, ◌-◌, ◌<◌, ◌≤◌, List, length, get_or, sym, ap, subst, ◌∙◌, arith}
+use Rattle.std.proofs.Common.{Bor, ◌≡◌, ℕ, ◌-◌, ◌<◌, List, length, get_or, sym, ap, ◌∙◌, arith}
 use Rattle.model_find.proofs.Matching.{read_on}
 use Rattle.model_find.proofs.search.Search.feed.Goals as goal
 
@@ -11,7 +11,7 @@ returns-clause-reads g c = λ x all stands (inside, next).
     let there : s.at < length x = omega (arith, place, inside) in
     let unit = next ∙ ap (λ (i : ℕ). get_or x i 0) place in
     let reads = c.in_ok-settle.ensures.settles x all stands (inside, next) in
-    read_on s.kind x s.sought.now c.settle.ensures.sound.some all c.settle.new.out.items (m - 1) s.at s.before s.matched c.args.unit c.extended-self.result reads
+    read_on s.kind x s.sought.now s.some all c.settle.new.out.items (m - 1) s.at s.before s.matched c.args.unit c.extended-self.result reads
     (omega (arith, c.in_ok-settle.ensures.part, ap (λ (r : Bor (List ℕ)). length r.now) c.settle.ensures.same.sought)) there unit
     (λ low longest. c.extended-self.ensures.longest x low s.at there reads.unit unit longest)
     c.extended-self.ensures.few

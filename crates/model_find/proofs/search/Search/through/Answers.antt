@@ -1,9 +1,8 @@
-use Rattle.std.proofs.Common.{Bor, ◌≡◌, ℕ, ◌+◌, ◌-◌, ◌*◌, ◌<◌, ◌≤◌, List, length, drop, refl, get_or, sym, ap, subst, ◌∙◌, arith}
-use Rattle.text_lengths.specs.declared.Span.{Span}
+use Rattle.std.proofs.Common.{Bor, ◌≡◌, ℕ, ◌+◌, ◌-◌, List, get_or, ap, subst, ◌∙◌, arith}
 use Rattle.model_find.specs.declared.search.Search.{Search}
 use Rattle.model_find.specs.Matching.{IsRunAt}
 use Rattle.model_find.specs.Ahead.{KnowsStarts}
-use Rattle.model_find.specs.Searching.{IsSound, IsSame, StandsIn}
+use Rattle.model_find.specs.Searching.{IsSame}
 use Rattle.model_find.proofs.Matching.{run_unit, run_within, kept, kept_on}
 use Rattle.model_find.proofs.search.Search.through.Goals as goal
 
@@ -25,7 +24,6 @@ loop-i-init g c =
     let skip = c.skip-i.ensures in
     let old = c.args.self.now in
     record {
-      sound = skip.sound;
       same = skip.same;
       within = skip.within;
       at = omega (arith, skip.at);
@@ -44,7 +42,6 @@ loop-i-preserved g c =
     let old = c.args.self.now in
     let i : ℕ = c.loop-i.i in
     record {
-      sound = skip.sound;
       same = same_after old c.feed.new.self c.skip-i-in-loop-i.new.self (same_after old c.loop-i.self c.feed.new.self inv.same feed.same) skip.same;
       within = skip.within;
       at = omega (arith, skip.at, feed.at, inv.at, skip.on);

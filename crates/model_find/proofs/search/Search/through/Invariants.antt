@@ -1,13 +1,12 @@
-use Rattle.std.proofs.Common.{◌≡◌, ℕ, ◌+◌, ◌-◌, ◌*◌, ◌<◌, ◌≤◌, List, length, take}
+use Rattle.std.proofs.Common.{◌≡◌, ℕ, ◌+◌, ◌-◌, ◌*◌, ◌≤◌, List, length, take}
 use Rattle.text_lengths.specs.declared.Span.{Span}
 use Rattle.model_find.specs.Matching.{IsRunAt}
 use Rattle.model_find.specs.Ahead.{KnowsStarts}
-use Rattle.model_find.specs.Searching.{IsSound, IsSame, StandsIn}
+use Rattle.model_find.specs.Searching.{IsSame, StandsIn}
 use Rattle.model_find.proofs.search.Search.through.Given as goal
 
 abbrev pub invariant-loop-i : goal.invariant-loop-i
 invariant-loop-i g l = record {
-  sound : IsSound l.self;
   same : IsSame l.fn.self l.self;
   within : l.i ≤ length l.run;
   at : l.self.at ≡ l.fn.self.at + l.i;

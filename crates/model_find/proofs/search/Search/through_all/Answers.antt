@@ -1,12 +1,10 @@
-use Rattle.std.proofs.Common.{◌≡◌, ℕ, ◌+◌, ◌-◌, ◌*◌, ◌<◌, ◌≤◌, ◌++◌, List, [], length, drop, take, sym, ap, ◌∙◌, arith}
+use Rattle.std.proofs.Common.{◌≡◌, ℕ, [], length, drop, sym, ap, ◌∙◌, arith}
 use Rattle.std.proofs.lemmas.List.{length-drop}
-use Rattle.text_lengths.specs.declared.Span.{Span}
-use Rattle.model_find.specs.Searching.{IsSound, StandsIn}
 use Rattle.model_find.proofs.Matching.{next_is, next_left, next_within, kept_on}
 use Rattle.model_find.proofs.search.Search.through_all.Goals as goal
 
-pub through-requires-clause-small : goal.through-requires-clause-small
-through-requires-clause-small g c =
+pub through-requires : goal.through-requires
+through-requires g c =
     let x = g.R.Reader.left c.args.reader in
     let inv = c.loop-run.invariant in
     let within = next_within x (g.R.Reader.left c.loop-run.reader) c.in-Some.run'.now (g.R.Reader.left c.next_run.new.self) c.loop-run.self.at
@@ -25,7 +23,6 @@ loop-run-preserved g c =
     let within = next_within x rest run left at inv.left parts inv.within in
     let through = c.in_ok-through.ensures in
     record {
-      sound = through.sound;
       left = next_left x rest run left at inv.left parts ∙ ap (λ (n : ℕ). drop n x) (sym through.at);
       within = omega (arith, through.at, within);
       stands = λ all stands. through.reads x all (inv.stands all stands) (next_is x rest run left at inv.left parts);

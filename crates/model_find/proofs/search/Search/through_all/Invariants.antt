@@ -1,11 +1,10 @@
-use Rattle.std.proofs.Common.{◌≡◌, ℕ, ◌+◌, ◌-◌, ◌*◌, ◌<◌, ◌≤◌, List, length, take, drop}
+use Rattle.std.proofs.Common.{◌≡◌, ◌+◌, ◌*◌, ◌≤◌, List, length, take, drop}
 use Rattle.text_lengths.specs.declared.Span.{Span}
-use Rattle.model_find.specs.Searching.{IsSound, StandsIn}
+use Rattle.model_find.specs.Searching.{StandsIn}
 use Rattle.model_find.proofs.search.Search.through_all.Given as goal
 
 abbrev pub invariant-loop-run : goal.invariant-loop-run
 invariant-loop-run g l = record {
-  sound : IsSound l.self;
   left : g.R.Reader.left l.reader ≡ drop l.self.at (g.R.Reader.left l.fn.reader);
   within : l.self.at ≤ length (g.R.Reader.left l.fn.reader);
   stands : (all : List Span) → StandsIn (g.R.Reader.left l.fn.reader) all l.fn.out.items l.fn.self

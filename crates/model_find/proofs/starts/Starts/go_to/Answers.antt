@@ -1,4 +1,3 @@
-use Rattle.std.proofs.Common.{arith}
 use Rattle.model_find.proofs.Ahead.{passed}
 use Rattle.model_find.proofs.starts.Starts.go_to.Goals as goal
 

@@ -1,6 +1,5 @@
-use Rattle.std.proofs.Common.{◌≡◌, ℕ, ◌+◌, ◌<◌, ◌≤◌, false, inl, inr, arith}
+use Rattle.std.proofs.Common.{inl, inr, arith}
 use Rattle.std.proofs.lemmas.Bool.{cases_lt}
-use Rattle.model_find.specs.Matching.{may_begin}
 use Rattle.model_find.proofs.Ahead.{none_begins, first_within, none_before}
 use Rattle.model_find.proofs.starts.Starts.next.Goals as goal
 
@@ -21,7 +20,7 @@ loop-self-preserved g c =
         | inl before ↦ c.loop-self.invariant.none k from before
         | inr behind ↦ none_begins c.args.run.now c.args.sought.now c.loop-self.self knows c.loop-self-test.true k behind (omega (arith, c.look.ensures.at))
       ];
-      cost = omega (arith, c.look.ensures.cost, c.look.ensures.at, c.loop-self.invariant.cost);
+      cost = omega (arith, c.add.ensures, c.look.ensures.at, c.loop-self.invariant.cost);
     }
 
 pub returns-clause-within : goal.returns-clause-within

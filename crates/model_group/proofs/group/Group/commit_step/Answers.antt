@@ -17,6 +17,6 @@ returns c =
       after = c.commit.new.self;
       is = model_at c.args.self.now c.self.inside.models.items c.args.one.doc m c.self.view_is c.self.invariant c.requires.there
           c.index_mut.ensures.value;
-      done = c.commit.ensures.document;
+      done = record { document = c.commit.ensures.document; parse = c.commit.ensures.parse };
       rest = ap (λ g. set g c.args.one.doc c.commit.new.self) c.self.view_is;
     }

@@ -1,8 +1,8 @@
 use Rattle.std.proofs.Common.{◌≡◌, ◌<◌, true, false, [], ◌∷◌, length, Some, slice_get, refl, sym, ap, arith}
 use Rattle.std.proofs.lemmas.Grind.{common_steps}
 use Rattle.std.proofs.lemmas.Option.{slice_get_read}
+use Rattle.undo_rules.specs.Tags.{is_member}
 use Rattle.group_rules.specs.declared.TheConstants.{DOC_COUNT}
-use Rattle.group_rules.specs.Group.{is_member}
 use Rattle.model_group.specs.Losing.{has_doc, LosesOrStays}
 use Rattle.model_group.proofs.Lists.{item_within, done_on, stays_on}
 use Rattle.model_group.proofs.Losses.{spared_stays, other_stays, loses_tag}

@@ -1,13 +1,15 @@
-use Rattle.std.proofs.Common.{◌≡◌, ◌∷◌, [], ◌++◌, List, map, length, Ok, Err, Some, subst, ap, sym, ◌∙◌, append_assoc, arith}
+use Rattle.std.proofs.Common.{◌≡◌, ◌∷◌, [], ◌++◌, List, nat_le, map, length, Some, subst, ap, sym, ◌∙◌, append_assoc, arith}
 use Rattle.std.proofs.lemmas.Grind.{common_steps}
 use Rattle.std.proofs.lemmas.List.{map-append}
+use Rattle.std.proofs.lemmas.Bool.{or_parts, leb-false}
+use Rattle.group_rules.specs.declared.TheConstants.{DOC_COUNT}
 use Rattle.std.specs.Vec.Iter.{into_iter_items}
 use Rattle.group_rules.specs.Joint.{FlatBatch, flat_batch}
 use Rattle.model_group.specs.declared.joint.DocReady.{DocReady}
 use Rattle.model_group.specs.State.{documents}
-use Rattle.model_group.specs.Prepared.{PreparesBatch, AreBatchesReady, IsFirstOf}
-use Rattle.model_group.proofs.Naming.{batch_there}
-use Rattle.model_group.proofs.Committing.{kept_all}
+use Rattle.model_group.specs.Prepared.{AreBatchesReady, IsFirstOf}
+use Rattle.model_group.proofs.Naming.{batch_fine}
+use Rattle.model_group.proofs.Committing.{keep_then, kept_all}
 use Rattle.model_group.proofs.Joining.{prepared_more, accepted_more, refused_more, unless_told}
 use Rattle.model_group.proofs.group.Group.prepare_batches.Goals as goal
 
@@ -15,7 +17,8 @@ pub prepare_batch-requires : goal.prepare_batch-requires
 prepare_batch-requires c =
     let steps : into_iter_items c.loop-batch.batch-iterator ≡ c.in-Some.batch ∷ into_iter_items c.next.new.self = c.in-Some.ensures.steps.0 in
     let whole = ap (λ rest. c.loop-batch.yielded ++ rest) (sym steps) ∙ c.loop-batch.invariant.all in
-    batch_there c.loop-batch.yielded c.in-Some.batch (into_iter_items c.next.new.self) c.args.batches.items whole c.requires
+    let fine = batch_fine c.loop-batch.yielded c.in-Some.batch (into_iter_items c.next.new.self) c.args.batches.items whole c.requires in
+    leb-false DOC_COUNT c.in-Some.batch.doc (or_parts (nat_le DOC_COUNT c.in-Some.batch.doc) _ fine).0
 
 pub loop-batch-preserved-in-Continue-branch-2 : goal.loop-batch-preserved-in-Continue-branch-2
 loop-batch-preserved-in-Continue-branch-2 c =
@@ -31,22 +34,22 @@ loop-batch-preserved-in-Continue-branch-2 c =
     record {
       all = append_assoc xs (c.in-Some.batch ∷ []) _ ∙ whole;
       len = omega (arith, c.loop-batch.invariant.len, c.in-Some.ensures.steps.1, ap length steps);
-      same = (kept_all b.doc (PreparesBatch b.ops (Ok c.in-Ok.one)) old new c.in-Ok.ensures (λ m k p. p.kept)).documents ∙ c.loop-batch.invariant.same;
+      kept = keep_then c.args.self.now old new c.loop-batch.invariant.kept (kept_all b.doc _ old new c.in-Ok.ensures);
       ready = unless_told c.loop-batch.refusal
           (λ h. subst (λ (batches : List FlatBatch). AreBatchesReady new batches c.push.new.self.items) (sym more)
           (subst (λ (ready : List DocReady). AreBatchesReady new (map flat_batch xs ++ b ∷ []) ready) (sym pushed)
-          (prepared_more b c.in-Ok.one old new c.in-Ok.ensures (map flat_batch xs) c.loop-batch.ready.items h)))
+          (prepared_more b c.in-Ok.one old new c.in-Ok.ensures (map flat_batch xs) c.loop-batch.ready.items
+          (batch_fine xs c.in-Some.batch (into_iter_items c.next.new.self) c.args.batches.items whole c.requires) h)))
           c.loop-batch.invariant.ready;
       first = subst (λ (batches : List FlatBatch). IsFirstOf (documents c.args.self.now) batches c.loop-batch.refusal) (sym more)
           (accepted_more b c.in-Ok.one old new c.in-Ok.ensures (documents c.args.self.now) (map flat_batch xs) c.loop-batch.refusal
-          c.loop-batch.invariant.same c.loop-batch.invariant.first);
+          c.loop-batch.invariant.kept.documents c.loop-batch.invariant.first);
     }
 
-pub returns-in_err-map_err-in-Ok-clause-documents : goal.returns-in_err-map_err-in-Ok-clause-documents
-returns-in_err-map_err-in-Ok-clause-documents c =
-    let b : FlatBatch = flat_batch c.in-Some.batch in
-    (kept_all b.doc (PreparesBatch b.ops (Ok c.in-Ok.one)) c.loop-batch.self c.prepare_batch.new.self c.in-Ok.ensures (λ m k p. p.kept)).documents
-    ∙ c.loop-batch.invariant.same
+pub returns-in_err-map_err-in-Ok-clause-kept : goal.returns-in_err-map_err-in-Ok-clause-kept
+returns-in_err-map_err-in-Ok-clause-kept c =
+    keep_then c.args.self.now c.loop-batch.self c.prepare_batch.new.self c.loop-batch.invariant.kept
+    (kept_all c.in-Some.batch.doc _ c.loop-batch.self c.prepare_batch.new.self c.in-Ok.ensures)
 
 pub loop-batch-preserved : goal.loop-batch-preserved
 loop-batch-preserved c =
@@ -60,10 +63,10 @@ loop-batch-preserved c =
     record {
       all = append_assoc xs (c.in-Some.batch ∷ []) _ ∙ whole;
       len = omega (arith, c.loop-batch.invariant.len, c.in-Some.ensures.steps.1, ap length steps);
-      same = (kept_all b.doc (PreparesBatch b.ops (Err c.in-Err.error)) old new c.in-Err.ensures (λ m k p. p.kept)).documents ∙ c.loop-batch.invariant.same;
+      kept = keep_then c.args.self.now old new c.loop-batch.invariant.kept (kept_all b.doc _ old new c.in-Err.ensures);
       ready = tt;
       first = subst (λ (batches : List FlatBatch). IsFirstOf (documents c.args.self.now) batches (Some c.first_of.result)) (sym more)
           (subst (λ e. IsFirstOf (documents c.args.self.now) (map flat_batch xs ++ b ∷ []) (Some e)) (sym c.first_of.ensures)
           (refused_more b c.in-Err.error old new c.in-Err.ensures (documents c.args.self.now) (map flat_batch xs) c.loop-batch.refusal
-          c.loop-batch.invariant.same c.loop-batch.invariant.first));
+          c.loop-batch.invariant.kept.documents c.loop-batch.invariant.first));
     }

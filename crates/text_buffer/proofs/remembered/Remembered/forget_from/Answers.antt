@@ -5,8 +5,8 @@ use Rattle.std.proofs.lemmas.List.Sorted.{IsPartitionPoint-from_clause, IsPartit
 use Rattle.std.specs.List.{All}
 use Rattle.std.specs.List.Sorted.{IsNonDecreasingBy}
 use Rattle.piece_tree.specs.declared.piece.Found.{Found}
-use Rattle.piece_tree.specs.Pieces.{Entry, IsFound}
-use Rattle.text_buffer.specs.Remembering.{end_of, KeepsBefore}
+use Rattle.piece_tree.specs.Pieces.{IsFound}
+use Rattle.text_buffer.specs.Remembering.{end_of}
 use Rattle.text_buffer.proofs.remembered.Remembered.forget_from.Goals as goal
 
 -- what is left is found in the new text too

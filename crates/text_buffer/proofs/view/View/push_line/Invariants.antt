@@ -1,14 +1,15 @@
-use Rattle.std.proofs.Common.{◌+◌, ◌-◌, length}
-use Rattle.piece_tree.specs.Pieces.{pieces_of, unit_count}
-use Rattle.text_buffer.specs.Places.{IsPlace, text_from}
-use Rattle.text_buffer.proofs.LineWalks.{Passed}
+use Rattle.std.proofs.Common.{length}
+use Rattle.text_buffer.specs.Reading.{spans_left, pieces_left, CanRead}
+use Rattle.text_buffer.specs.Text.{spelled}
+use Rattle.text_buffer.proofs.LineCopies.{Copied}
 use Rattle.text_buffer.proofs.view.View.push_line.Given as goal
 
-abbrev pub invariant-loop-out : goal.invariant-loop-out
-invariant-loop-out l =
-    (is : IsPlace l.self.chunks.now.buffers l.self.pieces.now.entries l.fn.start)
-    → Passed l.self.chunks.now.buffers l.self.pieces.now.entries (text_from l.self.chunks.now.buffers l.self.pieces.now.entries l.fn.start is) l.fn.out.items l.out.items l.cursor
+abbrev pub invariant-loop-span : goal.invariant-loop-span
+invariant-loop-span l = record {
+  can : CanRead l.self.chunks.now.buffers (pieces_left l.self.chunks.now.buffers l.rest);
+  copied : Copied (spelled l.self.chunks.now.buffers (pieces_left l.self.chunks.now.buffers l.fn.rest)) (spelled l.self.chunks.now.buffers (pieces_left l.self.chunks.now.buffers l.rest))
+      l.fn.out.items l.out.items;
+}
 
--- how many units are not there yet, and one where no unit of the piece is left
-abbrev pub decreases-loop-out : goal.decreases-loop-out
-decreases-loop-out l = length l.fn.out.items + unit_count (pieces_of l.self.pieces.now.entries) - length l.out.items + (1 - l.cursor.rest.units)
+abbrev pub decreases-loop-span : goal.decreases-loop-span
+decreases-loop-span l = length (spans_left l.rest)
