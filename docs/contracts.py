@@ -1,4 +1,6 @@
 """The contracts in crates/*/src as text: which clauses a function has, and where their words are defined."""
+import functools
+import itertools
 import re
 import sys
 from pathlib import Path
@@ -6,12 +8,13 @@ from typing import NamedTuple
 
 ROOT = Path(__file__).resolve().parent.parent
 sys.path.append(str(ROOT / "tools"))  # where crates.py stands
-IMPORT = re.compile(r"\s*(?:ghost )?use Rattle\.(\w+)\.specs\.([\w.]+?)\.\{(.*)\}")
-FUNCTION = re.compile(r'( *)(pub )?(?:pub\(\w+\) )?(?:extern "C" )?fn (\w+)')
+IMPORT = re.compile(r"\s*(?:ghost |pub )?use Rattle\.(\w+)\.specs\.([\w.]+?)(?:\.\{(.*)\}| as (\w+))")
+FUNCTION = re.compile(r'( *)(pub )?(?:pub\(\w+\) )?(extern "C" )?fn (\w+)')
+TYPE = re.compile(r"\b[A-Z]\w*")
 CLAUSE = re.compile(r" *(requires|ensures)\*? (?:(\w+) )?\{")
 OWNER = re.compile(r"(?:pub(?:\(\w+\))? )?(impl|trait)\b(?:<[^>]*>)? (.* for )?(\w+)")
 EXPORT = re.compile(r"pub use (\w+)::(?:\{([^}]*)\}|(\w+));")
-DOC = re.compile(r" */// ?(.*)")
+DOC = re.compile(r" *(?:///|--) ?(.*)")
 
 
 class Clause(NamedTuple):
@@ -23,23 +26,34 @@ class Clause(NamedTuple):
 
 
 class Function(NamedTuple):
-    """A function or method with its contract, whether it is public, as those of a trait are, and what its comment says."""
+    """A function or method with its contract, whether it is public, as those of a trait are, or exported to C, what its comment
+    says, the types that its head names, and its file."""
 
     name: str
     owner: str
     is_public: bool
+    is_export: bool
     clauses: list[Clause]
     doc: str
+    types: set[str]
+    path: Path
 
 
-def imports_of(lines, crate):
-    """The names that a file imports from specs of the repository, each with where it is defined."""
+def crate_of(path):
+    """The name of the crate that a file is of."""
+    return path.relative_to(ROOT / "crates").parts[0]
+
+
+@functools.cache
+def imports_of(path):
+    """The names that a file imports from specs of the repository, each with where it is defined; a whole file has no name."""
     found = {}
-    for line in lines:
+    for line in path.read_text().split("\n"):
         if match := IMPORT.match(line):
-            for name in match[3].split(","):
-                original, *alias = name.strip().split(" as ")
-                found[(alias or [original])[0].strip()] = (match[1], match[2], original.strip())
+            crate, file, names, whole = match.groups()
+            for name in (names or f" as {whole}").split(","):
+                original, *alias = name.split(" as ")
+                found[(alias or [original])[0].strip()] = (crate, file, original.strip())
     return found
 
 
@@ -63,6 +77,19 @@ def doc_above(lines, at):
     return " ".join(reversed(said))
 
 
+def said_first(doc):
+    """What a comment says first: a sentence, or two where the first is short."""
+    first, *rest = re.split(r"(?<=\.)\s", re.sub(r"\[(`[^`]+`)\](?:\([^)]*\))?", r"\1", doc))
+    said = " ".join([first, *rest[:1]]) if len(first) < 30 else first
+    return said.removesuffix(".").replace("|", "\\|")
+
+
+def types_in_head(lines, at):
+    """The types that the head of the function in this line names, up to its contract or its body."""
+    head = itertools.takewhile(lambda line: not CLAUSE.match(line) and line.strip() != "{", lines[at:])
+    return set(TYPE.findall(" ".join(head)))
+
+
 def functions_of(path):
     """The functions of a source file, in order."""
     lines, owner, of_trait, found = path.read_text().split("\n"), "", False, []
@@ -72,23 +99,19 @@ def functions_of(path):
         elif line == "}":
             owner, of_trait = "", False
         elif match := FUNCTION.match(line):
-            indent, name = len(match[1]), match[3]
+            indent, of = len(match[1]), owner if match[1] else ""
             is_public = bool(match[2]) or bool(indent) and of_trait
-            found.append(Function(name, owner if indent else "", is_public, [], doc_above(lines, at)))
+            told = doc_above(lines, at), types_in_head(lines, at), path
+            found.append(Function(match[4], of, is_public, bool(match[3]) and is_public, [], *told))
         elif found and CLAUSE.match(line) and len(line) - len(line.lstrip()) == indent + 4:
             found[-1].clauses.append(clause_at(lines, at))
     return found
 
 
-def clauses_of(source, name, wanted):
-    """The wanted clauses of a function of crates/SOURCE, or of the first of its name; all of them where none is named."""
-    function = next((it for it in functions_of(ROOT / "crates" / source) if it.name == name), None)
-    if function is None:
-        raise SystemExit(f"crates/{source} has no function {name}")
-    names = [clause.name for clause in function.clauses]
-    if missing := [it for it in wanted if it not in names]:
-        raise SystemExit(f"crates/{source}: {name} has no clause {', '.join(missing)}")
-    return [clause for clause in function.clauses if not wanted or clause.name in wanted]
+@functools.cache
+def every_function():
+    """The functions of all crates."""
+    return [it for path in sorted(ROOT.glob("crates/*/src/**/*.rt")) for it in functions_of(path)]
 
 
 def exported(crate):

@@ -221,10 +221,11 @@ uint32_t tm_decos(tm_document *handle, uint64_t start, uint64_t end, uint64_t ow
 /* Those of the lines `from` to `to`, both included. RANGE, SHORT, MEMORY. */
 uint32_t tm_brackets(tm_document *handle, uint64_t from, uint64_t to, tm_bracket *out, size_t out_len, uint64_t *count);
 
-/* Finds the bracket that matches the one at this position. NOTHING where there is none, RANGE, MEMORY. */
+/* Finds the bracket that matches the one at this position. NOTHING where there is none, RANGE, MEMORY; no MEMORY where the text was
+   parsed since it changed last, as by the call before. */
 uint32_t tm_match(tm_document *handle, uint64_t line, uint64_t column, tm_partner *partner);
 
-/* How many are open after those that start before the position. RANGE, MEMORY. */
+/* How many are open after those that start before the position. RANGE, MEMORY; no MEMORY where the text was parsed, as above. */
 uint32_t tm_level(tm_document *handle, uint64_t line, uint64_t column, uint64_t *level);
 
 /* ---- Snapshots */

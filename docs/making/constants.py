@@ -8,6 +8,7 @@ from typing import NamedTuple
 from making.pages import ROOT, Part
 
 import crates
+from contracts import crate_of
 
 CONSTANT = re.compile(r"^(?:pub(?:\(\w+\))? )?const (\w+): \w+ = (.+);$", re.M)
 PUBLIC = re.compile(r"^pub const (\w+): \w+ = (.+);$", re.M)
@@ -23,8 +24,9 @@ class Constant(NamedTuple):
     value: int
 
 
-def value_of(written):
-    """The number that is written, if it is one."""
+def value_of(written, known=None):
+    """The number that is written, if it is one; names may stand in it whose values are known."""
+    written = re.sub(r"\b[A-Z_]{2,}\b", lambda it: str((known or {}).get(it[0], it[0])), written)
     plain = re.sub(r"\bas \w+", "", written).replace("_", "").replace("u32::MAX", str(2**32 - 1))
     plain = plain.replace("^", "**").strip()
     if not re.fullmatch(r"(?:0x[0-9A-Fa-f]+|[\d\s()+*<-])+", plain):
@@ -36,7 +38,7 @@ def found_in(folder, ending, pattern):
     """What the pattern finds in the crates of program and library, with a value that is not small."""
     shipped = crates.shipped(crates.read())
     for path in sorted(ROOT.glob(f"crates/*/{folder}/**/*{ending}")):
-        crate = path.relative_to(ROOT / "crates").parts[0]
+        crate = crate_of(path)
         for name, written in pattern.findall(path.read_text()):
             value = value_of(written)
             if crate in shipped and value is not None and value >= LEAST:

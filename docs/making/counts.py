@@ -26,13 +26,22 @@ def counted():
 
 
 def believed():
-    """How long the two lists of definitions are, in sentences."""
+    """How long the lists of definitions are, and of which promises, in sentences."""
     lister = script("docs/believed")
     found = lister.definitions()
-    for name, files_of_list in zip(("headline", "incremental"), lister.lists(found)):
-        count, definitions, lines = lister.sums(found, files_of_list)
-        more = " more" if name == "incremental" else ""
-        yield Part("docs/BELIEVE.md", name, [f"The list has {definitions} definitions of {lines} lines in {count} files{more}."])
+    for name, listed in lister.lists(found).items():
+        files, definitions, lines = lister.sums(found, listed.own)
+        others, further, more = lister.sums(found, listed.above)
+        of = f"of promise{'s' * (len(listed.promises) > 1)} {joined(listed.promises)}" if listed.promises else "of the library for C"
+        said = f"The list, {of}, has {definitions} definitions of {lines} lines in {files} files"
+        above = f", and {further} more of {more} lines in {others} file{'s' * (others > 1)} above"
+        yield Part("docs/BELIEVE.md", name, [f"{said}{above if others else ''}."])
+
+
+def joined(numbers):
+    """Numbers in a row, in words."""
+    *first, last = map(str, numbers)
+    return f"{', '.join(first)} and {last}" if first else last
 
 
 def parts():

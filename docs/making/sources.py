@@ -4,6 +4,8 @@ from typing import NamedTuple
 
 from making.pages import ROOT
 
+from contracts import crate_of
+
 TOKEN = re.compile(r'//[^\n]*|b?"(?:\\.|[^"\\])*"|r#"(?s:.*?)"#|\'(?:\\.|[^\'\\\n])\'|[A-Za-z_]\w*|::|->|=>|[^\s\w]|\d\w*')
 OWNER = re.compile(r"(?:pub(?:\(\w+\))? )?(impl|trait)\b(.*)")
 FUNCTION = re.compile(r'(?:(pub)(\(\w+\))? )?(?:extern "C" )?fn (\w+)')
@@ -146,7 +148,7 @@ def is_end(line, indent):
 
 def files():
     """The source files of all crates, each with the name of its crate."""
-    return [(path.relative_to(ROOT / "crates").parts[0], path) for path in sorted(ROOT.glob("crates/*/src/**/*.rt"))]
+    return [(crate_of(path), path) for path in sorted(ROOT.glob("crates/*/src/**/*.rt"))]
 
 
 def fields_in(text):

@@ -2,7 +2,8 @@
 use Rattle.std.proofs.Common.{◌≡◌, ℕ, suc, sum, ◌+◌, ◌<◌, ◌≤◌, ◌≢◌, ◌⊎◌, Bool, true, false, cond, eqb, Some, None, List, [], ◌∷◌, ◌++◌, refl, ap, sym, ◌∙◌, subst, arith, inl, inr}
 use Rattle.std.proofs.lemmas.Bool.Decides.{eqb_tells}
 use Rattle.bracket_rules.specs.declared.TheConstants.{MOST_OPEN}
-use Rattle.bracket_rules.specs.Rows.{Row, HasRow, glue}
+use Rattle.bracket_rules.specs.Rows.{Row}
+use Rattle.bracket_rules.specs.TextRows.{HasRow, glue}
 use Rattle.bracket_tree_rules.specs.Tree.{Tree, pair, stray, capped, bracket_row, tree_rows, weight, is_missing, IsLone, items}
 use Rattle.bracket_tree_rules.specs.Weights.{glue_weights, tree_weights, all_weights, AreCovered}
 use Rattle.bracket_tree_rules.specs.Told.{has_kind, with_kind, Tells, IsTreeOf}

@@ -4,7 +4,8 @@ use Rattle.std.proofs.lemmas.List.{take_rest}
 use Rattle.bracket_rules.specs.declared.Token.{Token}
 use Rattle.bracket_rules.specs.declared.TheConstants.{MOST_OPEN}
 use Rattle.bracket_rules.specs.Table.{token, AreInLine}
-use Rattle.bracket_rules.specs.Rows.{Row, HasRow, row, empty_row, shifted, glue}
+use Rattle.bracket_rules.specs.Rows.{Row, row}
+use Rattle.bracket_rules.specs.TextRows.{HasRow, empty_row, shifted, glue}
 use Rattle.bracket_tree_rules.specs.Tree.{text, wide}
 use Rattle.bracket_tree_rules.specs.Told.{Fits}
 use Rattle.text_lengths.specs.Length.{length_of}

@@ -1,7 +1,8 @@
 -- A text as scanned lines, and what is left of it.
 use Rattle.std.specs.Prelude.{◌≡◌, ℕ, ◌+◌, ◌-◌, List, [], ◌∷◌, length, ⊤}
 use Rattle.bracket_rules.specs.declared.Token.{Token}
-use Rattle.bracket_rules.specs.Rows.{Row, row, empty_row}
+use Rattle.bracket_rules.specs.Rows.{Row, row}
+use Rattle.bracket_rules.specs.TextRows.{empty_row}
 use Rattle.bracket_rules.specs.Table.{Table, token, tokens_of, AreInLine}
 use Rattle.bracket_nodes.specs.declared.scanned.ScannedLine.{ScannedLine}
 use Rattle.bracket_nodes.specs.Source.{Ahead, asks_nothing}

@@ -1,7 +1,8 @@
 -- What a source of brackets has ahead, what it gives, and what is parsed of it.
 use Rattle.std.specs.Prelude.{◌≡◌, ℕ, ◌+◌, ◌<◌, ◌≤◌, Bool, true, false, ◌==◌, if◌then◌else◌, List, [], ◌∷◌, ◌++◌, length, sum, Some, None, ⊤}
 use Rattle.bracket_rules.specs.declared.TheConstants.{MOST_PAIRS}
-use Rattle.bracket_rules.specs.Rows.{Row, HasRow, empty_row, glue}
+use Rattle.bracket_rules.specs.Rows.{Row}
+use Rattle.bracket_rules.specs.TextRows.{HasRow, empty_row, glue}
 use Rattle.bracket_tree_rules.specs.Tree.{Tree, pair, stray, nothing, bracket_row, tree_rows, weight, is_nothing, IsTree, items}
 use Rattle.bracket_tree_rules.specs.Weights.{glue_weights, tree_weights, all_weights, AreCovered}
 use Rattle.bracket_tree_rules.specs.Told.{has_kind, Fits, Tells}

@@ -1,6 +1,6 @@
 // The parser: it makes a tree of what a source gives.
 ghost use Rattle.std.specs.Prelude.{◌≡◌, ◌+◌, ◌<◌, ◌≤◌, ◌^◌, [], false, IfOk, OnOk};
-ghost use Rattle.bracket_rules.specs.Rows.{HasRow};
+ghost use Rattle.bracket_rules.specs.TextRows.{HasRow};
 ghost use Rattle.bracket_tree_rules.specs.Told.{IsTreeOf};
 ghost use Rattle.bracket_tree_rules.specs.Tree.{capped, IsLone, is_missing, weight};
 ghost use Rattle.bracket_nodes.specs.Joining.{joined_weight, IsFinished};

@@ -6,7 +6,7 @@ use Rattle.bracket_rules.specs.declared.Status.{Status}
 use Rattle.bracket_rules.specs.declared.Status.TheVariants.{PairedOpening, PairedClosing, Unclosed, Unexpected}
 use Rattle.bracket_rules.specs.Table.{Table, standard_table}
 use Rattle.bracket_rules.specs.Parse.{spot, bracket_entries, bracket_partner, bracket_level}
-use Rattle.bracket_rules.specs.Rows.{text_brackets}
+use Rattle.bracket_rules.specs.TextRows.{text_brackets}
 
 -- an entry by its numbers
 abbrev pub entry : ℕ → ℕ → ℕ → ℕ → Status → ℕ → Entry

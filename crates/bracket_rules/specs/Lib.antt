@@ -1,4 +1,5 @@
 pub mod Table
 pub mod Parse
 pub mod Rows
+pub mod TextRows
 pub mod Examples

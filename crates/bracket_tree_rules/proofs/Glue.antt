@@ -8,7 +8,8 @@ use Rattle.text_lengths.proofs.Lengths.{same_length, none_plus, length_plus_asso
 use Rattle.bracket_rules.specs.declared.Token.{Token}
 use Rattle.bracket_rules.specs.Table.{token}
 use Rattle.bracket_rules.specs.Parse.{Bracket, bracket}
-use Rattle.bracket_rules.specs.Rows.{HasRow, Row, row, empty_row, shifted, joined_row, glue, rows_length, bracket_at, brackets_at, next_line, placed}
+use Rattle.bracket_rules.specs.Rows.{Row, row, bracket_at, brackets_at, next_line, placed}
+use Rattle.bracket_rules.specs.TextRows.{HasRow, empty_row, shifted, joined_row, glue, rows_length}
 use Rattle.bracket_tree_rules.specs.Tree.{Tree, text, pair, stray, capped, nothing, two, three, wide, width_of, tree_length, tree_tokens, tree_rows, gap_rows, bracket_row, closing_rows, closing_brackets, inside_start, inside_end}
 
 -- ---- brackets further on

@@ -3,7 +3,7 @@ use Rattle.std.proofs.Common.{◌≡◌, ℕ, ◌||◌, List, [], ◌∷◌, ◌
 use Rattle.std.proofs.Math.Bool.{or-false, or_assoc}
 use Rattle.text_lengths.specs.declared.Length.{Length}
 use Rattle.text_lengths.specs.Length.{length_plus}
-use Rattle.bracket_rules.specs.Rows.{HasRow, glue}
+use Rattle.bracket_rules.specs.TextRows.{HasRow, glue}
 use Rattle.bracket_tree_rules.specs.Tree.{Tree, tree_length, tree_tokens, tree_entries, tree_rows, is_missing, items, all_items}
 use Rattle.bracket_tree_rules.specs.Items.{all_length, all_tokens, entries_at, all_entries, all_rows, any_missing}
 use Rattle.bracket_tree_rules.proofs.Adding.{AddsUp, ShowsInTurn, adds_length, added-append, added-items, added-all_items, spread-items, spread-all_items}

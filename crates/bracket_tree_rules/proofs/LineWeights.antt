@@ -2,7 +2,8 @@
 use Rattle.std.proofs.Common.{◌≡◌, ℕ, zero, suc, ◌+◌, ◌≤◌, true, Option, Some, None, List, [], ◌∷◌, ◌++◌, length, get_or, sum, refl, ap, sym, ◌∙◌, subst, arith, add-zero, zero-add, add_assoc}
 use Rattle.std.specs.Prelude.{⊤}
 use Rattle.std.proofs.lemmas.List.Sums.{sum_by-cons}
-use Rattle.bracket_rules.specs.Rows.{Row, glue}
+use Rattle.bracket_rules.specs.Rows.{Row}
+use Rattle.bracket_rules.specs.TextRows.{glue}
 use Rattle.bracket_tree_rules.specs.Tree.{Tree, text, pair, stray, capped, nothing, two, three, width_of, weight, items, all_weight, tree_rows, gap_rows, bracket_row, closing_rows}
 use Rattle.bracket_tree_rules.specs.Weights.{glue_weights, gap_weights, tree_weights, all_weights, AreCovered}
 use Rattle.bracket_tree_rules.proofs.Adding.{AddsUp, added-append, added-items}

@@ -7,7 +7,8 @@ use Rattle.text_lengths.proofs.Lengths.{same_length, none_plus, plus_none, lengt
 use Rattle.bracket_rules.specs.declared.Token.{Token}
 use Rattle.bracket_rules.specs.Table.{token}
 use Rattle.bracket_rules.specs.Parse.{Bracket, bracket}
-use Rattle.bracket_rules.specs.Rows.{HasRow, Row, row, empty_row, shifted, joined_row, glue, rows_length}
+use Rattle.bracket_rules.specs.Rows.{Row, row}
+use Rattle.bracket_rules.specs.TextRows.{HasRow, empty_row, shifted, joined_row, glue, rows_length}
 use Rattle.bracket_tree_rules.specs.Tree.{Tree, text, pair, stray, capped, nothing, two, three, wide, tree_length, tree_tokens, tree_rows, gap_rows, bracket_row, closing_rows, closing_brackets, inside_start, inside_end, IsTree, IsWidth}
 use Rattle.bracket_tree_rules.specs.Places.{IsHere, HasNode, IsAmong, HasBracket, IsEdge, at_text, at_bracket, at_end, later_brackets, from_column, rows_from, AreBefore, IsBounded}
 use Rattle.bracket_tree_rules.proofs.Glue.{HasRow-glue, glue_empty, empty_glue, glue_assoc, rows_length-glue, HasRow-tree_rows, rows_length-tree}

@@ -10,7 +10,8 @@ use Rattle.text_lengths.specs.Length.{length_plus}
 use Rattle.text_lengths.proofs.Lengths.{plus_none, length_plus_assoc}
 use Rattle.bracket_rules.specs.declared.TheConstants.{MOST_OPEN}
 use Rattle.bracket_rules.specs.Parse.{Bracket, bracket, spot_of, Judged, opens, too_deep, closes, closing_event, event, depth_of, judged_opening, judged_closing, Story, told, parse}
-use Rattle.bracket_rules.specs.Rows.{Row, HasRow, empty_row, glue, placed, rows_length}
+use Rattle.bracket_rules.specs.Rows.{Row, placed}
+use Rattle.bracket_rules.specs.TextRows.{HasRow, empty_row, glue, rows_length}
 use Rattle.bracket_tree_rules.specs.Tree.{Tree, pair, stray, capped, wide, tree_length, inside_start, inside_end, tree_tokens, tree_entries, bracket_row, closing_rows, tree_rows, is_missing, nesting, IsLone, IsTree, items}
 use Rattle.bracket_tree_rules.specs.Items.{all_length, entries_at, all_entries, all_rows, any_missing}
 use Rattle.bracket_tree_rules.specs.Told.{has_kind, with_kind, IsStack, Fits, prepend, Tells}

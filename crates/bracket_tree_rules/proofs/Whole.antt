@@ -3,7 +3,8 @@ use Rattle.std.proofs.Common.{◌≡◌, List, [], ◌∷◌, ap, sym, ◌∙◌
 use Rattle.std.proofs.lemmas.List.{append-nil}
 use Rattle.text_lengths.specs.Length.{no_length}
 use Rattle.bracket_rules.specs.Parse.{Bracket, Story, bracket_story, bracket_level}
-use Rattle.bracket_rules.specs.Rows.{Row, empty_row, placed}
+use Rattle.bracket_rules.specs.Rows.{Row, placed}
+use Rattle.bracket_rules.specs.TextRows.{empty_row}
 use Rattle.bracket_tree_rules.specs.Tree.{Tree, tree_tokens, tree_rows, tree_story, items}
 use Rattle.bracket_tree_rules.specs.Items.{all_rows, all_entries}
 use Rattle.bracket_tree_rules.specs.Told.{Tells, IsTreeOf}

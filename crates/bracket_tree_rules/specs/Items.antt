@@ -3,7 +3,8 @@ use Rattle.std.specs.Prelude.{ℕ, Bool, false, ◌||◌, List, [], ◌∷◌, �
 use Rattle.text_lengths.specs.declared.Length.{Length}
 use Rattle.text_lengths.specs.Length.{no_length, length_plus}
 use Rattle.bracket_rules.specs.Parse.{Bracket, Judged}
-use Rattle.bracket_rules.specs.Rows.{Row, empty_row, glue}
+use Rattle.bracket_rules.specs.Rows.{Row}
+use Rattle.bracket_rules.specs.TextRows.{empty_row, glue}
 use Rattle.bracket_tree_rules.specs.Tree.{Tree, tree_length, tree_tokens, tree_entries, tree_rows, is_missing}
 
 abbrev pub all_length : List Tree → Length

@@ -5,7 +5,8 @@ use Rattle.text_lengths.specs.declared.Length.{Length}
 use Rattle.text_lengths.specs.Length.{no_length, length_plus}
 use Rattle.bracket_rules.specs.declared.TheConstants.{MOST_OPEN}
 use Rattle.bracket_rules.specs.Parse.{Bracket, Judged, Story, depth_of, parse, bracket_story, bracket_level}
-use Rattle.bracket_rules.specs.Rows.{Row, glue, placed}
+use Rattle.bracket_rules.specs.Rows.{Row, placed}
+use Rattle.bracket_rules.specs.TextRows.{glue}
 use Rattle.bracket_tree_rules.specs.Tree.{Tree, tree_rows, is_missing, is_closed, is_capped, nesting, tree_story, tree_level}
 use Rattle.bracket_tree_rules.specs.Items.{all_length, all_entries, all_rows, any_missing}
 

@@ -8,7 +8,8 @@ use Rattle.bracket_rules.specs.declared.Status.TheVariants.{PairedOpening, Paire
 use Rattle.bracket_rules.specs.declared.TheConstants.{MOST_PAIRS}
 use Rattle.bracket_rules.specs.Table.{token}
 use Rattle.bracket_rules.specs.Parse.{Bracket, bracket, Spot, spot, Judged, judged_opening, judged_closing, judged_unexpected, partner_at}
-use Rattle.bracket_rules.specs.Rows.{Row, row, empty_row, glue}
+use Rattle.bracket_rules.specs.Rows.{Row, row}
+use Rattle.bracket_rules.specs.TextRows.{empty_row, glue}
 
 pub data Tree : Type 0 where
   -- units without brackets in one line, or the break that ends a line with what stands before it

@@ -4,7 +4,7 @@ use Rattle.std.proofs.lemmas.List.{length-map}
 use Rattle.text_lengths.specs.declared.Length.{Length}
 use Rattle.text_lengths.specs.Length.{length_of}
 use Rattle.text_rules.specs.Lines.{Line, lines_of, last_content, length_of_lines, text_length}
-use Rattle.bracket_rules.specs.Rows.{rows_length}
+use Rattle.bracket_rules.specs.TextRows.{rows_length}
 use Rattle.hiding_rules.specs.declared.LineState.{LineState}
 use Rattle.hiding_rules.specs.declared.LineState.TheVariants.{Code}
 use Rattle.hiding_rules.specs.Hidden.{Scanner}

@@ -11,7 +11,8 @@ use Rattle.hiding_rules.specs.declared.Stretch.{Stretch}
 use Rattle.hiding_rules.specs.declared.TheConstants.{BACKSLASH}
 use Rattle.hiding_rules.specs.Marks.{Marks, has_block}
 use Rattle.hiding_rules.specs.Hidden.{Scanner, code, block, ending, stretch, one_unit, marked, quoted, block_opening, hidden_in_string, hidden, front_of, front, scanned_from, hidden_scan}
-use Rattle.hiding_rules.specs.States.{states_from, line_states, state_behind}
+use Rattle.hiding_rules.specs.States.{states_from, line_states}
+use Rattle.hiding_rules.specs.Known.{state_behind}
 
 -- a place that is in no block comment
 abbrev EndsInCode : Within → Type 0

@@ -1,7 +1,8 @@
 -- Without marks nothing is hidden.
 use Rattle.std.proofs.Common.{◌≡◌, ℕ, zero, suc, true, Option, Some, None, List, [], ◌∷◌, length, refl, ap, ◌∙◌, arith, eqb-true}
 use Rattle.std.specs.Prelude.{replicate}
-use Rattle.bracket_rules.specs.Rows.{Row, row, text_rows}
+use Rattle.bracket_rules.specs.Rows.{Row, row}
+use Rattle.bracket_rules.specs.TextRows.{text_rows}
 use Rattle.bracket_rules.specs.Table.{Table, longest, units_after_first, tokens_from, tokens_of}
 use Rattle.hiding_rules.specs.declared.LineState.TheVariants.{Code}
 use Rattle.hiding_rules.specs.Marks.{Marks, marks, no_marks, is_none}

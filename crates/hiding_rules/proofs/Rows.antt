@@ -1,6 +1,7 @@
 -- The rows of a text line by line.
 use Rattle.std.proofs.Common.{◌≡◌, ℕ, zero, suc, ◌+◌, ◌<◌, List, [], ◌∷◌, length, drop, get_or, refl, ap, ◌∙◌, arith}
-use Rattle.bracket_rules.specs.Rows.{Row, empty_row}
+use Rattle.bracket_rules.specs.Rows.{Row}
+use Rattle.bracket_rules.specs.TextRows.{empty_row}
 use Rattle.hiding_rules.specs.declared.LineState.{LineState}
 use Rattle.hiding_rules.specs.declared.LineState.TheVariants.{Code}
 use Rattle.hiding_rules.specs.Hidden.{Scanner, hidden_scan}

@@ -3,7 +3,8 @@ use Rattle.std.proofs.Common.{◌≡◌, ℕ, suc, List, [], ◌∷◌, ◌++◌
 use Rattle.hiding_rules.specs.declared.LineState.{LineState}
 use Rattle.hiding_rules.specs.declared.LineState.TheVariants.{Code, Block}
 use Rattle.hiding_rules.specs.Hidden.{Scanner, hidden_scan}
-use Rattle.hiding_rules.specs.States.{Known, states_from, state_behind, same_state, scanned_lines, Lead, AreChained, all_known}
+use Rattle.hiding_rules.specs.States.{states_from}
+use Rattle.hiding_rules.specs.Known.{Known, state_behind, same_state, scanned_lines, Lead, AreChained, all_known}
 
 same_as_itself : (s : LineState) → same_state s s ≡ true
 same_as_itself Code = refl

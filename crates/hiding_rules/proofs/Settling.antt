@@ -3,7 +3,8 @@ use Rattle.std.proofs.Common.{◌≡◌, ℕ, Bool, true, false, cond, List, [],
 use Rattle.hiding_rules.specs.declared.LineState.{LineState}
 use Rattle.hiding_rules.specs.declared.LineState.TheVariants.{Code, Block}
 use Rattle.hiding_rules.specs.Hidden.{Scanner, hidden_scan}
-use Rattle.hiding_rules.specs.States.{Known, same_state, states_from, Lead, end_of, settled_from}
+use Rattle.hiding_rules.specs.States.{states_from}
+use Rattle.hiding_rules.specs.Known.{Known, same_state, Lead, end_of, settled_from}
 
 same_state_is : (s t : LineState) → same_state s t ≡ true → s ≡ t
 same_state_is Code Code is = refl

@@ -8,7 +8,8 @@ use Rattle.hiding_rules.specs.declared.LineState.TheVariants.{Code, Block}
 use Rattle.hiding_rules.specs.Marks.{Marks, marks, no_marks, are_marks}
 use Rattle.hiding_rules.specs.Hidden.{Scanner, scanner, Scanned, scanned, hidden_scan}
 use Rattle.hiding_rules.specs.Rows.{hidden_brackets}
-use Rattle.hiding_rules.specs.States.{Known, line_states, scanned_lines}
+use Rattle.hiding_rules.specs.States.{line_states}
+use Rattle.hiding_rules.specs.Known.{Known, scanned_lines}
 
 -- `//`, `/*`, `*/`, `"` and `'`
 abbrev like_c : Marks

@@ -3,7 +3,8 @@ use Rattle.std.proofs.Common.{◌≡◌, ℕ, zero, suc, ◌+◌, Bool, true, fa
 use Rattle.mark_rules.specs.declared.Mark.{Mark}
 use Rattle.hiding_rules.specs.declared.LineState.{LineState}
 use Rattle.hiding_rules.specs.Hidden.{Scanner, hidden_scan}
-use Rattle.hiding_rules.specs.States.{Known, states_from, state_behind, is_scanned, scanned_lines, numbered_if, Lead}
+use Rattle.hiding_rules.specs.States.{states_from}
+use Rattle.hiding_rules.specs.Known.{Known, state_behind, is_scanned, scanned_lines, numbered_if, Lead}
 use Rattle.line_states.specs.Settling.{Borders, settled_mark, settled_marks}
 
 pub length-states_from : (by : Scanner) (state : LineState) (lines : List (List ℕ)) → length (states_from by state lines) ≡ length lines

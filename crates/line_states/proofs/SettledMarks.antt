@@ -9,7 +9,7 @@ use Rattle.mark_rules.specs.Marks.{mark_at, GoesOn, RisesFrom, Rises}
 use Rattle.mark_rules.proofs.MarkLaws.{RisesFrom-drop}
 use Rattle.hiding_rules.specs.declared.LineState.{LineState}
 use Rattle.hiding_rules.specs.declared.LineState.TheVariants.{Code, Block}
-use Rattle.hiding_rules.specs.States.{same_state, scanned_lines}
+use Rattle.hiding_rules.specs.Known.{same_state, scanned_lines}
 use Rattle.line_states.specs.Lines.{new_from, new_lines}
 use Rattle.line_states.specs.Settling.{Borders, known_lines, settled_mark, settled_marks}
 

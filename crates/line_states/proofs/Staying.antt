@@ -5,7 +5,7 @@ use Rattle.std.proofs.lemmas.List.{get_or_default, drop_more}
 use Rattle.mark_rules.specs.Marks.{kept_marks}
 use Rattle.hiding_rules.specs.declared.LineState.{LineState}
 use Rattle.hiding_rules.specs.declared.LineState.TheVariants.{Code, Block}
-use Rattle.hiding_rules.specs.States.{Known, same_state, AreChained, all_known}
+use Rattle.hiding_rules.specs.Known.{Known, same_state, AreChained, all_known}
 use Rattle.line_states.specs.Settling.{Borders, known_lines, settled_marks}
 use Rattle.line_states.proofs.SettledMarks.{began, staying_is_kept}
 

@@ -8,7 +8,8 @@ use Rattle.mark_rules.specs.Marks.{mark_at, kept_marks, kept_run}
 use Rattle.mark_rules.proofs.MarkLaws.{length-kept_marks}
 use Rattle.hiding_rules.specs.declared.LineState.{LineState}
 use Rattle.hiding_rules.specs.Hidden.{Scanner, hidden_scan}
-use Rattle.hiding_rules.specs.States.{states_from, is_scanned, scanned_lines, Lead, AreChained, all_known}
+use Rattle.hiding_rules.specs.States.{states_from}
+use Rattle.hiding_rules.specs.Known.{is_scanned, scanned_lines, Lead, AreChained, all_known}
 use Rattle.hiding_rules.proofs.Runs.{states_of_both, Stays, chained_stays}
 use Rattle.line_states.specs.Lines.{LinesState, content_at}
 use Rattle.line_states.specs.Settling.{Borders, known_of, known_lines, AreOf}

@@ -7,7 +7,8 @@ use Rattle.mark_rules.proofs.MarkLaws.{length-kept_marks}
 use Rattle.hiding_rules.specs.declared.LineState.{LineState}
 use Rattle.hiding_rules.specs.declared.LineState.TheVariants.{Code}
 use Rattle.hiding_rules.specs.Hidden.{hidden_scan}
-use Rattle.hiding_rules.specs.States.{is_scanned, states_from, Lead}
+use Rattle.hiding_rules.specs.States.{states_from}
+use Rattle.hiding_rules.specs.Known.{is_scanned, Lead}
 use Rattle.line_states.specs.declared.settle.Walk.{Walk}
 use Rattle.line_states.specs.Lines.{LinesState, AsksFront, content_at}
 use Rattle.line_states.specs.Settling.{known_of, known_lines}

@@ -6,7 +6,8 @@ use Rattle.mark_rules.specs.Marks.{kept_marks, Rises}
 use Rattle.hiding_rules.specs.declared.LineState.{LineState}
 use Rattle.hiding_rules.specs.declared.LineState.TheVariants.{Code}
 use Rattle.hiding_rules.specs.Hidden.{Scanner}
-use Rattle.hiding_rules.specs.States.{states_from, state_behind, scanned_lines, Lead}
+use Rattle.hiding_rules.specs.States.{states_from}
+use Rattle.hiding_rules.specs.Known.{state_behind, scanned_lines, Lead}
 use Rattle.line_states.specs.Lines.{LinesState}
 use Rattle.line_states.specs.Settling.{Borders, AreOf, known_lines, settled_marks}
 

@@ -6,7 +6,8 @@ use Rattle.mark_rules.specs.Marks.{mark_at}
 use Rattle.hiding_rules.specs.declared.LineState.{LineState}
 use Rattle.hiding_rules.specs.declared.LineState.TheVariants.{Code, Block}
 use Rattle.hiding_rules.specs.Hidden.{Scanner}
-use Rattle.hiding_rules.specs.States.{Known, is_restarted, line_states, scanned_lines}
+use Rattle.hiding_rules.specs.States.{line_states}
+use Rattle.hiding_rules.specs.Known.{Known, is_restarted, scanned_lines}
 use Rattle.line_states.specs.Lines.{LinesState}
 
 -- in which the lines of a text begin, and in which its last line ends

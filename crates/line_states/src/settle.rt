@@ -2,7 +2,7 @@
 
 ghost use Rattle.std.specs.Prelude.{◌≡◌, ◌+◌, ◌^◌, ◌<◌, ◌++◌, ◌∷◌, [], true, length, IfSome, IfNone, IfOk, OnOk, OnErr};
 ghost use Rattle.hiding_rules.specs.Hidden.{scanner};
-ghost use Rattle.hiding_rules.specs.States.{is_scanned};
+ghost use Rattle.hiding_rules.specs.Known.{is_scanned};
 ghost use Rattle.line_states.specs.Lines.{AsksFront};
 ghost use Rattle.line_states.specs.Settling.{AreOf, IsOfLast, IsKeptAs, known_of};
 ghost use Rattle.line_states.specs.Outcome.{CanSettle, task, outcome};

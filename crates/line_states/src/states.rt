@@ -5,7 +5,8 @@ ghost use Rattle.mark_rules.specs.declared.Mark.TheVariants.{New};
 ghost use Rattle.mark_rules.specs.Marks.{clean_marks, edited_marks};
 ghost use Rattle.hiding_rules.specs.declared.LineState.TheVariants.{Code};
 ghost use Rattle.hiding_rules.specs.Hidden.{scanner};
-ghost use Rattle.hiding_rules.specs.States.{Lead, line_states, state_behind};
+ghost use Rattle.hiding_rules.specs.States.{line_states};
+ghost use Rattle.hiding_rules.specs.Known.{Lead, state_behind};
 ghost use Rattle.line_states.specs.Lines.{IsFrontOf};
 ghost use Rattle.line_states.specs.Settling.{asked_after, borders, known_lines, marks_now};
 

@@ -19,7 +19,7 @@ use Rattle.model_page.specs.Staying.{IsKept}
 
 kept_partner : (tree : Tree) (by : Scanner) (x : List ℕ) → IsKept (Some tree) by x → (p : Length)
     → tree_partner tree p ≡ bracket_partner (hidden_brackets by (line_contents x)) p
-kept_partner tree by x kept p = ap (partner_at p) kept.1.story
+kept_partner tree by x kept p = ap (partner_at p) kept.tells.story
 
 small_of : (o : Option Spot) → ((s : Spot) → o ≡ Some s → IsSmall s.place) → IfSome (option_map place_and_len o) (λ s. IsSmall s.0)
 small_of None small = tt
@@ -28,7 +28,7 @@ small_of (Some s) small = small s refl
 pub told_small : (tree : Tree) (by : Scanner) (x : List ℕ) → IsKept (Some tree) by x → length x ≤ most_units → (p : Length)
     → IfSome (option_map place_and_len (tree_partner tree p)) (λ s. IsSmall s.0)
 told_small tree by x kept fits p =
-    small_of (tree_partner tree p) (λ s is. partner_small by x kept.0 fits p s (sym (kept_partner tree by x kept p) ∙ is))
+    small_of (tree_partner tree p) (λ s is. partner_small by x kept.table fits p s (sym (kept_partner tree by x kept p) ∙ is))
 
 pub answered : {A : Type 0} (refused : Bool) (these all : A) → cond refused (Err range) (Ok these) ≡ Ok all → these ≡ all
 answered true these all is = absurd cc

@@ -1,7 +1,7 @@
 -- What ops leave of the last parse and of the pieces, where calls before them and after them keep both.
 use Rattle.std.proofs.Common.{◌≡◌, ℕ, List, sym, subst, ◌∙◌, arith}
 use Rattle.mark_rules.specs.declared.Mark.{Mark}
-use Rattle.model_page.specs.Staying.{KeptBy}
+use Rattle.model_page.specs.Asked.{KeptBy}
 use Rattle.model_core.specs.State.{ModelState, KeepsParse, Leaves}
 
 module _ (ops marking : ℕ) (marks : List Mark) (old mid new : ModelState) where

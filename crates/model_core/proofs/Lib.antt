@@ -2,7 +2,7 @@ pub mod Leaving
 pub mod LineLemmas
 pub mod Histories
 pub mod Tags
-pub mod LastTags
+pub mod Retagging
 pub mod LastChanges
 pub mod Taking
 pub mod Editing

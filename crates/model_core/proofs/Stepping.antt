@@ -21,7 +21,8 @@ use Rattle.model_page.specs.declared.change.Change.TheVariants.{Ops, Endings}
 use Rattle.model_page.specs.declared.change.Way.{Way}
 use Rattle.model_page.specs.declared.change.Way.TheVariants.{Back, On}
 use Rattle.model_core.specs.Ways.{next_steps, passed, alternative_after, flat_move}
-use Rattle.model_page.specs.Ways.{text_by, changes_by, LeadBy, decorations_by, batches_by, marked_along, marked_step}
+use Rattle.model_page.specs.Ways.{text_by, changes_by, LeadBy, decorations_by, batches_by, marked_along}
+use Rattle.model_page.specs.LineMarks.{marked_step}
 use Rattle.model_core.specs.Prepared.{ops_along, next_op_count, deed_marking, next_marking_count, next_unit_count, next_break_count}
 use Rattle.batch_rules.specs.Events.{whole_op}
 use Rattle.model_page.specs.Changes.{ops_by, led, deed_of, text_back, changes_back, changes_on, Leads, LeadBack, LeadOn}

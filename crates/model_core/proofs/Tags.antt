@@ -1,151 +1,18 @@
--- The tags of the kept steps: no text reads them, and the flat history has the same, in the same order.
-use Rattle.std.proofs.Common.{◌≡◌, ℕ, ◌||◌, Bool, true, false, if◌then◌else◌, List, [], ◌∷◌, ◌++◌, map, reverse, length, slice_get, Option, Some, None, option_map, option_and_then, refl, ap, sym, subst, ◌∙◌, arith}
+-- The tags of the kept steps: the flat history has the same, in the same order.
+use Rattle.std.proofs.Common.{◌≡◌, ℕ, ◌||◌, List, [], ◌∷◌, ◌++◌, map, reverse, length, slice_get, Option, Some, None, option_map, option_and_then, refl, ap, sym, ◌∙◌}
 use Rattle.std.specs.List.{list_any}
 use Rattle.std.proofs.lemmas.List.{append_assoc, reverse-append, length-map}
 use Rattle.std.proofs.lemmas.Option.{slice_get-map}
 use Rattle.undo_rules.specs.declared.Tag.{Tag}
 use Rattle.undo_rules.specs.Stack.{Step, Stack}
-use Rattle.undo_rules.specs.Tags.{is_tag, has_tag, tagged_front, tagged, untagged, all_steps, holds, tag_at}
-use Rattle.snapshot_rules.specs.Snapshots.{FlatShelf}
-use Rattle.decoration_rules.specs.Decorations.{Decorations}
-use Rattle.hiding_rules.specs.Hidden.{Scanner}
-use Rattle.document_rules.specs.Document.{FlatText, FlatChange, flat_tag, flat_untag}
+use Rattle.undo_rules.specs.Tags.{is_tag, has_tag, all_steps, holds, tag_at}
+use Rattle.document_rules.specs.Document.{FlatText, FlatChange}
 use Rattle.model_page.specs.declared.change.Change.{Change}
 use Rattle.model_page.specs.declared.change.Way.{Way}
 use Rattle.model_page.specs.declared.change.Way.TheVariants.{Back, On}
 use Rattle.model_page.specs.Changes.{text_back, text_on, changes_back, changes_on}
-use Rattle.model_core.specs.declared.latest.Latest.{Latest}
-use Rattle.model_core.specs.declared.latest.Latest.TheVariants.{Made, TakenBack, MadeAgain}
-use Rattle.model_core.specs.History.{step_with, undo_steps, redo_steps, history_of, StepsLeadBack, StepsLeadOn, IsHistory, last_of, last_of_steps, HasLatest}
+use Rattle.model_core.specs.History.{step_with, undo_steps, redo_steps, history_of}
 use Rattle.model_core.specs.Ways.{next_steps}
-use Rattle.model_core.proofs.Stepping.{document_of}
-
--- ---- a tag that is put on
-
-module _ (tag : Tag) where
-  front_undo : (now : FlatText) (ss : List (Step Change)) → undo_steps now (tagged_front ss tag) ≡ tagged_front (undo_steps now ss) tag
-  front_undo now [] = refl
-  front_undo now (s ∷ ss) = refl
-
-  front_back : (now : FlatText) (ss : List (Step Change)) → StepsLeadBack now ss → StepsLeadBack now (tagged_front ss tag)
-  front_back now [] old = old
-  front_back now (s ∷ ss) old = old
-
-  front_last : (latest : Latest) (now : FlatText) (ss : List (Step Change)) → last_of_steps latest now (tagged_front ss tag) ≡ last_of_steps latest now ss
-  front_last latest now [] = refl
-  front_last latest now (s ∷ ss) = refl
-
-  length-front : (ss : List (Step Change)) → length (tagged_front ss tag) ≡ length ss
-  length-front [] = refl
-  length-front (s ∷ ss) = refl
-
-module _ (now : FlatText) (s : Stack Change) (tag : Tag) where
-  pub history-tagged : history_of now (tagged s tag) ≡ tagged (history_of now s) tag
-  history-tagged = ap (λ l. record { undo = l; redo = redo_steps now s.redo; is_open = s.is_open }) (front_undo tag now s.undo)
-
-  pub IsHistory-tagged : IsHistory now s → IsHistory now (tagged s tag)
-  IsHistory-tagged old = record { back = front_back tag now s.undo old.back; on = old.on }
-
-  pub last-tagged : (latest : Option Latest) → last_of latest now (tagged s tag) ≡ last_of latest now s
-  last-tagged None = refl
-  last-tagged (Some Made) = front_last tag Made now s.undo
-  last-tagged (Some TakenBack) = refl
-  last-tagged (Some MadeAgain) = front_last tag MadeAgain now s.undo
-
-  pub HasLatest-tagged : (latest : Option Latest) (version : ℕ) → HasLatest latest version s → HasLatest latest version (tagged s tag)
-  HasLatest-tagged None version has = has
-  HasLatest-tagged (Some Made) version has = (has.0, omega (arith, has.1, length-front tag s.undo))
-  HasLatest-tagged (Some TakenBack) version has = has
-  HasLatest-tagged (Some MadeAgain) version has = (has.0, omega (arith, has.1, length-front tag s.undo))
-
-  pub document-tagged : (version alternative : ℕ) (d : Decorations) (scanner : Scanner) (shelf : FlatShelf) (latest : Option Latest)
-      → document_of now version alternative d scanner shelf latest (tagged s tag) ≡ flat_tag (document_of now version alternative d scanner shelf latest s) tag
-  document-tagged version alternative d scanner shelf latest =
-      λ i. record (document_of now version alternative d scanner shelf latest s) { history = history-tagged i; last = last-tagged latest i }
-
--- ---- a tag that is taken off
-
--- each step gets the tag that this makes of its own
-abbrev pub retagged : {C : Type 0} → (Option Tag → Option Tag) → Step C → Step C
-retagged f step = record step { tag = f step.tag }
-
-abbrev all_retagged : {C : Type 0} → (Option Tag → Option Tag) → Stack C → Stack C
-all_retagged f s = record s { undo = map (retagged f) s.undo; redo = map (retagged f) s.redo }
-
-abbrev off : Tag → Option Tag → Option Tag
-off tag own = if is_tag tag own then None else own
-
-off_by : {C : Type 0} (is : Bool) (step : Step C) → (if is then record step { tag = None } else step) ≡ record step { tag = if is then None else step.tag }
-off_by true step = refl
-off_by false step = refl
-
-untagged_is : {C : Type 0} (s : Stack C) (tag : Tag) → untagged s tag ≡ all_retagged (off tag) s
-untagged_is {C} s tag =
-    ap (λ (g : Step C → Step C). record s { undo = map g s.undo; redo = map g s.redo }) (λ i. λ step. off_by (has_tag tag step) step i)
-
-module _ (f : Option Tag → Option Tag) where
-  pub undo_steps-retagged : (now : FlatText) (ss : List (Step Change)) → undo_steps now (map (retagged f) ss) ≡ map (retagged f) (undo_steps now ss)
-  undo_steps-retagged now [] = refl
-  undo_steps-retagged now (s ∷ ss) =
-      ap (λ l. retagged f (step_with s (changes_back now s.changes)) ∷ l) (undo_steps-retagged (text_back now s.changes) ss)
-
-  pub redo_steps-retagged : (now : FlatText) (ss : List (Step Change)) → redo_steps now (map (retagged f) ss) ≡ map (retagged f) (redo_steps now ss)
-  redo_steps-retagged now [] = refl
-  redo_steps-retagged now (s ∷ ss) =
-      ap (λ l. retagged f (step_with s (changes_on now s.changes)) ∷ l) (redo_steps-retagged (text_on now s.changes) ss)
-
-  pub back-retagged : (now : FlatText) (ss : List (Step Change)) → StepsLeadBack now ss → StepsLeadBack now (map (retagged f) ss)
-  back-retagged now [] old = tt
-  back-retagged now (s ∷ ss) old = (old.0, back-retagged (text_back now s.changes) ss old.1)
-
-  pub on-retagged : (now : FlatText) (ss : List (Step Change)) → StepsLeadOn now ss → StepsLeadOn now (map (retagged f) ss)
-  on-retagged now [] old = tt
-  on-retagged now (s ∷ ss) old = (old.0, on-retagged (text_on now s.changes) ss old.1)
-
-  pub last_of_steps-retagged : (latest : Latest) (now : FlatText) (ss : List (Step Change))
-      → last_of_steps latest now (map (retagged f) ss) ≡ last_of_steps latest now ss
-  last_of_steps-retagged latest now [] = refl
-  last_of_steps-retagged latest now (s ∷ ss) = refl
-
-  module _ (now : FlatText) (s : Stack Change) where
-    history-retagged : history_of now (all_retagged f s) ≡ all_retagged f (history_of now s)
-    history-retagged = λ i. record { undo = undo_steps-retagged now s.undo i; redo = redo_steps-retagged now s.redo i; is_open = s.is_open }
-
-    last-retagged : (latest : Option Latest) → last_of latest now (all_retagged f s) ≡ last_of latest now s
-    last-retagged None = refl
-    last-retagged (Some Made) = last_of_steps-retagged Made now s.undo
-    last-retagged (Some TakenBack) = last_of_steps-retagged TakenBack now s.redo
-    last-retagged (Some MadeAgain) = last_of_steps-retagged MadeAgain now s.undo
-
-    HasLatest-retagged : (latest : Option Latest) (version : ℕ) → HasLatest latest version s → HasLatest latest version (all_retagged f s)
-    HasLatest-retagged None version has = has
-    HasLatest-retagged (Some Made) version has = (has.0, omega (arith, has.1, length-map s.undo (retagged f)))
-    HasLatest-retagged (Some TakenBack) version has = (has.0, omega (arith, has.1, length-map s.redo (retagged f)))
-    HasLatest-retagged (Some MadeAgain) version has = (has.0, omega (arith, has.1, length-map s.undo (retagged f)))
-
-module _ (now : FlatText) (s : Stack Change) (tag : Tag) where
-  pub history-untagged : history_of now (untagged s tag) ≡ untagged (history_of now s) tag
-  history-untagged =
-      ap (history_of now) (untagged_is s tag) ∙ history-retagged (off tag) now s ∙ sym (untagged_is (history_of now s) tag)
-
-  pub IsHistory-untagged : IsHistory now s → IsHistory now (untagged s tag)
-  IsHistory-untagged old =
-      subst (IsHistory now) (sym (untagged_is s tag))
-      (record { back = back-retagged (off tag) now s.undo old.back; on = on-retagged (off tag) now s.redo old.on })
-
-  pub last-untagged : (latest : Option Latest) → last_of latest now (untagged s tag) ≡ last_of latest now s
-  last-untagged latest = ap (last_of latest now) (untagged_is s tag) ∙ last-retagged (off tag) now s latest
-
-  pub HasLatest-untagged : (latest : Option Latest) (version : ℕ) → HasLatest latest version s → HasLatest latest version (untagged s tag)
-  HasLatest-untagged latest version has =
-      subst (HasLatest latest version) (sym (untagged_is s tag)) (HasLatest-retagged (off tag) now s latest version has)
-
-  pub document-untagged : (version alternative : ℕ) (d : Decorations) (scanner : Scanner) (shelf : FlatShelf) (latest : Option Latest)
-      → document_of now version alternative d scanner shelf latest (untagged s tag) ≡ flat_untag (document_of now version alternative d scanner shelf latest s) tag
-  document-untagged version alternative d scanner shelf latest =
-      λ i. record (document_of now version alternative d scanner shelf latest s) { history = history-untagged i; last = last-untagged latest i }
-
--- ---- the tags that there are
 
 abbrev pub tags_of : {C : Type 0} → List (Step C) → List (Option Tag)
 tags_of ss = map (λ s. s.tag) ss

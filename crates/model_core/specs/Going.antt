@@ -2,7 +2,7 @@
 use Rattle.std.specs.Prelude.{Bool, Result}
 use Rattle.document_rules.specs.declared.ModelError.{ModelError}
 use Rattle.model_page.specs.declared.change.Way.{Way}
-use Rattle.model_page.specs.Ways.{marked_step}
+use Rattle.model_page.specs.LineMarks.{marked_step}
 use Rattle.model_core.specs.Prepared.{next_op_count, next_marking_count}
 use Rattle.model_core.specs.State.{ModelState, AfterMove, Leaves}
 use Rattle.model_core.specs.Ways.{next_steps}

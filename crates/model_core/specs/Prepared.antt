@@ -25,8 +25,7 @@ use Rattle.model_core.specs.Edited.{ops_as_done}
 use Rattle.model_page.specs.declared.change.Change.TheVariants.{Ops, Endings}
 use Rattle.model_page.specs.Changes.{text_from, text_to, ops_by}
 use Rattle.model_page.specs.Counts.{marking_ops}
-use Rattle.model_page.specs.LineMarks.{marks_over}
-use Rattle.model_page.specs.Ways.{marked_step}
+use Rattle.model_page.specs.LineMarks.{marks_over, marked_step}
 
 -- what contracts see of one
 pub record Prepared : Type 0 where

@@ -5,11 +5,10 @@ use Rattle.bracket_tree_rules.specs.Tree.{Tree}
 use Rattle.mark_rules.specs.declared.Mark.{Mark}
 use Rattle.mark_rules.specs.Marks.{clean_marks}
 use Rattle.line_states.specs.Settling.{Borders}
-use Rattle.node_reuse.specs.ParsedTree.{ParsedTree}
 use Rattle.document_rules.specs.declared.ModelError.{ModelError}
 use Rattle.document_rules.specs.Document.{FlatState}
 use Rattle.text_batches.specs.Growth.{GrownBy}
-use Rattle.model_page.specs.Staying.{HasAsked, KeptBy, lines_to_ask}
+use Rattle.model_page.specs.Asked.{ReadTree, AreStatesOf, HasRead, KeptBy, HasLowTree}
 
 -- the room that was made for changes
 pub record Room : Type 0 where
@@ -28,8 +27,8 @@ pub record KeepsRoom (old new : Room) : Type 0 where
 pub record ModelState : Type 0 where
   -- the flat document that the model stands for
   pub document : FlatState
-  -- the last parse, be it of the text of now or of an earlier one: its tree, and how many lines it asked for
-  pub parsed : Option ParsedTree
+  -- the last parse, be it of the text of now or of an earlier one: its tree, and which lines were read for it
+  pub parsed : Option ReadTree
   -- its bracket tree
   pub tree : Option Tree
   -- what each line of the text of now is to that parse; new, where there was none
@@ -73,8 +72,8 @@ AfterMove (Ok true) left old new = left old new
 AfterMove (Ok false) left old new = KeepsParse old new
 AfterMove (Err e) left old new = KeepsParse old new
 
--- What a question about brackets leaves: it parses the text where the tree is not that of the text of now, asks for the
--- lines alone that are new or begin in another state, and keeps each line then. An error leaves all as it was. Room that was there stays.
+-- What a question about brackets leaves: it parses the text where the tree is not that of the text of now, reads the lines
+-- alone that are new or begin in another state, and keeps each line then. An error leaves all as it was. Room that was there stays.
 pub record Renews {A : Type 0} (result : Result A ModelError) (old new : ModelState) : Type 0 where
   pub document : new.document ≡ old.document
   pub pieces : new.pieces ≡ old.pieces
@@ -83,8 +82,9 @@ pub record Renews {A : Type 0} (result : Result A ModelError) (old new : ModelSt
   pub same_tree : old.fresh ≡ true → new.tree ≡ old.tree
   pub same_marks : old.fresh ≡ true → new.marks ≡ old.marks
   pub same_states : old.fresh ≡ true → new.states ≡ old.states
-  pub asked : old.fresh ≡ false
-      → OnOk result (HasAsked new.parsed (length (lines_to_ask old.states old.marks old.document.scanner old.document.units)))
+  pub read : old.fresh ≡ false → OnOk result (HasRead new.parsed old.states old.marks old.document.scanner old.document.units)
+  pub begun : old.fresh ≡ false → OnOk result (AreStatesOf old.document.scanner old.document.units new.states)
+  pub low : OnOk result (HasLowTree new.tree old.document.units)
   pub lines : OnOk result (new.marks ≡ clean_marks (length old.marks))
   pub fresh : OnOk result (new.fresh ≡ true)
   pub parsed : OnErr result (new.parsed ≡ old.parsed)

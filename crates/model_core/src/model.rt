@@ -37,7 +37,7 @@ impl std::marker::Model for Model {
     ghost use Rattle.document_rules.specs.Document.{greatest_version};
     ghost use Rattle.std.specs.Coded.{codes};
     ghost use Rattle.bracket_tree_rules.specs.TreeCode.{tree_code};
-    ghost use Rattle.node_reuse.specs.ParsedTree.{parsed_tree_code};
+    ghost use Rattle.model_page.specs.Asked.{read_tree_code};
     ghost use Rattle.model_page.specs.State.{flat_text, is_fresh};
     ghost use Rattle.model_core.specs.State.{ModelState};
     ghost use Rattle.snapshots.specs.Shown.{shown};
@@ -46,7 +46,7 @@ impl std::marker::Model for Model {
 
     ghost Value = { ModelState };
 
-    ghost coded = { Prim.hlevel (codes, tree_code, parsed_tree_code) };
+    ghost coded = { Prim.hlevel (codes, tree_code, read_tree_code) };
 
     ghost view = { λ m. record {
       document = record {

@@ -26,7 +26,7 @@ use Rattle.model_core.specs.Replaced.{HasReplaced, PreparesReplace}
 use Rattle.model_core.specs.State.{ModelState, KeepsParse}
 use Rattle.model_core.proofs.Preparing.{edited_as_prepared, recast_as_prepared}
 use Rattle.model_core.proofs.Searching.{replaced_as_prepared}
-use Rattle.model_group.specs.declared.joint.DocReady.{DocReady}
+use Rattle.model_group.specs.declared.ready.DocReady.{DocReady}
 use Rattle.model_group.specs.State.{GroupState, OnDoc, KeepAll, KeepAllParses, ActsOn, documents}
 use Rattle.model_group.specs.Losing.{LoseTags}
 use Rattle.model_group.specs.Prepared.{IsReadyIn, Prepares, Does, Commits}

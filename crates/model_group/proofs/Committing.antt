@@ -3,18 +3,19 @@ use Rattle.std.proofs.Common.{◌≡◌, ◌≢◌, ℕ, zero, suc, ◌==◌, �
 use Rattle.std.proofs.lemmas.Bool.{cases_eq, eqb-false, eq-eqb, ne_eqb}
 use Rattle.std.proofs.lemmas.List.{length-append, length-set, get_or_at}
 use Rattle.std.proofs.lemmas.List.Elements.{All-push}
-use Rattle.std.proofs.lemmas.Option.{slice_get_within, slice_get_read}
+use Rattle.std.proofs.lemmas.Option.{slice_get_within, slice_get_read, slice_get-get_or}
 use Rattle.document_rules.specs.Document.{FlatState}
 use Rattle.group_rules.specs.declared.TheConstants.{DOC_COUNT}
 use Rattle.group_rules.specs.Group.{doc_in, each_from}
 use Rattle.group_rules.proofs.Places.{length-each_from}
 use Rattle.model_core.specs.declared.ready.Action.{Action}
 use Rattle.model_core.specs.State.{ModelState, KeepsParse}
-use Rattle.model_core.specs.Prepared.{Prepared, CanCommit}
+use Rattle.model_core.specs.Prepared.{Prepared, CanCommit, HasActed}
 use Rattle.model_core.proofs.Preparing.{IsSameText, can_still_commit}
-use Rattle.model_group.specs.declared.joint.DocReady.{DocReady}
+use Rattle.model_group.specs.declared.ready.DocReady.{DocReady}
+use Rattle.model_group.specs.declared.ready.Manner.{Manner}
 use Rattle.model_group.specs.State.{GroupState, OnDoc, EachModel, KeepAll, documents}
-use Rattle.model_group.specs.Prepared.{ready_for, AreApart, AreReady, IsReadyIn, Keeps, Prepares, Does, Committed, CommitAll}
+use Rattle.model_group.specs.Prepared.{ready_for, AreApart, AreReady, IsReadyIn, Keeps, Prepares, Does, Committed, CommitAll, acts_in, CanIn}
 use Rattle.model_group.proofs.Lists.{slice_get-set_same, slice_get-set_other, set_back, item_within, same_items, slice_get-each, length-documents, document_at, doc_in-is, documents-set}
 use Rattle.model_group.proofs.Parses.{KeepsParse-same, KeepsParse-then}
 
@@ -121,6 +122,28 @@ pub model_at : (g items : GroupState) (n : ℕ) (m : ModelState) → items ≡ g
     → slice_get g n ≡ Some m
 model_at g items n m same count lt is =
     ap (λ g. slice_get g n) (sym same) ∙ slice_get_read items (length items) n m refl (omega (arith, count, lt)) is
+
+-- ---- carried out
+
+-- what is asked of the model that is read, and what is done of it, in this manner
+module _ (manner by : Manner) (g : GroupState) (one : DocReady) (m : ModelState) (is : manner ≡ by) (count : length g ≡ DOC_COUNT) where
+  pub can_by : IsReadyIn (CanIn manner) g one → CanIn by (get_or g one.doc m) one.ready
+  can_by ready =
+      subst (λ manner. CanIn manner (get_or g one.doc m) one.ready) is
+      (ready.ready (get_or g one.doc m) (slice_get-get_or g one.doc m (omega (arith, count, ready.there))))
+
+  pub done_by : (new : ModelState) → one.doc < DOC_COUNT → acts_in by one.ready.action (get_or g one.doc m).document new.document
+      → HasActed one.ready.action (get_or g one.doc m) new → OnDoc one.doc (Does (acts_in manner) one.ready.action) g (set g one.doc new)
+  done_by new below acts left = record {
+    before = get_or g one.doc m;
+    after = new;
+    is = slice_get-get_or g one.doc m (omega (arith, count, below));
+    done = record {
+      document = subst (λ manner. acts_in manner one.ready.action (get_or g one.doc m).document new.document) (sym is) acts;
+      parse = left;
+    };
+    rest = refl;
+  }
 
 -- ---- carried out one after another
 

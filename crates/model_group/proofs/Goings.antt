@@ -23,7 +23,7 @@ use Rattle.group_rules.specs.Together.{Stay, AllGoOn}
 use Rattle.group_rules.proofs.Changed.{IsMoving, undoing_moves, redoing_moves}
 use Rattle.group_rules.proofs.Together.{go_others_stay, go_all_go_on}
 use Rattle.mark_rules.specs.declared.Mark.{Mark}
-use Rattle.model_page.specs.Ways.{marked_step}
+use Rattle.model_page.specs.LineMarks.{marked_step}
 use Rattle.model_page.specs.declared.change.Way.{Way}
 use Rattle.model_page.specs.declared.change.Way.TheVariants.{Back, On}
 use Rattle.model_core.specs.declared.ready.Action.TheVariants.{Move}
@@ -33,7 +33,7 @@ use Rattle.model_core.specs.Ways.{next_steps, flat_move}
 use Rattle.model_core.specs.Prepared.{Prepared, CanCommit, Acts, HasActed, IsMoveReady, PreparesMove, next_op_count, next_marking_count}
 use Rattle.model_core.proofs.Leaving.{leaves_from, leaves_as}
 use Rattle.model_group.specs.Errors.{group_error_of}
-use Rattle.model_group.specs.declared.joint.DocReady.{DocReady}
+use Rattle.model_group.specs.declared.ready.DocReady.{DocReady}
 use Rattle.model_group.specs.Calls.{GoesOrStays, TheyGo, going_with}
 use Rattle.model_group.specs.State.{GroupState, OnDoc, KeepAll, KeepAllParses, documents}
 use Rattle.model_group.specs.Prepared.{ready_for, IsReadyIn, Keeps, Prepares, CommitAll, Committed, going_along, IsStepReady, AreStepsReady}
@@ -138,7 +138,7 @@ no_step : (way : Way) (f : FlatState) → next_steps way f.history ≡ [] → fl
 no_step Back f none = ap (undone_step f) none
 no_step On f none = ap (redone_step f) none
 
-rule_along : (way : Way) (f : FlatState) → (going_along way).rule f ≡ flat_move way f
+pub rule_along : (way : Way) (f : FlatState) → (going_along way).rule f ≡ flat_move way f
 rule_along Back f = refl
 rule_along On f = refl
 

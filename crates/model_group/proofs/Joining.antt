@@ -29,7 +29,7 @@ use Rattle.model_core.specs.Prepared.{Prepared, Acts, ActsAlone, HasActed, Prepa
 use Rattle.model_core.proofs.Leaving.{leaves_from}
 use Rattle.model_core.proofs.Preparing.{ruled, edit_again, edits_leave}
 use Rattle.model_group.specs.Calls.{HasJoined, AllJoin}
-use Rattle.model_group.specs.declared.joint.DocReady.{DocReady}
+use Rattle.model_group.specs.declared.ready.DocReady.{DocReady}
 use Rattle.model_group.specs.State.{GroupState, OnDoc, KeepAll, KeepAllParses, documents}
 use Rattle.model_group.specs.Losing.{has_doc, LoseTags}
 use Rattle.model_group.specs.Prepared.{ready_for, IsReadyIn, Keeps, Prepares, Does, CommitAll, Committed, IsBatchReady, AreBatchesReady, IsSomeEdit, ActsTagged, first_of, IsFirstOf}

@@ -8,3 +8,4 @@ pub mod Joining
 pub mod Goings
 pub mod Losses
 pub mod Changing
+pub mod Grouping

@@ -1,8 +1,9 @@
 -- Lists by their items, and the documents of a group.
 use Rattle.std.proofs.Common.{◌≡◌, ◌≢◌, ℕ, zero, suc, ◌+◌, ◌<◌, arith, set, List, [], ◌∷◌, length, get_or, drop, Option, Some, unwrap_or, option_map, slice_get, refl, sym, subst, ap, ◌∙◌}
 use Rattle.std.proofs.lemmas.List.{length-map, map-set}
-use Rattle.std.proofs.lemmas.Option.{slice_get-map, slice_get-get_or, slice_get_within, get_or_from_slice_get, unwrap_or-slice_get}
+use Rattle.std.proofs.lemmas.Option.{slice_get-map, slice_get-get_or, slice_get_within, slice_get_read, get_or_from_slice_get, unwrap_or-slice_get}
 use Rattle.document_rules.specs.Document.{FlatState, empty_document}
+use Rattle.group_rules.specs.declared.TheConstants.{DOC_COUNT}
 use Rattle.group_rules.specs.Group.{FlatGroup, doc_in, with_doc, each_from}
 use Rattle.group_rules.proofs.Places.{length-each_from, doc_in-each}
 use Rattle.model_core.specs.State.{ModelState}
@@ -88,6 +89,12 @@ document_at g n m is = slice_get-map (λ (m : ModelState). m.document) g n ∙ a
 
 pub doc_in-is : (g : GroupState) (n : ℕ) (m : ModelState) → slice_get g n ≡ Some m → doc_in (documents g) n ≡ m.document
 doc_in-is g n m is = ap (λ (f : Option FlatState). unwrap_or f empty_document) (document_at g n m is)
+
+-- the document that is read
+pub read_document : (g : GroupState) (n : ℕ) (m : ModelState) → length g ≡ DOC_COUNT → n < DOC_COUNT → m ≡ get_or g n m
+    → (get_or g n m).document ≡ doc_in (documents g) n
+read_document g n m count lt is =
+    ap (λ (m : ModelState). m.document) (sym is) ∙ sym (doc_in-is g n m (slice_get_read g (length g) n m refl (omega (arith, count, lt)) is))
 
 pub documents-set : (g : GroupState) (n : ℕ) (m : ModelState) → documents (set g n m) ≡ with_doc (documents g) n m.document
 documents-set g n m = map-set (λ (m : ModelState). m.document) g n m

@@ -1,6 +1,7 @@
 -- What calls on the models of documents say.
 use Rattle.std.specs.Prelude.{◌≡◌, ℕ, Bool, true, false, List, Option, Some, None, Result, Ok, Err, ⊤}
 use Rattle.text_rules.specs.declared.Op.{Op}
+use Rattle.undo_rules.specs.declared.Tag.{Tag}
 use Rattle.document_rules.specs.declared.ModelError.{ModelError}
 use Rattle.document_rules.specs.Outcomes.{ChangesWith}
 use Rattle.document_rules.specs.Snapshots.{flat_snapshot}
@@ -43,9 +44,13 @@ TheyGo way docs (Ok true) old new = EachModel (λ n m k. GoesOrStays way (docs n
 TheyGo way docs (Ok false) old new = KeepAllParses old new
 TheyGo way docs (Err e) old new = KeepAllParses old new
 
--- the document of this number and those that go its next step with it
+-- the tag of the step that comes next in the document of this number
+abbrev pub next_tag : Way → GroupState → ℕ → Option Tag
+next_tag way g doc = front_tag ((going_along way).steps (doc_in (documents g) doc))
+
+-- that document, and those that go this step with it
 abbrev pub going_with : Way → GroupState → ℕ → ℕ → Bool
-going_with way g doc = let f = doc_in (documents g) doc in gone_with doc (front_tag ((going_along way).steps f))
+going_with way g doc = gone_with doc (next_tag way g doc)
 
 abbrev pub AllGo : Way → ℕ → Result Bool GroupError → GroupState → GroupState → Type 0
 AllGo way doc result old new = TheyGo way (going_with way old doc) result old new

@@ -15,9 +15,11 @@ use Rattle.model_page.specs.declared.change.Way.{Way}
 use Rattle.model_page.specs.declared.change.Way.TheVariants.{Back, On}
 use Rattle.model_core.specs.declared.ready.Action.{Action}
 use Rattle.model_core.specs.State.{ModelState, KeepsParse}
-use Rattle.model_core.specs.Prepared.{Prepared, ActsAlone, HasActed, IsEditReady, IsMoveReady}
+use Rattle.model_core.specs.Prepared.{Prepared, CanCommit, Acts, ActsAlone, HasActed, IsEditReady, IsMoveReady}
 use Rattle.model_core.specs.Ways.{next_steps}
-use Rattle.model_group.specs.declared.joint.DocReady.{DocReady}
+use Rattle.model_group.specs.declared.ready.DocReady.{DocReady}
+use Rattle.model_group.specs.declared.ready.Manner.{Manner}
+use Rattle.model_group.specs.declared.ready.Manner.TheVariants.{Plain, Alone, Joint}
 use Rattle.model_group.specs.State.{GroupState, ActsOn, documents}
 
 -- ---- for each document at most one
@@ -96,6 +98,19 @@ pub record ActsTagged (tag : Tag) (action : Action) (old new : FlatState) : Type
   pub made : FlatState
   pub alone : ActsAlone action old made
   pub tagged : new ≡ flat_tag made tag
+
+-- ---- how it is made
+
+abbrev pub acts_in : Manner → Action → FlatState → FlatState → Type 0
+acts_in Plain = Acts
+acts_in Alone = ActsAlone
+acts_in (Joint tag) = ActsTagged tag
+
+-- what is asked of it
+abbrev pub CanIn : Manner → ModelState → Prepared → Type 0
+CanIn Plain = CanCommit
+CanIn Alone = CanCommit
+CanIn (Joint tag) = IsSomeEdit
 
 -- ---- refusals
 

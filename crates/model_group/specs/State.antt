@@ -1,6 +1,8 @@
 -- What contracts see of a group: a model for each number.
-use Rattle.std.specs.Prelude.{◌≡◌, ◌≢◌, ℕ, List, map, slice_get, slice_set, Some}
+use Rattle.std.specs.Prelude.{◌≡◌, ◌≢◌, ℕ, List, length, map, slice_get, slice_set, Some}
+use Rattle.group_rules.specs.declared.TheConstants.{DOC_COUNT}
 use Rattle.group_rules.specs.Group.{FlatGroup}
+use Rattle.group_rules.specs.Shared.{AreShared}
 use Rattle.model_core.specs.State.{ModelState, KeepsParse}
 
 abbrev pub GroupState : Type 0
@@ -9,6 +11,11 @@ GroupState = List ModelState
 -- the flat group that it stands for
 abbrev pub documents : GroupState → FlatGroup
 documents g = map (λ (m : ModelState). m.document) g
+
+-- There are all documents, and what two of them share stands in one order in both.
+pub record IsGroup (g : GroupState) : Type 0 where
+  pub count : length g ≡ DOC_COUNT
+  pub shared : AreShared (documents g)
 
 -- a call on the model of this number, which leaves the others as they were
 pub record OnDoc (n : ℕ) (call : ModelState → ModelState → Type 0) (old new : GroupState) : Type 0 where

@@ -8,15 +8,15 @@ ghost use Rattle.group_rules.specs.Group.{doc_in, lost_by_change, lost_by_open, 
 ghost use Rattle.group_rules.specs.Together.{Stay, reached};
 ghost use Rattle.model_core.specs.Edited.{HasEdited, HasRecast};
 ghost use Rattle.model_core.specs.Opened.{HasOpened};
-ghost use Rattle.model_core.specs.Prepared.{Acts, ActsAlone, CanCommit, PreparesEol};
+ghost use Rattle.model_core.specs.Prepared.{PreparesEol};
 ghost use Rattle.model_core.specs.Replaced.{HasReplaced, PreparesReplace};
-ghost use Rattle.model_group.specs.Prepared.{Commits, Does, IsReadyIn, Prepares};
+ghost use Rattle.model_group.specs.Prepared.{Prepares};
 ghost use Rattle.model_group.specs.State.{ActsOn, OnDoc, documents};
 ghost use Rattle.unit_text.specs.Kinds.{normalized};
 
 use crate::group::Group;
-use crate::joint::DocReady;
-use crate::members::Members;
+use crate::losing::lose_all;
+use crate::ready::{DocReady, Manner, commit};
 use document_rules::ModelError;
 use model_core::{BracketTable, Hiding, Kind, Model, Op, Ready};
 
@@ -39,8 +39,9 @@ impl Group {
             (documents self.old) (documents self.new) }
     {
         let model = Model::opened(self.alloc, text, table, kind, hiding)?;
-        self.lose_all(doc);
-        self.models[doc as usize] = model;
+        let models = self.models.as_mut_slice();
+        lose_all(models, doc);
+        models[doc as usize] = model;
         Ok(())
     }
 
@@ -54,7 +55,7 @@ impl Group {
             (documents self.old) (documents self.new) }
     {
         let ready = self.prepare_batch(doc, ops)?;
-        self.commit(DocReady { doc, ready });
+        commit(&mut self.models, DocReady { doc, ready }, Manner::Plain);
         Ok(())
     }
 
@@ -70,7 +71,7 @@ impl Group {
         let Some(ready) = self.prepare_eol(doc, kind)? else {
             return Ok(false);
         };
-        self.commit(DocReady { doc, ready });
+        commit(&mut self.models, DocReady { doc, ready }, Manner::Plain);
         Ok(true)
     }
 
@@ -93,7 +94,7 @@ impl Group {
         let Some(ready) = self.prepare_replace_all(doc, sought, with)? else {
             return Ok(false);
         };
-        self.commit_alone(DocReady { doc, ready });
+        commit(&mut self.models, DocReady { doc, ready }, Manner::Alone);
         Ok(true)
     }
 
@@ -116,30 +117,5 @@ impl Group {
             self.old self.new }
     {
         self.models[doc as usize].prepare_replace_all(sought, with)
-    }
-
-    // Carries out what was prepared, after what the document could redo is lost.
-    fn commit(&mut self, one: DocReady)
-        requires { IsReadyIn CanCommit self.old one }
-        ensures { Commits Acts one self.old self.new }
-    {
-        self.lose_redo(one.doc, Members::one(one.doc));
-        self.commit_step(one);
-    }
-
-    // The same as a step of undo of its own.
-    fn commit_alone(&mut self, one: DocReady)
-        requires { IsReadyIn CanCommit self.old one }
-        ensures { Commits ActsAlone one self.old self.new }
-    {
-        self.lose_redo(one.doc, Members::one(one.doc));
-        self.step_alone(one);
-    }
-
-    fn step_alone(&mut self, one: DocReady)
-        requires { IsReadyIn CanCommit self.old one }
-        ensures { OnDoc one.doc (Does ActsAlone one.ready.action) self.old self.new }
-    {
-        self.models[one.doc as usize].commit_alone(one.ready);
     }
 }

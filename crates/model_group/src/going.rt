@@ -1,26 +1,24 @@
 //! Undo and redo.
 
-ghost use Rattle.std.specs.Prelude.{◌≡◌, ◌==◌, ◌+◌, ◌<◌, ◌&&◌, nat_lt, true, false, not, length, Ok, IfOk, IfErr, OnOk};
-ghost use Rattle.std.specs.List.{All};
+ghost use Rattle.std.specs.Prelude.{◌≡◌, ◌==◌, ◌+◌, ◌<◌, ◌&&◌, nat_lt, true, false, not, length, Some, None, Ok, IfOk, IfErr, OnOk};
 ghost use Rattle.undo_rules.specs.Tags.{is_member};
 ghost use Rattle.document_rules.specs.Outcomes.{Moves};
-ghost use Rattle.document_rules.specs.Document.{flat_undo, flat_redo};
 ghost use Rattle.group_rules.specs.declared.TheConstants.{DOC_COUNT};
 ghost use Rattle.group_rules.specs.Going.{group_undo, group_redo, group_go, go_by, go_together, gone_in, front_tag, is_front, is_last_version, some_last_from, other_next_from};
 ghost use Rattle.group_rules.specs.Group.{doc_in};
 ghost use Rattle.group_rules.specs.Outcomes.{MovesAll};
 ghost use Rattle.group_rules.specs.Together.{Stay, AllGoOn, gone_with};
 ghost use Rattle.model_core.specs.Going.{HasGone};
-ghost use Rattle.model_core.specs.Prepared.{Acts, CanCommit, PreparesMove};
+ghost use Rattle.model_core.specs.Prepared.{PreparesMove};
 ghost use Rattle.model_core.specs.Ways.{flat_move};
-ghost use Rattle.model_group.specs.Calls.{AllGo, TheyGo, going_with};
+ghost use Rattle.model_group.specs.Calls.{AllGo, TheyGo, going_with, next_tag};
 ghost use Rattle.model_group.specs.State.{KeepAll, OnDoc, documents};
-ghost use Rattle.model_group.specs.Prepared.{AreApart, AreStepsReady, CommitAll, Does, IsReadyIn, Prepares, going_along};
+ghost use Rattle.model_group.specs.Prepared.{AreStepsReady, Prepares, going_along};
 
 use crate::errors::group_error_of;
 use crate::group::Group;
-use crate::joint::DocReady;
 use crate::members::is_member;
+use crate::ready::{DocReady, Manner, commit_all};
 use document_rules::ModelError;
 use group_rules::{DOC_COUNT, GroupError};
 use model_core::{Model, Ready, Tag};
@@ -74,59 +72,36 @@ impl Group {
         self.go_by(way, doc, tag)
     }
 
-    // The step that has this tag, or none.
+    // The step that comes next in the document, which has this tag or none.
     fn go_by(&mut self, way: Way, doc: u64, tag: Option<Tag>) -> Result<bool, GroupError>
-        requires { doc < DOC_COUNT }
+        requires there { doc < DOC_COUNT }
+        requires next { tag ≡ next_tag way self.old doc }
         ensures documents { MovesAll result (documents self.old) (documents self.new)
             (go_by (going_along way) (documents self.old) doc tag) }
         ensures models { TheyGo way (gone_with doc tag) result self.old self.new }
     {
         match tag {
-            Some(tag) => self.go_together(way, tag),
+            Some(tag) => self.go_together(way, doc, tag),
             None => self.go_alone(way, doc),
         }
     }
 
     // One step of the document alone.
     fn go_alone(&mut self, way: Way, doc: u64) -> Result<bool, GroupError>
-        requires { doc < DOC_COUNT }
+        requires there { doc < DOC_COUNT }
+        requires next { None ≡ next_tag way self.old doc }
         ensures documents { let old = documents self.old in
             MovesAll result old (documents self.new)
             (gone_in old doc ((going_along way).rule (doc_in old doc))) }
         ensures models { TheyGo way (λ n. n == doc) result self.old self.new }
     {
-        self.go_one(way, doc).map_err(group_error_of)
+        go_next(&mut self.models[doc as usize], way).map_err(group_error_of)
     }
 
-    fn go_one(&mut self, way: Way, doc: u64) -> Result<bool, ModelError>
-        requires { doc < DOC_COUNT }
-        ensures { OnDoc doc (λ old new. Moves result old.document new.document
-            (flat_move way old.document) × HasGone way result old new) self.old self.new }
-    {
-        match way {
-            Way::Back => self.undo_one(doc),
-            Way::On => self.redo_one(doc),
-        }
-    }
-
-    fn undo_one(&mut self, doc: u64) -> Result<bool, ModelError>
-        requires { doc < DOC_COUNT }
-        ensures { OnDoc doc (λ old new. Moves result old.document new.document
-            (flat_undo old.document) × HasGone Way.Back result old new) self.old self.new }
-    {
-        self.models[doc as usize].undo()
-    }
-
-    fn redo_one(&mut self, doc: u64) -> Result<bool, ModelError>
-        requires { doc < DOC_COUNT }
-        ensures { OnDoc doc (λ old new. Moves result old.document new.document
-            (flat_redo old.document) × HasGone Way.On result old new) self.old self.new }
-    {
-        self.models[doc as usize].redo()
-    }
-
-    // The step of the tag in all of its documents.
-    fn go_together(&mut self, way: Way, tag: Tag) -> Result<bool, GroupError>
+    // The step of the tag in all of its documents, one of which is this.
+    fn go_together(&mut self, way: Way, doc: u64, tag: Tag) -> Result<bool, GroupError>
+        requires there { doc < DOC_COUNT }
+        requires next { Some tag ≡ next_tag way self.old doc }
         ensures documents { MovesAll result (documents self.old) (documents self.new)
             (go_together (going_along way) (documents self.old) tag) }
         ensures models { TheyGo way (λ n. nat_lt n DOC_COUNT && is_member n tag) result
@@ -135,11 +110,11 @@ impl Group {
         if self.some_last(tag) {
             return Err(GroupError::Limit);
         }
-        if let Some(doc) = self.other_next(way, tag) {
-            return Err(GroupError::Joint { doc });
+        if let Some(other) = self.other_next(way, tag) {
+            return Err(GroupError::Joint { doc: other });
         }
         let ready = self.prepare_steps(way, tag)?;
-        self.commit_steps(ready);
+        commit_all(&mut self.models, ready, Manner::Plain);
         Ok(true)
     }
 
@@ -219,28 +194,28 @@ impl Group {
         requires { doc < DOC_COUNT }
         ensures { OnDoc doc (Prepares (PreparesMove way result)) self.old self.new }
     {
-        let model = &mut self.models[doc as usize];
-        match way {
-            Way::Back => model.prepare_undo(),
-            Way::On => model.prepare_redo(),
-        }
+        prepare_next(&mut self.models[doc as usize], way)
     }
+}
 
-    fn commit_steps(&mut self, ready: Vec<DocReady>)
-        requires apart { AreApart ready.items }
-        requires each { All (IsReadyIn CanCommit self.old) ready.items }
-        ensures { CommitAll Acts ready.items self.old self.new }
-    {
-        for one in ready {
-            self.commit_step(one);
-        }
+// The step that comes next on the way.
+fn go_next(model: &mut Model, way: Way) -> Result<bool, ModelError>
+    ensures document { Moves result model.old.document model.new.document
+        (flat_move way model.old.document) }
+    ensures parse { HasGone way result model.old model.new }
+{
+    match way {
+        Way::Back => model.undo(),
+        Way::On => model.redo(),
     }
+}
 
-    pub(crate) fn commit_step(&mut self, one: DocReady)
-        requires { IsReadyIn CanCommit self.old one }
-        ensures { OnDoc one.doc (Does Acts one.ready.action) self.old self.new }
-    {
-        self.models[one.doc as usize].commit(one.ready);
+fn prepare_next(model: &mut Model, way: Way) -> Result<Option<Ready>, ModelError>
+    ensures { Prepares (PreparesMove way result) model.old model.new }
+{
+    match way {
+        Way::Back => model.prepare_undo(),
+        Way::On => model.prepare_redo(),
     }
 }
 

@@ -21,20 +21,18 @@ pub struct Group {
 }
 
 impl Model for Group {
-    ghost use Rattle.std.specs.Prelude.{◌≡◌, length};
     ghost use Rattle.std.specs.Coded.{codes};
     ghost use Rattle.bracket_tree_rules.specs.TreeCode.{tree_code};
-    ghost use Rattle.node_reuse.specs.ParsedTree.{parsed_tree_code};
-    ghost use Rattle.group_rules.specs.declared.TheConstants.{DOC_COUNT};
-    ghost use Rattle.model_group.specs.State.{GroupState};
+    ghost use Rattle.model_page.specs.Asked.{read_tree_code};
+    ghost use Rattle.model_group.specs.State.{GroupState, IsGroup};
 
     ghost Value = { GroupState };
 
-    ghost coded = { Prim.hlevel (codes, tree_code, parsed_tree_code) };
+    ghost coded = { Prim.hlevel (codes, tree_code, read_tree_code) };
 
     ghost view = { λ g. g.models.items };
 
-    ghost invariant = { λ g. length g.models.items ≡ DOC_COUNT };
+    ghost invariant = { λ g. IsGroup g.models.items };
 }
 
 impl Group {

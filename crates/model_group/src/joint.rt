@@ -1,31 +1,24 @@
 //! One batch in each of several documents, all or none.
 
 ghost use Rattle.std.specs.Prelude.{◌≡◌, ◌<◌, ◌≤◌, true, false, Some, None, length, map, IfOk, IfErr, OnOk, if◌then◌else◌};
-ghost use Rattle.std.specs.List.{All, flat_map};
+ghost use Rattle.std.specs.List.{All};
 ghost use Rattle.group_rules.specs.declared.TheConstants.{DOC_COUNT};
-ghost use Rattle.group_rules.specs.Group.{doc_in, lost_by_change};
 ghost use Rattle.group_rules.specs.Joint.{flat_batch, docs_of, names_badly, joint_refusal, members_of, least_of, tag_of, group_joint};
 ghost use Rattle.group_rules.specs.Outcomes.{ChangesAll, IsRefusedFor};
 ghost use Rattle.group_rules.specs.Together.{Stay, AllGoOn, named_by, reached_by_joint};
 ghost use Rattle.model_group.specs.Calls.{AllJoin};
 ghost use Rattle.model_group.specs.State.{KeepAll, OnDoc, documents};
-ghost use Rattle.model_group.specs.Losing.{has_doc, LoseTags};
 ghost use Rattle.model_core.specs.Prepared.{PreparesEdit};
-ghost use Rattle.model_group.specs.Prepared.{AreApart, AreBatchesReady, ActsTagged, CommitAll, Does, IsReadyIn, IsSomeEdit, Prepares, cause, first_of};
+ghost use Rattle.model_group.specs.Prepared.{AreBatchesReady, Prepares, cause, first_of};
 
 use crate::errors::group_error_of;
 use crate::group::Group;
+use crate::losing::lose_redo_of;
 use crate::members::Members;
+use crate::ready::{DocReady, Manner, commit_all};
 use document_rules::ModelError;
 use group_rules::{DOC_COUNT, DocBatch, GroupError};
 use model_core::{Op, Ready, Tag};
-
-/// What was prepared for the document of this number.
-#[derive(Drop)]
-pub(crate) struct DocReady {
-    pub doc: u64,
-    pub ready: Ready,
-}
 
 impl Group {
     /// Carries out each batch on its document, all of them or none. In each document it is a step of undo of its own; an undo or a redo
@@ -46,8 +39,9 @@ impl Group {
         let members = members_of(&batches).ok_or(GroupError::Unknown)?;
         let tag = self.tag_of(&batches, members);
         let ready = self.prepare_batches(batches)?;
-        self.lose_redo_of(&ready, members);
-        self.commit_batches(ready, tag);
+        let models = self.models.as_mut_slice();
+        lose_redo_of(models, &ready, members);
+        commit_all(models, ready, Manner::Joint(tag));
         Ok(())
     }
 
@@ -103,38 +97,6 @@ impl Group {
         ensures { OnDoc doc (Prepares (PreparesEdit ops.items result)) self.old self.new }
     {
         self.models[doc as usize].prepare(ops)
-    }
-
-    // What these documents could redo goes.
-    fn lose_redo_of(&mut self, ready: &[DocReady], members: Members)
-        requires { All (λ r. (r.doc < DOC_COUNT) × (has_doc members r.doc ≡ true)) ready.now }
-        ensures { LoseTags
-            (flat_map (λ r. lost_by_change (doc_in (documents self.old) r.doc)) ready.now)
-            members self.old self.new }
-    {
-        for one in ready {
-            self.lose_redo(one.doc, members);
-        }
-    }
-
-    // Each becomes a step of its own, which gets the tag.
-    fn commit_batches(&mut self, ready: Vec<DocReady>, tag: Tag)
-        requires apart { AreApart ready.items }
-        requires each { All (IsReadyIn IsSomeEdit self.old) ready.items }
-        ensures { CommitAll (ActsTagged tag) ready.items self.old self.new }
-    {
-        for one in ready {
-            self.commit_batch(one, tag);
-        }
-    }
-
-    fn commit_batch(&mut self, one: DocReady, tag: Tag)
-        requires { IsReadyIn IsSomeEdit self.old one }
-        ensures { OnDoc one.doc (Does (ActsTagged tag) one.ready.action) self.old self.new }
-    {
-        let model = &mut self.models[one.doc as usize];
-        model.commit_alone(one.ready);
-        model.tag_last(tag);
     }
 }
 

@@ -9,6 +9,7 @@ mod group;
 mod joint;
 mod losing;
 mod members;
+mod ready;
 
 pub use group::Group;
 pub use group_rules::{DOC_COUNT, DocBatch, GroupError};

@@ -1,80 +1,128 @@
-//! Tags that are lost.
+//! Tags that are lost. What two documents share stands in one order in both: where one of them loses the tags of its last steps,
+//! those that go in the other are the last that it shares. So no list is walked but from its end, and none that loses nothing.
 
-ghost use Rattle.std.specs.Prelude.{◌≡◌, ◌<◌, ◌≤◌, ◌^◌, ◌∷◌, [], true, length, option_to_list};
-ghost use Rattle.undo_rules.specs.Tags.{all_steps, tag_at};
+ghost use Rattle.std.specs.Prelude.{◌≡◌, ◌<◌, ◌≤◌, ◌^◌, true, length, drop, option_to_list};
+ghost use Rattle.std.specs.List.{All, flat_map};
+ghost use Rattle.undo_rules.specs.Tags.{all_steps};
 ghost use Rattle.group_rules.specs.declared.TheConstants.{DOC_COUNT};
-ghost use Rattle.group_rules.specs.Group.{doc_in, lost_by_change, lost_by_open};
-ghost use Rattle.model_group.specs.State.{OnDoc, documents};
-ghost use Rattle.model_group.specs.Losing.{has_doc, tags_from, LosesOrStays, LoseTags};
+ghost use Rattle.group_rules.specs.Group.{doc_in, lost_by_change, lost_by_open, tags_of};
+ghost use Rattle.model_group.specs.State.{IsGroup, documents};
+ghost use Rattle.model_group.specs.Losing.{has_doc, left_count, names_any, tags_from, IsNext, LoseTags, Names};
 
-use crate::group::Group;
 use crate::members::{Members, is_member};
+use crate::ready::DocReady;
 use group_rules::DOC_COUNT;
-use undo_rules::Tag;
+use model_core::{Model, Tag};
 
-impl Group {
-    /// What the document could redo goes: its tags are lost in all documents that are not spared. It is spared itself.
-    pub(crate) fn lose_redo(&mut self, doc: u64, spared: Members)
-        requires there { doc < DOC_COUNT }
-        requires spared { has_doc spared doc ≡ true }
-        ensures { LoseTags (lost_by_change (doc_in (documents self.old) doc)) spared
-            self.old self.new }
-    {
-        let (undo, _) = self.doc(doc).counts();
-        self.lose_from(doc, undo, spared);
+/// What these documents could redo goes.
+pub(crate) fn lose_redo_of(models: &mut [Model], ready: &[DocReady], members: Members)
+    requires group { IsGroup models.old }
+    requires each { All (λ r. (r.doc < DOC_COUNT) × (has_doc members r.doc ≡ true)) ready.now }
+    ensures { LoseTags
+        (flat_map (λ r. lost_by_change (doc_in (documents models.old) r.doc)) ready.now)
+        members models.old models.new }
+{
+    for i in 0..ready.len() {
+        lose_redo(models, ready[i].doc, members, &ready[..i]);
     }
+}
 
-    /// All steps of the document go.
-    pub(crate) fn lose_all(&mut self, doc: u64)
-        requires there { doc < DOC_COUNT }
-        ensures { LoseTags (lost_by_open (doc_in (documents self.old) doc)) (2 ^ doc)
-            self.old self.new }
-    {
-        self.lose_from(doc, 0, Members::one(doc));
+/// What the document could redo goes: its tags are lost in all documents that are not spared. It is spared itself. Those `before` lost
+/// theirs just before.
+pub(crate) fn lose_redo(models: &mut [Model], doc: u64, spared: Members, before: &[DocReady])
+    requires there { doc < DOC_COUNT }
+    requires spared { has_doc spared doc ≡ true }
+    requires next { let f = doc_in (documents models.old) doc in
+        IsNext spared doc (length f.history.undo) before.now models.old }
+    requires before { All (λ r. r.doc < DOC_COUNT) before.now }
+    ensures { LoseTags (lost_by_change (doc_in (documents models.old) doc)) spared
+        models.old models.new }
+{
+    let (undo, _) = models[doc as usize].counts();
+    lose_from(models, doc, undo, spared, before);
+}
+
+/// All steps of the document go.
+pub(crate) fn lose_all(models: &mut [Model], doc: u64)
+    requires there { doc < DOC_COUNT }
+    requires group { IsGroup models.old }
+    ensures { LoseTags (lost_by_open (doc_in (documents models.old) doc)) (2 ^ doc)
+        models.old models.new }
+{
+    lose_from(models, doc, 0, Members::one(doc), &[]);
+}
+
+// The tags of the steps of the document, from that of the number `first` on, are lost.
+fn lose_from(models: &mut [Model], doc: u64, first: u64, spared: Members, before: &[DocReady])
+    requires there { doc < DOC_COUNT }
+    requires spared { has_doc spared doc ≡ true }
+    requires first { first ≤ length (all_steps (doc_in (documents models.old) doc).history) }
+    requires next { IsNext spared doc first before.now models.old }
+    requires before { All (λ r. r.doc < DOC_COUNT) before.now }
+    ensures { LoseTags (tags_from models.old doc first) spared models.old models.new }
+{
+    let named = named_from(&models[doc as usize], first);
+    if named.is_empty() {
+        return;
     }
-
-    // The tags of the steps of the document, from that of the number `first` on, are lost.
-    fn lose_from(&mut self, doc: u64, first: u64, spared: Members)
-        requires there { doc < DOC_COUNT }
-        requires spared { has_doc spared doc ≡ true }
-        requires first { first ≤ length (all_steps (doc_in (documents self.old) doc).history) }
-        ensures { LoseTags (tags_from self.old doc first) spared self.old self.new }
-    {
-        let (undo, redo) = self.doc(doc).counts();
-        for k in first..undo + redo {
-            self.lose_step(doc, k, spared);
+    for k in 0..DOC_COUNT {
+        if named.has(k) && !spared.has(k) {
+            let count = left_from(&models[doc as usize], first, k, before);
+            models[k as usize].untag_last(doc, count);
         }
     }
+}
 
-    // The tag of the step of this number is lost, if it has one.
-    fn lose_step(&mut self, doc: u64, k: u64, spared: Members)
-        requires there { doc < DOC_COUNT }
-        requires step { k < length (all_steps (doc_in (documents self.old) doc).history) }
-        ensures { LoseTags (option_to_list (tag_at (doc_in (documents self.old) doc).history k))
-            spared self.old self.new }
-    {
-        if let Some(tag) = self.doc(doc).tag_at(k) {
-            self.lose(tag, spared);
+// The documents that the tags of these steps name.
+fn named_from(model: &Model, first: u64) -> Members
+    requires { first ≤ length (all_steps model.now.document.history) }
+    ensures { Names (tags_of (drop first (all_steps model.now.document.history))) result }
+{
+    let (undo, redo) = model.counts();
+    let mut named = Members::none();
+    for at in first..undo + redo {
+        named = named.or(Members::of(model.tag_at(at)));
+    }
+    named
+}
+
+// How many of these steps have a tag that document `k` has too, and has still.
+fn left_from(model: &Model, first: u64, k: u64, before: &[DocReady]) -> u64
+    requires first { first ≤ length (all_steps model.now.document.history) }
+    requires there { k < DOC_COUNT }
+    requires before { All (λ r. r.doc < DOC_COUNT) before.now }
+    ensures { result ≡ left_count before.now k
+        (tags_of (drop first (all_steps model.now.document.history))) }
+{
+    let (undo, redo) = model.counts();
+    let mut count = 0;
+    for at in first..undo + redo {
+        count += left_in(before, k, model.tag_at(at));
+    }
+    count
+}
+
+fn left_in(before: &[DocReady], k: u64, tag: Option<Tag>) -> u64
+    requires there { k < DOC_COUNT }
+    requires before { All (λ r. r.doc < DOC_COUNT) before.now }
+    ensures count { result ≡ left_count before.now k (option_to_list tag) }
+    ensures few { result ≤ 1 }
+{
+    match tag {
+        Some(tag) if is_member(k, tag) && !names_any(before, tag) => 1,
+        _ => 0,
+    }
+}
+
+// Whether the tag names one of the documents of these.
+fn names_any(ready: &[DocReady], tag: Tag) -> bool
+    requires { All (λ r. r.doc < DOC_COUNT) ready.now }
+    ensures { result ≡ names_any ready.now tag }
+{
+    for one in ready {
+        if is_member(one.doc, tag) {
+            return true;
         }
     }
-
-    // Takes the tag off in its documents that are not spared.
-    fn lose(&mut self, tag: Tag, spared: Members)
-        ensures { LoseTags (tag ∷ []) spared self.old self.new }
-    {
-        // There are no other documents.
-        let _models = &self.models;
-        for doc in 0..DOC_COUNT {
-            self.lose_in(doc, tag, spared);
-        }
-    }
-
-    fn lose_in(&mut self, doc: u64, tag: Tag, spared: Members)
-        requires { doc < DOC_COUNT }
-        ensures { OnDoc doc (LosesOrStays (tag ∷ []) spared doc) self.old self.new }
-    {
-        if is_member(doc, tag) && !spared.has(doc) {
-            self.models[doc as usize].untag(tag);
-        }
-    }
+    false
 }

@@ -1,9 +1,11 @@
 //! Sets of documents.
 
-ghost use Rattle.std.specs.Prelude.{◌≡◌, ◌==◌, ◌+◌, ◌^◌, ◌<◌, false};
+ghost use Rattle.std.specs.Prelude.{◌≡◌, ◌==◌, ◌+◌, ◌^◌, ◌<◌, false, option_to_list};
 ghost use Rattle.std.specs.Int.{bit_at};
+ghost use Rattle.std.specs.Int.RustNames.{bit_or};
 ghost use Rattle.undo_rules.specs.Tags.{is_member};
 ghost use Rattle.group_rules.specs.declared.TheConstants.{DOC_COUNT};
+ghost use Rattle.model_group.specs.Losing.{Names};
 
 use group_rules::DOC_COUNT;
 use std::marker::Model;
@@ -41,11 +43,14 @@ impl Members {
         Members { bits: 1 << doc }
     }
 
-    /// The documents of the tag.
-    pub fn of(tag: Tag) -> Members
-        ensures { result ≡ tag.members }
+    /// The documents that the tag names, if there is one.
+    pub fn of(tag: Option<Tag>) -> Members
+        ensures { Names (option_to_list tag) result }
     {
-        Members { bits: tag.members }
+        match tag {
+            Some(tag) => Members { bits: tag.members },
+            None => Members::none(),
+        }
     }
 
     pub fn has(self, doc: u64) -> bool
@@ -66,6 +71,21 @@ impl Members {
         }
     }
 
+    /// The documents of either set.
+    pub fn or(self, other: Members) -> Members
+        ensures { result ≡ bit_or self other }
+    {
+        Members {
+            bits: self.bits | other.bits,
+        }
+    }
+
+    pub fn is_empty(self) -> bool
+        ensures { result ≡ (self == 0) }
+    {
+        self.bits == 0
+    }
+
     /// The set as the bits of a number.
     pub fn bits(self) -> u64
         ensures { result ≡ self }
@@ -79,5 +99,5 @@ pub(crate) fn is_member(doc: u64, tag: Tag) -> bool
     requires { doc < DOC_COUNT }
     ensures { result ≡ is_member doc tag }
 {
-    Members::of(tag).has(doc)
+    Members { bits: tag.members }.has(doc)
 }

@@ -2,12 +2,14 @@
 use Rattle.std.proofs.Common.{◌≡◌, ℕ, zero, suc, ◌+◌, ◌-◌, ◌<◌, ◌≤◌, Bool, true, false, cond, List, [], ◌∷◌, ◌++◌, length, map, take, drop, get_or, Option, Some, None, refl, ap, sym, ◌∙◌, subst, arith, append_assoc, drop-cons}
 use Rattle.std.specs.Prelude.{replicate, slice_index_or}
 use Rattle.std.proofs.lemmas.List.{length-append, length-drop, length-map, length-replicate, length-take-le, take_all, drop_all, take-append-le, take-append-drop, drop-drop, drop-map, take-map, get_or-drop, get_or-map, drop-append-le}
-use Rattle.bracket_rules.specs.Rows.{Row, empty_row}
+use Rattle.bracket_rules.specs.Rows.{Row}
+use Rattle.bracket_rules.specs.TextRows.{empty_row}
 use Rattle.hiding_rules.specs.declared.LineState.{LineState}
 use Rattle.hiding_rules.specs.declared.LineState.TheVariants.{Code}
 use Rattle.hiding_rules.specs.Hidden.{Scanner, hidden_scan}
 use Rattle.hiding_rules.specs.Rows.{line_by, lines_by, broken, hidden_rows}
-use Rattle.hiding_rules.specs.States.{Known, Lead, is_restarted, states_from, line_states, state_behind}
+use Rattle.hiding_rules.specs.States.{states_from, line_states}
+use Rattle.hiding_rules.specs.Known.{Known, Lead, is_restarted, state_behind}
 use Rattle.hiding_rules.proofs.Rows.{length-broken, drop-broken, length-states_from, length-lines_by, line_by-at}
 use Rattle.line_states.specs.Settling.{Borders, known_of, known_lines, settled_marks}
 use Rattle.line_states.proofs.Parts.{Lead-take, Lead-drop}

@@ -9,6 +9,7 @@ use Rattle.chunk_buffers.specs.Chunks.{Extends}
 use Rattle.chunk_buffers.proofs.Spans.{Extends-refl, Extends-trans}
 use Rattle.decoration_rules.specs.Decorations.{Decorations}
 use Rattle.mark_rules.specs.declared.Mark.{Mark}
+use Rattle.mark_rules.specs.Marks.{has_new}
 use Rattle.text_batches.specs.Growth.{HasGrown}
 use Rattle.text_batches.specs.Needs.{need_of_ops}
 use Rattle.model_page.specs.declared.change.Change.{Change}
@@ -24,7 +25,7 @@ use Rattle.model_page.specs.Staying.{StaysWith}
 use Rattle.model_page.specs.Ways.{forces, text_by, changes_by, LeadBy, decorations_by, marked_along}
 use Rattle.model_page.specs.State.{PageState, IsPage, flat_text, CanApply, CanFollow, CanLead, HasRoom, HasSpent, KeepsParse, Renews, is_fresh}
 use Rattle.model_page.proofs.Carries.{carried_with-none}
-use Rattle.model_page.proofs.Staying.{stays_as, stays_applied, clean_where_fresh}
+use Rattle.model_page.proofs.Staying.{stays_as, stays_applied, clean_where_fresh, low_where_fresh}
 use Rattle.text_batches.proofs.Texts.{IsTextAfter, text_before, text_after}
 use Rattle.model_page.proofs.Turns.{IsFit, IsNext}
 
@@ -216,7 +217,9 @@ nothing_to_renew (Ok x) page sound fresh = record {
   same_tree = λ is. refl;
   same_marks = λ is. refl;
   same_states = λ is. refl;
-  asked = λ stale. cc;
+  read = λ stale. cc;
+  begun = λ stale. cc;
+  low = low_where_fresh page.tree page.scanner page.text.units (has_new page.marks) fresh sound.stays.kept;
   lines = clean_where_fresh page.tree page.marks page.states page.scanner page.text.units fresh sound.stays;
   fresh = fresh;
   parsed = tt;
@@ -233,7 +236,9 @@ nothing_to_renew (Err e) page sound fresh = record {
   same_tree = λ is. refl;
   same_marks = λ is. refl;
   same_states = λ is. refl;
-  asked = λ stale. tt;
+  read = λ stale. tt;
+  begun = λ stale. tt;
+  low = tt;
   lines = tt;
   fresh = tt;
   parsed = refl;

@@ -1,9 +1,11 @@
 -- What a parse goes by once the lines of a page are settled.
-use Rattle.std.proofs.Common.{◌≡◌, ℕ, false, Option, List, length, ap, sym, ◌∙◌, subst}
+use Rattle.std.proofs.Common.{◌≡◌, ℕ, ◌+◌, ◌≤◌, ◌^◌, false, Option, List, length, sum, ap, sym, ◌∙◌, subst, arith}
 use Rattle.std.specs.Prelude.{replicate}
 use Rattle.std.proofs.lemmas.List.{length-map}
 use Rattle.text_rules.specs.Lines.{Line, lines_of}
-use Rattle.bracket_tree_rules.specs.Tree.{Tree}
+use Rattle.bracket_tree_rules.specs.Tree.{Tree, highest, weight}
+use Rattle.bracket_tree_rules.specs.Weights.{tree_weights, AreCovered}
+use Rattle.bracket_tree_rules.proofs.LineWeights.{AreCovered-sum, sum-tree_weights}
 use Rattle.hiding_rules.specs.declared.LineState.TheVariants.{Code}
 use Rattle.hiding_rules.specs.Hidden.{Scanner}
 use Rattle.hiding_rules.specs.Marks.{has_block}
@@ -11,7 +13,7 @@ use Rattle.hiding_rules.specs.Rows.{hidden_rows}
 use Rattle.hiding_rules.specs.States.{line_states}
 use Rattle.hiding_rules.proofs.NoBlock.{states_are_code, behind_is_code}
 use Rattle.hiding_rules.proofs.Rows.{length-states_from}
-use Rattle.line_states.specs.Lines.{new_lines}
+use Rattle.line_states.specs.Lines.{new_lines, text_weights}
 use Rattle.line_states.specs.Settling.{Borders, SettledState, settled_marks}
 use Rattle.line_states.proofs.SettledMarks.{length-settled, new_lines-settled, settled_in_code}
 use Rattle.mark_rules.specs.declared.Mark.{Mark}
@@ -21,7 +23,8 @@ use Rattle.node_reuse.specs.Paying as reuse
 use Rattle.node_reuse.specs.Reading.{AgreesIfThere}
 use Rattle.document_rules.specs.Brackets.{line_contents}
 use Rattle.model_page.specs.Counting.{TakesFewSteps}
-use Rattle.model_page.specs.Staying.{BeginInCode, StaysWith, AreSettled, AreStatesOf, lines_to_ask}
+use Rattle.model_page.specs.Asked.{IsLow, lines_to_ask, AreStatesOf}
+use Rattle.model_page.specs.Staying.{BeginInCode, StaysWith, AreSettled}
 use Rattle.model_page.proofs.LastLines.{agrees_if_settled}
 
 as_contents : (x : List ℕ) (marks : List Mark) → length marks ≡ length (lines_of x) → length marks ≡ length (line_contents x)
@@ -73,3 +76,11 @@ pub states_count : (by : Scanner) (x : List ℕ) (marks : List Mark) (states : B
     → length states.begins ≡ length marks
 states_count by x marks states same are =
     ap length are.begins ∙ length-states_from by Code (line_contents x) ∙ sym (as_contents x marks same)
+
+-- a tree that is as light as the lines has no high list
+pub low_where_light : (t : Tree) (x : List ℕ) (contents : List (List ℕ)) → contents ≡ line_contents x → 2 ^ highest t ≤ weight t + 1
+    → AreCovered (tree_weights t) (text_weights contents) → IsLow t x
+low_where_light t x contents same low light =
+    let covered : sum (tree_weights t) ≤ sum (text_weights (line_contents x)) =
+    subst (λ cs. sum (tree_weights t) ≤ sum (text_weights cs)) same (AreCovered-sum (tree_weights t) (text_weights contents) light) in
+    omega (arith, covered, sum-tree_weights t)

@@ -1,5 +1,5 @@
 -- The tree of the last parse stays with the text: after edits, after steps back and on, and after a parse.
-use Rattle.std.proofs.Common.{◌≡◌, ℕ, zero, suc, ◌+◌, ◌-◌, ◌<◌, ◌≤◌, Bool, true, false, cond, List, [], ◌∷◌, length, drop, slice_index_or, Option, Some, None, is_some, refl, ap, sym, subst, ◌∙◌, arith}
+use Rattle.std.proofs.Common.{◌≡◌, ℕ, zero, suc, ◌+◌, ◌-◌, ◌<◌, ◌≤◌, ◌^◌, Bool, true, false, cond, List, [], ◌∷◌, length, drop, sum, slice_index_or, Option, Some, None, is_some, refl, ap, sym, subst, ◌∙◌, arith}
 use Rattle.std.specs.Prelude.{replicate}
 use Rattle.std.proofs.Math.Seq.{drop-cons}
 use Rattle.std.proofs.lemmas.List.{length-map, length-replicate}
@@ -9,17 +9,17 @@ use Rattle.text_rules.specs.Dirty.{first_dirty, old_dirty, new_dirty}
 use Rattle.text_rules.specs.Edits.{edited}
 use Rattle.batch_rules.specs.Batches.{applied_from, StandFrom, edited_backwards}
 use Rattle.batch_rules.proofs.Backwards.{backwards_is_one_pass, backwards_step}
-use Rattle.bracket_rules.specs.Table.{is_table}
 use Rattle.bracket_rules.specs.Rows.{Row}
 use Rattle.bracket_tree_rules.specs.Told.{IsTreeOf}
-use Rattle.bracket_tree_rules.specs.Tree.{Tree, tree_rows, IsTree}
+use Rattle.bracket_tree_rules.specs.Tree.{Tree, tree_rows, highest, IsTree}
 use Rattle.hiding_rules.specs.declared.LineState.{LineState}
 use Rattle.hiding_rules.specs.declared.LineState.TheVariants.{Code}
 use Rattle.hiding_rules.specs.Hidden.{Scanner}
 use Rattle.hiding_rules.specs.Rows.{broken, hidden_rows}
-use Rattle.hiding_rules.specs.States.{Lead}
+use Rattle.hiding_rules.specs.Known.{Lead}
 use Rattle.hiding_rules.proofs.Rows.{length-states_from, length-hidden_rows}
 use Rattle.hiding_rules.proofs.NoBlock.{states_are_code}
+use Rattle.line_states.specs.Lines.{text_weights}
 use Rattle.line_states.specs.Settling.{Borders, borders, known_lines}
 use Rattle.mark_rules.specs.declared.Mark.{Mark}
 use Rattle.mark_rules.specs.declared.Mark.TheVariants.{New}
@@ -41,7 +41,8 @@ use Rattle.model_page.specs.Changes.{ops_by, led, text_back, changes_back, chang
 use Rattle.model_page.specs.Counts.{marking_ops, marking_count}
 use Rattle.model_page.specs.Ways.{changes_by, LeadBy, marked_along}
 use Rattle.model_page.specs.LineMarks.{marked_by, marked_backwards, marks_over, marked_back, marked_on}
-use Rattle.model_page.specs.Staying.{fresh_tree, IsKept, KeptBy, last_lines, StaysWith, AreStatesOf}
+use Rattle.model_page.specs.Staying.{fresh_tree, IsKept, IsTreeNow, last_lines, StaysWith}
+use Rattle.model_page.specs.Asked.{AreStatesOf, KeptBy, HasLowTree}
 use Rattle.model_page.proofs.LastLines.{last_lines_edited, clean_lines, Lead-new, Lead-edited, Lead-clean}
 use Rattle.model_page.proofs.DirtyEdits.{lines_edited, IsEdited-map, length-after}
 use Rattle.model_page.proofs.EditedMarks.{length-edited_marks, has_new-edited, AllNew-replicate, AllNew-edited, clean_where_kept}
@@ -82,8 +83,11 @@ stays_as old_tree tree old_marks marks old_last last by old_text x trees are sta
 
 kept_recast : (tree : Option Tree) (by : Scanner) (x y : List ℕ) → HaveSameContents x y → IsKept tree by x → IsKept tree by y
 kept_recast None by x y same kept = tt
-kept_recast (Some t) by x y same kept =
-    (kept.0, subst (λ (contents : List (List ℕ)). IsTreeOf (hidden_rows by contents) t) same kept.1)
+kept_recast (Some t) by x y same kept = record {
+  table = kept.table;
+  tells = subst (λ (contents : List (List ℕ)). IsTreeOf (hidden_rows by contents) t) same kept.tells;
+  low = subst (λ (contents : List (List ℕ)). 2 ^ highest t ≤ sum (text_weights contents) + 1) same kept.low;
+}
 
 -- of a text whose lines hold the same
 pub stays_recast : (tree : Option Tree) (marks : List Mark) (last : Borders) (by : Scanner) (x y : List ℕ) → HaveSameContents x y
@@ -267,10 +271,9 @@ kept_as n ops old_tree tree before after marks was count trees are old marked =
 
 -- ---- a parse
 
-pub stays_parsed : (t : Tree) (marks : List Mark) (by : Scanner) (x : List ℕ) (states : Borders) → length marks ≡ length (lines_of x) → is_table by.table ≡ true
-    → IsTree t → IsTreeOf (hidden_rows by (line_contents x)) t → IsTight t → AreStatesOf by x states
-    → StaysWith (Some t) (clean_marks (length marks)) states by x
-stays_parsed t marks by x states count rule good tells tight are =
+pub stays_parsed : (t : Tree) (marks : List Mark) (by : Scanner) (x : List ℕ) (states : Borders) → length marks ≡ length (lines_of x)
+    → IsTree t → IsTreeNow t by x → IsTight t → AreStatesOf by x states → StaysWith (Some t) (clean_marks (length marks)) states by x
+stays_parsed t marks by x states count good now tight are =
     let contents : List (List ℕ) = line_contents x in
     let rows : List Row = hidden_rows by contents in
     let as_contents : length contents ≡ length marks = length-map (lines_of x) (λ (line : Line). line.content) ∙ sym count in
@@ -283,12 +286,12 @@ stays_parsed t marks by x states count rule good tells tight are =
         tree = good;
         tight = tight;
         rows = subst (λ now. Agrees (tree_rows t) (clean_marks (length marks)) now) (sym same)
-            (subst (λ old. Agrees old (clean_marks (length marks)) rows) (sym tells.spells) (subst (λ n. Agrees rows (clean_marks n) rows) as_rows (Agrees-clean rows)));
+            (subst (λ old. Agrees old (clean_marks (length marks)) rows) (sym now.tells.spells) (subst (λ n. Agrees rows (clean_marks n) rows) as_rows (Agrees-clean rows)));
       };
       lead = subst (λ n. Lead by (known_lines states (clean_marks n)) contents) as_contents (Lead-clean by contents states are.begins are.ends);
       plain = λ without. are.begins ∙ states_are_code by without contents
           ∙ ap (λ n. replicate n Code) (sym (length-states_from by Code contents)) ∙ sym (ap (λ (begins : List LineState). replicate (length begins) Code) are.begins);
-      kept = the_tree by x (Some t) (has_new (clean_marks (length marks))) (has_new-kept_marks 1 (length marks)) (rule, tells);
+      kept = the_tree by x (Some t) (has_new (clean_marks (length marks))) (has_new-kept_marks 1 (length marks)) now;
     }
 
 clean_if : (tree : Option Tree) (marks : List Mark) (last : Borders) (by : Scanner) (x : List ℕ) (b : Bool) → has_new marks ≡ b
@@ -301,3 +304,10 @@ clean_if (Some t) marks last by x false e some stays = clean_where_kept marks e 
 pub clean_where_fresh : (tree : Option Tree) (marks : List Mark) (last : Borders) (by : Scanner) (x : List ℕ) → is_some (fresh_tree tree marks) ≡ true
     → StaysWith tree marks last by x → marks ≡ clean_marks (length marks)
 clean_where_fresh tree marks last by x some stays = clean_if tree marks last by x (has_new marks) refl some stays
+
+-- ... and no list of it is high
+pub low_where_fresh : (tree : Option Tree) (by : Scanner) (x : List ℕ) (b : Bool) → is_some (cond b None tree) ≡ true → IsKept (cond b None tree) by x
+    → HasLowTree tree x
+low_where_fresh tree by x true some kept = absurd cc
+low_where_fresh None by x false some kept = absurd cc
+low_where_fresh (Some t) by x false some kept = kept.low

@@ -8,7 +8,7 @@ use Rattle.mark_rules.specs.declared.Mark.{Mark}
 use Rattle.reuse_rules.specs.Prices.{all_paired}
 use Rattle.reuse_rules.specs.Ways.{IsOneRun}
 use Rattle.node_reuse.specs.Paying.{token_count, most_steps}
-use Rattle.model_page.specs.Staying.{lines_to_ask}
+use Rattle.model_page.specs.Asked.{lines_to_ask}
 use Rattle.document_rules.specs.Brackets.{line_contents}
 
 -- Where each bracket of the old tree is one of a pair, the lines that are asked for are one run, and their brackets beside

@@ -4,6 +4,7 @@ pub mod Counts
 pub mod Needs
 pub mod Carrying
 pub mod LineMarks
+pub mod Asked
 pub mod Staying
 pub mod TextWeights
 pub mod Counting

@@ -10,6 +10,7 @@ use Rattle.document_rules.specs.Document.{FlatText, Deed, FlatChange, batch, rec
 use Rattle.model_page.specs.declared.change.Change.{Change}
 use Rattle.model_page.specs.declared.change.Change.TheVariants.{Ops, Endings}
 use Rattle.model_page.specs.declared.change.Way.{Way}
+use Rattle.model_page.specs.declared.change.Way.TheVariants.{Back, On}
 use Rattle.model_page.specs.Changes.{ops_by}
 
 -- after an op on text x: the lines that it touches are new, the others stay what they were
@@ -53,3 +54,8 @@ undone_marks marks (step ∷ steps) = marked_back marks step.changes
 abbrev pub redone_marks : List Mark → List (Step FlatChange) → List Mark
 redone_marks marks [] = marks
 redone_marks marks (step ∷ steps) = marked_on marks step.changes
+
+-- the marks after the step that comes next, where there is one
+abbrev pub marked_step : Way → List Mark → List (Step FlatChange) → List Mark
+marked_step Back marks steps = undone_marks marks steps
+marked_step On marks steps = redone_marks marks steps

@@ -16,7 +16,6 @@ use Rattle.document_rules.specs.Document.{FlatText}
 use Rattle.mark_rules.specs.declared.Mark.{Mark}
 use Rattle.mark_rules.specs.declared.Mark.TheVariants.{New}
 use Rattle.mark_rules.specs.Marks.{clean_marks}
-use Rattle.node_reuse.specs.ParsedTree.{ParsedTree}
 use Rattle.text_buffer.specs.Text.{Text}
 use Rattle.text_buffer.specs.Room as text_room
 use Rattle.text_buffer.specs.declared.room.Need.{Need}
@@ -27,7 +26,8 @@ use Rattle.model_page.specs.declared.change.Way.{Way}
 use Rattle.model_page.specs.Changes.{ops_by, text_from}
 use Rattle.model_page.specs.Carrying.{AreIn}
 use Rattle.model_page.specs.Needs.{need_along}
-use Rattle.model_page.specs.Staying.{fresh_tree, HasAsked, StaysWith, lines_to_ask}
+use Rattle.model_page.specs.Asked.{ReadTree, AreStatesOf, HasRead, HasLowTree}
+use Rattle.model_page.specs.Staying.{fresh_tree, StaysWith}
 use Rattle.model_page.specs.Ways.{LeadBy}
 
 pub record PageState : Type 0 where
@@ -35,8 +35,8 @@ pub record PageState : Type 0 where
   pub decorations : Decorations
   -- its brackets, and what hides them
   pub scanner : Scanner
-  -- the last parse, be it of the text of now or of an earlier one: its tree, and how many lines it asked for
-  pub parsed : Option ParsedTree
+  -- the last parse, be it of the text of now or of an earlier one: which lines were read for it
+  pub parsed : Option ReadTree
   -- its bracket tree
   pub tree : Option Tree
   -- what each line of the text of now is to that parse; new, where there was none
@@ -136,8 +136,8 @@ pub record CanLead (way : Way) (page : PageState) (cs : List Change) : Type 0 wh
 -- ---- a parse
 
 -- The tree is that of the text of now, and each line is kept then. The text was parsed where the tree was not its own, and the
--- lines alone that are new or begin in another state were asked for. An error comes only there, and leaves all as it was. Room that
--- was there stays.
+-- lines alone that are new or begin in another state were read. An error comes only there, and leaves all as it was. Room that was
+-- there stays.
 pub record Renews {A E : Type 0} (result : Result A E) (old new : PageState) : Type 0 where
   pub text : new.text ≡ old.text
   pub decorations : new.decorations ≡ old.decorations
@@ -147,8 +147,9 @@ pub record Renews {A E : Type 0} (result : Result A E) (old new : PageState) : T
   pub same_tree : is_fresh old ≡ true → new.tree ≡ old.tree
   pub same_marks : is_fresh old ≡ true → new.marks ≡ old.marks
   pub same_states : is_fresh old ≡ true → new.states ≡ old.states
-  pub asked : is_fresh old ≡ false
-      → OnOk result (HasAsked new.parsed (length (lines_to_ask old.states old.marks old.scanner old.text.units)))
+  pub read : is_fresh old ≡ false → OnOk result (HasRead new.parsed old.states old.marks old.scanner old.text.units)
+  pub begun : is_fresh old ≡ false → OnOk result (AreStatesOf old.scanner old.text.units new.states)
+  pub low : OnOk result (HasLowTree new.tree old.text.units)
   pub lines : OnOk result (new.marks ≡ clean_marks (length old.marks))
   pub fresh : OnOk result (is_fresh new ≡ true)
   pub parsed : OnErr result (new.parsed ≡ old.parsed)

@@ -1,55 +1,44 @@
 -- What a page keeps of the last parse, and when that stays with the text of now.
-use Rattle.std.specs.Prelude.{◌≡◌, ℕ, zero, suc, ◌-◌, Bool, true, false, if◌then◌else◌, List, length, map, replicate, slice_index_or, Option, Some, None, ⊤}
+use Rattle.std.specs.Prelude.{◌≡◌, ℕ, ◌-◌, ◌++◌, true, false, if◌then◌else◌, List, length, map, replicate, slice_index_or, Option, Some, None, ⊤}
 use Rattle.text_rules.specs.Lines.{lines_of}
 use Rattle.bracket_rules.specs.Rows.{Row}
 use Rattle.bracket_rules.specs.Table.{is_table}
 use Rattle.bracket_tree_rules.specs.Told.{IsTreeOf}
 use Rattle.bracket_tree_rules.specs.Tree.{Tree}
-use Rattle.bracket_tree_rules.specs.Weights.{tree_weights, AreCovered}
 use Rattle.hiding_rules.specs.declared.LineState.{LineState}
 use Rattle.hiding_rules.specs.declared.LineState.TheVariants.{Code}
 use Rattle.hiding_rules.specs.Hidden.{Scanner}
 use Rattle.hiding_rules.specs.Marks.{has_block}
 use Rattle.hiding_rules.specs.Rows.{lines_by, broken, hidden_rows}
-use Rattle.hiding_rules.specs.States.{Lead, line_states, state_behind, scanned_lines}
-use Rattle.line_states.specs.Lines.{text_weights}
+use Rattle.hiding_rules.specs.States.{line_states}
+use Rattle.hiding_rules.specs.Known.{Lead, state_behind}
 use Rattle.line_states.specs.Settling.{Borders, SettledState, known_lines, settled_marks}
 use Rattle.mark_rules.specs.declared.Mark.{Mark}
 use Rattle.mark_rules.specs.declared.Mark.TheVariants.{Kept, New}
 use Rattle.mark_rules.specs.Marks.{has_new}
-use Rattle.node_reuse.specs.ParsedTree.{ParsedTree}
 use Rattle.node_reuse.specs.Texts.{IsTight}
 use Rattle.node_reuse.specs.Reading.{AgreesIfThere}
 use Rattle.document_rules.specs.Brackets.{line_contents}
-
--- the tree of a parse, where there was one
-abbrev pub parsed_tree : Option ParsedTree → Option Tree
-parsed_tree None = None
-parsed_tree (Some parsed) = Some parsed.tree
-
--- there is a parse, and it asked for so many lines
-abbrev pub HasAsked : Option ParsedTree → ℕ → Type 0
-HasAsked None lines = ⊥
-HasAsked (Some parsed) lines = parsed.asked ≡ lines
+use Rattle.model_page.specs.Asked.{ReadTree, HasRead, IsLow, lines_to_settle}
 
 -- the tree of the last parse, where no line is new
 abbrev pub fresh_tree : Option Tree → List Mark → Option Tree
 fresh_tree tree marks = if has_new marks then None else tree
 
 -- a tree of the text of now
+pub record IsTreeNow (tree : Tree) (by : Scanner) (x : List ℕ) : Type 0 where
+  pub table : is_table by.table ≡ true
+  pub tells : IsTreeOf (hidden_rows by (line_contents x)) tree
+  pub low : IsLow tree x
+
 abbrev pub IsKept : Option Tree → Scanner → List ℕ → Type 0
 IsKept None by x = ⊤
-IsKept (Some tree) by x = (is_table by.table ≡ true) × IsTreeOf (hidden_rows by (line_contents x)) tree
-
--- so many ops leave no tree of the text of now; none leaves what was there
-abbrev pub KeptBy : ℕ → Bool → Bool → Type 0
-KeptBy zero old new = new ≡ old
-KeptBy (suc ops) old new = new ≡ false
+IsKept (Some tree) by x = IsTreeNow tree by x
 
 -- what contracts see of it
 pub record ParseState : Type 0 where
-  -- its tree, and how many lines it asked for
-  pub parsed : Option ParsedTree
+  pub parsed : Option ReadTree
+  -- its tree
   pub tree : Option Tree
   -- one for each line of the text of now
   pub marks : List Mark
@@ -84,9 +73,9 @@ pub record StaysWith (tree : Option Tree) (marks : List Mark) (last : Borders) (
 
 -- ---- a parse
 
--- the lines that a parse of text x asks for: those that are new, and those that begin in another state than in the last parse
-abbrev pub lines_to_ask : Borders → List Mark → Scanner → List ℕ → List ℕ
-lines_to_ask last marks by x = scanned_lines 1 (known_lines last marks) (line_states by (line_contents x))
+-- to the numbers of the lines that were read come those by which the lines of text x are settled
+abbrev pub ReadsToSettle : ParseState → Scanner → List ℕ → List ℕ → List ℕ → Type 0
+ReadsToSettle p by x old new = new ≡ old ++ lines_to_settle p.states p.marks by x
 
 -- the lines of text x, settled for a parse
 pub record AreSettled (by : Scanner) (x : List ℕ) (last : Borders) (old : List Mark) (settled : SettledState) : Type 0 where
@@ -94,15 +83,8 @@ pub record AreSettled (by : Scanner) (x : List ℕ) (last : Borders) (old : List
   pub ends : settled.states.ends ≡ state_behind by Code (line_contents x)
   pub marks : settled.marks ≡ settled_marks last old (line_states by (line_contents x))
 
--- the states of the lines of text x
-pub record AreStatesOf (by : Scanner) (x : List ℕ) (states : Borders) : Type 0 where
-  pub begins : states.begins ≡ line_states by (line_contents x)
-  pub ends : states.ends ≡ state_behind by Code (line_contents x)
-
--- a parse of text x, which asked for those lines alone
-pub record IsParseOf (by : Scanner) (x : List ℕ) (last : Borders) (marks : List Mark) (parsed : ParsedTree) : Type 0 where
-  pub rule : is_table by.table ≡ true
-  pub tree : IsTreeOf (hidden_rows by (line_contents x)) parsed.tree
-  pub tight : IsTight parsed.tree
-  pub light : AreCovered (tree_weights parsed.tree) (text_weights (line_contents x))
-  pub asked : parsed.asked ≡ length (lines_to_ask last marks by x)
+-- a parse of text x, which read those lines alone
+pub record IsParseOf (by : Scanner) (x : List ℕ) (last : Borders) (marks : List Mark) (parse : ReadTree) : Type 0 where
+  pub now : IsTreeNow parse.parsed.tree by x
+  pub tight : IsTight parse.parsed.tree
+  pub read : HasRead (Some parse) last marks by x

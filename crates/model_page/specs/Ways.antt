@@ -3,14 +3,13 @@ use Rattle.std.specs.Prelude.{ℕ, ◌-◌, Bool, true, false, List, [], ◌∷�
 use Rattle.text_rules.specs.declared.Op.{Op}
 use Rattle.decoration_rules.specs.Decorations.{Decorations}
 use Rattle.mark_rules.specs.declared.Mark.{Mark}
-use Rattle.undo_rules.specs.Stack.{Step}
 use Rattle.document_rules.specs.Document.{FlatText, FlatChange}
 use Rattle.model_page.specs.declared.change.Change.{Change}
 use Rattle.model_page.specs.declared.change.Way.{Way}
 use Rattle.model_page.specs.declared.change.Way.TheVariants.{Back, On}
 use Rattle.model_page.specs.Changes.{ops_by, text_back, text_on, changes_back, changes_on, LeadBack, LeadOn}
 use Rattle.model_page.specs.Carrying.{decorations_back, decorations_on}
-use Rattle.model_page.specs.LineMarks.{marked_back, marked_on, undone_marks, redone_marks}
+use Rattle.model_page.specs.LineMarks.{marked_back, marked_on}
 
 -- whether decorations that an op forces are moved so: on the way back only
 abbrev pub forces : Way → Bool
@@ -41,11 +40,6 @@ decorations_by On d cs = decorations_on d cs
 abbrev pub marked_along : Way → List Mark → List FlatChange → List Mark
 marked_along Back marks changes = marked_back marks changes
 marked_along On marks changes = marked_on marks changes
-
--- the marks after the step that comes next, where there is one
-abbrev pub marked_step : Way → List Mark → List (Step FlatChange) → List Mark
-marked_step Back marks steps = undone_marks marks steps
-marked_step On marks steps = redone_marks marks steps
 
 -- the batches that lead along the changes, in the order in which they are carried out: the last change is taken back first
 abbrev pub batches_by : Way → List Change → List (List Op)

@@ -6,8 +6,10 @@ ghost use Rattle.bracket_rules.specs.Table.{is_table};
 ghost use Rattle.model_page.specs.Counting.{TakesFewSteps};
 ghost use Rattle.model_page.specs.Entries.{entries_in};
 ghost use Rattle.model_page.specs.State.{Renews, is_fresh};
-ghost use Rattle.model_page.specs.Staying.{fresh_tree, AreStatesOf, IsKept, IsParseOf};
+ghost use Rattle.model_page.specs.Asked.{told_parse, AreStatesOf};
+ghost use Rattle.model_page.specs.Staying.{fresh_tree, IsKept, IsParseOf};
 
+use crate::last_parse::ReadParse;
 use crate::page::Page;
 use crate::text_lines::TextLines;
 use bracket_nodes::{Entry, Node};
@@ -19,7 +21,7 @@ use steps::Steps;
 impl Page {
     /// The last parse, be it of the text of now or of an earlier one. None before the first one.
     pub fn parsed(&self) -> Option<&Parsed>
-        ensures { option_copied result ≡ self.now.parsed }
+        ensures { option_copied result ≡ told_parse self.now.parsed }
     {
         self.last.parsed()
     }
@@ -50,8 +52,8 @@ impl Page {
         ensures no_step { is_fresh self.old ≡ true → steps.new ≡ steps.old }
     {
         if !self.is_fresh() {
-            let (parsed, states) = self.parse_again(steps)?;
-            self.last.put(parsed, states);
+            let (parse, states) = self.parse_again(steps)?;
+            self.last.put(parse, states);
         }
         Ok(())
     }
@@ -77,15 +79,15 @@ impl Page {
         if let Some(tree) = self.last.fresh() {
             return tree.entries(from, to, out);
         }
-        let (parsed, states) = self.parse_again(steps)?;
-        parsed.tree().entries(from, to, out)?;
-        self.last.put(parsed, states);
+        let (parse, states) = self.parse_again(steps)?;
+        parse.parsed.tree().entries(from, to, out)?;
+        self.last.put(parse, states);
         Ok(())
     }
 
-    // The parse of the text, with what may be taken over of the last one, and the states of its lines. It asks for the
-    // lines alone that are new or begin in another state. Each call that asks the old text is a step.
-    fn parse_again<L>(&self, steps: &mut Steps<L>) -> Result<(Parsed, LineStates), AllocError>
+    // The parse of the text, with what may be taken over of the last one, and the states of its lines. It reads the lines alone
+    // that are new or begin in another state. Each call that asks the old text is a step.
+    fn parse_again<L>(&self, steps: &mut Steps<L>) -> Result<(ReadParse, LineStates), AllocError>
         ensures parsed { IfOk result (λ new. IsParseOf self.now.scanner self.now.text.units
             self.now.states self.now.marks new.0) }
         ensures states { IfOk result (λ new.
@@ -98,6 +100,12 @@ impl Page {
         let settled = self.last.settle(self.alloc, table, hiding, &mut lines)?;
         let old = self.last.old(self.alloc, &settled);
         let parsed = reparse(self.alloc, old, &settled, table, hiding, &mut lines, steps)?;
-        Ok((parsed, settled.into_states()))
+        // It tells that no list of the tree is high.
+        let _highest = parsed.tree().highest();
+        let parse = ReadParse {
+            parsed,
+            read: lines.asked,
+        };
+        Ok((parse, settled.into_states()))
     }
 }

@@ -12,7 +12,8 @@ ghost use Rattle.document_rules.specs.Brackets.{line_contents};
 ghost use Rattle.hiding_rules.specs.declared.LineState.TheVariants.{Code};
 ghost use Rattle.hiding_rules.specs.Hidden.{scanner};
 ghost use Rattle.line_states.specs.Settling.{borders};
-ghost use Rattle.model_page.specs.Staying.{fresh_tree, AreSettled, StaysWith};
+ghost use Rattle.model_page.specs.Asked.{told_parse};
+ghost use Rattle.model_page.specs.Staying.{fresh_tree, AreSettled, ReadsToSettle, StaysWith};
 
 use crate::text_lines::TextLines;
 use bracket_nodes::Node;
@@ -21,30 +22,48 @@ use line_states::{LineStates, Settled, States};
 use node_reuse::{OldReader, Parsed};
 use std::alloc::{AllocError, Global};
 use std::marker::Model;
+use steps::Trail;
 use text_buffer::TextBuffer;
 use text_lengths::Dirty;
 use unit_text::Kind;
 
+/// A parse, and the lines of the text that were read for it.
+#[derive(Drop)]
+pub(crate) struct ReadParse {
+    pub parsed: Parsed,
+    pub read: Trail,
+}
+
+impl Model for ReadParse {
+    ghost use Rattle.model_page.specs.Asked.{ReadTree, read_tree_code};
+
+    ghost Value = { ReadTree };
+
+    ghost coded = { read_tree_code };
+
+    ghost view = { λ p. record { parsed = p.parsed; read = p.read.numbers } };
+}
+
 /// The last parse, where there was one, and a mark for each line of the text of now.
 #[derive(Drop)]
 pub(crate) struct LastParse {
-    parsed: Option<Parsed>,
+    last: Option<ReadParse>,
     states: States,
 }
 
 impl Model for LastParse {
     ghost use Rattle.std.specs.Coded.{codes};
     ghost use Rattle.bracket_tree_rules.specs.TreeCode.{tree_code};
-    ghost use Rattle.node_reuse.specs.ParsedTree.{parsed_tree_code};
-    ghost use Rattle.model_page.specs.Staying.{parsed_tree, ParseState};
+    ghost use Rattle.model_page.specs.Asked.{parsed_tree, read_tree_code};
+    ghost use Rattle.model_page.specs.Staying.{ParseState};
 
     ghost Value = { ParseState };
 
-    ghost coded = { Prim.hlevel (codes, tree_code, parsed_tree_code) };
+    ghost coded = { Prim.hlevel (codes, tree_code, read_tree_code) };
 
     ghost view = { λ p. record {
-      parsed = p.parsed;
-      tree = parsed_tree p.parsed;
+      parsed = p.last;
+      tree = parsed_tree p.last;
       marks = p.states.marks;
       states = p.states.last;
       spare = p.states.spare;
@@ -60,7 +79,7 @@ impl LastParse {
         ensures states { result.states ≡ borders [] Code }
     {
         LastParse {
-            parsed: None,
+            last: None,
             states: States::new(alloc),
         }
     }
@@ -75,7 +94,7 @@ impl LastParse {
         ensures states { result.states ≡ borders [] Code }
     {
         LastParse {
-            parsed: None,
+            last: None,
             states: States::all_new(alloc, lines),
         }
     }
@@ -123,9 +142,12 @@ impl LastParse {
 
     /// The last parse, where there was one.
     pub(crate) fn parsed(&self) -> Option<&Parsed>
-        ensures { option_copied result ≡ self.now.parsed }
+        ensures { option_copied result ≡ told_parse self.now.parsed }
     {
-        self.parsed.as_ref()
+        match &self.last {
+            Some(last) => Some(&last.parsed),
+            None => None,
+        }
     }
 
     /// The lines of the text of now, settled for a parse. Where no comment goes on from line to line all begin in code: none
@@ -142,6 +164,8 @@ impl LastParse {
         ensures settled { IfOk result (AreSettled (scanner table.now hiding.now) lines.old.lines
             self.now.states self.now.marks) }
         ensures contents { line_contents lines.new.lines ≡ line_contents lines.old.lines }
+        ensures read { OnOk result (ReadsToSettle self.now (scanner table.now hiding.now)
+            lines.old.lines lines.old.asked.numbers lines.new.asked.numbers) }
     {
         if !hiding.has_block() {
             return Ok(self.states.in_code());
@@ -160,27 +184,27 @@ impl LastParse {
     fn tree(&self) -> Option<&Node>
         ensures { option_copied result ≡ self.now.tree }
     {
-        match &self.parsed {
-            Some(parsed) => Some(parsed.tree()),
+        match &self.last {
+            Some(last) => Some(last.parsed.tree()),
             None => None,
         }
     }
 
     /// Puts the parse of the text of now, and the states of its lines, in place of the old ones.
-    pub(crate) fn put(&mut self, parsed: Parsed, states: LineStates)
+    pub(crate) fn put(&mut self, parse: ReadParse, states: LineStates)
         requires { length states.begins ≡ length self.old.marks }
-        ensures parsed { self.new.parsed ≡ Some parsed }
-        ensures tree { self.new.tree ≡ Some parsed.tree }
+        ensures parsed { self.new.parsed ≡ Some parse }
+        ensures tree { self.new.tree ≡ Some parse.parsed.tree }
         ensures marks { self.new.marks ≡ clean_marks (length self.old.marks) }
         ensures states { self.new.states ≡ states }
-        ensures fresh { fresh_tree self.new.tree self.new.marks ≡ Some parsed.tree }
-        ensures rules { IsTree parsed.tree }
+        ensures fresh { fresh_tree self.new.tree self.new.marks ≡ Some parse.parsed.tree }
+        ensures rules { IsTree parse.parsed.tree }
         ensures room { self.old.spare ≤ self.new.spare }
     {
         // It tells that the tree meets the rules of nodes.
-        let _length = parsed.tree().length();
+        let _length = parse.parsed.tree().length();
         self.states.adopt(states);
-        self.parsed = Some(parsed);
+        self.last = Some(parse);
     }
 }
 

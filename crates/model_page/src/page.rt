@@ -37,12 +37,12 @@ pub struct Page {
 impl Model for Page {
     ghost use Rattle.std.specs.Coded.{codes};
     ghost use Rattle.bracket_tree_rules.specs.TreeCode.{tree_code};
-    ghost use Rattle.node_reuse.specs.ParsedTree.{parsed_tree_code};
+    ghost use Rattle.model_page.specs.Asked.{read_tree_code};
     ghost use Rattle.model_page.specs.State.{PageState, IsPage};
 
     ghost Value = { PageState };
 
-    ghost coded = { Prim.hlevel (codes, tree_code, parsed_tree_code) };
+    ghost coded = { Prim.hlevel (codes, tree_code, read_tree_code) };
 
     ghost use Rattle.model_page.specs.View.{page_of};
 

@@ -11,7 +11,7 @@ use text_buffer::{LineReader, TextBuffer};
 #[derive(Drop)]
 pub(crate) struct TextLines<'t> {
     lines: LineReader<'t>,
-    asked: Trail,
+    pub asked: Trail,
     ghost small: { length lines < 2 ^ 62 },
 }
 

@@ -7,7 +7,8 @@ use Rattle.text_lengths.specs.Length.{length_of}
 use Rattle.bracket_rules.specs.declared.Token.{Token}
 use Rattle.bracket_rules.specs.declared.TheConstants.{MOST_OPEN}
 use Rattle.bracket_rules.specs.Table.{is_table, AreInLine}
-use Rattle.bracket_rules.specs.Rows.{Row, HasRow, row, empty_row, glue}
+use Rattle.bracket_rules.specs.Rows.{Row, row}
+use Rattle.bracket_rules.specs.TextRows.{HasRow, empty_row, glue}
 use Rattle.hiding_rules.specs.declared.LineState.TheVariants.{Code}
 use Rattle.hiding_rules.specs.Hidden.{Scanner, hidden_scan}
 use Rattle.hiding_rules.specs.States.{line_states}

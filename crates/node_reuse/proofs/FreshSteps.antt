@@ -8,7 +8,8 @@ use Rattle.text_lengths.proofs.Lengths.{same_length}
 use Rattle.bracket_rules.specs.declared.Token.{Token}
 use Rattle.bracket_rules.specs.declared.TheConstants.{MOST_OPEN}
 use Rattle.bracket_rules.specs.Table.{token, AreInLine}
-use Rattle.bracket_rules.specs.Rows.{Row, HasRow, row, empty_row, shifted, glue}
+use Rattle.bracket_rules.specs.Rows.{Row, row}
+use Rattle.bracket_rules.specs.TextRows.{HasRow, empty_row, shifted, glue}
 use Rattle.bracket_tree_rules.specs.Tree.{text, wide, bracket_row}
 use Rattle.bracket_tree_rules.specs.Places.{IsBounded, rows_from}
 use Rattle.bracket_tree_rules.proofs.Glue.{empty_glue}

@@ -7,7 +7,8 @@ use Rattle.text_lengths.specs.Length.{length_of, no_length, length_plus}
 use Rattle.text_lengths.proofs.Lengths.{none_plus}
 use Rattle.bracket_rules.specs.declared.TheConstants.{MOST_OPEN, MOST_PAIRS}
 use Rattle.bracket_rules.specs.Parse.{Bracket, bracket}
-use Rattle.bracket_rules.specs.Rows.{Row, empty_row}
+use Rattle.bracket_rules.specs.Rows.{Row}
+use Rattle.bracket_rules.specs.TextRows.{empty_row}
 use Rattle.bracket_tree_rules.specs.Tree.{Tree, text, pair, stray, capped, nothing, two, three, wide, bracket_row, tree_length, tree_tokens, closing_brackets, inside_start, inside_end, IsTree, IsWidth}
 use Rattle.bracket_tree_rules.specs.Weights.{glue_weights, tree_weights, AreCovered}
 use Rattle.bracket_tree_rules.specs.Places.{IsAmong, HasBracket, IsEdge, at_text, at_bracket, at_end, rows_from}

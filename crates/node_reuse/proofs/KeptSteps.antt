@@ -5,7 +5,8 @@ use Rattle.std.proofs.lemmas.Bool.{lt-ltb}
 use Rattle.text_lengths.specs.declared.Length.{Length}
 use Rattle.text_lengths.specs.Length.{length_of, no_length, length_plus}
 use Rattle.text_lengths.proofs.Lengths.{same_length}
-use Rattle.bracket_rules.specs.Rows.{Row, HasRow, empty_row, glue, rows_length}
+use Rattle.bracket_rules.specs.Rows.{Row}
+use Rattle.bracket_rules.specs.TextRows.{HasRow, empty_row, glue, rows_length}
 use Rattle.bracket_tree_rules.specs.Tree.{Tree, tree_rows, tree_length}
 use Rattle.bracket_tree_rules.specs.Weights.{glue_weights, tree_weights, AreCovered}
 use Rattle.bracket_tree_rules.specs.Places.{HasNode, MayBeTaken, rows_from, lines_touched}

@@ -6,7 +6,8 @@ use Rattle.std.proofs.lemmas.Bool.Decides.{nat_tests}
 use Rattle.std.proofs.lemmas.List.{drop-drop, length-drop, get_or-drop}
 use Rattle.text_lengths.specs.declared.Length.{Length}
 use Rattle.text_lengths.specs.Length.{length_of, no_length}
-use Rattle.bracket_rules.specs.Rows.{Row, rows_length}
+use Rattle.bracket_rules.specs.Rows.{Row}
+use Rattle.bracket_rules.specs.TextRows.{rows_length}
 use Rattle.bracket_tree_rules.specs.Tree.{Tree, tree_rows, tree_length}
 use Rattle.bracket_tree_rules.proofs.Glue.{rows_length-tree, HasRow-tree_rows}
 use Rattle.mark_rules.specs.declared.Mark.{Mark}

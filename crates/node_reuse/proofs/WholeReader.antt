@@ -2,7 +2,8 @@
 use Rattle.std.proofs.Common.{◌≡◌, ℕ, ◌-◌, ◌<◌, ◌≤◌, ◌^◌, Bool, true, false, Option, Some, None, List, [], ◌∷◌, length, drop, sum, refl, ap, sym, ◌∙◌, subst, arith}
 use Rattle.std.specs.Prelude.{slice_index}
 use Rattle.text_lengths.specs.Length.{no_length}
-use Rattle.bracket_rules.specs.Rows.{Row, HasRow}
+use Rattle.bracket_rules.specs.Rows.{Row}
+use Rattle.bracket_rules.specs.TextRows.{HasRow}
 use Rattle.bracket_rules.specs.Table.{is_table}
 use Rattle.hiding_rules.specs.Hidden.{Scanner}
 use Rattle.hiding_rules.specs.Rows.{hidden_rows}

@@ -3,7 +3,7 @@ use Rattle.std.specs.Prelude.{◌≡◌, true, false, [], ◌∷◌, refl}
 use Rattle.text_lengths.specs.Length.{length_of}
 use Rattle.mark_rules.specs.Marks.{clean_marks, edited_marks}
 use Rattle.bracket_rules.specs.Table.{standard_table}
-use Rattle.bracket_rules.specs.Rows.{text_rows}
+use Rattle.bracket_rules.specs.TextRows.{text_rows}
 use Rattle.bracket_tree_rules.specs.Tree.{Tree, text, two, tree_rows}
 use Rattle.bracket_tree_rules.specs.Weights.{tree_weights}
 use Rattle.line_states.specs.Lines.{text_weights, new_lines}

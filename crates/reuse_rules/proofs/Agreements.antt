@@ -1,7 +1,8 @@
 -- What is taken of an old text stands in the text of now, as far as its lines are kept.
 use Rattle.std.proofs.Common.{◌≡◌, ℕ, zero, suc, ◌-◌, ◌<◌, ◌≤◌, List, [], ◌∷◌, refl, ap, sym, ◌∙◌, subst, arith}
 use Rattle.bracket_rules.specs.declared.Token.{Token}
-use Rattle.bracket_rules.specs.Rows.{HasRow, Row, row, empty_row, joined_row, glue, rows_length}
+use Rattle.bracket_rules.specs.Rows.{Row, row}
+use Rattle.bracket_rules.specs.TextRows.{HasRow, empty_row, joined_row, glue, rows_length}
 use Rattle.bracket_tree_rules.specs.Places.{AreBefore, IsBounded, lines_touched, touched}
 use Rattle.bracket_tree_rules.proofs.Glue.{HasRow-glue, empty_glue}
 use Rattle.reuse_rules.specs.Agreement.{Alike, GoOnAlike}

@@ -3,7 +3,8 @@ use Rattle.std.proofs.Common.{◌≡◌, ℕ, zero, suc, ◌+◌, ◌-◌, ◌<�
 use Rattle.std.specs.Prelude.{slice_index_or, replicate}
 use Rattle.std.proofs.lemmas.Bool.{cases_lt}
 use Rattle.std.proofs.lemmas.List.{length-drop, length-take, length-append, length-replicate, drop-drop, get_or-drop, get_or-take, get_or_append_left, get_or-append_right}
-use Rattle.bracket_rules.specs.Rows.{Row, empty_row}
+use Rattle.bracket_rules.specs.Rows.{Row}
+use Rattle.bracket_rules.specs.TextRows.{empty_row}
 use Rattle.hiding_rules.specs.Rows.{broken}
 use Rattle.hiding_rules.proofs.Rows.{length-broken, drop-broken}
 use Rattle.mark_rules.specs.declared.Mark.{Mark}

@@ -2,7 +2,8 @@
 use Rattle.std.specs.Prelude.{◌≡◌, ℕ, List, drop}
 use Rattle.text_lengths.specs.declared.Length.{Length}
 use Rattle.text_lengths.specs.Length.{length_of, no_length}
-use Rattle.bracket_rules.specs.Rows.{HasRow, Row, glue, rows_length}
+use Rattle.bracket_rules.specs.Rows.{Row}
+use Rattle.bracket_rules.specs.TextRows.{HasRow, glue, rows_length}
 use Rattle.bracket_tree_rules.specs.Tree.{Tree, tree_rows}
 use Rattle.bracket_tree_rules.specs.Places.{IsEdge, IsBounded, rows_from}
 use Rattle.mark_rules.specs.declared.Mark.{Mark}

@@ -11,7 +11,8 @@ use Rattle.sessions.specs.declared.session.Session.{Session}
 use Rattle.session_rules.specs.Session.{FlatSession}
 use Rattle.sessions.specs.Standing.{Turns, Replied}
 use Rattle.session_rules.specs.Script.{cut, is_refused, whole_lines, all_lines, written, IsInOneLine, Turn, Transcript}
-use Rattle.script_runner.specs.Progress.{IsLineSoFar, refusals, memory_refusals, Led, Went, Broken, Broke, LineAnswered, LineBroken, PieceAnswered, PieceBroken}
+use Rattle.script_runner.specs.Runs.{refusals, memory_refusals, CutReplies}
+use Rattle.script_runner.specs.Progress.{IsLineSoFar, Counted, Led, Went, Broke, Broken, LineAnswered, LineBroken, lines_with, PieceAnswered}
 use Rattle.session_rules.specs.Step.{memory_reply}
 use Rattle.session_rules.proofs.CutLemmas.{cut-append_line, cut-append_break, length-all_lines}
 
@@ -54,12 +55,12 @@ few_memory_refusals start script replies end t =
 pub Led-start : (start : Session) (progress : Progress) → IsLineSoFar progress.line [] → progress.refused ≡ 0 → progress.memory ≡ 0
     → Led start [] [] start progress
 Led-start start progress line refused memory = record {
-  replies = [];
-  transcript = Replied-nothing start;
-  out_is = refl;
+  counted = record {
+    whole = record { replies = []; answers = Replied-nothing start; bytes_are = refl };
+    refused_is = refused;
+    memory_is = memory;
+  };
   line = line;
-  refused = refused;
-  memory = memory;
 }
 
 pub Went-nothing : (state : Session) (progress : Progress) → Went state progress [] [] state progress
@@ -71,7 +72,8 @@ module _ (state state' state'' : Session) (progress progress' progress'' : Progr
   Went-append first second start read out led =
       rw (← append_assoc read x y, ← append_assoc out a b) (second start (read ++ x) (out ++ a) (first start read out led))
 
-  pub Broke-append : Went state progress x a state' progress' → Broke state' progress' y b state'' → Broke state progress (x ++ y) (a ++ b) state''
+  pub Broke-append : Went state progress x a state' progress' → Broke (lines_with y) state' progress' b state''
+      → Broke (lines_with (x ++ y)) state progress (a ++ b) state''
   Broke-append first second start read out led =
       rw (← append_assoc read x y, ← append_assoc out a b) (second start (read ++ x) (out ++ a) (first start read out led))
 
@@ -81,12 +83,8 @@ pub Went-line : (state : Session) (progress progress' : Progress) (bytes : List 
     → progress'.refused ≡ progress.refused → progress'.memory ≡ progress.memory
     → Went state progress bytes [] state progress'
 Went-line state progress progress' bytes one line refused memory start read out led = record {
-  replies = led.replies;
-  transcript = rw (ap (λ c. c.ended) (cut-append_line read bytes one)) led.transcript;
-  out_is = append-nil out ∙ led.out_is;
+  counted = rw (ap (λ c. c.ended) (cut-append_line read bytes one), append-nil out, refused, memory) led.counted;
   line = rw (ap (λ c. c.rest) (cut-append_line read bytes one)) (line _ led.line);
-  refused = refused ∙ led.refused;
-  memory = memory ∙ led.memory;
 }
 
 -- ---- the end of a line
@@ -101,44 +99,56 @@ rest-break : (read end : List ℕ) → (cut (read ++ (end ++ 10 ∷ []))).rest �
 rest-break read end =
     ap (λ x. (cut x).rest) (sym (append_assoc read end (10 ∷ []))) ∙ ap (λ c. c.rest) (cut-append_break (read ++ end) [])
 
-pub counted_more : (n m a : ℕ) → n ≡ min a greatest_count → min (n + m) greatest_count ≡ min (a + m) greatest_count
+counted_more : (n m a : ℕ) → n ≡ min a greatest_count → min (n + m) greatest_count ≡ min (a + m) greatest_count
 counted_more n m a is = omega arith
+
+-- one line more
+pub Counted-push : (start : Session) (lines : List (List ℕ)) (out : List ℕ) (mid : Session) (refused memory : ℕ)
+    (line reply : List ℕ) (end : Session) (refused' memory' : ℕ) → Counted start lines out mid refused memory → Turns mid line reply end
+    → refused' ≡ min (refused + refusals (reply ∷ [])) greatest_count → memory' ≡ min (memory + memory_refusals (reply ∷ [])) greatest_count
+    → Counted start (lines ++ line ∷ []) (out ++ reply) end refused' memory'
+Counted-push start lines out mid refused memory line reply end refused' memory' before turn more_refused more_memory = record {
+  whole = record {
+    replies = before.whole.replies ++ reply ∷ [];
+    answers = Replied-push start lines before.whole.replies mid line reply end before.whole.answers turn;
+    bytes_are = rw (before.whole.bytes_are, flat_map-append) (ap (λ x. written before.whole.replies ++ x) (sym (append-nil reply)));
+  };
+  refused_is = more_refused ∙ counted_more refused _ (refusals before.whole.replies) before.refused_is
+      ∙ ap (λ n. min n greatest_count) (sym (sum_by-append _ before.whole.replies (reply ∷ [])));
+  memory_is = more_memory ∙ counted_more memory _ (memory_refusals before.whole.replies) before.memory_is
+      ∙ ap (λ n. min n greatest_count) (sym (sum_by-append _ before.whole.replies (reply ∷ [])));
+}
 
 module _ (end : List ℕ) (state state' : Session) (progress progress' : Progress) (out out' : SinkState) where
   pub Went-break : IsInOneLine end → (answered : LineAnswered end state progress state' progress' out out')
       → Went state progress (end ++ 10 ∷ []) answered.reply state' progress'
   Went-break one answered start read written_so_far led = record {
-    replies = led.replies ++ answered.reply ∷ [];
-    transcript = rw (ended-break read end [] one) (Replied-push _ _ _ _ _ _ _ led.transcript (answered.turn _ led.line));
-    out_is = rw (led.out_is, flat_map-append) (ap (λ x. written led.replies ++ x) (sym (append-nil answered.reply)));
+    counted = rw (ended-break read end [] one)
+        (Counted-push _ _ _ _ _ _ _ _ _ _ _ led.counted (answered.turn _ led.line) answered.refused answered.memory);
     line = rw (rest-break read end) answered.line;
-    refused = answered.refused ∙ counted_more progress.refused _ (refusals led.replies) led.refused
-        ∙ ap (λ n. min n greatest_count) (sym (sum_by-append _ led.replies (answered.reply ∷ [])));
-    memory = answered.memory ∙ counted_more progress.memory _ (memory_refusals led.replies) led.memory
-        ∙ ap (λ n. min n greatest_count) (sym (sum_by-append _ led.replies (answered.reply ∷ [])));
   }
 
   -- the reply to the line that ends here broke off
   pub broken_at : (broken : LineBroken end state progress state' out out') (start : Session) (read before : List ℕ) (lines others : List (List ℕ))
       → lines ≡ whole_lines read ++ ((cut read).rest ++ end) ∷ others → Led start read before state progress
-      → Broken start lines (before ++ broken.sink.front) state'
+      → CutReplies Replied start lines (before ++ broken.sink.front) state'
   broken_at broken start read before lines others lines_are led = record {
     done = whole_lines read;
     line = (cut read).rest ++ end;
     others = others;
     lines_are = lines_are;
-    replies = led.replies;
+    replies = led.counted.whole.replies;
     mid = state;
-    transcript = led.transcript;
+    answers = led.counted.whole.answers;
     reply = broken.reply;
-    turn = broken.turn _ led.line;
+    last = Replied-push state [] [] state _ broken.reply state' (Replied-nothing state) (broken.turn _ led.line);
     front = broken.sink.front;
     starts = broken.sink.starts;
-    out_is = ap (λ x. x ++ broken.sink.front) led.out_is;
+    bytes_are = ap (λ x. x ++ broken.sink.front) led.counted.whole.bytes_are;
   }
 
   pub Broke-break : IsInOneLine end → (after : List ℕ) (broken : LineBroken end state progress state' out out')
-      → Broke state progress (end ++ 10 ∷ after) broken.sink.front state'
+      → Broke (lines_with (end ++ 10 ∷ after)) state progress broken.sink.front state'
   Broke-break one after broken start read written_so_far led =
       broken_at broken start read written_so_far _ (whole_lines after) (ended-break read end after one) led
 
@@ -178,7 +188,7 @@ module _ (piece rest : List ℕ) (state : Session) (progress : Progress) (mid : 
   }
 
   pub piece_broken : (after : List ℕ) (state' : Session) (out'' : SinkState) → rest ≡ line ++ 10 ∷ after
-      → LineBroken line mid progress' state' out' out'' → PieceBroken piece state progress state' out out''
+      → LineBroken line mid progress' state' out' out'' → Broken (lines_with piece) state progress state' out out''
   piece_broken after state' out'' parts broken = record {
     added = before.added ++ broken.sink.front;
     broke = rw (before.whole, parts)

@@ -15,7 +15,7 @@ use Rattle.sessions.specs.declared.session.Session.{Session}
 use Rattle.session_rules.specs.Session.{new_session}
 use Rattle.sessions.specs.Standing.{StandsFor}
 use Rattle.session_rules.specs.Script.{all_lines, written, Transcript}
-use Rattle.script_runner.specs.Serving.{Serves, ServedAll}
+use Rattle.script_runner.specs.Serving.{Serves}
 use Rattle.script_runner.specs.Runs.{most_script_bytes}
 use Rattle.script_runner.specs.Playing.{SumsUp, HasEnded}
 use Rattle.script_runner.proofs.RunLemmas.{whole_script}
@@ -35,11 +35,11 @@ module _ (most : ℕ) (start end : Session) (src src' : SourceState) (out out' :
   -- a script within the limit is read to its end where no read and no write fails
   has_ended : (served : Served) → Serves served most start end src src' out out' → HasEnded served
   has_ended (Ended refused memory) served = tt
-  has_ended ReadFault served = never_rose src.faults src'.faults no_read_fault served.source_faults
-  has_ended WriteFault served = never_rose out.faults out'.faults no_write_fault served.sink_faults
+  has_ended ReadFault served = never_rose src.faults src'.faults no_read_fault served.leaves.2
+  has_ended WriteFault served = never_rose out.faults out'.faults no_write_fault served.leaves.2
   has_ended TooLong served =
       let within = gave_within src'.left all served.script (subst (λ l. Gave l src'.left served.script) left served.gave) in
-      absurd (omega (arith, within, served.most_is))
+      absurd (omega (arith, within, served.leaves.0))
 
 short_script : (count seed : ℕ) → IsCount count → length (script count seed) < most_script_bytes
 short_script count seed few = omega (arith, length-script count seed)
@@ -53,9 +53,13 @@ module _ (count seed : ℕ) (start end : Session) (new : StandsFor start new_ses
       none refl served serves
 
   module _ (refused : ℕ) (fresh : before ≡ no_tally)
-      (served : ServedAll most_script_bytes start end src src' (tally_sink before) (tally_sink after) refused 0) where
+      (served : Serves (Ended refused 0) most_script_bytes start end src src' (tally_sink before) (tally_sink after)) where
+    abbrev replies : List (List ℕ)
+    replies = served.writes.0.replies
+
     whole : served.script ≡ script count seed
-    whole = whole_script src'.left (script count seed) served.script (subst (λ l. Gave l src'.left served.script) left served.gave) served.nothing_left
+    whole = whole_script src'.left (script count seed) served.script
+        (subst (λ l. Gave l src'.left served.script) left served.gave) served.leaves.2
 
     count_before : before.count ≡ 0
     count_before = ap (λ t. t.count) fresh
@@ -63,31 +67,32 @@ module _ (count seed : ℕ) (start end : Session) (new : StandsFor start new_ses
     sum_before : before.sum ≡ 0
     sum_before = ap (λ t. t.sum) fresh
 
-    tally : Some after ≡ Some (tally_after before (written served.replies))
-    tally = served.wrote.tally before refl (record { count = omega (arith, count_before); sum = omega (arith, sum_before) })
+    tally : Some after ≡ Some (tally_after before (written replies))
+    tally = rw (← served.writes.0.bytes_are)
+        (served.wrote.tally before refl (record { count = omega (arith, count_before); sum = omega (arith, sum_before) }))
 
-    tally_is : after ≡ tally_after before (written served.replies)
+    tally_is : after ≡ tally_after before (written replies)
     tally_is = let told = tally in cc
 
-    count_is : after.count ≡ length (written served.replies) % 2 ^ 32
-    count_is = let counted : after.count ≡ (before.count + length (written served.replies)) % 2 ^ 32 = ap (λ t. t.count) tally_is in
+    count_is : after.count ≡ length (written replies) % 2 ^ 32
+    count_is = let counted : after.count ≡ (before.count + length (written replies)) % 2 ^ 32 = ap (λ t. t.count) tally_is in
         omega (arith, counted, count_before)
 
-    sum_is : after.sum ≡ sum (written served.replies) % 2 ^ 32
-    sum_is = let summed : after.sum ≡ (before.sum + sum (written served.replies)) % 2 ^ 32 = ap (λ t. t.sum) tally_is in
+    sum_is : after.sum ≡ sum (written replies) % 2 ^ 32
+    sum_is = let summed : after.sum ≡ (before.sum + sum (written replies)) % 2 ^ 32 = ap (λ t. t.sum) tally_is in
         omega (arith, summed, sum_before)
 
     sums_up : (s : Summary) (f : FlatState) → doc_in (documents end.group) 0 ≡ f → s.count ≡ count → s.refused ≡ refused → s.units ≡ length f.units
         → s.lines ≡ flat_line_count f → s.bytes ≡ after.count → s.total ≡ after.sum → SumsUp s count seed
     sums_up s f is count_kept refused_kept units lines bytes total =
-        let told = served.transcript.told new_session new in
+        let told = served.writes.0.answers.told new_session new in
         let here : f ≡ doc_in told.0.documents 0 = sym (ap (λ g. doc_in g 0) told.2.documents ∙ is) in record {
-          replies = served.replies;
+          replies = replies;
           end = told.0;
-          transcript = subst (λ x. Transcript new_session (all_lines x) served.replies told.0) whole told.1;
-          had_memory = sym served.memory_is;
+          transcript = subst (λ x. Transcript new_session (all_lines x) replies told.0) whole told.1;
+          had_memory = sym served.writes.2;
           count_is = count_kept;
-          refused_is = refused_kept ∙ served.refused_is;
+          refused_is = refused_kept ∙ served.writes.1;
           units_are = units ∙ ap (λ (f : FlatState). length f.units) here;
           lines_are = lines ∙ ap flat_line_count here;
           bytes_are = bytes ∙ count_is;

@@ -10,26 +10,73 @@ use Rattle.script_runner.specs.declared.serving.Served.{Served}
 use Rattle.script_runner.specs.declared.serving.Served.TheVariants.{Ended, ReadFault, WriteFault, TooLong}
 use Rattle.sessions.specs.declared.session.Session.{Session}
 use Rattle.session_rules.specs.Session.{FlatSession, new_session}
-use Rattle.sessions.specs.Standing.{StandsFor}
 use Rattle.session_rules.specs.Script.{all_lines, written, is_refused, Transcript}
-use Rattle.script_runner.specs.Progress.{refusals}
-use Rattle.script_runner.specs.Serving.{Serves, ServedAll}
-use Rattle.script_runner.specs.Runs.{most_script_bytes, status_after, EndsWith, Runs, IsAnswered, IsTold}
+use Rattle.sessions.specs.Standing.{Replied, StandsFor}
+use Rattle.script_runner.specs.Serving.{Serves, status_after}
+use Rattle.script_runner.specs.Runs.{most_script_bytes, refusals, WholeReplies, WritesBy, ServesBy, ServesNew, EndsWith, Runs, IsAnswered, IsTold}
+
+-- ---- from a session to the flat one that it stands for
+
+module _ (start end : Session) (flat : FlatSession) (stands : StandsFor start flat) where
+  whole_flat : (lines : List (List ℕ)) (bytes : List ℕ) → WholeReplies Replied start lines bytes end
+      → (next : FlatSession) × WholeReplies Transcript flat lines bytes next
+  whole_flat lines bytes whole =
+      let told = whole.answers.told flat stands in
+      (told.0, record { replies = whole.replies; answers = told.1; bytes_are = whole.bytes_are })
+
+  writes_flat : (served : Served) (ended : Bool) (script bytes : List ℕ) → WritesBy Replied served start ended script bytes end
+      → (next : FlatSession) × WritesBy Transcript served flat ended script bytes next
+  writes_flat (Ended refused memory) ended script bytes (whole, counted, for_memory) =
+      let told = whole.answers.told flat stands in
+      (told.0, (record { replies = whole.replies; answers = told.1; bytes_are = whole.bytes_are }, counted, for_memory))
+  writes_flat ReadFault ended script bytes whole = whole_flat _ bytes whole
+  writes_flat TooLong ended script bytes whole = whole_flat _ bytes whole
+  writes_flat WriteFault ended script bytes cut =
+      let was = cut.answers.told flat stands in
+      let now = cut.last.told was.0 was.2 in (
+        now.0,
+        record {
+          done = cut.done;
+          line = cut.line;
+          others = cut.others;
+          lines_are = cut.lines_are;
+          replies = cut.replies;
+          mid = was.0;
+          answers = was.1;
+          reply = cut.reply;
+          last = now.1;
+          front = cut.front;
+          starts = cut.starts;
+          bytes_are = cut.bytes_are;
+        },
+      )
 
 module _ (src src' : SourceState) (out out' : SinkState) where
-  runs_after_end : (refused memory : ℕ) (start end : Session) → StandsFor start new_session
-      → ServedAll most_script_bytes start end src src' out out' refused memory → Runs (status_after (Ended refused memory)) src src' out out'
-  runs_after_end zero memory start end new served = record { memory = memory; start = start; end = end; new = new; served = served }
-  runs_after_end (suc more) memory start end new served =
-      rw (lt-ltb 0 (suc more) (omega arith)) (more, record { memory = memory; start = start; end = end; new = new; served = served })
+  pub serves_new : (served : Served) (start end : Session) → StandsFor start new_session
+      → Serves served most_script_bytes start end src src' out out' → ServesNew served src src' out out'
+  serves_new served start end new serves =
+      let flat = writes_flat start end new_session new served src'.ended serves.script serves.bytes serves.writes in (
+        flat.0,
+        record {
+          script = serves.script;
+          gave = serves.gave;
+          given = serves.given;
+          bytes = serves.bytes;
+          writes = flat.1;
+          wrote = serves.wrote;
+          leaves = serves.leaves;
+        },
+      )
 
   -- the status after serving tells what stands
-  pub runs_after : (served : Served) (start end : Session) → StandsFor start new_session
-      → Serves served most_script_bytes start end src src' out out' → Runs (status_after served) src src' out out'
-  runs_after (Ended refused memory) start end new served = runs_after_end refused memory start end new served
-  runs_after ReadFault start end new served = (start, end, new, served)
-  runs_after WriteFault start end new served = (start, end, new, served)
-  runs_after TooLong start end new served = (start, end, new, served)
+  pub runs_after : (served : Served) → ServesNew served src src' out out' → Runs (status_after served) src src' out out'
+  runs_after (Ended zero memory) served = (memory, served)
+  runs_after (Ended (suc more) memory) served = rw (lt-ltb 0 (suc more) (omega arith)) (more, memory, served)
+  runs_after ReadFault served = served
+  runs_after WriteFault served = served
+  runs_after TooLong served = served
+
+-- ---- whether a reply begins with `!`
 
 -- a reply begins with `!` where some are counted
 counted : (here : Bool) (n : ℕ) (more : Bool) → (n ≡ 0 → more ≡ false) → (0 < n → more ≡ true)
@@ -56,28 +103,27 @@ pub record IsWritten (script : List ℕ) (out out' : SinkState) (number : ℕ) :
   pub wrote : Wrote out out' (written replies)
 
 module _ (src src' : SourceState) (out out' : SinkState) (script : List ℕ) (left : src.left ≡ Some script) where
-  written_is : (number refused memory : ℕ) (start end : Session) → StandsFor start new_session
-      → ServedAll most_script_bytes start end src src' out out' refused memory
+  written_is : (number refused memory : ℕ) (end : FlatSession)
+      → ServesBy Transcript (Ended refused memory) most_script_bytes new_session end src src' out out'
       → ((replies : List (List ℕ)) → refused ≡ refusals replies → number ≡ cond (list_any is_refused replies) 1 0) → IsWritten script out out' number
-  written_is number refused memory start end new served status =
-      let whole = whole_script src'.left script served.script (subst (λ left. Gave left src'.left served.script) left served.gave) served.nothing_left in
-      let told = served.transcript.told new_session new in
+  written_is number refused memory end served status =
+      let all = whole_script src'.left script served.script
+      (subst (λ left. Gave left src'.left served.script) left served.gave) served.leaves.2 in
+      let whole = served.writes.0 in
       record {
-        replies = served.replies;
-        end = told.0;
-        transcript = subst (λ x. Transcript new_session (all_lines x) served.replies told.0) whole told.1;
-        status = status served.replies served.refused_is;
-        wrote = served.wrote;
+        replies = whole.replies;
+        end = end;
+        transcript = subst (λ x. Transcript new_session (all_lines x) whole.replies end) all whole.answers;
+        status = status whole.replies served.writes.1;
+        wrote = subst (λ x. Wrote out out' x) whole.bytes_are served.wrote;
       }
 
   -- a run that ends with 0 or 1 answered the whole script
   pub written_from_run : (number : ℕ) → number ≤ 1 → EndsWith number (λ s. Runs s src src' out out') → IsWritten script out out' number
-  written_from_run number few (status.Answered, is, answers) =
-      written_is number 0 answers.memory answers.start answers.end answers.new answers.served
-      (λ replies none. is ∙ sym (rw ((any_refused replies).0 (sym none)) refl))
-  written_from_run number few (status.Refused, is, (more, answers)) =
-      written_is number (suc more) answers.memory answers.start answers.end answers.new answers.served
-      (λ replies some. is ∙ sym (rw ((any_refused replies).1 (omega arith)) refl))
+  written_from_run number few (status.Answered, is, (memory, (end, served))) =
+      written_is number 0 memory end served (λ replies none. is ∙ sym (rw ((any_refused replies).0 (sym none)) refl))
+  written_from_run number few (status.Refused, is, (more, memory, (end, served))) =
+      written_is number (suc more) memory end served (λ replies some. is ∙ sym (rw ((any_refused replies).1 (omega arith)) refl))
   written_from_run number few (status.Usage, is, never) = absurd never
   written_from_run number few (status.Memory, is, same) = absurd (omega arith)
   written_from_run number few (status.ReadFault, is, fault) = absurd (omega arith)

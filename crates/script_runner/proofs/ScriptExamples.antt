@@ -1,22 +1,22 @@
 -- Worked examples of whole scripts, from their bytes to the bytes of their replies.
-use Rattle.std.specs.Prelude.{◌≡◌, ℕ, ◌<◌, true, false, List, [], ◌∷◌, length, codes, refl}
+use Rattle.std.proofs.Common.{inl, arith}
+use Rattle.std.specs.Prelude.{◌≡◌, ℕ, ◌<◌, true, false, List, [], ◌∷◌, length, Some, None, codes, refl}
 use Rattle.std.specs.Fmt.{digits}
 use Rattle.std.specs.Char.Utf16.{utf16_chars}
 use lib.Utf8.{encode}
 use Rattle.std.proofs.lemmas.Bool.{lt-ltb}
+use Rattle.script_streams.specs.Streams.{SourceState, SinkState}
 use Rattle.script_lines.proofs.ReadExamples.{an_opening, an_edit, a_line, a_size, a_word_is_no_command}
 use Rattle.unit_text.specs.declared.kind.Kind.TheVariants.{Mixed}
 use Rattle.text_rules.specs.declared.Op.{Op}
 use Rattle.hiding_rules.specs.Hidden.{standard_scanner}
 use Rattle.document_rules.specs.Document.{FlatState, new_document, after_batch}
-use Rattle.sessions.specs.declared.session.Session.{Session}
 use Rattle.group_rules.specs.Group.{doc_in, with_doc, new_group}
 use Rattle.session_rules.specs.Session.{FlatSession, new_session}
-use Rattle.sessions.specs.Standing.{Turns}
 use Rattle.session_rules.specs.Step.{answered, out_of_memory}
 use Rattle.session_rules.specs.Script.{most_line_bytes, whole_lines, all_lines, Turn, Transcript}
-use Rattle.script_runner.specs.Progress.{Broken}
-use Rattle.script_runner.specs.Serving.{lines_read}
+use Rattle.script_runner.specs.declared.running.Status.TheVariants as status
+use Rattle.script_runner.specs.Runs.{CutReplies, lines_read, Runs}
 
 -- ---- lines
 
@@ -91,21 +91,21 @@ the_first_example = (opened, opened_turn, (edited, edited_turn, (edited, line_tu
 -- ---- after a failed write
 
 -- the first of two lines was answered, and of the second reply two bytes were written
-a_reply_is_cut : (s : Session) → Turns s size_line (codes "ok 0 1\n") s
-    → Broken s (whole_lines (codes "{\"cmd\":\"size\"}\n{\"cmd\":\"size\"}\n")) (codes "ok 0 1\nok") s
-a_reply_is_cut s told = record {
+a_reply_is_cut : CutReplies Transcript new_session (whole_lines (codes "{\"cmd\":\"size\"}\n{\"cmd\":\"size\"}\n"))
+    (codes "ok 0 1\nok") new_session
+a_reply_is_cut = record {
   done = size_line ∷ [];
   line = size_line;
   others = [];
   lines_are = refl;
   replies = codes "ok 0 1\n" ∷ [];
-  mid = s;
-  transcript = record { count = refl; told = λ flat stands. let turn = told flat stands in (turn.0, (turn.0, turn.1, refl), turn.2) };
+  mid = new_session;
+  answers = (new_session, size_is_told, refl);
   reply = codes "ok 0 1\n";
-  turn = told;
+  last = (new_session, size_is_told, refl);
   front = codes "ok";
   starts = (codes " 0 1\n", refl);
-  out_is = refl;
+  bytes_are = refl;
 }
 
 -- an unfinished line is a line where the end was seen
@@ -114,3 +114,33 @@ a_line_may_go_on = refl
 
 the_end_ends_a_line : lines_read true (codes "ab\nc") ≡ codes "ab" ∷ codes "c" ∷ []
 the_end_ends_a_line = refl
+
+-- ---- a run that ends at a failed read
+
+-- a source that holds a line and a part of one
+abbrev a_source : SourceState
+a_source = record { left = Some (codes "size\nsi"); given = 0; ended = false; faults = 0 }
+
+abbrev a_sink : SinkState
+a_sink = record { taken = Some []; room = 9; faults = 0; tally = None }
+
+-- the line was answered, and the part of one was not
+a_read_fails : Runs status.ReadFault a_source (record { left = Some []; given = 7; ended = false; faults = 1 })
+    a_sink (record a_sink { taken = Some (codes "! syntax\n") })
+a_read_fails = (
+  new_session,
+  record {
+    script = codes "size\nsi";
+    gave = refl;
+    given = inl refl;
+    bytes = codes "! syntax\n";
+    writes = record { replies = codes "! syntax\n" ∷ []; answers = (new_session, no_command_is_told, refl); bytes_are = refl };
+    wrote = record {
+      took = refl;
+      told = λ before is fits. let none : before ≡ [] = cc in rw none refl;
+      room = refl;
+      tally = λ before is whole. cc;
+    };
+    leaves = (omega arith, refl, inl (omega arith), refl);
+  },
+)

@@ -3,21 +3,20 @@ use Rattle.std.proofs.Common.{◌≡◌, ℕ, ◌+◌, ◌-◌, ◌≤◌, ◌<�
 use Rattle.std.specs.Bool.{⊤}
 use Rattle.std.proofs.lemmas.Bool.{cases_lt, and_left, and_from, ne_eqb, eq-eqb, lt-ltb}
 use Rattle.std.proofs.lemmas.List.{append-nil, nil_from_length, length-take-le}
-use Rattle.std.proofs.lemmas.List.Concat.{flat_map-append}
-use Rattle.std.proofs.lemmas.List.Sums.{sum_by-append}
 use Rattle.script_streams.specs.declared.Failed.{Failed}
-use Rattle.script_streams.specs.Streams.{SourceState, SinkState, Wrote, Gave, Given, NotGiven, Rose, greatest_count}
+use Rattle.script_streams.specs.Streams.{SourceState, SinkState, Wrote, Gave, Given, Rose, greatest_count}
 use Rattle.script_streams.proofs.StreamLaws.{Wrote-append, Wrote-nothing, Gave-append, Gave-nothing}
 use Rattle.script_runner.specs.declared.line.PartialLine.{PartialLine}
 use Rattle.script_runner.specs.declared.serving.Progress.{Progress}
 use Rattle.sessions.specs.declared.session.Session.{Session}
 use Rattle.sessions.specs.Standing.{Turns}
-use Rattle.session_rules.specs.Script.{cut, most_line_bytes, whole_lines, last_line, written}
-use Rattle.script_runner.specs.Progress.{IsLineSoFar, refusals, memory_refusals, Led, LineAnswered, LineBroken, PieceAnswered, PieceBroken, AnswersPiece}
+use Rattle.session_rules.specs.Script.{cut, most_line_bytes, whole_lines, all_lines, last_line}
+use Rattle.script_runner.specs.Progress.{IsLineSoFar, Led, Broken, LineAnswered, LineBroken, lines_with, PieceAnswered, AnswersPiece}
 use Rattle.script_runner.specs.declared.serving.Served.{Served}
 use Rattle.script_runner.specs.declared.serving.Served.TheVariants.{Ended, ReadFault, WriteFault, TooLong}
-use Rattle.script_runner.specs.Serving.{Serves, Finishes, RoseBy, Finished, FinishBroken, ServedAll, ServedToReadFault, ServedToWriteFault, ServedToLimit}
-use Rattle.script_runner.proofs.LedLemmas.{Replied-push, broken_at, few_refusals, few_memory_refusals, counted_more, Led-start}
+use Rattle.script_runner.specs.Runs.{RoseBy}
+use Rattle.script_runner.specs.Serving.{Serves, Finishes, Finished}
+use Rattle.script_runner.proofs.LedLemmas.{Counted-push, broken_at, few_refusals, few_memory_refusals, Led-start}
 
 -- ---- the last line
 
@@ -38,37 +37,24 @@ pub finish_empty : (state : Session) (progress : Progress) (out : SinkState) →
     → Finished state progress state out out progress.refused progress.memory
 finish_empty state progress out empty = record {
   added = [];
-  answered = λ start read before led. record {
-    replies = led.replies;
-    transcript = rw (nothing_so_far progress.line (cut read).rest led.line empty, append-nil (whole_lines read)) led.transcript;
-    out_is = append-nil before ∙ led.out_is;
-    refused_is = led.refused;
-    memory_is = led.memory;
-  };
-  wrote = Wrote-nothing out;
-  faults = refl;
+  answered = λ start read before led.
+      rw (nothing_so_far progress.line (cut read).rest led.line empty, append-nil (whole_lines read), append-nil before) led.counted;
+  sink = record { wrote = Wrote-nothing out; faults = refl };
 }
 
 module _ (state : Session) (progress : Progress) (state' : Session) (progress' : Progress) (out out' : SinkState) (some : progress.line.len ≡ 0 → ⊥) where
   pub finish_line : LineAnswered [] state progress state' progress' out out' → Finished state progress state' out out' progress'.refused progress'.memory
   finish_line answered = record {
     added = answered.reply;
-    answered = λ start read before led. record {
-      replies = led.replies ++ answered.reply ∷ [];
-      transcript = rw (last_line_some (cut read).rest (some_bytes progress.line.len (cut read).rest most_line_bytes led.line.len some))
-          (Replied-push _ _ _ _ _ _ _ led.transcript
-          (subst (λ line. Turns state line answered.reply state') (append-nil (cut read).rest) (answered.turn _ led.line)));
-      out_is = rw (led.out_is, flat_map-append) (ap (λ x. written led.replies ++ x) (sym (append-nil answered.reply)));
-      refused_is = answered.refused ∙ counted_more progress.refused _ (refusals led.replies) led.refused
-          ∙ ap (λ n. min n greatest_count) (sym (sum_by-append _ led.replies (answered.reply ∷ [])));
-      memory_is = answered.memory ∙ counted_more progress.memory _ (memory_refusals led.replies) led.memory
-          ∙ ap (λ n. min n greatest_count) (sym (sum_by-append _ led.replies (answered.reply ∷ [])));
-    };
-    wrote = answered.sink.wrote;
-    faults = answered.sink.faults;
+    answered = λ start read before led.
+        rw (last_line_some (cut read).rest (some_bytes progress.line.len (cut read).rest most_line_bytes led.line.len some))
+        (Counted-push _ _ _ _ _ _ _ _ _ _ _ led.counted
+        (subst (λ line. Turns state line answered.reply state') (append-nil (cut read).rest) (answered.turn _ led.line))
+        answered.refused answered.memory);
+    sink = answered.sink;
   }
 
-  pub finish_broken : LineBroken [] state progress state' out out' → FinishBroken state progress state' out out'
+  pub finish_broken : LineBroken [] state progress state' out out' → Broken all_lines state progress state' out out'
   finish_broken broken = record {
     added = broken.sink.front;
     broke = λ start read before led.
@@ -121,21 +107,6 @@ rose_more a n b m c (inr top) is = inr (omega arith)
 
 module _ (most left : ℕ) (start now : Session) (progress : Progress) (src src' : SourceState) (out out' : SinkState)
     (before : IsServedTo most left start now progress src src' out out') (src'' : SourceState) where
-  -- a read failed
-  pub served_to_read_fault : 0 < left → NotGiven src' src'' → ServedToReadFault most start now src src'' out out'
-  served_to_read_fault more failed = record {
-    script = before.script;
-    gave = rw failed.left before.gave;
-    budget = omega (arith, before.read);
-    given = rw failed.given before.given;
-    not_ended = failed.ended;
-    replies = before.led.replies;
-    transcript = before.led.transcript;
-    wrote = rw (← before.led.out_is) before.wrote;
-    source_faults = subst (λ n. Rose n src''.faults) before.source_faults failed.faults;
-    sink_faults = before.sink_faults;
-  }
-
   module _ (n : ℕ) (buf : List ℕ) (given : Given n src' src'' buf) where
     gave_more : Gave src.left src''.left (before.script ++ take n buf)
     gave_more = Gave-append _ _ _ _ _ before.gave given.bytes
@@ -165,18 +136,21 @@ module _ (most left : ℕ) (start now : Session) (progress : Progress) (src src'
     }
 
     -- some bytes came, and a reply was not written whole
-    pub served_to_write_fault : 0 < n → n ≤ left → (now' : Session) (out'' : SinkState) → PieceBroken (take n buf) now progress now' out' out''
-        → ServedToWriteFault most start now' src src'' out out''
+    pub served_to_write_fault : 0 < n → n ≤ left → (now' : Session) (out'' : SinkState) → Broken (lines_with (take n buf)) now progress now' out' out''
+        → Serves WriteFault most start now' src src'' out out''
     served_to_write_fault some within now' out'' broken = record {
       script = before.script ++ take n buf;
       gave = gave_more;
-      budget = omega (arith, before.read, length_given, length-append before.script (take n buf));
       given = given_more;
-      added = before.added ++ broken.added;
-      broken = rw (given.ended ∙ and_left _ _ (ne_eqb n 0 (λ none. omega arith))) (broken.broke start before.script before.added before.led);
+      bytes = before.added ++ broken.added;
+      writes = rw (given.ended ∙ and_left _ _ (ne_eqb n 0 (λ none. omega arith)))
+          (broken.broke start before.script before.added before.led);
       wrote = Wrote-append _ _ _ _ _ before.wrote broken.wrote;
-      source_faults = given.faults ∙ before.source_faults;
-      sink_faults = subst (λ k. Rose k out''.faults) before.sink_faults broken.faults;
+      leaves = (
+        omega (arith, before.read, length_given, length-append before.script (take n buf)),
+        given.faults ∙ before.source_faults,
+        subst (λ k. Rose k out''.faults) before.sink_faults broken.faults,
+      );
     }
 
     module _ (none : n ≡ 0) (room : 0 < length buf) where
@@ -191,58 +165,44 @@ module _ (most left : ℕ) (start now : Session) (progress : Progress) (src src'
 
       -- the end came, and the last line is answered
       pub served_to_end : most < 2 ^ 64 → 0 < left → (now' : Session) (out'' : SinkState) (refused memory : ℕ)
-          → Finished now progress now' out' out'' refused memory → ServedAll most start now' src src'' out out'' refused memory
+          → Finished now progress now' out' out'' refused memory → Serves (Ended refused memory) most start now' src src'' out out''
       served_to_end small more now' out'' refused memory finished =
-          let answered = finished.answered start before.script before.added before.led in
-          let few = few_refusals _ before.script answered.replies _ answered.transcript in
-          let few_memory = few_memory_refusals _ before.script answered.replies _ answered.transcript in
+          let all = finished.answered start before.script before.added before.led in
+          let few = few_refusals _ before.script all.whole.replies _ all.whole.answers in
+          let few_memory = few_memory_refusals _ before.script all.whole.replies _ all.whole.answers in
           let within : length before.script ≤ most = omega (arith, before.read) in
           record {
             script = before.script;
             gave = gave_all;
-            budget = omega (arith, before.read);
             given = given_all;
-            nothing_left = given.nothing_left none room;
-            ended = end_seen;
-            replies = answered.replies;
-            transcript = answered.transcript;
-            wrote = rw (← answered.out_is) (Wrote-append _ _ _ _ _ before.wrote finished.wrote);
-            refused_is = answered.refused_is ∙ counted_exactly _ (omega arith);
-            memory_is = answered.memory_is ∙ counted_exactly _ (omega arith);
-            source_faults = given.faults ∙ before.source_faults;
-            sink_faults = finished.faults ∙ before.sink_faults;
+            bytes = before.added ++ finished.added;
+            writes = (all.whole, all.refused_is ∙ counted_exactly _ (omega arith), all.memory_is ∙ counted_exactly _ (omega arith));
+            wrote = Wrote-append _ _ _ _ _ before.wrote finished.sink.wrote;
+            leaves = (
+              omega (arith, before.read),
+              end_seen,
+              given.nothing_left none room,
+              given.faults ∙ before.source_faults,
+              finished.sink.faults ∙ before.sink_faults,
+            );
           }
 
       -- the end came, and the reply to the last line was not written whole
-      pub served_to_broken_end : (now' : Session) (out'' : SinkState) → FinishBroken now progress now' out' out''
-          → ServedToWriteFault most start now' src src'' out out''
+      pub served_to_broken_end : (now' : Session) (out'' : SinkState) → Broken all_lines now progress now' out' out''
+          → Serves WriteFault most start now' src src'' out out''
       served_to_broken_end now' out'' broken = record {
         script = before.script;
         gave = gave_all;
-        budget = omega (arith, before.read);
         given = given_all;
-        added = before.added ++ broken.added;
-        broken = rw end_seen (broken.broke start before.script before.added before.led);
+        bytes = before.added ++ broken.added;
+        writes = rw end_seen (broken.broke start before.script before.added before.led);
         wrote = Wrote-append _ _ _ _ _ before.wrote broken.wrote;
-        source_faults = given.faults ∙ before.source_faults;
-        sink_faults = subst (λ k. Rose k out''.faults) before.sink_faults broken.faults;
+        leaves = (
+          omega (arith, before.read),
+          given.faults ∙ before.source_faults,
+          subst (λ k. Rose k out''.faults) before.sink_faults broken.faults,
+        );
       }
-
--- as many bytes were read as may be
-pub served_to_limit : (most left : ℕ) (start now : Session) (progress : Progress) (src src' : SourceState) (out out' : SinkState)
-    → left ≡ 0 → IsServedTo most left start now progress src src' out out' → ServedToLimit most start now src src' out out'
-served_to_limit most left start now progress src src' out out' none before = record {
-  script = before.script;
-  gave = before.gave;
-  most_is = omega (arith, before.read);
-  given = subst (λ k. RoseBy src.given k src'.given) (omega (arith, before.read)) before.given;
-  not_ended = λ some. before.not_ended (omega arith);
-  replies = before.led.replies;
-  transcript = before.led.transcript;
-  wrote = rw (← before.led.out_is) before.wrote;
-  source_faults = before.source_faults;
-  sink_faults = before.sink_faults;
-}
 
 -- how the script ended, where nothing more was given
 pub serves_end : (served : Served) (most left : ℕ) (start now now' : Session) (progress : Progress) (src src' src'' : SourceState) (out out' out'' : SinkState)
@@ -257,8 +217,8 @@ serves_end TooLong most left start now now' progress src src' src'' out out' out
 
 -- how a piece was answered, by the test of its result
 module _ (r : Result ⊤ Failed) (piece : List ℕ) (state : Session) (progress : Progress) (state' : Session) (progress' : Progress) (out out' : SinkState) where
-  pub piece_broken_at_err : is_err r ≡ true → AnswersPiece r piece state progress state' progress' out out' → PieceBroken piece state progress state' out out'
-  piece_broken_at_err e h = elim r as (λ r. is_err r ≡ true → AnswersPiece r piece state progress state' progress' out out' → PieceBroken piece state progress state' out out')
+  pub piece_broken_at_err : is_err r ≡ true → AnswersPiece r piece state progress state' progress' out out' → Broken (lines_with piece) state progress state' out out'
+  piece_broken_at_err e h = elim r as (λ r. is_err r ≡ true → AnswersPiece r piece state progress state' progress' out out' → Broken (lines_with piece) state progress state' out out')
       [ Ok x ↦ λ e h. cc | Err failed ↦ λ e h. h ] e h
 
   pub piece_answered_at_ok : is_err r ≡ false → AnswersPiece r piece state progress state' progress' out out' → PieceAnswered piece state progress state' progress' out out'

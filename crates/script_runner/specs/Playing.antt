@@ -11,8 +11,7 @@ use Rattle.script_runner.specs.declared.serving.Served.TheVariants.{Ended, ReadF
 use Rattle.group_rules.specs.Group.{doc_in}
 use Rattle.session_rules.specs.Session.{FlatSession, new_session}
 use Rattle.session_rules.specs.Script.{all_lines, written, Transcript}
-use Rattle.script_runner.specs.Progress.{refusals, memory_refusals}
-use Rattle.script_runner.specs.Runs.{EndsWith}
+use Rattle.script_runner.specs.Runs.{refusals, memory_refusals, EndsWith}
 
 -- a word of the line with its number
 abbrev pub part : List ℕ → ℕ → List ℕ

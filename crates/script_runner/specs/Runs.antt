@@ -1,16 +1,15 @@
 -- What a run of the program does, by the status that it ends with.
-use Rattle.std.specs.Prelude.{◌≡◌, ℕ, suc, ◌+◌, ◌^◌, ◌<◌, ◌≤◌, ◌⊎◌, nat_lt, if◌then◌else◌, List, ◌++◌, length, Some, codes}
+use Rattle.std.specs.Prelude.{◌≡◌, ℕ, suc, ◌+◌, ◌^◌, ◌<◌, ◌≤◌, ◌⊎◌, Bool, true, false, if◌then◌else◌, List, [], ◌∷◌, ◌++◌, length, count_by, Some, codes}
 use Rattle.std.specs.List.{list_any}
-use Rattle.script_streams.specs.Streams.{SourceState, SinkState, Wrote, Rose, StartsWith}
+use Rattle.std.specs.Str.{bytes_eq}
+use Rattle.script_streams.specs.Streams.{SourceState, SinkState, greatest_count, Gave, NothingLeft, Wrote, Rose, StartsWith, TakenWhole, Cut}
 use Rattle.script_runner.specs.declared.running.Status.{Status}
 use Rattle.script_runner.specs.declared.running.Status.TheVariants as status
 use Rattle.script_runner.specs.declared.serving.Served.{Served}
 use Rattle.script_runner.specs.declared.serving.Served.TheVariants.{Ended, ReadFault, WriteFault, TooLong}
-use Rattle.sessions.specs.declared.session.Session.{Session}
 use Rattle.session_rules.specs.Session.{FlatSession, new_session}
-use Rattle.sessions.specs.Standing.{StandsFor}
-use Rattle.session_rules.specs.Script.{all_lines, written, is_refused, Transcript}
-use Rattle.script_runner.specs.Serving.{ServedAll, ServedToReadFault, ServedToWriteFault, ServedToLimit}
+use Rattle.session_rules.specs.Step.{memory_reply}
+use Rattle.session_rules.specs.Script.{whole_lines, all_lines, written, is_refused, Transcript}
 
 abbrev pub usage_line : List ℕ
 usage_line = codes "usage: textmodel run | textmodel play COUNT SEED\n"
@@ -29,13 +28,6 @@ number_of status.ReadFault = 4
 number_of status.WriteFault = 5
 number_of status.TooLong = 6
 
--- the status after serving a script: whether some reply begins with `!`, or which fault came
-abbrev pub status_after : Served → Status
-status_after (Ended refused memory) = if nat_lt 0 refused then status.Refused else status.Answered
-status_after ReadFault = status.ReadFault
-status_after WriteFault = status.WriteFault
-status_after TooLong = status.TooLong
-
 -- the number is that of a status of which this holds
 abbrev pub EndsWith : ℕ → (Status → Type 0) → Type 0
 EndsWith number Holds = (s : Status) × (number ≡ number_of s) × Holds s
@@ -43,9 +35,8 @@ EndsWith number Holds = (s : Status) × (number ≡ number_of s) × Holds s
 -- The words are no command: the usage line was written, or a front of it where the write failed; or nothing where there
 -- was no memory to read the words.
 abbrev pub ShowsUsage : Status → SinkState → SinkState → Type 0
-ShowsUsage status.Usage err err' = Wrote err err' usage_line × (err'.faults ≡ err.faults)
-ShowsUsage status.WriteFault err err' =
-    (front : List ℕ) × StartsWith usage_line front × Wrote err err' front × Rose err.faults err'.faults
+ShowsUsage status.Usage err err' = TakenWhole err err' usage_line
+ShowsUsage status.WriteFault err err' = Cut err err' usage_line
 ShowsUsage status.Memory err err' = err' ≡ err
 ShowsUsage status.Answered err err' = ⊥
 ShowsUsage status.Refused err err' = ⊥
@@ -92,28 +83,99 @@ abbrev pub IsAnsweredWithin : SourceState → ℕ → Type 0
 IsAnsweredWithin src number = (script : List ℕ) → src.left ≡ Some script → length script < most_script_bytes
     → (number ≤ 1) ⊎ (number ≡ 3)
 
--- the script was answered to its end, and this many replies begin with `!`
-pub record AnswersAll (src src' : SourceState) (out out' : SinkState) (refused : ℕ) : Type 0 where
-  pub memory : ℕ
-  pub start : Session
-  pub end : Session
-  pub new : StandsFor start new_session
-  pub served : ServedAll most_script_bytes start end src src' out out' refused memory
+-- ---- what came of a script, for streams that tell and for others
 
--- of some session that stands for the new one, and of the one at the end
-abbrev pub FromNew : (Session → Session → Type 0) → Type 0
-FromNew Was = (start : Session) × (end : Session) × StandsFor start new_session × Was start end
+-- how many replies begin with `!`
+abbrev pub refusals : List (List ℕ) → ℕ
+refusals replies = count_by is_refused replies
+
+-- how many of these are `! memory`
+abbrev pub memory_refusals : List (List ℕ) → ℕ
+memory_refusals replies = count_by (bytes_eq memory_reply) replies
+
+-- a count that went up by so much, or stands at its greatest value
+abbrev pub RoseBy : ℕ → ℕ → ℕ → Type 0
+RoseBy old by new = (new ≡ old + by) ⊎ (new ≡ greatest_count)
+
+-- the lines of what was read: an unfinished last one is a line where the end was seen
+abbrev pub lines_read : Bool → List ℕ → List (List ℕ)
+lines_read ended script = if ended then all_lines script else whole_lines script
+
+-- which replies answer which lines, from one state to another: `Transcript` where the states are flat
+abbrev pub Answering : Type 0 → Type 1
+Answering E = E → List (List ℕ) → List (List ℕ) → E → Type 0
+
+-- these bytes are whole replies, and answer the lines one by one
+pub record WholeReplies {E : Type 0} (Answers : Answering E) (start : E) (lines : List (List ℕ)) (bytes : List ℕ) (end : E) : Type 0 where
+  pub replies : List (List ℕ)
+  pub answers : Answers start lines replies end
+  pub bytes_are : bytes ≡ written replies
+
+-- these bytes are whole replies to the first lines, and a front of the reply to the next one
+pub record CutReplies {E : Type 0} (Answers : Answering E) (start : E) (lines : List (List ℕ)) (bytes : List ℕ) (end : E) : Type 0 where
+  pub done : List (List ℕ)
+  pub line : List ℕ
+  pub others : List (List ℕ)
+  pub lines_are : lines ≡ done ++ line ∷ others
+  pub replies : List (List ℕ)
+  pub mid : E
+  pub answers : Answers start done replies mid
+  pub reply : List ℕ
+  pub last : Answers mid (line ∷ []) (reply ∷ []) end
+  pub front : List ℕ
+  pub starts : StartsWith reply front
+  pub bytes_are : bytes ≡ written replies ++ front
+
+-- what was written for the script read, by how serving it ended
+abbrev pub WritesBy : {E : Type 0} → Answering E → Served → E → Bool → List ℕ → List ℕ → E → Type 0
+-- the replies to all lines, of which so many begin with `!` and so many are `! memory`
+WritesBy Answers (Ended refused memory) start ended script bytes end = (whole : WholeReplies Answers start (all_lines script) bytes end)
+    × (refused ≡ refusals whole.replies) × (memory ≡ memory_refusals whole.replies)
+-- the replies to the lines that LF ends
+WritesBy Answers ReadFault start ended script bytes end = WholeReplies Answers start (whole_lines script) bytes end
+WritesBy Answers TooLong start ended script bytes end = WholeReplies Answers start (whole_lines script) bytes end
+-- some whole replies, and a front of the next one
+WritesBy Answers WriteFault start ended script bytes end = CutReplies Answers start (lines_read ended script) bytes end
+
+-- how many bytes were read, of at most so many, and how the source and the sink are left
+abbrev pub LeavesBy : Served → ℕ → ℕ → SourceState → SourceState → SinkState → SinkState → Type 0
+-- the end was seen before the limit, and no call failed
+LeavesBy (Ended refused memory) most read src src' out out' =
+    (read < most) × (src'.ended ≡ true) × NothingLeft src'.left × (src'.faults ≡ src.faults) × (out'.faults ≡ out.faults)
+-- a read failed
+LeavesBy ReadFault most read src src' out out' =
+    (read < most) × (src'.ended ≡ false) × Rose src.faults src'.faults × (out'.faults ≡ out.faults)
+-- a write failed
+LeavesBy WriteFault most read src src' out out' = (read ≤ most) × (src'.faults ≡ src.faults) × Rose out.faults out'.faults
+-- as many bytes were read as may be, and the end was not seen
+LeavesBy TooLong most read src src' out out' =
+    (read ≡ most) × (0 < most → src'.ended ≡ false) × (src'.faults ≡ src.faults) × (out'.faults ≡ out.faults)
+
+-- what serving a script did, by how it ended: which bytes came off the source, at most so many, and which went to the sink
+pub record ServesBy {E : Type 0} (Answers : Answering E) (served : Served) (most : ℕ) (start end : E)
+    (src src' : SourceState) (out out' : SinkState) : Type 0 where
+  pub script : List ℕ
+  pub gave : Gave src.left src'.left script
+  pub given : RoseBy src.given (length script) src'.given
+  pub bytes : List ℕ
+  pub writes : WritesBy Answers served start src'.ended script bytes end
+  pub wrote : Wrote out out' bytes
+  pub leaves : LeavesBy served most (length script) src src' out out'
+
+-- the same of flat documents, from new ones on
+abbrev pub ServesNew : Served → SourceState → SourceState → SinkState → SinkState → Type 0
+ServesNew served src src' out out' = (end : FlatSession) × ServesBy Transcript served most_script_bytes new_session end src src' out out'
 
 abbrev pub Runs : Status → SourceState → SourceState → SinkState → SinkState → Type 0
 -- every line of the script was answered, and no reply begins with `!`
-Runs status.Answered src src' out out' = AnswersAll src src' out out' 0
+Runs status.Answered src src' out out' = (memory : ℕ) × ServesNew (Ended 0 memory) src src' out out'
 -- every line of the script was answered, and some reply begins with `!`
-Runs status.Refused src src' out out' = (more : ℕ) × AnswersAll src src' out out' (suc more)
+Runs status.Refused src src' out out' = (more memory : ℕ) × ServesNew (Ended (suc more) memory) src src' out out'
 -- there was no memory to begin with, and nothing was read or written
 Runs status.Memory src src' out out' = (src' ≡ src) × (out' ≡ out)
-Runs status.ReadFault src src' out out' = FromNew (λ start end. ServedToReadFault most_script_bytes start end src src' out out')
-Runs status.WriteFault src src' out out' = FromNew (λ start end. ServedToWriteFault most_script_bytes start end src src' out out')
-Runs status.TooLong src src' out out' = FromNew (λ start end. ServedToLimit most_script_bytes start end src src' out out')
+Runs status.ReadFault src src' out out' = ServesNew ReadFault src src' out out'
+Runs status.WriteFault src src' out out' = ServesNew WriteFault src src' out out'
+Runs status.TooLong src src' out out' = ServesNew TooLong src src' out out'
 -- the words `run` are a command
 Runs status.Usage src src' out out' = ⊥
 

@@ -7,7 +7,8 @@ ghost use Rattle.session_rules.specs.Script.{turn, Transcript, IsDecided};
 ghost use Rattle.script_runner.specs.Words.{command_of};
 ghost use Rattle.script_runner.specs.Playing.{EndsPlay};
 ghost use Rattle.script_runner.specs.Obeying.{Obeys};
-ghost use Rattle.script_runner.specs.Runs.{number_of, status_after, EndsRun, EndsWith, IsAnsweredFrom, IsAnsweredWithin, IsToldFrom, ReadsWell, Runs, ShowsUsage, WritesWell};
+ghost use Rattle.script_runner.specs.Serving.{status_after};
+ghost use Rattle.script_runner.specs.Runs.{number_of, EndsRun, EndsWith, IsAnsweredFrom, IsAnsweredWithin, IsToldFrom, ReadsWell, Runs, ShowsUsage, WritesWell};
 
 use crate::playing::play;
 use crate::serving::{Served, serve};

@@ -16,8 +16,8 @@ use std::alloc::AllocError;
 use std::marker::Model;
 use steps::Steps;
 
-/// A reader of a text's lines. Contracts see the text's units. The line behind the one that was read last costs no search, unless
-/// memory was short since.
+/// A reader of a text's lines, of which contracts see the text's units. The line after the last one that was read needs no search,
+/// unless memory was short since.
 #[derive(Drop)]
 pub struct LineReader<'t> {
     view: View<'t>,

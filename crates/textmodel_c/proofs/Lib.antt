@@ -5,3 +5,4 @@ pub mod Firsts
 pub mod JoinedTexts
 pub mod Refusals
 pub mod Searches
+pub mod Stands

@@ -41,6 +41,16 @@ span start end = record { start = start; end = end }
 abbrev pub place_of : Position → Place
 place_of p = record { line = p.line; column = p.column }
 
+-- none is refused for its range
+abbrev pub or_range : {A B : Type 0} → Option A → (A → Result B FlatRefusal) → Result B FlatRefusal
+or_range None rule = Err range
+or_range (Some x) rule = rule x
+
+-- what is refused stays so
+abbrev pub or_refused : {A B : Type 0} → Result A FlatRefusal → (A → Result B FlatRefusal) → Result B FlatRefusal
+or_refused (Err why) rule = Err why
+or_refused (Ok x) rule = rule x
+
 -- an answer that is told otherwise
 abbrev pub told_as : {A B : Type 0} → (A → B) → Result A FlatRefusal → Result B FlatRefusal
 told_as tell (Ok x) = Ok (tell x)
@@ -73,13 +83,9 @@ number_of_kind Mixed = 0
 number_of_kind Lf = 1
 number_of_kind Crlf = 2
 
-abbrev pub with_kind : {A : Type 0} → Option Kind → (Kind → Result A FlatRefusal) → Result A FlatRefusal
-with_kind None rule = Err range
-with_kind (Some kind) rule = rule kind
-
 -- a new document with the usual brackets
 abbrev pub group_open_as : ℕ → List ℕ → FlatGroup → Result FlatGroup FlatRefusal
-group_open_as number text g = with_kind (kind_of number) (group_open g FIRST text standard_scanner)
+group_open_as number text g = or_range (kind_of number) (group_open g FIRST text standard_scanner)
 
 -- the two texts of a pair, joined
 abbrev pub pair_of : PairUnits → List ℕ → List ℕ × List ℕ
@@ -89,21 +95,16 @@ abbrev pub pairs_of : List PairUnits → List ℕ → Result (List (List ℕ × 
 pairs_of pairs text = pieces_of (λ (pair : PairUnits). pair.opening + pair.closing) pair_of pairs text
 
 abbrev pub table_or_range : Result Table FlatRefusal → Result Table FlatRefusal
-table_or_range (Err why) = Err why
-table_or_range (Ok pairs) = if is_table pairs then Ok pairs else Err range
-
-abbrev pub with_table : {A : Type 0} → Result Table FlatRefusal → (Table → Result A FlatRefusal) → Result A FlatRefusal
-with_table (Err why) rule = Err why
-with_table (Ok table) rule = rule table
+table_or_range told = or_refused told (λ pairs. if is_table pairs then Ok pairs else Err range)
 
 -- a new document with brackets of its own
 abbrev pub group_open_with : ℕ → List PairUnits → List ℕ → List ℕ → FlatGroup → Result FlatGroup FlatRefusal
 group_open_with number pairs brackets text g =
     let told = table_or_range (pairs_of pairs brackets) in
-    with_kind (kind_of number) (λ kind. with_table told (λ table. group_open g FIRST text (plain_scanner table) kind))
+    or_range (kind_of number) (λ kind. or_refused told (λ table. group_open g FIRST text (plain_scanner table) kind))
 
 abbrev pub group_eol_as : ℕ → FlatGroup → Result (Option FlatGroup) FlatRefusal
-group_eol_as number g = with_kind (kind_of number) (group_eol g FIRST)
+group_eol_as number g = or_range (kind_of number) (group_eol g FIRST)
 
 -- ---- edits
 
@@ -118,13 +119,9 @@ both_ends None end = None
 abbrev pub span_between : FlatState → Position → Position → Option Span
 span_between f from to = both_ends (flat_offset f from) (flat_offset f to)
 
-abbrev pub group_edit_in : FlatGroup → Option Span → List ℕ → Bool → Result FlatGroup FlatRefusal
-group_edit_in g None text force = Err range
-group_edit_in g (Some span) text force = group_edit g FIRST (one_op span text force)
-
 -- from one position up to another
 abbrev pub group_edit_at : Position → Position → List ℕ → Bool → FlatGroup → Result FlatGroup FlatRefusal
-group_edit_at from to text force g = group_edit_in g (span_between (doc_in g FIRST) from to) text force
+group_edit_at from to text force g = or_range (span_between (doc_in g FIRST) from to) (λ span. group_edit g FIRST (one_op span text force))
 
 abbrev pub op_of : BatchOp → List ℕ → Op
 op_of op text = record { span = span op.start op.end; text = text; force = op.force }
@@ -133,12 +130,8 @@ op_of op text = record { span = span op.start op.end; text = text; force = op.fo
 abbrev pub ops_of : List BatchOp → List ℕ → Result (List Op) FlatRefusal
 ops_of batch text = pieces_of (λ (op : BatchOp). op.units) op_of batch text
 
-abbrev pub group_edit_by : FlatGroup → Result (List Op) FlatRefusal → Result FlatGroup FlatRefusal
-group_edit_by g (Err why) = Err why
-group_edit_by g (Ok ops) = group_edit g FIRST ops
-
 abbrev pub group_edit_joined : List BatchOp → List ℕ → FlatGroup → Result FlatGroup FlatRefusal
-group_edit_joined batch text g = group_edit_by g (ops_of batch text)
+group_edit_joined batch text g = or_refused (ops_of batch text) (group_edit g FIRST)
 
 -- ---- what is read
 
@@ -230,12 +223,8 @@ encoding_of number =
     (if number == 16 then Some Utf16 else
     (if number == 32 then Some Utf32 else None))
 
-abbrev pub with_encoding : {A : Type 0} → Option Encoding → (Encoding → Result A FlatRefusal) → Result A FlatRefusal
-with_encoding None rule = Err range
-with_encoding (Some encoding) rule = rule encoding
-
 abbrev pub flat_column_as : FlatState → ℕ → Position → Result ℕ FlatRefusal
-flat_column_as f encoding p = with_encoding (encoding_of encoding) (λ e. flat_column_in f e p)
+flat_column_as f encoding p = or_range (encoding_of encoding) (λ e. flat_column_in f e p)
 
 abbrev pub flat_column_of_as : FlatState → ℕ → ℕ → ℕ → Result ℕ FlatRefusal
-flat_column_of_as f encoding line before = with_encoding (encoding_of encoding) (λ e. flat_column_of f e line before)
+flat_column_of_as f encoding line before = or_range (encoding_of encoding) (λ e. flat_column_of f e line before)

@@ -1,5 +1,5 @@
 -- How a call ended, and its number.
-use Rattle.std.specs.Prelude.{ℕ, Bool, true, false, Result, Ok as Accepted, Err, ⊤}
+use Rattle.std.specs.Prelude.{ℕ, Bool, true, false, Result, Ok as Accepted, Err}
 use Rattle.document_rules.specs.declared.ModelError.{ModelError}
 use Rattle.document_rules.specs.declared.ModelError.TheVariants as error
 use Rattle.group_rules.specs.declared.GroupError.{GroupError}
@@ -34,10 +34,6 @@ status_of_group_error group.Overlap = Overlap
 status_of_group_error group.Limit = Limit
 status_of_group_error (group.Joint n) = Joint
 status_of_group_error group.Memory = Memory
-
-abbrev pub status_of_done : Result ⊤ ModelError → Status
-status_of_done (Accepted x) = Ok
-status_of_done (Err e) = status_of_error e
 
 -- a call that answers whether there was anything to do
 abbrev pub status_of_step : Result Bool ModelError → Status

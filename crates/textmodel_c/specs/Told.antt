@@ -1,5 +1,5 @@
 -- What a call answers, and what it leaves of what the handle holds.
-use Rattle.std.specs.Prelude.{◌≡◌, ◌⊎◌, ℕ, ◌-◌, Bool, MatchBool, if◌then◌else◌, nat_le, List, ◌++◌, length, take, drop, min, Option, Some, None, Result, Ok, Err, IsUtf8, ⊤}
+use Rattle.std.specs.Prelude.{◌≡◌, ◌⊎◌, ℕ, ◌-◌, ◌==◌, Bool, MatchBool, if◌then◌else◌, nat_le, List, ◌++◌, length, take, drop, min, Option, Some, None, Result, Ok, Err, IsUtf8, ⊤}
 use Rattle.std.specs.Str.Lossy.{utf8_valid_len}
 use Rattle.unit_text.specs.Text.{units_of}
 use Rattle.decoration_rules.specs.declared.NewDeco.{NewDeco}
@@ -9,14 +9,13 @@ use Rattle.document_rules.specs.declared.ModelError.{ModelError}
 use Rattle.document_rules.specs.Refusals.{FlatRefusal}
 use Rattle.document_rules.specs.Outcomes.{RefusedFor, Changes, Moves, ChangesWith, Gives}
 use Rattle.document_rules.specs.Document.{FlatState, flat_decorate}
-use Rattle.group_rules.specs.declared.GroupError.{GroupError}
 use Rattle.group_rules.specs.Refusals.{GroupRefusal}
 use Rattle.group_rules.specs.Outcomes.{MovesAll}
 use Rattle.group_rules.specs.Group.{FlatGroup}
-use Rattle.model_group.specs.State.{documents}
+use Rattle.model_group.specs.State.{GroupState, documents}
 use Rattle.document_rules.specs.Snapshots.{flat_peek_of, flat_skipped}
 use Rattle.sessions.specs.declared.session.Session.{Session}
-use Rattle.session_rules.specs.Session.{new_session}
+use Rattle.session_rules.specs.Session.{FlatSession, FlatFollower, new_session, no_follower, with_follower}
 use Rattle.sessions.specs.Standing.{StandsFor, Turns, BeginsAnew}
 use Rattle.sessions.specs.Bytes.{bytes_of_outcome}
 use Rattle.sessions.specs.declared.outcome.Reply.TheVariants.{Nothing}
@@ -24,8 +23,8 @@ use Rattle.textmodel_c.specs.declared.status.Status.{Status}
 use Rattle.textmodel_c.specs.declared.status.Status.TheVariants as status
 use Rattle.textmodel_c.specs.declared.document.Document.{Document}
 use Rattle.textmodel_c.specs.declared.document.TheConstants.{FIRST}
-use Rattle.textmodel_c.specs.Statuses.{number_of, status_of_error, status_of_done, status_of_step, status_of_going, status_of_given, given_or}
-use Rattle.textmodel_c.specs.First.{first, KeepsOthers}
+use Rattle.textmodel_c.specs.Statuses.{number_of, status_of_error, status_of_step, status_of_going, status_of_given, given_or}
+use Rattle.textmodel_c.specs.First.{first, OnFirst}
 use Rattle.textmodel_c.specs.Rules.{group_open_as}
 
 -- ---- the handle
@@ -66,23 +65,40 @@ pub record KeepsRest (old new : Document) : Type 0 where
   pub reply : new.reply ≡ old.reply
   pub followers : new.session.followers.items ≡ old.session.followers.items
 
--- the documents are changed by the rule, or it is refused for its reason; the reply is kept
+-- a call answers by its status, does this to the documents, and keeps the rest
+abbrev pub Does : {A : Type 0} → (A → Status) → (A → GroupState → GroupState → Type 0) → ℕ → Document → Document → Type 0
+Does {A} status says n old new = (answer : A) × (n ≡ number_of (status answer))
+    × says answer old.session.group new.session.group × KeepsRest old new
+
+-- the documents are changed by the rule, or it is refused for its reason
 abbrev pub ChangesDocs : ℕ → (FlatGroup → Result FlatGroup FlatRefusal) → Document → Document → Type 0
-ChangesDocs n rule old new = (answer : Result ⊤ ModelError) × (n ≡ number_of (status_of_done answer))
-    × Changes answer (documents old.session.group) (documents new.session.group) (rule (documents old.session.group))
-    × KeepsRest old new
+ChangesDocs n rule = Does status_of_given (λ answer old new. Changes answer (documents old) (documents new) (rule (documents old))) n
 
 -- the same of a rule that may find nothing to do
 abbrev pub MovesDocs : ℕ → (FlatGroup → Result (Option FlatGroup) FlatRefusal) → Document → Document → Type 0
-MovesDocs n rule old new = (answer : Result Bool ModelError) × (n ≡ number_of (status_of_step answer))
-    × Moves answer (documents old.session.group) (documents new.session.group) (rule (documents old.session.group))
-    × KeepsRest old new
+MovesDocs n rule = Does status_of_step (λ answer old new. Moves answer (documents old) (documents new) (rule (documents old))) n
 
 -- the same of one that several documents may take part in
 abbrev pub Went : ℕ → (FlatGroup → Result (Option FlatGroup) GroupRefusal) → Document → Document → Type 0
-Went n rule old new = (answer : Result Bool GroupError) × (n ≡ number_of (status_of_going answer))
-    × MovesAll answer (documents old.session.group) (documents new.session.group) (rule (documents old.session.group))
-    × KeepsRest old new
+Went n rule = Does status_of_going (λ answer old new. MovesAll answer (documents old) (documents new) (rule (documents old))) n
+
+-- the first document alone is changed by the rule, or it is refused for its reason
+abbrev pub Changed : ℕ → (FlatState → Result FlatState FlatRefusal) → Document → Document → Type 0
+Changed n rule = Does status_of_given (λ answer. OnFirst (λ f g. Changes answer f g (rule f))) n
+
+-- the same of a call that hands out a number
+abbrev pub ChangedWith : ℕ → ℕ → ℕ → (FlatState → ℕ) → (FlatState → Result FlatState FlatRefusal) → Document → Document → Type 0
+ChangedWith n out out' told rule = Does status_of_given (λ answer old new. (out' ≡ given_or out answer)
+    × OnFirst (λ f g. ChangesWith (told f) answer f g (rule f)) old new) n
+
+-- decorations of an owner go and new ones come, and the first new id is handed out
+abbrev pub Decorated : ℕ → ℕ → ℕ → ℕ → List ℕ → List NewDeco → Document → Document → Type 0
+Decorated n out out' owner remove add =
+    ChangedWith n out out' (λ f. f.decorations.next_id) (λ f. flat_decorate f owner remove add)
+
+-- a change that is never refused
+abbrev pub Becomes : ℕ → (FlatState → FlatState) → Document → Document → Type 0
+Becomes n rule = Does (λ (x : ⊤). status.Ok) (λ x. OnFirst (λ f g. g ≡ rule f)) n
 
 -- a new document has no mirror, and nothing was sent of it; where none was opened all is as it was
 abbrev pub RenewsFollower : Result ⊤ ModelError → Session → Session → Type 0
@@ -95,40 +111,28 @@ pub record Opens (answer : Result ⊤ ModelError) (old new : Session) (rule : Re
 
 -- a new document takes the place of the one that the calls are on, or is refused for the rule's reason; the reply is kept
 abbrev pub Opened : ℕ → (FlatGroup → Result FlatGroup FlatRefusal) → Document → Document → Type 0
-Opened n rule old new = (answer : Result ⊤ ModelError) × (n ≡ number_of (status_of_done answer))
+Opened n rule old new = (answer : Result ⊤ ModelError) × (n ≡ number_of (status_of_given answer))
     × Opens answer old.session new.session (rule (documents old.session.group)) × (new.reply ≡ old.reply)
 
--- of a call that changes no other document: the other documents, what follows them, and the last reply
-pub record KeepsAround (old new : Document) : Type 0 where
-  pub others : KeepsOthers old.session.group new.session.group
-  pub rest : KeepsRest old new
+-- ---- the flat session
 
--- the document is changed by the rule, or refused for its reason; what is around it is kept
-abbrev pub Changed : ℕ → (FlatState → Result FlatState FlatRefusal) → Document → Document → Type 0
-Changed n rule old new = (answer : Result ⊤ ModelError) × (n ≡ number_of (status_of_done answer))
-    × Changes answer (first old.session.group) (first new.session.group) (rule (first old.session.group))
-    × KeepsAround old new
+-- whichever flat session the old one stands for, the new one stands for it with the documents of now
+abbrev pub StaysFlat : Document → Document → Type 0
+StaysFlat old new = (flat : FlatSession) → StandsFor old.session flat
+    → StandsFor new.session (record flat { documents = documents new.session.group })
 
--- the same of a call that hands out a number
-abbrev pub ChangedWith : ℕ → ℕ → ℕ → (FlatState → ℕ) → (FlatState → Result FlatState FlatRefusal) → Document → Document → Type 0
-ChangedWith n out out' told rule old new = (answer : Result ℕ ModelError) × (n ≡ number_of (status_of_given answer))
-    × (out' ≡ given_or out answer)
-    × ChangesWith (told (first old.session.group)) answer
-    (first old.session.group) (first new.session.group) (rule (first old.session.group))
-    × KeepsAround old new
+-- nothing follows the first document where the status says that it was opened
+abbrev pub followers_after : ℕ → List FlatFollower → List FlatFollower
+followers_after n followers = if n == number_of status.Ok then with_follower followers FIRST no_follower else followers
 
--- decorations of an owner go and new ones come, and the first new id is handed out
-abbrev pub Decorated : ℕ → ℕ → ℕ → ℕ → List ℕ → List NewDeco → Document → Document → Type 0
-Decorated n out out' owner remove add =
-    ChangedWith n out out' (λ f. f.decorations.next_id) (λ f. flat_decorate f owner remove add)
-
--- a change that is never refused
-abbrev pub Becomes : ℕ → (FlatState → FlatState) → Document → Document → Type 0
-Becomes n rule old new = (n ≡ number_of status.Ok) × (first new.session.group ≡ rule (first old.session.group)) × KeepsAround old new
+-- the same of a call that opens a document
+abbrev pub StaysFlatAnew : ℕ → Document → Document → Type 0
+StaysFlatAnew n old new = (flat : FlatSession) → StandsFor old.session flat
+    → StandsFor new.session (record { documents = documents new.session.group; followers = followers_after n flat.followers })
 
 -- a text in UTF-8 is opened; of one that is none it is told where its first fault is
 pub record OpenedUtf8 (s : Status) (kind : ℕ) (text : List ℕ) (bad bad' : ℕ) (old new : Session) : Type 0 where
-  pub opened : IsUtf8 text → (answer : Result ⊤ ModelError) × (s ≡ status_of_done answer)
+  pub opened : IsUtf8 text → (answer : Result ⊤ ModelError) × (s ≡ status_of_given answer)
       × Opens answer old new (group_open_as kind (units_of text) (documents old.group)) × (bad' ≡ bad)
   pub refused : (IsUtf8 text → ⊥) → (s ≡ status.Encoding) × (bad' ≡ utf8_valid_len text) × (new ≡ old)
 
@@ -224,8 +228,7 @@ pub record Reads (s : Status) (id : ℕ) (out out' : List ℕ) (count count' : �
   pub kept : (s ≡ status.Ok → ⊥) → new ≡ old
 
 abbrev pub HasRead : ℕ → ℕ → List ℕ → List ℕ → ℕ → ℕ → Document → Document → Type 0
-HasRead n id out out' count count' old new =
-    Numbers n (λ s. Reads s id out out' count count' (first old.session.group) (first new.session.group)) × KeepsAround old new
+HasRead n id out out' count count' = Does (λ s. s) (λ s. OnFirst (Reads s id out out' count count')) n
 
 -- ---- script lines
 

@@ -6,7 +6,7 @@ ghost use Rattle.sessions.specs.Standing.{Turns};
 ghost use Rattle.textmodel_c.specs.Told.{CopiedFrom, HasAnswered, Leaves, RepliesHeld};
 
 use crate::document::Document;
-use crate::handle::Handle;
+use crate::handle::{Handle, taken};
 use crate::status::Status;
 use script_lines::refusal;
 use sessions::{Outcome, Refused};
@@ -50,9 +50,7 @@ pub extern "C" fn tm_answer(alloc: Global, handle: &mut Handle, line: &[u8], len
         (HasAnswered result line.now len.new) }
     ensures empty { IfNone handle.old.held (len.new ≡ len.old) }
 {
-    let Some(mut document) = handle.take(alloc) else {
-        return Status::Empty.number();
-    };
+    let mut document = taken!(handle, alloc);
     *len = answer(&mut document, line);
     handle.put(document);
     Status::Ok.number()
@@ -97,9 +95,7 @@ pub extern "C" fn tm_reply(
     ensures kept { handle.new.held ≡ handle.old.held }
     ensures reply { RepliesHeld result handle.old.held from out.old out.new count.old count.new }
 {
-    let Some(document) = handle.take(alloc) else {
-        return Status::Empty.number();
-    };
+    let document = taken!(handle, alloc);
     let status = copy_reply(&document.reply, from, out, count);
     handle.put(document);
     status.number()

@@ -1,16 +1,17 @@
 //! Brackets.
 
-ghost use Rattle.std.specs.Prelude.{◌≡◌, ◌+◌, ◌++◌, [], List, map, OnOk};
+ghost use Rattle.std.specs.Prelude.{◌≡◌, ◌+◌, ◌++◌, [], Err, List, map, IfSome, OnOk};
 ghost use Rattle.std.specs.List.{All};
 ghost use Rattle.document_rules.specs.Outcomes.{Gives};
 ghost use Rattle.document_rules.specs.Brackets.{flat_brackets, flat_match, flat_level, IsSmall};
 ghost use Rattle.model_group.specs.State.{documents};
-ghost use Rattle.textmodel_c.specs.First.{first};
+ghost use Rattle.textmodel_c.specs.First.{first, FirstIsFresh};
 ghost use Rattle.textmodel_c.specs.Rules.{at, bracket_of, number_of_state, flat_bracket_list, flat_partner};
+ghost use Rattle.textmodel_c.specs.Statuses.{number_of};
 ghost use Rattle.textmodel_c.specs.Told.{FoundFor, FoundHeld, FoundOut, GivenHeld, GivenOut, KeepsText, Lists, ListsHeld};
 
 use crate::document::FIRST;
-use crate::handle::Handle;
+use crate::handle::{Handle, taken};
 use crate::lists::hand_out_of;
 use crate::status::Status;
 use model_core::{Entry, ModelError, Position};
@@ -133,9 +134,7 @@ pub extern "C" fn tm_brackets(
     ensures brackets { ListsHeld result handle.old.held out.old out.new count.old count.new
         (λ f. flat_bracket_list f from to) }
 {
-    let Some(mut document) = handle.take(alloc) else {
-        return Status::Empty.number();
-    };
+    let mut document = taken!(handle, alloc);
     let status = brackets_out(alloc, &mut document.session.group, from, to, out, count);
     handle.put(document);
     status.number()
@@ -143,6 +142,7 @@ pub extern "C" fn tm_brackets(
 
 fn match_at(group: &mut Group, at: Position) -> Result<Option<(Position, u64)>, ModelError>
     ensures partner { Gives result (flat_match (first group.old) at) }
+    ensures sure { FirstIsFresh group.old → ¬ (result ≡ Err ModelError.Memory) }
     ensures documents { documents group.new ≡ documents group.old }
 {
     group.match_at(FIRST, at, &mut Steps::new())
@@ -150,6 +150,7 @@ fn match_at(group: &mut Group, at: Position) -> Result<Option<(Position, u64)>, 
 
 fn match_out(group: &mut Group, at: Position, partner: &mut Partner) -> Status
     ensures partner { FoundOut result partner.old partner.new (flat_partner (first group.old) at) }
+    ensures sure { FirstIsFresh group.old → ¬ (result ≡ Status.Memory) }
     ensures documents { documents group.new ≡ documents group.old }
 {
     match match_at(group, at) {
@@ -167,7 +168,7 @@ fn match_out(group: &mut Group, at: Position, partner: &mut Partner) -> Status
 }
 
 /// The other bracket of a pair, where one of the two starts at the position; `Nothing` where none does. `Range` where the
-/// position is invalid.
+/// position is invalid. It takes no memory where the text was parsed since it changed last.
 #[unsafe(no_mangle)]
 pub extern "C" fn tm_match(
     alloc: Global,
@@ -179,10 +180,10 @@ pub extern "C" fn tm_match(
     ensures kept { KeepsText handle.old.held handle.new.held }
     ensures partner { FoundHeld result handle.old.held partner.old partner.new
         (λ f. flat_partner f (at line column)) }
+    ensures sure { IfSome handle.old.held (λ held. FirstIsFresh held.session.group
+        → ¬ (result ≡ number_of Status.Memory)) }
 {
-    let Some(mut document) = handle.take(alloc) else {
-        return Status::Empty.number();
-    };
+    let mut document = taken!(handle, alloc);
     let status = match_out(
         &mut document.session.group,
         Position { line, column },
@@ -194,6 +195,7 @@ pub extern "C" fn tm_match(
 
 fn level_at(group: &mut Group, at: Position) -> Result<u64, ModelError>
     ensures level { Gives result (flat_level (first group.old) at) }
+    ensures sure { FirstIsFresh group.old → ¬ (result ≡ Err ModelError.Memory) }
     ensures documents { documents group.new ≡ documents group.old }
 {
     group.level_at(FIRST, at, &mut Steps::new())
@@ -201,13 +203,15 @@ fn level_at(group: &mut Group, at: Position) -> Result<u64, ModelError>
 
 fn level_out(group: &mut Group, at: Position, level: &mut u64) -> Status
     ensures level { GivenOut result level.old level.new (flat_level (first group.old) at) }
+    ensures sure { FirstIsFresh group.old → ¬ (result ≡ Status.Memory) }
     ensures documents { documents group.new ≡ documents group.old }
 {
     let answer = level_at(group, at);
     Status::of_given(answer, level)
 }
 
-/// How many brackets are open after those that start before the position. `Range` where it is invalid.
+/// How many brackets are open after those that start before the position. `Range` where it is invalid. It takes no memory where the
+/// text was parsed since it changed last.
 #[unsafe(no_mangle)]
 pub extern "C" fn tm_level(
     alloc: Global,
@@ -219,10 +223,10 @@ pub extern "C" fn tm_level(
     ensures kept { KeepsText handle.old.held handle.new.held }
     ensures level { GivenHeld result handle.old.held level.old level.new
         (λ f. flat_level f (at line column)) }
+    ensures sure { IfSome handle.old.held (λ held. FirstIsFresh held.session.group
+        → ¬ (result ≡ number_of Status.Memory)) }
 {
-    let Some(mut document) = handle.take(alloc) else {
-        return Status::Empty.number();
-    };
+    let mut document = taken!(handle, alloc);
     let status = level_out(
         &mut document.session.group,
         Position { line, column },

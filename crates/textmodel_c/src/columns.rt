@@ -6,7 +6,7 @@ ghost use Rattle.textmodel_c.specs.Rules.{at, encoding_of, flat_column_as, flat_
 ghost use Rattle.textmodel_c.specs.Told.{GivenHeld};
 
 use crate::document::first;
-use crate::handle::Handle;
+use crate::handle::{Handle, taken};
 use crate::status::Status;
 use model_core::{Encoding, Model, ModelError, Position};
 use std::alloc::Global;
@@ -45,9 +45,7 @@ pub extern "C" fn tm_column(
     ensures column { GivenHeld result handle.old.held before.old before.new
         (λ f. flat_column_as f encoding (at line column)) }
 {
-    let Some(document) = handle.take(alloc) else {
-        return Status::Empty.number();
-    };
+    let document = taken!(handle, alloc);
     let answer = column_as(
         first(&document.session.group),
         encoding,
@@ -79,9 +77,7 @@ pub extern "C" fn tm_column_of(
     ensures column { GivenHeld result handle.old.held column.old column.new
         (λ f. flat_column_of_as f encoding line before) }
 {
-    let Some(document) = handle.take(alloc) else {
-        return Status::Empty.number();
-    };
+    let document = taken!(handle, alloc);
     let answer = column_of_as(first(&document.session.group), encoding, line, before);
     handle.put(document);
     Status::of_given(answer, column).number()

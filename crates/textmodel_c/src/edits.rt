@@ -7,12 +7,12 @@ ghost use Rattle.group_rules.specs.Going.{group_undo, group_redo};
 ghost use Rattle.group_rules.specs.Group.{group_edit};
 ghost use Rattle.model_group.specs.State.{documents};
 ghost use Rattle.textmodel_c.specs.declared.document.TheConstants.{FIRST};
-ghost use Rattle.textmodel_c.specs.First.{first, KeepsOthers};
+ghost use Rattle.textmodel_c.specs.First.{first, OnFirst};
 ghost use Rattle.textmodel_c.specs.Rules.{at, span, one_op, op_of, ops_of, span_between, group_edit_at, group_edit_joined, group_eol_as};
 ghost use Rattle.textmodel_c.specs.Told.{Becomes, ChangesDocs, GivesAll, Leaves, MovesDocs, Went};
 
 use crate::document::FIRST;
-use crate::handle::Handle;
+use crate::handle::{Handle, taken};
 use crate::opening::kind_of;
 use crate::status::Status;
 use edit_batches::one_op;
@@ -60,9 +60,7 @@ pub extern "C" fn tm_edit(
     ensures document { Leaves result handle.old.held handle.new.held
         (ChangesDocs result (λ g. group_edit g FIRST (one_op (span start end) text.now force))) }
 {
-    let Some(mut document) = handle.take(alloc) else {
-        return Status::Empty.number();
-    };
+    let mut document = taken!(handle, alloc);
     let span = Span { start, end };
     let answer = edit_span(alloc, &mut document.session.group, span, text, force);
     handle.put(document);
@@ -109,9 +107,7 @@ pub extern "C" fn tm_edit_at(
         (ChangesDocs result (group_edit_at (at line column) (at end_line end_column)
         text.now force)) }
 {
-    let Some(mut document) = handle.take(alloc) else {
-        return Status::Empty.number();
-    };
+    let mut document = taken!(handle, alloc);
     let from = Position { line, column };
     let to = Position {
         line: end_line,
@@ -182,9 +178,7 @@ pub extern "C" fn tm_batch(
     ensures document { Leaves result handle.old.held handle.new.held
         (ChangesDocs result (group_edit_joined batch.now text.now)) }
 {
-    let Some(mut document) = handle.take(alloc) else {
-        return Status::Empty.number();
-    };
+    let mut document = taken!(handle, alloc);
     let answer = edit_joined(alloc, &mut document.session.group, batch, text);
     handle.put(document);
     Status::of_done(answer).number()
@@ -197,9 +191,7 @@ pub extern "C" fn tm_batch(
 pub extern "C" fn tm_undo(alloc: Global, handle: &mut Handle) -> u32
     ensures document { Leaves result handle.old.held handle.new.held (Went result (λ g. group_undo g FIRST)) }
 {
-    let Some(mut document) = handle.take(alloc) else {
-        return Status::Empty.number();
-    };
+    let mut document = taken!(handle, alloc);
     let answer = document.session.group.undo(FIRST);
     handle.put(document);
     Status::of_going(answer).number()
@@ -212,17 +204,14 @@ pub extern "C" fn tm_undo(alloc: Global, handle: &mut Handle) -> u32
 pub extern "C" fn tm_redo(alloc: Global, handle: &mut Handle) -> u32
     ensures document { Leaves result handle.old.held handle.new.held (Went result (λ g. group_redo g FIRST)) }
 {
-    let Some(mut document) = handle.take(alloc) else {
-        return Status::Empty.number();
-    };
+    let mut document = taken!(handle, alloc);
     let answer = document.session.group.redo(FIRST);
     handle.put(document);
     Status::of_going(answer).number()
 }
 
 fn stop(group: &mut Group)
-    ensures stopped { first group.new ≡ flat_stop (first group.old) }
-    ensures others { KeepsOthers group.old group.new }
+    ensures { OnFirst (λ f g. g ≡ flat_stop f) group.old group.new }
 {
     group.stop(FIRST);
 }
@@ -232,9 +221,7 @@ fn stop(group: &mut Group)
 pub extern "C" fn tm_stop(alloc: Global, handle: &mut Handle) -> u32
     ensures document { Leaves result handle.old.held handle.new.held (Becomes result flat_stop) }
 {
-    let Some(mut document) = handle.take(alloc) else {
-        return Status::Empty.number();
-    };
+    let mut document = taken!(handle, alloc);
     stop(&mut document.session.group);
     handle.put(document);
     Status::Ok.number()
@@ -256,9 +243,7 @@ pub extern "C" fn tm_set_eol(alloc: Global, handle: &mut Handle, kind: u32) -> u
     ensures document { Leaves result handle.old.held handle.new.held
         (MovesDocs result (group_eol_as kind)) }
 {
-    let Some(mut document) = handle.take(alloc) else {
-        return Status::Empty.number();
-    };
+    let mut document = taken!(handle, alloc);
     let answer = set_kind(&mut document.session.group, kind);
     handle.put(document);
     Status::of_step(answer).number()

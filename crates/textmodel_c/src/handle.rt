@@ -23,6 +23,18 @@ pub struct Handle {
     pub ghost held: { Option Document } by { held_coded },
 }
 
+/// The document that the handle holds, which is left empty. The call ends with `Empty` where it holds none.
+macro_rules! taken {
+    ($handle:expr, $alloc:expr) => {
+        match $handle.take($alloc) {
+            Some(document) => document,
+            None => return Status::Empty.number(),
+        }
+    };
+}
+
+pub(crate) use taken;
+
 impl Model for Handle {
     ghost also_owns = { λ h. handle_owns h.alloc h.at h.held };
 }

@@ -8,7 +8,7 @@ ghost use Rattle.textmodel_c.specs.Rules.{decoration_of, new_deco_of, owner_of, 
 ghost use Rattle.textmodel_c.specs.Told.{Asked, Decorated, FoundFor, Leaves, Lists, ListsHeld};
 
 use crate::document::{FIRST, first};
-use crate::handle::Handle;
+use crate::handle::{Handle, taken};
 use crate::lists::hand_out_of;
 use crate::status::Status;
 use model_core::{Deco, Model, ModelError, NewDeco, Span};
@@ -106,9 +106,7 @@ pub extern "C" fn tm_decorate(
         (Decorated result first.old first.new owner remove.now (map new_deco_of add.now)) }
     ensures empty { IfNone handle.old.held (first.new ≡ first.old) }
 {
-    let Some(mut document) = handle.take(alloc) else {
-        return Status::Empty.number();
-    };
+    let mut document = taken!(handle, alloc);
     let answer = decorate(alloc, &mut document.session.group, owner, remove, add);
     handle.put(document);
     Status::of_given(answer, first).number()
@@ -126,9 +124,7 @@ pub extern "C" fn tm_deco(
     ensures decoration { Asked result handle.old.held decoration.old decoration.new
         (λ f. option_map decoration_of (flat_deco f id)) }
 {
-    let Some(document) = handle.take(alloc) else {
-        return Status::Empty.number();
-    };
+    let document = taken!(handle, alloc);
     let found = first(&document.session.group).get_deco(id);
     handle.put(document);
     let Some(found) = found else {
@@ -203,9 +199,7 @@ pub extern "C" fn tm_decos(
     ensures decorations { ListsHeld result handle.old.held out.old out.new count.old count.new
         (λ f. flat_decoration_list f (span start end) (owner_of owner any)) }
 {
-    let Some(document) = handle.take(alloc) else {
-        return Status::Empty.number();
-    };
+    let document = taken!(handle, alloc);
     let span = Span { start, end };
     let owner = owner_of(owner, any);
     let status = decorations_out(

@@ -7,7 +7,7 @@ ghost use Rattle.textmodel_c.specs.Rules.{kind_of, pair_of, pairs_of, table_or_r
 ghost use Rattle.textmodel_c.specs.Told.{GivesAll, HasOpenedUtf8, Leaves, Opened, OpenedUtf8, Opens};
 
 use crate::document::FIRST;
-use crate::handle::Handle;
+use crate::handle::{Handle, taken};
 use crate::status::Status;
 use model_core::{BracketTable, Hiding, ModelError, TableError, Units, units_of};
 use sessions::Session;
@@ -51,9 +51,7 @@ pub extern "C" fn tm_open(alloc: Global, handle: &mut Handle, text: &[u16], kind
     ensures document { Leaves result handle.old.held handle.new.held
         (Opened result (group_open_as kind text.now)) }
 {
-    let Some(mut document) = handle.take(alloc) else {
-        return Status::Empty.number();
-    };
+    let mut document = taken!(handle, alloc);
     let answer = open_as(&mut document.session, text, kind);
     handle.put(document);
     Status::of_done(answer).number()
@@ -146,9 +144,7 @@ pub extern "C" fn tm_open_with(
     ensures document { Leaves result handle.old.held handle.new.held
         (Opened result (group_open_with kind pairs.now brackets.now text.now)) }
 {
-    let Some(mut document) = handle.take(alloc) else {
-        return Status::Empty.number();
-    };
+    let mut document = taken!(handle, alloc);
     let answer = open_with(&mut document.session, text, kind, pairs, brackets);
     handle.put(document);
     Status::of_done(answer).number()
@@ -185,9 +181,7 @@ pub extern "C" fn tm_open_utf8(
         (HasOpenedUtf8 result kind text.now bad.old bad.new) }
     ensures empty { IfNone handle.old.held (bad.new ≡ bad.old) }
 {
-    let Some(mut document) = handle.take(alloc) else {
-        return Status::Empty.number();
-    };
+    let mut document = taken!(handle, alloc);
     let status = open_utf8(&mut document.session, text, kind, bad);
     handle.put(document);
     status.number()

@@ -1,14 +1,15 @@
 //! Snapshots, and where a cursor may stop.
 
-ghost use Rattle.std.specs.Prelude.{◌≡◌, length, IfNone};
+ghost use Rattle.std.specs.Prelude.{◌≡◌, Err, length, IfNone};
 ghost use Rattle.document_rules.specs.Snapshots.{flat_snapshot, flat_peek_of, flat_skipped, flat_close_of};
 ghost use Rattle.document_rules.specs.Stops.{flat_stops};
 ghost use Rattle.document_rules.specs.Outcomes.{Changes, ChangesWith};
-ghost use Rattle.textmodel_c.specs.First.{first, KeepsOthers};
+ghost use Rattle.textmodel_c.specs.First.{first, KeepsOthers, OnFirst};
+ghost use Rattle.textmodel_c.specs.Statuses.{number_of};
 ghost use Rattle.textmodel_c.specs.Told.{Changed, ChangedWith, HasRead, Leaves, Lists, ListsHeld, Reads};
 
 use crate::document::{FIRST, first};
-use crate::handle::Handle;
+use crate::handle::{Handle, taken};
 use crate::lists::hand_out_of;
 use crate::status::Status;
 use model_core::{Model, ModelError};
@@ -16,9 +17,8 @@ use model_group::Group;
 use std::alloc::Global;
 
 fn snapshot(group: &mut Group) -> Result<u64, ModelError>
-    ensures document { ChangesWith (first group.old).shelf.next_id result
-        (first group.old) (first group.new) (flat_snapshot (first group.old)) }
-    ensures others { KeepsOthers group.old group.new }
+    ensures { OnFirst (λ f g. ChangesWith f.shelf.next_id result f g (flat_snapshot f))
+        group.old group.new }
 {
     group.snapshot(FIRST)
 }
@@ -31,17 +31,14 @@ pub extern "C" fn tm_snapshot(alloc: Global, handle: &mut Handle, id: &mut u64) 
         (ChangedWith result id.old id.new (λ f. f.shelf.next_id) flat_snapshot) }
     ensures empty { IfNone handle.old.held (id.new ≡ id.old) }
 {
-    let Some(mut document) = handle.take(alloc) else {
-        return Status::Empty.number();
-    };
+    let mut document = taken!(handle, alloc);
     let answer = snapshot(&mut document.session.group);
     handle.put(document);
     Status::of_given(answer, id).number()
 }
 
 fn skip(group: &mut Group, id: u64, count: u64)
-    ensures skipped { first group.new ≡ flat_skipped (first group.old) id count }
-    ensures others { KeepsOthers group.old group.new }
+    ensures { OnFirst (λ f g. g ≡ flat_skipped f id count) group.old group.new }
 {
     group.skip(FIRST, id, count);
 }
@@ -82,31 +79,29 @@ pub extern "C" fn tm_read(
         (HasRead result id out.old out.new count.old count.new) }
     ensures empty { IfNone handle.old.held ((out.new ≡ out.old) × (count.new ≡ count.old)) }
 {
-    let Some(mut document) = handle.take(alloc) else {
-        return Status::Empty.number();
-    };
+    let mut document = taken!(handle, alloc);
     let status = read_out(alloc, &mut document.session.group, id, out, count);
     handle.put(document);
     status.number()
 }
 
 fn close(group: &mut Group, id: u64) -> Result<(), ModelError>
-    ensures document { Changes result (first group.old) (first group.new)
-        (flat_close_of (first group.old) id) }
-    ensures others { KeepsOthers group.old group.new }
+    ensures document { OnFirst (λ f g. Changes result f g (flat_close_of f id))
+        group.old group.new }
+    ensures sure { ¬ (result ≡ Err ModelError.Memory) }
 {
     group.close(FIRST, id)
 }
 
-/// Closes a snapshot: it is no longer open, and its id is not used again. `Unknown` where no snapshot of this id is open.
+/// Closes a snapshot: it is no longer open, and its id is not used again. `Unknown` where no snapshot of this id is open. It takes no
+/// memory.
 #[unsafe(no_mangle)]
 pub extern "C" fn tm_close(alloc: Global, handle: &mut Handle, id: u64) -> u32
     ensures document { Leaves result handle.old.held handle.new.held
         (Changed result (λ f. flat_close_of f id)) }
+    ensures sure { ¬ (result ≡ number_of Status.Memory) }
 {
-    let Some(mut document) = handle.take(alloc) else {
-        return Status::Empty.number();
-    };
+    let mut document = taken!(handle, alloc);
     let answer = close(&mut document.session.group, id);
     handle.put(document);
     Status::of_done(answer).number()
@@ -134,9 +129,7 @@ pub extern "C" fn tm_stops(
     ensures stops { ListsHeld result handle.old.held out.old out.new count.old count.new
         (λ f. flat_stops f n) }
 {
-    let Some(document) = handle.take(alloc) else {
-        return Status::Empty.number();
-    };
+    let document = taken!(handle, alloc);
     let status = stops_out(alloc, first(&document.session.group), n, out, count);
     handle.put(document);
     status.number()

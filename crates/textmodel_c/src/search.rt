@@ -7,7 +7,7 @@ ghost use Rattle.textmodel_c.specs.Rules.{found_of, flat_find_list, group_replac
 ghost use Rattle.textmodel_c.specs.Told.{FoundFor, Leaves, Lists, ListsHeld, MovesDocs};
 
 use crate::document::{FIRST, first};
-use crate::handle::Handle;
+use crate::handle::{Handle, taken};
 use crate::lists::hand_out_of;
 use crate::status::Status;
 use model_core::{Model, ModelError, Span};
@@ -89,9 +89,7 @@ pub extern "C" fn tm_find(
     ensures found { ListsHeld result handle.old.held out.old out.new count.old count.new
         (λ f. flat_find_list f sought.now) }
 {
-    let Some(document) = handle.take(alloc) else {
-        return Status::Empty.number();
-    };
+    let document = taken!(handle, alloc);
     let status = found_out(alloc, first(&document.session.group), sought, out, count);
     handle.put(document);
     status.number()
@@ -120,9 +118,7 @@ pub extern "C" fn tm_replace_all(
     ensures document { Leaves result handle.old.held handle.new.held
         (MovesDocs result (group_replace_some sought.now with.now)) }
 {
-    let Some(mut document) = handle.take(alloc) else {
-        return Status::Empty.number();
-    };
+    let mut document = taken!(handle, alloc);
     let answer = replace_some(&mut document.session.group, sought, with);
     handle.put(document);
     Status::of_step(answer).number()

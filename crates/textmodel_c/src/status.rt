@@ -1,7 +1,7 @@
 //! How a call ended.
 
 ghost use Rattle.std.specs.Prelude.{◌≡◌};
-ghost use Rattle.textmodel_c.specs.Statuses.{number_of, status_of_error, status_of_group_error, status_of_done, status_of_step, status_of_going, status_of_given, given_or};
+ghost use Rattle.textmodel_c.specs.Statuses.{number_of, status_of_error, status_of_group_error, status_of_step, status_of_going, status_of_given, given_or};
 
 use model_core::ModelError;
 use model_group::GroupError;
@@ -79,7 +79,7 @@ impl Status {
 
     /// The status of a call that answers nothing.
     pub(crate) fn of_done(answer: Result<(), ModelError>) -> Status
-        ensures { result ≡ status_of_done answer }
+        ensures { result ≡ status_of_given answer }
     {
         match answer {
             Ok(()) => Status::Ok,

@@ -7,7 +7,7 @@ ghost use Rattle.textmodel_c.specs.Rules.{at, span, place_of, number_of_kind, fi
 ghost use Rattle.textmodel_c.specs.Told.{Asked, Freed, Holds, Lists, ListsHeld, Made};
 
 use crate::document::{Document, first};
-use crate::handle::Handle;
+use crate::handle::{Handle, taken};
 use crate::lists::hand_out_of;
 use crate::status::Status;
 use model_core::{Model, ModelError, Position, Span, utf8_of};
@@ -41,9 +41,7 @@ pub extern "C" fn tm_free(alloc: Global, handle: &mut Handle) -> u32
     ensures left { handle.new.held ≡ None }
     ensures freed { Freed result handle.old.held }
 {
-    let Some(document) = handle.take(alloc) else {
-        return Status::Empty.number();
-    };
+    let document = taken!(handle, alloc);
     drop(document);
     Status::Ok.number()
 }
@@ -55,9 +53,7 @@ pub extern "C" fn tm_len(alloc: Global, handle: &mut Handle, len: &mut u64) -> u
     ensures len { Asked result handle.old.held len.old len.new
         (λ f. Some (length f.units)) }
 {
-    let Some(document) = handle.take(alloc) else {
-        return Status::Empty.number();
-    };
+    let document = taken!(handle, alloc);
     *len = first(&document.session.group).len();
     handle.put(document);
     Status::Ok.number()
@@ -70,9 +66,7 @@ pub extern "C" fn tm_line_count(alloc: Global, handle: &mut Handle, count: &mut 
     ensures count { Asked result handle.old.held count.old count.new
         (λ f. Some (flat_line_count f)) }
 {
-    let Some(document) = handle.take(alloc) else {
-        return Status::Empty.number();
-    };
+    let document = taken!(handle, alloc);
     *count = first(&document.session.group).line_count();
     handle.put(document);
     Status::Ok.number()
@@ -95,9 +89,7 @@ pub extern "C" fn tm_kind(alloc: Global, handle: &mut Handle, kind: &mut u32) ->
     ensures kind { Asked result handle.old.held kind.old kind.new
         (λ f. Some (number_of_kind f.kind)) }
 {
-    let Some(document) = handle.take(alloc) else {
-        return Status::Empty.number();
-    };
+    let document = taken!(handle, alloc);
     *kind = number_of_kind(first(&document.session.group).kind());
     handle.put(document);
     Status::Ok.number()
@@ -117,9 +109,7 @@ pub extern "C" fn tm_versions(
     ensures alternative { Asked result handle.old.held alternative.old alternative.new
         (λ f. Some f.alternative) }
 {
-    let Some(document) = handle.take(alloc) else {
-        return Status::Empty.number();
-    };
+    let document = taken!(handle, alloc);
     (*version, *alternative) = first(&document.session.group).versions();
     handle.put(document);
     Status::Ok.number()
@@ -132,9 +122,7 @@ pub extern "C" fn tm_can_undo(alloc: Global, handle: &mut Handle) -> u32
     ensures can { Holds result handle.old.held
         (λ f. is_some (slice_get f.history.undo 0)) }
 {
-    let Some(document) = handle.take(alloc) else {
-        return Status::Empty.number();
-    };
+    let document = taken!(handle, alloc);
     let can = first(&document.session.group).can_undo();
     handle.put(document);
     Status::of_step(Ok(can)).number()
@@ -147,9 +135,7 @@ pub extern "C" fn tm_can_redo(alloc: Global, handle: &mut Handle) -> u32
     ensures can { Holds result handle.old.held
         (λ f. is_some (slice_get f.history.redo 0)) }
 {
-    let Some(document) = handle.take(alloc) else {
-        return Status::Empty.number();
-    };
+    let document = taken!(handle, alloc);
     let can = first(&document.session.group).can_redo();
     handle.put(document);
     Status::of_step(Ok(can)).number()
@@ -167,9 +153,7 @@ pub extern "C" fn tm_position(
     ensures position { Asked result handle.old.held at.old at.new
         (λ f. option_map place_of (flat_position f offset)) }
 {
-    let Some(document) = handle.take(alloc) else {
-        return Status::Empty.number();
-    };
+    let document = taken!(handle, alloc);
     let found = first(&document.session.group).position_at(offset, &mut Steps::new());
     handle.put(document);
     let Some(Position { line, column }) = found else {
@@ -192,9 +176,7 @@ pub extern "C" fn tm_offset(
     ensures offset { Asked result handle.old.held offset.old offset.new
         (λ f. flat_offset f (at line column)) }
 {
-    let Some(document) = handle.take(alloc) else {
-        return Status::Empty.number();
-    };
+    let document = taken!(handle, alloc);
     let found = first(&document.session.group).offset_at(
         Position { line, column },
         &mut Steps::new(),
@@ -230,9 +212,7 @@ pub extern "C" fn tm_value(
     ensures units { ListsHeld result handle.old.held out.old out.new count.old count.new
         (λ f. flat_value f (span start end)) }
 {
-    let Some(document) = handle.take(alloc) else {
-        return Status::Empty.number();
-    };
+    let document = taken!(handle, alloc);
     let status = value_out(
         alloc,
         first(&document.session.group),
@@ -266,9 +246,7 @@ pub extern "C" fn tm_line(
     ensures units { ListsHeld result handle.old.held out.old out.new count.old count.new
         (λ f. flat_line f n) }
 {
-    let Some(document) = handle.take(alloc) else {
-        return Status::Empty.number();
-    };
+    let document = taken!(handle, alloc);
     let status = line_out(alloc, first(&document.session.group), n, out, count);
     handle.put(document);
     status.number()
@@ -309,9 +287,7 @@ pub extern "C" fn tm_read_into(
     ensures units { ListsHeld result handle.old.held out.old out.new count.old count.new
         (λ f. flat_value f (fitting_span f offset (length out.old))) }
 {
-    let Some(document) = handle.take(alloc) else {
-        return Status::Empty.number();
-    };
+    let document = taken!(handle, alloc);
     let span = fitting_span(first(&document.session.group), offset, out.len() as u64);
     let status = value_out(alloc, first(&document.session.group), span, out, count);
     handle.put(document);
@@ -349,9 +325,7 @@ pub extern "C" fn tm_line_utf8(
     ensures bytes { ListsHeld result handle.old.held out.old out.new count.old count.new
         (λ f. flat_line_utf8 f n) }
 {
-    let Some(document) = handle.take(alloc) else {
-        return Status::Empty.number();
-    };
+    let document = taken!(handle, alloc);
     let status = line_utf8_out(alloc, first(&document.session.group), n, out, count);
     handle.put(document);
     status.number()

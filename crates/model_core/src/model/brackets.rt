@@ -3,6 +3,7 @@
 ghost use Rattle.std.specs.Prelude.{◌≡◌};
 ghost use Rattle.std.specs.Option.{option_copied};
 ghost use Rattle.document_rules.specs.Brackets.{flat_match, flat_level};
+ghost use Rattle.model_page.specs.Asked.{told_parse};
 ghost use Rattle.model_core.specs.Questions.{AppendsBrackets, AreFewSteps, Asks};
 
 use crate::model::Model;
@@ -17,7 +18,7 @@ impl Model {
     /// The last parse of the text, be it of the text of now or of an earlier one. None before the first one since `new`
     /// or `open_doc`.
     pub fn parsed(&self) -> Option<&Parsed>
-        ensures { option_copied result ≡ self.now.parsed }
+        ensures { option_copied result ≡ told_parse self.now.parsed }
     {
         self.page.parsed()
     }

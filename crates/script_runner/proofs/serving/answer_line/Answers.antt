@@ -8,7 +8,7 @@ use Rattle.sessions.specs.declared.outcome.Reply.{Reply}
 use Rattle.sessions.specs.declared.outcome.Refused.{Refused}
 use Rattle.sessions.specs.Bytes.{bytes_of, bytes_of_outcome, is_memory, is_for_memory}
 use Rattle.session_rules.specs.Script.{is_refused}
-use Rattle.script_runner.specs.Progress.{refusals, memory_refusals}
+use Rattle.script_runner.specs.Runs.{refusals, memory_refusals}
 use Rattle.script_runner.proofs.serving.answer_line.Goals as goal
 
 -- the reply to a refusal is counted as one, and as one for want of memory where it is

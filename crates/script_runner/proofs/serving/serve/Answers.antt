@@ -1,11 +1,15 @@
 use Rattle.std.proofs.Common.{◌≡◌, ℕ, List, length, take, drop, min, arith, sym, ◌∙◌}
 use Rattle.std.proofs.lemmas.List.{take-append-le, length-take-le}
-use Rattle.script_runner.proofs.ServeLemmas.{serves_end, served_to_more, served_to_write_fault, piece_broken_at_err, piece_answered_at_ok}
+use Rattle.script_runner.proofs.ServeLemmas.{served_to_start, serves_end, served_to_more, served_to_write_fault, piece_broken_at_err, piece_answered_at_ok}
 use Rattle.script_runner.proofs.serving.serve.Goals as goal
 
 -- how many bytes a read may give
 room : (buf given : List ℕ) (n left : ℕ) → n ≡ min (length buf) left → length given ≡ length (take n buf) → length given ≡ min (length buf) left
 room buf given n left is whole = whole ∙ length-take-le n buf (omega arith) ∙ is
+
+pub loop-left-init : goal.loop-left-init
+loop-left-init g c =
+    served_to_start _ _ c.new-progress.result _ _ c.new-progress.ensures.line c.new-progress.ensures.refused c.new-progress.ensures.memory
 
 pub returns-then-given-eq0 : goal.returns-then-given-eq0
 returns-then-given-eq0 g c =

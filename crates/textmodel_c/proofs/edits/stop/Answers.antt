@@ -1,10 +1,7 @@
 use Rattle.std.proofs.Common.{◌≡◌}
 use Rattle.document_rules.specs.Document.{flat_stop}
-use Rattle.textmodel_c.proofs.Firsts.{on_first, others_kept}
+use Rattle.textmodel_c.proofs.Firsts.{on_first}
 use Rattle.textmodel_c.proofs.edits.stop.Goals as goal
 
-pub returns-clause-stopped : goal.returns-clause-stopped
-returns-clause-stopped c = on_first (λ f g. g ≡ flat_stop f) c.args.group.now c.stop.new.self c.stop.ensures c.stop.ensures.done.0
-
-pub returns-clause-others : goal.returns-clause-others
-returns-clause-others c = others_kept c.args.group.now c.stop.new.self c.stop.ensures
+pub returns : goal.returns
+returns c = on_first (λ f g. g ≡ flat_stop f) c.args.group.now c.stop.new.self c.stop.ensures c.stop.ensures.done.0

@@ -3,7 +3,7 @@ use Rattle.std.proofs.lemmas.Result.{on_ok_weaker, on_err_weaker}
 use Rattle.mark_rules.specs.declared.Mark.TheVariants.{Kept}
 use Rattle.mark_rules.specs.Marks.{mark_at, kept_run}
 use Rattle.line_hunks.specs.Numbers.{AreNumbers}
-use Rattle.hiding_rules.specs.States.{is_scanned}
+use Rattle.hiding_rules.specs.Known.{is_scanned}
 use Rattle.line_states.specs.Lines.{AsksFront}
 use Rattle.line_states.specs.Settling.{known_of, IsKeptAs}
 use Rattle.line_states.specs.Outcome.{Task, IsTask}

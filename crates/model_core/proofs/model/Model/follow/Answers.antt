@@ -5,7 +5,8 @@ use Rattle.document_rules.specs.Document.{FlatText, FlatState, greatest_version}
 use Rattle.snapshots.specs.Shown as shelves
 use Rattle.model_page.specs.Counts.{op_count, marking_count, unit_count, breaks_along}
 use Rattle.model_page.specs.State.{flat_text, is_fresh}
-use Rattle.model_page.specs.Ways.{text_by, changes_by, decorations_by, marked_along, marked_step}
+use Rattle.model_page.specs.Ways.{text_by, changes_by, decorations_by, marked_along}
+use Rattle.model_page.specs.LineMarks.{marked_step}
 use Rattle.model_page.proofs.Staying.{marked_by_way, kept_as}
 use Rattle.model_core.specs.State.{ModelState}
 use Rattle.model_core.specs.History.{latest_along}

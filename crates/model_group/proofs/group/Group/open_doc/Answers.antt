@@ -1,13 +1,16 @@
-use Rattle.std.proofs.Common.{◌≡◌, set, refl, Ok, sym, subst}
+use Rattle.std.proofs.Common.{◌≡◌, ◌^◌, ◌++◌, set, length, take, drop, refl, Ok, sym, subst, ap, ◌∙◌, arith}
+use Rattle.std.proofs.lemmas.List.{length-set}
 use Rattle.hiding_rules.specs.Hidden.{scanner}
 use Rattle.unit_text.specs.Kinds.{normalized}
-use Rattle.document_rules.specs.Document.{flat_open}
 use Rattle.group_rules.specs.Group.{doc_in, group_open, lost_by_open}
-use Rattle.group_rules.specs.Together.{Stay, reached}
+use Rattle.group_rules.proofs.Shared.{shared_open}
 use Rattle.group_rules.proofs.Together.{open_others_stay}
 use Rattle.model_core.specs.Opened.{HasOpened, IsUnparsed}
-use Rattle.model_group.specs.State.{ActsOn, GroupState, documents}
+use Rattle.model_group.specs.State.{ActsOn, IsGroup, documents}
+use Rattle.model_group.specs.Losing.{LoseTags}
 use Rattle.model_group.proofs.Committing.{keep_same}
+use Rattle.model_group.proofs.Lists.{length-documents}
+use Rattle.model_group.proofs.Grouping.{lent_back}
 use Rattle.model_group.proofs.Changing.{all_stay, kept_refused, opened, opened_models}
 use Rattle.model_group.proofs.group.Group.open_doc.Goals as goal
 use Rattle.model_group.proofs.group.Group.open_doc.Goals.{After-lose_all}
@@ -20,26 +23,51 @@ returns-in_err-model-clause-models c =
 pub returns-in_err-model-clause-stay : goal.returns-in_err-model-clause-stay
 returns-in_err-model-clause-stay c = all_stay _ _ _ refl
 
+left : (c : After-lose_all) → LoseTags (lost_by_open (doc_in (documents c.args.self.now) c.args.doc)) (2 ^ c.args.doc) c.args.self.now c.lose_all.new.models
+left c =
+    subst (λ g. LoseTags (lost_by_open (doc_in (documents g) c.args.doc)) (2 ^ c.args.doc) g c.lose_all.new.models)
+    (c.as_mut_slice-models.ensures.value ∙ c.self.view_is) c.lose_all.ensures
+
+back : (c : After-lose_all) → take c.self.inside.models.len (set c.lose_all.new.models c.args.doc c.in_ok-model.model
+    ++ drop (length (set c.lose_all.new.models c.args.doc c.in_ok-model.model)) c.self.inside.models.items)
+    ≡ set c.lose_all.new.models c.args.doc c.in_ok-model.model
+back c =
+    let models = c.self.inside.models in
+    let new = c.lose_all.new.models in
+    lent_back models.items (set new c.args.doc c.in_ok-model.model) models.len (omega (arith, models.ok.0))
+    (omega (arith, length-set new c.args.doc c.in_ok-model.model, c.lose_all.auto.models, ap length c.as_mut_slice-models.ensures.value))
+
 done : (c : After-lose_all) → group_open (documents c.args.self.now) c.args.doc c.args.text.now (scanner c.args.table c.args.hiding) c.args.kind
-    ≡ Ok (documents (set c.lose_all.new.self c.args.doc c.in_ok-model.model))
+    ≡ Ok (documents (set c.lose_all.new.models c.args.doc c.in_ok-model.model))
 done c =
-    opened c.args.doc c.args.self.now c.lose_all.new.self c.in_ok-model.model c.lose_all.ensures c.args.text.now (scanner c.args.table c.args.hiding) c.args.kind
+    opened c.args.doc c.args.self.now c.lose_all.new.models c.in_ok-model.model (left c) c.args.text.now (scanner c.args.table c.args.hiding) c.args.kind
     c.in_ok-model.ensures.document
 
 pub returns-clause-documents : goal.returns-clause-documents
 returns-clause-documents c =
-    subst (λ (left : GroupState). group_open (documents c.args.self.now) c.args.doc c.args.text.now (scanner c.args.table c.args.hiding) c.args.kind
-    ≡ Ok (documents (set left c.args.doc c.in_ok-model.model))) (sym c.self-2.view_is) (done (goal.at.returns-clause-documents c).After-lose_all)
+    let after = (goal.at.returns-clause-documents c).After-lose_all in
+    rw (back after) (done after)
 
 pub returns-clause-models : goal.returns-clause-models
 returns-clause-models c =
+    let after = (goal.at.returns-clause-models c).After-lose_all in
     let unparsed = IsUnparsed (normalized c.args.kind c.args.text.now) in
-    subst (λ (left : GroupState). ActsOn c.args.doc (λ _ k. unparsed k) c.args.self.now (set left c.args.doc c.in_ok-model.model)) (sym c.self-2.view_is)
-    (opened_models c.args.doc c.args.self.now c.lose_all.new.self c.in_ok-model.model c.lose_all.ensures unparsed c.in_ok-model.ensures.parse)
+    subst (ActsOn c.args.doc (λ _ k. unparsed k) c.args.self.now) (sym (back after))
+    (opened_models c.args.doc c.args.self.now c.lose_all.new.models c.in_ok-model.model (left after) unparsed c.in_ok-model.ensures.parse)
 
 pub returns-clause-stay : goal.returns-clause-stay
 returns-clause-stay c =
+    let after = (goal.at.returns-clause-stay c).After-lose_all in
     let g = documents c.args.self.now in
-    subst (λ (left : GroupState). Stay (reached c.args.doc (lost_by_open (doc_in g c.args.doc))) g (documents (set left c.args.doc c.in_ok-model.model)))
-    (sym c.self-2.view_is)
-    (open_others_stay g _ c.args.doc c.args.text.now (scanner c.args.table c.args.hiding) c.args.kind (done (goal.at.returns-clause-stay c).After-lose_all))
+    rw (back after)
+    (open_others_stay g _ c.args.doc c.args.text.now (scanner c.args.table c.args.hiding) c.args.kind (done after))
+
+pub invariant_of-self : goal.invariant_of-self
+invariant_of-self c =
+    let after = (goal.at.invariant_of-self c).After-lose_all in
+    let is = subst IsGroup c.self.view_is c.self.invariant in
+    subst IsGroup (sym (back after)) (record {
+      count = length-set c.lose_all.new.models c.args.doc c.in_ok-model.model ∙ (left after).count ∙ is.count;
+      shared = shared_open (documents c.args.self.now) _ c.args.doc is.shared (length-documents c.args.self.now ∙ is.count) c.requires
+          c.args.text.now (scanner c.args.table c.args.hiding) c.args.kind (done after);
+    })

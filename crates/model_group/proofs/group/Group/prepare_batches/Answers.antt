@@ -5,7 +5,7 @@ use Rattle.std.proofs.lemmas.Bool.{or_parts, leb-false}
 use Rattle.group_rules.specs.declared.TheConstants.{DOC_COUNT}
 use Rattle.std.specs.Vec.Iter.{into_iter_items}
 use Rattle.group_rules.specs.Joint.{FlatBatch, flat_batch}
-use Rattle.model_group.specs.declared.joint.DocReady.{DocReady}
+use Rattle.model_group.specs.declared.ready.DocReady.{DocReady}
 use Rattle.model_group.specs.State.{documents}
 use Rattle.model_group.specs.Prepared.{AreBatchesReady, IsFirstOf}
 use Rattle.model_group.proofs.Naming.{batch_fine}

@@ -2,7 +2,7 @@ use Rattle.std.proofs.Common.{◌≡◌, ◌+◌, ◌∷◌, [], ◌++◌, true,
 use Rattle.std.proofs.lemmas.Grind.{common_steps}
 use Rattle.std.proofs.lemmas.Result.{on_ok_weaker}
 use Rattle.undo_rules.specs.Tags.{is_member}
-use Rattle.model_group.specs.declared.joint.DocReady.{DocReady}
+use Rattle.model_group.specs.declared.ready.DocReady.{DocReady}
 use Rattle.model_group.specs.Prepared.{AreStepsReady}
 use Rattle.model_group.proofs.Committing.{kept_all}
 use Rattle.model_group.proofs.Goings.{memory_alone, none_more, step_prepared, none_prepared}

@@ -13,7 +13,7 @@ pub index-requires : goal.index-requires
 index-requires c =
     let xs = c.args.batches.now in
     let there = least_there (map flat_batch xs) (omega (arith, length-map xs flat_batch, c.requires.some)) c.requires.named in
-    omega (arith, c.least_of-least.ensures, there, c.self.invariant, c.self.inside.models.ok.0)
+    omega (arith, c.least_of-least.ensures, there, c.self.invariant.count, c.self.inside.models.ok.0)
 
 pub returns : goal.returns
 returns c =
@@ -22,7 +22,7 @@ returns c =
     let n = c.least_of-least.result in
     let there = least_there (map flat_batch xs) (omega (arith, length-map xs flat_batch, c.requires.some)) c.requires.named in
     let here : n < DOC_COUNT = omega (arith, c.least_of-least.ensures, there) in
-    let at = model_at g c.self.inside.models.items n c.index.result.now c.self.view_is c.self.invariant here c.index.ensures in
+    let at = model_at g c.self.inside.models.items n c.index.result.now c.self.view_is c.self.invariant.count here c.index.ensures in
     let version : c.versions.result.0 ≡ (doc_in (documents g) (least_of (map flat_batch xs))).version =
     c.versions.ensures.version ∙ sym (ap (λ (f : _). f.version) (doc_in-is g n c.index.result.now at))
     ∙ ap (λ k. (doc_in (documents g) k).version) c.least_of-least.ensures in

@@ -1,14 +1,14 @@
-use Rattle.std.proofs.Common.{◌≡◌, length, ap, subst, ◌∙◌}
+use Rattle.std.proofs.Common.{◌≡◌, ℕ, ◌+◌, ◌^◌, ◌≤◌, List, ◌++◌, length, ap, ap₂, subst, ◌∙◌}
 use Rattle.hiding_rules.specs.Hidden.{scanner}
 use Rattle.hiding_rules.specs.Rows.{hidden_rows}
 use Rattle.bracket_tree_rules.specs.Told.{IsTreeOf}
-use Rattle.bracket_tree_rules.specs.Weights.{tree_weights, AreCovered}
-use Rattle.line_states.specs.Lines.{text_weights}
+use Rattle.bracket_tree_rules.specs.Tree.{highest, weight}
 use Rattle.document_rules.specs.Brackets.{line_contents}
 use Rattle.model_page.specs.Counting.{TakesFewSteps}
+use Rattle.model_page.specs.Asked.{lines_to_settle}
 use Rattle.model_page.specs.Staying.{AreSettled, IsParseOf}
 use Rattle.model_page.specs.State.{PageState}
-use Rattle.model_page.proofs.SettledLines.{settled_count, settled_agrees, settled_asks, few_steps_settled}
+use Rattle.model_page.proofs.SettledLines.{settled_count, settled_agrees, settled_asks, few_steps_settled, low_where_light}
 use Rattle.model_page.proofs.TextLines.{some_lines}
 use Rattle.model_page.proofs.page.Page.parse_again.Goals as goal
 use Rattle.model_page.proofs.page.Page.parse_again.Given.{Over}
@@ -74,11 +74,20 @@ returns-clause-parsed g c =
     let same = same_contents g at in
     let told = c.in_ok-parsed.ensures in
     let asks = settled_asks by m.text.units m.last.states m.last.marks c.in_ok-settled.settled c.self.invariant.stays.count (are_settled g at) in
-    subst (λ (p : PageState). IsParseOf p.scanner p.text.units p.states p.marks c.in_ok-parsed.parsed) c.self.view_is
+    let low = subst (λ t. 2 ^ highest t ≤ weight t + 1) c.tree.ensures
+    (subst (λ h. 2 ^ h ≤ weight c.tree.result.now + 1) c.highest-highest.ensures.highest c.highest-highest.ensures.low) in
+    let none = c.new-lines.ensures in
+    let settled = c.in_ok-settled.ensures.read
+    ∙ ap₂ (λ (before : List ℕ) x. before ++ lines_to_settle m.last.states m.last.marks by x) none.asked none.units in
+    let read = told.asked ∙ ap₂ (λ (before after : List ℕ). before ++ after) settled asks in
+    subst (λ (p : PageState). IsParseOf p.scanner p.text.units p.states p.marks
+    (record { parsed = c.in_ok-parsed.parsed; read = c.reparse.new.lines.asked.numbers })) c.self.view_is
     (record {
-      rule = told.table;
-      tree = subst (λ contents. IsTreeOf (hidden_rows by contents) c.in_ok-parsed.parsed.tree) same told.tree;
+      now = record {
+        table = told.table;
+        tells = subst (λ contents. IsTreeOf (hidden_rows by contents) c.in_ok-parsed.parsed.tree) same told.tree;
+        low = low_where_light c.in_ok-parsed.parsed.tree m.text.units (line_contents c.settle.new.lines.lines) same low told.light;
+      };
       tight = told.tight;
-      light = subst (λ contents. AreCovered (tree_weights c.in_ok-parsed.parsed.tree) (text_weights contents)) same told.light;
-      asked = told.count ∙ ap length asks;
+      read = (told.count ∙ ap length asks, read);
     })

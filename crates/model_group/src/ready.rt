@@ -1,0 +1,67 @@
+//! Changes that were prepared are carried out.
+
+ghost use Rattle.std.specs.Prelude.{◌≡◌, length};
+ghost use Rattle.std.specs.List.{All};
+ghost use Rattle.group_rules.specs.declared.TheConstants.{DOC_COUNT};
+ghost use Rattle.model_group.specs.Prepared.{AreApart, CanIn, CommitAll, Commits, Does, IsReadyIn, acts_in};
+ghost use Rattle.model_group.specs.State.{IsGroup, OnDoc};
+
+use crate::losing::lose_redo;
+use crate::members::Members;
+use model_core::{Model, Ready, Tag};
+
+/// What was prepared for the document of this number.
+#[derive(Drop)]
+pub(crate) struct DocReady {
+    pub doc: u64,
+    pub ready: Ready,
+}
+
+/// How a change is made.
+#[derive(Clone, Copy)]
+pub(crate) enum Manner {
+    /// As the rule makes it: an edit may join the step before it.
+    Plain,
+    /// As a step of its own.
+    Alone,
+    /// As a step of its own, which gets the tag.
+    Joint(Tag),
+}
+
+/// Carries it out, after what the document could redo is lost.
+pub(crate) fn commit(models: &mut [Model], one: DocReady, manner: Manner)
+    requires group { IsGroup models.old }
+    requires ready { IsReadyIn (CanIn manner) models.old one }
+    ensures { Commits (acts_in manner) one models.old models.new }
+{
+    lose_redo(models, one.doc, Members::one(one.doc), &[]);
+    commit_step(models, one, manner);
+}
+
+/// Carries out each.
+pub(crate) fn commit_all(models: &mut [Model], ready: Vec<DocReady>, manner: Manner)
+    requires count { length models.old ≡ DOC_COUNT }
+    requires apart { AreApart ready.items }
+    requires each { All (IsReadyIn (CanIn manner) models.old) ready.items }
+    ensures { CommitAll (acts_in manner) ready.items models.old models.new }
+{
+    for one in ready {
+        commit_step(models, one, manner);
+    }
+}
+
+fn commit_step(models: &mut [Model], one: DocReady, manner: Manner)
+    requires count { length models.old ≡ DOC_COUNT }
+    requires ready { IsReadyIn (CanIn manner) models.old one }
+    ensures { OnDoc one.doc (Does (acts_in manner) one.ready.action) models.old models.new }
+{
+    let model = &mut models[one.doc as usize];
+    match manner {
+        Manner::Plain => model.commit(one.ready),
+        Manner::Alone => model.commit_alone(one.ready),
+        Manner::Joint(tag) => {
+            model.commit_alone(one.ready);
+            model.tag_last(tag);
+        }
+    }
+}
