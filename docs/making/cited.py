@@ -1,7 +1,7 @@
 """What each promise of README cites in the parentheses at its end: calls with their clauses, laws and definitions.
 
 A part of it, up to a `;`, names calls, as `Type::call`, or `call` of the type that was named last, and those of their clauses
-that are meant: all of a call where none of it is named. A type alone stands for its public calls. A law or a definition is
+that are meant: all of a call where none of it is named. A type alone means its public calls. A law or a definition is
 named beside its file, as `CRATE/proofs/FILE`.
 """
 import collections
@@ -47,7 +47,7 @@ def methods(type_):
 
 
 def called(owner, name):
-    """The functions that a name stands for, of the type that was named last; a type stands for its methods."""
+    """The functions that a name means, of the type that was named last; a type means its methods."""
     if "::" in name:
         return functions().get((*name.split("::"),), [])
     return functions().get((owner, name)) or functions().get(("", name)) or methods(name)
