@@ -46,14 +46,14 @@ static Call call_of(const char *line) {
     return call;
 }
 
-static uint32_t made(tm_document *document, const Call *call, Told *told) {
+static uint32_t made(tm_session *session, const Call *call, Told *told) {
     switch (call->what) {
-    case EDIT: return tm_edit(document, call->first, call->second, call->text.at, call->text.length, false);
-    case POSITION: return tm_position(document, call->first, &told->place);
-    case OFFSET: return tm_offset(document, call->first, call->second, &told->number);
-    case LINE: return tm_line(document, call->first, told->units, LINE_ROOM, &told->number);
-    case LEVEL: return tm_level(document, call->first, call->second, &told->number);
-    default: return tm_match(document, call->first, call->second, &told->partner);
+    case EDIT: return tm_edit(session, 0, call->first, call->second, call->text.at, call->text.length);
+    case POSITION: return tm_position(session, 0, call->first, TM_UTF16, &told->place);
+    case OFFSET: return tm_offset(session, 0, call->first, call->second, TM_UTF16, &told->number);
+    case LINE: return tm_line(session, 0, call->first, told->units, LINE_ROOM, &told->number);
+    case LEVEL: return tm_level(session, 0, call->first, call->second, &told->number);
+    default: return tm_match(session, 0, call->first, call->second, &told->partner);
     }
 }
 
@@ -64,13 +64,13 @@ static void write_line(const Told *told) {
 }
 
 /* The reply to a call that was made. */
-static void reply(tm_document *document, const Call *call, const Told *told, uint32_t status) {
+static void reply(tm_session *session, const Call *call, const Told *told, uint32_t status) {
     uint64_t version, alternative, length, lines;
     if (status == TM_NOTHING) { puts("ok none"); return; }
     if (status != TM_OK) fail("a call was refused");
     switch (call->what) {
     case EDIT:
-        tm_versions(document, &version, &alternative), tm_len(document, &length), tm_line_count(document, &lines);
+        tm_versions(session, 0, &version, &alternative), tm_len(session, 0, &length), tm_line_count(session, 0, &lines);
         printf("ok %lu %lu %lu\n", version, length, lines);
         break;
     case POSITION: printf("ok %lu %lu\n", told->place.line, told->place.column); break;
@@ -80,13 +80,13 @@ static void reply(tm_document *document, const Call *call, const Told *told, uin
     }
 }
 
-static tm_document opened(char **lines, size_t count) {
-    tm_document document = {0};
+static tm_session opened(char **lines, size_t count) {
+    tm_session session = {0};
     uint64_t length;
-    if (tm_make(&document) != TM_OK) fail("no memory");
+    if (tm_make(&session) != TM_OK) fail("no memory");
     for (size_t at = 0; at < count; at++)
-        if (tm_answer(&document, (const uint8_t *)lines[at], strlen(lines[at]), &length) != TM_OK) fail("no answer");
-    return document;
+        if (tm_answer(&session, (const uint8_t *)lines[at], strlen(lines[at]), &length) != TM_OK) fail("no answer");
+    return session;
 }
 
 static uint64_t nanoseconds(void) {
@@ -115,15 +115,15 @@ int main(int argc, char **argv) {
     if (!calls || setup > all) fail("no calls");
     for (size_t at = setup; at < all; at++) calls[at - setup] = call_of(lines[at]);
     static Told told;
-    tm_document timed = opened(lines, setup);
+    tm_session timed = opened(lines, setup);
     uint64_t began = nanoseconds();
     for (size_t at = 0; at < all - setup; at++) made(&timed, &calls[at], &told);
     fprintf(stderr, "%lu\n", nanoseconds() - began);
     tm_free(&timed);
-    tm_document document = opened(lines, setup);
+    tm_session session = opened(lines, setup);
     for (size_t at = 0; at < all - setup; at++) {
-        uint32_t status = made(&document, &calls[at], &told);
-        reply(&document, &calls[at], &told, status);
+        uint32_t status = made(&session, &calls[at], &told);
+        reply(&session, &calls[at], &told, status);
     }
-    return tm_free(&document) == TM_OK ? 0 : 1;
+    return tm_free(&session) == TM_OK ? 0 : 1;
 }

@@ -151,6 +151,7 @@ class Pipes:
 #   deco      id                              START END STICK OWNER
 #   decos     at [owner]                      for each decoration ID START END
 #   version                                   VERSION ALTERNATIVE
+#   changes                                   VERSION for each edit START END "TEXT"
 #   brackets  from to                         for each bracket LINE COL LEN KIND STATUS LEVEL
 #   match     line col                        LINE COL LEN | none
 #   level     line col                        LEVEL

@@ -264,6 +264,7 @@ COMMANDS: dict[str, Fields] = {
     "decos": fields({"owner": number}, at=span),
     "size": fields(),
     "version": fields(),
+    "changes": fields(),
     "line": fields(n=number),
     "value": fields(at=span),
     "offset": fields(line=number, col=number),

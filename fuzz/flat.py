@@ -100,6 +100,8 @@ class Document:
     next_snapshot: int = 1
     follower: Mirror | None = None
     sent: list[Event] = field(default_factory=list)
+    text_before: str = ""
+    edits: list[tuple[int, int, str]] = field(default_factory=list)
     kept_parse: tuple[Text, Parse] | None = None
 
     # ---- places
@@ -163,7 +165,7 @@ class Document:
     def carry_out(self, ops: list[Op]) -> None:
         """Makes the next version by sorted ops that are apart."""
         batch = Batch(self.text.units, ops, applied(self.text.units, ops))
-        self.version += 1
+        self.begin_version()
         self.push(batch)
         self.alternative = self.version
         self.redo_steps = []
@@ -189,7 +191,7 @@ class Document:
         after = Text(normalized(self.text.units, kind), kind)
         if len(after.units) > MOST_UNITS:
             raise Refused("limit")
-        self.version += 1
+        self.begin_version()
         self.undo_steps.append(Step(Recast(self.text, after), self.alternative, self.version))
         self.is_step_open = False
         self.alternative = self.version
@@ -205,12 +207,21 @@ class Document:
         self.undo_steps[-1].done.append(batch)
         self.undo_steps[-1].after = self.version
 
+    def begin_version(self) -> None:
+        """The next version, whose changes are told by `changes`."""
+        self.version += 1
+        self.text_before = self.text.units
+        self.edits = []
+
     def change(self, units: str, ops: list[Op]) -> None:
+        self.edits += [(op.start, op.end, op.text) for op in reversed(ops)]
         self.text = Text(units, self.text.kind)
         self.decorations = carried(self.decorations, ops)
 
     def recast(self, text: Text) -> None:
         """Puts the text in the place of one with the same lines and other endings."""
+        changed = zip(self.text.breaks, self.text.endings, text.endings)
+        self.edits += [(start, end, after) for (start, end), before, after in changed if before != after][::-1]
         self.decorations = recast(self.decorations, self.text, text)
         self.text = text
 
@@ -218,13 +229,13 @@ class Document:
         if not self.undo_steps:
             return " none"
         step = self.undo_steps.pop()
+        self.begin_version()
         if isinstance(step.done, Recast):
             self.recast(step.done.before)
         else:
             for batch in reversed(step.done):
                 self.change(batch.before, inverse(batch.before, batch.ops))
         self.redo_steps.append(step)
-        self.version += 1
         self.alternative = step.before
         self.is_step_open = False
         return self.sizes()
@@ -233,13 +244,13 @@ class Document:
         if not self.redo_steps:
             return " none"
         step = self.redo_steps.pop()
+        self.begin_version()
         if isinstance(step.done, Recast):
             self.recast(step.done.after)
         else:
             for batch in step.done:
                 self.change(batch.after, unforced(batch.ops))
         self.undo_steps.append(step)
-        self.version += 1
         self.alternative = step.after
         return self.sizes()
 
@@ -258,6 +269,14 @@ class Document:
 
     def versions(self) -> str:
         return f" {self.version} {self.alternative}"
+
+    def changes(self) -> str:
+        """The edits of the last change. One after another they give the text of now, else the flat document is at fault."""
+        text = self.text_before if self.version > 1 else self.text.units
+        for start, end, new in self.edits:
+            text = text[:start] + new + text[end:]
+        assert text == self.text.units
+        return f" {self.version}" + "".join(f" {start} {end} {quoted(new)}" for start, end, new in self.edits)
 
     def line(self, line: int) -> str:
         return f" {quoted(self.content(line))}"

@@ -7,7 +7,7 @@ from brackets import MOST_OPEN, STANDARD, Pairs
 from hiding import BACKSLASH, Hiding
 
 WEIGHTS = {
-    "edit": 30, "undo": 8, "redo": 8, "stop": 4, "version": 3, "size": 1, "eol": 2,
+    "edit": 30, "undo": 8, "redo": 8, "stop": 4, "version": 3, "changes": 4, "size": 1, "eol": 2,
     "decorate": 7, "deco": 4, "decos": 4,
     "line": 3, "value": 3, "offset": 4, "position": 5, "stops": 3,
     "snapshot": 2, "read": 3, "close": 1,
@@ -74,6 +74,7 @@ MOODS = {
     "ragged": (2, Mood(400, more(brackets=4, match=15, level=25), [BREAKS, LETTERS], 2, ragged=9, is_apart=True)),
     "capped": (1, Mood(300, more(brackets=2, match=15, level=25), [BREAKS, LETTERS], 0, MOST_OPEN, 9, is_apart=True)),
     "far": (1, Mood(600, FAR, [BREAKS, LETTERS], 3, ragged=1, ops=150)),
+    "told": (4, Mood(30, more(changes=80, undo=20, redo=20, stop=10, eol=8, replace=6), [LETTERS, BREAKS, PAIRED], 1)),
     "followed": (5, Mood(30, FOLLOWED, [LETTERS, BREAKS, PAIRED], 1)),
     "swings": (1, Mood(60, more(undo=15, redo=15, stop=15, level=10, eol=5), [LETTERS, BREAKS, PAIRED], 3, run=60)),
     "pieces": (1, Mood(1500, more(edit=60, snapshot=15, read=30, close=12), [PAIRED, LETTERS, BREAKS], 1, ops=150)),

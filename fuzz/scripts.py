@@ -464,7 +464,7 @@ MAKERS: dict[str, Callable[[Writer], str]] = {
     "replace": Writer.replace,
     "deliver": Writer.deliver,
     "mirrored": Writer.mirrored,
-    **{name: bare(name) for name in ("undo", "redo", "stop", "size", "version", "snapshot", "mirror", "send")},
+    **{name: bare(name) for name in ("undo", "redo", "stop", "size", "version", "changes", "snapshot", "mirror", "send")},
     **{name: about(Writer.ask_line, name) for name in ("line", "stops")},
     **{name: about(Writer.ask_position, name) for name in ("offset", "match", "level")},
 }

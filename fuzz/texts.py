@@ -68,6 +68,11 @@ class Text:
     def breaks(self) -> list[tuple[int, int]]:
         return [found.span() for found in BREAK.finditer(self.units)]
 
+    @property
+    def endings(self) -> list[str]:
+        """What each line but the last ends with."""
+        return [self.units[start:end] for start, end in self.breaks]
+
     @cached_property
     def starts(self) -> list[int]:
         return [0, *(end for _, end in self.breaks)]

@@ -465,6 +465,7 @@ COMMANDS: dict[str, Fields] = {
     "deco": Fields({"id": number}, {"doc": number}),
     "decos": Fields({"at": span}, {"owner": number, "doc": number}),
     "version": Fields({}, {"doc": number}),
+    "changes": Fields({}, {"doc": number}),
     "brackets": Fields({"from": number, "to": number}, {"doc": number}),
     "match": Fields({"line": number, "col": number}, {"doc": number}),
     "level": Fields({"line": number, "col": number}, {"doc": number}),

@@ -1,17 +1,36 @@
-/* The document for C11 and C++: the text of an editor, its history, decorations, brackets and snapshots.
+/* The text model for C11 and C++17: the documents of an editor, their history, decorations, brackets and snapshots.
  *
- * Offsets count UTF-16 units from 0; lines and columns count from 1. Each call answers a status. Where that is not TM_OK,
- * nothing was changed and nothing handed out, save what the status itself tells.
+ *   tm_session session = {0};
+ *   if (tm_make(&session) != TM_OK) return 1;
+ *   tm_edit(&session, 0, 0, 0, u"hello", 5);
+ *   tm_free(&session);
  *
- * What stays the caller's duty, at every call:
- * - a handle begins as all zeros, `tm_document d = {0};`, and is changed by these calls alone;
- * - it is not copied: two handles of one document are not allowed;
- * - no two calls at once are on one handle, and none in a signal handler; a document stays on the thread that made it;
- * - a pointer leads to as many elements as the length beside it says, of which those that are read are initialized; it
- *   may be null where the length is 0;
- * - what is written does not overlap what is read, the handle, or another place that is written;
- * - a bool is 0 or 1;
- * - malloc, realloc and free are of one allocator, and align as C asks.
+ * A session holds 64 documents, numbered from 0 to 63. All are there from the start, and empty. Most calls take the number
+ * of the document right after the session.
+ *
+ * Text is UTF-16, also where surrogates stand alone. An offset counts 16-bit units from 0. A line and a column count from 1.
+ * A span from `start` up to `end` does not include the unit at `end`. A place of a text is an offset from 0 up to its
+ * length, but not inside a pair of surrogates, nor inside a CR LF where the document has CR LF line endings.
+ *
+ * Each call answers a status. Where that is not TM_OK, nothing was changed and nothing was handed out, except what the
+ * status itself tells. At each call stand the statuses that it may answer beside TM_OK. Not repeated there:
+ * - TM_EMPTY: the session was not made, or was freed. All calls but tm_make, tm_free, tm_version and tm_message.
+ * - TM_UNKNOWN: there is no document of this number, since it is above 63. All calls that take one.
+ *
+ * What the caller must do, at every call:
+ * - A session begins as all zeros, and is changed by these calls alone.
+ * - It is not copied. A copy would be a second owner of the same memory.
+ * - Any thread may call, but one call at a time on a session. The library has no locks and no thread-local storage. Do not
+ *   call from a signal handler.
+ * - A pointer leads to as many elements as the length beside it says. It may be null where that is 0. The elements of an
+ *   input are initialized.
+ * - The session, and a pointer to a single result, are never null.
+ * - What is written overlaps no input, no session, and no other place that is written.
+ * - A bool is 0 or 1.
+ * - malloc, realloc and free belong to one allocator, and align as C asks.
+ *
+ * Limits: a text has at most 2^40 - 1 units. A document has at most 2^20 decorations and 1,000 open snapshots. Versions
+ * and ids go up to 2^63 - 1. A call that would pass a limit answers TM_LIMIT.
  */
 #ifndef TEXTMODEL_H
 #define TEXTMODEL_H
@@ -20,37 +39,40 @@
 #include <stddef.h>
 #include <stdint.h>
 
-#ifdef __cplusplus
-extern "C" {
-#endif
-
 enum tm_status {
   TM_OK = 0,
-  TM_NOTHING = 1,  /* no such step, decoration, partner, offset or position; or the same kind */
-  TM_UNKNOWN = 2,  /* a named thing is not there */
-  TM_RANGE = 3,    /* a place, a line, a span, a kind or a mode is out of range */
-  TM_OVERLAP = 4,  /* two ops of a batch overlap */
+  TM_NOTHING = 1,  /* there is nothing to do, or nothing there */
+  TM_UNKNOWN = 2,  /* no document, decoration, snapshot, event or mirror of this number */
+  TM_RANGE = 3,    /* an argument is out of range or invalid */
+  TM_OVERLAP = 4,  /* two edits of a batch overlap */
   TM_LIMIT = 5,    /* a limit would be passed */
-  TM_MEMORY = 6,   /* no memory for the call */
-  TM_ENCODING = 7, /* the text is no UTF-8 */
-  TM_EMPTY = 8,    /* the handle holds no document */
-  TM_SHORT = 9,    /* `out` has no room for all; `count` tells how many there are */
-  TM_JOINT = 10    /* a step of several documents is not the next one of each of them */
+  TM_MEMORY = 6,   /* out of memory */
+  TM_ENCODING = 7, /* the text is not valid UTF-8 */
+  TM_EMPTY = 8,    /* the session was not made, or was freed */
+  TM_SHORT = 9,    /* `out` has too little room; `count` tells how much is needed */
+  TM_JOINT = 10,   /* a step of several documents is not the next one of each of them */
+  TM_GAP = 11      /* a mirror lacks events before this one */
 };
 
-/* 64 documents, numbered from 0 on, or nothing where `at` is null. The lines of `tm_answer` speak of all of them, and every
- * other call of document 0. */
-typedef struct tm_document {
+/* What a column counts: bytes of UTF-8, units of UTF-16, or code points. A lone surrogate counts as U+FFFD. */
+enum tm_encoding { TM_UTF8 = 8, TM_UTF16 = 16, TM_UTF32 = 32 };
+
+/* The line endings of a document. Of a mixed one each is as it came: LF, CR LF or CR. In the others all are changed to LF or
+ * to CR LF, also in what is put in later. */
+enum tm_ending { TM_MIXED = 0, TM_LF = 1, TM_CRLF = 2 };
+
+/* Holds 64 documents, or nothing where `at` is null. */
+typedef struct tm_session {
   void *at;
-} tm_document;
+} tm_session;
 
 typedef struct tm_place {
   uint64_t line;
   uint64_t column;
 } tm_place;
 
-/* An op of a batch: `units` units of the joined texts take the place of those from `start` up to `end`. `force` moves
- * decorations at the place to its end, whatever their stickiness. */
+/* An edit of a batch. The next `units` units of the joined texts take the place of those from `start` up to `end`. `force`
+ * moves the decorations at the place to the end of the new text, whatever their stickiness. */
 typedef struct tm_op {
   uint64_t start;
   uint64_t end;
@@ -58,13 +80,38 @@ typedef struct tm_op {
   bool force;
 } tm_op;
 
-/* How many units the opening and the closing text of a pair of brackets have. */
+/* An edit of a joint edit: as a tm_op, in the document of this number. */
+typedef struct tm_doc_op {
+  uint64_t doc;
+  uint64_t start;
+  uint64_t end;
+  uint64_t units;
+  bool force;
+} tm_doc_op;
+
+/* One of the edits that the last change was made of. A text of `units` units took the place of the units from `start` up to
+ * `end`. Both count in the text that the edits before this one had left. */
+typedef struct tm_change {
+  uint64_t start;
+  uint64_t end;
+  uint64_t units;
+} tm_change;
+
+/* A mirror after an event: its version, and how many units and lines its text has. */
+typedef struct tm_followed {
+  uint64_t version;
+  uint64_t units;
+  uint64_t lines;
+} tm_followed;
+
+/* A pair of brackets: how many units its opening and its closing text have, each 1 to 32. */
 typedef struct tm_pair {
   uint64_t opening;
   uint64_t closing;
 } tm_pair;
 
-/* `stick` is 0 where it grows at both ends, 1 at none, 2 by what is typed before it only, 3 after it only. */
+/* A decoration that is to be added. Text that is typed at its edges makes it grow: `stick` is 0 for both edges, 1 for none,
+ * 2 for its start only, 3 for its end only. With `collapse` it becomes empty where all of its text is replaced. */
 typedef struct tm_new_decoration {
   uint64_t start;
   uint64_t end;
@@ -86,8 +133,9 @@ typedef struct tm_found {
   uint64_t end;
 } tm_found;
 
-/* `state` is 0 for an opening bracket that is closed later, 1 for one that closes it, 2 for one that none closes, 3 for
- * one that closes none. `level` is how many are open around it. */
+/* A bracket. It has `units` units, `kind` is its pair by its place in the table, from 0, and `level` is how many brackets
+ * are open around it. `state` is 0 for an opening bracket that is closed later, 1 for a closing one that closes it, 2 for an
+ * opening one that is never closed, 3 for a closing one that closes none. Columns count UTF-16 units. */
 typedef struct tm_bracket {
   uint64_t line;
   uint64_t column;
@@ -103,166 +151,150 @@ typedef struct tm_partner {
   uint64_t units;
 } tm_partner;
 
-/* ---- Made and freed */
+#ifdef __cplusplus
+extern "C" {
+#endif
 
-/* Puts 64 new empty documents into the handle, in place of what it held, which is freed. The calls below speak of document 0 of
- * them; only `tm_answer` speaks of the others too. MEMORY. */
-uint32_t tm_make(tm_document *handle);
+/* ---- The session */
 
-/* Frees the documents, and leaves the handle empty. */
-uint32_t tm_free(tm_document *handle);
+/* Makes a session of 64 empty documents. What the session held before is freed. MEMORY, and then it holds that still. */
+uint32_t tm_make(tm_session *session);
 
-/* ---- Opened and changed */
+/* Frees the session. It is empty then, and may be made again. Always OK, also where it was empty. */
+uint32_t tm_free(tm_session *session);
 
-/* A new document with this text and the brackets `()`, `[]` and `{}`, in place of the old one. `kind`: 0 for line endings as
- * they come, 1 for LF, 2 for CR LF, which the text then gets. The mirror and the events of `tm_answer` go with the old one. RANGE where it is another number, LIMIT where the text would be too long, MEMORY. */
-uint32_t tm_open(tm_document *handle, const uint16_t *text, size_t text_len, uint32_t kind);
+/* The version of the library: 10000 times the major version, 100 times the minor one, plus the patch. */
+uint32_t tm_version(void);
 
-/* The same with 1 to 64 pairs of brackets, whose texts stand one after another in `brackets`: each has 1 to 32 units without CR or
- * LF, and all are distinct. RANGE also where they are not so, or do not fill it. */
-uint32_t tm_open_with(tm_document *handle, const uint16_t *text, size_t text_len, uint32_t kind, const tm_pair *pairs, size_t pairs_len, const uint16_t *brackets, size_t brackets_len);
+/* ---- History and line endings */
 
-/* `tm_open` of a text in UTF-8. ENCODING where it is invalid: `bad` is then how many bytes stand before the first fault. */
-uint32_t tm_open_utf8(tm_document *handle, const uint8_t *text, size_t text_len, uint32_t kind, uint64_t *bad);
+/* Undoes the last step. A step that was made in several documents at once is undone in all of them. NOTHING where there is
+ * no step. JOINT where that step is not the last one of each of these documents: undo the later ones there first. LIMIT,
+ * MEMORY. */
+uint32_t tm_undo(tm_session *session, uint64_t doc);
 
-/* The text takes the place of the units from `start` up to `end`. RANGE, LIMIT, MEMORY. */
-uint32_t tm_edit(tm_document *handle, uint64_t start, uint64_t end, const uint16_t *text, size_t text_len, bool force);
+/* Redoes the step that was undone last. A step of several documents is redone in all of them. NOTHING where there is no
+ * step. JOINT where that step is not the next one of each of these documents: redo the earlier ones there first. LIMIT,
+ * MEMORY. */
+uint32_t tm_redo(tm_session *session, uint64_t doc);
 
-/* The same from one position up to another. */
-uint32_t tm_edit_at(tm_document *handle, uint64_t line, uint64_t column, uint64_t end_line, uint64_t end_column, const uint16_t *text, size_t text_len, bool force);
-
-/* Ops at once; their texts stand one after another in `text`. RANGE also where they do not fill it; OVERLAP. */
-uint32_t tm_batch(tm_document *handle, const tm_op *batch, size_t batch_len, const uint16_t *text, size_t text_len);
-
-/* Back to the text before the last step. A step that a line of `tm_answer` made in several documents at once is undone in all of
- * them. NOTHING where there is none; LIMIT; JOINT where that step is no longer the last one of each of them, so that these have to
- * be undone first, by `tm_answer`; MEMORY. */
-uint32_t tm_undo(tm_document *handle);
-
-/* On to the text after the step that was undone last. A step of several documents is made again in all of them. NOTHING where
- * there is none; LIMIT; JOINT where that step is not the next one of each of them, so that these have to be made again first, by
- * `tm_answer`; MEMORY. */
-uint32_t tm_redo(tm_document *handle);
-
-/* The next edit begins a step of undo. */
-uint32_t tm_stop(tm_document *handle);
+/* The next edit begins a new step of undo. */
+uint32_t tm_stop(tm_session *session, uint64_t doc);
 
 /* OK where there is a step to undo, else NOTHING. */
-uint32_t tm_can_undo(tm_document *handle);
+uint32_t tm_can_undo(tm_session *session, uint64_t doc);
 
-/* OK where there is a step to make again, else NOTHING. */
-uint32_t tm_can_redo(tm_document *handle);
+/* OK where there is a step to redo, else NOTHING. */
+uint32_t tm_can_redo(tm_session *session, uint64_t doc);
 
-/* Other line endings. NOTHING where they are of the kind, RANGE where there is no such kind, LIMIT, MEMORY. */
-uint32_t tm_set_eol(tm_document *handle, uint32_t kind);
+/* Makes the document one of this kind of line endings, a tm_ending, and changes all of them to it, as a step of undo of its
+ * own. With TM_MIXED the text stays as it is. NOTHING where the document is of this kind. RANGE where there is no such kind.
+ * LIMIT, MEMORY. */
+uint32_t tm_set_eol(tm_session *session, uint64_t doc, uint32_t kind);
 
-/* ---- Asked for */
+/* ---- Questions */
 
-uint32_t tm_kind(tm_document *handle, uint32_t *kind);
+/* The kind of line endings, a tm_ending. */
+uint32_t tm_kind(tm_session *session, uint64_t doc, uint32_t *kind);
 
-uint32_t tm_len(tm_document *handle, uint64_t *len);
+/* How many units the text has. */
+uint32_t tm_len(tm_session *session, uint64_t doc, uint64_t *len);
 
-uint32_t tm_line_count(tm_document *handle, uint64_t *count);
+/* How many lines the text has, 1 or more. */
+uint32_t tm_line_count(tm_session *session, uint64_t doc, uint64_t *count);
 
-/* The version, and the one at which the text was last as it is now. */
-uint32_t tm_versions(tm_document *handle, uint64_t *version, uint64_t *alternative);
+/* The version, and the version at which the text was last the same as now. A new document has version 1, and each change
+ * adds 1, also an undo. */
+uint32_t tm_versions(tm_session *session, uint64_t doc, uint64_t *version, uint64_t *alternative);
 
-/* How many bytes of UTF-8, units of UTF-16 or code points of its line stand before the position, by `encoding`, which is 8, 16 or
-   32. RANGE where it is another number, or the position is out of range. */
-uint32_t tm_column(tm_document *handle, uint32_t encoding, uint64_t line, uint64_t column, uint64_t *before);
+/* The position of an offset. `encoding`, a tm_encoding, says what its column counts. NOTHING where the offset is not a place
+ * of the text. RANGE where there is no such encoding. MEMORY, but not with TM_UTF16. */
+uint32_t tm_position(tm_session *session, uint64_t doc, uint64_t offset, uint32_t encoding, tm_place *place);
 
-/* Converts a count of bytes, units or code points from the line's start into a column. RANGE also where there is no such line,
-   or the count ends inside a character or beyond the line's end. */
-uint32_t tm_column_of(tm_document *handle, uint32_t encoding, uint64_t line, uint64_t before, uint64_t *column);
+/* The offset of a position. `encoding`, a tm_encoding, says what its column counts. NOTHING where there is no such line, the
+ * column is beyond the end of its line, or it is inside a character. RANGE where there is no such encoding. MEMORY, but not
+ * with TM_UTF16. */
+uint32_t tm_offset(tm_session *session, uint64_t doc, uint64_t line, uint64_t column, uint32_t encoding, uint64_t *offset);
 
-/* NOTHING where the offset is out of range. */
-uint32_t tm_position(tm_document *handle, uint64_t offset, tm_place *at);
+/* The decoration of this id. NOTHING where there is none. */
+uint32_t tm_deco(tm_session *session, uint64_t doc, uint64_t id, tm_decoration *decoration);
 
-/* NOTHING where the position is out of range. */
-uint32_t tm_offset(tm_document *handle, uint64_t line, uint64_t column, uint64_t *offset);
+/* The bracket that matches the one that starts at this position. Columns count UTF-16 units. NOTHING where none starts there,
+ * or it has no partner. RANGE where the position is invalid. MEMORY, but not where the text was parsed since its last
+ * change, as tm_brackets, tm_match and tm_level do. */
+uint32_t tm_match(tm_session *session, uint64_t doc, uint64_t line, uint64_t column, tm_partner *partner);
 
-/* The units from `start` up to `end`. RANGE, SHORT, MEMORY. */
-uint32_t tm_value(tm_document *handle, uint64_t start, uint64_t end, uint16_t *out, size_t out_len, uint64_t *count);
+/* How many brackets are open after those that start before this position. The column counts UTF-16 units. RANGE where the
+ * position is invalid. MEMORY, but not where the text was parsed since its last change. */
+uint32_t tm_level(tm_session *session, uint64_t doc, uint64_t line, uint64_t column, uint64_t *level);
 
-/* The content of a line. RANGE, SHORT, MEMORY. */
-uint32_t tm_line(tm_document *handle, uint64_t n, uint16_t *out, size_t out_len, uint64_t *count);
+/* ---- What the last change did */
 
-/* As many units from the offset on as there is room for, never half of a pair. RANGE, MEMORY. */
-uint32_t tm_read_into(tm_document *handle, uint64_t offset, uint16_t *out, size_t out_len, uint64_t *count);
+/* Tells the next edit of the last change of the document, be it an edit, an undo, a redo, or other line endings: one edit a
+ * call. Applied one after another, they lead from the text before that change to the text of now. NOTHING after the last
+ * one, and then the next call begins with the first one again. It also begins again where the document has changed, the call
+ * before was for another document, or a document was opened or a script line answered since. The edits are collected at the
+ * first call and kept until the last one is told. MEMORY, only at a first call. tm_change_text has the text. */
+uint32_t tm_next_change(tm_session *session, uint64_t doc, tm_change *change);
 
-/* The content of a line in UTF-8, a lone surrogate as U+FFFD. RANGE, SHORT, MEMORY. */
-uint32_t tm_line_utf8(tm_document *handle, uint64_t n, uint8_t *out, size_t out_len, uint64_t *count);
+/* ---- Mirrors: a mirror of a document is a second text, which follows the document by its events */
 
-/* The columns of a line at which a cursor may stop. RANGE, SHORT, MEMORY. */
-uint32_t tm_stops(tm_document *handle, uint64_t n, uint64_t *out, size_t out_len, uint64_t *count);
+/* Begins a mirror with the text of now, in the place of the mirror that the document had. Tells its version. MEMORY. */
+uint32_t tm_mirror(tm_session *session, uint64_t doc, uint64_t *version);
 
-/* ---- Search: a text of one unit or more, unit for unit, from left to right */
+/* Sends the last change as an event, and keeps it. `number` counts the events of the document from 1. The event leads from
+ * version `from` to the next one. NOTHING in version 1, which no change made. LIMIT where 65,536 events were sent. MEMORY. */
+uint32_t tm_send(tm_session *session, uint64_t doc, uint64_t *number, uint64_t *from);
 
-/* The spans at which it stands, none overlapping the one before. RANGE where it has no unit, SHORT, MEMORY. */
-uint32_t tm_find(tm_document *handle, const uint16_t *sought, size_t sought_len, tm_found *out, size_t out_len, uint64_t *count);
-
-/* Puts another text in the place of each, as a step of undo of its own. NOTHING where it stands nowhere, RANGE where it has no
- * unit, LIMIT, MEMORY. */
-uint32_t tm_replace_all(tm_document *handle, const uint16_t *sought, size_t sought_len, const uint16_t *with, size_t with_len);
-
-/* ---- Decorations */
-
-/* Takes decorations of an owner out and puts new ones in; `first` is the first new id. UNKNOWN, RANGE, LIMIT, MEMORY. */
-uint32_t tm_decorate(tm_document *handle, uint64_t owner, const uint64_t *remove, size_t remove_len, const tm_new_decoration *add, size_t add_len, uint64_t *first);
-
-/* NOTHING where no decoration of this id is live. */
-uint32_t tm_deco(tm_document *handle, uint64_t id, tm_decoration *decoration);
-
-/* Those that share a unit with the span or touch it, of the owner, or all where `any` is set. RANGE, SHORT, MEMORY. */
-uint32_t tm_decos(tm_document *handle, uint64_t start, uint64_t end, uint64_t owner, bool any, tm_decoration *out, size_t out_len, uint64_t *count);
-
-/* ---- Brackets */
-
-/* Those of the lines `from` to `to`, both included. RANGE, SHORT, MEMORY. */
-uint32_t tm_brackets(tm_document *handle, uint64_t from, uint64_t to, tm_bracket *out, size_t out_len, uint64_t *count);
-
-/* Finds the bracket that matches the one at this position. NOTHING where there is none, RANGE, MEMORY; no MEMORY where the text was
-   parsed since it changed last, as by the call before. */
-uint32_t tm_match(tm_document *handle, uint64_t line, uint64_t column, tm_partner *partner);
-
-/* How many are open after those that start before the position. RANGE, MEMORY; no MEMORY where the text was parsed, as above. */
-uint32_t tm_level(tm_document *handle, uint64_t line, uint64_t column, uint64_t *level);
+/* Hands an event to the mirror, by its number. The mirror then has the text of the next version, which `followed` tells of.
+ * NOTHING where the mirror is past that event. GAP where it lacks events before that one. UNKNOWN also where there is no such
+ * event, or no mirror. MEMORY. */
+uint32_t tm_deliver(tm_session *session, uint64_t doc, uint64_t number, tm_followed *followed);
 
 /* ---- Snapshots */
 
-/* Keeps the text of now. LIMIT, MEMORY. */
-uint32_t tm_snapshot(tm_document *handle, uint64_t *id);
+/* Keeps the text of now, to be read from its start by tm_read, and tells its id. LIMIT, MEMORY. */
+uint32_t tm_snapshot(tm_session *session, uint64_t doc, uint64_t *id);
 
-/* Reads what comes next in a snapshot, and passes it. UNKNOWN, RANGE where there is room for fewer than two, MEMORY. */
-uint32_t tm_read(tm_document *handle, uint64_t id, uint16_t *out, size_t out_len, uint64_t *count);
+/* Closes a snapshot. Its id is not used again. UNKNOWN where no snapshot of this id is open. */
+uint32_t tm_close(tm_session *session, uint64_t doc, uint64_t id);
 
-/* UNKNOWN. */
-uint32_t tm_close(tm_document *handle, uint64_t id);
+/* ---- What the functions below call. These take no null pointer, also where a length is 0. */
 
-/* ---- Script lines */
-
-/* Answers a line of a script, without its LF, which may name any of the 64 documents; one that names none speaks of document 0,
- * as the calls do. The reply is kept in the handle; `len` is how many bytes it has. */
-uint32_t tm_answer(tm_document *handle, const uint8_t *line, size_t line_len, uint64_t *len);
-
-/* As many bytes of the last reply as there is room for, from `from` on. RANGE where this is past its end. */
-uint32_t tm_reply(tm_document *handle, uint64_t from, uint8_t *out, size_t out_len, uint64_t *count);
-
-/* ---- The library */
-
-/* 10000 times the major version, 100 times the minor one, and the patch. */
-uint32_t tm_version(void);
+uint32_t tm_raw_open(tm_session *session, uint64_t doc, uint32_t kind, const uint16_t *text, size_t text_len, const tm_pair *pairs, size_t pairs_len, const uint16_t *brackets, size_t brackets_len, uint64_t line, uint64_t opening, uint64_t closing, const uint16_t *marks, size_t marks_len);
+uint32_t tm_raw_open_utf8(tm_session *session, uint64_t doc, uint32_t kind, const uint8_t *text, size_t text_len, const tm_pair *pairs, size_t pairs_len, const uint16_t *brackets, size_t brackets_len, uint64_t line, uint64_t opening, uint64_t closing, const uint16_t *marks, size_t marks_len, uint64_t *bad);
+uint32_t tm_raw_edit(tm_session *session, uint64_t doc, uint64_t start, uint64_t end, const uint16_t *text, size_t text_len);
+uint32_t tm_raw_edit_at(tm_session *session, uint64_t doc, uint64_t line, uint64_t column, uint64_t end_line, uint64_t end_column, uint32_t encoding, const uint16_t *text, size_t text_len);
+uint32_t tm_raw_batch(tm_session *session, uint64_t doc, const tm_op *batch, size_t batch_len, const uint16_t *text, size_t text_len);
+uint32_t tm_raw_joint(tm_session *session, const tm_doc_op *ops, size_t ops_len, const uint16_t *text, size_t text_len);
+uint32_t tm_raw_value(tm_session *session, uint64_t doc, uint64_t start, uint64_t end, uint16_t *out, size_t out_len, uint64_t *count);
+uint32_t tm_raw_line(tm_session *session, uint64_t doc, uint64_t n, uint16_t *out, size_t out_len, uint64_t *count);
+uint32_t tm_raw_line_utf8(tm_session *session, uint64_t doc, uint64_t n, uint8_t *out, size_t out_len, uint64_t *count);
+uint32_t tm_raw_read_into(tm_session *session, uint64_t doc, uint64_t offset, uint16_t *out, size_t out_len, uint64_t *count);
+uint32_t tm_raw_stops(tm_session *session, uint64_t doc, uint64_t n, uint64_t *out, size_t out_len, uint64_t *count);
+uint32_t tm_raw_find(tm_session *session, uint64_t doc, const uint16_t *sought, size_t sought_len, tm_found *out, size_t out_len, uint64_t *count);
+uint32_t tm_raw_replace_all(tm_session *session, uint64_t doc, const uint16_t *sought, size_t sought_len, const uint16_t *with, size_t with_len, uint64_t *count);
+uint32_t tm_raw_decorate(tm_session *session, uint64_t doc, uint64_t owner, const uint64_t *remove, size_t remove_len, const tm_new_decoration *add, size_t add_len, uint64_t *first);
+uint32_t tm_raw_decos(tm_session *session, uint64_t doc, uint64_t start, uint64_t end, uint64_t owner, bool any, tm_decoration *out, size_t out_len, uint64_t *count);
+uint32_t tm_raw_brackets(tm_session *session, uint64_t doc, uint64_t from, uint64_t to, tm_bracket *out, size_t out_len, uint64_t *count);
+uint32_t tm_raw_read(tm_session *session, uint64_t doc, uint64_t id, uint16_t *out, size_t out_len, uint64_t *count);
+uint32_t tm_raw_change_text(tm_session *session, uint16_t *out, size_t out_len, uint64_t *count);
+uint32_t tm_raw_mirrored(tm_session *session, uint64_t doc, uint64_t n, uint16_t *out, size_t out_len, uint64_t *count);
+uint32_t tm_raw_answer(tm_session *session, const uint8_t *line, size_t line_len, uint64_t *len);
+uint32_t tm_raw_reply(tm_session *session, uint64_t from, uint8_t *out, size_t out_len, uint64_t *count);
 
 #ifdef __cplusplus
 }
 #endif
 
-/* The library wants no null pointer for a length of 0: another stands in its place. */
+/* ---- What stands in the place of a null pointer */
 
 static inline const uint8_t *tm_bytes_(const uint8_t *p) { static const uint8_t none = 0; return p ? p : &none; }
 static inline const uint16_t *tm_units_(const uint16_t *p) { static const uint16_t none = 0; return p ? p : &none; }
 static inline const uint64_t *tm_numbers_(const uint64_t *p) { static const uint64_t none = 0; return p ? p : &none; }
 static inline const tm_op *tm_ops_(const tm_op *p) { static const tm_op none = {0, 0, 0, false}; return p ? p : &none; }
+static inline const tm_doc_op *tm_doc_ops_(const tm_doc_op *p) { static const tm_doc_op none = {0, 0, 0, 0, false}; return p ? p : &none; }
+static inline const tm_pair *tm_pairs_(const tm_pair *p) { static const tm_pair none = {0, 0}; return p ? p : &none; }
 static inline const tm_new_decoration *tm_news_(const tm_new_decoration *p) { static const tm_new_decoration none = {0, 0, 0, false}; return p ? p : &none; }
 static inline uint8_t *tm_bytes_out_(uint8_t *p) { static uint8_t none; return p ? p : &none; }
 static inline uint16_t *tm_units_out_(uint16_t *p) { static uint16_t none; return p ? p : &none; }
@@ -271,23 +303,215 @@ static inline tm_decoration *tm_decorations_out_(tm_decoration *p) { static tm_d
 static inline tm_found *tm_found_out_(tm_found *p) { static tm_found none; return p ? p : &none; }
 static inline tm_bracket *tm_brackets_out_(tm_bracket *p) { static tm_bracket none; return p ? p : &none; }
 
-#define tm_open(handle, text, len, kind) (tm_open)((handle), tm_units_(text), (len), (kind))
-#define tm_open_utf8(handle, text, len, kind, bad) (tm_open_utf8)((handle), tm_bytes_(text), (len), (kind), (bad))
-#define tm_edit(handle, start, end, text, len, force) (tm_edit)((handle), (start), (end), tm_units_(text), (len), (force))
-#define tm_edit_at(handle, line, column, end_line, end_column, text, len, force) (tm_edit_at)((handle), (line), (column), (end_line), (end_column), tm_units_(text), (len), (force))
-#define tm_batch(handle, batch, count, text, len) (tm_batch)((handle), tm_ops_(batch), (count), tm_units_(text), (len))
-#define tm_value(handle, start, end, out, room, count) (tm_value)((handle), (start), (end), tm_units_out_(out), (room), (count))
-#define tm_line(handle, n, out, room, count) (tm_line)((handle), (n), tm_units_out_(out), (room), (count))
-#define tm_read_into(handle, offset, out, room, count) (tm_read_into)((handle), (offset), tm_units_out_(out), (room), (count))
-#define tm_line_utf8(handle, n, out, room, count) (tm_line_utf8)((handle), (n), tm_bytes_out_(out), (room), (count))
-#define tm_stops(handle, n, out, room, count) (tm_stops)((handle), (n), tm_numbers_out_(out), (room), (count))
-#define tm_decorate(handle, owner, remove, removed, add, added, first) (tm_decorate)((handle), (owner), tm_numbers_(remove), (removed), tm_news_(add), (added), (first))
-#define tm_decos(handle, start, end, owner, any, out, room, count) (tm_decos)((handle), (start), (end), (owner), (any), tm_decorations_out_(out), (room), (count))
-#define tm_find(handle, sought, len, out, room, count) (tm_find)((handle), tm_units_(sought), (len), tm_found_out_(out), (room), (count))
-#define tm_replace_all(handle, sought, len, with, with_len) (tm_replace_all)((handle), tm_units_(sought), (len), tm_units_(with), (with_len))
-#define tm_brackets(handle, from, to, out, room, count) (tm_brackets)((handle), (from), (to), tm_brackets_out_(out), (room), (count))
-#define tm_read(handle, id, out, room, count) (tm_read)((handle), (id), tm_units_out_(out), (room), (count))
-#define tm_answer(handle, line, line_len, len) (tm_answer)((handle), tm_bytes_(line), (line_len), (len))
-#define tm_reply(handle, from, out, room, count) (tm_reply)((handle), (from), tm_bytes_out_(out), (room), (count))
+/* ---- Statuses in words */
+
+/* A short text for a status. */
+static inline const char *tm_message(uint32_t status) {
+  switch (status) {
+    case TM_OK: return "ok";
+    case TM_NOTHING: return "nothing to do, or nothing there";
+    case TM_UNKNOWN: return "no document, decoration, snapshot, event or mirror of this number";
+    case TM_RANGE: return "an argument is out of range or invalid";
+    case TM_OVERLAP: return "two edits overlap";
+    case TM_LIMIT: return "a limit would be passed";
+    case TM_MEMORY: return "out of memory";
+    case TM_ENCODING: return "the text is not valid UTF-8";
+    case TM_EMPTY: return "the session was not made, or was freed";
+    case TM_SHORT: return "the buffer is too short";
+    case TM_JOINT: return "a step of several documents is not the next one of each of them";
+    case TM_GAP: return "the mirror lacks events before this one";
+    default: return "unknown status";
+  }
+}
+
+/* ---- A new document */
+
+/* What hides brackets: comments and strings. `texts` holds, one after another: the text that begins a line comment, with
+ * `line` units; the texts that begin and end a block comment, with `opening` and `closing` units; and the quotes that begin
+ * and end strings, one unit each. Where `line` is 0 there are no line comments. Where `opening` and `closing` are both 0
+ * there are no block comments. Each text has at most 32 units, and there are at most 8 quotes, all different. A string ends
+ * with its line at the latest, and a backslash in it takes the next unit along. */
+typedef struct tm_hiding {
+  const uint16_t *texts;
+  size_t length;
+  uint64_t line;
+  uint64_t opening;
+  uint64_t closing;
+} tm_hiding;
+
+static const uint16_t tm_hiding_texts_[] = {'/', '/', '/', '*', '*', '/', '"', '\'', '`'};
+static const uint16_t tm_hiding_hash_texts_[] = {'#', '"', '\''};
+static const tm_hiding tm_hiding_c = {tm_hiding_texts_, 8, 2, 2, 2};
+static const tm_hiding tm_hiding_rust = {tm_hiding_texts_, 7, 2, 2, 2};
+static const tm_hiding tm_hiding_javascript = {tm_hiding_texts_, 9, 2, 2, 2};
+static const tm_hiding tm_hiding_python = {tm_hiding_hash_texts_, 3, 1, 0, 0};
+static const tm_hiding tm_hiding_shell = {tm_hiding_hash_texts_, 3, 1, 0, 0};
+
+/* A new document. What is left out is 0 or null: in C, `tm_opening opening = {.utf16 = text, .length = 5};`.
+ *
+ * The text is `utf8`, or where that is null `utf16`, with `length` bytes or units. `ending` is a tm_ending. The brackets are
+ * `pair_count` pairs, up to 64. Their texts stand in `brackets` one after another: of each pair the opening and then the
+ * closing one. All are different, and none has a line break. Where there are no pairs, the brackets are (), [] and {}. Where
+ * `hiding` is null, nothing hides brackets. */
+typedef struct tm_opening {
+  const uint8_t *utf8;
+  const uint16_t *utf16;
+  size_t length;
+  uint32_t ending;
+  const tm_pair *pairs;
+  size_t pair_count;
+  const uint16_t *brackets;
+  size_t brackets_length;
+  const tm_hiding *hiding;
+} tm_opening;
+
+/* As tm_open, of a text in UTF-8 of `length` bytes. ENCODING where it is not valid, and then `bad` is the offset of the first
+ * byte that is at fault. */
+static inline uint32_t tm_open_utf8(tm_session *session, uint64_t doc, const tm_opening *o, uint64_t *bad) {
+  static const tm_hiding none = {NULL, 0, 0, 0, 0};
+  const tm_hiding *h = o->hiding ? o->hiding : &none;
+  return tm_raw_open_utf8(session, doc, o->ending, tm_bytes_(o->utf8), o->length, tm_pairs_(o->pairs), o->pair_count,
+                          tm_units_(o->brackets), o->brackets_length, h->line, h->opening, h->closing, tm_units_(h->texts), h->length, bad);
+}
+
+/* Puts a new document in the place of the old one. Its decorations, snapshots and history are gone, and so are its mirror
+ * and events. RANGE where the ending, the pairs or the hiding texts are invalid, or do not fill their text.
+ * ENCODING where `utf8` is not valid UTF-8. LIMIT, MEMORY. */
+static inline uint32_t tm_open(tm_session *session, uint64_t doc, const tm_opening *o) {
+  static const tm_hiding none = {NULL, 0, 0, 0, 0};
+  const tm_hiding *h = o->hiding ? o->hiding : &none;
+  uint64_t bad = 0;
+  if (o->utf8) return tm_open_utf8(session, doc, o, &bad);
+  return tm_raw_open(session, doc, o->ending, tm_units_(o->utf16), o->length, tm_pairs_(o->pairs), o->pair_count,
+                     tm_units_(o->brackets), o->brackets_length, h->line, h->opening, h->closing, tm_units_(h->texts), h->length);
+}
+
+/* ---- Edits */
+
+/* The text takes the place of the units from `start` up to `end`. RANGE where this is no span between two places of the
+ * text. LIMIT, MEMORY. */
+static inline uint32_t tm_edit(tm_session *session, uint64_t doc, uint64_t start, uint64_t end, const uint16_t *text, size_t length) {
+  return tm_raw_edit(session, doc, start, end, tm_units_(text), length);
+}
+
+/* As tm_edit, from one position up to another. `encoding`, a tm_encoding, says what the columns count. RANGE also where there
+ * is no such encoding or no such position. */
+static inline uint32_t tm_edit_at(tm_session *session, uint64_t doc, uint64_t line, uint64_t column, uint64_t end_line, uint64_t end_column, uint32_t encoding, const uint16_t *text, size_t length) {
+  return tm_raw_edit_at(session, doc, line, column, end_line, end_column, encoding, tm_units_(text), length);
+}
+
+/* Carries out several edits at once, as one version. Their offsets are those of the text before. Their texts stand in `text`
+ * one after another. RANGE where there is no edit, a span is invalid, or the texts do not fill `text`. OVERLAP where two spans
+ * overlap. LIMIT, MEMORY. */
+static inline uint32_t tm_batch(tm_session *session, uint64_t doc, const tm_op *ops, size_t count, const uint16_t *text, size_t length) {
+  return tm_raw_batch(session, doc, tm_ops_(ops), count, tm_units_(text), length);
+}
+
+/* Carries out a batch in each of several documents at once, all or none. Edits of one document that stand side by side are
+ * its batch. Their offsets are those of its text before. The texts of all edits stand in `text` one after another. In each
+ * document it is a step of undo of its own. An undo or redo of one of these steps is one of all of them. RANGE where there
+ * are fewer than two documents, a span is invalid, or the texts do not fill `text`. UNKNOWN where a document is above 63, or
+ * comes again behind another one. OVERLAP where two spans of a batch overlap. LIMIT, MEMORY. */
+static inline uint32_t tm_joint(tm_session *session, const tm_doc_op *ops, size_t count, const uint16_t *text, size_t length) {
+  return tm_raw_joint(session, tm_doc_ops_(ops), count, tm_units_(text), length);
+}
+
+/* ---- Reading text. `room` is how many elements `out` has room for. */
+
+/* The units from `start` up to `end`. RANGE where this is no span between two places of the text. SHORT, MEMORY. */
+static inline uint32_t tm_value(tm_session *session, uint64_t doc, uint64_t start, uint64_t end, uint16_t *out, size_t room, uint64_t *count) {
+  return tm_raw_value(session, doc, start, end, tm_units_out_(out), room, count);
+}
+
+/* The content of a line, without its line ending. RANGE where there is no such line. SHORT, MEMORY. */
+static inline uint32_t tm_line(tm_session *session, uint64_t doc, uint64_t line, uint16_t *out, size_t room, uint64_t *count) {
+  return tm_raw_line(session, doc, line, tm_units_out_(out), room, count);
+}
+
+/* The content of a line in UTF-8. A lone surrogate becomes U+FFFD. RANGE where there is no such line. SHORT, MEMORY. */
+static inline uint32_t tm_line_utf8(tm_session *session, uint64_t doc, uint64_t line, uint8_t *out, size_t room, uint64_t *count) {
+  return tm_raw_line_utf8(session, doc, line, tm_bytes_out_(out), room, count);
+}
+
+/* As many units from the offset on as there is room for. It is one fewer where the last one would be cut from the next: from
+ * a pair of surrogates, or from the LF of a CR LF line ending. RANGE where the offset is not a place of the text, or there is
+ * room for fewer than two. MEMORY. */
+static inline uint32_t tm_read_into(tm_session *session, uint64_t doc, uint64_t offset, uint16_t *out, size_t room, uint64_t *count) {
+  return tm_raw_read_into(session, doc, offset, tm_units_out_(out), room, count);
+}
+
+/* The columns of a line at which a cursor may stop, in UTF-16 units. RANGE where there is no such line. SHORT, MEMORY. */
+static inline uint32_t tm_stops(tm_session *session, uint64_t doc, uint64_t line, uint64_t *out, size_t room, uint64_t *count) {
+  return tm_raw_stops(session, doc, line, tm_numbers_out_(out), room, count);
+}
+
+/* The text of the edit that tm_next_change told last, of whichever document. NOTHING where it told none, or was past the last
+ * one, and where a document was opened or a script line answered since. SHORT. */
+static inline uint32_t tm_change_text(tm_session *session, uint16_t *out, size_t room, uint64_t *count) {
+  return tm_raw_change_text(session, tm_units_out_(out), room, count);
+}
+
+/* The content of a line of the mirror, without its line ending. UNKNOWN also where the document has no mirror. RANGE where the
+ * mirror has no such line. SHORT, MEMORY. */
+static inline uint32_t tm_mirrored(tm_session *session, uint64_t doc, uint64_t line, uint16_t *out, size_t room, uint64_t *count) {
+  return tm_raw_mirrored(session, doc, line, tm_units_out_(out), room, count);
+}
+
+/* Reads on in a snapshot: as many of its next units as there is room for, one fewer where the last one would be cut from a
+ * pair of surrogates. `count` 0 is its end. UNKNOWN where no snapshot of this id is open. RANGE where there is room for fewer
+ * than two. MEMORY. */
+static inline uint32_t tm_read(tm_session *session, uint64_t doc, uint64_t id, uint16_t *out, size_t room, uint64_t *count) {
+  return tm_raw_read(session, doc, id, tm_units_out_(out), room, count);
+}
+
+/* ---- Search, unit for unit, from left to right */
+
+/* The spans at which the text stands. None overlaps the one before. RANGE where the text is empty. SHORT, MEMORY. */
+static inline uint32_t tm_find(tm_session *session, uint64_t doc, const uint16_t *sought, size_t length, tm_found *out, size_t room, uint64_t *count) {
+  return tm_raw_find(session, doc, tm_units_(sought), length, tm_found_out_(out), room, count);
+}
+
+/* Replaces each span that tm_find finds, as one version and a step of undo of its own. `count` tells how many. NOTHING where
+ * there is none. RANGE where the sought text is empty. LIMIT, MEMORY. */
+static inline uint32_t tm_replace_all(tm_session *session, uint64_t doc, const uint16_t *sought, size_t length, const uint16_t *with, size_t with_length, uint64_t *count) {
+  return tm_raw_replace_all(session, doc, tm_units_(sought), length, tm_units_(with), with_length, count);
+}
+
+/* ---- Decorations */
+
+/* Removes decorations of an owner by their ids, and adds new ones. `first` is the id of the first new one, and the others
+ * follow it; where none is added it is the next free id. UNKNOWN where one that is to be removed is not there, is of another
+ * owner, or is named twice. RANGE where a span or a stickiness is invalid. LIMIT, MEMORY. */
+static inline uint32_t tm_decorate(tm_session *session, uint64_t doc, uint64_t owner, const uint64_t *remove, size_t removed, const tm_new_decoration *add, size_t added, uint64_t *first) {
+  return tm_raw_decorate(session, doc, owner, tm_numbers_(remove), removed, tm_news_(add), added, first);
+}
+
+/* The decorations that overlap or touch the span: those of the owner, or all where `any` is set. RANGE where this is no span
+ * between two places of the text. SHORT, MEMORY. */
+static inline uint32_t tm_decos(tm_session *session, uint64_t doc, uint64_t start, uint64_t end, uint64_t owner, bool any, tm_decoration *out, size_t room, uint64_t *count) {
+  return tm_raw_decos(session, doc, start, end, owner, any, tm_decorations_out_(out), room, count);
+}
+
+/* ---- Brackets */
+
+/* The brackets of the lines from `first` to `last`, both included. RANGE where one of the lines is not there, or `first` is
+ * above `last`. SHORT, MEMORY. */
+static inline uint32_t tm_brackets(tm_session *session, uint64_t doc, uint64_t first, uint64_t last, tm_bracket *out, size_t room, uint64_t *count) {
+  return tm_raw_brackets(session, doc, first, last, tm_brackets_out_(out), room, count);
+}
+
+/* ---- Script lines */
+
+/* Answers a line of a script, without its LF. It may name any of the documents, and speaks of document 0 where it names
+ * none. The session keeps the reply. `bytes` tells how many bytes it has. The reply itself says whether the line was
+ * accepted, and whether memory was short. */
+static inline uint32_t tm_answer(tm_session *session, const uint8_t *line, size_t length, uint64_t *bytes) {
+  return tm_raw_answer(session, tm_bytes_(line), length, bytes);
+}
+
+/* As many bytes of the last reply as there is room for, from the byte `from` on. RANGE where `from` is beyond its end. */
+static inline uint32_t tm_reply(tm_session *session, uint64_t from, uint8_t *out, size_t room, uint64_t *count) {
+  return tm_raw_reply(session, from, tm_bytes_out_(out), room, count);
+}
 
 #endif

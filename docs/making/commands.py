@@ -83,7 +83,7 @@ def script_row(command):
     replies = ", or ".join(f"`{reply}`" for reply in replies_of(command))
     if command.each:
         of, shape = command.each
-        replies = f"`ok` and for each {of} ` {shape}`"
+        replies = f"`{replies_of(command)[0]}` and for each {of} ` {shape}`"
     reasons = ", ".join(f"`{reason}`" for reason in command.refused)
     cells = [f"`{command.name}`", "; ".join(map(called, command.own)), replies, reasons]
     return f"| {' | '.join(cells)} |".replace("|  |", "| |").replace("|  |", "| |")
@@ -110,7 +110,7 @@ def man_head(name, fields):
 def man_command(command):
     replies = ", or ".join(replies_of(command))
     if command.each:
-        replies = "ok and for each {} {}".format(*command.each)
+        replies = "{} and for each {} {}".format(replies_of(command)[0], *command.each)
     causes = "; ".join(f"{reason} where {cause}" for reason, cause in command.refused.items()).replace("`", "")
     refused = [".br", f"Refused with {causes}."] if causes else []
     return [".TP", *man_head(command.name, command.own), command.does, ".br", f"Reply: {replies}.", *refused]
@@ -172,7 +172,9 @@ def client_lines():
     yield "# The commands, with their fields, and what stands behind `ok` in the reply. Each but `joint` takes `doc` too."
     for command in commands():
         given = " ".join(f"[{field.name}]" if field.is_optional else field.name for field in command.own)
-        reply = f"for each {command.each[0]} {command.each[1]}" if command.each else " | ".join([command.reply, *command.others])
+        reply = " | ".join([command.reply, *command.others])
+        if command.each:
+            reply = "{} for each {} {}".format(command.reply, *command.each).strip()
         yield f"#   {command.name:9} {given:31} {reply}".rstrip()
 
 

@@ -12,7 +12,7 @@ PROVED = [
     ("crates/*/src/*.rt", r"fn command_named", "its arm, in the same place"),
     ("crates/*/specs/*.antt", r"step_on : ", "a line of `step_on`"),
     ("crates/*/proofs/*.antt", r"goes_step : ", "an arm of `goes_step`"),
-    ("crates/*/src/*.rt", r"command: Command\) -> Outcome", "an arm of `carry_out`, and the function that makes its reply"),
+    ("crates/*/src/*.rt", r"session: &mut Session, doc: u64, command: Command\) -> Outcome", "an arm of `carry_out`, and the function that makes its reply"),
     ("crates/*/proofs/reply/carry_out/Answers.antt", r"", "an answer"),
     ("crates/*/proofs/ReplyLemmas.antt", r"", "that its reply is one line"),
     ("crates/*/proofs/GoesLemmas.antt", r"", "where it changes a text"),

@@ -5,7 +5,7 @@
 #include <textmodel.h>
 
 static void fails(const char *what, uint32_t status) {
-  fprintf(stderr, "file_pairs: %s: status %u\n", what, (unsigned)status);
+  fprintf(stderr, "file_pairs: %s: %s\n", what, tm_message(status));
   exit(1);
 }
 
@@ -23,63 +23,63 @@ static uint8_t *bytes_of(const char *path, size_t *len) {
   return bytes;
 }
 
-static void open_file(tm_document *document, const char *path) {
+static void open_file(tm_session *session, const char *path) {
   size_t len;
   uint64_t bad = 0;
   uint8_t *bytes = bytes_of(path, &len);
   uint32_t status;
-  if (bytes == NULL) fails("the file can't be read", 0);
-  status = tm_open_utf8(document, bytes, len, 0, &bad);
+  if (bytes == NULL) fails("the file can't be read", TM_NOTHING);
+  status = tm_open_utf8(session, 0, &(tm_opening){.utf8 = bytes, .length = len, .hiding = &tm_hiding_c}, &bad);
   free(bytes);
   if (status == TM_ENCODING) fprintf(stderr, "file_pairs: no UTF-8 after %llu bytes\n", (unsigned long long)bad);
   if (status != TM_OK) fails("open", status);
 }
 
 /* Text of ASCII, as a line of its own before the others. */
-static void put_before(tm_document *document, const char *line) {
+static void put_before(tm_session *session, const char *line) {
   uint16_t units[256];
   size_t len = strlen(line);
   uint32_t status;
-  if (len > 255) fails("the line is too long", 0);
+  if (len > 255) fails("the line is too long", TM_RANGE);
   for (size_t at = 0; at < len; at++) units[at] = (unsigned char)line[at];
   units[len] = '\n';
-  status = tm_edit(document, 0, 0, units, len + 1, false);
+  status = tm_edit(session, 0, 0, 0, units, len + 1);
   if (status != TM_OK) fails("edit", status);
 }
 
-static void print_pair(tm_document *document, const tm_bracket *open) {
+static void print_pair(tm_session *session, const tm_bracket *open) {
   tm_partner close;
-  uint32_t status = tm_match(document, open->line, open->column, &close);
+  uint32_t status = tm_match(session, 0, open->line, open->column, &close);
   if (status != TM_OK) fails("match", status);
   printf("%*s%d:%d to ", (int)open->level * 2, "", (int)open->line, (int)open->column);
   printf("%d:%d\n", (int)close.line, (int)close.column);
 }
 
-static void print_pairs(tm_document *document) {
+static void print_pairs(tm_session *session) {
   uint64_t lines, count = 0;
   tm_bracket *brackets;
-  uint32_t status = tm_line_count(document, &lines);
-  if (status == TM_OK) status = tm_brackets(document, 1, lines, NULL, 0, &count);
+  uint32_t status = tm_line_count(session, 0, &lines);
+  if (status == TM_OK) status = tm_brackets(session, 0, 1, lines, NULL, 0, &count);
   if (status != TM_OK && status != TM_SHORT) fails("brackets", status);
   brackets = calloc(count + 1, sizeof *brackets);
   if (brackets == NULL) fails("memory", TM_MEMORY);
-  status = tm_brackets(document, 1, lines, brackets, count, &count);
+  status = tm_brackets(session, 0, 1, lines, brackets, count, &count);
   if (status != TM_OK) fails("brackets", status);
   for (uint64_t at = 0; at < count; at++) {
-    if (brackets[at].state == 0) print_pair(document, &brackets[at]);
+    if (brackets[at].state == 0) print_pair(session, &brackets[at]);
   }
   free(brackets);
 }
 
 int main(int argc, char **argv) {
-  tm_document document = {0};
+  tm_session session = {0};
   uint32_t status;
-  if (argc != 3) fails("FILE and LINE are wanted", 0);
-  status = tm_make(&document);
+  if (argc != 3) fails("FILE and LINE are wanted", TM_RANGE);
+  status = tm_make(&session);
   if (status != TM_OK) fails("make", status);
-  open_file(&document, argv[1]);
-  put_before(&document, argv[2]);
-  print_pairs(&document);
-  tm_free(&document);
+  open_file(&session, argv[1]);
+  put_before(&session, argv[2]);
+  print_pairs(&session);
+  tm_free(&session);
   return 0;
 }

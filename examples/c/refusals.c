@@ -1,8 +1,11 @@
 /* Makes the same calls again and again, each time with another request for memory refused. Ends with 0 where a refusal
- * leaves the document as it was, the call then works, and no block of memory is left over. For glibc. */
+ * leaves the documents as they were, the call then works, and no block of memory is left over. For glibc.
+ *
+ * refusals [EVERY]     refuses each request, or one of so many, which is enough where a checker makes it slow */
 #include "textmodel.h"
 
 #include <stdio.h>
+#include <stdlib.h>
 #include <string.h>
 
 void *__libc_malloc(size_t);
@@ -32,92 +35,112 @@ void free(void *at) {
   __libc_free(at);
 }
 
-/* ---- The calls, each on a document as the ones before left it */
+/* ---- The calls, each on documents as the ones before left them */
 
-static uint32_t opened(tm_document *d) { return tm_open(d, u"f(x)\n[y]\n", 9, 0); }
+enum { OTHER = 9 };
 
-static uint32_t opened_utf8(tm_document *d) {
-  uint64_t bad;
-  return tm_open_utf8(d, (const uint8_t *)"a{b}\nc(d)\n", 10, 1, &bad);
+static uint32_t opened(tm_session *d) {
+  static const tm_opening opening = {.utf16 = (const uint16_t *)u"f(x)\n[y]\n", .length = 9};
+  return tm_open(d, 0, &opening);
 }
 
-static uint32_t opened_with(tm_document *d) {
+static uint32_t opened_utf8(tm_session *d) {
+  static const tm_opening opening = {
+      .utf8 = (const uint8_t *)"a{b}\nc(d)\n", .length = 10, .ending = TM_LF, .hiding = &tm_hiding_javascript};
+  return tm_open(d, 0, &opening);
+}
+
+static uint32_t opened_with(tm_session *d) {
   static const tm_pair pairs[] = {{2, 2}, {1, 1}};
-  return tm_open_with(d, u"<<a>>\n(b)", 9, 2, pairs, 2, u"<<>>()", 6);
+  const tm_opening opening = {
+      .utf16 = u"<<a>>\n(b)", .length = 9, .ending = TM_CRLF, .pairs = pairs, .pair_count = 2, .brackets = u"<<>>()",
+      .brackets_length = 6, .hiding = &tm_hiding_c};
+  return tm_open(d, 0, &opening);
 }
 
-static uint32_t edited(tm_document *d) { return tm_edit(d, 1, 2, u"[[(", 3, false); }
+static uint32_t edited(tm_session *d) { return tm_edit(d, 0, 1, 2, u"[[(", 3); }
 
-static uint32_t edited_at(tm_document *d) { return tm_edit_at(d, 2, 1, 2, 2, u"z\n(", 3, false); }
+static uint32_t edited_at(tm_session *d) { return tm_edit_at(d, 0, 2, 1, 2, 2, TM_UTF8, u"z\n(", 3); }
 
-static uint32_t many_ops(tm_document *d) {
+static uint32_t many_ops(tm_session *d) {
   static const tm_op ops[] = {{0, 1, 2, false}, {3, 3, 1, true}, {6, 7, 0, false}};
-  return tm_batch(d, ops, 3, u"pq)", 3);
+  return tm_batch(d, 0, ops, 3, u"pq)", 3);
 }
 
-static uint32_t long_text(tm_document *d) {
+static uint32_t long_text(tm_session *d) {
   static uint16_t text[3000];
   for (size_t at = 0; at < 3000; at++) text[at] = at % 50 == 49 ? '\n' : "(ab)[c]"[at % 7];
-  return tm_edit(d, 4, 4, text, 3000, false);
+  return tm_edit(d, 0, 4, 4, text, 3000);
 }
 
-static uint32_t undone(tm_document *d) { return tm_undo(d); }
-static uint32_t redone(tm_document *d) { return tm_redo(d); }
-static uint32_t other_endings(tm_document *d) { return tm_set_eol(d, 2); }
+static uint32_t undone(tm_session *d) { return tm_undo(d, 0); }
+static uint32_t redone(tm_session *d) { return tm_redo(d, 0); }
+static uint32_t other_endings(tm_session *d) { return tm_set_eol(d, 0, TM_CRLF); }
+static uint32_t line_feeds(tm_session *d) { return tm_set_eol(d, 0, TM_LF); }
 
-static uint32_t decorated(tm_document *d) {
+static uint32_t decorated(tm_session *d) {
   static const tm_new_decoration marks[] = {{0, 2, 0, false}, {3, 3, 1, true}, {1, 9, 3, false}};
   uint64_t first;
-  return tm_decorate(d, 4, NULL, 0, marks, 3, &first);
+  return tm_decorate(d, 0, 4, NULL, 0, marks, 3, &first);
 }
 
-static uint32_t all_decorations(tm_document *d) {
+static uint32_t all_decorations(tm_session *d) {
   tm_decoration out[8];
   uint64_t count;
-  return tm_decos(d, 0, 9, 0, true, out, 8, &count);
+  return tm_decos(d, 0, 0, 9, 0, true, out, 8, &count);
 }
 
-static uint32_t all_brackets(tm_document *d) {
+static uint32_t all_brackets(tm_session *d) {
   tm_bracket out[32];
   uint64_t count;
-  return tm_brackets(d, 1, 3, out, 32, &count);
+  return tm_brackets(d, 0, 1, 3, out, 32, &count);
 }
 
-static uint32_t matched(tm_document *d) {
+static uint32_t matched(tm_session *d) {
   tm_partner partner;
-  return tm_match(d, 2, 1, &partner) == TM_MEMORY ? TM_MEMORY : TM_OK;
+  return tm_match(d, 0, 2, 1, &partner) == TM_MEMORY ? TM_MEMORY : TM_OK;
 }
 
-static uint32_t level(tm_document *d) {
+static uint32_t level(tm_session *d) {
   uint64_t open;
-  return tm_level(d, 2, 2, &open);
+  return tm_level(d, 0, 2, 2, &open);
 }
 
-static uint32_t cursor_stops(tm_document *d) {
+static uint32_t cursor_stops(tm_session *d) {
   uint64_t out[128], count;
-  return tm_stops(d, 1, out, 128, &count);
+  return tm_stops(d, 0, 1, out, 128, &count);
 }
 
-static uint32_t line_utf8(tm_document *d) {
+static uint32_t line_utf8(tm_session *d) {
   uint8_t out[256];
   uint64_t count;
-  return tm_line_utf8(d, 1, out, 256, &count);
+  return tm_line_utf8(d, 0, 1, out, 256, &count);
 }
 
-static uint32_t found(tm_document *d) {
+static uint32_t found(tm_session *d) {
   tm_found out[64];
   uint64_t count;
-  return tm_find(d, u"b", 1, out, 64, &count);
+  return tm_find(d, 0, u"b", 1, out, 64, &count);
 }
 
-static uint32_t all_replaced(tm_document *d) { return tm_replace_all(d, u"b", 1, u"(b]", 3); }
+static uint32_t all_replaced(tm_session *d) {
+  uint64_t count;
+  return tm_replace_all(d, 0, u"b", 1, u"(b]", 3, &count);
+}
 
-static uint32_t snapshot(tm_document *d) {
+static uint32_t positions(tm_session *d) {
+  tm_place place;
+  uint64_t offset;
+  uint32_t status = tm_position(d, 0, 1, TM_UTF8, &place);
+  return status == TM_OK ? tm_offset(d, 0, place.line, place.column, TM_UTF32, &offset) : status;
+}
+
+static uint32_t snapshot(tm_session *d) {
   uint64_t id;
-  return tm_snapshot(d, &id);
+  return tm_snapshot(d, 0, &id);
 }
 
-static uint32_t answer(tm_document *d, const char *line) {
+static uint32_t answer(tm_session *d, const char *line) {
   uint8_t reply[64];
   uint64_t len, count;
   uint32_t status = tm_answer(d, (const uint8_t *)line, strlen(line), &len);
@@ -125,62 +148,141 @@ static uint32_t answer(tm_document *d, const char *line) {
   return status == TM_OK && memcmp(reply, "! memory", 8) == 0 ? TM_MEMORY : status;
 }
 
-static uint32_t answered(tm_document *d) { return answer(d, "{\"cmd\":\"edit\",\"ops\":[{\"at\":[1,2],\"text\":\"(x\"}]}"); }
-static uint32_t mirror(tm_document *d) { return answer(d, "{\"cmd\":\"mirror\"}"); }
-static uint32_t sent(tm_document *d) { return answer(d, "{\"cmd\":\"send\"}"); }
-static uint32_t delivered(tm_document *d) { return answer(d, "{\"cmd\":\"deliver\",\"n\":1}"); }
-
-static uint32_t joined(tm_document *d) {
-  return answer(d, "{\"cmd\":\"joint\",\"edits\":[{\"doc\":0,\"ops\":[{\"at\":[0,0],\"text\":\"(x\"}]},"
-                   "{\"doc\":9,\"ops\":[{\"at\":[0,0],\"text\":\"[y\"}]}]}");
+static uint32_t answered(tm_session *d) { return answer(d, "{\"cmd\":\"edit\",\"ops\":[{\"at\":[1,2],\"text\":\"(x\"}]}"); }
+static uint32_t opened_other(tm_session *d) {
+  static const tm_opening opening = {.utf16 = (const uint16_t *)u"g(y)\n", .length = 5};
+  return tm_open(d, OTHER, &opening);
 }
 
-static uint32_t (*const calls[])(tm_document *) = {
+static uint32_t opened_bytes(tm_session *d) {
+  static const tm_opening opening = {.utf8 = (const uint8_t *)"a{b}\nc(d)\n", .length = 10, .hiding = &tm_hiding_python};
+  uint64_t bad;
+  return tm_open_utf8(d, 0, &opening, &bad);
+}
+
+static uint32_t line_and_text(tm_session *d) {
+  uint16_t out[256];
+  uint64_t count;
+  uint32_t status = tm_line(d, 0, 1, out, 256, &count);
+  if (status == TM_OK) status = tm_read_into(d, 0, 0, out, 256, &count);
+  return status == TM_OK ? tm_value(d, 0, 0, 3, out, 256, &count) : status;
+}
+
+/* Read from its start, in a document that was opened before. */
+static uint32_t read_snapshot(tm_session *d) {
+  uint16_t out[4];
+  uint64_t id, count;
+  uint32_t status = tm_snapshot(d, 0, &id);
+  if (status != TM_OK) return status;
+  status = tm_read(d, 0, id, out, 4, &count);
+  if (status == TM_OK && count == 0) return TM_NOTHING;
+  tm_close(d, 0, id);
+  return status;
+}
+
+static uint32_t joined(tm_session *d) {
+  static const tm_doc_op ops[] = {{0, 0, 0, 2, false}, {0, 1, 1, 0, false}, {OTHER, 0, 1, 2, true}};
+  return tm_joint(d, ops, 3, u"(x[y", 4);
+}
+
+static uint32_t mirror(tm_session *d) {
+  uint64_t version;
+  return tm_mirror(d, 0, &version);
+}
+
+static uint32_t sent(tm_session *d) {
+  uint64_t number, from;
+  return tm_send(d, 0, &number, &from);
+}
+
+static uint32_t delivered(tm_session *d) {
+  tm_followed followed;
+  return tm_deliver(d, 0, 1, &followed);
+}
+
+static uint32_t mirrored(tm_session *d) {
+  uint16_t out[256];
+  uint64_t count;
+  return tm_mirrored(d, 0, 1, out, 256, &count);
+}
+
+/* All edits of the last change. Where one is refused, the next call tells it. */
+static uint32_t changes(tm_session *d) {
+  uint16_t out[256];
+  uint64_t count;
+  tm_change change;
+  uint32_t status;
+  while ((status = tm_next_change(d, 0, &change)) == TM_OK) {
+    status = tm_change_text(d, out, 256, &count);
+    if (status != TM_OK) return status;
+  }
+  return status == TM_NOTHING ? TM_OK : status;
+}
+
+static uint32_t (*const calls[])(tm_session *) = {
     opened,       edited,      edited_at,       many_ops,     decorated, all_decorations, all_brackets,
     matched,      level,       snapshot,        long_text,    matched,   level,           undone,
     redone,       undone,      cursor_stops,    line_utf8,    answered,  other_endings,   all_decorations,
     all_brackets, opened_utf8, cursor_stops,    edited,       snapshot,  answered,        undone,
     found,        all_replaced, undone,         all_replaced, level,     undone,
-    opened_with,  level,       mirror,          answered,     sent,      delivered,
-    joined,       undone,      redone,
+    opened_bytes, line_and_text, changes,      read_snapshot, edited,   changes,         opened_other,
+    opened_with,  level,       mirror,          answered,     sent,      delivered,       mirrored,
+    joined,       changes,     sent,            undone,       changes,   redone,          changes,
+    positions,    line_and_text, line_feeds,   changes,
 };
 enum { CALLS = sizeof calls / sizeof *calls };
 
-/* ---- What a document is, as far as questions tell */
+/* ---- What the two documents are, as far as questions tell */
 
 typedef struct state {
   uint64_t len, lines, version, alternative, marks;
   uint32_t kind, undo, redo;
-  uint64_t text;  /* a sum over all units */
+  uint64_t text;     /* a sum over all units */
+  uint64_t mirrored; /* how many units the first line of the mirror has, none where there is no mirror */
   tm_decoration decorations[8];
 } state;
 
-static state told(tm_document *d) {
+typedef struct states {
+  state one, other;
+} states;
+
+static state told_of(tm_session *d, uint64_t doc) {
   static uint16_t units[4000];
   state now;
   uint64_t count = 0;
   memset(&now, 0, sizeof now);
-  tm_len(d, &now.len);
-  tm_line_count(d, &now.lines);
-  tm_versions(d, &now.version, &now.alternative);
-  tm_kind(d, &now.kind);
-  now.undo = tm_can_undo(d);
-  now.redo = tm_can_redo(d);
-  tm_value(d, 0, now.len, units, 4000, &count);
+  tm_len(d, doc, &now.len);
+  tm_line_count(d, doc, &now.lines);
+  tm_versions(d, doc, &now.version, &now.alternative);
+  tm_kind(d, doc, &now.kind);
+  now.undo = tm_can_undo(d, doc);
+  now.redo = tm_can_redo(d, doc);
+  tm_value(d, doc, 0, now.len, units, 4000, &count);
   for (uint64_t at = 0; at < count; at++) now.text = now.text * 31 + units[at];
-  tm_decos(d, 0, now.len, 0, true, now.decorations, 8, &now.marks);
+  if (tm_mirrored(d, doc, 1, units, 4000, &count) == TM_OK) now.mirrored = count;
+  tm_decos(d, doc, 0, now.len, 0, true, now.decorations, 8, &now.marks);
   return now;
 }
 
-static int same(const state *one, const state *other) {
+static states told(tm_session *d) {
+  states now = {told_of(d, 0), told_of(d, OTHER)};
+  return now;
+}
+
+static int same_state(const state *one, const state *other) {
   int equal = one->len == other->len && one->lines == other->lines && one->version == other->version
               && one->alternative == other->alternative && one->marks == other->marks && one->kind == other->kind
-              && one->undo == other->undo && one->redo == other->redo && one->text == other->text;
+              && one->undo == other->undo && one->redo == other->redo && one->text == other->text
+              && one->mirrored == other->mirrored;
   for (uint64_t at = 0; equal && at < one->marks; at++) {
     const tm_decoration *a = &one->decorations[at], *b = &other->decorations[at];
     equal = a->id == b->id && a->owner == b->owner && a->start == b->start && a->end == b->end;
   }
   return equal;
+}
+
+static int same(const states *before, const states *after) {
+  return same_state(&before->one, &after->one) && same_state(&before->other, &after->other);
 }
 
 /* ---- Runs */
@@ -192,7 +294,7 @@ static void fails(const char *what, int call) {
   failed = 1;
 }
 
-static uint32_t counted(uint32_t (*call)(tm_document *), tm_document *d) {
+static uint32_t counted(uint32_t (*call)(tm_session *), tm_session *d) {
   counting = 1;
   uint32_t status = call(d);
   counting = 0;
@@ -200,8 +302,8 @@ static uint32_t counted(uint32_t (*call)(tm_document *), tm_document *d) {
 }
 
 /* One call, made again where memory was refused to it. Whether it was. */
-static int one_call(tm_document *d, int number) {
-  state before = told(d), after;
+static int one_call(tm_session *d, int number) {
+  states before = told(d), after;
   uint32_t status = counted(calls[number], d);
   if (status == TM_OK) return 0;
   if (status != TM_MEMORY) fails("another status than wanted", number);
@@ -212,8 +314,8 @@ static int one_call(tm_document *d, int number) {
 }
 
 /* All calls on one document, which is freed; how many wanted memory. */
-static int run(long number, state *end) {
-  tm_document d = {0};
+static int run(long number, states *end) {
+  tm_session d = {0};
   int wanted = 0;
   requests = 0;
   refused = number;
@@ -227,13 +329,13 @@ static int run(long number, state *end) {
   return wanted;
 }
 
-int main(void) {
-  state usual, end;
-  long most, before, seen = 0;
+int main(int argc, char **argv) {
+  states usual, end;
+  long every = argc > 1 ? strtol(argv[1], NULL, 10) : 1, most, before, seen = 0;
   setvbuf(stdout, NULL, _IONBF, 0);
   run(0, &usual);
   most = requests;
-  for (long number = 1; number <= most; number++) {
+  for (long number = 1; number <= most; number += every) {
     before = blocks;
     seen += run(number, &end);
     if (!same(&usual, &end)) fails("it ends with another document", CALLS);

@@ -1,19 +1,18 @@
-//! The document from Rust: the library's C functions, a safe wrapper of some of them, and a program that edits a text and
-//! prints its bracket pairs. Where the library is below PREFIX:
+//! A document from Rust: some of the library's exports, a safe wrapper of them, and a program that edits a text and prints its
+//! bracket pairs. Where the library is below PREFIX:
 //!
 //!     rustc --edition 2021 -O textmodel.rs -L PREFIX/lib -C link-arg=-Wl,-rpath,PREFIX/lib && ./textmodel
 //!
 //! Offsets count UTF-16 units from 0, lines and columns count from 1.
 
 use std::fmt;
-use std::marker::PhantomData;
 
-/// The C functions, as textmodel.h has them.
+/// The exports, as textmodel.h has them. Those with slices take no null pointer, which a slice of Rust never has.
 mod c {
     use std::ffi::c_void;
 
     #[repr(C)]
-    pub struct Document {
+    pub struct Session {
         pub at: *mut c_void,
     }
 
@@ -36,36 +35,55 @@ mod c {
         pub units: u64,
     }
 
+    /// How many units the opening and the closing text of a pair of brackets have.
+    #[repr(C)]
+    pub struct Pair {
+        pub opening: u64,
+        pub closing: u64,
+    }
+
     #[link(name = "textmodel")]
     extern "C" {
-        pub fn tm_make(handle: *mut Document) -> u32;
-        pub fn tm_free(handle: *mut Document) -> u32;
-        pub fn tm_open_utf8(
-            handle: *mut Document,
+        pub fn tm_make(session: *mut Session) -> u32;
+        pub fn tm_free(session: *mut Session) -> u32;
+        pub fn tm_raw_open_utf8(
+            session: *mut Session,
+            doc: u64,
+            kind: u32,
             text: *const u8,
             text_len: usize,
-            kind: u32,
+            pairs: *const Pair,
+            pairs_len: usize,
+            brackets: *const u16,
+            brackets_len: usize,
+            line: u64,
+            opening: u64,
+            closing: u64,
+            marks: *const u16,
+            marks_len: usize,
             bad: *mut u64,
         ) -> u32;
-        pub fn tm_edit(
-            handle: *mut Document,
+        pub fn tm_raw_edit(
+            session: *mut Session,
+            doc: u64,
             start: u64,
             end: u64,
             text: *const u16,
             text_len: usize,
-            force: bool,
         ) -> u32;
-        pub fn tm_undo(handle: *mut Document) -> u32;
-        pub fn tm_line_count(handle: *mut Document, count: *mut u64) -> u32;
-        pub fn tm_line_utf8(
-            handle: *mut Document,
+        pub fn tm_undo(session: *mut Session, doc: u64) -> u32;
+        pub fn tm_line_count(session: *mut Session, doc: u64, count: *mut u64) -> u32;
+        pub fn tm_raw_line_utf8(
+            session: *mut Session,
+            doc: u64,
             n: u64,
             out: *mut u8,
             out_len: usize,
             count: *mut u64,
         ) -> u32;
-        pub fn tm_brackets(
-            handle: *mut Document,
+        pub fn tm_raw_brackets(
+            session: *mut Session,
+            doc: u64,
             from: u64,
             to: u64,
             out: *mut Bracket,
@@ -73,7 +91,8 @@ mod c {
             count: *mut u64,
         ) -> u32;
         pub fn tm_match(
-            handle: *mut Document,
+            session: *mut Session,
+            doc: u64,
             line: u64,
             column: u64,
             partner: *mut Partner,
@@ -141,27 +160,51 @@ fn listed<T: Clone + Default>(
     Ok(out)
 }
 
-/// A document. It stays on the thread that made it, for which the pointer stands.
+/// Which of the 64 documents of a session it is.
+const DOC: u64 = 0;
+
+/// A document, in a session of its own.
 pub struct Document {
-    handle: c::Document,
-    on_its_thread: PhantomData<*mut ()>,
+    session: c::Session,
 }
 
+// SAFETY: any thread may call, one at a time, which a mutable borrow sees to.
+unsafe impl Send for Document {}
+
 impl Document {
-    /// A document with this text, whose line endings are as they come. Refused with `Limit` or `Memory`.
+    /// A document with this text, whose line endings stay as they come, with the brackets of C, which comments and strings hide.
+    /// Refused with `Limit` or `Memory`.
     pub fn open(text: &str) -> Result<Document, Refused> {
-        let handle = c::Document {
-            at: std::ptr::null_mut(),
-        };
+        const MIXED: u32 = 0;
+        let pairs: [c::Pair; 0] = [];
+        let brackets: [u16; 0] = [];
+        let marks: Vec<u16> = "///**/\"'".encode_utf16().collect();
         let mut document = Document {
-            handle,
-            on_its_thread: PhantomData,
+            session: c::Session {
+                at: std::ptr::null_mut(),
+            },
         };
         let mut bad = 0;
-        // SAFETY: the handle begins empty and is not copied; the text and its length are those of a slice.
-        told(unsafe { c::tm_make(&mut document.handle) })?;
+        // SAFETY: the session begins empty and is not copied; pointers and lengths are those of slices.
+        told(unsafe { c::tm_make(&mut document.session) })?;
         told(unsafe {
-            c::tm_open_utf8(&mut document.handle, text.as_ptr(), text.len(), 0, &mut bad)
+            c::tm_raw_open_utf8(
+                &mut document.session,
+                DOC,
+                MIXED,
+                text.as_ptr(),
+                text.len(),
+                pairs.as_ptr(),
+                pairs.len(),
+                brackets.as_ptr(),
+                brackets.len(),
+                2,
+                2,
+                2,
+                marks.as_ptr(),
+                marks.len(),
+                &mut bad,
+            )
         })?;
         Ok(document)
     }
@@ -169,15 +212,15 @@ impl Document {
     /// Puts the text in the place of the units from `start` up to `end`. Refused with `Range`, `Limit` or `Memory`.
     pub fn edit(&mut self, start: u64, end: u64, text: &str) -> Result<(), Refused> {
         let units: Vec<u16> = text.encode_utf16().collect();
-        // SAFETY: as in `open`; nothing else has the handle while it is borrowed.
+        // SAFETY: as in `open`; nothing else has the session while it is borrowed.
         told(unsafe {
-            c::tm_edit(
-                &mut self.handle,
+            c::tm_raw_edit(
+                &mut self.session,
+                DOC,
                 start,
                 end,
                 units.as_ptr(),
                 units.len(),
-                false,
             )
         })
         .map(|_| ())
@@ -186,14 +229,14 @@ impl Document {
     /// Goes back to the text before the last step; false where there is none. Refused with `Limit` or `Memory`.
     pub fn undo(&mut self) -> Result<bool, Refused> {
         // SAFETY: as in `edit`.
-        told(unsafe { c::tm_undo(&mut self.handle) })
+        told(unsafe { c::tm_undo(&mut self.session, DOC) })
     }
 
     /// How many lines the text has.
     pub fn line_count(&mut self) -> Result<u64, Refused> {
         let mut count = 0;
         // SAFETY: as in `edit`; the count is a place of its own.
-        told(unsafe { c::tm_line_count(&mut self.handle, &mut count) })?;
+        told(unsafe { c::tm_line_count(&mut self.session, DOC, &mut count) })?;
         Ok(count)
     }
 
@@ -201,7 +244,7 @@ impl Document {
     pub fn line(&mut self, n: u64) -> Result<String, Refused> {
         // SAFETY: as in `edit`; `listed` tells a place and how many there is room for.
         let bytes = listed(|out, len, count| unsafe {
-            c::tm_line_utf8(&mut self.handle, n, out, len, count)
+            c::tm_raw_line_utf8(&mut self.session, DOC, n, out, len, count)
         })?;
         Ok(String::from_utf8(bytes).expect("the library writes UTF-8"))
     }
@@ -210,7 +253,7 @@ impl Document {
     pub fn brackets(&mut self, first: u64, last: u64) -> Result<Vec<Bracket>, Refused> {
         // SAFETY: as in `line`.
         listed(|out, len, count| unsafe {
-            c::tm_brackets(&mut self.handle, first, last, out, len, count)
+            c::tm_raw_brackets(&mut self.session, DOC, first, last, out, len, count)
         })
     }
 
@@ -218,22 +261,23 @@ impl Document {
     pub fn partner(&mut self, line: u64, column: u64) -> Result<Option<Partner>, Refused> {
         let mut partner = Partner::default();
         // SAFETY: as in `edit`; the partner is a place of its own.
-        let is_there = told(unsafe { c::tm_match(&mut self.handle, line, column, &mut partner) })?;
+        let is_there =
+            told(unsafe { c::tm_match(&mut self.session, DOC, line, column, &mut partner) })?;
         Ok(is_there.then_some(partner))
     }
 }
 
 impl Drop for Document {
     fn drop(&mut self) {
-        // SAFETY: freed once; on an empty handle nothing is done.
-        unsafe { c::tm_free(&mut self.handle) };
+        // SAFETY: freed once; on an empty session nothing is done.
+        unsafe { c::tm_free(&mut self.session) };
     }
 }
 
 const OPENING: u32 = 0;
 
 fn main() -> Result<(), Refused> {
-    let mut document = Document::open("fn f(x) {\n    g[x\n}\n")?;
+    let mut document = Document::open("fn f(x) {\n    g[x // )\n}\n")?;
     document.edit(17, 17, "]")?;
     for n in 1..=document.line_count()? {
         println!("{n}: {}", document.line(n)?);

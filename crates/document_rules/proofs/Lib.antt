@@ -2,3 +2,4 @@ pub mod Places
 pub mod RowLengths
 pub mod PairedEndings
 pub mod PairedStates
+pub mod InTurn

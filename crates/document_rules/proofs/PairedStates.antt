@@ -27,7 +27,7 @@ use Rattle.snapshot_rules.specs.Snapshots.{Snapshot, FlatShelf, IsRising, IsSoun
 use Rattle.document_rules.proofs.PairedEndings.{IsPaired-normalized, paired_texts_in}
 use Rattle.document_rules.specs.declared.ModelError.{ModelError}
 use Rattle.document_rules.specs.Refusals.{FlatRefusal, limit}
-use Rattle.document_rules.specs.Document.{greatest_version, FlatText, Deed, batch, recast, FlatChange, FlatState, new_document, flat_open, text_now, after_deed, after_batch, edited_by, flat_edit, is_same_kind, recast_to, carried_to, after_recast, flat_eol, carried_by, flat_stop, flat_tag, flat_untag, flat_untag_last, text_before, text_after, carried_back, carried_on, batches_back, batches_on, returned, undone_step, flat_undo, redone_step, flat_redo, with_decorations, flat_decorate}
+use Rattle.document_rules.specs.Document.{greatest_version, FlatText, Deed, batch, recast, FlatChange, FlatState, new_document, flat_open, text_now, after_deed, after_batch, edited_by, flat_edit, is_same_kind, recast_to, carried_to, after_recast, flat_eol, carried_by, flat_stop, flat_tag, flat_untag, flat_untag_last, text_before, text_after, carried_back, carried_on, batches_back, batches_on, all_edits_back, all_edits_on, returned, undone_step, flat_undo, redone_step, flat_redo, with_decorations, flat_decorate}
 use Rattle.document_rules.specs.Outcomes.{Changes, ChangesWith, Moves}
 use Rattle.document_rules.specs.Snapshots.{with_shelf, flat_snapshot, flat_skipped, flat_close_of, EndsBesidePairs}
 use Rattle.document_rules.specs.Paired.{IsPairedDeed, IsPairedChange, ArePairedSteps, IsPairedShelf, IsPairedState}
@@ -259,7 +259,7 @@ undone_step_paired f g (step ∷ steps) kept done h =
     let lists = paired_undone f.history.undo f.history.redo h.undo h.redo in
     accepted_move (nat_le greatest_version f.version)
     (returned f (text_before (text_now f) step.changes) step.alt_before (carried_back f.decorations step.changes) (undone f.history)
-    (batches_back step.changes)) g limit done
+    (batches_back step.changes) (all_edits_back step.changes)) g limit done
     (record { units = paired_before (text_now f) step.changes h.units (All-head IsPairedStep step steps kept); undo = lists.undo; redo = lists.redo; shelf = h.shelf })
 
 pub undone_paired : (f g : FlatState) → flat_undo f ≡ Ok (Some g) → IsPairedState f → IsPairedState g
@@ -271,7 +271,7 @@ redone_step_paired f g (step ∷ steps) kept done h =
     let lists = paired_redone f.history.undo f.history.redo f.history.is_open h.undo h.redo in
     accepted_move (nat_le greatest_version f.version)
     (returned f (text_after (text_now f) step.changes) step.alt_after (carried_on f.decorations step.changes) (redone f.history)
-    (batches_on step.changes)) g limit done
+    (batches_on step.changes) (all_edits_on step.changes)) g limit done
     (record { units = paired_after (text_now f) step.changes h.units (All-head IsPairedStep step steps kept); undo = lists.undo; redo = lists.redo; shelf = h.shelf })
 
 pub redone_paired : (f g : FlatState) → flat_redo f ≡ Ok (Some g) → IsPairedState f → IsPairedState g

@@ -30,6 +30,7 @@ use Rattle.undo_rules.specs.Stack.{Step, Stack, empty_stack, pushed, stopped, un
 use Rattle.undo_rules.specs.Tags.{tagged, untagged, all_steps, untagged_last, with_steps}
 use Rattle.snapshot_rules.specs.Snapshots.{FlatShelf, empty_shelf}
 use Rattle.document_rules.specs.Refusals.{FlatRefusal, unknown, range, overlap, limit}
+use Rattle.document_rules.specs.InTurn.{unforced, one_by_one, ending_edits}
 
 abbrev pub greatest_version : ℕ
 greatest_version = GREATEST_NUMBER
@@ -57,6 +58,8 @@ pub record FlatChange : Type 0 where
 pub record LastChange : Type 0 where
   pub before : List ℕ
   pub batches : List (List Op)
+  -- the same as edits in turn
+  pub edits : List Op
 
 pub record FlatState : Type 0 where
   pub units : List ℕ
@@ -122,9 +125,18 @@ abbrev pub ops_back : FlatText → Deed → FlatText → List Op
 ops_back before (batch ops) after = inverse_from 0 0 before.units ops
 ops_back before recast after = whole_op after.units before.units
 
--- these batches led from the text of the document to a new one
-abbrev pub leading : FlatState → List (List Op) → Option LastChange
-leading f batches = Some (record { before = f.units; batches = batches })
+-- a deed as edits in turn, and those that take it back: of other line endings those that differ
+abbrev pub edits_on : FlatText → Deed → FlatText → List Op
+edits_on before (batch ops) after = one_by_one ops
+edits_on before recast after = ending_edits before.units after.units
+
+abbrev pub edits_back : FlatText → Deed → FlatText → List Op
+edits_back before (batch ops) after = one_by_one (inverse_from 0 0 before.units ops)
+edits_back before recast after = ending_edits after.units before.units
+
+-- these batches, which are these edits in turn, led from the text of the document to a new one
+abbrev pub leading : FlatState → List (List Op) → List Op → Option LastChange
+leading f batches edits = Some (record { before = f.units; batches = batches; edits = edits })
 
 -- the next version, with this text, after a deed that took it there
 abbrev pub after_deed : FlatState → Deed → FlatText → Decorations → FlatState
@@ -135,7 +147,7 @@ after_deed f deed text decorations = record f {
   alternative = f.version + 1;
   decorations = decorations;
   history = pushed f.history (record { before = text_now f; deed = deed; after = text }) f.alternative (f.version + 1);
-  last = leading f (ops_on (text_now f) deed text ∷ []);
+  last = leading f (ops_on (text_now f) deed text ∷ []) (edits_on (text_now f) deed text);
 }
 
 -- after a batch of ops that were checked
@@ -228,9 +240,6 @@ abbrev pub carried_back : Decorations → List FlatChange → Decorations
 carried_back d [] = d
 carried_back d (change ∷ changes) = taken_back (carried_back d changes) change.before change.deed change.after
 
-abbrev pub unforced : Op → Op
-unforced op = record op { force = false }
-
 -- On: by the ops, where nothing is forced, or with their lines.
 abbrev pub made_again : Decorations → FlatText → Deed → FlatText → Decorations
 made_again d before (batch ops) after = carried_by d (map unforced ops)
@@ -250,16 +259,25 @@ batches_back (change ∷ changes) = batches_back changes ++ ops_back change.befo
 abbrev pub batches_on : List FlatChange → List (List Op)
 batches_on changes = map (λ (change : FlatChange). ops_on change.before change.deed change.after) changes
 
+-- the same as edits in turn
+abbrev pub all_edits_back : List FlatChange → List Op
+all_edits_back [] = []
+all_edits_back (change ∷ changes) = all_edits_back changes ++ edits_back change.before change.deed change.after
+
+abbrev pub all_edits_on : List FlatChange → List Op
+all_edits_on [] = []
+all_edits_on (change ∷ changes) = edits_on change.before change.deed change.after ++ all_edits_on changes
+
 -- the next version, with the text and the alternative version of another moment, to which these batches led
-abbrev pub returned : FlatState → FlatText → ℕ → Decorations → Stack FlatChange → List (List Op) → FlatState
-returned f text alternative decorations history batches = record f {
+abbrev pub returned : FlatState → FlatText → ℕ → Decorations → Stack FlatChange → List (List Op) → List Op → FlatState
+returned f text alternative decorations history batches edits = record f {
   units = text.units;
   kind = text.kind;
   version = f.version + 1;
   alternative = alternative;
   decorations = decorations;
   history = history;
-  last = leading f batches;
+  last = leading f batches edits;
 }
 
 abbrev pub unless_last_version : FlatState → FlatState → Result (Option FlatState) FlatRefusal
@@ -270,7 +288,7 @@ undone_step f [] = Ok None
 undone_step f (step ∷ steps) =
     unless_last_version f
     (returned f (text_before (text_now f) step.changes) step.alt_before (carried_back f.decorations step.changes)
-    (undone f.history) (batches_back step.changes))
+    (undone f.history) (batches_back step.changes) (all_edits_back step.changes))
 
 -- back to the text before the last step; nothing where there is none
 abbrev pub flat_undo : FlatState → Result (Option FlatState) FlatRefusal
@@ -281,15 +299,23 @@ redone_step f [] = Ok None
 redone_step f (step ∷ steps) =
     unless_last_version f
     (returned f (text_after (text_now f) step.changes) step.alt_after (carried_on f.decorations step.changes)
-    (redone f.history) (batches_on step.changes))
+    (redone f.history) (batches_on step.changes) (all_edits_on step.changes))
 
 -- on to the text after the step that was undone last; nothing where there is none
 abbrev pub flat_redo : FlatState → Result (Option FlatState) FlatRefusal
 flat_redo f = redone_step f f.history.redo
 
+abbrev pub edits_of : Option LastChange → List Op
+edits_of None = []
+edits_of (Some last) = last.edits
+
 -- the last change as an event by which another text can follow; none in a new document
 abbrev pub flat_event : FlatState → Option EventState
 flat_event f = option_map (λ (last : LastChange). record { from = f.version - 1; batches = last.batches }) f.last
+
+-- what the last change did, as edits in turn; none in a new document
+abbrev pub flat_changes : FlatState → List Op
+flat_changes f = edits_of f.last
 
 -- why decorations are not changed
 abbrev pub decoration_refusal : DecoRefusal → FlatRefusal

@@ -1,5 +1,6 @@
 -- Worked examples of the rules.
 use Rattle.std.specs.Prelude.{◌≡◌, ℕ, List, [], ◌∷◌, Result, Ok, Err, Option, Some, None, codes, false, true, refl}
+use Rattle.std.specs.List.{flat_map}
 use Rattle.unit_text.specs.declared.kind.Kind.TheVariants.{Mixed, Lf, Crlf}
 use Rattle.text_rules.specs.declared.Op.{Op}
 use Rattle.decoration_rules.specs.declared.Deco.{Deco}
@@ -15,7 +16,8 @@ use Rattle.document_rules.specs.Snapshots.{flat_snapshot, flat_peek_of, flat_ski
 use Rattle.document_rules.specs.Stops.{flat_stops}
 use Rattle.document_rules.specs.Brackets.{flat_brackets, flat_match, flat_level}
 use Rattle.document_rules.specs.Refusals.{FlatRefusal, unknown, range, overlap, limit}
-use Rattle.document_rules.specs.Document.{FlatText, FlatState, FlatChange, batch, recast, flat_open, flat_eol, new_document, after_batch, flat_edit, flat_undo, flat_redo, flat_decorate, flat_deco, flat_decos, carried_on, flat_line, flat_value, flat_position, flat_offset, flat_line_count, flat_event, greatest_version}
+use Rattle.document_rules.specs.InTurn.{edited_in_turn, one_by_one}
+use Rattle.document_rules.specs.Document.{FlatText, FlatState, FlatChange, batch, recast, flat_open, flat_eol, new_document, after_batch, flat_edit, flat_undo, flat_redo, flat_decorate, flat_deco, flat_decos, carried_on, flat_line, flat_value, flat_position, flat_offset, flat_line_count, flat_event, flat_changes, greatest_version}
 
 abbrev op : ℕ → ℕ → List ℕ → Op
 op start end text = record { span = record { start = start; end = end }; text = text; force = false }
@@ -23,13 +25,13 @@ op start end text = record { span = record { start = start; end = end }; text = 
 abbrev mixed : List ℕ → FlatText
 mixed units = record { units = units; kind = Mixed }
 
--- a text of these two versions, to which these batches led from another, with what can be undone and redone
+-- a text of these two versions, to which these batches of ops led from another, with what can be undone and redone
 abbrev at_version : ℕ → ℕ → List ℕ → List (List Op) → List ℕ → Stack FlatChange → FlatState
 at_version version alternative before batches text history = record (new_document text standard_scanner Mixed) {
   version = version;
   alternative = alternative;
   history = history;
-  last = Some (record { before = before; batches = batches });
+  last = Some (record { before = before; batches = batches; edits = flat_map one_by_one batches });
 }
 
 an_edit_over_a_break : flat_edit (new_document (codes "ab\ncd") standard_scanner Mixed) (op 1 4 (codes "X") ∷ [])
@@ -92,6 +94,30 @@ the_event_of_an_edit = refl
 
 the_event_of_an_undo : flat_event undone_edit ≡ Some (record { from = 2; batches = (op 1 2 [] ∷ []) ∷ [] })
 the_event_of_an_undo = refl
+
+a_new_document_has_no_changes : flat_changes (new_document (codes "a") standard_scanner Mixed) ≡ []
+a_new_document_has_no_changes = refl
+
+abbrev two_ops : List Op
+two_ops = op 0 1 (codes "XX") ∷ op 2 3 (codes "Y") ∷ []
+
+-- of two ops in one batch the last one comes first
+the_changes_of_two_ops : flat_changes (after_batch (new_document (codes "abcd") standard_scanner Mixed) two_ops)
+    ≡ op 2 3 (codes "Y") ∷ op 0 1 (codes "XX") ∷ []
+the_changes_of_two_ops = refl
+
+they_give_the_text_of_now : edited_in_turn (codes "abcd") (op 2 3 (codes "Y") ∷ op 0 1 (codes "XX") ∷ []) ≡ codes "XXbYd"
+they_give_the_text_of_now = refl
+
+-- the changes of a call that has something to do
+abbrev changes_then : Result (Option FlatState) FlatRefusal → List Op
+changes_then (Ok (Some f)) = flat_changes f
+changes_then (Ok None) = []
+changes_then (Err why) = []
+
+-- the second edit of the step is taken back first
+the_changes_of_an_undo : changes_then (flat_undo two_edits) ≡ op 2 3 [] ∷ op 1 2 [] ∷ []
+the_changes_of_an_undo = refl
 
 no_undo_at_the_last_version : flat_undo (record one_edit { version = greatest_version }) ≡ Err limit
 no_undo_at_the_last_version = refl
@@ -277,7 +303,15 @@ three_pairs = record (at_version 2 2 (codes "a\nb\nc") ((op 0 5 (codes "a\r\nb\r
   } ∷ [];
   redo = [];
   is_open = false;
-})) { kind = Crlf; decorations = record { marks = mark_at 3 4 ∷ []; next_id = 2 } }
+})) {
+  kind = Crlf;
+  decorations = record { marks = mark_at 3 4 ∷ []; next_id = 2 };
+  last = Some (record {
+    before = codes "a\nb\nc";
+    batches = (op 0 5 (codes "a\r\nb\r\nc") ∷ []) ∷ [];
+    edits = op 3 4 (codes "\r\n") ∷ op 1 2 (codes "\r\n") ∷ [];
+  });
+}
 
 a_change_of_endings : flat_eol three_lines Crlf ≡ Ok (Some three_pairs)
 a_change_of_endings = refl
@@ -296,11 +330,20 @@ abbrev undone_endings : FlatState
 undone_endings = record three_lines {
   version = 3;
   history = record { undo = []; redo = three_pairs.history.undo; is_open = false };
-  last = Some (record { before = codes "a\r\nb\r\nc"; batches = (op 0 7 (codes "a\nb\nc") ∷ []) ∷ [] });
+  last = Some (record {
+    before = codes "a\r\nb\r\nc";
+    batches = (op 0 7 (codes "a\nb\nc") ∷ []) ∷ [];
+    edits = op 4 6 (codes "\n") ∷ op 1 3 (codes "\n") ∷ [];
+  });
 }
 
 endings_are_taken_back : flat_undo three_pairs ≡ Ok (Some undone_endings)
 endings_are_taken_back = refl
+
+-- of three endings the one that is an LF already is not told
+only_other_endings_change : changes_then (flat_eol (new_document (codes "a\r\nb\nc\r") standard_scanner Mixed) Lf)
+    ≡ op 6 7 (codes "\n") ∷ op 1 3 (codes "\n") ∷ []
+only_other_endings_change = refl
 
 -- a decoration inside a CR LF goes to the end of its line
 abbrev inside_a_pair : FlatState

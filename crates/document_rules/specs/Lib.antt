@@ -1,5 +1,6 @@
 pub mod Refusals
 pub mod Outcomes
+pub mod InTurn
 pub mod Document
 pub mod Paired
 pub mod Brackets

@@ -1,5 +1,5 @@
 -- An accepted change: what it leads to, and what the flat document has then.
-use Rattle.std.proofs.Common.{◌≡◌, ℕ, ◌+◌, ◌-◌, ◌≤◌, false, true, nat_lt, nat_le, List, length, Ok, Option, Some, refl, ap, sym, subst, ◌∙◌, arith}
+use Rattle.std.proofs.Common.{◌≡◌, ℕ, ◌+◌, ◌-◌, ◌≤◌, false, true, nat_lt, nat_le, List, length, map, Ok, Option, Some, refl, ap, sym, subst, ◌∙◌, arith}
 use Rattle.std.specs.List.{All}
 use Rattle.std.proofs.lemmas.Bool.{lt-leb, le-ltb}
 use Rattle.std.proofs.lemmas.List.{take_all}
@@ -12,7 +12,10 @@ use Rattle.batch_rules.proofs.Standing.{accepted}
 use Rattle.batch_rules.proofs.Keeping.{keeps_kind, keeps_kind_back}
 use Rattle.batch_rules.proofs.Pairs.{IsPaired-applied, HasPairedText}
 use Rattle.batch_rules.proofs.Order.{All-sorted_ops}
+use Rattle.text_rules.specs.Lines.{Line, lines_of}
+use Rattle.decoration_rules.specs.LineMoves.{HaveSameContents}
 use Rattle.decoration_rules.specs.Recasts.{RecastState}
+use Rattle.decoration_rules.proofs.Contents.{contents-normalized}
 use Rattle.undo_rules.specs.Stack.{Stack}
 use Rattle.snapshot_rules.specs.Snapshots.{FlatShelf}
 use Rattle.document_rules.specs.Document.{FlatText, greatest_version, is_same_kind, flat_edit, flat_eol}
@@ -55,16 +58,16 @@ batch_leads text ops inverse is endings fits =
     }
 
 -- one text and another, whole
-whole_leads : (r : RecastState) → length r.before ≤ most_units → length r.after ≤ most_units
+whole_leads : (r : RecastState) → HaveSameContents r.before r.after → length r.before ≤ most_units → length r.after ≤ most_units
     → Leads (text_from On r) (Endings r) (text_to On r)
-whole_leads r fits_before fits_after =
+whole_leads r same fits_before fits_after =
     let end : 0 + length r.after ≡ length r.after = omega arith in record {
       standing = (omega arith, omega arith, omega arith);
       on = rw (applied-whole r.before r.after) refl;
       inverse = rw (take_all (length r.before - 0) r.before (omega arith), end) refl;
       fits_before = fits_before;
       fits_after = fits_after;
-      kinds = (refl, refl);
+      kinds = (refl, refl, same);
     }
 
 pub change_leads : (text : FlatText) (c : Change) → IsChangeOf text c → IsOfKind text.kind text.units → length text.units ≤ most_units
@@ -74,8 +77,11 @@ change_leads text (Endings r) is endings fits after =
     let before : length r.before ≤ most_units = omega (arith, ap (λ (t : FlatText). length t.units) is.before, fits) in
     let there : applied_from 0 text.units (whole_op r.before r.after) ≡ r.after =
     ap (λ (t : FlatText). applied_from 0 t.units (whole_op r.before r.after)) (sym is.before) ∙ applied-whole r.before r.after in
+    let same : HaveSameContents r.before r.after =
+    ap (λ (t : FlatText). map (λ (line : Line). line.content) (lines_of t.units)) is.before ∙ contents-normalized r.to text.units
+    ∙ ap (λ (t : FlatText). map (λ (line : Line). line.content) (lines_of t.units)) (sym is.after) in
     let leads : Leads text (Endings r) (text_to On r) =
-    subst (λ (t : FlatText). Leads t (Endings r) (text_to On r)) is.before (whole_leads r before (omega (arith, ap length there, after))) in
+    subst (λ (t : FlatText). Leads t (Endings r) (text_to On r)) is.before (whole_leads r same before (omega (arith, ap length there, after))) in
     subst (λ (t : FlatText). Leads text (Endings r) t) leads.on leads
 
 -- a page can be led along it

@@ -14,7 +14,7 @@ use Rattle.document_rules.specs.Paired.{IsPairedState}
 use Rattle.document_rules.proofs.PairedStates.{IsPairedState-undo, IsPairedState-redo}
 use Rattle.document_rules.specs.Refusals.{limit}
 use Rattle.snapshot_rules.specs.Snapshots.{FlatShelf}
-use Rattle.document_rules.specs.Document.{FlatText, FlatChange, FlatState, greatest_version, batches_back, batches_on}
+use Rattle.document_rules.specs.Document.{FlatText, FlatChange, FlatState, greatest_version, batches_back, batches_on, edits_back, all_edits_back, all_edits_on}
 use Rattle.text_batches.specs.Needs.{text_breaks}
 use Rattle.model_page.specs.declared.change.Change.{Change}
 use Rattle.model_page.specs.declared.change.Change.TheVariants.{Ops, Endings}
@@ -22,6 +22,7 @@ use Rattle.model_page.specs.declared.change.Way.{Way}
 use Rattle.model_page.specs.declared.change.Way.TheVariants.{Back, On}
 use Rattle.model_core.specs.Ways.{next_steps, passed, alternative_after, flat_move}
 use Rattle.model_page.specs.Ways.{text_by, changes_by, LeadBy, decorations_by, batches_by, marked_along}
+use Rattle.model_page.specs.InTurn.{edits_along, all_edits_along}
 use Rattle.model_page.specs.LineMarks.{marked_step}
 use Rattle.model_core.specs.Prepared.{ops_along, next_op_count, deed_marking, next_marking_count, next_unit_count, next_break_count}
 use Rattle.batch_rules.specs.Events.{whole_op}
@@ -33,6 +34,7 @@ use Rattle.hiding_rules.specs.Hidden.{Scanner}
 use Rattle.decoration_rules.specs.Decorations.{Decorations}
 use Rattle.mark_rules.specs.declared.Mark.{Mark}
 use Rattle.model_page.proofs.Turns.{op_count-cons, marking_count-cons}
+use Rattle.model_page.proofs.EditsAlong.{same_edits_on, same_edits_back}
 use Rattle.model_page.proofs.Carries.{carried_back-kept, carried_on-kept}
 use Rattle.model_core.proofs.Histories.{text_before-back, text_after-on, history-undone, IsHistory-undone, history-redone, IsHistory-redone}
 use Rattle.model_core.proofs.LastChanges.{last-undone, last-redone}
@@ -86,6 +88,22 @@ batches_on-kept before (c ∷ cs) lead =
     let after : FlatText = led On c before in
     ap (λ (ops : List Op). ops ∷ batches_on (changes_on after cs)) (same_ops_on before after c lead.0)
     ∙ ap (λ (batches : List (List Op)). ops_by On c ∷ batches) (batches_on-kept after cs lead.1)
+
+-- and so are its edits in turn
+all_edits_back-kept : (after : FlatText) (cs : List Change) → LeadBack after cs → all_edits_back (changes_back after cs) ≡ all_edits_along Back cs
+all_edits_back-kept after [] lead = refl
+all_edits_back-kept after (c ∷ cs) lead =
+    let before : FlatText = text_back after (c ∷ cs) in
+    let mid : FlatText = text_back after cs in
+    ap (λ (edits : List Op). edits ++ edits_back before (deed_of c) mid) (all_edits_back-kept after cs lead.1)
+    ∙ ap (λ (edits : List Op). all_edits_along Back cs ++ edits) (same_edits_back before mid c lead.0)
+
+all_edits_on-kept : (before : FlatText) (cs : List Change) → LeadOn before cs → all_edits_on (changes_on before cs) ≡ all_edits_along On cs
+all_edits_on-kept before [] lead = refl
+all_edits_on-kept before (c ∷ cs) lead =
+    let after : FlatText = led On c before in
+    ap (λ (edits : List Op). edits ++ all_edits_on (changes_on after cs)) (same_edits_on before after c lead.0)
+    ∙ ap (λ (edits : List Op). edits_along On c ++ edits) (all_edits_on-kept after cs lead.1)
 
 -- so many of them on the way on as on the way back
 as_many : (before after : FlatText) (c : Change) → Leads before c after → length (ops_by Back c) ≡ length (ops_by On c)
@@ -164,7 +182,7 @@ undo_first now version alternative d scanner shelf latest step rest redo is_open
     record {
       lead = old.back.0;
       history = IsHistory-undone rest redo step now old.back old.on;
-      accepted = λ few. rw (lt-leb greatest_version version (omega (arith, few)), text_before-back step.changes now, carried_back-kept d now step.changes old.back.0, batches_back-kept now step.changes old.back.0, sym (last-undone rest redo step now old.back.0), sym (history-undone rest redo step now old.back.0)) refl;
+      accepted = λ few. rw (lt-leb greatest_version version (omega (arith, few)), text_before-back step.changes now, carried_back-kept d now step.changes old.back.0, batches_back-kept now step.changes old.back.0, all_edits_back-kept now step.changes old.back.0, sym (last-undone rest redo step now old.back.0), sym (history-undone rest redo step now old.back.0)) refl;
       refused = λ last. rw (le-leb greatest_version version (omega (arith, last))) refl;
       some = omega arith;
       there = omega arith;
@@ -183,7 +201,7 @@ redo_first now version alternative d scanner shelf latest step undo rest is_open
     record {
       lead = old.on.0;
       history = IsHistory-redone undo rest step is_open now old.back old.on;
-      accepted = λ few. rw (lt-leb greatest_version version (omega (arith, few)), text_after-on step.changes now, carried_on-kept d now step.changes old.on.0, batches_on-kept now step.changes old.on.0, sym (last-redone undo rest step is_open now old.on.0), sym (history-redone undo rest step is_open now old.on.0)) refl;
+      accepted = λ few. rw (lt-leb greatest_version version (omega (arith, few)), text_after-on step.changes now, carried_on-kept d now step.changes old.on.0, batches_on-kept now step.changes old.on.0, all_edits_on-kept now step.changes old.on.0, sym (last-redone undo rest step is_open now old.on.0), sym (history-redone undo rest step is_open now old.on.0)) refl;
       refused = λ last. rw (le-leb greatest_version version (omega (arith, last))) refl;
       some = omega arith;
       there = omega arith;

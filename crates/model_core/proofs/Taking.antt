@@ -1,5 +1,5 @@
--- The batches of changes that were carried out take the text before them to the text after them.
-use Rattle.std.proofs.Common.{◌≡◌, ℕ, ◌+◌, ◌≤◌, Bool, true, false, cond, List, [], ◌∷◌, ◌++◌, length, Option, Some, None, IfSome, refl, sym, subst}
+-- The batches of changes that were carried out take the text before them to the text after them, and so do their edits in turn.
+use Rattle.std.proofs.Common.{◌≡◌, ℕ, ◌+◌, ◌≤◌, Bool, true, false, cond, List, [], ◌∷◌, ◌++◌, length, Option, Some, None, IfSome, refl, ap, sym, subst, ◌∙◌}
 use Rattle.std.specs.Option.{option_map}
 use Rattle.std.proofs.lemmas.Bool.{le-ltb}
 use Rattle.text_rules.specs.declared.Op.{Op}
@@ -8,11 +8,13 @@ use Rattle.batch_rules.specs.Events.{is_misfit, first_misfit, TakeTo}
 use Rattle.edit_batches.proofs.Lengths.{below_standing}
 use Rattle.undo_rules.specs.Stack.{Step, Stack}
 use Rattle.document_rules.specs.Document.{FlatText, LastChange}
+use Rattle.document_rules.specs.InTurn.{edited_in_turn}
 use Rattle.model_page.specs.declared.change.Change.{Change}
 use Rattle.model_page.specs.declared.change.Way.TheVariants.{Back, On}
 use Rattle.model_page.specs.Changes.{ops_by, led, text_back, text_on, LeadBack, LeadOn}
 use Rattle.model_page.specs.Ways.{batches_by}
 use Rattle.model_page.proofs.Turns.{fit_back, fit_on}
+use Rattle.model_page.proofs.EditsAlong.{edits_made_again, all_made_again, all_taken_back}
 use Rattle.model_core.specs.declared.latest.Latest.{Latest}
 use Rattle.model_core.specs.declared.latest.Latest.TheVariants.{Made, TakenBack, MadeAgain}
 use Rattle.model_core.specs.History.{last_made, last_of, last_of_steps, StepsLeadBack, StepsLeadOn, IsHistory}
@@ -94,3 +96,35 @@ last_taken None now s history = tt
 last_taken (Some Made) now s history = taken_of_made now s.undo history.back
 last_taken (Some TakenBack) now s history = taken_of_redo now s.redo history.on
 last_taken (Some MadeAgain) now s history = taken_of_undo now s.undo history.back
+
+-- ---- its edits
+
+abbrev IsTold : FlatText → LastChange → Type 0
+IsTold now last = edited_in_turn last.before last.edits ≡ now.units
+
+told_made : (now : FlatText) (cs : List Change) → LeadBack now cs → IfSome (last_made now cs) (IsTold now)
+told_made now [] lead = tt
+told_made now (c ∷ []) lead = edits_made_again (led Back c now) now c lead.0
+told_made now (c ∷ d ∷ cs) lead = told_made now (d ∷ cs) lead.1
+
+told_of_made : (now : FlatText) (ss : List (Step Change)) → StepsLeadBack now ss → IfSome (last_of_steps Made now ss) (IsTold now)
+told_of_made now [] lead = tt
+told_of_made now (s ∷ ss) lead = told_made now s.changes lead.0
+
+told_of_undo : (now : FlatText) (ss : List (Step Change)) → StepsLeadBack now ss → IfSome (last_of_steps MadeAgain now ss) (IsTold now)
+told_of_undo now [] lead = tt
+told_of_undo now (s ∷ ss) lead =
+    all_made_again (text_back now s.changes) s.changes (LeadOn-back s.changes now lead.0)
+    ∙ ap (λ (t : FlatText). t.units) (text_on-back s.changes now lead.0)
+
+told_of_redo : (now : FlatText) (ss : List (Step Change)) → StepsLeadOn now ss → IfSome (last_of_steps TakenBack now ss) (IsTold now)
+told_of_redo now [] lead = tt
+told_of_redo now (s ∷ ss) lead =
+    all_taken_back (text_on now s.changes) s.changes (LeadBack-on s.changes now lead.0)
+    ∙ ap (λ (t : FlatText). t.units) (text_back-on s.changes now lead.0)
+
+pub last_told : (latest : Option Latest) (now : FlatText) (s : Stack Change) → IsHistory now s → IfSome (last_of latest now s) (IsTold now)
+last_told None now s history = tt
+last_told (Some Made) now s history = told_of_made now s.undo history.back
+last_told (Some TakenBack) now s history = told_of_redo now s.redo history.on
+last_told (Some MadeAgain) now s history = told_of_undo now s.undo history.back

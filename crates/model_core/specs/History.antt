@@ -9,6 +9,7 @@ use Rattle.model_page.specs.declared.change.Way.{Way}
 use Rattle.model_page.specs.declared.change.Way.TheVariants.{Back, On}
 use Rattle.model_page.specs.Changes.{ops_by, led, text_back, text_on, changes_back, changes_on, LeadBack, LeadOn}
 use Rattle.model_page.specs.Ways.{batches_by}
+use Rattle.model_page.specs.InTurn.{edits_along, all_edits_along}
 use Rattle.model_core.specs.declared.latest.Latest.{Latest}
 use Rattle.model_core.specs.declared.latest.Latest.TheVariants.{Made, TakenBack, MadeAgain}
 
@@ -70,13 +71,13 @@ way_to MadeAgain = Back
 -- the last of the changes, which led to the text of now
 abbrev pub last_made : FlatText → List Change → Option LastChange
 last_made now [] = None
-last_made now (c ∷ []) = Some (record { before = (led Back c now).units; batches = ops_by On c ∷ [] })
+last_made now (c ∷ []) = Some (record { before = (led Back c now).units; batches = ops_by On c ∷ []; edits = edits_along On c })
 last_made now (c ∷ d ∷ cs) = last_made now (d ∷ cs)
 
 abbrev pub last_in : Latest → FlatText → List Change → Option LastChange
 last_in Made now cs = last_made now cs
-last_in TakenBack now cs = Some (record { before = (text_on now cs).units; batches = batches_by Back cs })
-last_in MadeAgain now cs = Some (record { before = (text_back now cs).units; batches = batches_by On cs })
+last_in TakenBack now cs = Some (record { before = (text_on now cs).units; batches = batches_by Back cs; edits = all_edits_along Back cs })
+last_in MadeAgain now cs = Some (record { before = (text_back now cs).units; batches = batches_by On cs; edits = all_edits_along On cs })
 
 -- the list at whose front its step is
 abbrev pub latest_steps : {C : Type 0} → Latest → Stack C → List (Step C)

@@ -16,6 +16,8 @@ pub use decorations::{Deco, NewDeco};
 pub use document_rules::ModelError;
 pub use edit_batches::{Batch, Event};
 pub use model::Model;
+pub use model::changes::Changes;
+pub use model_page::ContentChange;
 pub use node_reuse::Parsed;
 pub use ready::Ready;
 pub use steps::Steps;

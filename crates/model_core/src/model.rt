@@ -1,6 +1,7 @@
 //! The document.
 
 mod brackets;
+pub(crate) mod changes;
 mod columns;
 mod compact;
 mod decorate;

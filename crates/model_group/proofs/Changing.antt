@@ -1,12 +1,10 @@
 -- Changes of one document: refused as the rule refuses them, or carried out after tags were lost.
-use Rattle.std.proofs.Common.{true≢false, ◌≡◌, ◌≢◌, ℕ, ◌<◌, ◌^◌, arith, set, Bool, true, List, length, Result, Ok, Err, Option, None, Some, slice_get, refl, sym, subst, ap, ◌∙◌, ⊎_elim}
-use Rattle.std.proofs.lemmas.Bool.{cases_eq}
+use Rattle.std.proofs.Common.{◌≡◌, ℕ, ◌<◌, ◌^◌, arith, set, Bool, true, List, length, Result, Ok, Err, Option, None, Some, slice_get, refl, sym, subst, ap, ◌∙◌}
 use Rattle.std.proofs.lemmas.List.{length-set}
 use Rattle.std.proofs.lemmas.Option.{slice_get_within}
-use Rattle.std.specs.Result.{IsErr}
 use Rattle.undo_rules.specs.declared.Tag.{Tag}
 use Rattle.document_rules.specs.declared.ModelError.{ModelError}
-use Rattle.document_rules.specs.declared.ModelError.TheVariants.{Unknown, Range, Overlap, Limit, Memory}
+use Rattle.document_rules.specs.declared.ModelError.TheVariants.{Memory}
 use Rattle.document_rules.specs.Refusals.{FlatRefusal}
 use Rattle.document_rules.specs.Outcomes.{RefusedFor}
 use Rattle.document_rules.specs.Document.{FlatState, flat_open, flat_edit, flat_eol}
@@ -15,13 +13,12 @@ use Rattle.unit_text.specs.declared.kind.Kind.{Kind}
 use Rattle.hiding_rules.specs.Hidden.{Scanner}
 use Rattle.search_rules.specs.Replacing.{flat_replace_all}
 use Rattle.group_rules.specs.declared.TheConstants.{DOC_COUNT}
-use Rattle.group_rules.specs.Group.{FlatGroup, doc_in, each_from, lost_by_change, lost_by_open, without_tags, with_changed, changed_in, moved_in, group_open}
+use Rattle.group_rules.specs.Group.{FlatGroup, doc_in, lost_by_change, lost_by_open, with_changed, changed_in, moved_in, group_open}
 use Rattle.group_rules.specs.Together.{Stay, reached}
-use Rattle.group_rules.proofs.Places.{length-each_from}
 use Rattle.group_rules.proofs.Together.{changed_others_stay}
 use Rattle.model_core.specs.declared.ready.Action.{Action}
 use Rattle.model_core.specs.Edited.{HasEdited, HasRecast}
-use Rattle.model_core.specs.Prepared.{Prepared, Acts, ActsAlone, PreparesEdit, PreparesEol}
+use Rattle.model_core.specs.Prepared.{Prepared, Acts, ActsAlone, IsEditReady, PreparesEdit, PreparesEol}
 use Rattle.model_core.specs.Replaced.{HasReplaced, PreparesReplace}
 use Rattle.model_core.specs.State.{ModelState, KeepsParse}
 use Rattle.model_core.proofs.Preparing.{edited_as_prepared, recast_as_prepared}
@@ -29,8 +26,8 @@ use Rattle.model_core.proofs.Searching.{replaced_as_prepared}
 use Rattle.model_group.specs.declared.ready.DocReady.{DocReady}
 use Rattle.model_group.specs.State.{GroupState, OnDoc, KeepAll, KeepAllParses, ActsOn, documents}
 use Rattle.model_group.specs.Losing.{LoseTags}
-use Rattle.model_group.specs.Prepared.{IsReadyIn, Prepares, Does, Commits}
-use Rattle.model_group.proofs.Lists.{slice_get-set_same, slice_get-set_other, item_within, length-documents, doc_in-is}
+use Rattle.model_group.specs.Prepared.{IsReadyIn, Prepares, Does, Commits, IsChange}
+use Rattle.model_group.proofs.Lists.{slice_get-set_same, slice_get-set_other, item_within, doc_in-is}
 use Rattle.model_group.proofs.Losses.{has_doc-one, changed_alone}
 use Rattle.model_group.proofs.Parses.{KeepsParse-then}
 use Rattle.model_group.proofs.Committing.{there_after, after_is, each_on, same_count, kept_all, kept_document}
@@ -40,22 +37,13 @@ use Rattle.model_group.proofs.Committing.{there_after, after_is, each_on, same_c
 -- why the document is refused, the group is
 refused_by : {A B : Type 0} (told : Result A FlatRefusal → Result B FlatRefusal) (e : ModelError) (rule : Result A FlatRefusal)
     → ((why : FlatRefusal) → told (Err why) ≡ Err why) → RefusedFor e rule → RefusedFor e (told rule)
-refused_by told Unknown rule same why = ap told why ∙ same _
-refused_by told Range rule same why = ap told why ∙ same _
-refused_by told Overlap rule same why = ap told why ∙ same _
-refused_by told Limit rule same why = ap told why ∙ same _
 refused_by told Memory rule same why = tt
+refused_by told e rule same why = ap told why ∙ same _
 
 -- ---- all stays
 
 pub kept_on : (n : ℕ) (old new : GroupState) → KeepAllParses old new → ActsOn n KeepsParse old new
 kept_on n old new kept i m k was is = let same = kept i m k was is in (λ _. same, λ _. same)
-
--- a refusal of the call leaves them so
-pub kept_refused : {A : Type 0} (left : Result A ModelError → ModelState → ModelState → Type 0) (r : Result A ModelError) (n : ℕ) (old new : GroupState)
-    → ((e : ModelError) (m k : ModelState) → KeepsParse m k → left (Err e) m k) → IsErr r → KeepAllParses old new → ActsOn n (left r) old new
-kept_refused left (Ok x) n old new by is kept = absurd (true≢false (sym is))
-kept_refused left (Err e) n old new by is kept = λ i m k was at. let same = kept i m k was at in (λ _. by e m k same, λ _. same)
 
 pub all_stay : (docs : ℕ → Bool) (g h : FlatGroup) → h ≡ g → Stay docs g h
 all_stay docs g h same n off = ap (λ g. doc_in g n) same
@@ -65,26 +53,41 @@ module _ (n : ℕ) (told : ModelState → Type 0) (old mid : GroupState) (on : O
   there_as : {A : Type 0} (rule : FlatState → A) → rule (doc_in (documents old) n) ≡ rule on.after.document
   there_as rule = ap rule (kept_document n told old mid on)
 
-  pub refused_there : {A B : Type 0} (e : ModelError) (rule : FlatState → Result A FlatRefusal) (as_group : Result A FlatRefusal → Result B FlatRefusal)
-      → ((why : FlatRefusal) → as_group (Err why) ≡ Err why) → RefusedFor e (rule on.after.document)
-      → RefusedFor e (as_group (rule (doc_in (documents old) n)))
-  refused_there e rule as_group same why =
-      refused_by as_group e (rule (doc_in (documents old) n)) same (subst (RefusedFor e) (sym (there_as rule)) why)
+  same_documents : documents mid ≡ documents old
+  same_documents = (kept_all n told old mid on).documents
+
+  abbrev lost : List Tag
+  lost = lost_by_change (doc_in (documents old) n)
+
+  pub refused_change : (e : ModelError) (rule : FlatState → Result FlatState FlatRefusal) → RefusedFor e (rule on.after.document)
+      → (documents mid ≡ documents old) × RefusedFor e (changed_in (documents old) lost n (rule (doc_in (documents old) n)))
+  refused_change e rule why =
+      (same_documents, refused_by (changed_in (documents old) lost n) e _ (λ why. refl) (subst (RefusedFor e) (sym (there_as rule)) why))
+
+  pub refused_move : (e : ModelError) (rule : FlatState → Result (Option FlatState) FlatRefusal) → RefusedFor e (rule on.after.document)
+      → (documents mid ≡ documents old) × RefusedFor e (moved_in (documents old) lost n (rule (doc_in (documents old) n)))
+  refused_move e rule why =
+      (same_documents, refused_by (moved_in (documents old) lost n) e _ (λ why. refl) (subst (RefusedFor e) (sym (there_as rule)) why))
 
   pub idle_there : (rule : FlatState → Result (Option FlatState) FlatRefusal) → rule on.after.document ≡ Ok None
-      → moved_in (documents old) (lost_by_change (doc_in (documents old) n)) n (rule (doc_in (documents old) n)) ≡ Ok None
-  idle_there rule none = ap (moved_in (documents old) (lost_by_change (doc_in (documents old) n)) n) (there_as rule ∙ none)
+      → (moved_in (documents old) lost n (rule (doc_in (documents old) n)) ≡ Ok None) × (documents mid ≡ documents old)
+  idle_there rule none = (ap (moved_in (documents old) lost n) (there_as rule ∙ none), same_documents)
 
   pub prepared_on : (P : ModelState → Prepared → Type 0) (ready : Prepared) → n < DOC_COUNT → P on.after ready
       → IsReadyIn P mid (record { doc = n; ready = ready })
   prepared_on P ready inside is = record { there = inside; ready = λ m at. subst (λ m. P m ready) (after_is n (Prepares told) old mid on m at) is }
 
+pub edit_is_change : (ops : List Op) (now : ModelState) (ready : Prepared) → IsEditReady ops now ready → IsChange ready.action
+edit_is_change ops now ready is = subst IsChange (sym is.action) tt
+
 -- ---- carried out after tags were lost
 
-module _ (one : DocReady) (old left : GroupState) (spared : ℕ) (alone : spared ≡ 2 ^ one.doc)
-    (lost : LoseTags (lost_by_change (doc_in (documents old) one.doc)) spared old left) where
+module _ (one : DocReady) (old read left : GroupState) (same : read ≡ old) (spared : ℕ) (alone : spared ≡ 2 ^ one.doc)
+    (lost : LoseTags (lost_by_change (doc_in (documents read) one.doc)) spared read left) where
   alone_lost : LoseTags (lost_by_change (doc_in (documents old) one.doc)) (2 ^ one.doc) old left
-  alone_lost = subst (λ spared. LoseTags (lost_by_change (doc_in (documents old) one.doc)) spared old left) alone lost
+  alone_lost =
+      subst (λ g. LoseTags (lost_by_change (doc_in (documents g) one.doc)) (2 ^ one.doc) g left) same
+      (subst (λ spared. LoseTags (lost_by_change (doc_in (documents read) one.doc)) spared read left) alone lost)
 
   same_there : slice_get left one.doc ≡ slice_get old one.doc
   same_there = alone_lost.same one.doc (has_doc-one one.doc)
@@ -98,16 +101,17 @@ module _ (one : DocReady) (old left : GroupState) (spared : ℕ) (alone : spared
       let n = one.doc in
       let tags = lost_by_change (doc_in (documents old) n) in
       record {
+        count = ap length on.rest ∙ length-set left n on.after ∙ alone_lost.count;
         documents = ap documents on.rest ∙ changed_alone tags n old left on.after alone_lost
             ∙ ap (with_changed (documents old) tags n) (sym (doc_in-is new n on.after (there_after n _ left new on)));
         models = λ i m k was is.
-            let mid = item_within left i (omega (arith, slice_get_within old i m was, lost.count)) in
+            let mid = item_within left i (omega (arith, slice_get_within old i m was, alone_lost.count)) in
             let each = each_on n _ left new on i mid.0 k mid.1 is in (
               λ same.
                   let e : Some mid.0 ≡ Some m = sym mid.1 ∙ ap (slice_get left) same ∙ same_there ∙ ap (slice_get old) (sym same) ∙ was in
                   let first : mid.0 ≡ m = cc in
                   subst (λ m. Does act one.ready.action m k) first (each.0 same),
-              λ other. subst (KeepsParse m) (sym (each.1 other)) (lost.each i m mid.0 was mid.1).parse,
+              λ other. subst (KeepsParse m) (sym (each.1 other)) (alone_lost.each i m mid.0 was mid.1).parse,
             );
       }
 
@@ -116,15 +120,9 @@ module _ (one : DocReady) (old left : GroupState) (spared : ℕ) (alone : spared
 -- a change of the document by its rule, and what it left of the last parse
 pub record Changed (n : ℕ) (by_rule : FlatState → FlatState → Type 0) (left : ModelState → ModelState → Type 0) (old new : GroupState) : Type 0 where
   pub rule : by_rule (doc_in (documents old) n) (doc_in (documents new) n)
-  pub documents : documents new ≡ with_changed (documents old) (lost_by_change (doc_in (documents old) n)) n (doc_in (documents new) n)
+  pub stay : Stay (reached n (lost_by_change (doc_in (documents old) n))) (documents old) (documents new)
   pub models : ActsOn n left old new
-
-pub changed_stay : (n : ℕ) (rule : FlatState → FlatState → Type 0) (left : ModelState → ModelState → Type 0) (old new : GroupState)
-    → Changed n rule left old new → Stay (reached n (lost_by_change (doc_in (documents old) n))) (documents old) (documents new)
-changed_stay n rule left old new is =
-    let g = documents old in
-    let lost = lost_by_change (doc_in g n) in
-    subst (Stay (reached n lost) g) (sym is.documents) (changed_others_stay g lost n (doc_in (documents new) n))
+  pub documents : documents new ≡ with_changed (documents old) (lost_by_change (doc_in (documents old) n)) n (doc_in (documents new) n)
 
 -- the rule's new group
 module _ (g h : FlatGroup) (n : ℕ) (made : h ≡ with_changed g (lost_by_change (doc_in g n)) n (doc_in h n)) where
@@ -145,17 +143,16 @@ module _ (n : ℕ) (told : ModelState → Type 0) (old mid new : GroupState) (on
   does k is = by k ((done.models n on.after k (there_after n _ old mid on) is).0 refl)
 
   there : (k : ModelState) × (slice_get new n ≡ Some k)
-  there =
-      let g = documents mid in
-      let lost = each_from 0 (without_tags (lost_by_change (doc_in g n))) g in
-      let count = sym (length-documents new) ∙ ap length done.documents ∙ length-set lost n (doc_in (documents new) n) ∙ length-each_from 0 _ g ∙ length-documents mid in
-      item_within new n (omega (arith, slice_get_within mid n on.after (there_after n _ old mid on), count))
+  there = item_within new n (omega (arith, slice_get_within mid n on.after (there_after n _ old mid on), done.count))
+
+  made : documents new ≡ with_changed (documents old) (lost_by_change (doc_in (documents old) n)) n (doc_in (documents new) n)
+  made = subst (λ g. documents new ≡ with_changed g (lost_by_change (doc_in g n)) n (doc_in (documents new) n)) kept.documents done.documents
 
   pub carried_out : Changed n by_rule left old new
   carried_out = record {
     rule = subst (λ f. by_rule f (doc_in (documents new) n)) (sym (doc_in-is old n on.before on.is))
         (subst (by_rule on.before.document) (sym (doc_in-is new n there.0 there.1)) (does there.0 there.1).0);
-    documents = subst (λ g. documents new ≡ with_changed g (lost_by_change (doc_in g n)) n (doc_in (documents new) n)) kept.documents done.documents;
+    documents = made;
     models = λ i m k was is. (
       λ same.
           let e : Some on.before ≡ Some m = sym on.is ∙ ap (slice_get old) (sym same) ∙ was in
@@ -165,6 +162,10 @@ module _ (n : ℕ) (told : ModelState → Type 0) (old mid new : GroupState) (on
           let x = item_within mid i (omega (arith, slice_get_within old i m was, same_count old mid kept.documents)) in
           KeepsParse-then m x.0 k (kept.parses i m x.0 was x.1) ((done.models i x.0 k x.1 is).1 other),
     );
+    stay =
+        let g = documents old in
+        let lost = lost_by_change (doc_in g n) in
+        subst (Stay (reached n lost) g) (sym made) (changed_others_stay g lost n (doc_in (documents new) n));
   }
 
 -- ---- the calls

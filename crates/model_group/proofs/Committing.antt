@@ -1,5 +1,5 @@
 -- Changes of several documents: prepared one after another, and then carried out one after another.
-use Rattle.std.proofs.Common.{◌≡◌, ◌≢◌, ℕ, zero, suc, ◌==◌, ◌<◌, arith, set, Bool, true, false, if◌then◌else◌, List, [], ◌∷◌, ◌++◌, length, get_or, Option, Some, None, slice_get, All, ◌⊎◌, inl, inr, refl, sym, subst, ap, ◌∙◌, ⊎_elim}
+use Rattle.std.proofs.Common.{◌≡◌, ◌≢◌, ℕ, zero, suc, ◌==◌, ◌<◌, arith, set, if◌then◌else◌, List, [], ◌∷◌, ◌++◌, length, get_or, Option, Some, None, slice_get, All, ◌⊎◌, inl, inr, refl, sym, subst, ap, ◌∙◌, ⊎_elim}
 use Rattle.std.proofs.lemmas.Bool.{cases_eq, eqb-false, eq-eqb, ne_eqb}
 use Rattle.std.proofs.lemmas.List.{length-append, length-set, get_or_at}
 use Rattle.std.proofs.lemmas.List.Elements.{All-push}
@@ -16,14 +16,10 @@ use Rattle.model_group.specs.declared.ready.DocReady.{DocReady}
 use Rattle.model_group.specs.declared.ready.Manner.{Manner}
 use Rattle.model_group.specs.State.{GroupState, OnDoc, EachModel, KeepAll, documents}
 use Rattle.model_group.specs.Prepared.{ready_for, AreApart, AreReady, IsReadyIn, Keeps, Prepares, Does, Committed, CommitAll, acts_in, CanIn}
-use Rattle.model_group.proofs.Lists.{slice_get-set_same, slice_get-set_other, set_back, item_within, same_items, slice_get-each, length-documents, document_at, doc_in-is, documents-set}
+use Rattle.model_group.proofs.Lists.{not_first, slice_get-set_same, slice_get-set_other, set_back, item_within, same_items, slice_get-each, length-documents, document_at, doc_in-is, documents-set}
 use Rattle.model_group.proofs.Parses.{KeepsParse-same, KeepsParse-then}
 
 -- ---- what was prepared for a document
-
-not_first : (is_it : Bool) (x : Prepared) (rest : Option Prepared) → (if is_it then Some x else rest) ≡ None → (is_it ≡ false) × (rest ≡ None)
-not_first true x rest none = absurd cc
-not_first false x rest none = (refl, none)
 
 ready_for-at : (xs : List DocReady) (r : DocReady) (ys : List DocReady) → ready_for r.doc xs ≡ None
     → ready_for r.doc (xs ++ r ∷ ys) ≡ Some r.ready
@@ -215,14 +211,11 @@ keep_then a b c first next = record {
       KeepsParse-then m mid.0 k (first.parses n m mid.0 was mid.1) (next.parses n mid.0 k mid.1 is);
 }
 
--- the model as it was
-pub kept_at : (old new : GroupState) (n : ℕ) (k : ModelState) → KeepAll old new → slice_get new n ≡ Some k
-    → (m : ModelState) × (slice_get old n ≡ Some m) × Keeps m k
-kept_at old new n k kept is =
-    let m = item_within old n (omega (arith, slice_get_within new n k is, same_count old new kept.documents)) in
-    let same : Some k.document ≡ Some m.0.document =
-    sym (document_at new n k is) ∙ ap (λ g. slice_get g n) kept.documents ∙ document_at old n m.0 m.1 in
-    (m.0, m.1, record { document = cc; parse = kept.parses n m.0 k m.1 is })
+pub kept_at : (old new : GroupState) (n : ℕ) (m k : ModelState) → KeepAll old new → slice_get old n ≡ Some m → slice_get new n ≡ Some k → Keeps m k
+kept_at old new n m k kept was is =
+    let same : Some k.document ≡ Some m.document =
+    sym (document_at new n k is) ∙ ap (λ g. slice_get g n) kept.documents ∙ document_at old n m was in
+    record { document = cc; parse = kept.parses n m k was is }
 
 module _ (n : ℕ) (told : ModelState → Type 0) (old new : GroupState) (on : OnDoc n (Prepares told) old new) where
   pub kept_all : KeepAll old new
@@ -243,7 +236,9 @@ pub ready_kept : (is : ℕ → ModelState → Option Prepared → Type 0)
 ready_kept is keep old new ready kept h = record {
   apart = h.apart;
   there = h.there;
-  each = λ n k at. let was = kept_at old new n k kept at in keep n was.0 k (ready_for n ready) was.2 (h.each n was.0 was.1);
+  each = λ n k at.
+      let m = item_within old n (omega (arith, slice_get_within new n k at, same_count old new kept.documents)) in
+      keep n m.0 k (ready_for n ready) (kept_at old new n m.0 k kept m.1 at) (h.each n m.0 m.1);
 }
 
 -- what is as the commit asks stays so

@@ -3,13 +3,13 @@ use Rattle.std.proofs.Common.{◌≡◌, ◌≢◌, ℕ, zero, suc, ◌+◌, ◌
 use Rattle.std.proofs.lemmas.Bool.{or_parts, and_parts, cases_eq, cases_lt, eqb-false, lt-ltb, le-ltb, ltb-true}
 use Rattle.std.proofs.lemmas.List.Elements.{All-nil}
 use Rattle.std.specs.Prelude.{⊤}
-use Rattle.std.proofs.lemmas.List.{drop_all}
-use Rattle.std.proofs.lemmas.Option.{slice_get_within, slice_get_read}
+use Rattle.std.proofs.lemmas.List.{drop_all, drop_more}
+use Rattle.std.proofs.lemmas.Option.{slice_get_within, slice_get_read, get_or_from_slice_get}
 use Rattle.undo_rules.specs.declared.Tag.{Tag}
 use Rattle.undo_rules.specs.Stack.{Step}
 use Rattle.undo_rules.specs.Tags.{is_member}
 use Rattle.document_rules.specs.declared.ModelError.{ModelError}
-use Rattle.document_rules.specs.declared.ModelError.TheVariants.{Unknown, Range, Overlap, Limit, Memory}
+use Rattle.document_rules.specs.declared.ModelError.TheVariants.{Memory}
 use Rattle.document_rules.specs.Refusals.{FlatRefusal, limit}
 use Rattle.document_rules.specs.Outcomes.{RefusedFor, Moves}
 use Rattle.document_rules.specs.Document.{FlatChange, FlatState, undone_step, redone_step}
@@ -44,15 +44,13 @@ use Rattle.model_group.proofs.Committing.{each_ready, ready_more, ready_kept, af
 
 -- ---- a walk over the documents
 
-drop_next : {X : Type 0} (xs : List X) (n : ℕ) (x : X) → slice_get xs n ≡ Some x → drop n xs ≡ x ∷ drop (n + 1) xs
-drop_next [] n x is = absurd cc
-drop_next (y ∷ xs) zero x is = let same : y ≡ x = cc in ap (λ (z : _). z ∷ xs) same
-drop_next (y ∷ xs) (suc n) x is = let more : suc n + 1 ≡ suc (n + 1) = omega arith in drop_next xs n x is ∙ ap (λ k. x ∷ drop k (y ∷ xs)) (sym more)
-
 -- at the model of this number, for which the test answers this
 module _ (tag : Tag) (models : GroupState) (n : ℕ) (m : ModelState) (lt : n < length models) (is : m ≡ get_or models n m) where
   next_document : drop n (documents models) ≡ m.document ∷ drop (n + 1) (documents models)
-  next_document = drop_next (documents models) n m.document (document_at models n m (slice_get_read models (length models) n m refl lt is))
+  next_document =
+      let at = document_at models n m (slice_get_read models (length models) n m refl lt is) in
+      drop_more (documents models) n m.document (omega (arith, lt, length-documents models))
+      ∙ ap (λ f. f ∷ drop (n + 1) (documents models)) (get_or_from_slice_get (documents models) n m.document m.document at)
 
   one_more : suc n ≡ n + 1
   one_more = omega arith
@@ -103,11 +101,6 @@ none_last first tag (h ∷ g) (suc n) f none is member =
     let now = or_parts (is_member first tag && is_last_version h) (some_last_from (suc first) tag g) none in
     none_last (suc first) tag g n f now.1 is (ap (λ k. is_member k tag) there ∙ member)
 
-not_last : (tag : Tag) (g : FlatGroup) (n : ℕ) (f : FlatState) → some_last_from 0 tag g ≡ false → slice_get g n ≡ Some f → is_member n tag ≡ true
-    → is_last_version f ≡ false
-not_last tag g n f none is member =
-    let there : 0 + n ≡ n = omega arith in none_last 0 tag g n f none is (ap (λ k. is_member k tag) there ∙ member)
-
 -- ---- one step
 
 unless_last : (is_last : Bool) (new : FlatState) (why : FlatRefusal) → is_last ≡ false → (if is_last then Err limit else Ok (Some new)) ≡ Err why → ⊥
@@ -128,11 +121,8 @@ move_refused On f why below is = redo_refused f f.history.redo why below is
 
 -- before the last version only want of memory refuses
 only_memory : (way : Way) (f : FlatState) (e : ModelError) → is_last_version f ≡ false → RefusedFor e (flat_move way f) → e ≡ Memory
-only_memory way f Unknown below why = absurd (move_refused way f _ below why)
-only_memory way f Range below why = absurd (move_refused way f _ below why)
-only_memory way f Overlap below why = absurd (move_refused way f _ below why)
-only_memory way f Limit below why = absurd (move_refused way f _ below why)
 only_memory way f Memory below why = refl
+only_memory way f e below why = absurd (move_refused way f _ below why)
 
 no_step : (way : Way) (f : FlatState) → next_steps way f.history ≡ [] → flat_move way f ≡ Ok None
 no_step Back f none = ap (undone_step f) none
@@ -146,11 +136,8 @@ rule_along On f = refl
 
 alone_refused : (g : FlatGroup) (n : ℕ) (e : ModelError) (rule : Result (Option FlatState) FlatRefusal) → RefusedFor e rule
     → IsRefusedFor (group_error_of e) (gone_in g n rule)
-alone_refused g n Unknown rule why = ap (gone_in g n) why
-alone_refused g n Range rule why = ap (gone_in g n) why
-alone_refused g n Overlap rule why = ap (gone_in g n) why
-alone_refused g n Limit rule why = ap (gone_in g n) why
 alone_refused g n Memory rule why = tt
+alone_refused g n e rule why = ap (gone_in g n) why
 
 goes_or_stays : (way : Way) (goes : Bool) (m k : ModelState) → (goes ≡ true → HasGone way (Ok true) m k) → (goes ≡ false → KeepsParse m k)
     → GoesOrStays way goes m k
@@ -268,8 +255,9 @@ module _ (way : Way) (tag : Tag) (doc : ℕ) (answer : Result (Option Prepared) 
   pub memory_alone : (e : ModelError) → answer ≡ Err e → some_last_from 0 tag (documents old) ≡ false → is_member doc tag ≡ true
       → group_error_of e ≡ GroupMemory
   memory_alone e is none member =
+      let there : 0 + doc ≡ doc = omega arith in
       let below : is_last_version on.before.document ≡ false =
-      not_last tag (documents old) doc on.before.document none (document_at old doc on.before on.is) member in
+      none_last 0 tag (documents old) doc on.before.document none (document_at old doc on.before on.is) (ap (λ k. is_member k tag) there ∙ member) in
       let told : RefusedFor e (flat_move way on.before.document) =
       subst (λ f. RefusedFor e (flat_move way f)) on.done.kept.document (subst (λ a. PreparesMove way a on.after) is on.done.ready) in
       ap group_error_of (only_memory way on.before.document e below told)
@@ -347,10 +335,7 @@ module _ (way : Way) (tag : Tag) (old mid new : GroupState) (ready : List DocRea
       × GoesOrStays way (nat_lt n DOC_COUNT && is_member n tag) was k
   each_gone n was k at_old at_new =
       let m = item_within mid n (omega (arith, slice_get_within old n was at_old, same_count old mid kept.documents)) in
-      let before = kept_at old mid n m.0 kept m.1 in
-      let e : Some before.0 ≡ Some was = sym before.1 ∙ at_old in
-      let same : before.0 ≡ was = cc in
-      step_done way (nat_lt n DOC_COUNT && is_member n tag) was m.0 k (ready_for n ready) (subst (λ w. Keeps w m.0) same before.2) (h.each n m.0 m.1)
+      step_done way (nat_lt n DOC_COUNT && is_member n tag) was m.0 k (ready_for n ready) (kept_at old mid n was m.0 kept at_old m.1) (h.each n m.0 m.1)
       (done.each n m.0 k m.1 at_new)
 
   pub gone_models : TheyGo way (λ n. nat_lt n DOC_COUNT && is_member n tag) (Ok true) old new

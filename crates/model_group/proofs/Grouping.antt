@@ -1,22 +1,22 @@
 -- Each call leaves a group: all documents are there, and what two of them share stands in one order in both.
-use Rattle.std.proofs.Common.{◌≡◌, ℕ, ◌<◌, ◌++◌, set, Bool, true, false, List, length, take, drop, get_or, Option, Some, None, Result, Ok, Err, All, slice_get, arith, refl, sym, subst, ap, ◌∙◌, le_refl}
+use Rattle.std.proofs.Common.{◌≡◌, ℕ, ◌<◌, ◌++◌, set, Bool, true, false, List, length, take, drop, get_or, Some, None, Result, Ok, Err, All, arith, refl, sym, subst, ap, ◌∙◌, le_refl}
 use Rattle.std.specs.Prelude.{⊤}
 use Rattle.std.proofs.lemmas.List.{append-nil, drop_all, take_all, length-set}
-use Rattle.decoration_rules.specs.Decorations.{Decorations}
+use Rattle.decoration_rules.specs.declared.NewDeco.{NewDeco}
+use Rattle.decoration_rules.specs.Decorations.{Decorations, decorated}
 use Rattle.decoration_rules.specs.Refusals.{DecoRefusal}
 use Rattle.snapshot_rules.specs.Refusals.{ShelfRefusal}
-use Rattle.snapshot_rules.specs.Snapshots.{FlatShelf}
+use Rattle.snapshot_rules.specs.Snapshots.{FlatShelf, flat_take, flat_close}
 use Rattle.document_rules.specs.declared.ModelError.{ModelError}
-use Rattle.document_rules.specs.Refusals.{FlatRefusal}
 use Rattle.document_rules.specs.Outcomes.{Changes, ChangesWith, Moves}
 use Rattle.document_rules.specs.Document.{FlatState, flat_stop, with_decorations}
-use Rattle.document_rules.specs.Snapshots.{with_shelf}
+use Rattle.document_rules.specs.Snapshots.{with_shelf, flat_skipped, flat_snapshot, flat_close_of}
 use Rattle.group_rules.specs.declared.TheConstants.{DOC_COUNT}
-use Rattle.group_rules.specs.Group.{FlatGroup, doc_in, each_from, lost_by_change, without_tags}
+use Rattle.group_rules.specs.Group.{FlatGroup, tags_of, doc_in, lost_by_change}
 use Rattle.group_rules.specs.Joint.{FlatBatch, joint_refusal, tag_of, batch_for, lost_by_joint, joined_doc, joined, group_joint}
 use Rattle.group_rules.specs.Going.{undoing, redoing, go_by, gone_in, group_go}
 use Rattle.group_rules.specs.Shared.{AreShared}
-use Rattle.group_rules.proofs.Changed.{IsChanged}
+use Rattle.group_rules.proofs.Changed.{IsChanged, changed_edit, changed_eol}
 use Rattle.group_rules.proofs.Places.{length-each_from}
 use Rattle.group_rules.proofs.Shared.{IsAlike, shared_alike, shared_with_changed, changed_less}
 use Rattle.group_rules.proofs.SharedJoint.{shared_joint}
@@ -24,18 +24,28 @@ use Rattle.group_rules.proofs.Together.{accepted_joint}
 use Rattle.group_rules.proofs.SharedGoing.{shared_undo, shared_redo}
 use Rattle.model_page.specs.declared.change.Way.{Way}
 use Rattle.model_page.specs.declared.change.Way.TheVariants.{Back, On}
+use Rattle.model_page.specs.declared.change.Change.TheVariants.{Ops, Endings}
+use Rattle.model_core.specs.declared.ready.Action.{Action}
+use Rattle.model_core.specs.declared.ready.Action.TheVariants.{Make, Move}
+use Rattle.model_core.specs.Decorating.{HasDecorated}
+use Rattle.model_core.specs.Prepared.{Acts}
 use Rattle.model_core.specs.State.{ModelState}
 use Rattle.model_core.specs.Ways.{flat_move}
 use Rattle.model_group.specs.Calls.{next_tag}
-use Rattle.model_group.specs.Prepared.{going_along}
+use Rattle.model_group.specs.declared.ready.DocReady.{DocReady}
+use Rattle.model_group.specs.declared.ready.Manner.{Manner}
+use Rattle.model_group.specs.declared.ready.Manner.TheVariants.{Plain, Alone, Joint}
+use Rattle.model_group.specs.Prepared.{Commits, IsChange, IsChangeIn, acts_in, going_along}
 use Rattle.model_group.specs.State.{GroupState, IsGroup, documents}
-use Rattle.model_group.proofs.Lists.{length-documents, doc_in-is, documents-set}
+use Rattle.model_group.proofs.Lists.{item_within, length-documents, doc_in-is, documents-set}
 use Rattle.model_group.proofs.Committing.{model_at}
-use Rattle.model_group.proofs.Changing.{Changed}
 use Rattle.model_group.proofs.Goings.{rule_along}
 
 -- the models that were lent are put back
-pub lent_back : {X : Type 0} (xs ys : List X) (n : ℕ) → n ≡ length xs → length ys ≡ length xs → take n (ys ++ drop (length ys) xs) ≡ ys
+abbrev pub put_back : {X : Type 0} → List X → ℕ → List X → List X
+put_back xs n ys = take n (ys ++ drop (length ys) xs)
+
+pub lent_back : {X : Type 0} (xs ys : List X) (n : ℕ) → n ≡ length xs → length ys ≡ length xs → put_back xs n ys ≡ ys
 lent_back xs ys n all same =
     ap (λ rest. take n (ys ++ rest)) (drop_all (length ys) xs (omega (arith, same))) ∙ ap (take n) (append-nil ys)
     ∙ take_all n ys (omega (arith, all, same))
@@ -50,63 +60,89 @@ group_same g h is same = record {
 pub group_before : (old mid items : GroupState) → IsGroup items → items ≡ mid → documents mid ≡ documents old → IsGroup old
 group_before old mid items is read kept = group_same mid old (subst IsGroup read is) (sym kept)
 
--- ---- a call on one document that leaves the tags of its steps
+-- ---- a call on one document that leaves what documents share
 
-abbrev pub KeepsTags : FlatState → FlatState → Type 0
-KeepsTags f g = IsAlike undoing.steps redoing.steps f g
+-- what a call on the model of one document leaves of the tags that documents share
+abbrev pub KeepsShared : FlatState → FlatState → Type 0
+KeepsShared f g = IsAlike undoing.steps redoing.steps f g
 
-pub same_tags : (f g : FlatState) → g ≡ f → KeepsTags f g
-same_tags f g is = subst (KeepsTags f) (sym is) (record { taken = refl; put = refl; version = le_refl f.version })
+-- it leaves the document
+pub kept_same : (f g : FlatState) → g ≡ f → KeepsShared f g
+kept_same f g is = subst (KeepsShared f) (sym is) (record { taken = refl; put = refl; version = le_refl f.version })
 
-pub stop_tags : (f g : FlatState) → g ≡ flat_stop f → KeepsTags f g
-stop_tags f g is = subst (KeepsTags f) (sym is) (record { taken = refl; put = refl; version = le_refl f.version })
+-- it leaves the steps
+kept_steps : (f g : FlatState) → g.history.undo ≡ f.history.undo → g.history.redo ≡ f.history.redo → g.version ≡ f.version → KeepsShared f g
+kept_steps f g undo redo version = record { taken = ap tags_of undo; put = ap tags_of redo; version = omega (arith, version) }
 
--- where the rule leaves them, the call does
-pub tags_with : (f g : FlatState) (rule : Result FlatState FlatRefusal) (answer : ℕ) (result : Result ℕ ModelError)
-    → ((h : FlatState) → rule ≡ Ok h → KeepsTags f h) → ChangesWith answer result f g rule → KeepsTags f g
-tags_with f g rule answer (Ok n) keeps done = keeps g done.0
-tags_with f g rule answer (Err e) keeps done = same_tags f g done.0
+pub kept_stop : (f g : FlatState) → g ≡ flat_stop f → KeepsShared f g
+kept_stop f g is = rw is (kept_steps f (flat_stop f) refl refl refl)
 
-pub tags_by : (f g : FlatState) (rule : Result FlatState FlatRefusal) (result : Result ⊤ ModelError)
-    → ((h : FlatState) → rule ≡ Ok h → KeepsTags f h) → Changes result f g rule → KeepsTags f g
-tags_by f g rule (Ok x) keeps done = keeps g done
-tags_by f g rule (Err e) keeps done = same_tags f g done.0
+kept_shelf : (f h : FlatState) (shelf : Result FlatShelf ShelfRefusal) → with_shelf f shelf ≡ Ok h → KeepsShared f h
+kept_shelf f h (Err why) is = absurd cc
+kept_shelf f h (Ok shelf) is = let same : h ≡ record f { shelf = shelf } = cc in rw same (kept_steps f (record f { shelf = shelf }) refl refl refl)
 
-pub shelf_tags : (f h : FlatState) (shelf : Result FlatShelf ShelfRefusal) → with_shelf f shelf ≡ Ok h → KeepsTags f h
-shelf_tags f h (Err why) is = absurd cc
-shelf_tags f h (Ok shelf) is =
-    let same : record f { shelf = shelf } ≡ h = cc in subst (KeepsTags f) same (record { taken = refl; put = refl; version = le_refl f.version })
+kept_decorations : (f h : FlatState) (decorations : Result Decorations DecoRefusal) → with_decorations f decorations ≡ Ok h → KeepsShared f h
+kept_decorations f h (Err why) is = absurd cc
+kept_decorations f h (Ok decorations) is =
+    let same : h ≡ record f { decorations = decorations } = cc in rw same (kept_steps f (record f { decorations = decorations }) refl refl refl)
 
-pub decoration_tags : (f h : FlatState) (decorations : Result Decorations DecoRefusal) → with_decorations f decorations ≡ Ok h → KeepsTags f h
-decoration_tags f h (Err why) is = absurd cc
-decoration_tags f h (Ok decorations) is =
-    let same : record f { decorations = decorations } ≡ h = cc in
-    subst (KeepsTags f) same (record { taken = refl; put = refl; version = le_refl f.version })
+pub kept_skip : (f g : FlatState) (id n : ℕ) → g ≡ flat_skipped f id n → KeepsShared f g
+kept_skip f g id n is = rw is (kept_steps f (flat_skipped f id n) refl refl refl)
 
-pub group_kept : (g : GroupState) (n : ℕ) (m k : ModelState) → IsGroup g → n < DOC_COUNT → m ≡ get_or g n m → KeepsTags m.document k.document
+pub kept_snapshot : (f g : FlatState) (result : Result ℕ ModelError) → ChangesWith f.shelf.next_id result f g (flat_snapshot f) → KeepsShared f g
+kept_snapshot f g (Ok n) done = kept_shelf f g (flat_take f.shelf f.units) done.0
+kept_snapshot f g (Err e) done = kept_same f g done.0
+
+pub kept_close : (f g : FlatState) (id : ℕ) (result : Result ⊤ ModelError) → Changes result f g (flat_close_of f id) → KeepsShared f g
+kept_close f g id (Ok x) done = kept_shelf f g (flat_close f.shelf id) done
+kept_close f g id (Err e) done = kept_same f g done.0
+
+pub kept_decorate : (f g : FlatState) (owner : ℕ) (remove : List ℕ) (add : List NewDeco) (result : Result ℕ ModelError)
+    → HasDecorated owner remove add result f g → KeepsShared f g
+kept_decorate f g owner remove add (Ok n) done = kept_decorations f g (decorated f.decorations owner remove add f.kind f.units) done.0
+kept_decorate f g owner remove add (Err e) done = kept_same f g done.0
+
+pub group_kept : (g : GroupState) (n : ℕ) (m k : ModelState) → IsGroup g → n < DOC_COUNT → m ≡ get_or g n m → KeepsShared m.document k.document
     → IsGroup (set g n k)
 group_kept g n m k is below at kept = record {
   count = length-set g n k ∙ is.count;
   shared =
       let same = doc_in-is g n m (model_at g g n m refl is.count below at) in
       subst AreShared (sym (documents-set g n k))
-      (shared_alike (documents g) n k.document is.shared (subst (λ f. KeepsTags f k.document) (sym same) kept));
+      (shared_alike (documents g) n k.document is.shared (subst (λ f. KeepsShared f k.document) (sym same) kept));
 }
 
 -- ---- a change of one document
 
-pub group_changed : (n : ℕ) (rule : FlatState → FlatState → Type 0) (left : ModelState → ModelState → Type 0) (old new : GroupState)
-    → IsGroup old → n < DOC_COUNT → ((f g : FlatState) → rule f g → IsChanged f g) → Changed n rule left old new → IsGroup new
-group_changed n rule left old new is below changes done =
+act_changes : (action : Action) (f g : FlatState) → IsChange action → Acts action f g → IsChanged f g
+act_changes (Make (Ops ops inverse)) f g is acts = changed_edit f g ops acts
+act_changes (Make (Endings r)) f g is acts = changed_eol f g r.to acts
+act_changes (Move way) f g is acts = absurd is
+
+changes_in : (manner : Manner) (action : Action) (f g : FlatState) → IsChangeIn manner action → acts_in manner action f g → IsChanged f g
+changes_in Plain action f g is acts = act_changes action f g is acts
+changes_in Alone action f g is acts =
+    let changed = act_changes action (flat_stop f) acts.made is acts.acts in
+    subst (IsChanged f) (sym acts.closed) (record { undo = changed.undo; redo = changed.redo; version = changed.version })
+changes_in (Joint tag) action f g is acts = absurd is
+
+pub group_committed : (manner : Manner) (one : DocReady) (old new : GroupState) → IsGroup old → one.doc < DOC_COUNT → IsChangeIn manner one.ready.action
+    → Commits (acts_in manner) one old new → IsGroup new
+group_committed manner one old new is below change done =
+    let n = one.doc in
     let g : FlatGroup = documents old in
-    let lost = lost_by_change (doc_in g n) in
     let f = doc_in (documents new) n in
-    let long = length-documents old ∙ is.count in
+    let was = item_within old n (omega (arith, is.count, below)) in
+    let now = item_within new n (omega (arith, is.count, done.count, below)) in
+    let acts = ((done.models n was.0 now.0 was.1 now.1).0 refl).document in
+    let changed : IsChanged (doc_in g n) f =
+    subst (λ f. IsChanged f (doc_in (documents new) n)) (sym (doc_in-is old n was.0 was.1))
+    (subst (IsChanged was.0.document) (sym (doc_in-is new n now.0 now.1)) (changes_in manner one.ready.action was.0.document now.0.document change acts)) in
     record {
-      count = sym (length-documents new) ∙ ap length done.documents ∙ length-set (each_from 0 (without_tags lost) g) n f
-          ∙ length-each_from 0 (without_tags lost) g ∙ long;
+      count = done.count ∙ is.count;
       shared = subst AreShared (sym done.documents)
-          (shared_with_changed g lost n f is.shared long below (changed_less g n f is.shared below (changes (doc_in g n) f done.rule)));
+          (shared_with_changed g (lost_by_change (doc_in g n)) n f is.shared (length-documents old ∙ is.count) below
+          (changed_less g n f is.shared below changed));
     }
 
 pub group_joined : (batches : List FlatBatch) (old new : GroupState) → IsGroup old → All (λ (b : FlatBatch). 0 < length b.ops) batches
@@ -142,5 +178,5 @@ group_gone_alone way g n m k (Ok true) is below at front moved =
     (ap (go_by going (documents g) n) (sym front)
     ∙ ap (gone_in (documents g) n) (rule_along way (doc_in (documents g) n) ∙ ap (flat_move way) same ∙ moved)
     ∙ ap (λ g. Ok (Some g)) (sym (documents-set g n k)))
-group_gone_alone way g n m k (Ok false) is below at front moved = group_kept g n m k is below at (same_tags m.document k.document moved.1)
-group_gone_alone way g n m k (Err e) is below at front moved = group_kept g n m k is below at (same_tags m.document k.document moved.0)
+group_gone_alone way g n m k (Ok false) is below at front moved = group_kept g n m k is below at (kept_same m.document k.document moved.1)
+group_gone_alone way g n m k (Err e) is below at front moved = group_kept g n m k is below at (kept_same m.document k.document moved.0)

@@ -1,10 +1,10 @@
 -- The batches of a joint edit: prepared one after another, spared while tags are lost, and carried out as the rule does it.
-use Rattle.std.proofs.Common.{true≢false, ◌≡◌, ◌≢◌, ℕ, ◌+◌, ◌==◌, ◌||◌, ◌<◌, map, arith, Bool, true, false, nat_le, if◌then◌else◌, List, [], ◌∷◌, ◌++◌, length, take, get_or, append-nil, Option, Some, None, MatchOption, Result, Ok, Err, All, slice_get, refl, sym, subst, ap, ◌∙◌}
+use Rattle.std.proofs.Common.{true≢false, ◌≡◌, ◌≢◌, ℕ, ◌+◌, ◌==◌, ◌<◌, map, arith, Bool, true, false, nat_le, if◌then◌else◌, List, [], ◌∷◌, ◌++◌, length, take, get_or, append-nil, Option, Some, None, MatchOption, Result, Ok, Err, All, slice_get, refl, sym, subst, ap, ◌∙◌}
 use Rattle.std.specs.Prelude.{⊤}
 use Rattle.std.specs.Result.{IsErr}
 use Rattle.group_rules.specs.declared.GroupError.{GroupError}
 use Rattle.std.specs.List.{flat_map}
-use Rattle.std.proofs.lemmas.Bool.{or_parts, leb-false, eq-eqb, ne_eqb}
+use Rattle.std.proofs.lemmas.Bool.{or_parts, or_from, leb-false, eq-eqb, ne_eqb}
 use Rattle.std.proofs.lemmas.List.Elements.{All-nil, All-head, All-tail}
 use Rattle.std.proofs.lemmas.Grind.{flat_map-append}
 use Rattle.std.proofs.lemmas.List.{take_more, length-map, map-append, get_or-map}
@@ -15,12 +15,12 @@ use Rattle.batch_rules.specs.Batches.{checked_batch}
 use Rattle.undo_rules.specs.declared.Tag.{Tag}
 use Rattle.document_rules.specs.declared.ModelError.{ModelError}
 use Rattle.document_rules.specs.Outcomes.{RefusedFor}
-use Rattle.document_rules.specs.Refusals.{limit}
 use Rattle.document_rules.specs.Document.{greatest_version, FlatState, after_batch, edited_by, flat_edit, flat_stop}
 use Rattle.search_rules.specs.Replacing.{closed_after, edited_alone}
 use Rattle.group_rules.specs.declared.TheConstants.{DOC_COUNT}
 use Rattle.group_rules.specs.Group.{FlatGroup, doc_in, lost_by_change, without_tags}
-use Rattle.group_rules.specs.Joint.{FlatBatch, docs_of, names_badly, members_of, tag_of, batch_for, lost_by_joint, tagged_after, joined_doc, joined, joint_refusal, unless_refused, group_joint}
+use Rattle.group_rules.specs.Joint.{FlatBatch, docs_of, tag_of, batch_for, lost_by_joint, tagged_after, joined_doc, joined, joint_refusal, unless_refused, group_joint}
+use Rattle.group_rules.proofs.Changed.{accepted_value}
 use Rattle.group_rules.proofs.Members.{is_named, batch_for_none, named_batch}
 use Rattle.model_page.specs.LineMarks.{marked_backwards}
 use Rattle.model_core.specs.State.{ModelState, KeepsParse, Leaves}
@@ -33,9 +33,9 @@ use Rattle.model_group.specs.declared.ready.DocReady.{DocReady}
 use Rattle.model_group.specs.State.{GroupState, OnDoc, KeepAll, KeepAllParses, documents}
 use Rattle.model_group.specs.Losing.{has_doc, LoseTags}
 use Rattle.model_group.specs.Prepared.{ready_for, IsReadyIn, Keeps, Prepares, Does, CommitAll, Committed, IsBatchReady, AreBatchesReady, IsSomeEdit, ActsTagged, first_of, IsFirstOf}
-use Rattle.model_group.proofs.Lists.{item_within}
+use Rattle.model_group.proofs.Lists.{not_first, item_within}
 use Rattle.model_group.proofs.Losses.{both_lost, spared_doc, document_lost}
-use Rattle.model_group.proofs.Naming.{is_bad, named_bit, all_there, all_named, docs_of-append}
+use Rattle.model_group.proofs.Naming.{HaveSet, is_bad, named_bit, all_there, all_named, docs_of-append}
 use Rattle.model_group.proofs.Parses.{KeepsParse-then}
 use Rattle.model_group.proofs.Committing.{each_ready, ready_more, ready_kept, there_after, after_is, same_count, kept_at, kept_all, kept_document, can_commit_kept, each_document}
 use Rattle.model_group.proofs.Refusing.{more_refused, more_accepted}
@@ -63,13 +63,8 @@ no_batches g = record {
 
 batch_for-at : (batches : List FlatBatch) (b : FlatBatch) → batch_for b.doc batches ≡ None → batch_for b.doc (batches ++ b ∷ []) ≡ Some b.ops
 batch_for-at [] b none = rw (eq-eqb b.doc b.doc refl) refl
-batch_for-at (x ∷ batches) b none = by (x.doc == b.doc) none (batch_for-at batches b)
-  where
-    by : (t : Bool) → (if t then Some x.ops else batch_for b.doc batches) ≡ None
-        → (batch_for b.doc batches ≡ None → batch_for b.doc (batches ++ b ∷ []) ≡ Some b.ops)
-        → (if t then Some x.ops else batch_for b.doc (batches ++ b ∷ [])) ≡ Some b.ops
-    by true none later = absurd cc
-    by false none later = later none
+batch_for-at (x ∷ batches) b none =
+    let parts = not_first (x.doc == b.doc) x.ops (batch_for b.doc batches) none in rw (parts.0) (batch_for-at batches b parts.1)
 
 batch_for-other : (batches : List FlatBatch) (b : FlatBatch) (n : ℕ) → n ≢ b.doc → batch_for n (batches ++ b ∷ []) ≡ batch_for n batches
 batch_for-other [] b n other = rw (ne_eqb b.doc n (λ e. other (sym e))) refl
@@ -152,27 +147,25 @@ lost_more ready i r spared old mid new lt is all before next =
     (both_lost (flat_map lost (take i ready)) (lost r) spared old mid new before (subst (λ (tags : List Tag). LoseTags tags spared mid new) same next))
 
 -- the documents are members of the tag
-members_spared : (batches : List FlatBatch) (members : ℕ) → names_badly (docs_of batches) ≡ false → members ≡ members_of batches
+members_spared : (batches : List FlatBatch) (members : ℕ) → HaveSet batches members
     → All (λ n. (n < DOC_COUNT) × (has_doc members n ≡ true)) (docs_of batches)
-members_spared batches members good set k d lt = (all_there batches good k d lt, named_bit batches members _ good set ∙ all_named batches k d lt)
+members_spared batches members have k d lt = (all_there batches have.named k d lt, named_bit batches members _ have ∙ all_named batches k d lt)
 
-pub all_spared : (batches : List FlatBatch) (ready : List DocReady) (g : GroupState) (members : ℕ) → names_badly (docs_of batches) ≡ false
-    → members ≡ members_of batches → AreBatchesReady g batches ready
-    → All (λ (r : DocReady). (r.doc < DOC_COUNT) × (has_doc members r.doc ≡ true)) ready
-all_spared batches ready g members good set is =
-    docs_kept (λ n. (n < DOC_COUNT) × (has_doc members n ≡ true)) batches ready g is (members_spared batches members good set)
+pub all_spared : (batches : List FlatBatch) (ready : List DocReady) (g : GroupState) (members : ℕ) → HaveSet batches members
+    → AreBatchesReady g batches ready → All (λ (r : DocReady). (r.doc < DOC_COUNT) × (has_doc members r.doc ≡ true)) ready
+all_spared batches ready g members have is =
+    docs_kept (λ n. (n < DOC_COUNT) × (has_doc members n ≡ true)) batches ready g is (members_spared batches members have)
 
 some_edit : (ops : Option (List Op)) (m : ModelState) (r : Prepared) → IsBatchReady ops m (Some r) → IsSomeEdit m r
 some_edit None m r is = absurd cc
 some_edit (Some ops) m r is = record { ops = ops; is = is }
 
 -- of what was prepared nothing is lost
-pub all_left : (lost : List Tag) (batches : List FlatBatch) (ready : List DocReady) (old new : GroupState) (members : ℕ)
-    → names_badly (docs_of batches) ≡ false → members ≡ members_of batches → LoseTags lost members old new → AreBatchesReady old batches ready
-    → All (IsReadyIn IsSomeEdit new) ready
-all_left lost batches ready old new members good set left is k d lt =
+pub all_left : (lost : List Tag) (batches : List FlatBatch) (ready : List DocReady) (old new : GroupState) (members : ℕ) → HaveSet batches members
+    → LoseTags lost members old new → AreBatchesReady old batches ready → All (IsReadyIn IsSomeEdit new) ready
+all_left lost batches ready old new members have left is k d lt =
     let there = each_ready _ (λ n m x. ⊤) old ready is.all IsSomeEdit (λ n. some_edit (batch_for n batches)) k d lt in
-    let spared = (all_spared batches ready old members good set is k d lt).1 in
+    let spared = (all_spared batches ready old members have is k d lt).1 in
     record { there = there.there; ready = λ m at. there.ready m (sym (left.same _ spared) ∙ at) }
 
 -- ---- carried out
@@ -181,14 +174,10 @@ some_alone : (f : FlatState) (ops : List Op) → 0 < length ops → edited_alone
 some_alone f [] some = absurd (omega arith)
 some_alone f (op ∷ ops) some = refl
 
-made_step : (refused : Bool) (new g : FlatState) → (if refused then Err limit else Ok new) ≡ Ok g → 0 < length new.history.undo
-    → 0 < length g.history.undo
-made_step true new g is some = absurd cc
-made_step false new g is some = let same : new ≡ g = cc in subst (λ (f : FlatState). 0 < length f.history.undo) same some
-
 edit_step : (f g : FlatState) (answer : Result (List Op) BatchRefusal) → edited_by (flat_stop f) answer ≡ Ok g → 0 < length g.history.undo
 edit_step f g (Err why) is = absurd cc
-edit_step f g (Ok ops) is = made_step (nat_le greatest_version f.version) (after_batch (flat_stop f) ops) g is (omega arith)
+edit_step f g (Ok ops) is =
+    accepted_value (λ (f : FlatState). 0 < length f.history.undo) (nat_le greatest_version f.version) (after_batch (flat_stop f) ops) g is (omega arith)
 
 -- it makes a step
 pub alone_step : (ops : List Op) (m : ModelState) (ready : Prepared) (new : FlatState) → IsEditReady ops m ready
@@ -225,12 +214,9 @@ some_batch P (b ∷ batches) n ops all found =
 
 not_named : (batches : List FlatBatch) (n : ℕ) → batch_for n batches ≡ None → is_named n batches ≡ false
 not_named [] n none = refl
-not_named (b ∷ batches) n none = by (b.doc == n) none (λ later. not_named batches n later)
-  where
-    by : (here : Bool) → (if here then Some b.ops else batch_for n batches) ≡ None → (batch_for n batches ≡ None → is_named n batches ≡ false)
-        → (here || is_named n batches) ≡ false
-    by true none later = absurd cc
-    by false none later = later none
+not_named (b ∷ batches) n none =
+    let parts = not_first (b.doc == n) b.ops (batch_for n batches) none in
+    or_from (b.doc == n) (is_named n batches) parts.0 (not_named batches n parts.1)
 
 -- what it leaves of the last parse, where the model was prepared for it
 edited_as_kept : (ops : List Op) (old mid new : ModelState) (ready : Prepared) → Keeps old mid → IsEditReady ops mid ready → HasActed ready.action mid new
@@ -249,7 +235,7 @@ pub record IsJoined (batches : List FlatBatch) (old new : GroupState) : Type 0 w
   pub models : AllJoin batches (Ok tt) old new
 
 module _ (batches : List FlatBatch) (ready : List DocReady) (members : ℕ) (tag : Tag) (old mid left new : GroupState)
-    (good : names_badly (docs_of batches) ≡ false) (some : All (λ (b : FlatBatch). 0 < length b.ops) batches) (set : members ≡ members_of batches)
+    (have : HaveSet batches members) (some : All (λ (b : FlatBatch). 0 < length b.ops) batches)
     (tag_is : tag ≡ tag_of (documents old) batches) (kept : KeepAll old mid) (is : AreBatchesReady mid batches ready)
     (lost : LoseTags (flat_map (λ (r : DocReady). lost_by_change (doc_in (documents mid) r.doc)) ready) members mid left)
     (done : CommitAll (ActsTagged tag) ready left new) where
@@ -260,7 +246,7 @@ module _ (batches : List FlatBatch) (ready : List DocReady) (members : ℕ) (tag
       → slice_get mid n ≡ Some m → slice_get left n ≡ Some between → Keeps was m → IsBatchReady ops m found → Committed (ActsTagged tag) found between k
       → (k.document ≡ joined_doc (tag_of (documents old) batches) (lost_by_joint (documents old) batches) n was.document ops) × HasJoined ops was k
   one_joined n was m between k (Some ops) (Some r) named at_mid at_left keeps ready does =
-      let spared : has_doc members n ≡ true = named_bit batches members n good set ∙ named_batch batches n ops named in
+      let spared : has_doc members n ≡ true = named_bit batches members n have ∙ named_batch batches n ops named in
       let e : Some between ≡ Some m = sym at_left ∙ lost.same n spared ∙ at_mid in
       let same : between ≡ m = cc in
       let done = subst (λ m. Does (ActsTagged tag) r.action m k) same does in (
@@ -272,7 +258,7 @@ module _ (batches : List FlatBatch) (ready : List DocReady) (members : ℕ) (tag
   one_joined n was m between k (Some ops) None named at_mid at_left keeps ready does = absurd ready
   one_joined n was m between k None (Some r) none at_mid at_left keeps ready does = absurd cc
   one_joined n was m between k None None none at_mid at_left keeps ready does =
-      let bare : has_doc members n ≡ false = named_bit batches members n good set ∙ not_named batches n none in (
+      let bare : has_doc members n ≡ false = named_bit batches members n have ∙ not_named batches n none in (
         ap (λ (m : ModelState). m.document) does ∙ document_lost _ members n mid left m between lost bare at_mid at_left
             ∙ ap (λ tags. without_tags tags n m.document) lost_is ∙ ap (without_tags (lost_by_joint (documents old) batches) n) keeps.document,
         KeepsParse-then was m k keeps.parse (subst (KeepsParse m) (sym does) (lost.each n m between at_mid at_left).parse),
@@ -284,10 +270,7 @@ module _ (batches : List FlatBatch) (ready : List DocReady) (members : ℕ) (tag
   each_joined n was k at_old at_new =
       let m = item_within mid n (omega (arith, slice_get_within old n was at_old, same_count old mid kept.documents)) in
       let between = item_within left n (omega (arith, slice_get_within mid n m.0 m.1, lost.count)) in
-      let before = kept_at old mid n m.0 kept m.1 in
-      let e : Some before.0 ≡ Some was = sym before.1 ∙ at_old in
-      let same : before.0 ≡ was = cc in
-      one_joined n was m.0 between.0 k (batch_for n batches) (ready_for n ready) refl m.1 between.1 (subst (λ w. Keeps w m.0) same before.2)
+      one_joined n was m.0 between.0 k (batch_for n batches) (ready_for n ready) refl m.1 between.1 (kept_at old mid n was m.0 kept at_old m.1)
       (is.all.each n m.0 m.1) (done.each n between.0 k between.1 at_new)
 
   pub all_joined : joint_refusal (documents old) batches ≡ None → IsJoined batches old new

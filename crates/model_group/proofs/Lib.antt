@@ -2,7 +2,6 @@ pub mod Lists
 pub mod Parses
 pub mod Committing
 pub mod Naming
-pub mod Numbers
 pub mod Refusing
 pub mod Joining
 pub mod Goings

@@ -1,7 +1,7 @@
 -- Lists by their items, and the documents of a group.
-use Rattle.std.proofs.Common.{◌≡◌, ◌≢◌, ℕ, zero, suc, ◌+◌, ◌<◌, arith, set, List, [], ◌∷◌, length, get_or, drop, Option, Some, unwrap_or, option_map, slice_get, refl, sym, subst, ap, ◌∙◌}
+use Rattle.std.proofs.Common.{◌≡◌, ◌≢◌, ℕ, zero, suc, ◌+◌, ◌<◌, arith, set, Bool, true, false, if◌then◌else◌, List, [], ◌∷◌, length, get_or, drop, Option, Some, None, unwrap_or, option_map, slice_get, refl, sym, subst, ap, ◌∙◌}
 use Rattle.std.proofs.lemmas.List.{length-map, map-set}
-use Rattle.std.proofs.lemmas.Option.{slice_get-map, slice_get-get_or, slice_get_within, slice_get_read, get_or_from_slice_get, unwrap_or-slice_get}
+use Rattle.std.proofs.lemmas.Option.{slice_get-map, slice_get-get_or, slice_get_within, slice_get_read, unwrap_or-slice_get}
 use Rattle.document_rules.specs.Document.{FlatState, empty_document}
 use Rattle.group_rules.specs.declared.TheConstants.{DOC_COUNT}
 use Rattle.group_rules.specs.Group.{FlatGroup, doc_in, with_doc, each_from}
@@ -10,6 +10,11 @@ use Rattle.model_core.specs.State.{ModelState}
 use Rattle.model_group.specs.State.{GroupState, OnDoc, documents}
 
 module _ {X : Type 0} where
+  -- the one that was sought is not the first, and was not found behind it
+  pub not_first : (is_it : Bool) (x : X) (rest : Option X) → (if is_it then Some x else rest) ≡ None → (is_it ≡ false) × (rest ≡ None)
+  not_first true x rest none = absurd cc
+  not_first false x rest none = (refl, none)
+
   -- the item that was put there
   pub slice_get-set_same : (xs : List X) (n : ℕ) (x : X) → n < length xs → slice_get (set xs n x) n ≡ Some x
   slice_get-set_same [] n x lt = absurd (omega arith)
@@ -35,10 +40,6 @@ module _ {X : Type 0} where
   item_within [] n lt = absurd (omega arith)
   item_within (x ∷ xs) zero lt = (x, refl)
   item_within (x ∷ xs) (suc n) lt = item_within xs n (omega arith)
-
-  -- the item that was read there
-  pub item_again : (xs : List X) (n : ℕ) (x y : X) → slice_get xs n ≡ Some y → x ≡ get_or xs n x → x ≡ y
-  item_again xs n x y is read = read ∙ get_or_from_slice_get xs n y x is
 
   -- two lists of one length with the same item at each place
   pub same_items : (xs ys : List X) → length xs ≡ length ys

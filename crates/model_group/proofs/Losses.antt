@@ -1,14 +1,13 @@
 -- Tags that are lost one after another, and the group that a change makes after that.
-use Rattle.std.proofs.Common.{◌≡◌, ◌≢◌, ℕ, zero, suc, ◌+◌, ◌-◌, ◌^◌, ◌<◌, ◌≤◌, ◌||◌, ◌&&◌, ◌==◌, not, nat_lt, max, arith, set, Bool, true, false, if◌then◌else◌, List, [], ◌∷◌, ◌++◌, length, reverse, take, drop, Option, Some, None, option_to_list, option_and_then, slice_get, All, true≢false, refl, sym, subst, ap, ◌∙◌, ⊎_elim}
+use Rattle.std.proofs.Common.{◌≡◌, ◌≢◌, ℕ, zero, suc, ◌+◌, ◌-◌, ◌^◌, ◌<◌, ◌≤◌, ◌||◌, ◌&&◌, ◌==◌, not, max, arith, set, Bool, true, false, if◌then◌else◌, List, [], ◌∷◌, ◌++◌, length, reverse, take, drop, Option, Some, option_to_list, option_and_then, slice_get, All, true≢false, refl, sym, subst, ap, ◌∙◌, ⊎_elim}
 use Rattle.std.specs.Int.{bit_at}
 use Rattle.std.specs.Int.RustNames.{bit_or}
-use Rattle.std.specs.List.{filter, list_any, flat_map}
+use Rattle.std.specs.List.{filter, flat_map}
 use Rattle.std.proofs.Math.Bool.{or-false}
 use Rattle.std.proofs.lemmas.List.{append_assoc, append-nil, length-append, length-set, length-drop, length-reverse, take_all, drop_at}
-use Rattle.std.proofs.lemmas.List.Elements.{All-take, All-weaker, filter-append}
+use Rattle.std.proofs.lemmas.List.Elements.{filter-append}
 use Rattle.std.proofs.lemmas.List.Folds.{list_any-append}
 use Rattle.std.proofs.lemmas.Bool.{cases_eq, or_parts}
-use Rattle.std.proofs.lemmas.Bool.Decides.{nat_tests}
 use Rattle.std.proofs.lemmas.Nat.Bits.{bit_at-pow_same, bit_at-pow_other, bit_at-zero, bit_at_or, bit_at-lt}
 use Rattle.std.proofs.lemmas.Option.{slice_get_within}
 use Rattle.undo_rules.specs.declared.Tag.{Tag}
@@ -26,9 +25,10 @@ use Rattle.group_rules.proofs.Times.{filter_same}
 use Rattle.model_core.specs.State.{ModelState, KeepsParse}
 use Rattle.model_group.specs.declared.ready.DocReady.{DocReady}
 use Rattle.model_group.specs.State.{GroupState, OnDoc, IsGroup, documents}
-use Rattle.model_group.specs.Losing.{has_doc, Names, LosesTags, LoseTags, tags_from, names_any, is_left, left_count, IsNext}
-use Rattle.model_group.proofs.Lists.{slice_get-set_same, slice_get-set_other, item_within, same_beside, slice_get-drop, slice_get-each, length-documents, document_at, doc_in-is, doc_in-same, documents-set, done_on}
+use Rattle.model_group.specs.Losing.{has_doc, Names, LosesTags, LoseTags, tags_from, is_left, left_count, IsNext}
+use Rattle.model_group.proofs.Lists.{item_within, same_beside, slice_get-drop, slice_get-each, length-documents, document_at, doc_in-is, doc_in-same, documents-set, done_on}
 use Rattle.model_group.proofs.Parses.{KeepsParse-same, KeepsParse-then}
+use Rattle.model_group.proofs.Committing.{beside, each_on}
 
 -- ---- tags of steps
 
@@ -115,9 +115,6 @@ in_turn : (is_spared : Bool) (xs ys : List Tag) (n : ℕ) (f g h : FlatState) �
 in_turn true xs ys n f g h first next = next ∙ first
 in_turn false xs ys n f g h first next = next ∙ ap (without_tags ys n) first ∙ sym (without_tags-append xs ys n f)
 
-pub no_tags_lost : (spared n : ℕ) (m : ModelState) → LosesTags [] spared n m m
-no_tags_lost spared n m = record { document = one_way (has_doc spared n) m.document; parse = KeepsParse-same m }
-
 -- a spared one loses none
 pub spared_stays : (tags : List Tag) (spared n : ℕ) (m : ModelState) → has_doc spared n ≡ true → LosesTags tags spared n m m
 spared_stays tags spared n m is = record {
@@ -154,22 +151,9 @@ both_tags_lost xs ys spared n a b c first next = record {
   parse = KeepsParse-then a b c first.parse next.parse;
 }
 
--- a model that is not spared loses the tags
-pub lost_document : (tags : List Tag) (spared n : ℕ) (old new : ModelState) → LosesTags tags spared n old new → has_doc spared n ≡ false
-    → new.document ≡ without_tags tags n old.document
-lost_document tags spared n old new lost is =
-    subst (λ b. new.document ≡ (if b then old.document else without_tags tags n old.document)) is lost.document
-
 -- ---- the group
 
-pub none_lost : (spared : ℕ) (g : GroupState) → LoseTags [] spared g g
-none_lost spared g = record {
-  count = refl;
-  each = λ n m k is also. let same : m ≡ k = cc in subst (λ (k : ModelState). LosesTags [] spared n m k) same (no_tags_lost spared n m);
-  same = λ n is. refl;
-}
-
--- where none is named, none is lost
+-- where no document is named, no tag is lost
 pub unnamed_lost : (tags : List Tag) (spared : ℕ) (g : GroupState) → Names tags 0 → LoseTags tags spared g g
 unnamed_lost tags spared g none = record {
   count = refl;
@@ -196,7 +180,8 @@ spared_doc tags spared n old new lost is = doc_in-same old new n (lost.same n is
 -- the document of another one lost the tags
 pub document_lost : (tags : List Tag) (spared n : ℕ) (old new : GroupState) (m k : ModelState) → LoseTags tags spared old new → has_doc spared n ≡ false
     → slice_get old n ≡ Some m → slice_get new n ≡ Some k → k.document ≡ without_tags tags n m.document
-document_lost tags spared n old new m k lost is at_old at_new = lost_document tags spared n m k (lost.each n m k at_old at_new) is
+document_lost tags spared n old new m k lost is at_old at_new =
+    subst (λ b. k.document ≡ (if b then m.document else without_tags tags n m.document)) is (lost.each n m k at_old at_new).document
 
 -- A change of a document that was spared alone makes the group that the rule makes.
 pub changed_alone : (tags : List Tag) (n : ℕ) (old mid : GroupState) (m : ModelState) → LoseTags tags (2 ^ n) old mid
@@ -239,21 +224,10 @@ lost_below_all i tags spared old new all lost = record {
 
 module _ (i : ℕ) (tags : List Tag) (spared : ℕ) (old mid new : GroupState) (lost : LostBelow i tags spared old mid)
     (next : OnDoc i (LosesTags tags spared i) mid new) (stays : has_doc spared i ≡ true → new ≡ mid) where
-  here : slice_get new i ≡ Some next.after
-  here = ap (λ (g : GroupState). slice_get g i) next.rest ∙ slice_get-set_same mid i next.after (slice_get_within mid i next.before next.is)
-
-  there : (n : ℕ) → n ≢ i → slice_get new n ≡ slice_get mid n
-  there n other = ap (λ (g : GroupState). slice_get g n) next.rest ∙ slice_get-set_other mid i n next.after other
-
   loses_here : (n : ℕ) (m k : ModelState) → n ≡ i → slice_get old n ≡ Some m → slice_get new n ≡ Some k → LosesTags tags spared n m k
   loses_here n m k at is also =
-      let before : Some next.before ≡ Some m = sym next.is ∙ lost.above i (omega arith) ∙ ap (slice_get old) (sym at) ∙ is in
-      let after : Some next.after ≡ Some k = sym here ∙ ap (slice_get new) (sym at) ∙ also in
-      let left : next.before ≡ m = cc in
-      let right : next.after ≡ k = cc in
-      subst (λ (j : ℕ). LosesTags tags spared j m k) (sym at)
-      (subst (λ (y : ModelState). LosesTags tags spared i m y) right
-      (subst (λ (x : ModelState). LosesTags tags spared i x next.after) left next.done))
+      let before : slice_get mid n ≡ Some m = lost.above n (omega (arith, at)) ∙ is in
+      subst (λ j. LosesTags tags spared j m k) (sym at) ((each_on i _ mid new next n m k before also).0 at)
 
   same_here : (n : ℕ) → n ≡ i → has_doc spared n ≡ true → slice_get new n ≡ slice_get old n
   same_here n at is = ap (λ g. slice_get g n) (stays (subst (λ j. has_doc spared j ≡ true) at is)) ∙ lost.same n is
@@ -264,10 +238,10 @@ module _ (i : ℕ) (tags : List Tag) (spared : ℕ) (old mid new : GroupState) (
     below = λ n m k lt is also.
         ⊎_elim
         (λ at. loses_here n m k at is also)
-        (λ other. lost.below n m k (omega (arith, other)) is (sym (there n other) ∙ also))
+        (λ other. lost.below n m k (omega (arith, other)) is (sym (beside i _ mid new next n other) ∙ also))
         (cases_eq n i);
-    above = λ n le. let other : n ≢ i = omega arith in there n other ∙ lost.above n (omega arith);
-    same = λ n is. ⊎_elim (λ at. same_here n at is) (λ other. there n other ∙ lost.same n is) (cases_eq n i);
+    above = λ n le. let other : n ≢ i = omega arith in beside i _ mid new next n other ∙ lost.above n (omega arith);
+    same = λ n is. ⊎_elim (λ at. same_here n at is) (λ other. beside i _ mid new next n other ∙ lost.same n is) (cases_eq n i);
   }
 
 -- ---- the last tags of a document
@@ -290,7 +264,7 @@ left_count-append before n xs ys =
 -- nothing was lost before
 pub none_before : (spared doc first : ℕ) (g : GroupState) → IsGroup g → IsNext spared doc first [] g
 none_before spared doc first g is =
-    record { start = g; group = is; tags = []; lost = none_lost spared g; seen = λ tag there. refl }
+    record { start = g; group = is; tags = []; lost = unnamed_lost [] spared g names_none; seen = λ tag there. refl }
 
 module _ (spared doc first : ℕ) (before : List DocReady) (g : GroupState) (below : doc < DOC_COUNT) (is_spared : has_doc spared doc ≡ true)
     (next : IsNext spared doc first before g) where

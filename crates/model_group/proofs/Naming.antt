@@ -1,32 +1,46 @@
 -- For which documents the batches of a joint edit are.
-use Rattle.std.proofs.Common.{◌≡◌, ℕ, ◌+◌, ◌==◌, ◌||◌, ◌<◌, arith, min, nat_le, Bool, true, false, List, [], ◌∷◌, ◌++◌, length, map, take, drop, get_or, All, refl, sym, ap, ◌∙◌}
+use Rattle.std.proofs.Common.{◌≡◌, ℕ, ◌+◌, ◌==◌, ◌||◌, ◌<◌, ◌^◌, arith, min, nat_le, Bool, true, false, if◌then◌else◌, List, [], ◌∷◌, ◌++◌, length, map, take, drop, get_or, Some, None, All, refl, sym, ap, ◌∙◌, ⊎_elim}
 use Rattle.std.specs.List.{list_any}
 use Rattle.std.proofs.Math.Bool.{or-false}
-use Rattle.std.proofs.lemmas.Bool.{or_parts, or_left, or_right, eq-eqb, eqb-true, eqb-false, ne_eqb, leb-false, both_ways, false_from_ne_true}
+use Rattle.std.proofs.lemmas.Bool.{or_parts, or_cases, or_left, or_right, eq-eqb, eqb-true, eqb-false, ne_eqb, leb-false, both_ways, false_from_ne_true}
 use Rattle.std.proofs.lemmas.List.{take_more, drop_more, take-append-drop, map-append}
 use Rattle.std.proofs.lemmas.List.Elements.{All-nil, All-cons}
 use Rattle.std.proofs.lemmas.List.Folds.{list_any-append, list_any_at}
+use Rattle.std.proofs.lemmas.List.Sums.{sum_by_push}
 use Rattle.undo_rules.specs.declared.Tag.{Tag}
 use Rattle.group_rules.specs.Group.{FlatGroup, doc_in}
 use Rattle.group_rules.specs.declared.TheConstants.{DOC_COUNT}
 use Rattle.group_rules.specs.declared.DocBatch.{DocBatch}
 use Rattle.group_rules.specs.Joint.{FlatBatch, flat_batch, docs_of, names_badly, members_of, least_of, tag_of}
 use Rattle.group_rules.proofs.Members.{is_named, is_member-tag_of}
-use Rattle.model_group.specs.Losing.{has_doc}
+use Rattle.model_group.specs.Losing.{has_doc, set_with}
 
 -- ---- batches one after another
 
-pub taken : (xs : List DocBatch) (i : ℕ) (b : DocBatch) → i < length xs → b ≡ get_or xs i b
-    → map flat_batch (take (i + 1) xs) ≡ map flat_batch (take i xs) ++ flat_batch b ∷ []
-taken xs i b lt is =
-    ap (map flat_batch) (take_more xs i b lt ∙ ap (λ (x : DocBatch). take i xs ++ x ∷ []) (sym is)) ∙ map-append flat_batch (take i xs) (b ∷ [])
+-- one for the document of this number
+abbrev pub batch_of : ℕ → FlatBatch
+batch_of n = record { doc = n; ops = [] }
 
-pub batch_among : (xs : List DocBatch) (i : ℕ) (b : DocBatch) → i < length xs → b ≡ get_or xs i b
-    → map flat_batch xs ≡ map flat_batch (take i xs) ++ flat_batch b ∷ map flat_batch (drop (i + 1) xs)
-batch_among xs i b lt is =
-    let rest : drop i xs ≡ b ∷ drop (i + 1) xs = drop_more xs i b lt ∙ ap (λ (x : DocBatch). x ∷ drop (i + 1) xs) (sym is) in
-    ap (map flat_batch) (sym (take-append-drop i xs) ∙ ap (λ (rest : List DocBatch). take i xs ++ rest) rest)
-    ∙ map-append flat_batch (take i xs) (b ∷ drop (i + 1) xs)
+pub docs_back : (docs : List ℕ) → docs_of (map batch_of docs) ≡ docs
+docs_back [] = refl
+docs_back (n ∷ docs) = ap (λ ns. n ∷ ns) (docs_back docs)
+
+module _ {X : Type 0} (batch : X → FlatBatch) (xs : List X) (i : ℕ) (d : X) (inside : i < length xs) where
+  pub one_taken : map batch (take (i + 1) xs) ≡ map batch (take i xs) ++ batch (get_or xs i d) ∷ []
+  one_taken = ap (map batch) (take_more xs i d inside) ∙ map-append batch (take i xs) (get_or xs i d ∷ [])
+
+  pub one_among : map batch xs ≡ map batch (take i xs) ++ batch (get_or xs i d) ∷ map batch (drop (i + 1) xs)
+  one_among =
+      ap (map batch) (sym (take-append-drop i xs) ∙ ap (λ rest. take i xs ++ rest) (drop_more xs i d inside))
+      ∙ map-append batch (take i xs) (get_or xs i d ∷ drop (i + 1) xs)
+
+-- where that one was read
+module _ (xs : List DocBatch) (i : ℕ) (b : DocBatch) (inside : i < length xs) (is : b ≡ get_or xs i b) where
+  pub taken : map flat_batch (take (i + 1) xs) ≡ map flat_batch (take i xs) ++ flat_batch b ∷ []
+  taken = one_taken flat_batch xs i b inside ∙ ap (λ (x : DocBatch). map flat_batch (take i xs) ++ flat_batch x ∷ []) (sym is)
+
+  pub batch_among : map flat_batch xs ≡ map flat_batch (take i xs) ++ flat_batch b ∷ map flat_batch (drop (i + 1) xs)
+  batch_among = one_among flat_batch xs i b inside ∙ ap (λ (x : DocBatch). map flat_batch (take i xs) ++ flat_batch x ∷ map flat_batch (drop (i + 1) xs)) (sym is)
 
 pub least_of-push : (batches : List FlatBatch) (b : FlatBatch) → least_of (batches ++ b ∷ []) ≡ min (least_of batches) b.doc
 least_of-push [] b = omega arith
@@ -44,10 +58,14 @@ is_bad n batches = nat_le DOC_COUNT n || is_named n batches
 named-append : (n : ℕ) (xs ys : List FlatBatch) → is_named n (xs ++ ys) ≡ (is_named n xs || is_named n ys)
 named-append n xs ys = ap (list_any (λ m. m == n)) (docs_of-append xs ys) ∙ list_any-append (λ m. m == n) (docs_of xs) (docs_of ys)
 
+-- the batches are for documents of the group, none for one twice, and these are the set
+pub record HaveSet (batches : List FlatBatch) (members : ℕ) : Type 0 where
+  pub named : names_badly (docs_of batches) ≡ false
+  pub set : members ≡ members_of batches
+
 -- the bits of the set tell which were named
-pub named_bit : (batches : List FlatBatch) (set n : ℕ) → names_badly (docs_of batches) ≡ false → set ≡ members_of batches
-    → has_doc set n ≡ is_named n batches
-named_bit batches set n good is = ap (λ s. has_doc s n) is ∙ is_member-tag_of [] batches n good
+pub named_bit : (batches : List FlatBatch) (members n : ℕ) → HaveSet batches members → has_doc members n ≡ is_named n batches
+named_bit batches members n have = ap (λ s. has_doc s n) have.set ∙ is_member-tag_of [] batches n have.named
 
 pub well_named : (batches : List FlatBatch) (b : FlatBatch) → names_badly (docs_of batches) ≡ false → is_bad b.doc batches ≡ false
     → names_badly (docs_of (batches ++ b ∷ [])) ≡ false
@@ -68,23 +86,46 @@ badly_named [] b more bad =
     or_left (is_bad b.doc more) (names_badly (docs_of more))
     (or_left (nat_le DOC_COUNT b.doc) (is_named b.doc more) (sym (or-false (nat_le DOC_COUNT b.doc)) ∙ bad))
 badly_named (x ∷ batches) b more bad =
-    by (nat_le DOC_COUNT b.doc) (is_named b.doc batches) (x.doc == b.doc) refl refl refl bad
-    (λ bad. or_right (is_bad x.doc (batches ++ b ∷ more)) (names_badly (docs_of (batches ++ b ∷ more))) (badly_named batches b more bad))
+    let later : is_bad b.doc batches ≡ true → names_badly (docs_of (x ∷ batches ++ b ∷ more)) ≡ true = λ bad.
+    or_right (is_bad x.doc (batches ++ b ∷ more)) (names_badly (docs_of (batches ++ b ∷ more))) (badly_named batches b more bad) in
+    ⊎_elim (λ past. later (or_left (nat_le DOC_COUNT b.doc) (is_named b.doc batches) past))
+    (λ named. ⊎_elim twice (λ before. later (or_right (nat_le DOC_COUNT b.doc) (is_named b.doc batches) before))
+    (or_cases (x.doc == b.doc) (is_named b.doc batches) named))
+    (or_cases (nat_le DOC_COUNT b.doc) (is_named b.doc (x ∷ batches)) bad)
   where
-    by : (past named same : Bool) → nat_le DOC_COUNT b.doc ≡ past → is_named b.doc batches ≡ named → (x.doc == b.doc) ≡ same
-        → (past || (same || named)) ≡ true
-        → (is_bad b.doc batches ≡ true → names_badly (docs_of (x ∷ batches ++ b ∷ more)) ≡ true)
-        → names_badly (docs_of (x ∷ batches ++ b ∷ more)) ≡ true
-    by true named same p n s bad later = later (rw p refl)
-    by false true same p n s bad later = later (rw (p, n) refl)
-    by false false true p n s bad later =
-        let here : is_named x.doc (batches ++ b ∷ more) ≡ true =
+    twice : (x.doc == b.doc) ≡ true → names_badly (docs_of (x ∷ batches ++ b ∷ more)) ≡ true
+    twice same =
+        let named : is_named x.doc (batches ++ b ∷ more) ≡ true =
         named-append x.doc batches (b ∷ more)
         ∙ or_right (is_named x.doc batches) (is_named x.doc (b ∷ more))
-        (or_left (b.doc == x.doc) (is_named x.doc more) (eq-eqb b.doc x.doc (sym (eqb-true x.doc b.doc s)))) in
+        (or_left (b.doc == x.doc) (is_named x.doc more) (eq-eqb b.doc x.doc (sym (eqb-true x.doc b.doc same)))) in
         or_left (is_bad x.doc (batches ++ b ∷ more)) (names_badly (docs_of (batches ++ b ∷ more)))
-        (or_right (nat_le DOC_COUNT x.doc) (is_named x.doc (batches ++ b ∷ more)) here)
-    by false false false p n s bad later = absurd cc
+        (or_right (nat_le DOC_COUNT x.doc) (is_named x.doc (batches ++ b ∷ more)) named)
+
+is_more : (bad : Bool) (x more : ℕ) → (if bad then None else Some x) ≡ Some more → (bad ≡ false) × (x ≡ more)
+is_more true x more is = absurd cc
+is_more false x more is = (refl, cc)
+
+is_none : (bad : Bool) (x : ℕ) → (if bad then None else Some x) ≡ None → bad ≡ true
+is_none true x is = refl
+is_none false x is = absurd cc
+
+-- one more is asked of the set
+module _ (batches : List FlatBatch) (members : ℕ) (b : FlatBatch) (have : HaveSet batches members) where
+  bad_is : (nat_le DOC_COUNT b.doc || has_doc members b.doc) ≡ is_bad b.doc batches
+  bad_is = ap (λ t. nat_le DOC_COUNT b.doc || t) (named_bit batches members b.doc have)
+
+  pub have_more : (more : ℕ) → set_with members b.doc ≡ Some more → HaveSet (batches ++ b ∷ []) more
+  have_more more is =
+      let parts = is_more (nat_le DOC_COUNT b.doc || has_doc members b.doc) (members + 2 ^ b.doc) more is in
+      record {
+        named = well_named batches b have.named (sym bad_is ∙ parts.0);
+        set = sym parts.1 ∙ ap (λ n. n + 2 ^ b.doc) have.set ∙ sym (sum_by_push (λ (b : FlatBatch). 2 ^ b.doc) batches b);
+      }
+
+  pub have_none_more : (rest : List FlatBatch) → set_with members b.doc ≡ None → names_badly (docs_of (batches ++ b ∷ rest)) ≡ true
+  have_none_more rest is =
+      badly_named batches b rest (sym bad_is ∙ is_none (nat_le DOC_COUNT b.doc || has_doc members b.doc) (members + 2 ^ b.doc) is)
 
 -- each of them is one of the group, and none of those before
 fine_batch : (batches : List FlatBatch) (b : FlatBatch) (more : List FlatBatch) → names_badly (docs_of (batches ++ b ∷ more)) ≡ false

@@ -26,8 +26,7 @@ at_limit false new is = absurd cc
 
 never_unknown : (f : FlatState) (answer : Result (List Op) BatchRefusal) → edited_by f answer ≡ Err unknown → ⊥
 never_unknown f (Err refused.range) is = absurd cc
-never_unknown f (Err refused.overlap) is = absurd cc
-never_unknown f (Err refused.limit) is = absurd cc
+never_unknown f (Err why) is = absurd cc
 never_unknown f (Ok ops) is = at_limit (nat_le greatest_version f.version) (after_batch f ops) is
 
 -- what the batch is refused for is told of it
@@ -48,25 +47,14 @@ both_told : (bad crossed large also_bad also_crossed also_large : Bool) (refusal
     → Told (bad || also_bad) (crossed || also_crossed) (large || also_large) (Some (first_of refusal e))
 both_told b c l x y z refusal Unknown h k = absurd k
 both_told b c l x y z (Some Unknown) e h k = absurd h
-both_told b c l x y z None Memory h k = tt
-both_told b c l x y z None Range h k = or_right b x k
+both_told b c l x y z refusal Memory h k = tt
+both_told b c l x y z (Some Memory) e h k = tt
+both_told b c l x y z (Some Range) e h k = or_left b x h
+both_told b c l x y z refusal Range h k = or_right b x k
+both_told b c l x y z (Some Overlap) e h k = (or_from b x h.0 k.0, or_left c y h.1)
 both_told b c l x y z None Overlap h k = (or_from b x h.0 k.0, or_right c y k.1)
-both_told b c l x y z None Limit h k = (or_from b x h.0 k.0, or_from c y h.1 k.1, or_right l z k.2)
-both_told b c l x y z (Some Memory) Memory h k = tt
-both_told b c l x y z (Some Memory) Range h k = tt
-both_told b c l x y z (Some Memory) Overlap h k = tt
-both_told b c l x y z (Some Memory) Limit h k = tt
-both_told b c l x y z (Some Range) Memory h k = tt
-both_told b c l x y z (Some Range) Range h k = or_left b x h
-both_told b c l x y z (Some Range) Overlap h k = or_left b x h
-both_told b c l x y z (Some Range) Limit h k = or_left b x h
-both_told b c l x y z (Some Overlap) Memory h k = tt
-both_told b c l x y z (Some Overlap) Range h k = or_right b x k
-both_told b c l x y z (Some Overlap) Overlap h k = (or_from b x h.0 k.0, or_left c y h.1)
-both_told b c l x y z (Some Overlap) Limit h k = (or_from b x h.0 k.0, or_left c y h.1)
-both_told b c l x y z (Some Limit) Memory h k = tt
-both_told b c l x y z (Some Limit) Range h k = or_right b x k
 both_told b c l x y z (Some Limit) Overlap h k = (or_from b x h.0 k.0, or_right c y k.1)
+both_told b c l x y z None Limit h k = (or_from b x h.0 k.0, or_from c y h.1 k.1, or_right l z k.2)
 both_told b c l x y z (Some Limit) Limit h k = (or_from b x h.0 k.0, or_from c y h.1 k.1, or_left l z h.2)
 
 module _ (g : FlatGroup) (batches : List FlatBatch) (b : FlatBatch) where

@@ -1,5 +1,5 @@
 -- What calls on the models of documents say.
-use Rattle.std.specs.Prelude.{◌≡◌, ℕ, Bool, true, false, List, Option, Some, None, Result, Ok, Err, ⊤}
+use Rattle.std.specs.Prelude.{ℕ, Bool, true, false, List, Option, Some, None, Result, Ok, Err, ⊤}
 use Rattle.text_rules.specs.declared.Op.{Op}
 use Rattle.undo_rules.specs.declared.Tag.{Tag}
 use Rattle.document_rules.specs.declared.ModelError.{ModelError}

@@ -3,3 +3,4 @@ pub mod Calls
 pub mod Losing
 pub mod Prepared
 pub mod Errors
+pub mod Examples

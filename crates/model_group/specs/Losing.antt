@@ -1,9 +1,10 @@
 -- What is left of the group where tags are lost.
-use Rattle.std.specs.Prelude.{◌≡◌, ℕ, ◌<◌, ◌==◌, ◌&&◌, nat_lt, Bool, true, not, if◌then◌else◌, List, length, drop, slice_get, Some}
+use Rattle.std.specs.Prelude.{◌≡◌, ℕ, ◌+◌, ◌^◌, ◌<◌, ◌==◌, ◌&&◌, ◌||◌, nat_lt, nat_le, Bool, true, not, if◌then◌else◌, List, length, drop, slice_get, Option, Some, None}
 use Rattle.std.specs.Int.{bit_at}
 use Rattle.std.specs.List.{filter, list_any}
 use Rattle.undo_rules.specs.declared.Tag.{Tag}
 use Rattle.undo_rules.specs.Tags.{all_steps, is_member}
+use Rattle.group_rules.specs.declared.TheConstants.{DOC_COUNT}
 use Rattle.group_rules.specs.Group.{doc_in, tags_of, without_tags}
 use Rattle.group_rules.specs.Shared.{times}
 use Rattle.group_rules.specs.Together.{members_of_any}
@@ -14,6 +15,10 @@ use Rattle.model_group.specs.State.{GroupState, IsGroup, documents}
 -- whether the document of this number is in the set
 abbrev pub has_doc : ℕ → ℕ → Bool
 has_doc set n = bit_at set n == 1
+
+-- the set with this document too, if that is one of the group and not in the set
+abbrev pub set_with : ℕ → ℕ → Option ℕ
+set_with set n = if nat_le DOC_COUNT n || has_doc set n then None else Some (set + 2 ^ n)
 
 -- the set of the documents that these tags name
 abbrev pub Names : List Tag → ℕ → Type 0

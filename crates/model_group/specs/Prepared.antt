@@ -14,6 +14,7 @@ use Rattle.group_rules.specs.Going.{Going, undoing, redoing}
 use Rattle.model_page.specs.declared.change.Way.{Way}
 use Rattle.model_page.specs.declared.change.Way.TheVariants.{Back, On}
 use Rattle.model_core.specs.declared.ready.Action.{Action}
+use Rattle.model_core.specs.declared.ready.Action.TheVariants.{Make, Move}
 use Rattle.model_core.specs.State.{ModelState, KeepsParse}
 use Rattle.model_core.specs.Prepared.{Prepared, CanCommit, Acts, ActsAlone, HasActed, IsEditReady, IsMoveReady}
 use Rattle.model_core.specs.Ways.{next_steps}
@@ -72,6 +73,7 @@ pub record CommitAll (act : Action → FlatState → FlatState → Type 0) (read
 
 -- It was carried out on its document, by this rule, and the tags are lost of what that could redo.
 pub record Commits (act : Action → FlatState → FlatState → Type 0) (one : DocReady) (old new : GroupState) : Type 0 where
+  pub count : length new ≡ length old
   pub documents : let g = documents old in
       documents new ≡ with_changed g (lost_by_change (doc_in g one.doc)) one.doc (doc_in (documents new) one.doc)
   pub models : ActsOn one.doc (Does act one.ready.action) old new
@@ -105,6 +107,17 @@ abbrev pub acts_in : Manner → Action → FlatState → FlatState → Type 0
 acts_in Plain = Acts
 acts_in Alone = ActsAlone
 acts_in (Joint tag) = ActsTagged tag
+
+-- a change, and no step that is undone or made again
+abbrev pub IsChange : Action → Type 0
+IsChange (Make change) = ⊤
+IsChange (Move way) = ⊥
+
+-- a change that no tag is put on
+abbrev pub IsChangeIn : Manner → Action → Type 0
+IsChangeIn Plain action = IsChange action
+IsChangeIn Alone action = IsChange action
+IsChangeIn (Joint tag) action = ⊥
 
 -- what is asked of it
 abbrev pub CanIn : Manner → ModelState → Prepared → Type 0

@@ -10,13 +10,14 @@ ghost use Rattle.model_core.specs.Edited.{HasEdited, HasRecast};
 ghost use Rattle.model_core.specs.Opened.{HasOpened};
 ghost use Rattle.model_core.specs.Prepared.{PreparesEol};
 ghost use Rattle.model_core.specs.Replaced.{HasReplaced, PreparesReplace};
-ghost use Rattle.model_group.specs.Prepared.{Prepares};
+ghost use Rattle.model_group.specs.Prepared.{CanIn, Commits, IsChangeIn, IsReadyIn, Prepares, acts_in};
 ghost use Rattle.model_group.specs.State.{ActsOn, OnDoc, documents};
 ghost use Rattle.unit_text.specs.Kinds.{normalized};
 
 use crate::group::Group;
-use crate::losing::lose_all;
-use crate::ready::{DocReady, Manner, commit};
+use crate::losing::{lose_all, lose_redo};
+use crate::members::Members;
+use crate::ready::{DocReady, Manner, commit_step};
 use document_rules::ModelError;
 use model_core::{BracketTable, Hiding, Kind, Model, Op, Ready};
 
@@ -55,7 +56,7 @@ impl Group {
             (documents self.old) (documents self.new) }
     {
         let ready = self.prepare_batch(doc, ops)?;
-        commit(&mut self.models, DocReady { doc, ready }, Manner::Plain);
+        self.commit(DocReady { doc, ready }, Manner::Plain);
         Ok(())
     }
 
@@ -71,7 +72,7 @@ impl Group {
         let Some(ready) = self.prepare_eol(doc, kind)? else {
             return Ok(false);
         };
-        commit(&mut self.models, DocReady { doc, ready }, Manner::Plain);
+        self.commit(DocReady { doc, ready }, Manner::Plain);
         Ok(true)
     }
 
@@ -94,7 +95,7 @@ impl Group {
         let Some(ready) = self.prepare_replace_all(doc, sought, with)? else {
             return Ok(false);
         };
-        commit(&mut self.models, DocReady { doc, ready }, Manner::Alone);
+        self.commit(DocReady { doc, ready }, Manner::Alone);
         Ok(true)
     }
 
@@ -117,5 +118,16 @@ impl Group {
             self.old self.new }
     {
         self.models[doc as usize].prepare_replace_all(sought, with)
+    }
+
+    // Carries out a change that was prepared, after what the document could redo is lost.
+    fn commit(&mut self, one: DocReady, manner: Manner)
+        requires ready { IsReadyIn (CanIn manner) self.old one }
+        requires change { IsChangeIn manner one.ready.action }
+        ensures { Commits (acts_in manner) one self.old self.new }
+    {
+        let models = self.models.as_mut_slice();
+        lose_redo(models, one.doc, Members::one(one.doc), &[]);
+        commit_step(models, one, manner);
     }
 }

@@ -163,7 +163,7 @@ impl Group {
     }
 
     // Prepares the step of the document too, if it is one of the tag's.
-    #[tactic(auto, using(crate::proofs::Committing::keep_same))]
+    #[tactic(auto, using(crate::proofs::Committing::keep_same, crate::proofs::Committing::kept_all))]
     fn prepare_step(
         &mut self,
         way: Way,

@@ -106,10 +106,10 @@ pub fn names_badly(docs: &[u64]) -> bool
 {
     let mut members = Members::none();
     for doc in docs {
-        if *doc >= DOC_COUNT || members.has(*doc) {
-            return true;
+        match members.more(*doc) {
+            Some(more) => members = more,
+            None => return true,
         }
-        members = members.with(*doc);
     }
     false
 }
@@ -121,10 +121,7 @@ fn members_of(batches: &[DocBatch]) -> Option<Members>
 {
     let mut members = Members::none();
     for batch in batches {
-        if batch.doc >= DOC_COUNT || members.has(batch.doc) {
-            return None;
-        }
-        members = members.with(batch.doc);
+        members = members.more(batch.doc)?;
     }
     Some(members)
 }

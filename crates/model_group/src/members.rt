@@ -1,11 +1,11 @@
 //! Sets of documents.
 
-ghost use Rattle.std.specs.Prelude.{◌≡◌, ◌==◌, ◌+◌, ◌^◌, ◌<◌, false, option_to_list};
+ghost use Rattle.std.specs.Prelude.{◌≡◌, ◌==◌, ◌^◌, ◌<◌, option_to_list};
 ghost use Rattle.std.specs.Int.{bit_at};
 ghost use Rattle.std.specs.Int.RustNames.{bit_or};
 ghost use Rattle.undo_rules.specs.Tags.{is_member};
 ghost use Rattle.group_rules.specs.declared.TheConstants.{DOC_COUNT};
-ghost use Rattle.model_group.specs.Losing.{Names};
+ghost use Rattle.model_group.specs.Losing.{Names, set_with};
 
 use group_rules::DOC_COUNT;
 use std::marker::Model;
@@ -60,15 +60,16 @@ impl Members {
         (self.bits >> doc) & 1 == 1
     }
 
-    /// The set with this document too, which it does not have.
-    pub fn with(self, doc: u64) -> Members
-        requires there { doc < DOC_COUNT }
-        requires new { (bit_at self doc == 1) ≡ false }
-        ensures { result ≡ self + 2 ^ doc }
+    /// The set with this document too; None where the set has it, or there is no document of this number.
+    pub fn more(self, doc: u64) -> Option<Members>
+        ensures { result ≡ set_with self doc }
     {
-        Members {
-            bits: self.bits | 1 << doc,
+        if doc >= DOC_COUNT || self.has(doc) {
+            return None;
         }
+        Some(Members {
+            bits: self.bits | 1 << doc,
+        })
     }
 
     /// The documents of either set.

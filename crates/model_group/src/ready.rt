@@ -3,11 +3,9 @@
 ghost use Rattle.std.specs.Prelude.{◌≡◌, length};
 ghost use Rattle.std.specs.List.{All};
 ghost use Rattle.group_rules.specs.declared.TheConstants.{DOC_COUNT};
-ghost use Rattle.model_group.specs.Prepared.{AreApart, CanIn, CommitAll, Commits, Does, IsReadyIn, acts_in};
-ghost use Rattle.model_group.specs.State.{IsGroup, OnDoc};
+ghost use Rattle.model_group.specs.Prepared.{AreApart, CanIn, CommitAll, Does, IsReadyIn, acts_in};
+ghost use Rattle.model_group.specs.State.{OnDoc};
 
-use crate::losing::lose_redo;
-use crate::members::Members;
 use model_core::{Model, Ready, Tag};
 
 /// What was prepared for the document of this number.
@@ -28,16 +26,6 @@ pub(crate) enum Manner {
     Joint(Tag),
 }
 
-/// Carries it out, after what the document could redo is lost.
-pub(crate) fn commit(models: &mut [Model], one: DocReady, manner: Manner)
-    requires group { IsGroup models.old }
-    requires ready { IsReadyIn (CanIn manner) models.old one }
-    ensures { Commits (acts_in manner) one models.old models.new }
-{
-    lose_redo(models, one.doc, Members::one(one.doc), &[]);
-    commit_step(models, one, manner);
-}
-
 /// Carries out each.
 pub(crate) fn commit_all(models: &mut [Model], ready: Vec<DocReady>, manner: Manner)
     requires count { length models.old ≡ DOC_COUNT }
@@ -50,7 +38,8 @@ pub(crate) fn commit_all(models: &mut [Model], ready: Vec<DocReady>, manner: Man
     }
 }
 
-fn commit_step(models: &mut [Model], one: DocReady, manner: Manner)
+/// Carries out what was prepared for one document.
+pub(crate) fn commit_step(models: &mut [Model], one: DocReady, manner: Manner)
     requires count { length models.old ≡ DOC_COUNT }
     requires ready { IsReadyIn (CanIn manner) models.old one }
     ensures { OnDoc one.doc (Does (acts_in manner) one.ready.action) models.old models.new }

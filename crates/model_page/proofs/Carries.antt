@@ -14,7 +14,8 @@ use Rattle.decoration_rules.specs.Marks.{in_order, carried}
 use Rattle.decoration_rules.specs.Decorations.{Decorations, IsSound, Decorates, decorated}
 use Rattle.decoration_rules.proofs.InText.{LieIn-moved, LieIn-decorated, moved_mark-fits}
 use Rattle.decoration_rules.proofs.MarkLists.{carried-none, carried-first}
-use Rattle.document_rules.specs.Document.{FlatText, edit_of, carried_by, carried_to, taken_back, made_again, carried_back, carried_on, unforced}
+use Rattle.document_rules.specs.Document.{FlatText, edit_of, carried_by, carried_to, taken_back, made_again, carried_back, carried_on}
+use Rattle.document_rules.specs.InTurn.{unforced}
 use Rattle.model_page.specs.declared.change.Change.{Change}
 use Rattle.model_page.specs.Changes.{led, deed_of, text_back, changes_back, changes_on, Leads, LeadBack, LeadOn}
 use Rattle.model_page.specs.declared.change.Change.TheVariants.{Ops, Endings}

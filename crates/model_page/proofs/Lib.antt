@@ -1,4 +1,6 @@
 pub mod Turns
+pub mod EditsAlong
+pub mod LineEdits
 pub mod Carries
 pub mod TextLines
 pub mod DirtyEdits

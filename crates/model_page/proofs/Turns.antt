@@ -1,5 +1,5 @@
 -- One turn of the walk along the changes of a step on their way.
-use Rattle.std.proofs.Common.{◌≡◌, ℕ, suc, ◌+◌, ◌-◌, ◌<◌, ◌≤◌, true, List, [], ◌∷◌, ◌++◌, length, take, drop, get_or, slice_get, Some, refl, ap, sym, subst, ◌∙◌, arith}
+use Rattle.std.proofs.Common.{◌≡◌, ℕ, suc, ◌+◌, ◌-◌, ◌<◌, ◌≤◌, true, List, [], ◌∷◌, ◌++◌, length, take, drop, get_or, slice_get, Some, refl, ap, sym, subst, ◌∙◌, append_assoc, append-nil, arith}
 use Rattle.std.proofs.Math.Seq.{take-suc, drop-cons}
 use Rattle.std.proofs.lemmas.List.{take_all, drop_all}
 use Rattle.std.proofs.lemmas.Option.{get_or_from_slice_get}
@@ -21,6 +21,7 @@ use Rattle.model_page.specs.declared.change.Way.TheVariants.{Back, On}
 use Rattle.model_page.specs.Changes.{text_from, ops_by, kind_by, led, deed_of, text_back, changes_back, changes_on, Leads, LeadBack, LeadOn}
 use Rattle.model_page.specs.Counts.{op_count, unit_count, breaks_along, marking_ops, marking_count}
 use Rattle.model_page.specs.Carrying.{decorations_over, decorations_back}
+use Rattle.model_page.specs.InTurn.{edits_along, all_edits_along}
 use Rattle.model_page.specs.LineMarks.{marked_backwards, marks_over, marks_taken_back, marks_made_again, marked_back, marked_on}
 use Rattle.model_page.specs.Ways.{forces, text_by, changes_by, LeadBy, decorations_by, batches_by, marked_along, place_at, rest_on}
 
@@ -215,6 +216,19 @@ pub batches_left : (way : Way) (cs : List Change) (done : ℕ) (c : Change) → 
     → batches_by way (rest_on way done cs) ≡ ops_by way c ∷ batches_by way (rest_on way (done + 1) cs)
 batches_left Back cs done c inside is = ap (batches_by Back) (left_back cs done c inside is) ∙ batches_back-more (rest_on Back (done + 1) cs) c
 batches_left On cs done c inside is = ap (batches_by On) (left_on cs done c inside is)
+
+-- its edits come next
+edits_back-more : (cs : List Change) (c : Change) → all_edits_along Back (cs ++ c ∷ []) ≡ edits_along Back c ++ all_edits_along Back cs
+edits_back-more [] c = sym (append-nil (edits_along Back c))
+edits_back-more (d ∷ cs) c =
+    ap (λ (edits : List Op). edits ++ edits_along Back d) (edits_back-more cs c)
+    ∙ append_assoc (edits_along Back c) (all_edits_along Back cs) (edits_along Back d)
+
+pub edits_left : (way : Way) (cs : List Change) (done : ℕ) (c : Change) → done < length cs
+    → slice_get cs (place_at way (length cs) done) ≡ Some c
+    → all_edits_along way (rest_on way done cs) ≡ edits_along way c ++ all_edits_along way (rest_on way (done + 1) cs)
+edits_left Back cs done c inside is = ap (all_edits_along Back) (left_back cs done c inside is) ∙ edits_back-more (rest_on Back (done + 1) cs) c
+edits_left On cs done c inside is = ap (all_edits_along On) (left_on cs done c inside is)
 
 -- all are left at first, and none at last
 pub all_left : (way : Way) (cs : List Change) → rest_on way 0 cs ≡ cs

@@ -4,6 +4,7 @@ use Rattle.unit_text.specs.declared.kind.Kind.{Kind}
 use Rattle.text_rules.specs.declared.Op.{Op}
 use Rattle.batch_rules.specs.Batches.{most_units, applied_from, inverse_from, StandFrom, KeepsKind}
 use Rattle.batch_rules.specs.Events.{whole_op}
+use Rattle.decoration_rules.specs.LineMoves.{HaveSameContents}
 use Rattle.decoration_rules.specs.Recasts.{RecastState}
 use Rattle.document_rules.specs.Document.{FlatText, Deed, FlatChange, batch, recast}
 use Rattle.model_page.specs.declared.change.Change.{Change}
@@ -62,10 +63,11 @@ changes_on before [] = []
 changes_on before (c ∷ cs) =
     let after = led On c before in record { before = before; deed = deed_of c; after = after } ∷ changes_on after cs
 
--- both texts are of their kinds, at each moment on the way; a change of line endings is one of these two texts
+-- both texts are of their kinds, at each moment on the way; a change of line endings is one of these two texts, whose lines have the
+-- same contents
 abbrev pub AreOfKinds : FlatText → Change → FlatText → Type 0
 AreOfKinds before (Ops ops inverse) after = KeepsKind before.kind before.units ops × KeepsKind after.kind after.units inverse
-AreOfKinds before (Endings r) after = (text_from On r ≡ before) × (text_to On r ≡ after)
+AreOfKinds before (Endings r) after = (text_from On r ≡ before) × (text_to On r ≡ after) × HaveSameContents r.before r.after
 
 -- the change leads from one text to the other, and back
 pub record Leads (before : FlatText) (c : Change) (after : FlatText) : Type 0 where

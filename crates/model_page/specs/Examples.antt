@@ -3,8 +3,12 @@ use Rattle.std.specs.Prelude.{◌≡◌, ℕ, List, [], ◌∷◌, codes, false,
 use Rattle.text_rules.specs.declared.Op.{Op}
 use Rattle.mark_rules.specs.declared.Mark.TheVariants.{Kept, New}
 use Rattle.mark_rules.specs.Marks.{clean_marks}
-use Rattle.unit_text.specs.declared.kind.Kind.TheVariants.{Mixed}
+use Rattle.unit_text.specs.declared.kind.Kind.TheVariants.{Mixed, Lf}
+use Rattle.decoration_rules.specs.Recasts.{RecastState}
 use Rattle.document_rules.specs.Document.{FlatChange, batch}
+use Rattle.model_page.specs.declared.change.Change.TheVariants.{Ops, Endings}
+use Rattle.model_page.specs.declared.change.Way.TheVariants.{Back, On}
+use Rattle.model_page.specs.InTurn.{edits_along, edits_of_first}
 use Rattle.model_page.specs.LineMarks.{marked_by, marked_backwards, marked_back}
 
 abbrev insert : ℕ → Op
@@ -35,3 +39,33 @@ typed_in_line_two = record {
 
 undone_lines_are_new : marked_back (clean_marks 3) (typed_in_line_two ∷ []) ≡ Kept 1 ∷ New ∷ Kept 3 ∷ []
 undone_lines_are_new = refl
+
+-- the ops of a batch are told from the last one back
+the_last_op_is_told_first : edits_of_first 2 On (Ops two_lines_touched [])
+    ≡ record { span = record { start = 2; end = 2 }; text = 10 ∷ []; force = false } ∷ insert 0 ∷ []
+the_last_op_is_told_first = refl
+
+then_the_first_op_is_left : edits_of_first 1 On (Ops two_lines_touched []) ≡ insert 0 ∷ []
+then_the_first_op_is_left = refl
+
+-- `a`, a CR LF, `b`, an LF, `c`, a CR LF and `d`, and the same with LF alone
+abbrev to_feeds : RecastState
+to_feeds = record {
+  before = 97 ∷ 13 ∷ 10 ∷ 98 ∷ 10 ∷ 99 ∷ 13 ∷ 10 ∷ 100 ∷ [];
+  from = Mixed;
+  after = 97 ∷ 10 ∷ 98 ∷ 10 ∷ 99 ∷ 10 ∷ 100 ∷ [];
+  to = Lf;
+}
+
+abbrev ending : ℕ → ℕ → List ℕ → Op
+ending start end text = record { span = record { start = start; end = end }; text = text; force = false }
+
+the_last_ending_is_told_first : edits_along On (Endings to_feeds) ≡ ending 6 8 (10 ∷ []) ∷ ending 1 3 (10 ∷ []) ∷ []
+the_last_ending_is_told_first = refl
+
+-- the LF behind line 2 stays as it is
+equal_endings_are_not_told : edits_of_first 2 On (Endings to_feeds) ≡ ending 1 3 (10 ∷ []) ∷ []
+equal_endings_are_not_told = refl
+
+endings_on_the_way_back : edits_along Back (Endings to_feeds) ≡ ending 5 6 (13 ∷ 10 ∷ []) ∷ ending 1 2 (13 ∷ 10 ∷ []) ∷ []
+endings_on_the_way_back = refl

@@ -9,6 +9,7 @@ pub mod Staying
 pub mod TextWeights
 pub mod Counting
 pub mod Ways
+pub mod InTurn
 pub mod State
 pub mod Compact
 pub mod View

@@ -7,7 +7,7 @@ use Rattle.script_lines.specs.EditCommands.{open_in, edit_in, eol_in}
 use Rattle.script_lines.specs.DecorationCommands.{decorate_in, decos_in}
 use Rattle.script_lines.specs.SearchCommands.{find_in, replace_in}
 use Rattle.script_lines.specs.declared.command.Command.{Command}
-use Rattle.script_lines.specs.declared.command.Command.TheVariants.{Undo, Redo, Stop, Size, Version, Line, Stops, Value, Offset, Position, Deco, Brackets, Match, Level, Snapshot, Read, Close, Mirror, Send, Deliver, Mirrored}
+use Rattle.script_lines.specs.declared.command.Command.TheVariants.{Undo, Redo, Stop, Size, Version, Changes, Line, Stops, Value, Offset, Position, Deco, Brackets, Match, Level, Snapshot, Read, Close, Mirror, Send, Deliver, Mirrored}
 
 -- every command there is
 abbrev pub commands : List Row
@@ -20,6 +20,7 @@ commands =
     ∷ row (codes "eol") eol_in
     ∷ row (codes "size") (bare Size)
     ∷ row (codes "version") (bare Version)
+    ∷ row (codes "changes") (bare Changes)
     ∷ row (codes "line") (of_number Line (codes "n"))
     ∷ row (codes "stops") (of_number Stops (codes "n"))
     ∷ row (codes "value") (of_span Value (codes "at"))

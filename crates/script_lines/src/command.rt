@@ -54,6 +54,8 @@ pub enum Command {
     Size,
     /// Asks for the version, and the version at which the text was last as it is now.
     Version,
+    /// Asks what the last change did, as edits that are carried out one after another.
+    Changes,
     /// Asks for the content of the line of this number, counted from 1.
     Line {
         n: u64,

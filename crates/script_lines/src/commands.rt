@@ -34,6 +34,7 @@ pub(crate) fn command_named(alloc: Global, name: &str, value: &Value) -> Result<
         "eol" => eol_in(value),
         "size" => bare(value, Command::Size),
         "version" => bare(value, Command::Version),
+        "changes" => bare(value, Command::Changes),
         "line" => sole_number(value, "n").map(|n| Command::Line { n }),
         "stops" => sole_number(value, "n").map(|n| Command::Stops { n }),
         "value" => sole_span(value, "at").map(|at| Command::Value { at }),

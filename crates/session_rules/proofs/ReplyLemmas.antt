@@ -14,7 +14,7 @@ use Rattle.bracket_rules.specs.declared.Entry.{Entry}
 use Rattle.bracket_rules.specs.declared.Status.{Status}
 use Rattle.bracket_rules.specs.declared.Status.TheVariants.{PairedOpening, PairedClosing, Unclosed, Unexpected}
 use Rattle.document_rules.specs.Refusals.{FlatRefusal, unknown, range, overlap, limit}
-use Rattle.document_rules.specs.Document.{FlatState, flat_decorate, flat_deco, flat_decos, flat_line, flat_value, flat_position, flat_offset, flat_line_count, content_of}
+use Rattle.document_rules.specs.Document.{FlatState, flat_decorate, flat_deco, flat_decos, flat_line, flat_value, flat_position, flat_offset, flat_line_count, flat_changes, content_of}
 use Rattle.document_rules.specs.Brackets.{flat_brackets, flat_match, flat_level}
 use Rattle.document_rules.specs.Snapshots.{flat_snapshot, flat_peek_of, flat_close_of}
 use Rattle.document_rules.specs.Stops.{flat_stops}
@@ -36,7 +36,7 @@ use Rattle.text_rules.specs.declared.Op.{Op}
 use Rattle.text_rules.specs.Lines.{lines_of, line_at}
 use Rattle.mirror_rules.specs.Mirrors.{MirrorState, SentEvent}
 use Rattle.session_rules.specs.Session.{FlatFollower, FlatSession, follower_in}
-use Rattle.session_rules.specs.Step.{reason_of, group_reason_of, memory_reply, change_reply, ops_at, batches_at, doc_numbers, joined_by, joined_at, joint_answer, deco_numbers, changed, moved, gone, decorated, edited_at, text_answer, offset_answer, position_answer, deco_answer, decos_answer, status_letter, entry_part, entries_reply, brackets_answer, match_answer, level_answer, snapshot_answer, read_answer, close_answer, stops_answer, span_numbers, opened, most_sent, send_answer, sent_at, followed, delivered, deliver_answer, mirrored_answer, scanner_for, step_on, step, request_answer}
+use Rattle.session_rules.specs.Step.{reason_of, group_reason_of, memory_reply, change_reply, ops_at, batches_at, doc_numbers, joined_by, joined_at, joint_answer, deco_numbers, changed, moved, gone, decorated, edited_at, text_answer, offset_answer, position_answer, deco_answer, decos_answer, status_letter, entry_part, entries_reply, brackets_answer, match_answer, level_answer, snapshot_answer, read_answer, close_answer, stops_answer, span_numbers, edit_part, changes_reply, opened, most_sent, send_answer, sent_at, followed, delivered, deliver_answer, mirrored_answer, scanner_for, step_on, step, request_answer}
 use Rattle.session_rules.specs.Script.{after_byte, IsInOneLine, IsOneLine, requested, is_too_long, turn}
 use Rattle.session_rules.proofs.CutLemmas.{cut-append_line}
 
@@ -116,6 +116,12 @@ one-entry_part e =
     (one-append ((a ++ b) ++ c) d (one-append (a ++ b) c (one-append a b (one-number_part _) (one-number_part _)) (one-number_part _)) (one-number_part _))
     (one-cons 32 _ (λ e. omega arith) (one-cons (status_letter e.status) _ (letter-other e.status) (one-number_part e.level)))
 
+one-edit_part : (op : Op) → IsInOneLine (edit_part op)
+one-edit_part op =
+    one-append (number_part op.span.start ++ number_part op.span.end) (text_part op.text)
+    (one-append (number_part op.span.start) (number_part op.span.end) (one-number_part op.span.start) (one-number_part op.span.end))
+    (one-cons 32 (quoted op.text) (λ e. omega arith) (one-quoted op.text))
+
 -- ---- replies
 
 -- what is promised of a flat reply
@@ -138,6 +144,11 @@ flat_none = record { line = (codes "ok none", refl, refl); sure = sure_by _ refl
 
 flat_text : (units : List ℕ) → IsFlatReply (text_reply units)
 flat_text units = flat_ok (text_part units) (one-cons 32 (quoted units) (λ e. omega arith) (one-quoted units))
+
+flat_changes_reply : (f : FlatState) → IsFlatReply (changes_reply f)
+flat_changes_reply f =
+    flat_ok (number_part f.version ++ flat_map edit_part (flat_changes f))
+    (one-append (number_part f.version) (flat_map edit_part (flat_changes f)) (one-number_part f.version) (one-flat_map edit_part one-edit_part (flat_changes f)))
 
 flat_entries : (entries : List Entry) → IsFlatReply (entries_reply entries)
 flat_entries entries = flat_ok (flat_map entry_part entries) (one-flat_map entry_part one-entry_part entries)
@@ -311,6 +322,7 @@ flat_step_on s n f follower (command.Decorate owner remove add) = flat_decorated
 flat_step_on s n f follower command.Stop = flat_numbers []
 flat_step_on s n f follower command.Version = flat_numbers (f.version ∷ f.alternative ∷ [])
 flat_step_on s n f follower command.Size = flat_numbers (length f.units ∷ flat_line_count f ∷ [])
+flat_step_on s n f follower command.Changes = flat_changes_reply f
 flat_step_on s n f follower (command.Line line) = flat_text_answer (flat_line f line)
 flat_step_on s n f follower (command.Value span) = flat_text_answer (flat_value f span)
 flat_step_on s n f follower (command.Offset p) = flat_offset_answer (flat_offset f p)

@@ -19,12 +19,12 @@ use Rattle.group_rules.proofs.KeptTags.{AllTags, kept_open, kept_edit, kept_eol,
 use Rattle.group_rules.proofs.Kept.{AllTagsIn-with_doc, lost_by_change_kept, lost_by_open_kept, undoing_keeps, redoing_keeps}
 use Rattle.group_rules.proofs.Alike.{SameIn, SameItems, SameItems-trans, SameItems-set, SameItems-set_outside}
 use Rattle.script_lines.specs.declared.command.Command.{Command}
-use Rattle.script_lines.specs.declared.command.Command.TheVariants.{Open, Edit, Eol, Decorate, Undo, Redo, Stop, Size, Version, Line, Value, Offset, Decos, Brackets, Match, Level, Snapshot, Read, Close, Stops, Find, Replace, Mirror, Send, Deliver, Mirrored}
+use Rattle.script_lines.specs.declared.command.Command.TheVariants.{Open, Edit, Eol, Decorate, Undo, Redo, Stop, Size, Version, Changes, Line, Value, Offset, Decos, Brackets, Match, Level, Snapshot, Read, Close, Stops, Find, Replace, Mirror, Send, Deliver, Mirrored}
 use Rattle.script_lines.specs.declared.command.Command.TheVariants as command
 use Rattle.script_lines.specs.declared.reason.Refusal.TheVariants as refusal
 use Rattle.script_lines.specs.Replies.{ok_reply, refusal_reply}
 use Rattle.session_rules.specs.Session.{FlatSession, FlatFollower, no_follower, follower_in, with_follower}
-use Rattle.session_rules.specs.Step.{within, within_doc, changed, decorated, deco_answer, decos_answer, text_answer, offset_answer, position_answer, brackets_answer, match_answer, level_answer, snapshot_answer, read_answer, close_answer, stops_answer, spans_reply, ops_at, edited_at, following, opened, mirror_answer, send_answer, sent_at, deliver_answer, mirrored_answer, scanner_for, step}
+use Rattle.session_rules.specs.Step.{within, within_doc, changed, decorated, deco_answer, decos_answer, text_answer, offset_answer, position_answer, brackets_answer, match_answer, level_answer, snapshot_answer, read_answer, close_answer, stops_answer, spans_reply, changes_reply, ops_at, edited_at, following, opened, mirror_answer, send_answer, sent_at, deliver_answer, mirrored_answer, scanner_for, step}
 use Rattle.session_rules.specs.Apart.{Docs}
 use Rattle.session_rules.proofs.Answering.{IsApart, AreApart, Goes, goes_from, goes_beside, goes_unchanged, goes_changed, goes_moved, goes_gone}
 
@@ -212,6 +212,7 @@ module _ (set : Docs) (s t : FlatSession) (r : Related set s t) (n : ℕ) (all :
       put (λ f. close_answer f (flat_close_of f id)) (kept_close (IsApart set n) f (flat_close f.shelf id) (r.sound n))
   goes_step Version = asked (λ f. ok_reply (f.version ∷ f.alternative ∷ []))
   goes_step Size = asked (λ f. ok_reply (length f.units ∷ flat_line_count f ∷ []))
+  goes_step Changes = asked changes_reply
   goes_step (Line line) = asked (λ f. text_answer (flat_line f line))
   goes_step (Value span) = asked (λ f. text_answer (flat_value f span))
   goes_step (Offset p) = asked (λ f. offset_answer (flat_offset f p))

@@ -6,12 +6,12 @@ use Rattle.text_rules.specs.declared.Op.{Op}
 use Rattle.decoration_rules.specs.declared.Deco.{Deco}
 use Rattle.std.specs.List.{flat_map}
 use Rattle.document_rules.specs.Refusals.{FlatRefusal, unknown, range, overlap, limit}
-use Rattle.document_rules.specs.Document.{FlatState, flat_stop, flat_decorate, flat_deco, flat_decos, flat_line, flat_value, flat_position, flat_offset, flat_line_count, content_of}
+use Rattle.document_rules.specs.Document.{FlatState, flat_stop, flat_decorate, flat_deco, flat_decos, flat_line, flat_value, flat_position, flat_offset, flat_line_count, flat_changes, content_of}
 use Rattle.document_rules.specs.Snapshots.{flat_snapshot, flat_peek_of, flat_skipped, flat_close_of}
 use Rattle.document_rules.specs.Stops.{flat_stops}
 use Rattle.search_rules.specs.Replacing.{flat_find}
 use Rattle.script_lines.specs.declared.command.Command.{Command}
-use Rattle.script_lines.specs.declared.command.Command.TheVariants.{Open, Edit, Eol, Decorate, Undo, Redo, Stop, Size, Version, Line, Value, Offset, Decos, Brackets, Match, Level, Snapshot, Read, Close, Stops, Find, Replace, Mirror, Send, Deliver, Mirrored}
+use Rattle.script_lines.specs.declared.command.Command.TheVariants.{Open, Edit, Eol, Decorate, Undo, Redo, Stop, Size, Version, Changes, Line, Value, Offset, Decos, Brackets, Match, Level, Snapshot, Read, Close, Stops, Find, Replace, Mirror, Send, Deliver, Mirrored}
 use Rattle.script_lines.specs.declared.command.Command.TheVariants as command
 use Rattle.script_lines.specs.declared.op.LineOp.{LineOp}
 use Rattle.script_lines.specs.declared.op.Place.{Place}
@@ -25,7 +25,7 @@ use Rattle.bracket_rules.specs.declared.Entry.{Entry}
 use Rattle.bracket_rules.specs.declared.Status.{Status}
 use Rattle.bracket_rules.specs.declared.Status.TheVariants.{PairedOpening, PairedClosing, Unclosed, Unexpected}
 use Rattle.document_rules.specs.Brackets.{flat_brackets, flat_match, flat_level}
-use Rattle.script_lines.specs.Replies.{number_part, ok_reply, none_reply, old_reply, text_reply, refusal_reply}
+use Rattle.script_lines.specs.Replies.{number_part, text_part, ok_reply, none_reply, old_reply, text_reply, refusal_reply}
 use Rattle.text_rules.specs.Lines.{lines_of, line_at}
 use Rattle.mirror_rules.specs.Mirrors.{MirrorState, SentEvent, by_version}
 use Rattle.script_lines.specs.declared.request.Request.{Request}
@@ -174,7 +174,7 @@ span_between None end = None
 span_between (Some start) None = None
 span_between (Some start) (Some end) = Some (record { start = start; end = end })
 
--- the span at which an op stands; none where one of its positions is none of the text
+-- the span at which an op stands; none where one of its positions is invalid
 abbrev pub span_of : FlatState → Place → Option Span
 span_of f (At span) = Some span
 span_of f (InRange start end) = span_between (flat_offset f start) (flat_offset f end)
@@ -183,7 +183,7 @@ span_of f (InRange start end) = span_between (flat_offset f start) (flat_offset 
 abbrev pub op_at : FlatState → LineOp → Option Op
 op_at f op = option_map (λ span. record { span = span; text = op.text; force = op.force }) (span_of f op.place)
 
--- the ops at their spans; none where a position of theirs is none of the text
+-- the ops at their spans; none where a position of theirs is invalid
 abbrev pub ops_at : FlatState → List LineOp → Option (List Op)
 ops_at f [] = Some []
 ops_at f (op ∷ ops) = option_and_then (λ first. option_map (λ rest. first ∷ rest) (ops_at f ops)) (op_at f op)
@@ -194,7 +194,7 @@ edited_at g n (Some ops) = changed g n (group_edit g n ops)
 
 -- ---- a joint edit
 
--- the batches at their spans; none where a position of theirs is none of its text
+-- the batches at their spans; none where a position of theirs is invalid
 abbrev pub batches_at : FlatGroup → List DocEdit → Option (List FlatBatch)
 batches_at g [] = Some []
 batches_at g (edit ∷ edits) = do
@@ -233,6 +233,16 @@ span_numbers spans = flat_map (λ span. span.start ∷ span.end ∷ []) spans
 -- `ok` and for each span ` START END`
 abbrev pub spans_reply : List Span → List ℕ
 spans_reply spans = ok_reply (span_numbers spans)
+
+-- ---- what the last change did
+
+-- ` START END "TEXT"`
+abbrev pub edit_part : Op → List ℕ
+edit_part op = number_part op.span.start ++ number_part op.span.end ++ text_part op.text
+
+-- `ok VERSION` and each edit
+abbrev pub changes_reply : FlatState → List ℕ
+changes_reply f = codes "ok" ++ (number_part f.version ++ flat_map edit_part (flat_changes f)) ++ codes "\n"
 
 -- ---- a mirror and its events
 
@@ -313,6 +323,7 @@ step_on s n f follower (Read id count) = within_doc s n (read_answer f id (flat_
 step_on s n f follower (Close id) = within_doc s n (close_answer f (flat_close_of f id))
 step_on s n f follower Version = (ok_reply (f.version ∷ f.alternative ∷ []), s)
 step_on s n f follower Size = (ok_reply (length f.units ∷ flat_line_count f ∷ []), s)
+step_on s n f follower Changes = (changes_reply f, s)
 step_on s n f follower (Line line) = (text_answer (flat_line f line), s)
 step_on s n f follower (Value span) = (text_answer (flat_value f span), s)
 step_on s n f follower (Offset p) = (offset_answer (flat_offset f p), s)

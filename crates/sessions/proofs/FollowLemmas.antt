@@ -67,7 +67,7 @@ texts_on t old new mirror sent (stays version units last) known = record {
   };
   sent = refl;
 }
-texts_on t old new mirror sent (goes batches version last) known =
+texts_on t old new mirror sent (goes batches edits version last) known =
     let before : extended t new (new.version - 1) ≡ old.units =
     ap (extended t new) (omega (arith, version)) ∙ extended_past t old new version old.version (omega arith) ∙ known.now in
     record {

@@ -28,7 +28,8 @@ use Rattle.session_rules.specs.Step.{changed, moved, gone, decorated, edited_at,
 
 pub data Goes (old new : FlatState) : Type 0 where
   stays : new.version ≡ old.version → new.units ≡ old.units → new.last ≡ old.last → Goes old new
-  goes : (batches : List (List Op)) → new.version ≡ old.version + 1 → new.last ≡ Some (record { before = old.units; batches = batches }) → Goes old new
+  goes : (batches : List (List Op)) (edits : List Op) → new.version ≡ old.version + 1
+      → new.last ≡ Some (record { before = old.units; batches = batches; edits = edits }) → Goes old new
 
 at_rest : (f : FlatState) → Goes f f
 at_rest f = stays refl refl refl
@@ -36,7 +37,7 @@ at_rest f = stays refl refl refl
 -- it loses a tag, or not
 goes_less : (f g : FlatState) (is_it : Bool) (tag : Tag) → Goes f g → Goes f (cond is_it (flat_untag g tag) g)
 goes_less f g true tag (stays version units last) = stays version units last
-goes_less f g true tag (goes batches version last) = goes batches version last
+goes_less f g true tag (goes batches edits version last) = goes batches edits version last
 goes_less f g false tag go = go
 
 goes_without : (f g : FlatState) (tags : List Tag) (n : ℕ) → Goes f g → Goes f (without_tags tags n g)
@@ -60,7 +61,7 @@ to_unless f new false go = go
 
 edited_to : (f : FlatState) (rule : Result (List Op) BatchRefusal) → GoesTo f (edited_by f rule)
 edited_to f (Err why) = at_rest f
-edited_to f (Ok ops) = to_unless f (after_batch f ops) (nat_le greatest_version f.version) (goes (ops ∷ []) refl refl)
+edited_to f (Ok ops) = to_unless f (after_batch f ops) (nat_le greatest_version f.version) (goes (ops ∷ []) _ refl refl)
 
 move_unless : (f new : FlatState) (is_refused : Bool) → Goes f new → MovesTo f (cond is_refused (Err limit) (Ok (Some new)))
 move_unless f new true go = at_rest f
@@ -73,7 +74,7 @@ move_if f new false is_refused go = move_unless f new is_refused go
 eol_to : (f : FlatState) (kind : Kind) → MovesTo f (flat_eol f kind)
 eol_to f kind =
     move_if f (after_recast f kind) (is_same_kind kind f.kind)
-    (nat_lt most_units (length (normalized kind f.units)) || nat_le greatest_version f.version) (goes _ refl refl)
+    (nat_lt most_units (length (normalized kind f.units)) || nat_le greatest_version f.version) (goes _ _ refl refl)
 
 alone_unless : (f new : FlatState) (is_refused : Bool) → Goes f (flat_stop new) → MovesTo f (closed_after (cond is_refused (Err limit) (Ok new)))
 alone_unless f new true go = at_rest f
@@ -81,7 +82,7 @@ alone_unless f new false go = go
 
 alone_checked : (f : FlatState) (rule : Result (List Op) BatchRefusal) → MovesTo f (closed_after (edited_by (flat_stop f) rule))
 alone_checked f (Err why) = at_rest f
-alone_checked f (Ok ops) = alone_unless f (after_batch (flat_stop f) ops) (nat_le greatest_version f.version) (goes (ops ∷ []) refl refl)
+alone_checked f (Ok ops) = alone_unless f (after_batch (flat_stop f) ops) (nat_le greatest_version f.version) (goes (ops ∷ []) _ refl refl)
 
 alone_to : (f : FlatState) (ops : List Op) → MovesTo f (edited_alone f ops)
 alone_to f [] = at_rest f
@@ -89,11 +90,11 @@ alone_to f (op ∷ ops) = alone_checked f (checked_batch f.kind f.units (op ∷ 
 
 undone_to : (f : FlatState) (steps : List (Step FlatChange)) → MovesTo f (undone_step f steps)
 undone_to f [] = at_rest f
-undone_to f (step ∷ steps) = move_unless f _ (nat_le greatest_version f.version) (goes (batches_back step.changes) refl refl)
+undone_to f (step ∷ steps) = move_unless f _ (nat_le greatest_version f.version) (goes (batches_back step.changes) _ refl refl)
 
 redone_to : (f : FlatState) (steps : List (Step FlatChange)) → MovesTo f (redone_step f steps)
 redone_to f [] = at_rest f
-redone_to f (step ∷ steps) = move_unless f _ (nat_le greatest_version f.version) (goes (batches_on step.changes) refl refl)
+redone_to f (step ∷ steps) = move_unless f _ (nat_le greatest_version f.version) (goes (batches_on step.changes) _ refl refl)
 
 -- ---- calls that touch one document alone
 
@@ -204,7 +205,7 @@ go_redo g n = gone_by redoing (λ f. redone_to f f.history.redo) g n (front_tag 
 
 goes_tagged : (tag : Tag) (f : FlatState) (rule : Result (Option FlatState) FlatRefusal) → MovesTo f rule → Goes f (tagged_after tag f rule)
 goes_tagged tag f (Ok (Some new)) (stays version units last) = stays version units last
-goes_tagged tag f (Ok (Some new)) (goes batches version last) = goes batches version last
+goes_tagged tag f (Ok (Some new)) (goes batches edits version last) = goes batches edits version last
 goes_tagged tag f (Ok None) go = at_rest f
 goes_tagged tag f (Err why) go = at_rest f
 

@@ -142,7 +142,7 @@ module _ (g : FlatGroup) (edits : List DocEdit) (docs : List ℕ) (are : docs �
       record { answer = answered (ap (λ r. r.0) (sym rule)) (ap (λ r. r.1) (sym rule)); accepted = tt }
 
   module _ (good : names_badly docs ≡ false) where
-    -- a position is none of its text
+    -- a position is invalid
     tells_no_batches : batches_at g edits ≡ None → TellsBy (joint_answer g edits) g (Err (record { 0 = refusal.Range })) g
     tells_no_batches none =
         let rule : joint_answer g edits ≡ (refusal_reply refusal.Range, g) = answered_by ∙ rw (good, none) refl in

@@ -46,7 +46,7 @@ fn docs_of(alloc: Global, edits: &[DocEdit]) -> Result<Vec<u64>, AllocError>
     edits.iter().map(|edit| edit.doc).collect(alloc)
 }
 
-/// The batches at their spans. `Range` where a position of theirs is none of its text.
+/// The batches at their spans. `Range` where a position of theirs is invalid.
 fn batches_at(
     alloc: Global,
     group: &mut Group,

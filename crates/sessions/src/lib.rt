@@ -3,6 +3,7 @@
 #![tactic(auto)]
 
 mod bracket_replies;
+mod change_replies;
 mod decoration_replies;
 mod joint_replies;
 mod line;

@@ -18,6 +18,7 @@ ghost use Rattle.sessions.specs.Bytes.{bytes_of, bytes_of_outcome};
 ghost use Rattle.script_lines.specs.Proper.{IsProper};
 
 use crate::bracket_replies::{brackets_reply, level_reply, match_reply};
+use crate::change_replies::changes_reply;
 use crate::decoration_replies::{deco_reply, decorate_reply, decos_reply};
 use crate::joint_replies::joint_reply;
 use crate::mirror_replies::{deliver_reply, mirror_reply, mirrored_reply, send_reply};
@@ -60,7 +61,7 @@ fn carry_request(session: &mut Session, request: Request) -> Outcome
     }
 }
 
-fn carry_out(session: &mut Session, doc: u64, command: Command) -> Outcome
+pub(crate) fn carry_out(session: &mut Session, doc: u64, command: Command) -> Outcome
     requires { doc < DOC_COUNT }
     ensures { Tells session.old doc command result session.new }
 {
@@ -81,6 +82,7 @@ fn carry_out(session: &mut Session, doc: u64, command: Command) -> Outcome
         Command::Redo => redo_reply(group, doc),
         Command::Stop => stop_reply(group, doc),
         Command::Version => versions_reply(group.doc(doc)),
+        Command::Changes => changes_reply(alloc, group.doc(doc)),
         Command::Size => size_reply(group.doc(doc)),
         Command::Line { n } => line_reply(alloc, group.doc(doc), n),
         Command::Value { at } => value_reply(alloc, group.doc(doc), at),

@@ -9,15 +9,15 @@ ghost use Rattle.model_group.specs.State.{documents};
 ghost use Rattle.session_rules.specs.Session.{new_session};
 ghost use Rattle.sessions.specs.Standing.{AreFresh, BeginsAnew, StandsFor, Turns};
 ghost use Rattle.sessions.specs.Bytes.{bytes_of_outcome};
-ghost use Rattle.sessions.specs.Told.{IsAccepted};
+ghost use Rattle.sessions.specs.Told.{IsAccepted, Tells};
 
 use crate::line::{MOST_LINE_BYTES, is_blank};
 use crate::outcome::{Outcome, Refused, Reply};
-use crate::reply::reply_to_bytes;
+use crate::reply::{carry_out, reply_to_bytes};
 use mirror_model::Mirror;
 use model_core::{BracketTable, Event, Hiding, Kind, ModelError};
 use model_group::{DOC_COUNT, Group};
-use script_lines::Refusal;
+use script_lines::{Command, Refusal};
 use std::alloc::{AllocError, Global};
 use steps::{Steps, Uncounted};
 
@@ -91,6 +91,14 @@ impl Session {
             *follower = Follower::new(self.alloc);
         }
         Ok(())
+    }
+
+    /// Carries out a command on the document of this number, as a line that spells it would.
+    pub fn carry_out(&mut self, doc: u64, command: Command) -> Outcome
+        requires { doc < DOC_COUNT }
+        ensures { Tells self.old doc command result self.new }
+    {
+        carry_out(self, doc, command)
     }
 
     /// Answers a whole line, which comes without its LF.

@@ -1,4 +1,4 @@
--- The box of a document, and what a handle is laid out as.
+-- The box of what a handle holds, and what a handle is laid out as.
 use Rattle.textmodel_c.proofs.Boxed.{◌≡◌, List, [], ◌∷◌, ◌++◌, refl, subst, Val, vnull, vstruct, vcons, vnil, of_list, Logic, Ura, Goal, Seq, Step, step, Item, ‵, ◌$◌, move, drop, fsplit, fjoin, fpick, fpack, feq_i, feq_l, RattleType, Valss, Ptr, RawPtr, null_ptr, nothing, within, shape, handle_tells, Fits, Bx}
 use denote.Struct.Owning.{to}
 use mir.Syntax.{impl, tnil, dnil}
@@ -7,22 +7,22 @@ use Rattle.std.specs.Global.{Global}
 use Rattle.std.specs.contracts.alloc.Global as heap
 use Rattle.std.proofs.alloc.Global.TheLaws as heap_laws
 use Rattle.std.specs.contracts.impls.GlobalAllocator.TheImpl.{ghosts}
-use Rattle.textmodel_c.specs.contracts.document.Document as document
-use Rattle.textmodel_c.proofs.document.Document.TheLaws as document_laws
+use Rattle.textmodel_c.specs.contracts.contents.Contents as contents
+use Rattle.textmodel_c.proofs.contents.Contents.TheLaws as contents_laws
 use Rattle.textmodel_c.specs.contracts.handle.Handle as handle
 use Rattle.textmodel_c.specs.contracts.handle.raw_box.RawBox as raw_box
 
 abbrev pub E : Bx
-E = record { row = document.the_row; laws = document_laws.the_row_laws; al = record { row = heap.the_row; laws = heap_laws.the_row_laws; g = ghosts; d = impl [] tnil dnil; drops = impl [] tnil dnil } }
+E = record { row = contents.the_row; laws = contents_laws.the_row_laws; al = record { row = heap.the_row; laws = heap_laws.the_row_laws; g = ghosts; d = impl [] tnil dnil; drops = impl [] tnil dnil } }
 
 abbrev pub Handle : RattleType
 Handle = handle.the_row
 
-abbrev pub RawDocument : RattleType
-RawDocument = raw_box.the_row document.the_row heap.the_row ghosts
+abbrev pub RawContents : RattleType
+RawContents = raw_box.the_row contents.the_row heap.the_row ghosts
 
 abbrev pub Held : Type 0
-Held = Option document.the_row.Denot
+Held = Option contents.the_row.Denot
 
 abbrev pub handle_at : Ptr → Global → Held → Handle.Denot
 handle_at at a held = record { at = at; alloc = a; held = held }

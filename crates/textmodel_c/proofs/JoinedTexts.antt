@@ -16,7 +16,7 @@ found_before-none (Err why) = refl
 fits : (a b : ℕ) → b ≤ a → nat_lt a b ≡ false
 fits a b le = grind (arith, common_steps)
 
-is_short : (a b : ℕ) → a < b → nat_lt a b ≡ true
+pub is_short : (a b : ℕ) → a < b → nat_lt a b ≡ true
 is_short a b lt = grind (arith, common_steps)
 
 module _ {A B : Type 0} (units : A → ℕ) (make : A → List ℕ → B) where

@@ -1,8 +1,14 @@
 mod Boxed
 pub mod SmallPlaces
 mod Handles
-pub mod Firsts
+pub mod Others
 pub mod JoinedTexts
 pub mod Refusals
 pub mod Searches
-pub mod Stands
+mod Columns
+mod Calls
+mod Stands
+mod JointStands
+pub mod BatchLemmas
+mod TellingStands
+mod Collected

@@ -4,22 +4,21 @@ use Rattle.document_rules.specs.Refusals.{range}
 use Rattle.document_rules.specs.Document.{FlatState}
 use Rattle.group_rules.specs.Group.{FlatGroup, group_replace_all}
 use Rattle.search_rules.specs.Replacing.{flat_find}
-use Rattle.textmodel_c.specs.declared.document.TheConstants.{FIRST}
 use Rattle.textmodel_c.specs.Rules.{found_of, flat_find_list, group_replace_some}
 
 pub listed_where_some : (f : FlatState) (sought : List ℕ) → 0 < length sought → flat_find_list f sought ≡ Ok (map found_of (flat_find f sought))
 listed_where_some f [] some = absurd (omega (arith, some))
 listed_where_some f (u ∷ units) some = refl
 
-pub replaced_where_some : (g : FlatGroup) (sought text : List ℕ) → 0 < length sought
-    → group_replace_some sought text g ≡ group_replace_all g FIRST sought text
-replaced_where_some g [] text some = absurd (omega (arith, some))
-replaced_where_some g (u ∷ units) text some = refl
+pub replaced_where_some : (doc : ℕ) (g : FlatGroup) (sought text : List ℕ) → 0 < length sought
+    → group_replace_some doc sought text g ≡ group_replace_all g doc sought text
+replaced_where_some doc g [] text some = absurd (omega (arith, some))
+replaced_where_some doc g (u ∷ units) text some = refl
 
 pub no_list_of_none : (f : FlatState) (sought : List ℕ) → length sought ≡ 0 → flat_find_list f sought ≡ Err range
 no_list_of_none f [] none = refl
 no_list_of_none f (u ∷ units) none = absurd (omega (arith, none))
 
-pub no_replace_of_none : (g : FlatGroup) (sought text : List ℕ) → length sought ≡ 0 → group_replace_some sought text g ≡ Err range
-no_replace_of_none g [] text none = refl
-no_replace_of_none g (u ∷ units) text none = absurd (omega (arith, none))
+pub no_replace_of_none : (doc : ℕ) (g : FlatGroup) (sought text : List ℕ) → length sought ≡ 0 → group_replace_some doc sought text g ≡ Err range
+no_replace_of_none doc g [] text none = refl
+no_replace_of_none doc g (u ∷ units) text none = absurd (omega (arith, none))

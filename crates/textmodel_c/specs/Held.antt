@@ -6,7 +6,7 @@ use denote.RawPtr.{Ptr, null_ptr, block_ptr}
 use Rattle.std.specs.Box.Ownership.{box_owns}
 use Rattle.std.specs.Global.{Global}
 use Rattle.std.specs.contracts.impls.GlobalAllocator.TheImpl.{ghosts}
-use Rattle.textmodel_c.specs.contracts.document.Document.{the_row}
+use Rattle.textmodel_c.specs.contracts.contents.Contents.{the_row}
 
 -- only the null pointer
 abbrev pub is_null : Ptr → Fml

@@ -1,5 +1,9 @@
 pub mod Held
-pub mod First
+pub mod Documents
 pub mod Statuses
 pub mod Told
 pub mod Rules
+pub mod JointOps
+pub mod Tellings
+pub mod NextChange
+pub mod Mirroring

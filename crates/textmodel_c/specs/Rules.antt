@@ -1,5 +1,5 @@
 -- What the calls of C ask of the flat document, and of the group that it is in.
-use Rattle.std.specs.Prelude.{ℕ, ◌+◌, ◌-◌, ◌==◌, ◌&&◌, ◌||◌, not, Bool, true, false, nat_lt, nat_le, if◌then◌else◌, List, [], ◌∷◌, length, map, take, drop, Option, Some, None, option_map, Result, Ok, Err}
+use Rattle.std.specs.Prelude.{ℕ, ◌+◌, ◌-◌, ◌==◌, ◌&&◌, ◌||◌, not, Bool, true, false, nat_lt, nat_le, if◌then◌else◌, List, [], ◌∷◌, length, map, take, drop, Option, Some, None, option_map, option_and_then, Result, Ok, Err}
 use Rattle.text_lengths.specs.declared.Position.{Position}
 use Rattle.text_lengths.specs.declared.Span.{Span}
 use Rattle.unit_text.specs.declared.kind.Kind.{Kind}
@@ -9,23 +9,23 @@ use Rattle.unit_text.specs.Text.{utf8_of}
 use Rattle.text_rules.specs.declared.Op.{Op}
 use Rattle.decoration_rules.specs.declared.NewDeco.{NewDeco}
 use Rattle.decoration_rules.specs.declared.Deco.{Deco}
-use Rattle.bracket_rules.specs.Table.{Table, is_table}
-use Rattle.hiding_rules.specs.Hidden.{plain_scanner, standard_scanner}
+use Rattle.bracket_rules.specs.Table.{Table, is_table, standard_table}
+use Rattle.hiding_rules.specs.Marks.{Marks, marks, are_marks}
+use Rattle.hiding_rules.specs.Hidden.{scanner}
 use Rattle.bracket_rules.specs.declared.Entry.{Entry}
 use Rattle.bracket_rules.specs.declared.Status.{Status as State}
 use Rattle.bracket_rules.specs.declared.Status.TheVariants.{PairedOpening, PairedClosing, Unclosed, Unexpected}
 use Rattle.column_encodings.specs.declared.Encoding.{Encoding}
 use Rattle.column_encodings.specs.declared.Encoding.TheVariants.{Utf8, Utf16, Utf32}
 use Rattle.document_rules.specs.Refusals.{FlatRefusal, range}
-use Rattle.document_rules.specs.Document.{FlatState, flat_offset, flat_decos, flat_line}
+use Rattle.document_rules.specs.Document.{FlatState, flat_position, flat_offset, flat_decos, flat_line, flat_value}
 use Rattle.document_rules.specs.Brackets.{flat_brackets, flat_match}
 use Rattle.document_rules.specs.Columns.{flat_column_in, flat_column_of}
 use Rattle.search_rules.specs.Replacing.{flat_find}
 use Rattle.group_rules.specs.Group.{FlatGroup, doc_in, group_open, group_edit, group_eol, group_replace_all}
-use Rattle.textmodel_c.specs.declared.document.TheConstants.{FIRST}
 use Rattle.textmodel_c.specs.declared.edits.BatchOp.{BatchOp}
 use Rattle.textmodel_c.specs.declared.opening.PairUnits.{PairUnits}
-use Rattle.textmodel_c.specs.declared.text.Place.{Place}
+use Rattle.textmodel_c.specs.declared.positions.Place.{Place}
 use Rattle.textmodel_c.specs.declared.marks.NewDecoration.{NewDecoration}
 use Rattle.textmodel_c.specs.declared.marks.Decoration.{Decoration}
 use Rattle.textmodel_c.specs.declared.search.Found.{Found}
@@ -83,9 +83,10 @@ number_of_kind Mixed = 0
 number_of_kind Lf = 1
 number_of_kind Crlf = 2
 
--- a new document with the usual brackets
-abbrev pub group_open_as : ℕ → List ℕ → FlatGroup → Result FlatGroup FlatRefusal
-group_open_as number text g = or_range (kind_of number) (group_open g FIRST text standard_scanner)
+-- ---- a new document
+
+abbrev pub pair_units : ℕ → ℕ → PairUnits
+pair_units opening closing = record { opening = opening; closing = closing }
 
 -- the two texts of a pair, joined
 abbrev pub pair_of : PairUnits → List ℕ → List ℕ × List ℕ
@@ -97,14 +98,103 @@ pairs_of pairs text = pieces_of (λ (pair : PairUnits). pair.opening + pair.clos
 abbrev pub table_or_range : Result Table FlatRefusal → Result Table FlatRefusal
 table_or_range told = or_refused told (λ pairs. if is_table pairs then Ok pairs else Err range)
 
--- a new document with brackets of its own
-abbrev pub group_open_with : ℕ → List PairUnits → List ℕ → List ℕ → FlatGroup → Result FlatGroup FlatRefusal
-group_open_with number pairs brackets text g =
-    let told = table_or_range (pairs_of pairs brackets) in
-    or_range (kind_of number) (λ kind. or_refused told (λ table. group_open g FIRST text (plain_scanner table) kind))
+-- the brackets of these pairs, whose texts fill the joined one; the usual ones where there is no pair
+abbrev pub table_of : List PairUnits → List ℕ → Result Table FlatRefusal
+table_of [] [] = Ok standard_table
+table_of [] (unit ∷ text) = Err range
+table_of (pair ∷ pairs) text = table_or_range (pairs_of (pair ∷ pairs) text)
 
-abbrev pub group_eol_as : ℕ → FlatGroup → Result (Option FlatGroup) FlatRefusal
-group_eol_as number g = or_range (kind_of number) (group_eol g FIRST)
+-- a text of no unit is no mark, and two of none are no pair of marks
+abbrev pub line_mark : List ℕ → Option (List ℕ)
+line_mark [] = None
+line_mark (unit ∷ text) = Some (unit ∷ text)
+
+abbrev pub block_marks : PairUnits → List ℕ → Option (List ℕ × List ℕ)
+block_marks block text = if block.opening + block.closing == 0 then None else Some (pair_of block text)
+
+-- the marks of a joined text: the one that begins a line comment, the two of a block comment, and the quotes
+abbrev pub marks_behind : Option (List ℕ) → PairUnits → List ℕ → Marks
+marks_behind line block text =
+    let units = block.opening + block.closing in marks line (block_marks block (take units text)) (drop units text)
+
+abbrev pub marks_in : ℕ → PairUnits → List ℕ → Marks
+marks_in line block text = marks_behind (line_mark (take line text)) block (drop line text)
+
+abbrev pub checked_marks : Marks → Result Marks FlatRefusal
+checked_marks m = if are_marks m then Ok m else Err range
+
+abbrev pub marks_of : ℕ → PairUnits → List ℕ → Result Marks FlatRefusal
+marks_of line block text =
+    if nat_lt (length text) (line + (block.opening + block.closing)) then Err range else checked_marks (marks_in line block text)
+
+abbrev pub both : {A B : Type 0} → Result A FlatRefusal → Result B FlatRefusal → Result (A × B) FlatRefusal
+both one other = or_refused one (λ x. told_as (λ y. (x, y)) other)
+
+-- the brackets, and the marks that hide some of them, where they are valid
+abbrev pub Scanning : Type 0
+Scanning = Result (Table × Marks) FlatRefusal
+
+abbrev pub scanning_of : List PairUnits → List ℕ → ℕ → PairUnits → List ℕ → Scanning
+scanning_of pairs brackets line block text = both (table_of pairs brackets) (marks_of line block text)
+
+abbrev pub scanning_in : List PairUnits → List ℕ → ℕ → ℕ → ℕ → List ℕ → Scanning
+scanning_in pairs brackets line opening closing text = scanning_of pairs brackets line (pair_units opening closing) text
+
+-- a new document in place of this one
+abbrev pub group_open_as : ℕ → ℕ → Scanning → List ℕ → FlatGroup → Result FlatGroup FlatRefusal
+group_open_as doc number scanning text g =
+    or_range (kind_of number) (λ kind. or_refused scanning (λ by. group_open g doc text (scanner by.0 by.1) kind))
+
+abbrev pub group_eol_as : ℕ → ℕ → FlatGroup → Result (Option FlatGroup) FlatRefusal
+group_eol_as doc number g = or_range (kind_of number) (group_eol g doc)
+
+-- ---- positions, whose columns count from 1
+
+abbrev pub encoding_of : ℕ → Option Encoding
+encoding_of number =
+    if number == 8 then Some Utf8 else
+    (if number == 16 then Some Utf16 else
+    (if number == 32 then Some Utf32 else None))
+
+abbrev pub is_utf16 : Encoding → Bool
+is_utf16 Utf8 = false
+is_utf16 Utf16 = true
+is_utf16 Utf32 = false
+
+abbrev pub place : ℕ → ℕ → Place
+place line column = record { line = line; column = column }
+
+-- the column of a position in units, where that is counted otherwise
+abbrev pub column_of : FlatState → Encoding → Position → Result ℕ FlatRefusal
+column_of f encoding p = told_as (λ before. before + 1) (flat_column_in f encoding p)
+
+-- the place of a position in units
+abbrev pub place_in : FlatState → Encoding → Position → Result Place FlatRefusal
+place_in f encoding p =
+    if is_utf16 encoding then Ok (place_of p) else told_as (place p.line) (column_of f encoding p)
+
+abbrev pub place_if : FlatState → Encoding → Option Position → Result (Option Place) FlatRefusal
+place_if f encoding None = Ok None
+place_if f encoding (Some p) = told_as Some (place_in f encoding p)
+
+abbrev pub flat_place : FlatState → ℕ → ℕ → Result (Option Place) FlatRefusal
+flat_place f number offset = or_range (encoding_of number) (λ encoding. place_if f encoding (flat_position f offset))
+
+-- a position that is counted otherwise, in units: there is none where the place is inside a character or beyond its line
+abbrev pub position_if : ℕ → Result ℕ FlatRefusal → Option Position
+position_if line (Ok column) = Some (at line column)
+position_if line (Err why) = None
+
+abbrev pub position_in : FlatState → Encoding → Position → Option Position
+position_in f encoding p =
+    if is_utf16 encoding then Some p
+    else (if p.column == 0 then None else position_if p.line (flat_column_of f encoding p.line (p.column - 1)))
+
+abbrev pub offset_in : FlatState → Encoding → Position → Option ℕ
+offset_in f encoding p = option_and_then (flat_offset f) (position_in f encoding p)
+
+abbrev pub flat_offset_as : FlatState → ℕ → Position → Result (Option ℕ) FlatRefusal
+flat_offset_as f number p = or_range (encoding_of number) (λ encoding. Ok (offset_in f encoding p))
 
 -- ---- edits
 
@@ -116,12 +206,14 @@ both_ends (Some start) (Some end) = Some (span start end)
 both_ends (Some start) None = None
 both_ends None end = None
 
-abbrev pub span_between : FlatState → Position → Position → Option Span
-span_between f from to = both_ends (flat_offset f from) (flat_offset f to)
+abbrev pub span_between : FlatState → Encoding → Position → Position → Option Span
+span_between f encoding from to = both_ends (offset_in f encoding from) (offset_in f encoding to)
 
 -- from one position up to another
-abbrev pub group_edit_at : Position → Position → List ℕ → Bool → FlatGroup → Result FlatGroup FlatRefusal
-group_edit_at from to text force g = or_range (span_between (doc_in g FIRST) from to) (λ span. group_edit g FIRST (one_op span text force))
+abbrev pub group_edit_at : ℕ → ℕ → Position → Position → List ℕ → FlatGroup → Result FlatGroup FlatRefusal
+group_edit_at doc number from to text g =
+    or_range (encoding_of number) (λ encoding. or_range (span_between (doc_in g doc) encoding from to)
+    (λ span. group_edit g doc (one_op span text false)))
 
 abbrev pub op_of : BatchOp → List ℕ → Op
 op_of op text = record { span = span op.start op.end; text = text; force = op.force }
@@ -130,8 +222,13 @@ op_of op text = record { span = span op.start op.end; text = text; force = op.fo
 abbrev pub ops_of : List BatchOp → List ℕ → Result (List Op) FlatRefusal
 ops_of batch text = pieces_of (λ (op : BatchOp). op.units) op_of batch text
 
-abbrev pub group_edit_joined : List BatchOp → List ℕ → FlatGroup → Result FlatGroup FlatRefusal
-group_edit_joined batch text g = or_refused (ops_of batch text) (group_edit g FIRST)
+-- a batch has an op
+abbrev pub batch_of : List BatchOp → List ℕ → Result (List Op) FlatRefusal
+batch_of [] text = Err range
+batch_of (op ∷ batch) text = ops_of (op ∷ batch) text
+
+abbrev pub group_edit_joined : ℕ → List BatchOp → List ℕ → FlatGroup → Result FlatGroup FlatRefusal
+group_edit_joined doc batch text g = or_refused (batch_of batch text) (group_edit g doc)
 
 -- ---- what is read
 
@@ -147,6 +244,10 @@ fitting_end f offset room =
 
 abbrev pub fitting_span : FlatState → ℕ → ℕ → Span
 fitting_span f offset room = span offset (fitting_end f offset room)
+
+-- there is to be room for two, since these may belong together
+abbrev pub flat_read : FlatState → ℕ → ℕ → Result (List ℕ) FlatRefusal
+flat_read f offset room = if nat_lt room 2 then Err range else flat_value f (fitting_span f offset room)
 
 -- the content of the line of this number, in UTF-8
 abbrev pub flat_line_utf8 : FlatState → ℕ → Result (List ℕ) FlatRefusal
@@ -184,9 +285,9 @@ abbrev pub flat_find_list : FlatState → List ℕ → Result (List Found) FlatR
 flat_find_list f [] = Err range
 flat_find_list f (u ∷ units) = Ok (map found_of (flat_find f (u ∷ units)))
 
-abbrev pub group_replace_some : List ℕ → List ℕ → FlatGroup → Result (Option FlatGroup) FlatRefusal
-group_replace_some [] text g = Err range
-group_replace_some (u ∷ units) text g = group_replace_all g FIRST (u ∷ units) text
+abbrev pub group_replace_some : ℕ → List ℕ → List ℕ → FlatGroup → Result (Option FlatGroup) FlatRefusal
+group_replace_some doc [] text g = Err range
+group_replace_some doc (u ∷ units) text g = group_replace_all g doc (u ∷ units) text
 
 -- ---- brackets
 
@@ -214,17 +315,3 @@ partner_of found = record { line = found.0.line; column = found.0.column; units 
 
 abbrev pub flat_partner : FlatState → Position → Result (Option Partner) FlatRefusal
 flat_partner f p = told_as (option_map partner_of) (flat_match f p)
-
--- ---- columns
-
-abbrev pub encoding_of : ℕ → Option Encoding
-encoding_of number =
-    if number == 8 then Some Utf8 else
-    (if number == 16 then Some Utf16 else
-    (if number == 32 then Some Utf32 else None))
-
-abbrev pub flat_column_as : FlatState → ℕ → Position → Result ℕ FlatRefusal
-flat_column_as f encoding p = or_range (encoding_of encoding) (λ e. flat_column_in f e p)
-
-abbrev pub flat_column_of_as : FlatState → ℕ → ℕ → ℕ → Result ℕ FlatRefusal
-flat_column_of_as f encoding line before = or_range (encoding_of encoding) (λ e. flat_column_of f e line before)

@@ -1,11 +1,13 @@
 -- How a call ended, and its number.
-use Rattle.std.specs.Prelude.{ℕ, Bool, true, false, Result, Ok as Accepted, Err}
+use Rattle.std.specs.Prelude.{ℕ, Bool, true, false, Option, Some, None, Result, Ok as Accepted, Err, ⊤}
 use Rattle.document_rules.specs.declared.ModelError.{ModelError}
 use Rattle.document_rules.specs.declared.ModelError.TheVariants as error
 use Rattle.group_rules.specs.declared.GroupError.{GroupError}
 use Rattle.group_rules.specs.declared.GroupError.TheVariants as group
+use Rattle.script_lines.specs.declared.reason.Refusal.{Refusal}
+use Rattle.script_lines.specs.declared.reason.Refusal.TheVariants as reason
 use Rattle.textmodel_c.specs.declared.status.Status.{Status}
-use Rattle.textmodel_c.specs.declared.status.Status.TheVariants.{Ok, Nothing, Unknown, Range, Overlap, Limit, Memory, Encoding, Empty, Short, Joint}
+use Rattle.textmodel_c.specs.declared.status.Status.TheVariants.{Ok, Nothing, Unknown, Range, Overlap, Limit, Memory, Encoding, Empty, Short, Joint, Gap}
 
 abbrev pub number_of : Status → ℕ
 number_of Ok = 0
@@ -19,6 +21,7 @@ number_of Encoding = 7
 number_of Empty = 8
 number_of Short = 9
 number_of Joint = 10
+number_of Gap = 11
 
 abbrev pub status_of_error : ModelError → Status
 status_of_error error.Unknown = Unknown
@@ -35,6 +38,17 @@ status_of_group_error group.Limit = Limit
 status_of_group_error (group.Joint n) = Joint
 status_of_group_error group.Memory = Memory
 
+-- a command of a script that is refused
+abbrev pub status_of_refusal : Refusal → Status
+status_of_refusal reason.Syntax = Range
+status_of_refusal reason.Unknown = Unknown
+status_of_refusal reason.Range = Range
+status_of_refusal reason.Overlap = Overlap
+status_of_refusal reason.Limit = Limit
+status_of_refusal reason.Memory = Memory
+status_of_refusal (reason.Gap have need) = Gap
+status_of_refusal (reason.Joint n) = Joint
+
 -- a call that answers whether there was anything to do
 abbrev pub status_of_step : Result Bool ModelError → Status
 status_of_step (Accepted true) = Ok
@@ -47,6 +61,11 @@ status_of_going (Accepted true) = Ok
 status_of_going (Accepted false) = Nothing
 status_of_going (Err e) = status_of_group_error e
 
+-- a call on several documents that answers nothing
+abbrev pub status_of_joint : Result ⊤ GroupError → Status
+status_of_joint (Accepted x) = Ok
+status_of_joint (Err e) = status_of_group_error e
+
 abbrev pub status_of_given : {A : Type 0} → Result A ModelError → Status
 status_of_given (Accepted x) = Ok
 status_of_given (Err e) = status_of_error e
@@ -55,3 +74,14 @@ status_of_given (Err e) = status_of_error e
 abbrev pub given_or : {A : Type 0} → A → Result A ModelError → A
 given_or old (Accepted x) = x
 given_or old (Err e) = old
+
+-- a call that answers something, where there is anything
+abbrev pub status_of_found : {A : Type 0} → Result (Option A) ModelError → Status
+status_of_found (Accepted (Some x)) = Ok
+status_of_found (Accepted None) = Nothing
+status_of_found (Err e) = status_of_error e
+
+abbrev pub found_or : {A : Type 0} → A → Result (Option A) ModelError → A
+found_or old (Accepted (Some x)) = x
+found_or old (Accepted None) = old
+found_or old (Err e) = old

@@ -1,11 +1,11 @@
 //! Script lines and their replies.
 
-ghost use Rattle.std.specs.Prelude.{◌≡◌, length, IfNone};
+ghost use Rattle.std.specs.Prelude.{◌≡◌, None, length};
 ghost use Rattle.sessions.specs.Bytes.{bytes_of_outcome};
 ghost use Rattle.sessions.specs.Standing.{Turns};
-ghost use Rattle.textmodel_c.specs.Told.{CopiedFrom, HasAnswered, Leaves, RepliesHeld};
+ghost use Rattle.textmodel_c.specs.Told.{CopiedFrom, HasAnswered, LeavesSession, RepliesHeld};
 
-use crate::document::Document;
+use crate::contents::Contents;
 use crate::handle::{Handle, taken};
 use crate::status::Status;
 use script_lines::refusal;
@@ -15,20 +15,23 @@ use std::alloc::Global;
 /// The version of this library: ten thousand times the major number, a hundred times the minor one, and the patch.
 #[unsafe(no_mangle)]
 pub extern "C" fn tm_version() -> u32
-    ensures { result ≡ 400 }
+    ensures { result ≡ 10000 }
 {
-    400
+    10000
 }
 
-// Answers the line, and keeps what came of it; how many bytes are written for it.
-fn answer(document: &mut Document, line: &[u8]) -> u64
-    ensures turn { Turns document.old.session line.now
-        (bytes_of_outcome document.new.reply) document.new.session }
-    ensures len { result ≡ length (bytes_of_outcome document.new.reply) }
+// Answers the line, and keeps what came of it; how many bytes are written for it. It may have opened a document, so nothing is told
+// of a change any more.
+fn answer(contents: &mut Contents, line: &[u8]) -> u64
+    ensures turn { Turns contents.old.session line.now
+        (bytes_of_outcome contents.new.reply) contents.new.session }
+    ensures len { result ≡ length (bytes_of_outcome contents.new.reply) }
+    ensures telling { contents.new.telling ≡ None }
 {
-    let outcome = document.session.answer(line);
+    let outcome = contents.session.answer(line);
     let len = reply_len(&outcome);
-    document.reply = outcome;
+    contents.reply = outcome;
+    contents.telling = None;
     len
 }
 
@@ -45,14 +48,18 @@ fn reply_len(outcome: &Outcome) -> u64
 /// Answers a script line, which comes without its LF, on all documents of the handle, keeps the reply, and tells how many bytes it
 /// has.
 #[unsafe(no_mangle)]
-pub extern "C" fn tm_answer(alloc: Global, handle: &mut Handle, line: &[u8], len: &mut u64) -> u32
-    ensures document { Leaves result handle.old.held handle.new.held
+pub extern "C" fn tm_raw_answer(
+    alloc: Global,
+    handle: &mut Handle,
+    line: &[u8],
+    len: &mut u64,
+) -> u32
+    ensures document { LeavesSession result handle.old.held handle.new.held (len.new ≡ len.old)
         (HasAnswered result line.now len.new) }
-    ensures empty { IfNone handle.old.held (len.new ≡ len.old) }
 {
-    let mut document = taken!(handle, alloc);
-    *len = answer(&mut document, line);
-    handle.put(document);
+    let mut contents = taken!(handle, alloc);
+    *len = answer(&mut contents, line);
+    handle.put(contents);
     Status::Ok.number()
 }
 
@@ -85,7 +92,7 @@ fn copy_reply(outcome: &Outcome, from: u64, out: &mut [u8], count: &mut u64) -> 
 /// As many bytes of the last reply as `out` has room for, from the byte at `from` on, and how many they are. `Range` where
 /// `from` is above the length of the reply.
 #[unsafe(no_mangle)]
-pub extern "C" fn tm_reply(
+pub extern "C" fn tm_raw_reply(
     alloc: Global,
     handle: &mut Handle,
     from: u64,
@@ -95,8 +102,8 @@ pub extern "C" fn tm_reply(
     ensures kept { handle.new.held ≡ handle.old.held }
     ensures reply { RepliesHeld result handle.old.held from out.old out.new count.old count.new }
 {
-    let document = taken!(handle, alloc);
-    let status = copy_reply(&document.reply, from, out, count);
-    handle.put(document);
+    let contents = taken!(handle, alloc);
+    let status = copy_reply(&contents.reply, from, out, count);
+    handle.put(contents);
     status.number()
 }

@@ -1,17 +1,17 @@
 //! Brackets.
 
-ghost use Rattle.std.specs.Prelude.{◌≡◌, ◌+◌, ◌++◌, [], Err, List, map, IfSome, OnOk};
+ghost use Rattle.std.specs.Prelude.{◌≡◌, ◌+◌, ◌<◌, ◌++◌, [], Err, List, map, IfSome, OnOk};
+ghost use Rattle.group_rules.specs.declared.TheConstants.{DOC_COUNT};
 ghost use Rattle.std.specs.List.{All};
 ghost use Rattle.document_rules.specs.Outcomes.{Gives};
 ghost use Rattle.document_rules.specs.Brackets.{flat_brackets, flat_match, flat_level, IsSmall};
 ghost use Rattle.model_group.specs.State.{documents};
-ghost use Rattle.textmodel_c.specs.First.{first, FirstIsFresh};
+ghost use Rattle.textmodel_c.specs.Documents.{document_in, IsFreshDoc};
 ghost use Rattle.textmodel_c.specs.Rules.{at, bracket_of, number_of_state, flat_bracket_list, flat_partner};
 ghost use Rattle.textmodel_c.specs.Statuses.{number_of};
 ghost use Rattle.textmodel_c.specs.Told.{FoundFor, FoundHeld, FoundOut, GivenHeld, GivenOut, KeepsText, Lists, ListsHeld};
 
-use crate::document::FIRST;
-use crate::handle::{Handle, taken};
+use crate::handle::{Handle, taken_for};
 use crate::lists::hand_out_of;
 use crate::status::Status;
 use model_core::{Entry, ModelError, Position};
@@ -77,83 +77,112 @@ fn append_brackets(entries: &[Entry], out: &mut Vec<Bracket>) -> Result<(), Allo
     Ok(())
 }
 
-fn entries_in(group: &mut Group, from: u64, to: u64, out: &mut Vec<Entry>) -> Result<(), ModelError>
-    requires { out.old.items ≡ [] }
-    ensures found { FoundFor result out.new.items (flat_brackets (first group.old) from to) }
+fn entries_in(
+    group: &mut Group,
+    doc: u64,
+    from: u64,
+    to: u64,
+    out: &mut Vec<Entry>,
+) -> Result<(), ModelError>
+    requires there { doc < DOC_COUNT }
+    requires none { out.old.items ≡ [] }
+    ensures found { FoundFor result out.new.items
+        (flat_brackets (document_in group.old doc) from to) }
     ensures small { OnOk result (All (λ entry. IsSmall entry.place) out.new.items) }
     ensures documents { documents group.new ≡ documents group.old }
 {
-    group.brackets_in(FIRST, from, to, out, &mut Steps::new())
+    group.brackets_in(doc, from, to, out, &mut Steps::new())
 }
 
 fn brackets_in(
     alloc: Global,
     group: &mut Group,
+    doc: u64,
     from: u64,
     to: u64,
     out: &mut Vec<Bracket>,
 ) -> Result<(), ModelError>
-    requires { out.old.items ≡ [] }
-    ensures found { FoundFor result out.new.items (flat_bracket_list (first group.old) from to) }
+    requires there { doc < DOC_COUNT }
+    requires none { out.old.items ≡ [] }
+    ensures found { FoundFor result out.new.items
+        (flat_bracket_list (document_in group.old doc) from to) }
     ensures documents { documents group.new ≡ documents group.old }
 {
     let mut entries = Vec::new(alloc);
-    entries_in(group, from, to, &mut entries)?;
+    entries_in(group, doc, from, to, &mut entries)?;
     append_brackets(&entries, out).map_err(|_| ModelError::Memory)
 }
 
 fn brackets_out(
     alloc: Global,
     group: &mut Group,
+    doc: u64,
     from: u64,
     to: u64,
     out: &mut [Bracket],
     count: &mut u64,
 ) -> Status
+    requires { doc < DOC_COUNT }
     ensures brackets { Lists result out.old out.new count.old count.new
-        (flat_bracket_list (first group.old) from to) }
+        (flat_bracket_list (document_in group.old doc) from to) }
     ensures documents { documents group.new ≡ documents group.old }
 {
     let mut found = Vec::new(alloc);
-    let answer = brackets_in(alloc, group, from, to, &mut found);
+    let answer = brackets_in(alloc, group, doc, from, to, &mut found);
     hand_out_of(answer, &found, out, count)
 }
 
 /// The brackets of the lines `from` to `to`, both included, in the order of the text, and how many they are. `Range` where
 /// one of the lines is not there, or `from` is above `to`; `Short` where `out` has no room for all.
 #[unsafe(no_mangle)]
-pub extern "C" fn tm_brackets(
+pub extern "C" fn tm_raw_brackets(
     alloc: Global,
     handle: &mut Handle,
+    doc: u64,
     from: u64,
     to: u64,
     out: &mut [Bracket],
     count: &mut u64,
 ) -> u32
     ensures kept { KeepsText handle.old.held handle.new.held }
-    ensures brackets { ListsHeld result handle.old.held out.old out.new count.old count.new
+    ensures brackets { ListsHeld result doc handle.old.held out.old out.new count.old count.new
         (λ f. flat_bracket_list f from to) }
 {
-    let mut document = taken!(handle, alloc);
-    let status = brackets_out(alloc, &mut document.session.group, from, to, out, count);
-    handle.put(document);
+    let mut contents = taken_for!(handle, doc, alloc);
+    let status = brackets_out(
+        alloc,
+        &mut contents.session.group,
+        doc,
+        from,
+        to,
+        out,
+        count,
+    );
+    handle.put(contents);
     status.number()
 }
 
-fn match_at(group: &mut Group, at: Position) -> Result<Option<(Position, u64)>, ModelError>
-    ensures partner { Gives result (flat_match (first group.old) at) }
-    ensures sure { FirstIsFresh group.old → ¬ (result ≡ Err ModelError.Memory) }
+fn match_at(
+    group: &mut Group,
+    doc: u64,
+    at: Position,
+) -> Result<Option<(Position, u64)>, ModelError>
+    requires { doc < DOC_COUNT }
+    ensures partner { Gives result (flat_match (document_in group.old doc) at) }
+    ensures sure { IsFreshDoc doc group.old → ¬ (result ≡ Err ModelError.Memory) }
     ensures documents { documents group.new ≡ documents group.old }
 {
-    group.match_at(FIRST, at, &mut Steps::new())
+    group.match_at(doc, at, &mut Steps::new())
 }
 
-fn match_out(group: &mut Group, at: Position, partner: &mut Partner) -> Status
-    ensures partner { FoundOut result partner.old partner.new (flat_partner (first group.old) at) }
-    ensures sure { FirstIsFresh group.old → ¬ (result ≡ Status.Memory) }
+fn match_out(group: &mut Group, doc: u64, at: Position, partner: &mut Partner) -> Status
+    requires { doc < DOC_COUNT }
+    ensures partner { FoundOut result partner.old partner.new
+        (flat_partner (document_in group.old doc) at) }
+    ensures sure { IsFreshDoc doc group.old → ¬ (result ≡ Status.Memory) }
     ensures documents { documents group.new ≡ documents group.old }
 {
-    match match_at(group, at) {
+    match match_at(group, doc, at) {
         Ok(Some((Position { line, column }, units))) => {
             *partner = Partner {
                 line,
@@ -173,40 +202,45 @@ fn match_out(group: &mut Group, at: Position, partner: &mut Partner) -> Status
 pub extern "C" fn tm_match(
     alloc: Global,
     handle: &mut Handle,
+    doc: u64,
     line: u64,
     column: u64,
     partner: &mut Partner,
 ) -> u32
     ensures kept { KeepsText handle.old.held handle.new.held }
-    ensures partner { FoundHeld result handle.old.held partner.old partner.new
+    ensures partner { FoundHeld result doc handle.old.held partner.old partner.new
         (λ f. flat_partner f (at line column)) }
-    ensures sure { IfSome handle.old.held (λ held. FirstIsFresh held.session.group
+    ensures sure { IfSome handle.old.held (λ held. IsFreshDoc doc held.session.group
         → ¬ (result ≡ number_of Status.Memory)) }
 {
-    let mut document = taken!(handle, alloc);
+    let mut contents = taken_for!(handle, doc, alloc);
     let status = match_out(
-        &mut document.session.group,
+        &mut contents.session.group,
+        doc,
         Position { line, column },
         partner,
     );
-    handle.put(document);
+    handle.put(contents);
     status.number()
 }
 
-fn level_at(group: &mut Group, at: Position) -> Result<u64, ModelError>
-    ensures level { Gives result (flat_level (first group.old) at) }
-    ensures sure { FirstIsFresh group.old → ¬ (result ≡ Err ModelError.Memory) }
+fn level_at(group: &mut Group, doc: u64, at: Position) -> Result<u64, ModelError>
+    requires { doc < DOC_COUNT }
+    ensures level { Gives result (flat_level (document_in group.old doc) at) }
+    ensures sure { IsFreshDoc doc group.old → ¬ (result ≡ Err ModelError.Memory) }
     ensures documents { documents group.new ≡ documents group.old }
 {
-    group.level_at(FIRST, at, &mut Steps::new())
+    group.level_at(doc, at, &mut Steps::new())
 }
 
-fn level_out(group: &mut Group, at: Position, level: &mut u64) -> Status
-    ensures level { GivenOut result level.old level.new (flat_level (first group.old) at) }
-    ensures sure { FirstIsFresh group.old → ¬ (result ≡ Status.Memory) }
+fn level_out(group: &mut Group, doc: u64, at: Position, level: &mut u64) -> Status
+    requires { doc < DOC_COUNT }
+    ensures level { GivenOut result level.old level.new
+        (flat_level (document_in group.old doc) at) }
+    ensures sure { IsFreshDoc doc group.old → ¬ (result ≡ Status.Memory) }
     ensures documents { documents group.new ≡ documents group.old }
 {
-    let answer = level_at(group, at);
+    let answer = level_at(group, doc, at);
     Status::of_given(answer, level)
 }
 
@@ -216,22 +250,24 @@ fn level_out(group: &mut Group, at: Position, level: &mut u64) -> Status
 pub extern "C" fn tm_level(
     alloc: Global,
     handle: &mut Handle,
+    doc: u64,
     line: u64,
     column: u64,
     level: &mut u64,
 ) -> u32
     ensures kept { KeepsText handle.old.held handle.new.held }
-    ensures level { GivenHeld result handle.old.held level.old level.new
+    ensures level { GivenHeld result doc handle.old.held level.old level.new
         (λ f. flat_level f (at line column)) }
-    ensures sure { IfSome handle.old.held (λ held. FirstIsFresh held.session.group
+    ensures sure { IfSome handle.old.held (λ held. IsFreshDoc doc held.session.group
         → ¬ (result ≡ number_of Status.Memory)) }
 {
-    let mut document = taken!(handle, alloc);
+    let mut contents = taken_for!(handle, doc, alloc);
     let status = level_out(
-        &mut document.session.group,
+        &mut contents.session.group,
+        doc,
         Position { line, column },
         level,
     );
-    handle.put(document);
+    handle.put(contents);
     status.number()
 }

@@ -1,22 +1,22 @@
 //! Edits, undo and redo, and line endings.
 
-ghost use Rattle.std.specs.Prelude.{◌≡◌, IfOk};
-ghost use Rattle.document_rules.specs.Outcomes.{Changes, Moves};
+ghost use Rattle.std.specs.Prelude.{◌≡◌, ◌<◌, false, Ok, IfOk};
+ghost use Rattle.document_rules.specs.Outcomes.{Changes, Gives, Moves};
+ghost use Rattle.group_rules.specs.declared.TheConstants.{DOC_COUNT};
 ghost use Rattle.document_rules.specs.Document.{flat_stop};
 ghost use Rattle.group_rules.specs.Going.{group_undo, group_redo};
 ghost use Rattle.group_rules.specs.Group.{group_edit};
 ghost use Rattle.model_group.specs.State.{documents};
-ghost use Rattle.textmodel_c.specs.declared.document.TheConstants.{FIRST};
-ghost use Rattle.textmodel_c.specs.First.{first, OnFirst};
-ghost use Rattle.textmodel_c.specs.Rules.{at, span, one_op, op_of, ops_of, span_between, group_edit_at, group_edit_joined, group_eol_as};
-ghost use Rattle.textmodel_c.specs.Told.{Becomes, ChangesDocs, GivesAll, Leaves, MovesDocs, Went};
+ghost use Rattle.textmodel_c.specs.Documents.{document_in, OnDocument};
+ghost use Rattle.textmodel_c.specs.Rules.{at, span, one_op, op_of, ops_of, batch_of, offset_in, span_between, group_edit_at, group_edit_joined, group_eol_as};
+ghost use Rattle.textmodel_c.specs.Told.{Becomes, ChangesHeld, GivesAll, Leaves, MovesDocs, Went};
 
-use crate::document::FIRST;
-use crate::handle::{Handle, taken};
+use crate::handle::{Handle, taken_for};
 use crate::opening::kind_of;
+use crate::positions::{encoding_of, position_in};
 use crate::status::Status;
 use edit_batches::one_op;
-use model_core::{ModelError, Op, Position, Span, Units};
+use model_core::{Encoding, ModelError, Op, Position, Span, Units};
 use model_group::Group;
 use std::alloc::{AllocError, Global};
 
@@ -34,87 +34,119 @@ pub struct BatchOp {
 fn edit_span(
     alloc: Global,
     group: &mut Group,
+    doc: u64,
     span: Span,
     text: &[u16],
-    force: bool,
 ) -> Result<(), ModelError>
+    requires { doc < DOC_COUNT }
     ensures { Changes result (documents group.old) (documents group.new)
-        (group_edit (documents group.old) FIRST (one_op span text.now force)) }
+        (group_edit (documents group.old) doc (one_op span text.now false)) }
 {
-    let ops = one_op(alloc, span, text, force).map_err(|_| ModelError::Memory)?;
-    group.edit(FIRST, ops)
+    let ops = one_op(alloc, span, text, false).map_err(|_| ModelError::Memory)?;
+    group.edit(doc, ops)
 }
 
-/// Puts the text in the place of the units from `start` up to `end`, as the next version. `force` moves decorations at the
-/// place to its end, whatever their stickiness. `Range` where this is no span of the text, `Limit` where the new text or
-/// the version would pass its limit.
+/// Puts the text in the place of the units from `start` up to `end`, as the next version. `Range` where this is no span of the
+/// text, `Limit` where the new text or the version would pass its limit.
 #[unsafe(no_mangle)]
-pub extern "C" fn tm_edit(
+pub extern "C" fn tm_raw_edit(
     alloc: Global,
     handle: &mut Handle,
+    doc: u64,
     start: u64,
     end: u64,
     text: &[u16],
-    force: bool,
 ) -> u32
-    ensures document { Leaves result handle.old.held handle.new.held
-        (ChangesDocs result (λ g. group_edit g FIRST (one_op (span start end) text.now force))) }
+    ensures document { ChangesHeld result doc handle.old.held handle.new.held
+        (λ g. group_edit g doc (one_op (span start end) text.now false)) }
 {
-    let mut document = taken!(handle, alloc);
+    let mut contents = taken_for!(handle, doc, alloc);
     let span = Span { start, end };
-    let answer = edit_span(alloc, &mut document.session.group, span, text, force);
-    handle.put(document);
+    let answer = edit_span(alloc, &mut contents.session.group, doc, span, text);
+    handle.put(contents);
     Status::of_done(answer).number()
 }
 
-fn span_between(group: &mut Group, from: Position, to: Position) -> Option<Span>
-    ensures found { result ≡ span_between (first group.old) from to }
+// The offset of a position. What was looked up is remembered for the edit that comes next.
+fn offset_in(
+    group: &mut Group,
+    doc: u64,
+    encoding: Encoding,
+    at: Position,
+) -> Result<Option<u64>, ModelError>
+    requires { doc < DOC_COUNT }
+    ensures found { Gives result (Ok (offset_in (document_in group.old doc) encoding at)) }
     ensures same { group.new ≡ group.old }
 {
-    let start = group.locate(FIRST, from)?;
-    let end = group.locate(FIRST, to)?;
-    Some(Span { start, end })
+    match position_in(group.doc(doc), encoding, at)? {
+        Some(position) => Ok(group.locate(doc, position)),
+        None => Ok(None),
+    }
+}
+
+fn span_between(
+    group: &mut Group,
+    doc: u64,
+    encoding: Encoding,
+    from: Position,
+    to: Position,
+) -> Result<Option<Span>, ModelError>
+    requires { doc < DOC_COUNT }
+    ensures found { Gives result (Ok (span_between (document_in group.old doc) encoding from to)) }
+    ensures same { group.new ≡ group.old }
+{
+    let start = offset_in(group, doc, encoding, from)?;
+    let end = offset_in(group, doc, encoding, to)?;
+    match (start, end) {
+        (Some(start), Some(end)) => Ok(Some(Span { start, end })),
+        _ => Ok(None),
+    }
 }
 
 fn edit_between(
     alloc: Global,
     group: &mut Group,
+    doc: u64,
+    encoding: u32,
     from: Position,
     to: Position,
     text: &[u16],
-    force: bool,
 ) -> Result<(), ModelError>
+    requires { doc < DOC_COUNT }
     ensures { Changes result (documents group.old) (documents group.new)
-        (group_edit_at from to text.now force (documents group.old)) }
+        (group_edit_at doc encoding from to text.now (documents group.old)) }
 {
-    let span = span_between(group, from, to).ok_or(ModelError::Range)?;
-    edit_span(alloc, group, span, text, force)
+    let encoding = encoding_of(encoding).ok_or(ModelError::Range)?;
+    let span = span_between(group, doc, encoding, from, to)?.ok_or(ModelError::Range)?;
+    edit_span(alloc, group, doc, span, text)
 }
 
-/// `tm_edit` of the units from one position up to another. `Range` where one of them is invalid.
+/// `tm_raw_edit` of the units from one position up to another. A column counts from 1: by `encoding`, which is 8, 16 or 32, bytes of
+/// UTF-8, units of UTF-16 or code points. `Range` also where it is another number, or a position is invalid.
 #[unsafe(no_mangle)]
-pub extern "C" fn tm_edit_at(
+pub extern "C" fn tm_raw_edit_at(
     alloc: Global,
     handle: &mut Handle,
+    doc: u64,
     line: u64,
     column: u64,
     end_line: u64,
     end_column: u64,
+    encoding: u32,
     text: &[u16],
-    force: bool,
 ) -> u32
-    ensures document { Leaves result handle.old.held handle.new.held
-        (ChangesDocs result (group_edit_at (at line column) (at end_line end_column)
-        text.now force)) }
+    ensures document { ChangesHeld result doc handle.old.held handle.new.held
+        (group_edit_at doc encoding (at line column) (at end_line end_column) text.now) }
 {
-    let mut document = taken!(handle, alloc);
+    let mut contents = taken_for!(handle, doc, alloc);
     let from = Position { line, column };
     let to = Position {
         line: end_line,
         column: end_column,
     };
-    let answer = edit_between(alloc, &mut document.session.group, from, to, text, force);
-    handle.put(document);
+    let group = &mut contents.session.group;
+    let answer = edit_between(alloc, group, doc, encoding, from, to, text);
+    handle.put(contents);
     Status::of_done(answer).number()
 }
 
@@ -152,48 +184,62 @@ fn op_of(alloc: Global, op: BatchOp, text: &[u16]) -> Result<Op, AllocError>
     })
 }
 
+// The same of a batch, which is not empty.
+fn batch_of(alloc: Global, batch: &[BatchOp], text: &[u16]) -> Result<Vec<Op>, ModelError>
+    ensures { GivesAll result (batch_of batch.now text.now) }
+{
+    if batch.is_empty() {
+        return Err(ModelError::Range);
+    }
+    ops_of(alloc, batch, text)
+}
+
 fn edit_joined(
     alloc: Global,
     group: &mut Group,
+    doc: u64,
     batch: &[BatchOp],
     text: &[u16],
 ) -> Result<(), ModelError>
+    requires { doc < DOC_COUNT }
     ensures { Changes result (documents group.old) (documents group.new)
-        (group_edit_joined batch.now text.now (documents group.old)) }
+        (group_edit_joined doc batch.now text.now (documents group.old)) }
 {
-    let ops = ops_of(alloc, batch, text)?;
-    group.edit(FIRST, ops)
+    let ops = batch_of(alloc, batch, text)?;
+    group.edit(doc, ops)
 }
 
-/// Carries out the ops at once, as the next version. Their texts stand one after another in `text`. `Range` where these do
-/// not fill it, or a span is invalid; else `Overlap` where two spans overlap; else `Limit` where the new text or
-/// the version would pass its limit.
+/// Carries out the ops at once, as the next version. Their texts stand one after another in `text`. `Range` where there is no op,
+/// the texts do not fill it, or a span is invalid; else `Overlap` where two spans overlap; else `Limit` where the new text or the
+/// version would pass its limit.
 #[unsafe(no_mangle)]
-pub extern "C" fn tm_batch(
+pub extern "C" fn tm_raw_batch(
     alloc: Global,
     handle: &mut Handle,
+    doc: u64,
     batch: &[BatchOp],
     text: &[u16],
 ) -> u32
-    ensures document { Leaves result handle.old.held handle.new.held
-        (ChangesDocs result (group_edit_joined batch.now text.now)) }
+    ensures document { ChangesHeld result doc handle.old.held handle.new.held
+        (group_edit_joined doc batch.now text.now) }
 {
-    let mut document = taken!(handle, alloc);
-    let answer = edit_joined(alloc, &mut document.session.group, batch, text);
-    handle.put(document);
+    let mut contents = taken_for!(handle, doc, alloc);
+    let answer = edit_joined(alloc, &mut contents.session.group, doc, batch, text);
+    handle.put(contents);
     Status::of_done(answer).number()
 }
 
-/// Goes back to the text before the last step, as the next version; `Nothing` where there is none. A step that script lines made
-/// in several documents at once is undone in all of them. `Limit` where a version would pass its limit; else `Joint` where that
+/// Goes back to the text before the last step, as the next version; `Nothing` where there is none. A step that was made in
+/// several documents at once is undone in all of them. `Limit` where a version would pass its limit; else `Joint` where that
 /// step is not the last one of each of them.
 #[unsafe(no_mangle)]
-pub extern "C" fn tm_undo(alloc: Global, handle: &mut Handle) -> u32
-    ensures document { Leaves result handle.old.held handle.new.held (Went result (λ g. group_undo g FIRST)) }
+pub extern "C" fn tm_undo(alloc: Global, handle: &mut Handle, doc: u64) -> u32
+    ensures document { Leaves result doc handle.old.held handle.new.held
+        (Went result (λ g. group_undo g doc)) }
 {
-    let mut document = taken!(handle, alloc);
-    let answer = document.session.group.undo(FIRST);
-    handle.put(document);
+    let mut contents = taken_for!(handle, doc, alloc);
+    let answer = contents.session.group.undo(doc);
+    handle.put(contents);
     Status::of_going(answer).number()
 }
 
@@ -201,50 +247,54 @@ pub extern "C" fn tm_undo(alloc: Global, handle: &mut Handle) -> u32
 /// documents is made again in all of them. `Limit` where a version would pass its limit; else `Joint` where that step is not
 /// the next one of each of them.
 #[unsafe(no_mangle)]
-pub extern "C" fn tm_redo(alloc: Global, handle: &mut Handle) -> u32
-    ensures document { Leaves result handle.old.held handle.new.held (Went result (λ g. group_redo g FIRST)) }
+pub extern "C" fn tm_redo(alloc: Global, handle: &mut Handle, doc: u64) -> u32
+    ensures document { Leaves result doc handle.old.held handle.new.held
+        (Went result (λ g. group_redo g doc)) }
 {
-    let mut document = taken!(handle, alloc);
-    let answer = document.session.group.redo(FIRST);
-    handle.put(document);
+    let mut contents = taken_for!(handle, doc, alloc);
+    let answer = contents.session.group.redo(doc);
+    handle.put(contents);
     Status::of_going(answer).number()
 }
 
-fn stop(group: &mut Group)
-    ensures { OnFirst (λ f g. g ≡ flat_stop f) group.old group.new }
+fn stop(group: &mut Group, doc: u64)
+    requires { doc < DOC_COUNT }
+    ensures { OnDocument doc (λ f g. g ≡ flat_stop f) group.old group.new }
 {
-    group.stop(FIRST);
+    group.stop(doc);
 }
 
 /// The next edit begins a step of undo.
 #[unsafe(no_mangle)]
-pub extern "C" fn tm_stop(alloc: Global, handle: &mut Handle) -> u32
-    ensures document { Leaves result handle.old.held handle.new.held (Becomes result flat_stop) }
+pub extern "C" fn tm_stop(alloc: Global, handle: &mut Handle, doc: u64) -> u32
+    ensures document { Leaves result doc handle.old.held handle.new.held
+        (Becomes result doc flat_stop) }
 {
-    let mut document = taken!(handle, alloc);
-    stop(&mut document.session.group);
-    handle.put(document);
+    let mut contents = taken_for!(handle, doc, alloc);
+    stop(&mut contents.session.group, doc);
+    handle.put(contents);
     Status::Ok.number()
 }
 
-fn set_kind(group: &mut Group, kind: u32) -> Result<bool, ModelError>
+fn set_kind(group: &mut Group, doc: u64, kind: u32) -> Result<bool, ModelError>
+    requires { doc < DOC_COUNT }
     ensures { Moves result (documents group.old) (documents group.new)
-        (group_eol_as kind (documents group.old)) }
+        (group_eol_as doc kind (documents group.old)) }
 {
     let kind = kind_of(kind).ok_or(ModelError::Range)?;
-    group.set_eol(FIRST, kind)
+    group.set_eol(doc, kind)
 }
 
 /// Changes the line endings of the text to those of the kind, as the next version and as a step of undo of its own;
 /// `Nothing` where they are of it. `Range` where there is no kind of this number, else `Limit` where the new text or the
 /// version would pass its limit.
 #[unsafe(no_mangle)]
-pub extern "C" fn tm_set_eol(alloc: Global, handle: &mut Handle, kind: u32) -> u32
-    ensures document { Leaves result handle.old.held handle.new.held
-        (MovesDocs result (group_eol_as kind)) }
+pub extern "C" fn tm_set_eol(alloc: Global, handle: &mut Handle, doc: u64, kind: u32) -> u32
+    ensures document { Leaves result doc handle.old.held handle.new.held
+        (MovesDocs result (group_eol_as doc kind)) }
 {
-    let mut document = taken!(handle, alloc);
-    let answer = set_kind(&mut document.session.group, kind);
-    handle.put(document);
+    let mut contents = taken_for!(handle, doc, alloc);
+    let answer = set_kind(&mut contents.session.group, doc, kind);
+    handle.put(contents);
     Status::of_step(answer).number()
 }

@@ -1,46 +1,63 @@
-//! What C holds of a document.
+//! What C holds of a session.
 
 ghost use Rattle.std.specs.Prelude.{◌≡◌, Option, None, Some};
-ghost use Rattle.textmodel_c.specs.declared.document.Document.{Document};
+ghost use Rattle.textmodel_c.specs.declared.contents.Contents.{Contents};
 ghost use Rattle.textmodel_c.specs.Held.{handle_owns, held_coded};
 ghost use Rattle.std.specs.Option.{MatchOption};
 
 mod raw_box;
 
-use crate::document::Document;
+use crate::contents::Contents;
 use crate::handle::raw_box::RawBox;
 use std::alloc::Global;
 use std::marker::Model;
 use std::mem::replace;
 use std::ptr::null_mut;
 
-/// A document on the heap, or nothing where the address is null. It can't be dropped, so that no document is left behind unseen: what
+/// A session on the heap, or nothing where the address is null. It can't be dropped, so that no session is left behind unseen: what
 /// it holds is taken out.
 #[repr(C)]
 pub struct Handle {
     at: *mut (),
     alloc: Global,
-    pub ghost held: { Option Document } by { held_coded },
+    pub ghost held: { Option Contents } by { held_coded },
 }
 
-/// The document that the handle holds, which is left empty. The call ends with `Empty` where it holds none.
+/// What the handle holds, which is left empty. The call ends with `Empty` where it holds nothing.
 macro_rules! taken {
     ($handle:expr, $alloc:expr) => {
         match $handle.take($alloc) {
-            Some(document) => document,
+            Some(contents) => contents,
             None => return Status::Empty.number(),
         }
     };
 }
 
+/// `taken`, for a call on the document of this number. The call ends with `Unknown`, and the handle is as it was, where there is
+/// none.
+macro_rules! taken_for {
+    ($handle:expr, $doc:expr, $alloc:expr) => {{
+        let contents = match $handle.take($alloc) {
+            Some(contents) => contents,
+            None => return Status::Empty.number(),
+        };
+        if $doc >= model_group::DOC_COUNT {
+            $handle.put(contents);
+            return Status::Unknown.number();
+        }
+        contents
+    }};
+}
+
 pub(crate) use taken;
+pub(crate) use taken_for;
 
 impl Model for Handle {
     ghost also_owns = { λ h. handle_owns h.alloc h.at h.held };
 }
 
 impl Handle {
-    /// The handle of no document.
+    /// The handle of nothing.
     pub(crate) fn empty(alloc: Global) -> Handle
         ensures { result.held ≡ None }
     {
@@ -50,17 +67,17 @@ impl Handle {
         }
     }
 
-    fn of_raw(document: RawBox<Document, Global>) -> Handle
-        ensures { result.held ≡ Some document.value }
+    fn of_raw(contents: RawBox<Contents, Global>) -> Handle
+        ensures { result.held ≡ Some contents.value }
     {
-        let RawBox { at, alloc } = document;
+        let RawBox { at, alloc } = contents;
         Handle {
             at: at as *mut (),
             alloc,
         }
     }
 
-    fn into_raw(self) -> Option<RawBox<Document, Global>>
+    fn into_raw(self) -> Option<RawBox<Contents, Global>>
         ensures { MatchOption result (self.held ≡ None) (λ raw. self.held ≡ Some raw.value) }
     {
         let Handle { at, alloc } = self;
@@ -68,26 +85,26 @@ impl Handle {
             return None;
         }
         Some(RawBox {
-            at: at as *mut Document,
+            at: at as *mut Contents,
             alloc,
         })
     }
 
-    /// Takes the document out, and leaves the handle empty.
-    pub(crate) fn take(&mut self, alloc: Global) -> Option<Box<Document>>
+    /// Takes out what the handle holds, and leaves it empty.
+    pub(crate) fn take(&mut self, alloc: Global) -> Option<Box<Contents>>
         ensures taken { MatchOption result (self.old.held ≡ None)
-            (λ document. self.old.held ≡ Some document.value) }
+            (λ contents. self.old.held ≡ Some contents.value) }
         ensures left { self.new.held ≡ None }
     {
         let raw = replace(self, Handle::empty(alloc)).into_raw()?;
         Some(raw.into_box())
     }
 
-    /// Puts a document into the handle, in place of what it held.
-    pub(crate) fn put(&mut self, document: Box<Document>)
-        ensures { self.new.held ≡ Some document.value }
+    /// Puts this into the handle, in place of what it held.
+    pub(crate) fn put(&mut self, contents: Box<Contents>)
+        ensures { self.new.held ≡ Some contents.value }
     {
-        let held = replace(self, Handle::of_raw(RawBox::of(document)));
+        let held = replace(self, Handle::of_raw(RawBox::of(contents)));
         if let Some(raw) = held.into_raw() {
             drop(raw.into_box());
         }

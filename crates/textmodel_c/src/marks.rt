@@ -1,14 +1,14 @@
 //! Decorations.
 
-ghost use Rattle.std.specs.Prelude.{◌≡◌, ◌++◌, [], map, option_map, IfNone, IfOk, OnOk};
+ghost use Rattle.std.specs.Prelude.{◌≡◌, ◌<◌, ◌++◌, [], map, option_map, IfOk, OnOk};
+ghost use Rattle.group_rules.specs.declared.TheConstants.{DOC_COUNT};
 ghost use Rattle.document_rules.specs.Document.{flat_deco};
 ghost use Rattle.model_core.specs.Decorating.{HasDecorated};
-ghost use Rattle.textmodel_c.specs.First.{first, KeepsOthers};
+ghost use Rattle.textmodel_c.specs.Documents.{document_in, KeepsOthers};
 ghost use Rattle.textmodel_c.specs.Rules.{decoration_of, new_deco_of, owner_of, span, flat_decoration_list};
-ghost use Rattle.textmodel_c.specs.Told.{Asked, Decorated, FoundFor, Leaves, Lists, ListsHeld};
+ghost use Rattle.textmodel_c.specs.Told.{Asked, DecoratesHeld, FoundFor, Lists, ListsHeld};
 
-use crate::document::{FIRST, first};
-use crate::handle::{Handle, taken};
+use crate::handle::{Handle, taken_for};
 use crate::lists::hand_out_of;
 use crate::status::Status;
 use model_core::{Deco, Model, ModelError, NewDeco, Span};
@@ -77,16 +77,18 @@ fn new_decos_of(alloc: Global, add: &[NewDecoration]) -> Result<Vec<NewDeco>, Al
 fn decorate(
     alloc: Global,
     group: &mut Group,
+    doc: u64,
     owner: u64,
     remove: &[u64],
     add: &[NewDecoration],
 ) -> Result<u64, ModelError>
+    requires { doc < DOC_COUNT }
     ensures document { HasDecorated owner remove.now (map new_deco_of add.now) result
-        (first group.old) (first group.new) }
-    ensures others { KeepsOthers group.old group.new }
+        (document_in group.old doc) (document_in group.new doc) }
+    ensures others { KeepsOthers doc group.old group.new }
 {
     let add = new_decos_of(alloc, add).map_err(|_| ModelError::Memory)?;
-    group.decorate(FIRST, owner, remove, &add)
+    group.decorate(doc, owner, remove, &add)
 }
 
 /// Takes decorations of an owner out and puts new ones in, all of it or none, and tells the first new id, or the next free
@@ -94,21 +96,21 @@ fn decorate(
 /// `Range` where a span is invalid or a mode is above 3; else `Limit` where too many would be live, or an id
 /// would pass the greatest one.
 #[unsafe(no_mangle)]
-pub extern "C" fn tm_decorate(
+pub extern "C" fn tm_raw_decorate(
     alloc: Global,
     handle: &mut Handle,
+    doc: u64,
     owner: u64,
     remove: &[u64],
     add: &[NewDecoration],
     first: &mut u64,
 ) -> u32
-    ensures document { Leaves result handle.old.held handle.new.held
-        (Decorated result first.old first.new owner remove.now (map new_deco_of add.now)) }
-    ensures empty { IfNone handle.old.held (first.new ≡ first.old) }
+    ensures document { DecoratesHeld result doc handle.old.held handle.new.held
+        first.old first.new owner remove.now (map new_deco_of add.now) }
 {
-    let mut document = taken!(handle, alloc);
-    let answer = decorate(alloc, &mut document.session.group, owner, remove, add);
-    handle.put(document);
+    let mut contents = taken_for!(handle, doc, alloc);
+    let answer = decorate(alloc, &mut contents.session.group, doc, owner, remove, add);
+    handle.put(contents);
     Status::of_given(answer, first).number()
 }
 
@@ -117,16 +119,17 @@ pub extern "C" fn tm_decorate(
 pub extern "C" fn tm_deco(
     alloc: Global,
     handle: &mut Handle,
+    doc: u64,
     id: u64,
     decoration: &mut Decoration,
 ) -> u32
     ensures kept { handle.new.held ≡ handle.old.held }
-    ensures decoration { Asked result handle.old.held decoration.old decoration.new
+    ensures decoration { Asked result doc handle.old.held decoration.old decoration.new
         (λ f. option_map decoration_of (flat_deco f id)) }
 {
-    let document = taken!(handle, alloc);
-    let found = first(&document.session.group).get_deco(id);
-    handle.put(document);
+    let contents = taken_for!(handle, doc, alloc);
+    let found = contents.document(doc).get_deco(id);
+    handle.put(contents);
     let Some(found) = found else {
         return Status::Nothing.number();
     };
@@ -185,9 +188,10 @@ fn decorations_out(
 /// the owner, or all where `any` is set. `Range` where this is no span of the text; `Short` where `out` has no room for
 /// all.
 #[unsafe(no_mangle)]
-pub extern "C" fn tm_decos(
+pub extern "C" fn tm_raw_decos(
     alloc: Global,
     handle: &mut Handle,
+    doc: u64,
     start: u64,
     end: u64,
     owner: u64,
@@ -196,20 +200,13 @@ pub extern "C" fn tm_decos(
     count: &mut u64,
 ) -> u32
     ensures kept { handle.new.held ≡ handle.old.held }
-    ensures decorations { ListsHeld result handle.old.held out.old out.new count.old count.new
+    ensures decorations { ListsHeld result doc handle.old.held out.old out.new count.old count.new
         (λ f. flat_decoration_list f (span start end) (owner_of owner any)) }
 {
-    let document = taken!(handle, alloc);
+    let contents = taken_for!(handle, doc, alloc);
     let span = Span { start, end };
     let owner = owner_of(owner, any);
-    let status = decorations_out(
-        alloc,
-        first(&document.session.group),
-        span,
-        owner,
-        out,
-        count,
-    );
-    handle.put(document);
+    let status = decorations_out(alloc, contents.document(doc), span, owner, out, count);
+    handle.put(contents);
     status.number()
 }

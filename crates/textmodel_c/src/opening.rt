@@ -2,14 +2,15 @@
 
 ghost use Rattle.std.specs.Prelude.{◌≡◌, ◌+◌, ◌<◌, ◌≤◌, length, IfOk, IfNone, IfSome};
 ghost use Rattle.document_rules.specs.Outcomes.{Gives};
-ghost use Rattle.model_group.specs.State.{documents};
-ghost use Rattle.textmodel_c.specs.Rules.{kind_of, pair_of, pairs_of, table_or_range, group_open_as, group_open_with};
-ghost use Rattle.textmodel_c.specs.Told.{GivesAll, HasOpenedUtf8, Leaves, Opened, OpenedUtf8, Opens};
+ghost use Rattle.group_rules.specs.declared.TheConstants.{DOC_COUNT};
+ghost use Rattle.hiding_rules.specs.Marks.{marks};
+ghost use Rattle.textmodel_c.specs.Rules.{kind_of, pair_of, pairs_of, table_of, line_mark, block_marks, checked_marks, marks_of, scanning_of, scanning_in};
+ghost use Rattle.textmodel_c.specs.Told.{AfterOpening, FaultHeld, GivesAll, OpenedUtf8, OpensAs, OpensHeld, OpensUtf8, TellsFault};
 
-use crate::document::FIRST;
-use crate::handle::{Handle, taken};
+use crate::contents::Contents;
+use crate::handle::{Handle, taken_for};
 use crate::status::Status;
-use model_core::{BracketTable, Hiding, ModelError, TableError, Units, units_of};
+use model_core::{BracketTable, Hiding, HidingError, ModelError, TableError, Units, units_of};
 use sessions::Session;
 use std::alloc::{AllocError, Global};
 use std::str::from_utf8;
@@ -33,28 +34,6 @@ pub(crate) fn kind_of(number: u32) -> Option<Kind>
         2 => Some(Kind::Crlf),
         _ => None,
     }
-}
-
-fn open_as(session: &mut Session, text: &[u16], kind: u32) -> Result<(), ModelError>
-    ensures { Opens result session.old session.new
-        (group_open_as kind text.now (documents session.old.group)) }
-{
-    let kind = kind_of(kind).ok_or(ModelError::Range)?;
-    session.open_doc(FIRST, text, BracketTable::standard(), kind, Hiding::none())
-}
-
-/// Puts a new document with this text in place of the one that the calls are on, with the brackets `()`, `[]` and `{}`. `kind` is 0 for
-/// line endings as they come, 1 for LF and 2 for CR LF, which the text then gets. `Range` where it is another number,
-/// else `Limit` where the text would be too long.
-#[unsafe(no_mangle)]
-pub extern "C" fn tm_open(alloc: Global, handle: &mut Handle, text: &[u16], kind: u32) -> u32
-    ensures document { Leaves result handle.old.held handle.new.held
-        (Opened result (group_open_as kind text.now)) }
-{
-    let mut document = taken!(handle, alloc);
-    let answer = open_as(&mut document.session, text, kind);
-    handle.put(document);
-    Status::of_done(answer).number()
 }
 
 // The pairs with their texts, which stand one after another in the joined one and fill it.
@@ -100,13 +79,17 @@ fn pair_of(alloc: Global, pair: PairUnits, text: &[u16]) -> Result<(Units, Units
     Ok((opening, closing))
 }
 
+// The brackets of the pairs, or the usual ones where there is no pair.
 fn table_of(
     alloc: Global,
     pairs: &[PairUnits],
     brackets: &[u16],
 ) -> Result<BracketTable, ModelError>
-    ensures { Gives result (table_or_range (pairs_of pairs.now brackets.now)) }
+    ensures { Gives result (table_of pairs.now brackets.now) }
 {
+    if pairs.is_empty() && brackets.is_empty() {
+        return Ok(BracketTable::standard());
+    }
     let pairs = pairs_of(alloc, pairs, brackets)?;
     match BracketTable::new(alloc, pairs.as_slice()) {
         Ok(table) => Ok(table),
@@ -115,43 +98,144 @@ fn table_of(
     }
 }
 
-fn open_with(
+// The text that begins a line comment; None where it has no unit.
+fn line_mark(alloc: Global, text: &[u16]) -> Result<Option<Units>, AllocError>
+    ensures { IfOk result (λ mark. mark ≡ line_mark text.now) }
+{
+    if text.is_empty() {
+        return Ok(None);
+    }
+    Ok(Some(Units::copy_of(alloc, text)?))
+}
+
+// The texts that begin and end a block comment; None where they have no unit.
+fn block_marks(
+    alloc: Global,
+    block: PairUnits,
+    text: &[u16],
+) -> Result<Option<(Units, Units)>, AllocError>
+    requires { block.opening + block.closing ≡ length text.now }
+    ensures { IfOk result (λ marks. marks ≡ block_marks block text.now) }
+{
+    if text.is_empty() {
+        return Ok(None);
+    }
+    Ok(Some(pair_of(alloc, block, text)?))
+}
+
+fn checked(
+    line: Option<Units>,
+    block: Option<(Units, Units)>,
+    quotes: &[u16],
+) -> Result<Hiding, ModelError>
+    ensures { Gives result (checked_marks (marks line block quotes.now)) }
+{
+    match Hiding::new(line, block, quotes) {
+        Ok(hiding) => Ok(hiding),
+        Err(HidingError::BadMarks) => Err(ModelError::Range),
+    }
+}
+
+// What the marks hide, of which the first has so many units.
+fn hiding_of(
+    alloc: Global,
+    line: u64,
+    block: PairUnits,
+    marks: &[u16],
+) -> Result<Hiding, ModelError>
+    ensures { Gives result (marks_of line block marks.now) }
+{
+    if line > marks.len() as u64 {
+        return Err(ModelError::Range);
+    }
+    let (line, rest) = marks.split_at(line as usize);
+    let units = units_of_pair(block, rest.len()).ok_or(ModelError::Range)?;
+    let (both, quotes) = rest.split_at(units);
+    let line = line_mark(alloc, line).map_err(|_| ModelError::Memory)?;
+    let block = block_marks(alloc, block, both).map_err(|_| ModelError::Memory)?;
+    checked(line, block, quotes)
+}
+
+fn open_as(
     session: &mut Session,
+    doc: u64,
     text: &[u16],
     kind: u32,
     pairs: &[PairUnits],
     brackets: &[u16],
+    line: u64,
+    block: PairUnits,
+    marks: &[u16],
 ) -> Result<(), ModelError>
-    ensures { Opens result session.old session.new
-        (group_open_with kind pairs.now brackets.now text.now (documents session.old.group)) }
+    requires { doc < DOC_COUNT }
+    ensures { OpensAs result doc kind
+        (scanning_of pairs.now brackets.now line block marks.now) text.now
+        session.old session.new }
 {
     let kind = kind_of(kind).ok_or(ModelError::Range)?;
     let table = table_of(session.alloc, pairs, brackets)?;
-    session.open_doc(FIRST, text, table, kind, Hiding::none())
+    let hiding = hiding_of(session.alloc, line, block, marks)?;
+    session.open_doc(doc, text, table, kind, hiding)
 }
 
-/// `tm_open` with brackets of its own: 1 to 64 pairs, whose texts stand one after another in `brackets`, each with 1 to 32 units
-/// without CR or LF, and all of them distinct. `Range` where they are not so, or do not fill it.
+/// Puts a new document with this text in place of the one of this number. `kind` is 0 for line endings as they come, 1 for LF and 2
+/// for CR LF, which the text then gets.
+///
+/// The brackets are 1 to 64 pairs, whose texts stand one after another in `brackets`, each with 1 to 32 units without CR or LF, and
+/// all of them distinct; or `()`, `[]` and `{}`, where there is no pair. Brackets in comments and strings are hidden: `marks` has,
+/// one after another, the text of `line` units that begins a line comment, the texts of `opening` and `closing` units that begin and
+/// end a block comment, and up to 8 quotes of one unit each. A text of no unit stands for none.
+///
+/// `Range` where the kind, the pairs or the marks are invalid, else `Limit` where the text would be too long.
 #[unsafe(no_mangle)]
-pub extern "C" fn tm_open_with(
+pub extern "C" fn tm_raw_open(
     alloc: Global,
     handle: &mut Handle,
+    doc: u64,
+    kind: u32,
     text: &[u16],
+    pairs: &[PairUnits],
+    brackets: &[u16],
+    line: u64,
+    opening: u64,
+    closing: u64,
+    marks: &[u16],
+) -> u32
+    ensures document { OpensHeld result doc kind
+        (scanning_in pairs.now brackets.now line opening closing marks.now) text.now
+        handle.old.held handle.new.held }
+{
+    let mut contents = taken_for!(handle, doc, alloc);
+    let block = PairUnits { opening, closing };
+    let session = &mut contents.session;
+    let answer = open_as(
+        session, doc, text, kind, pairs, brackets, line, block, marks,
+    );
+    let status = Status::of_done(answer);
+    if let Status::Ok = status {
+        contents.telling = None;
+    }
+    handle.put(contents);
+    status.number()
+}
+
+fn open_utf8(
+    session: &mut Session,
+    doc: u64,
+    text: &[u8],
     kind: u32,
     pairs: &[PairUnits],
     brackets: &[u16],
-) -> u32
-    ensures document { Leaves result handle.old.held handle.new.held
-        (Opened result (group_open_with kind pairs.now brackets.now text.now)) }
-{
-    let mut document = taken!(handle, alloc);
-    let answer = open_with(&mut document.session, text, kind, pairs, brackets);
-    handle.put(document);
-    Status::of_done(answer).number()
-}
-
-fn open_utf8(session: &mut Session, text: &[u8], kind: u32, bad: &mut u64) -> Status
-    ensures { OpenedUtf8 result kind text.now bad.old bad.new session.old session.new }
+    line: u64,
+    block: PairUnits,
+    marks: &[u16],
+    bad: &mut u64,
+) -> Status
+    requires { doc < DOC_COUNT }
+    ensures opened { OpenedUtf8 result doc kind
+        (scanning_of pairs.now brackets.now line block marks.now) text.now
+        session.old session.new }
+    ensures fault { TellsFault text.now bad.old bad.new }
 {
     let text = match from_utf8(text) {
         Ok(text) => text,
@@ -164,25 +248,78 @@ fn open_utf8(session: &mut Session, text: &[u8], kind: u32, bad: &mut u64) -> St
     if units_of(text, &mut units).is_err() {
         return Status::Memory;
     }
-    Status::of_done(open_as(session, &units, kind))
+    let answer = open_as(
+        session, doc, &units, kind, pairs, brackets, line, block, marks,
+    );
+    Status::of_done(answer)
 }
 
-/// `tm_open` of a text in UTF-8. `Encoding` where it is none: `bad` is then how many bytes stand before the first that is
-/// at fault, and is left alone else.
-#[unsafe(no_mangle)]
-pub extern "C" fn tm_open_utf8(
-    alloc: Global,
-    handle: &mut Handle,
+// `open_utf8`, after which nothing is told of a change.
+fn open_utf8_in(
+    contents: &mut Contents,
+    doc: u64,
     text: &[u8],
     kind: u32,
+    pairs: &[PairUnits],
+    brackets: &[u16],
+    line: u64,
+    block: PairUnits,
+    marks: &[u16],
+    bad: &mut u64,
+) -> Status
+    requires { doc < DOC_COUNT }
+    ensures opened { OpenedUtf8 result doc kind
+        (scanning_of pairs.now brackets.now line block marks.now) text.now
+        contents.old.session contents.new.session }
+    ensures fault { TellsFault text.now bad.old bad.new }
+    ensures after { AfterOpening result contents.old contents.new }
+{
+    let session = &mut contents.session;
+    let status = open_utf8(
+        session, doc, text, kind, pairs, brackets, line, block, marks, bad,
+    );
+    if let Status::Ok = status {
+        contents.telling = None;
+    }
+    status
+}
+
+/// `tm_raw_open` of a text in UTF-8. `Encoding` where it is none: `bad` is then how many bytes stand before the first that is
+/// at fault, and is left alone else.
+#[unsafe(no_mangle)]
+pub extern "C" fn tm_raw_open_utf8(
+    alloc: Global,
+    handle: &mut Handle,
+    doc: u64,
+    kind: u32,
+    text: &[u8],
+    pairs: &[PairUnits],
+    brackets: &[u16],
+    line: u64,
+    opening: u64,
+    closing: u64,
+    marks: &[u16],
     bad: &mut u64,
 ) -> u32
-    ensures document { Leaves result handle.old.held handle.new.held
-        (HasOpenedUtf8 result kind text.now bad.old bad.new) }
-    ensures empty { IfNone handle.old.held (bad.new ≡ bad.old) }
+    ensures document { OpensUtf8 result doc kind
+        (scanning_in pairs.now brackets.now line opening closing marks.now) text.now
+        handle.old.held handle.new.held }
+    ensures fault { FaultHeld result doc handle.old.held text.now bad.old bad.new }
 {
-    let mut document = taken!(handle, alloc);
-    let status = open_utf8(&mut document.session, text, kind, bad);
-    handle.put(document);
+    let mut contents = taken_for!(handle, doc, alloc);
+    let block = PairUnits { opening, closing };
+    let status = open_utf8_in(
+        &mut contents,
+        doc,
+        text,
+        kind,
+        pairs,
+        brackets,
+        line,
+        block,
+        marks,
+        bad,
+    );
+    handle.put(contents);
     status.number()
 }

@@ -1,13 +1,14 @@
 //! Where a text stands in the document, and a replace of all of it.
 
-ghost use Rattle.std.specs.Prelude.{◌≡◌, ◌++◌, [], map, OnOk};
+ghost use Rattle.std.specs.Prelude.{◌≡◌, ◌<◌, ◌++◌, [], length, map, IfOk, OnOk};
 ghost use Rattle.document_rules.specs.Outcomes.{Moves};
+ghost use Rattle.group_rules.specs.declared.TheConstants.{DOC_COUNT};
 ghost use Rattle.model_group.specs.State.{documents};
+ghost use Rattle.search_rules.specs.Replacing.{flat_find};
 ghost use Rattle.textmodel_c.specs.Rules.{found_of, flat_find_list, group_replace_some};
-ghost use Rattle.textmodel_c.specs.Told.{FoundFor, Leaves, Lists, ListsHeld, MovesDocs};
+ghost use Rattle.textmodel_c.specs.Told.{FoundFor, LeavesWith, Lists, ListsHeld, Replaced, Replaces};
 
-use crate::document::{FIRST, first};
-use crate::handle::{Handle, taken};
+use crate::handle::{Handle, taken_for};
 use crate::lists::hand_out_of;
 use crate::status::Status;
 use model_core::{Model, ModelError, Span};
@@ -78,48 +79,89 @@ fn found_out(
 /// The spans at which the text stands, from left to right, none overlapping the one before, and how many they are. Unit stands for
 /// unit. `Range` where the text is empty; `Short` where `out` has no room for all.
 #[unsafe(no_mangle)]
-pub extern "C" fn tm_find(
+pub extern "C" fn tm_raw_find(
     alloc: Global,
     handle: &mut Handle,
+    doc: u64,
     sought: &[u16],
     out: &mut [Found],
     count: &mut u64,
 ) -> u32
     ensures kept { handle.new.held ≡ handle.old.held }
-    ensures found { ListsHeld result handle.old.held out.old out.new count.old count.new
+    ensures found { ListsHeld result doc handle.old.held out.old out.new count.old count.new
         (λ f. flat_find_list f sought.now) }
 {
-    let document = taken!(handle, alloc);
-    let status = found_out(alloc, first(&document.session.group), sought, out, count);
-    handle.put(document);
+    let contents = taken_for!(handle, doc, alloc);
+    let status = found_out(alloc, contents.document(doc), sought, out, count);
+    handle.put(contents);
     status.number()
 }
 
-fn replace_some(group: &mut Group, sought: &[u16], with: &[u16]) -> Result<bool, ModelError>
+// How many times the text stands in the document.
+fn count_found(alloc: Global, model: &Model, sought: &[u16]) -> Result<u64, AllocError>
+    requires { 0 < length sought.now }
+    ensures { IfOk result (λ n. n ≡ length (flat_find model.now.document sought.now)) }
+{
+    let mut spans = Vec::new(alloc);
+    model.find_counted(sought, &mut spans, &mut Steps::new())?;
+    Ok(spans.len() as u64)
+}
+
+fn replace_found(
+    group: &mut Group,
+    doc: u64,
+    sought: &[u16],
+    with: &[u16],
+) -> Result<bool, ModelError>
+    requires there { doc < DOC_COUNT }
+    requires some { 0 < length sought.now }
     ensures { Moves result (documents group.old) (documents group.new)
-        (group_replace_some sought.now with.now (documents group.old)) }
+        (group_replace_some doc sought.now with.now (documents group.old)) }
+{
+    group.replace_all(doc, sought, with)
+}
+
+fn replace_some(
+    alloc: Global,
+    group: &mut Group,
+    doc: u64,
+    sought: &[u16],
+    with: &[u16],
+    count: &mut u64,
+) -> Result<bool, ModelError>
+    requires { doc < DOC_COUNT }
+    ensures { Replaces doc sought.now with.now count.old count.new result
+        group.old group.new }
 {
     if sought.is_empty() {
         return Err(ModelError::Range);
     }
-    group.replace_all(FIRST, sought, with)
+    let found = count_found(alloc, group.doc(doc), sought).map_err(|_| ModelError::Memory)?;
+    let is_changed = replace_found(group, doc, sought, with)?;
+    if is_changed {
+        *count = found;
+    }
+    Ok(is_changed)
 }
 
-/// Puts a text in the place of each span that `tm_find` finds, at once, as the next version and as a step of undo of its own;
-/// `Nothing` where nothing is found. `Range` where the sought text is empty, else `Limit` where the new text or the version would
-/// pass its limit.
+/// Puts a text in the place of each span that `tm_raw_find` finds, at once, as the next version and as a step of undo of its own, and
+/// tells how many these are; `Nothing` where nothing is found. `Range` where the sought text is empty, else `Limit` where the new text
+/// or the version would pass its limit.
 #[unsafe(no_mangle)]
-pub extern "C" fn tm_replace_all(
+pub extern "C" fn tm_raw_replace_all(
     alloc: Global,
     handle: &mut Handle,
+    doc: u64,
     sought: &[u16],
     with: &[u16],
+    count: &mut u64,
 ) -> u32
-    ensures document { Leaves result handle.old.held handle.new.held
-        (MovesDocs result (group_replace_some sought.now with.now)) }
+    ensures document { LeavesWith result doc handle.old.held handle.new.held (count.new ≡ count.old)
+        (Replaced result doc sought.now with.now count.old count.new) }
 {
-    let mut document = taken!(handle, alloc);
-    let answer = replace_some(&mut document.session.group, sought, with);
-    handle.put(document);
+    let mut contents = taken_for!(handle, doc, alloc);
+    let group = &mut contents.session.group;
+    let answer = replace_some(alloc, group, doc, sought, with, count);
+    handle.put(contents);
     Status::of_step(answer).number()
 }

@@ -1,10 +1,11 @@
 //! How a call ended.
 
 ghost use Rattle.std.specs.Prelude.{◌≡◌};
-ghost use Rattle.textmodel_c.specs.Statuses.{number_of, status_of_error, status_of_group_error, status_of_step, status_of_going, status_of_given, given_or};
+ghost use Rattle.textmodel_c.specs.Statuses.{number_of, status_of_error, status_of_group_error, status_of_refusal, status_of_step, status_of_going, status_of_joint, status_of_given, given_or, status_of_found, found_or};
 
 use model_core::ModelError;
 use model_group::GroupError;
+use script_lines::Refusal;
 
 /// How a call ended: `Ok` or `Nothing`, or why it changed nothing.
 #[derive(Clone, Copy)]
@@ -12,9 +13,9 @@ pub enum Status {
     Ok,
     /// There is no such step, decoration, partner, offset or position, or the kind is the same.
     Nothing,
-    /// A named thing is not there.
+    /// There is no document, decoration, snapshot, event or mirror of this number.
     Unknown,
-    /// A place, a line, a span, a kind or a mode is none.
+    /// A place, a line, a span, a kind, a mode, an encoding or a text is invalid.
     Range,
     /// Two edits of a batch overlap.
     Overlap,
@@ -24,12 +25,14 @@ pub enum Status {
     Memory,
     /// The text is no UTF-8.
     Encoding,
-    /// The handle holds no document.
+    /// The handle holds nothing.
     Empty,
     /// The place for the answer is too short.
     Short,
     /// A step of several documents is not the next one of each of them.
     Joint,
+    /// Events before this one are missing.
+    Gap,
 }
 
 impl Status {
@@ -49,6 +52,7 @@ impl Status {
             Status::Empty => 8,
             Status::Short => 9,
             Status::Joint => 10,
+            Status::Gap => 11,
         }
     }
 
@@ -74,6 +78,22 @@ impl Status {
             GroupError::Limit => Status::Limit,
             GroupError::Joint { .. } => Status::Joint,
             GroupError::Memory => Status::Memory,
+        }
+    }
+
+    /// The status of a command of a script that is refused for this reason.
+    pub(crate) fn of_refusal(reason: Refusal) -> Status
+        ensures { result ≡ status_of_refusal reason }
+    {
+        match reason {
+            Refusal::Syntax => Status::Range,
+            Refusal::Unknown => Status::Unknown,
+            Refusal::Range => Status::Range,
+            Refusal::Overlap => Status::Overlap,
+            Refusal::Limit => Status::Limit,
+            Refusal::Memory => Status::Memory,
+            Refusal::Gap { .. } => Status::Gap,
+            Refusal::Joint { .. } => Status::Joint,
         }
     }
 
@@ -106,6 +126,31 @@ impl Status {
             Ok(true) => Status::Ok,
             Ok(false) => Status::Nothing,
             Err(error) => Status::of_group_error(error),
+        }
+    }
+
+    /// The status of a call on several documents that answers nothing.
+    pub(crate) fn of_joint(answer: Result<(), GroupError>) -> Status
+        ensures { result ≡ status_of_joint answer }
+    {
+        match answer {
+            Ok(()) => Status::Ok,
+            Err(error) => Status::of_group_error(error),
+        }
+    }
+
+    /// The status of a call that answers something where there is anything, which is handed out.
+    pub(crate) fn of_found<T: Copy>(answer: Result<Option<T>, ModelError>, out: &mut T) -> Status
+        ensures status { result ≡ status_of_found answer }
+        ensures given { out.new ≡ found_or out.old answer }
+    {
+        match answer {
+            Ok(Some(found)) => {
+                *out = found;
+                Status::Ok
+            }
+            Ok(None) => Status::Nothing,
+            Err(error) => Status::of_error(error),
         }
     }
 

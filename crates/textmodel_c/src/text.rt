@@ -1,74 +1,72 @@
-//! A document is made and freed, and its text is asked for.
+//! A session is made and freed, and the text of a document is asked for.
 
-ghost use Rattle.std.specs.Prelude.{◌≡◌, Some, None, option_map, length, is_some, slice_get};
+ghost use Rattle.std.specs.Prelude.{◌≡◌, Some, None, length, is_some, slice_get};
 ghost use Rattle.document_rules.specs.Outcomes.{Appends};
-ghost use Rattle.document_rules.specs.Document.{flat_line, flat_value, flat_position, flat_offset, flat_line_count};
-ghost use Rattle.textmodel_c.specs.Rules.{at, span, place_of, number_of_kind, fitting_span, flat_line_utf8};
-ghost use Rattle.textmodel_c.specs.Told.{Asked, Freed, Holds, Lists, ListsHeld, Made};
+ghost use Rattle.document_rules.specs.Document.{flat_line, flat_value, flat_line_count};
+ghost use Rattle.textmodel_c.specs.Rules.{span, number_of_kind, fitting_span, flat_read, flat_line_utf8};
+ghost use Rattle.textmodel_c.specs.Statuses.{number_of};
+ghost use Rattle.textmodel_c.specs.Told.{Asked, Holds, Lists, ListsHeld, Made};
 
-use crate::document::{Document, first};
-use crate::handle::{Handle, taken};
+use crate::contents::Contents;
+use crate::handle::{Handle, taken_for};
 use crate::lists::hand_out_of;
 use crate::status::Status;
-use model_core::{Model, ModelError, Position, Span, utf8_of};
+use model_core::{Model, ModelError, Span, utf8_of};
 use std::alloc::Global;
-use steps::Steps;
 use unit_text::Kind;
-
-/// A place as a line and a column, both counted from 1. A column counts UTF-16 units.
-#[repr(C)]
-#[derive(Clone, Copy)]
-pub struct Place {
-    pub line: u64,
-    pub column: u64,
-}
 
 /// Puts a session of 64 new empty documents into the handle, in place of what it held. `Memory` where there is none for it.
 #[unsafe(no_mangle)]
 pub extern "C" fn tm_make(alloc: Global, handle: &mut Handle) -> u32
     ensures { Made result handle.old.held handle.new.held }
 {
-    let Ok(document) = Document::new(alloc) else {
+    let Ok(contents) = Contents::new(alloc) else {
         return Status::Memory.number();
     };
-    handle.put(document);
+    handle.put(contents);
     Status::Ok.number()
 }
 
-/// Frees the documents, and leaves the handle empty.
+/// Frees what the handle holds, if it holds anything, and leaves it empty.
 #[unsafe(no_mangle)]
 pub extern "C" fn tm_free(alloc: Global, handle: &mut Handle) -> u32
     ensures left { handle.new.held ≡ None }
-    ensures freed { Freed result handle.old.held }
+    ensures freed { result ≡ number_of Status.Ok }
 {
-    let document = taken!(handle, alloc);
-    drop(document);
+    if let Some(contents) = handle.take(alloc) {
+        drop(contents);
+    }
     Status::Ok.number()
 }
 
 /// How many units the text has.
 #[unsafe(no_mangle)]
-pub extern "C" fn tm_len(alloc: Global, handle: &mut Handle, len: &mut u64) -> u32
+pub extern "C" fn tm_len(alloc: Global, handle: &mut Handle, doc: u64, len: &mut u64) -> u32
     ensures kept { handle.new.held ≡ handle.old.held }
-    ensures len { Asked result handle.old.held len.old len.new
+    ensures len { Asked result doc handle.old.held len.old len.new
         (λ f. Some (length f.units)) }
 {
-    let document = taken!(handle, alloc);
-    *len = first(&document.session.group).len();
-    handle.put(document);
+    let contents = taken_for!(handle, doc, alloc);
+    *len = contents.document(doc).len();
+    handle.put(contents);
     Status::Ok.number()
 }
 
 /// How many lines the text has.
 #[unsafe(no_mangle)]
-pub extern "C" fn tm_line_count(alloc: Global, handle: &mut Handle, count: &mut u64) -> u32
+pub extern "C" fn tm_line_count(
+    alloc: Global,
+    handle: &mut Handle,
+    doc: u64,
+    count: &mut u64,
+) -> u32
     ensures kept { handle.new.held ≡ handle.old.held }
-    ensures count { Asked result handle.old.held count.old count.new
+    ensures count { Asked result doc handle.old.held count.old count.new
         (λ f. Some (flat_line_count f)) }
 {
-    let document = taken!(handle, alloc);
-    *count = first(&document.session.group).line_count();
-    handle.put(document);
+    let contents = taken_for!(handle, doc, alloc);
+    *count = contents.document(doc).line_count();
+    handle.put(contents);
     Status::Ok.number()
 }
 
@@ -84,14 +82,14 @@ fn number_of_kind(kind: Kind) -> u32
 
 /// The kind of line ending that all those of the text are of: 0 for any, 1 for LF, 2 for CR LF.
 #[unsafe(no_mangle)]
-pub extern "C" fn tm_kind(alloc: Global, handle: &mut Handle, kind: &mut u32) -> u32
+pub extern "C" fn tm_kind(alloc: Global, handle: &mut Handle, doc: u64, kind: &mut u32) -> u32
     ensures kept { handle.new.held ≡ handle.old.held }
-    ensures kind { Asked result handle.old.held kind.old kind.new
+    ensures kind { Asked result doc handle.old.held kind.old kind.new
         (λ f. Some (number_of_kind f.kind)) }
 {
-    let document = taken!(handle, alloc);
-    *kind = number_of_kind(first(&document.session.group).kind());
-    handle.put(document);
+    let contents = taken_for!(handle, doc, alloc);
+    *kind = number_of_kind(contents.document(doc).kind());
+    handle.put(contents);
     Status::Ok.number()
 }
 
@@ -100,93 +98,46 @@ pub extern "C" fn tm_kind(alloc: Global, handle: &mut Handle, kind: &mut u32) ->
 pub extern "C" fn tm_versions(
     alloc: Global,
     handle: &mut Handle,
+    doc: u64,
     version: &mut u64,
     alternative: &mut u64,
 ) -> u32
     ensures kept { handle.new.held ≡ handle.old.held }
-    ensures version { Asked result handle.old.held version.old version.new
+    ensures version { Asked result doc handle.old.held version.old version.new
         (λ f. Some f.version) }
-    ensures alternative { Asked result handle.old.held alternative.old alternative.new
+    ensures alternative { Asked result doc handle.old.held alternative.old alternative.new
         (λ f. Some f.alternative) }
 {
-    let document = taken!(handle, alloc);
-    (*version, *alternative) = first(&document.session.group).versions();
-    handle.put(document);
+    let contents = taken_for!(handle, doc, alloc);
+    (*version, *alternative) = contents.document(doc).versions();
+    handle.put(contents);
     Status::Ok.number()
 }
 
 /// Whether there is a step to undo; `Nothing` where there is none.
 #[unsafe(no_mangle)]
-pub extern "C" fn tm_can_undo(alloc: Global, handle: &mut Handle) -> u32
+pub extern "C" fn tm_can_undo(alloc: Global, handle: &mut Handle, doc: u64) -> u32
     ensures kept { handle.new.held ≡ handle.old.held }
-    ensures can { Holds result handle.old.held
+    ensures can { Holds result doc handle.old.held
         (λ f. is_some (slice_get f.history.undo 0)) }
 {
-    let document = taken!(handle, alloc);
-    let can = first(&document.session.group).can_undo();
-    handle.put(document);
+    let contents = taken_for!(handle, doc, alloc);
+    let can = contents.document(doc).can_undo();
+    handle.put(contents);
     Status::of_step(Ok(can)).number()
 }
 
 /// Whether there is a step to make again; `Nothing` where there is none.
 #[unsafe(no_mangle)]
-pub extern "C" fn tm_can_redo(alloc: Global, handle: &mut Handle) -> u32
+pub extern "C" fn tm_can_redo(alloc: Global, handle: &mut Handle, doc: u64) -> u32
     ensures kept { handle.new.held ≡ handle.old.held }
-    ensures can { Holds result handle.old.held
+    ensures can { Holds result doc handle.old.held
         (λ f. is_some (slice_get f.history.redo 0)) }
 {
-    let document = taken!(handle, alloc);
-    let can = first(&document.session.group).can_redo();
-    handle.put(document);
+    let contents = taken_for!(handle, doc, alloc);
+    let can = contents.document(doc).can_redo();
+    handle.put(contents);
     Status::of_step(Ok(can)).number()
-}
-
-/// The position of the offset; `Nothing` where it is no place of the text.
-#[unsafe(no_mangle)]
-pub extern "C" fn tm_position(
-    alloc: Global,
-    handle: &mut Handle,
-    offset: u64,
-    at: &mut Place,
-) -> u32
-    ensures kept { handle.new.held ≡ handle.old.held }
-    ensures position { Asked result handle.old.held at.old at.new
-        (λ f. option_map place_of (flat_position f offset)) }
-{
-    let document = taken!(handle, alloc);
-    let found = first(&document.session.group).position_at(offset, &mut Steps::new());
-    handle.put(document);
-    let Some(Position { line, column }) = found else {
-        return Status::Nothing.number();
-    };
-    *at = Place { line, column };
-    Status::Ok.number()
-}
-
-/// The offset of the position; `Nothing` where it is invalid.
-#[unsafe(no_mangle)]
-pub extern "C" fn tm_offset(
-    alloc: Global,
-    handle: &mut Handle,
-    line: u64,
-    column: u64,
-    offset: &mut u64,
-) -> u32
-    ensures kept { handle.new.held ≡ handle.old.held }
-    ensures offset { Asked result handle.old.held offset.old offset.new
-        (λ f. flat_offset f (at line column)) }
-{
-    let document = taken!(handle, alloc);
-    let found = first(&document.session.group).offset_at(
-        Position { line, column },
-        &mut Steps::new(),
-    );
-    handle.put(document);
-    let Some(found) = found else {
-        return Status::Nothing.number();
-    };
-    *offset = found;
-    Status::Ok.number()
 }
 
 fn value_out(alloc: Global, model: &Model, span: Span, out: &mut [u16], count: &mut u64) -> Status
@@ -200,27 +151,28 @@ fn value_out(alloc: Global, model: &Model, span: Span, out: &mut [u16], count: &
 /// The units from `start` up to `end`, and how many they are. `Range` where this is no span of the text; `Short` where
 /// `out` has no room for all.
 #[unsafe(no_mangle)]
-pub extern "C" fn tm_value(
+pub extern "C" fn tm_raw_value(
     alloc: Global,
     handle: &mut Handle,
+    doc: u64,
     start: u64,
     end: u64,
     out: &mut [u16],
     count: &mut u64,
 ) -> u32
     ensures kept { handle.new.held ≡ handle.old.held }
-    ensures units { ListsHeld result handle.old.held out.old out.new count.old count.new
+    ensures units { ListsHeld result doc handle.old.held out.old out.new count.old count.new
         (λ f. flat_value f (span start end)) }
 {
-    let document = taken!(handle, alloc);
+    let contents = taken_for!(handle, doc, alloc);
     let status = value_out(
         alloc,
-        first(&document.session.group),
+        contents.document(doc),
         Span { start, end },
         out,
         count,
     );
-    handle.put(document);
+    handle.put(contents);
     status.number()
 }
 
@@ -235,20 +187,21 @@ fn line_out(alloc: Global, model: &Model, n: u64, out: &mut [u16], count: &mut u
 /// The content of the line of this number, and how many units it has. `Range` where there is no such line; `Short` where
 /// `out` has no room for all.
 #[unsafe(no_mangle)]
-pub extern "C" fn tm_line(
+pub extern "C" fn tm_raw_line(
     alloc: Global,
     handle: &mut Handle,
+    doc: u64,
     n: u64,
     out: &mut [u16],
     count: &mut u64,
 ) -> u32
     ensures kept { handle.new.held ≡ handle.old.held }
-    ensures units { ListsHeld result handle.old.held out.old out.new count.old count.new
+    ensures units { ListsHeld result doc handle.old.held out.old out.new count.old count.new
         (λ f. flat_line f n) }
 {
-    let document = taken!(handle, alloc);
-    let status = line_out(alloc, first(&document.session.group), n, out, count);
-    handle.put(document);
+    let contents = taken_for!(handle, doc, alloc);
+    let status = line_out(alloc, contents.document(doc), n, out, count);
+    handle.put(contents);
     status.number()
 }
 
@@ -273,24 +226,36 @@ fn fitting_span(model: &Model, offset: u64, room: u64) -> Span
     Span { start: offset, end }
 }
 
+fn read_out(alloc: Global, model: &Model, offset: u64, out: &mut [u16], count: &mut u64) -> Status
+    ensures { Lists result out.old out.new count.old count.new
+        (flat_read model.now.document offset (length out.old)) }
+{
+    if out.len() < 2 {
+        return Status::Range;
+    }
+    let span = fitting_span(model, offset, out.len() as u64);
+    value_out(alloc, model, span, out, count)
+}
+
 /// As many units from the offset on as `out` has room for, and how many they are: one fewer where the last would be half of
-/// a pair of surrogates or, in a text of CR LF, of a line ending. `Range` where the offset is no place of the text.
+/// a pair of surrogates or, in a text of CR LF, of a line ending. `Range` where the offset is no place of the text, or `out` has
+/// room for fewer than two.
 #[unsafe(no_mangle)]
-pub extern "C" fn tm_read_into(
+pub extern "C" fn tm_raw_read_into(
     alloc: Global,
     handle: &mut Handle,
+    doc: u64,
     offset: u64,
     out: &mut [u16],
     count: &mut u64,
 ) -> u32
     ensures kept { handle.new.held ≡ handle.old.held }
-    ensures units { ListsHeld result handle.old.held out.old out.new count.old count.new
-        (λ f. flat_value f (fitting_span f offset (length out.old))) }
+    ensures units { ListsHeld result doc handle.old.held out.old out.new count.old count.new
+        (λ f. flat_read f offset (length out.old)) }
 {
-    let document = taken!(handle, alloc);
-    let span = fitting_span(first(&document.session.group), offset, out.len() as u64);
-    let status = value_out(alloc, first(&document.session.group), span, out, count);
-    handle.put(document);
+    let contents = taken_for!(handle, doc, alloc);
+    let status = read_out(alloc, contents.document(doc), offset, out, count);
+    handle.put(contents);
     status.number()
 }
 
@@ -314,19 +279,20 @@ fn line_utf8_out(alloc: Global, model: &Model, n: u64, out: &mut [u8], count: &m
 /// The content of the line of this number in UTF-8, and how many bytes it has; a lone surrogate stands as U+FFFD. `Range`
 /// where there is no such line; `Short` where `out` has no room for all.
 #[unsafe(no_mangle)]
-pub extern "C" fn tm_line_utf8(
+pub extern "C" fn tm_raw_line_utf8(
     alloc: Global,
     handle: &mut Handle,
+    doc: u64,
     n: u64,
     out: &mut [u8],
     count: &mut u64,
 ) -> u32
     ensures kept { handle.new.held ≡ handle.old.held }
-    ensures bytes { ListsHeld result handle.old.held out.old out.new count.old count.new
+    ensures bytes { ListsHeld result doc handle.old.held out.old out.new count.old count.new
         (λ f. flat_line_utf8 f n) }
 {
-    let document = taken!(handle, alloc);
-    let status = line_utf8_out(alloc, first(&document.session.group), n, out, count);
-    handle.put(document);
+    let contents = taken_for!(handle, doc, alloc);
+    let status = line_utf8_out(alloc, contents.document(doc), n, out, count);
+    handle.put(contents);
     status.number()
 }

@@ -18,10 +18,10 @@ impl<T, A: Allocator> Model for RawBox<T, A> {
 }
 
 impl<T: Drop, A: Allocator> RawBox<T, A> {
-    pub(crate) fn of(document: Box<T, A>) -> RawBox<T, A>
-        ensures { result.value ≡ document.value }
+    pub(crate) fn of(owned: Box<T, A>) -> RawBox<T, A>
+        ensures { result.value ≡ owned.value }
     {
-        let (at, alloc) = Box::into_raw_with_allocator(document);
+        let (at, alloc) = Box::into_raw_with_allocator(owned);
         RawBox { at, alloc }
     }
 

@@ -13,6 +13,7 @@ pub const EVERY_COMMAND: &str = r#"
 {"cmd":"deco","id":1} => ok 1 3 0 1
 {"cmd":"decos","at":[0,8]} => ok 1 1 3
 {"cmd":"undo"} => ok 3 6 2
+{"cmd":"changes"} => ok 3 5 6 "" 1 2 ""
 {"cmd":"send"} => ok 1 2
 {"cmd":"deliver","n":1} => ok 3 6 2
 {"cmd":"mirrored","n":1} => ok "(a)"

@@ -11,6 +11,7 @@ mod limits;
 mod nested;
 mod searched;
 mod texts;
+mod told;
 
 use batches::BATCHES;
 use decorated::{DECORATED, EACH_MODE, FOUR_MODES};
@@ -27,10 +28,11 @@ use std::alloc::AllocError;
 use std::process::Abort;
 use std::test::Fail;
 use texts::TEXTS;
+use told::TOLD;
 
 /// The rows with which each script of a table begins, and the table. A blank line stands between two transcripts: a
 /// name, and a row for each line of the script, which has the reply behind `=>`.
-const TABLES: [(&str, &str); 12] = [
+const TABLES: [(&str, &str); 13] = [
     ("", TEXTS),
     ("", BATCHES),
     (FOUR_MODES, EACH_MODE),
@@ -39,6 +41,7 @@ const TABLES: [(&str, &str); 12] = [
     ("", HIDDEN),
     ("", KEPT),
     ("", ENDINGS),
+    ("", TOLD),
     ("", SEARCHED),
     ("", FOLLOWED),
     ("", JOINED),

@@ -6,45 +6,32 @@ use Rattle.model_group.proofs.Joining.{alone_step}
 use Rattle.model_group.proofs.ready.commit_step.Goals as goal
 
 pub commit-requires : goal.commit-requires
-commit-requires c = record {
-  can = can_by c.args.manner Plain c.args.models.now c.args.one c.index-models-one.result c.in-Plain.is c.requires.count c.requires.ready;
-}
+commit-requires c = record { can = can_by _ Plain _ _ c.index-models-one.result c.in-Plain.is c.requires.count c.requires.ready }
 
 pub returns-in-Plain : goal.returns-in-Plain
 returns-in-Plain c =
-    done_by c.args.manner Plain c.args.models.now c.args.one c.index-models-one.result c.in-Plain.is c.requires.count c.commit.new.self
-    c.requires.ready.there c.commit.ensures.document c.commit.ensures.parse
+    done_by _ Plain _ c.args.one _ c.in-Plain.is c.requires.count _ c.requires.ready.there c.commit.ensures.document c.commit.ensures.parse
 
 pub commit_alone-requires : goal.commit_alone-requires
-commit_alone-requires c = record {
-  can = can_by c.args.manner Alone c.args.models.now c.args.one c.index-models-one.result c.in-Alone.is c.requires.count c.requires.ready;
-}
+commit_alone-requires c = record { can = can_by _ Alone _ _ c.index-models-one.result c.in-Alone.is c.requires.count c.requires.ready }
 
 pub returns-in-Alone : goal.returns-in-Alone
 returns-in-Alone c =
-    done_by c.args.manner Alone c.args.models.now c.args.one c.index-models-one.result c.in-Alone.is c.requires.count c.commit_alone.new.self
-    c.requires.ready.there c.commit_alone.ensures.document c.commit_alone.ensures.parse
+    done_by _ Alone _ c.args.one _ c.in-Alone.is c.requires.count _ c.requires.ready.there c.commit_alone.ensures.document c.commit_alone.ensures.parse
 
 pub commit_alone-requires-in-Joint : goal.commit_alone-requires-in-Joint
 commit_alone-requires-in-Joint c =
-    let edit = can_by c.args.manner (Joint c.in-Joint.tag) c.args.models.now c.args.one c.index-models-one.result c.in-Joint.is c.requires.count
-    c.requires.ready in
+    let edit = can_by _ (Joint c.in-Joint.tag) _ _ c.index-models-one.result c.in-Joint.is c.requires.count c.requires.ready in
     record { can = edit.is.can }
 
 pub tag_last-requires : goal.tag_last-requires
 tag_last-requires c =
-    let m = get_or c.args.models.now c.args.one.doc c.index-models-one.result in
-    let edit = can_by c.args.manner (Joint c.in-Joint.tag) c.args.models.now c.args.one c.index-models-one.result c.in-Joint.is c.requires.count
-    c.requires.ready in
-    alone_step edit.ops m c.args.one.ready c.commit_alone-in-Joint.new.self.document edit.is c.commit_alone-in-Joint.ensures.document
+    let edit = can_by _ (Joint c.in-Joint.tag) _ _ c.index-models-one.result c.in-Joint.is c.requires.count c.requires.ready in
+    alone_step edit.ops _ c.args.one.ready _ edit.is c.commit_alone-in-Joint.ensures.document
 
 pub returns-in-Joint : goal.returns-in-Joint
 returns-in-Joint c =
-    let m = get_or c.args.models.now c.args.one.doc c.index-models-one.result in
-    done_by c.args.manner (Joint c.in-Joint.tag) c.args.models.now c.args.one c.index-models-one.result c.in-Joint.is c.requires.count c.tag_last.new.self
-    c.requires.ready.there (record {
-      made = c.commit_alone-in-Joint.new.self.document;
-      alone = c.commit_alone-in-Joint.ensures.document;
-      tagged = c.tag_last.ensures.document;
-    })
-    (leaves_until _ _ _ m c.commit_alone-in-Joint.new.self c.tag_last.new.self c.commit_alone-in-Joint.ensures.parse c.tag_last.ensures.parse)
+    let made = c.commit_alone-in-Joint in
+    done_by _ (Joint c.in-Joint.tag) _ c.args.one _ c.in-Joint.is c.requires.count _ c.requires.ready.there
+    (record { made = made.new.self.document; alone = made.ensures.document; tagged = c.tag_last.ensures.document })
+    (leaves_until _ _ _ (get_or c.args.models.now c.args.one.doc c.index-models-one.result) _ _ made.ensures.parse c.tag_last.ensures.parse)

@@ -1,7 +1,7 @@
 use Rattle.std.proofs.Common.{refl, ap, ◌∙◌}
 use Rattle.std.specs.Prelude.{Ok, Err, Some, None, option_map}
 use Rattle.document_rules.specs.Brackets.{flat_match}
-use Rattle.textmodel_c.specs.First.{first}
+use Rattle.textmodel_c.specs.Documents.{document_in}
 use Rattle.textmodel_c.specs.Rules.{partner_of, told_as}
 use Rattle.textmodel_c.proofs.Refusals.{refused_told}
 use Rattle.textmodel_c.proofs.brackets.match_out.Goals as goal
@@ -15,4 +15,4 @@ returns-in-Ok-None-clause-partner c = (Ok None, refl, refl, ap (told_as (option_
 
 pub returns-in-Err-clause-partner : goal.returns-in-Err-clause-partner
 returns-in-Err-clause-partner c =
-    (Err c.in-Err.error, c.of_error.ensures, refl, refused_told (option_map partner_of) c.in-Err.error (flat_match (first c.args.group.now) c.args.at) c.in-Err.ensures.partner)
+    (Err c.in-Err.error, c.of_error.ensures, refl, refused_told (option_map partner_of) c.in-Err.error (flat_match (document_in c.args.group.now c.args.doc) c.args.at) c.in-Err.ensures.partner)

@@ -1,7 +1,4 @@
 use Rattle.std.proofs.Common.{◌≡◌, None, sym, subst, refl}
-use Rattle.document_rules.specs.Outcomes.{Moves}
-use Rattle.model_core.specs.Going.{HasGone}
-use Rattle.model_core.specs.Ways.{flat_move}
 use Rattle.model_group.specs.Calls.{next_tag}
 use Rattle.model_group.proofs.Committing.{model_at}
 use Rattle.model_group.proofs.Goings.{alone_moved}
@@ -20,8 +17,6 @@ returns c =
     let m = c.index_mut.result.now in
     let items = c.self.inside.models.items in
     let at = model_at items items c.args.doc m refl c.self.invariant.count c.requires.there c.index_mut.ensures.value in
-    let on = done_on c.args.doc (λ old new. Moves c.go_next.result old.document new.document (flat_move c.args.way old.document)
-    × HasGone c.args.way c.go_next.result old new) items c.args.self.now m c.go_next.new.model c.self.view_is at
-    (c.go_next.ensures.document, c.go_next.ensures.parse) in
-    let moved = alone_moved c.args.way c.args.doc c.args.self.now _ c.go_next.result c.map_err.result c.map_err.ensures.cases on in
+    let moved = alone_moved c.args.way c.args.doc c.args.self.now _ c.go_next.result c.map_err.result c.map_err.ensures.cases
+    (done_on c.args.doc _ items _ m c.go_next.new.model c.self.view_is at (c.go_next.ensures.document, c.go_next.ensures.parse)) in
     record { documents = moved.0; models = moved.1 }

@@ -7,16 +7,12 @@ use Rattle.model_group.proofs.group.Group.other_next.Goals as goal
 
 pub returns-then-is_other : goal.returns-then-is_other
 returns-then-is_other c =
-    let found = other_found c.args.tag c.deref-model-items.result.now c.loop-doc.doc c.model-item.result c.loop-doc-test.true c.model-item.is
-    (going_along c.args.way) c.is_other.result c.is_other.ensures c.if-is_other.true in
-    sym found ∙ c.loop-doc.invariant
+    sym (other_found c.args.tag _ _ _ c.loop-doc-test.true c.model-item.is (going_along c.args.way) _ c.is_other.ensures c.if-is_other.true) ∙ c.loop-doc.invariant
     ∙ ap (λ models. other_next_from 0 (going_along c.args.way) c.args.tag (documents models)) (c.deref-model-items.ensures.value ∙ c.self.view_is)
 
 pub loop-doc-preserved : goal.loop-doc-preserved
 loop-doc-preserved c =
-    let passed = other_passed c.args.tag c.deref-model-items.result.now c.loop-doc.doc c.model-item.result c.loop-doc-test.true c.model-item.is
-    (going_along c.args.way) c.is_other.result c.is_other.ensures c.if-is_other.false in
-    sym passed ∙ c.loop-doc.invariant
+    sym (other_passed c.args.tag _ _ _ c.loop-doc-test.true c.model-item.is (going_along c.args.way) _ c.is_other.ensures c.if-is_other.false) ∙ c.loop-doc.invariant
 
 pub returns : goal.returns
 returns c =

@@ -1,9 +1,5 @@
-use Rattle.model_group.proofs.Grouping.{group_kept, same_tags}
+use Rattle.model_group.proofs.Grouping.{group_kept, kept_same}
 use Rattle.model_group.proofs.group.Group.prepare_batch.Goals as goal
 
 pub invariant_of-self : goal.invariant_of-self
-invariant_of-self c =
-    let m = c.index_mut.result.now in
-    let k = c.prepare.new.self in
-    group_kept c.self.inside.models.items c.args.doc m k c.self.invariant c.requires c.index_mut.ensures.value
-    (same_tags m.document k.document c.prepare.ensures.document)
+invariant_of-self c = group_kept _ _ _ _ c.self.invariant c.requires c.index_mut.ensures.value (kept_same _ _ c.prepare.ensures.document)

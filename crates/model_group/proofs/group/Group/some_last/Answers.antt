@@ -6,16 +6,12 @@ use Rattle.model_group.proofs.group.Group.some_last.Goals as goal
 
 pub returns-then-is_last : goal.returns-then-is_last
 returns-then-is_last c =
-    let found = last_found c.args.tag c.deref-model-items.result.now c.loop-doc.doc c.model-item.result c.loop-doc-test.true c.model-item.is
-    c.is_last.result c.is_last.ensures c.if-is_last.true in
-    sym found ∙ c.loop-doc.invariant
+    sym (last_found c.args.tag _ _ _ c.loop-doc-test.true c.model-item.is _ c.is_last.ensures c.if-is_last.true) ∙ c.loop-doc.invariant
     ∙ ap (λ models. some_last_from 0 c.args.tag (documents models)) (c.deref-model-items.ensures.value ∙ c.self.view_is)
 
 pub loop-doc-preserved : goal.loop-doc-preserved
 loop-doc-preserved c =
-    let passed = last_passed c.args.tag c.deref-model-items.result.now c.loop-doc.doc c.model-item.result c.loop-doc-test.true c.model-item.is
-    c.is_last.result c.is_last.ensures c.if-is_last.false in
-    sym passed ∙ c.loop-doc.invariant
+    sym (last_passed c.args.tag _ _ _ c.loop-doc-test.true c.model-item.is _ c.is_last.ensures c.if-is_last.false) ∙ c.loop-doc.invariant
 
 pub returns : goal.returns
 returns c =

@@ -3,7 +3,7 @@ use Rattle.textmodel_c.proofs.Boxed.{◌≡◌, List, [], ◌∷◌, ◌++◌, r
 use Rattle.std.specs.Prelude.{Some, None}
 use Rattle.std.specs.Global.{Global}
 use Rattle.std.proofs.GlobalToken.{dealloc_token-Testable}
-use Rattle.textmodel_c.proofs.Handles.{E, Handle, RawDocument, Held, handle_at, null_word, null_out}
+use Rattle.textmodel_c.proofs.Handles.{E, Handle, RawContents, Held, handle_at, null_word, null_out}
 use Rattle.textmodel_c.specs.contracts.handle.Handle.into_raw as f
 use Rattle.textmodel_c.proofs.handle.Handle.into_raw.Statement.{statement}
 use Rattle.textmodel_c.proofs.handle.Handle.into_raw.Code as code
@@ -50,21 +50,21 @@ module _ {M : Type 1} (𝓤 : Ura M) (𝓛 : Logic 𝓤) (𝓜 : Model 𝓤 𝓛
       (λ _. sets ! (agg ! (and_then ! (lit ! tt) (no_more !))) refl (tt, (record { fits = lit< tt }, tt)) $
       returns_within ! Post refl (look_at ! 0 refl) $ free_all ! refl $
       use0 𝓛 (raw (fact 𝓤 (held ≡ None))) (fact_i 𝓤 (held ≡ None) (emp 𝓤) refl) $
-      use0 𝓛 (‵ (Answer.own_val None (live 0 vnil ∷ []))) (none_of 𝓛 RawDocument) $ nothing ! $ nothing ! $ fjoin ! $ nothing ! $
+      use0 𝓛 (‵ (Answer.own_val None (live 0 vnil ∷ []))) (none_of 𝓛 RawContents) $ nothing ! $ nothing ! $ fjoin ! $ nothing ! $
       keep ! (0 ∷ 1 ∷ 2 ∷ 3 ∷ []) $ by ! (leaves 𝓛 f.ended stayed c z (live 0 vnil) None (tt, tt) (tt, tt)))
       (λ wrong. absurd wrong)))
   walk at a (Some x) vs =
       let z = at_entry at a (Some x) vs in let 𝓣 = tables 𝓤 𝓛.H 𝓜 𝓡 𝓡.env in let held : Held = Some x in
       let Post : Val → SProp 𝓤 = (walk_of 𝓛 f.ended stayed c).post z in
       let v : D E = record { ptr = at; alloc = a; value = x } in
-      let made : RawDocument.Denot = record { at = at; alloc = a; value = x } in
+      let made : RawContents.Denot = record { at = at; alloc = a; value = x } in
       qed 𝓛 ((‵ ftrue ⊛ ‵ (fsep ((B E).own_val v vs) ftrue)) ∷ raw (emp 𝓤) ∷ []) ∵
       split ! $ drop ! $ fsplit ! $ box_out E ! v vs (λ b o hv at_block laid fits.
       let p = block_ptr b o in let free = token E.al a (bare (τ E)) p in
       move ! (1 ∷ []) $ use1 𝓛 (given (Testable p) (‵ free)) (fact_use 𝓤 (Testable p) (dealloc_token-Testable 𝓛 a (bare (τ E)) p) (guard_i 𝓤 (Testable p) _)) $ learn ! (λ testable.
       move ! (1 ∷ 0 ∷ []) $ box_in E ! v b o x at_block refl $
       let w = word E hv b o in let found = live 1 (vcons w vnil) in let typed = box_typed E hv b o fits in
-      use1 𝓛 (‵ (RawDocument.own_val made (w ∷ []))) (id⊢ 𝓤 _) $ move ! (1 ∷ 2 ∷ []) $ drop ! $ drop ! $
+      use1 𝓛 (‵ (RawContents.own_val made (w ∷ []))) (id⊢ 𝓤 _) $ move ! (1 ∷ 2 ∷ []) $ drop ! $ drop ! $
       suffices ! (Run z (w ∷ [])) (subst (λ (us : List Val). ent 𝓤 (Run z (w ∷ [])) (Run z us)) (sym (λ i. laid i ++ [])) (id⊢ 𝓤 (Run z (w ∷ [])))) $
       enter ! 𝓣.C 𝓣.Λ code.function (w ∷ []) Post $ alloc_all ! (λ l. pass_all ! refl (typed, tt) $
       sets ! (of_opd ! (get_in ! (fld ! refl (stop !)) (sub ! 0 refl (whole !)))) refl (tt, tt) $
@@ -76,7 +76,7 @@ module _ {M : Type 1} (𝓤 : Ura M) (𝓛 : Logic 𝓤) (𝓜 : Model 𝓤 𝓛
       sets ! (agg ! (and_then ! (get ! refl) (and_then ! (get ! refl) (no_more !)))) refl typed $
       sets ! (agg ! (and_then ! (lit ! tt) (and_then ! (get ! refl) (no_more !)))) refl (and_tt _ typed.0, (record { fits = lit< tt }, (typed.1, tt))) $
       returns ! (look_at ! 0 refl) $ free_all ! refl $
-      use1 𝓛 (‵ (Answer.own_val (Some made) (found ∷ []))) (Some-of 𝓛 RawDocument made w) $
+      use1 𝓛 (‵ (Answer.own_val (Some made) (found ∷ []))) (Some-of 𝓛 RawContents made w) $
       use0 𝓛 (raw (fact 𝓤 (held ≡ Some x))) (fact_i 𝓤 (held ≡ Some x) (emp 𝓤) refl) $ nothing ! $ nothing ! $ fjoin ! $ nothing ! $
       keep ! (0 ∷ 1 ∷ 3 ∷ 2 ∷ []) $ by ! (leaves 𝓛 f.ended stayed c z found (Some made) (tt, tt) (tt, tt))))))
 

@@ -1,18 +1,18 @@
 -- `of_raw` moves both parts, and what they own goes with them.
 use Rattle.textmodel_c.proofs.Boxed.{◌≡◌, List, [], ◌∷◌, ◌++◌, refl, sym, subst, Val, SProp, ent, emp, id⊢, ftrue, fsep, WpFn, ‵, raw, ◌⊛◌, ◌$◌, ◌∵◌, !, qed, by, move, keep, drop, split, fsplit, fjoin, suffices, use0, use1, stop, fld, of_opd, no_more, and_then, returns, enter, alloc_all, pass_all, free_all, look_at, get, get_in, sets, agg, sub, whole, fact, fact_i, tables, yes, plain, nothing, Stays, stay_dropped, walk_of, Goes-dropped, D, B, word, box_typed, box_out, box_in, proved_at, leaves}
 use Rattle.std.specs.Prelude.{Some}
-use Rattle.textmodel_c.proofs.Handles.{E, Handle, RawDocument, Held, handle_at}
+use Rattle.textmodel_c.proofs.Handles.{E, Handle, RawContents, Held, handle_at}
 use Rattle.textmodel_c.specs.contracts.handle.Handle.of_raw as f
 use Rattle.textmodel_c.proofs.handle.Handle.of_raw.Statement.{statement}
 use Rattle.textmodel_c.proofs.handle.Handle.of_raw.Code as code
 
 abbrev stayed : Stays f.ended.signature.params f.ended.kept
-stayed = (stay_dropped (plain (λ _. RawDocument)) yes, tt)
+stayed = (stay_dropped (plain (λ _. RawContents)) yes, tt)
 
 pub of_raw_spec : {M : Type 1} → statement M
 of_raw_spec 𝓤 𝓛 𝓜 𝓡 wired =
     let c = f.clauses 𝓛 𝓜.mem 𝓡.returns in let 𝓣 = tables 𝓤 𝓛.H 𝓜 𝓡 𝓡.env in
-    proved_at 𝓛 f.ended stayed c 𝓜 𝓡 (Goes-dropped 𝓛 0 (plain (λ _. RawDocument)) yes (λ κs x w. refl), tt)
+    proved_at 𝓛 f.ended stayed c 𝓜 𝓡 (Goes-dropped 𝓛 0 (plain (λ _. RawContents)) yes (λ κs x w. refl), tt)
     f.Key.name code.function (code.unfolded 𝓤 𝓛.H 𝓜 𝓡 wired) (λ z are.
     let r = z.0.3.0 in let v : D E = record { ptr = r.at; alloc = r.alloc; value = r.value } in
     let made : Handle.Denot = handle_at r.at r.alloc (Some r.value) in let held : Held = Some r.value in

@@ -1,0 +1,94 @@
+-- What the calls answer that are on the mirror of a document and its events.
+use Rattle.std.specs.Prelude.{◌≡◌, ◌⊎◌, ℕ, ◌-◌, List, length, slice_get, Option, None, Some, option_map, option_and_then, unwrap_or, Result, Ok, Err}
+use Rattle.text_rules.specs.Lines.{lines_of, line_at}
+use Rattle.document_rules.specs.Refusals.{FlatRefusal, unknown}
+use Rattle.document_rules.specs.Document.{content_of}
+use Rattle.mirror_rules.specs.Mirrors.{MirrorState}
+use Rattle.script_lines.specs.declared.command.Command.{Command}
+use Rattle.script_lines.specs.declared.command.Command.TheVariants.{Mirror, Send, Deliver}
+use Rattle.script_lines.specs.Replies.{none_reply, old_reply}
+use Rattle.sessions.specs.declared.outcome.Reply.{Reply}
+use Rattle.sessions.specs.declared.outcome.Refused.{Refused}
+use Rattle.sessions.specs.declared.session.Follower.{Follower}
+use Rattle.sessions.specs.Bytes.{bytes_of}
+use Rattle.sessions.specs.Told.{Tells}
+use Rattle.textmodel_c.specs.declared.status.Status.{Status}
+use Rattle.textmodel_c.specs.declared.status.Status.TheVariants as status
+use Rattle.textmodel_c.specs.declared.contents.Contents.{Contents}
+use Rattle.textmodel_c.specs.declared.mirrors.Followed.{Followed}
+use Rattle.textmodel_c.specs.Documents.{document_in}
+use Rattle.textmodel_c.specs.Statuses.{status_of_refusal}
+use Rattle.textmodel_c.specs.Told.{CalledOn, LeavesWith, Lists, Numbers}
+
+-- the reply is `ok none` or `ok old`
+abbrev pub SaysNothing : List ℕ → Type 0
+SaysNothing reply = (reply ≡ none_reply) ⊎ (reply ≡ old_reply)
+
+-- how a call ends that carries out a command of which this comes
+abbrev pub IsStatusOf : Status → Result Reply Refused → Type 0
+IsStatusOf s (Err refused) = s ≡ status_of_refusal refused.0
+IsStatusOf status.Nothing (Ok reply) = SaysNothing (bytes_of reply)
+IsStatusOf status.Ok (Ok reply) = ¬ SaysNothing (bytes_of reply)
+IsStatusOf s (Ok reply) = ⊥
+
+-- the command of a script was carried out on the document of this number, what came of it is told by the status, and the rest is kept
+pub record CarriesOut (s : Status) (doc : ℕ) (command : Command) (old new : Contents) : Type 0 where
+  pub outcome : Result Reply Refused
+  pub status : IsStatusOf s outcome
+  pub told : Tells old.session doc command outcome new.session
+  pub reply : new.reply ≡ old.reply
+  pub telling : new.telling ≡ old.telling
+
+-- what is handed out where the status is `Ok`; else what was there stays
+abbrev pub handed : {A : Type 0} → Status → A → A → A
+handed status.Ok out x = x
+handed s out x = out
+
+-- the mirror of the document of this number, if one was begun
+abbrev pub mirror_in : List Follower → ℕ → Option MirrorState
+mirror_in followers doc = option_and_then (λ (own : Follower). own.mirror) (slice_get followers doc)
+
+abbrev pub events_of : Option Follower → ℕ
+events_of None = 0
+events_of (Some own) = length own.sent.items
+
+-- how many events were sent of it
+abbrev pub sent_count : List Follower → ℕ → ℕ
+sent_count followers doc = events_of (slice_get followers doc)
+
+-- a mirror of the text of now, and its version
+abbrev pub Mirrors : ℕ → ℕ → ℕ → ℕ → Contents → Contents → Type 0
+Mirrors n doc out out' old new = Numbers n (λ s. CarriesOut s doc Mirror old new
+    × (out' ≡ handed s out (document_in new.session.group doc).version))
+
+-- an event of the last change, its number, and the version before it
+abbrev pub Sends : ℕ → ℕ → ℕ → ℕ → ℕ → ℕ → Contents → Contents → Type 0
+Sends n doc number number' from from' old new = Numbers n (λ s. CarriesOut s doc Send old new
+    × (number' ≡ handed s number (sent_count new.session.followers.items doc))
+    × (from' ≡ handed s from ((document_in new.session.group doc).version - 1)))
+
+-- the same of a call that leaves a handle
+abbrev pub SendsHeld : ℕ → ℕ → Option Contents → Option Contents → ℕ → ℕ → ℕ → ℕ → Type 0
+SendsHeld n doc held left number number' from from' =
+    LeavesWith n doc held left ((number' ≡ number) × (from' ≡ from)) (Sends n doc number number' from from')
+
+abbrev pub followed_of : MirrorState → Followed
+followed_of m = record { version = m.version; units = length m.units; lines = length (lines_of m.units) }
+
+-- what the mirror of the document is, if it has one
+abbrev pub followed_in : List Follower → ℕ → Followed → Followed
+followed_in followers doc out = unwrap_or (option_map followed_of (mirror_in followers doc)) out
+
+-- the mirror went along with the event of this number, and what it is then
+abbrev pub Delivers : ℕ → ℕ → ℕ → Followed → Followed → Contents → Contents → Type 0
+Delivers n doc number out out' old new = Numbers n (λ s. CarriesOut s doc (Deliver number) old new
+    × (out' ≡ handed s out (followed_in new.session.followers.items doc out)))
+
+-- the content of a line of the mirror
+abbrev pub mirrored_line : Option MirrorState → ℕ → Result (List ℕ) FlatRefusal
+mirrored_line None n = Err unknown
+mirrored_line (Some m) n = content_of (line_at m.units n)
+
+abbrev pub MirroredHeld : ℕ → ℕ → ℕ → Option Contents → List ℕ → List ℕ → ℕ → ℕ → Type 0
+MirroredHeld n doc line held out out' count count' = CalledOn n doc held ((out' ≡ out) × (count' ≡ count))
+    (λ c. Numbers n (λ s. Lists s out out' count count' (mirrored_line (mirror_in c.session.followers.items doc) line)))

@@ -1,0 +1,103 @@
+//! What the last change of a document did.
+
+ghost use Rattle.std.specs.Prelude.{◌≡◌, ◌<◌, false, OnOk, OnErr};
+ghost use Rattle.group_rules.specs.declared.TheConstants.{DOC_COUNT};
+ghost use Rattle.textmodel_c.specs.NextChange.{ChangeTextHeld, NextTold, TellsNext, TextOut};
+ghost use Rattle.textmodel_c.specs.Tellings.{is_telling, telling_after};
+ghost use Rattle.textmodel_c.specs.Told.{LeavesWith};
+
+use crate::contents::Contents;
+use crate::handle::{Handle, taken, taken_for};
+use crate::lists::hand_out_of;
+use crate::status::Status;
+use crate::telling::{Change, Telling};
+use model_core::Model;
+use std::alloc::{AllocError, Global};
+
+// Tells the next edit of the document of this number. An error leaves what was told last.
+fn tell_next(
+    alloc: Global,
+    telling: &mut Option<Telling>,
+    doc: u64,
+    model: &Model,
+) -> Result<(), AllocError>
+    ensures told { OnOk result
+        (telling.new ≡ telling_after telling.old doc model.now.document) }
+    ensures kept { OnErr result (telling.new ≡ telling.old) }
+    ensures begun { OnErr result (is_telling telling.old doc model.now.document ≡ false) }
+{
+    if let Some(told) = telling {
+        if told.is_of(doc, model.versions().0) {
+            if !told.go_on() {
+                *telling = None;
+            }
+            return Ok(());
+        }
+    }
+    *telling = Telling::of(alloc, doc, model)?;
+    Ok(())
+}
+
+fn hand_out_next(alloc: Global, contents: &mut Contents, doc: u64, change: &mut Change) -> Status
+    requires { doc < DOC_COUNT }
+    ensures { NextTold result doc change.old change.new contents.old contents.new }
+{
+    let model = contents.session.group.doc(doc);
+    if tell_next(alloc, &mut contents.telling, doc, model).is_err() {
+        return Status::Memory;
+    }
+    match &contents.telling {
+        Some(telling) => {
+            *change = telling.last();
+            Status::Ok
+        }
+        None => Status::Nothing,
+    }
+}
+
+/// Tells the next edit of the document's last change, be it an edit, other line endings, an undo or a redo. One after another, these
+/// edits lead from the text before it to that of now. `Nothing` behind the last one, and then the next call begins again. The edits
+/// are collected at the first call, which answers `Memory` where there is none for them. It begins again, too, where the document has
+/// changed since the last call, or that was on another document, or a document was opened or a line answered since.
+#[unsafe(no_mangle)]
+pub extern "C" fn tm_next_change(
+    alloc: Global,
+    handle: &mut Handle,
+    doc: u64,
+    change: &mut Change,
+) -> u32
+    ensures told { LeavesWith result doc handle.old.held handle.new.held (change.new ≡ change.old)
+        (TellsNext result doc change.old change.new) }
+{
+    let mut contents = taken_for!(handle, doc, alloc);
+    let status = hand_out_next(alloc, &mut contents, doc, change);
+    handle.put(contents);
+    status.number()
+}
+
+fn text_out(telling: &Option<Telling>, out: &mut [u16], count: &mut u64) -> Status
+    ensures { TextOut result out.old out.new count.old count.new telling.now }
+{
+    match telling {
+        Some(telling) => hand_out_of(Ok(()), telling.text(), out, count),
+        None => Status::Nothing,
+    }
+}
+
+/// The text of the edit that `tm_next_change` told last, and how many units it has. `Nothing` where it told none, or a document was
+/// opened or a line answered since; `Short` where `out` has no room for all.
+#[unsafe(no_mangle)]
+pub extern "C" fn tm_raw_change_text(
+    alloc: Global,
+    handle: &mut Handle,
+    out: &mut [u16],
+    count: &mut u64,
+) -> u32
+    ensures kept { handle.new.held ≡ handle.old.held }
+    ensures text { ChangeTextHeld result handle.old.held out.old out.new count.old count.new }
+{
+    let contents = taken!(handle, alloc);
+    let status = text_out(&contents.telling, out, count);
+    handle.put(contents);
+    status.number()
+}

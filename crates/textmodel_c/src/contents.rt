@@ -1,0 +1,41 @@
+//! What a handle holds.
+
+ghost use Rattle.std.specs.Prelude.{◌≡◌, ◌<◌, IfOk};
+ghost use Rattle.group_rules.specs.declared.TheConstants.{DOC_COUNT};
+ghost use Rattle.textmodel_c.specs.Documents.{document_in};
+ghost use Rattle.textmodel_c.specs.Told.{IsNew};
+
+use crate::telling::Telling;
+use model_core::Model;
+use sessions::{Outcome, Reply, Session};
+use std::alloc::{AllocError, Global};
+
+/// A session, what came of the last script line, and what is told of the last change of a document.
+#[derive(Drop)]
+pub struct Contents {
+    pub session: Session,
+    pub reply: Outcome,
+    pub telling: Option<Telling>,
+}
+
+impl Contents {
+    /// A session of empty documents.
+    pub(crate) fn new(alloc: Global) -> Result<Box<Contents>, AllocError>
+        ensures { IfOk result (λ new. IsNew new.value) }
+    {
+        let contents = Contents {
+            session: Session::new(alloc)?,
+            reply: Ok(Reply::Nothing),
+            telling: None,
+        };
+        Box::new(alloc, contents).map_err(|_| AllocError)
+    }
+
+    /// The document of this number.
+    pub(crate) fn document(&self, doc: u64) -> &Model
+        requires { doc < DOC_COUNT }
+        ensures { result.now.document ≡ document_in self.now.session.group doc }
+    {
+        self.session.group.doc(doc)
+    }
+}

@@ -1,0 +1,231 @@
+//! Mirrors of documents, and the events that they follow.
+
+ghost use Rattle.std.specs.Prelude.{◌≡◌, ◌<◌, ◌-◌, MatchBool};
+ghost use Rattle.std.specs.Option.{option_copied};
+ghost use Rattle.document_rules.specs.Outcomes.{Appends};
+ghost use Rattle.group_rules.specs.declared.TheConstants.{DOC_COUNT};
+ghost use Rattle.textmodel_c.specs.Documents.{document_in};
+ghost use Rattle.textmodel_c.specs.Mirroring.{CarriesOut, IsStatusOf, SaysNothing, Mirrors, SendsHeld, Delivers, MirroredHeld, followed_in, followed_of, handed, mirror_in, mirrored_line, sent_count};
+ghost use Rattle.textmodel_c.specs.Told.{LeavesWith, Lists};
+
+use crate::contents::Contents;
+use crate::handle::{Handle, taken_for};
+use crate::lists::hand_out_of;
+use crate::status::Status;
+use mirror_model::Mirror;
+use model_core::ModelError;
+use script_lines::{Command, Short};
+use sessions::{Follower, Outcome, Refused};
+use std::alloc::Global;
+
+/// A mirror after an event: its version, and how many units and lines its text has.
+#[repr(C)]
+#[derive(Clone, Copy)]
+pub struct Followed {
+    pub version: u64,
+    pub units: u64,
+    pub lines: u64,
+}
+
+// Carries out a command of a script on the document of this number.
+fn carry_out(contents: &mut Contents, doc: u64, command: Command) -> Status
+    requires { doc < DOC_COUNT }
+    ensures { CarriesOut result doc command contents.old contents.new }
+{
+    let outcome = contents.session.carry_out(doc, command);
+    status_of(&outcome)
+}
+
+// The status of what comes of a command.
+fn status_of(outcome: &Outcome) -> Status
+    ensures { IsStatusOf result outcome.now }
+{
+    match outcome {
+        Ok(reply) if says_nothing(reply.as_slice()) => Status::Nothing,
+        Ok(_) => Status::Ok,
+        Err(Refused(reason)) => Status::of_refusal(*reason),
+    }
+}
+
+// Whether the reply is that there was nothing to do.
+fn says_nothing(reply: &[u8]) -> bool
+    ensures { MatchBool result (SaysNothing reply.now) (¬ SaysNothing reply.now) }
+{
+    reply == Short::none().as_slice() || reply == Short::old().as_slice()
+}
+
+// The mirror of the document of this number, if one was begun.
+fn mirror_in(followers: &[Follower], doc: u64) -> Option<&Mirror>
+    ensures { option_copied result ≡ mirror_in followers.now doc }
+{
+    followers.get(doc as usize)?.mirror.as_ref()
+}
+
+fn begin_mirror(contents: &mut Contents, doc: u64, version: &mut u64) -> Status
+    requires { doc < DOC_COUNT }
+    ensures carried { CarriesOut result doc Command.Mirror contents.old contents.new }
+    ensures version { version.new
+        ≡ handed result version.old (document_in contents.new.session.group doc).version }
+{
+    let status = carry_out(contents, doc, Command::Mirror);
+    if let Status::Ok = status {
+        *version = contents.document(doc).versions().0;
+    }
+    status
+}
+
+/// Begins a mirror of the document at the text of now, in place of the one that it had, and tells its version. `Memory` where there is
+/// none for it.
+#[unsafe(no_mangle)]
+pub extern "C" fn tm_mirror(alloc: Global, handle: &mut Handle, doc: u64, version: &mut u64) -> u32
+    ensures carried { LeavesWith result doc handle.old.held handle.new.held (version.new ≡ version.old)
+        (Mirrors result doc version.old version.new) }
+{
+    let mut contents = taken_for!(handle, doc, alloc);
+    let status = begin_mirror(&mut contents, doc, version);
+    handle.put(contents);
+    status.number()
+}
+
+// How many events were sent of the document of this number.
+fn sent_count(followers: &[Follower], doc: u64) -> u64
+    ensures { result ≡ sent_count followers.now doc }
+{
+    match followers.get(doc as usize) {
+        Some(follower) => follower.sent.len() as u64,
+        None => 0,
+    }
+}
+
+fn send(contents: &mut Contents, doc: u64, number: &mut u64, from: &mut u64) -> Status
+    requires { doc < DOC_COUNT }
+    ensures carried { CarriesOut result doc Command.Send contents.old contents.new }
+    ensures number { number.new
+        ≡ handed result number.old (sent_count contents.new.session.followers.items doc) }
+    ensures from { from.new
+        ≡ handed result from.old ((document_in contents.new.session.group doc).version - 1) }
+{
+    let status = carry_out(contents, doc, Command::Send);
+    if let Status::Ok = status {
+        *number = sent_count(&contents.session.followers, doc);
+        *from = contents.document(doc).versions().0.saturating_sub(1);
+    }
+    status
+}
+
+/// Sends the document's last change as an event, and tells its number, from 1 on, and the version from which it leads to the next one.
+/// `Nothing` in version 1; `Limit` where 2^16 were sent.
+#[unsafe(no_mangle)]
+pub extern "C" fn tm_send(
+    alloc: Global,
+    handle: &mut Handle,
+    doc: u64,
+    number: &mut u64,
+    from: &mut u64,
+) -> u32
+    ensures carried { SendsHeld result doc handle.old.held handle.new.held
+        number.old number.new from.old from.new }
+{
+    let mut contents = taken_for!(handle, doc, alloc);
+    let status = send(&mut contents, doc, number, from);
+    handle.put(contents);
+    status.number()
+}
+
+fn followed_of(mirror: &Mirror) -> Followed
+    ensures { result ≡ followed_of mirror.now }
+{
+    Followed {
+        version: mirror.version(),
+        units: mirror.len(),
+        lines: mirror.line_count(),
+    }
+}
+
+fn deliver(contents: &mut Contents, doc: u64, number: u64, followed: &mut Followed) -> Status
+    requires { doc < DOC_COUNT }
+    ensures carried { CarriesOut result doc (Command.Deliver number) contents.old contents.new }
+    ensures followed { followed.new ≡ handed result followed.old
+        (followed_in contents.new.session.followers.items doc followed.old) }
+{
+    let status = carry_out(contents, doc, Command::Deliver { n: number });
+    if let Status::Ok = status {
+        if let Some(mirror) = mirror_in(&contents.session.followers, doc) {
+            *followed = followed_of(mirror);
+        }
+    }
+    status
+}
+
+/// Hands the event of this number to the mirror of the document, which then has the text of the next version, and tells of it. `Nothing`
+/// where the mirror has that text or a later one; `Unknown` where there is no such event, or no mirror; `Gap` where events before it
+/// are missing.
+#[unsafe(no_mangle)]
+pub extern "C" fn tm_deliver(
+    alloc: Global,
+    handle: &mut Handle,
+    doc: u64,
+    number: u64,
+    followed: &mut Followed,
+) -> u32
+    ensures carried { LeavesWith result doc handle.old.held handle.new.held (followed.new ≡ followed.old)
+        (Delivers result doc number followed.old followed.new) }
+{
+    let mut contents = taken_for!(handle, doc, alloc);
+    let status = deliver(&mut contents, doc, number, followed);
+    handle.put(contents);
+    status.number()
+}
+
+fn append_line(
+    followers: &[Follower],
+    doc: u64,
+    n: u64,
+    out: &mut Vec<u16>,
+) -> Result<(), ModelError>
+    ensures { Appends result out.old.items out.new.items
+        (mirrored_line (mirror_in followers.now doc) n) }
+{
+    let mirror = mirror_in(followers, doc).ok_or(ModelError::Unknown)?;
+    if n == 0 || n > mirror.line_count() {
+        return Err(ModelError::Range);
+    }
+    mirror.line(n, out).map_err(|_| ModelError::Memory)?;
+    Ok(())
+}
+
+fn mirrored_out(
+    alloc: Global,
+    followers: &[Follower],
+    doc: u64,
+    n: u64,
+    out: &mut [u16],
+    count: &mut u64,
+) -> Status
+    ensures { Lists result out.old out.new count.old count.new
+        (mirrored_line (mirror_in followers.now doc) n) }
+{
+    let mut units = Vec::new(alloc);
+    let answer = append_line(followers, doc, n, &mut units);
+    hand_out_of(answer, &units, out, count)
+}
+
+/// The content of the line of this number of the document's mirror, and how many units it has. `Unknown` where there is no mirror;
+/// `Range` where it has no such line; `Short` where `out` has no room for all.
+#[unsafe(no_mangle)]
+pub extern "C" fn tm_raw_mirrored(
+    alloc: Global,
+    handle: &mut Handle,
+    doc: u64,
+    n: u64,
+    out: &mut [u16],
+    count: &mut u64,
+) -> u32
+    ensures kept { handle.new.held ≡ handle.old.held }
+    ensures units { MirroredHeld result doc n handle.old.held out.old out.new count.old count.new }
+{
+    let contents = taken_for!(handle, doc, alloc);
+    let status = mirrored_out(alloc, &contents.session.followers, doc, n, out, count);
+    handle.put(contents);
+    status.number()
+}

@@ -1,0 +1,181 @@
+//! Offsets and positions. A column counts bytes of UTF-8, units of UTF-16 or code points, as an encoding says.
+
+ghost use Rattle.std.specs.Prelude.{◌≡◌, ◌+◌, true, Ok, Err, option_map};
+ghost use Rattle.document_rules.specs.Outcomes.{Gives};
+ghost use Rattle.column_encodings.specs.Columns.{column_in};
+ghost use Rattle.textmodel_c.specs.Rules.{at, encoding_of, is_utf16, column_of, place_in, position_in, flat_place, flat_offset_as};
+ghost use Rattle.textmodel_c.specs.Statuses.{number_of};
+ghost use Rattle.textmodel_c.specs.Told.{FoundHeld};
+
+use crate::handle::{Handle, taken_for};
+use crate::status::Status;
+use column_encodings::column_in;
+use model_core::{Encoding, Model, ModelError, Position};
+use std::alloc::Global;
+use steps::Steps;
+
+/// A place as a line and a column, both counted from 1.
+#[repr(C)]
+#[derive(Clone, Copy)]
+pub struct Place {
+    pub line: u64,
+    pub column: u64,
+}
+
+/// What a column of this number counts.
+pub(crate) fn encoding_of(number: u32) -> Option<Encoding>
+    ensures { result ≡ encoding_of number }
+{
+    match number {
+        8 => Some(Encoding::Utf8),
+        16 => Some(Encoding::Utf16),
+        32 => Some(Encoding::Utf32),
+        _ => None,
+    }
+}
+
+fn is_utf16(encoding: Encoding) -> bool
+    ensures { result ≡ is_utf16 encoding }
+{
+    match encoding {
+        Encoding::Utf8 => false,
+        Encoding::Utf16 => true,
+        Encoding::Utf32 => false,
+    }
+}
+
+// The column of a place in a line, where there is such a place.
+fn column_at(encoding: Encoding, content: &[u16], before: u64) -> Option<u64>
+    ensures { result ≡ option_map (λ n. n + 1) (column_in encoding content.now before) }
+{
+    let column = column_in(encoding, content, before)?;
+    Some(column + 1)
+}
+
+fn column_of(
+    alloc: Global,
+    model: &Model,
+    encoding: Encoding,
+    at: Position,
+) -> Result<u64, ModelError>
+    ensures { Gives result (column_of model.now.document encoding at) }
+{
+    let mut content = Vec::new(alloc);
+    model.line(at.line, &mut content)?;
+    let before = at.column.checked_sub(1).ok_or(ModelError::Range)?;
+    column_at(encoding, &content, before).ok_or(ModelError::Range)
+}
+
+// A position in units as a place.
+fn place_in(
+    alloc: Global,
+    model: &Model,
+    encoding: Encoding,
+    at: Position,
+) -> Result<Place, ModelError>
+    ensures place { Gives result (place_in model.now.document encoding at) }
+    ensures sure { is_utf16 encoding ≡ true → ¬ (result ≡ Err ModelError.Memory) }
+{
+    let line = at.line;
+    if is_utf16(encoding) {
+        let column = at.column;
+        return Ok(Place { line, column });
+    }
+    let column = column_of(alloc, model, encoding, at)?;
+    Ok(Place { line, column })
+}
+
+fn place_as(
+    alloc: Global,
+    model: &Model,
+    offset: u64,
+    encoding: u32,
+) -> Result<Option<Place>, ModelError>
+    ensures place { Gives result (flat_place model.now.document encoding offset) }
+    ensures sure { encoding ≡ 16 → ¬ (result ≡ Err ModelError.Memory) }
+{
+    let encoding = encoding_of(encoding).ok_or(ModelError::Range)?;
+    match model.position_at(offset, &mut Steps::new()) {
+        Some(position) => Ok(Some(place_in(alloc, model, encoding, position)?)),
+        None => Ok(None),
+    }
+}
+
+/// The position of the offset; `Nothing` where it is no place of the text. The column counts by `encoding`, which is 8, 16 or 32,
+/// bytes of UTF-8, units of UTF-16 or code points; `Range` where it is another number. It takes no memory where this is 16.
+#[unsafe(no_mangle)]
+pub extern "C" fn tm_position(
+    alloc: Global,
+    handle: &mut Handle,
+    doc: u64,
+    offset: u64,
+    encoding: u32,
+    place: &mut Place,
+) -> u32
+    ensures kept { handle.new.held ≡ handle.old.held }
+    ensures position { FoundHeld result doc handle.old.held place.old place.new
+        (λ f. flat_place f encoding offset) }
+    ensures sure { encoding ≡ 16 → ¬ (result ≡ number_of Status.Memory) }
+{
+    let contents = taken_for!(handle, doc, alloc);
+    let answer = place_as(alloc, contents.document(doc), offset, encoding);
+    handle.put(contents);
+    Status::of_found(answer, place).number()
+}
+
+/// The position in units of one that is counted otherwise; None where its column is none of its line's, or inside a character.
+pub(crate) fn position_in(
+    model: &Model,
+    encoding: Encoding,
+    at: Position,
+) -> Result<Option<Position>, ModelError>
+    ensures position { Gives result (Ok (position_in model.now.document encoding at)) }
+    ensures sure { is_utf16 encoding ≡ true → ¬ (result ≡ Err ModelError.Memory) }
+{
+    if is_utf16(encoding) {
+        return Ok(Some(at));
+    }
+    let line = at.line;
+    let Some(before) = at.column.checked_sub(1) else {
+        return Ok(None);
+    };
+    match model.column_of(encoding, line, before) {
+        Ok(column) => Ok(Some(Position { line, column })),
+        Err(ModelError::Memory) => Err(ModelError::Memory),
+        Err(_) => Ok(None),
+    }
+}
+
+fn offset_as(model: &Model, at: Position, encoding: u32) -> Result<Option<u64>, ModelError>
+    ensures offset { Gives result (flat_offset_as model.now.document encoding at) }
+    ensures sure { encoding ≡ 16 → ¬ (result ≡ Err ModelError.Memory) }
+{
+    let encoding = encoding_of(encoding).ok_or(ModelError::Range)?;
+    match position_in(model, encoding, at)? {
+        Some(position) => Ok(model.offset_at(position, &mut Steps::new())),
+        None => Ok(None),
+    }
+}
+
+/// The offset of the position, whose column counts as in `tm_position`; `Nothing` where it is invalid, `Range` where the encoding
+/// is. It takes no memory where the encoding is 16.
+#[unsafe(no_mangle)]
+pub extern "C" fn tm_offset(
+    alloc: Global,
+    handle: &mut Handle,
+    doc: u64,
+    line: u64,
+    column: u64,
+    encoding: u32,
+    offset: &mut u64,
+) -> u32
+    ensures kept { handle.new.held ≡ handle.old.held }
+    ensures offset { FoundHeld result doc handle.old.held offset.old offset.new
+        (λ f. flat_offset_as f encoding (at line column)) }
+    ensures sure { encoding ≡ 16 → ¬ (result ≡ number_of Status.Memory) }
+{
+    let contents = taken_for!(handle, doc, alloc);
+    let answer = offset_as(contents.document(doc), Position { line, column }, encoding);
+    handle.put(contents);
+    Status::of_found(answer, offset).number()
+}
