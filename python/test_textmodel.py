@@ -1157,7 +1157,7 @@ class Player:
 
 
 def is_told(came, wanted):
-    """Whether a reply is the one that is wanted, as far as a player tells it."""
+    """Whether a reply is as wanted, as far as a player tells it."""
     return came == wanted or (came in (b"! joint", b"! gap") and wanted.startswith(came + b" "))
 
 

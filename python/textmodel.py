@@ -552,7 +552,7 @@ def numbers(**values: int) -> List[int]:
 
 
 def document_number(value: int) -> int:
-    """The number of a document; UnknownError where there is none of it."""
+    """The number of a document; UnknownError where it is above 63."""
     found = operator.index(value)
     if not 0 <= found < DOCUMENTS:
         raise UnknownError(f"there is no document {found}: they are numbered from 0 to {DOCUMENTS - 1}")
@@ -1259,7 +1259,7 @@ class Document:
     def find(self, text: str) -> List[Span]:
         """Where the text stands, from left to right, none of the spans overlapping the one before.
 
-        Unit stands for unit. RangeError where the text is empty.
+        Units are compared one by one. RangeError where the text is empty.
 
         >>> Document("abab").find("b")
         [Span(start=1, end=2), Span(start=3, end=4)]
@@ -1341,7 +1341,7 @@ class Document:
     def match(self, line: int, column: int) -> Optional[Partner]:
         """The other bracket of a pair, where one of the two starts at the position; None where none does.
 
-        RangeError where the position is none of the text.
+        RangeError where the position is invalid.
         """
         words, partner = place_words((line, column)), CPartner()
         why = lambda: self._why_no_position(*words)  # noqa: E731
@@ -1349,7 +1349,7 @@ class Document:
         return Partner(partner.line, partner.column, partner.units) if is_there else None
 
     def level(self, line: int, column: int) -> int:
-        """How many brackets are open after those that start before the position; RangeError where it is none of the text."""
+        """How many brackets are open after those that start before the position; RangeError where it is invalid."""
         words = place_words((line, column))
         return self._number_of(LIBRARY.tm_level, *words, what="level", why=lambda: self._why_no_position(*words)) or 0
 

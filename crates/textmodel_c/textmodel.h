@@ -2,7 +2,8 @@
  *
  *   tm_session session = {0};
  *   if (tm_make(&session) != TM_OK) return 1;
- *   tm_edit(&session, 0, 0, 0, u"hello", 5);
+ *   const uint16_t text[] = {0x68, 0x69};
+ *   tm_edit(&session, 0, 0, 0, text, 2);
  *   tm_free(&session);
  *
  * A session holds 64 documents, numbered from 0 to 63. All are there from the start, and empty. Most calls take the number

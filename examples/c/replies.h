@@ -25,7 +25,7 @@ static inline bool refused(uint32_t status) {
   return true;
 }
 
-/* The same where the status stands for another refusal. */
+/* The same where the status is that of another refusal. */
 static inline bool refused_as(uint32_t status, uint32_t from, uint32_t to) { return refused(status == from ? to : status); }
 
 /* ---- Texts */
