@@ -1,4 +1,8 @@
-"""Times how breaks are found in 100 MB of text: by lanes, and one unit after another."""
+"""Times how breaks are found in 100 MB of text with a line each 30 units: by lanes, and one unit after another.
+
+Each pass begins one unit further on. Making the text is timed by itself and taken off. So large a text comes from memory, whose
+speed bounds the lanes.
+"""
 import resource
 import subprocess
 from pathlib import Path

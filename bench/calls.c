@@ -52,8 +52,8 @@ static uint32_t made(tm_session *session, const Call *call, Told *told) {
     case POSITION: return tm_position(session, 0, call->first, TM_UTF16, &told->place);
     case OFFSET: return tm_offset(session, 0, call->first, call->second, TM_UTF16, &told->number);
     case LINE: return tm_line(session, 0, call->first, told->units, LINE_ROOM, &told->number);
-    case LEVEL: return tm_level(session, 0, call->first, call->second, &told->number);
-    default: return tm_match(session, 0, call->first, call->second, &told->partner);
+    case LEVEL: return tm_level(session, 0, call->first, call->second, TM_UTF16, &told->number);
+    default: return tm_match(session, 0, call->first, call->second, TM_UTF16, &told->partner);
     }
 }
 
@@ -75,7 +75,7 @@ static void reply(tm_session *session, const Call *call, const Told *told, uint3
         break;
     case POSITION: printf("ok %lu %lu\n", told->place.line, told->place.column); break;
     case LINE: write_line(told); break;
-    case MATCH: printf("ok %lu %lu %lu\n", told->partner.line, told->partner.column, told->partner.units); break;
+    case MATCH: printf("ok %lu %lu %lu\n", told->partner.line, told->partner.column, told->partner.length); break;
     default: printf("ok %lu\n", told->number);
     }
 }
@@ -85,7 +85,7 @@ static tm_session opened(char **lines, size_t count) {
     uint64_t length;
     if (tm_make(&session) != TM_OK) fail("no memory");
     for (size_t at = 0; at < count; at++)
-        if (tm_answer(&session, (const uint8_t *)lines[at], strlen(lines[at]), &length) != TM_OK) fail("no answer");
+        if (tm_answer(&session, lines[at], strlen(lines[at]), &length) != TM_OK) fail("no answer");
     return session;
 }
 

@@ -104,7 +104,10 @@ class OneByOne(Running):
 
 
 def least_of_each(command: list[str], before: Lines, lines: Lines, runs: int) -> list[int]:
-    """The least nanoseconds that each line took in so many runs, where it is sent by itself."""
+    """The least nanoseconds that each line took in so many runs, where it is sent by itself.
+
+    What grows, grows at the same line in each run, and other work of the machine comes at others: so the least counts. A line by
+    itself takes longer than among others, since the program sleeps and wakes for each."""
     least: list[int] = []
     for _ in range(runs):
         running = OneByOne(command)

@@ -77,10 +77,9 @@ class File:
         self.document.edit_at(start, end, text, "utf-8")
         self.follow()
 
-    def brackets(self, first: int, last: int) -> list[tuple[Position, Bracket]]:
-        """The brackets of the lines that are seen, each with its place."""
-        found = self.document.brackets(first, last)
-        return [(self.place(self.document.offset(*it.position)), it) for it in found]
+    def brackets(self, first: int, last: int) -> list[Bracket]:
+        """The brackets of the lines that are seen."""
+        return self.document.brackets(first, last, "utf-8")
 
     def diagnose(self, found: Iterable[tuple[Position, Position, str]]) -> None:
         """Has these diagnostics in the place of those before. They follow the text from now on."""
@@ -133,10 +132,8 @@ class Editor:
         """Gives a name another one in all files, as one step; how often it stood there."""
         found = {file.document: [*filter(file.is_word, file.document.find(name))] for file in self.files}
         edits = {it.number: [(*span, new) for span in spans] for it, spans in found.items() if spans}
-        if len(edits) > 1:
+        if edits:
             self.session.joint(edits)
-        for number in edits if len(edits) == 1 else ():
-            self.session[number].batch(edits[number])
         for file in self.files:
             file.follow()
         return sum(map(len, edits.values()))
@@ -165,7 +162,7 @@ def check(file: File) -> None:
     assert seen == [file.document.text, *file.document.lines()]
     last, line_of = file.document.line_count, file.document.line_utf8
     assert len(file.diagnostics(1, last)) == len(file.messages)
-    assert all(line_of(line)[column - 1] in b"()[]{}" for (line, column), _ in file.brackets(max(1, last - 9), last))
+    assert all(line_of(it.line)[it.column - 1] in b"()[]{}" for it in file.brackets(max(1, last - 9), last))
     assert all(line_of(line)[column - 1 :].startswith("😀".encode()) for line, column in file.find("😀"))
 
 
@@ -191,9 +188,9 @@ def test(steps: int = 10_000) -> None:
 
 def main(paths: list[str]) -> None:
     for file in map(Editor().open, map(Path, paths)):
-        for (line, column), it in file.brackets(1, file.document.line_count):
+        for it in file.brackets(1, file.document.line_count):
             if it.state in ALONE:
-                print(f"{file.path}:{line}:{column}: {ALONE[it.state]}")
+                print(f"{file.path}:{it.line}:{it.column}: {ALONE[it.state]}")
 
 
 if __name__ == "__main__":

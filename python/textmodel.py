@@ -6,7 +6,7 @@
 >>> document.line(1)
 'f([y]); // )'
 >>> document.match(1, 2)
-Partner(line=1, column=6, units=1)
+Partner(line=1, column=6, length=1)
 >>> document.undo()
 True
 >>> document.text
@@ -15,14 +15,15 @@ True
 
 A `Session` has 64 documents, which one joint edit may change at once; `Document(text)` makes a session of its own.
 
-Offsets count UTF-16 units from 0, and so do lengths: a character above U+FFFF has two. `units` tells how many a `str` has.
-Lines and columns count from 1. A column counts units too, or bytes of UTF-8 or code points where a call takes an encoding. A
-place is an offset from 0 to `len(document)` that stands inside no character, and, in a document of CR LF, between no CR and
-its LF. Numbers are below 2**64.
+An offset counts UTF-16 units from 0, and so does a length: a character above U+FFFF has two. `units` tells how many a `str` has.
+Lines and columns count from 1. A column counts units, or what its `encoding` names: `"utf-8"` for bytes, `"utf-32"` for code points.
+A place is an offset from 0 to `len(document)`, but not inside a character, nor between a CR and its LF in a document whose line
+endings are CR LF. A span goes from one place up to another, and does not include the unit at its end. Numbers are below 2**64.
 
-A call that raises has changed nothing. `TextModelError` is the base of what this module raises by itself, and its message
-says which document and which argument it is about. Each of its kinds is a kind of Python's own error, too. A word that is none,
-as of an encoding or a line ending, is a ValueError, and an object of another kind a TypeError.
+A call that raises has changed nothing. `TextModelError` is the base of what this module raises by itself. Its message says which
+document, and which edit or decoration, was refused; `document` and `index` have their numbers. Each of its kinds is a kind of
+Python's own error, too. A word that is not known, as for an encoding or a line ending, raises ValueError, and an object of another
+type TypeError.
 
 Any thread may call. Calls on documents of one session wait for one another, those on several sessions go on at once.
 
@@ -41,24 +42,11 @@ import warnings
 import weakref
 from codecs import utf_16_le_decode
 from dataclasses import dataclass
+from functools import partial
 from pathlib import Path
 from threading import RLock
-from typing import (
-    Any,
-    Callable,
-    ClassVar,
-    Dict,
-    Iterable,
-    Iterator,
-    List,
-    Mapping,
-    NamedTuple,
-    Optional,
-    Sequence,
-    Tuple,
-    Type,
-    Union,
-)
+from typing import Any, Callable, ClassVar, Dict, Iterable, Iterator, List, Mapping, NamedTuple, Optional, Sequence
+from typing import Tuple, Type, TypeVar, Union
 
 __all__ = [
     "Bracket", "BracketState", "Change", "ClosedError", "Decoration", "Document", "Edit", "EncodingError", "Event", "GapError",
@@ -71,10 +59,6 @@ __version__ = "1.0.0"
 
 DOCUMENTS = 64
 MOST_NUMBER = 2**64 - 1
-MOST_PAIRS = 64
-MOST_MARK_UNITS = 32
-MOST_QUOTES = 8
-MOST_STICK = 3
 MAJOR = 1
 NAMES = ("libtextmodel.so.1", "libtextmodel.so")
 VARIABLE = "TEXTMODEL_LIBRARY"
@@ -93,25 +77,34 @@ COUNTED = {"utf-8": "bytes of UTF-8", "utf-16": "units of UTF-16", "utf-32": "co
 
 Place = Tuple[int, int]
 Pair = Tuple[str, str]
+Item = TypeVar("Item")
+New = Tuple[int, int, int, bool]  # the fields of a new decoration
 
 
 # ---- Errors
 
 
 class TextModelError(Exception):
-    """Why a call was refused. It has changed nothing."""
+    """Why a call was refused. It has changed nothing.
+
+    `document` is the number of the document at fault. `index` is the place of what is at fault: of an edit among those of its
+    document, of a decoration in `add` or in `remove`, or of a byte in a text. It counts from 0. Both are None where none is known.
+    """
+
+    document: Optional[int] = None
+    index: Optional[int] = None
 
 
 class UnknownError(TextModelError, LookupError):
-    """A document, a decoration, a snapshot, a mirror or an event is not there."""
+    """There is no document, decoration, snapshot, mirror or event of this number."""
 
 
 class RangeError(TextModelError, IndexError):
-    """A place, a line, a span or a mode is none, or nothing was given where something must be."""
+    """An offset, a span, a line, a column or another argument is out of range or invalid."""
 
 
 class OverlapError(TextModelError, ValueError):
-    """Two edits of a batch overlap."""
+    """Two edits of one document overlap. `index` is that of the first one that overlaps one before it."""
 
 
 class LimitError(TextModelError, ValueError):
@@ -123,9 +116,7 @@ class NoMemoryError(TextModelError, MemoryError):
 
 
 class EncodingError(TextModelError, ValueError):
-    """The bytes are no UTF-8. `at` is how many stand before the first that is at fault."""
-
-    at = 0
+    """The bytes are not valid UTF-8. `index` is how many stand before the first one at fault."""
 
 
 class ClosedError(TextModelError, ValueError):
@@ -133,44 +124,55 @@ class ClosedError(TextModelError, ValueError):
 
 
 class JointError(TextModelError, ValueError):
-    """A step of several documents is not the next one of each of them: what came after it is to be undone first."""
+    """A step of several documents is not the last or next one in `document`, which has to be undone or redone first."""
 
 
 class GapError(TextModelError, ValueError):
-    """An event came to a mirror that has not come so far: those before it are to be delivered first."""
+    """A mirror lacks events before this one: it has version `have`, and the event begins with version `need`."""
+
+    have = need = 0
 
 
+# The error of each status, and what is said of it where nothing more is known.
 ERRORS: Dict[int, Tuple[Type[TextModelError], str]] = {
     UNKNOWN: (UnknownError, "it is not there"),
     RANGE: (RangeError, "it is out of range"),
     OVERLAP: (OverlapError, "two edits overlap"),
     LIMIT: (LimitError, "the text would have 2**40 units or more, or its version would pass 2**63 - 1"),
     MEMORY: (NoMemoryError, "there is no memory for it"),
-    ENCODING: (EncodingError, "the bytes are no UTF-8"),
+    ENCODING: (EncodingError, "byte {0.index} is not valid UTF-8"),
     EMPTY: (ClosedError, "the session is closed"),
-    JOINT: (JointError, "the step is one of several documents, and is not the next one of each of them"),
-    GAP: (GapError, "it comes too early: the mirror wants other events before it"),
+    JOINT: (JointError, "its step is one of several documents, and document {0.doc} has another one to go first"),
+    GAP: (GapError, "the mirror has version {0.have}, and the event begins with version {0.need}"),
 }
+
+NO_LENGTH = "a bracket begins or ends inside a character, and has no such column or length"
+NOTHING_SOUGHT = "there is no text to look for"
+NO_MARKS = (
+    "the brackets or what hides them are invalid: brackets are up to 64 pairs, all different; each text has 1 to 32 units and no CR or "
+    "LF; a block comment has both of its texts; quotes are up to 8 different units, and no backslash or surrogate"
+)
 
 # The limits of calls that make no text longer.
 LIMITS = {
-    "decorate": "more than 2**20 decorations would be live, or an id would pass 2**63 - 1",
+    "decorate": "there would be more than 2**20 decorations, or an id would pass 2**63 - 1",
     "snapshot": "1,000 snapshots are open, or its id would pass 2**63 - 1",
     "send": "65,536 events were sent since the document was opened",
 }
 
-Why = Callable[[], Optional[str]]
+Why = Union[None, str, Callable[[], Optional[str]]]  # a cause, or what looks for it once the call was refused
 
 
-def no_cause() -> None:
-    """Nothing more is known of a refusal than its status."""
-
-
-def refusal(status: int, what: str, why: Why = no_cause) -> TextModelError:
-    """The error of a status. The cause is looked for where the library answered of the arguments."""
+def refusal(status: int, what: str, why: Why = None, fault: Any = None) -> TextModelError:
+    """The error of a status. Its cause is looked for where an argument was refused."""
     error, plain = ERRORS.get(status, (TextModelError, f"the library answers {status}"))
-    cause = why() if error in (UnknownError, RangeError, OverlapError) else None
-    return error(f"{what}: {cause or plain}")
+    cause = (why() if callable(why) else why) if status in (UNKNOWN, RANGE, OVERLAP) else None
+    made = error(f"{what}: {cause or plain.format(fault)}")
+    if isinstance(made, EncodingError):
+        made.index = fault.index
+    if isinstance(made, GapError):
+        made.have, made.need = fault.have, fault.need
+    return made
 
 
 # ---- What crosses
@@ -191,9 +193,8 @@ class Span(NamedTuple):
 
 
 class Edit(NamedTuple):
-    """An edit of a batch: the text takes the place of the units from `start` up to `end`.
-
-    Where `force` is set, a decoration that starts or ends at the place moves to the end of the text, whatever sticks to it.
+    """An edit of several: the text takes the place of the units from `start` up to `end`. With `force`, a decoration that starts or
+    ends there moves to the end of the text, whatever its `stick`.
     """
 
     start: int
@@ -203,9 +204,8 @@ class Edit(NamedTuple):
 
 
 class Change(NamedTuple):
-    """What a change did: the text took the place of the units from `start` up to `end`.
-
-    The changes of one version are carried out one after another: a span counts in the text that those before it left.
+    """One of the edits of the last change: the text took the place of the units from `start` up to `end`, which count in the text
+    that the edits before this one had left.
     """
 
     start: int
@@ -214,7 +214,7 @@ class Change(NamedTuple):
 
 
 class Stick(enum.IntEnum):
-    """What is typed at which end of a decoration becomes a part of it."""
+    """Text that is typed at these ends of a decoration makes it grow: at both, at none, at its start or at its end."""
 
     BOTH = 0
     NONE = 1
@@ -223,9 +223,8 @@ class Stick(enum.IntEnum):
 
 
 class NewDecoration(NamedTuple):
-    """A decoration that is to be added over the units from `start` up to `end`.
-
-    Where `collapse` is set, an edit that takes the whole of it leaves it empty where the edit starts.
+    """A decoration that is to be added over the units from `start` up to `end`. With `collapse` it becomes empty, at the start of
+    the edit, where all of its text is replaced.
     """
 
     start: int
@@ -235,10 +234,7 @@ class NewDecoration(NamedTuple):
 
 
 class Decoration(NamedTuple):
-    """A live decoration over the units from `start` up to `end`.
-
-    Where a text is put in the place of another, an end that stood inside that may come to stand inside a character.
-    """
+    """A decoration over the units from `start` up to `end`. An edit around one of its ends may leave that inside a character."""
 
     id: int
     owner: int
@@ -262,14 +258,13 @@ class BracketState(enum.IntEnum):
 
 
 class Bracket(NamedTuple):
-    """A bracket, where it starts and how many units it has.
-
-    `kind` is the place of its pair among the pairs, from 0, and `level` is how many are open around it.
+    """A bracket: where it starts, and its length, which counts as the column does. `kind` is the place of its pair among the pairs,
+    from 0, and `level` is how many brackets are open around it.
     """
 
     line: int
     column: int
-    units: int
+    length: int
     kind: int
     level: int
     state: BracketState
@@ -280,11 +275,11 @@ class Bracket(NamedTuple):
 
 
 class Partner(NamedTuple):
-    """The other bracket of a pair: where it starts, and how many units it has."""
+    """The other bracket of a pair: where it starts, and its length, which counts as the column does."""
 
     line: int
     column: int
-    units: int
+    length: int
 
     @property
     def position(self) -> Position:
@@ -292,14 +287,14 @@ class Partner(NamedTuple):
 
 
 class Event(NamedTuple):
-    """A change that a mirror can take: its number, and the version before it."""
+    """A change that was sent to mirrors: its number, and the version that it begins with."""
 
     number: int
     version: int
 
 
 class MirrorState(NamedTuple):
-    """What a mirror has: the version whose text it is, and how many units and lines that has."""
+    """What a mirror is: the version whose text it has, and how many units and lines that has."""
 
     version: int
     units: int
@@ -337,58 +332,35 @@ NUMBER = ctypes.c_uint32
 FLAG = ctypes.c_bool
 
 
-class CHandle(ctypes.Structure):
-    _fields_ = [("at", ctypes.c_void_p)]
+def struct(**fields: Any) -> Type[ctypes.Structure]:
+    """A struct of C with these fields."""
+    return type("struct", (ctypes.Structure,), {"_fields_": [*fields.items()]})
 
 
-class CPlace(ctypes.Structure):
-    _fields_ = [("line", U64), ("column", U64)]
+CFault = struct(index=U64, doc=U64, have=U64, need=U64)
+CSession = struct(at=ctypes.c_void_p, fault=CFault)
+CPlace = struct(line=U64, column=U64)
+COp = struct(doc=U64, start=U64, end=U64, units=U64, force=FLAG)
+CChange = struct(start=U64, end=U64, units=U64)
+CPair = struct(opening=U64, closing=U64)
+CNewDecoration = struct(start=U64, end=U64, stick=U64, collapse=FLAG)
+CDecoration = struct(id=U64, owner=U64, start=U64, end=U64, stick=U64, collapse=FLAG)
+CFound = struct(start=U64, end=U64)
+CBracket = struct(line=U64, column=U64, length=U64, kind=U64, level=U64, state=NUMBER)
+CPartner = struct(line=U64, column=U64, length=U64)
+CFollowed = struct(version=U64, units=U64, lines=U64)
 
 
-class COp(ctypes.Structure):
-    _fields_ = [("start", U64), ("end", U64), ("units", U64), ("force", FLAG)]
+def decoration_of(it: Any) -> Decoration:
+    return Decoration(it.id, it.owner, it.start, it.end, Stick(it.stick), it.collapse)
 
 
-class CDocumentOp(ctypes.Structure):
-    _fields_ = [("doc", U64), ("start", U64), ("end", U64), ("units", U64), ("force", FLAG)]
+def bracket_of(it: Any) -> Bracket:
+    return Bracket(it.line, it.column, it.length, it.kind, it.level, BracketState(it.state))
 
 
-class CChange(ctypes.Structure):
-    _fields_ = [("start", U64), ("end", U64), ("units", U64)]
-
-
-class CPair(ctypes.Structure):
-    _fields_ = [("opening", U64), ("closing", U64)]
-
-
-class CNewDecoration(ctypes.Structure):
-    _fields_ = [("start", U64), ("end", U64), ("stick", U64), ("collapse", FLAG)]
-
-
-class CDecoration(ctypes.Structure):
-    _fields_ = [("id", U64), ("owner", U64), ("start", U64), ("end", U64), ("stick", U64), ("collapse", FLAG)]
-
-    def told(self) -> Decoration:
-        return Decoration(self.id, self.owner, self.start, self.end, Stick(self.stick), self.collapse)
-
-
-class CFound(ctypes.Structure):
-    _fields_ = [("start", U64), ("end", U64)]
-
-
-class CBracket(ctypes.Structure):
-    _fields_ = [("line", U64), ("column", U64), ("units", U64), ("kind", U64), ("level", U64), ("state", NUMBER)]
-
-    def told(self) -> Bracket:
-        return Bracket(self.line, self.column, self.units, self.kind, self.level, BracketState(self.state))
-
-
-class CPartner(ctypes.Structure):
-    _fields_ = [("line", U64), ("column", U64), ("units", U64)]
-
-
-class CFollowed(ctypes.Structure):
-    _fields_ = [("version", U64), ("units", U64), ("lines", U64)]
+def mirror_state_of(it: Any) -> MirrorState:
+    return MirrorState(it.version, it.units, it.lines)
 
 
 # ---- The library
@@ -399,53 +371,38 @@ OUT = [ADDRESS, U64, ADDRESS]  # where there is room, for how many, and where it
 DOC = U64
 MARKS = [*TEXT, *TEXT, U64, U64, U64, *TEXT]  # the pairs, their texts, the lengths of marks, and theirs
 
-# What each call takes behind the handle. Every one answers a status.
-CALLS: Dict[str, List[Any]] = {
-    "tm_make": [],
-    "tm_free": [],
+# What calls take behind the session. Every one answers a status.
+SIGNATURES: Dict[str, List[Any]] = {
+    "tm_make tm_free": [],
+    "tm_stop tm_can_undo tm_can_redo": [DOC],
+    "tm_raw_undo tm_raw_redo tm_kind tm_len tm_line_count tm_next_change tm_snapshot tm_mirror tm_mirror_now": [DOC, ADDRESS],
+    "tm_versions tm_send": [DOC, ADDRESS, ADDRESS],
+    "tm_set_eol": [DOC, NUMBER],
+    "tm_close": [DOC, U64],
+    "tm_deco": [DOC, U64, ADDRESS],
+    "tm_raw_deliver": [DOC, U64, ADDRESS, ADDRESS, ADDRESS],
+    "tm_position": [DOC, U64, NUMBER, ADDRESS],
+    "tm_offset tm_match tm_level": [DOC, U64, U64, NUMBER, ADDRESS],
     "tm_raw_open": [DOC, NUMBER, *TEXT, *MARKS],
     "tm_raw_open_utf8": [DOC, NUMBER, *TEXT, *MARKS, ADDRESS],
     "tm_raw_edit": [DOC, U64, U64, *TEXT],
     "tm_raw_edit_at": [DOC, U64, U64, U64, U64, NUMBER, *TEXT],
-    "tm_raw_batch": [DOC, *TEXT, *TEXT],
     "tm_raw_joint": [*TEXT, *TEXT],
-    "tm_undo": [DOC],
-    "tm_redo": [DOC],
-    "tm_can_undo": [DOC],
-    "tm_can_redo": [DOC],
-    "tm_stop": [DOC],
-    "tm_set_eol": [DOC, NUMBER],
-    "tm_kind": [DOC, ADDRESS],
-    "tm_len": [DOC, ADDRESS],
-    "tm_line_count": [DOC, ADDRESS],
-    "tm_versions": [DOC, ADDRESS, ADDRESS],
-    "tm_next_change": [DOC, ADDRESS],
-    "tm_raw_change_text": OUT,
-    "tm_position": [DOC, U64, NUMBER, ADDRESS],
-    "tm_offset": [DOC, U64, U64, NUMBER, ADDRESS],
-    "tm_raw_value": [DOC, U64, U64, *OUT],
-    "tm_raw_line": [DOC, U64, *OUT],
-    "tm_raw_line_utf8": [DOC, U64, *OUT],
-    "tm_raw_read_into": [DOC, U64, *OUT],
-    "tm_raw_stops": [DOC, U64, *OUT],
-    "tm_raw_find": [DOC, *TEXT, *OUT],
+    "tm_raw_joint_fault": [*TEXT, U64, NUMBER, ADDRESS],
     "tm_raw_replace_all": [DOC, *TEXT, *TEXT, ADDRESS],
     "tm_raw_decorate": [DOC, U64, *TEXT, *TEXT, ADDRESS],
-    "tm_deco": [DOC, U64, ADDRESS],
+    "tm_raw_decorate_fault": [DOC, U64, *TEXT, *TEXT, NUMBER, ADDRESS],
+    "tm_raw_line tm_raw_line_utf8 tm_raw_read_into tm_raw_read tm_raw_mirrored": [DOC, U64, *OUT],
+    "tm_raw_value": [DOC, U64, U64, *OUT],
+    "tm_raw_stops": [DOC, U64, NUMBER, *OUT],
+    "tm_raw_find": [DOC, *TEXT, U64, FLAG, U64, *OUT],
     "tm_raw_decos": [DOC, U64, U64, U64, FLAG, *OUT],
-    "tm_raw_brackets": [DOC, U64, U64, *OUT],
-    "tm_match": [DOC, U64, U64, ADDRESS],
-    "tm_level": [DOC, U64, U64, ADDRESS],
-    "tm_snapshot": [DOC, ADDRESS],
-    "tm_raw_read": [DOC, U64, *OUT],
-    "tm_close": [DOC, U64],
-    "tm_mirror": [DOC, ADDRESS],
-    "tm_send": [DOC, ADDRESS, ADDRESS],
-    "tm_deliver": [DOC, U64, ADDRESS],
-    "tm_raw_mirrored": [DOC, U64, *OUT],
+    "tm_raw_brackets": [DOC, U64, U64, NUMBER, *OUT],
+    "tm_raw_change_text": OUT,
     "tm_raw_answer": [*TEXT, ADDRESS],
     "tm_raw_reply": [U64, *OUT],
 }
+CALLS = {name: signature for names, signature in SIGNATURES.items() for name in names.split()}
 
 
 def in_folder(folder: Path) -> Optional[str]:
@@ -537,7 +494,7 @@ def decoded(data: Union[bytes, bytearray, memoryview]) -> str:
 
 
 def number(value: int, what: str, error: Type[TextModelError] = RangeError) -> int:
-    """A number that can cross."""
+    """The number, which a call takes where it is 0 or more, and below 2**64."""
     found = operator.index(value)
     if found < 0:
         raise error(f"{what} {found} is below 0")
@@ -547,16 +504,8 @@ def number(value: int, what: str, error: Type[TextModelError] = RangeError) -> i
 
 
 def numbers(**values: int) -> List[int]:
-    """Numbers that can cross, by what they are."""
+    """Such numbers, by their names."""
     return [number(value, what) for what, value in values.items()]
-
-
-def document_number(value: int) -> int:
-    """The number of a document; UnknownError where it is above 63."""
-    found = operator.index(value)
-    if not 0 <= found < DOCUMENTS:
-        raise UnknownError(f"there is no document {found}: they are numbered from 0 to {DOCUMENTS - 1}")
-    return found
 
 
 def ending_number(ending: Optional[str]) -> int:
@@ -583,31 +532,21 @@ def hiding_of(language: Optional[str], hiding: Optional[Hiding]) -> Hiding:
 
 
 def edit_of(words: EditLike) -> Edit:
-    """An edit whose numbers can cross."""
+    """An edit of such numbers."""
     fields: Tuple[Any, ...] = words
     edit = Edit(*fields)
     return edit._replace(start=number(edit.start, "offset"), end=number(edit.end, "offset"))
 
 
-def edits_of(edits: Iterable[EditLike]) -> List[Edit]:
-    found = []
-    for at, words in enumerate(edits):
-        try:
-            found.append(edit_of(words))
-        except RangeError as error:
-            raise RangeError(f"edit {at}: {error}") from None
-    return found
-
-
-def new_decoration(words: NewLike) -> Tuple[int, int, int, bool]:
-    """The fields of a new decoration that can cross."""
+def new_decoration(words: NewLike) -> New:
+    """The fields of a new decoration, of such numbers."""
     fields: Tuple[Any, ...] = words
     new = NewDecoration(*fields)
-    return number(new.start, "offset"), number(new.end, "offset"), number(new.stick, "mode"), new.collapse
+    return number(new.start, "offset"), number(new.end, "offset"), number(new.stick, "stick"), new.collapse
 
 
 def array(of: Type[Any], items: Sequence[Any]) -> Any:
-    """An array of the items, with room for one where there is none, so that it stands somewhere."""
+    """An array of the items, which has an address also where there is no item."""
     return (of * max(len(items), 1))(*items)
 
 
@@ -631,63 +570,6 @@ class Room:
         return memoryview(self.bytes)[: self.size * self.count.value]
 
 
-# ---- Why a call was refused. The library tells a status, and what it was for is looked for here.
-
-
-def first_of(causes: Iterable[Optional[str]]) -> Optional[str]:
-    """The first cause that there is."""
-    return next((cause for cause in causes if cause), None)
-
-
-def why_no_mark(text: str, what: str) -> Optional[str]:
-    count = units(text)
-    if not 1 <= count <= MOST_MARK_UNITS:
-        return f"{what} has {count} units, and may have 1 to {MOST_MARK_UNITS}"
-    return f"{what} has a CR or an LF" if "\r" in text or "\n" in text else None
-
-
-def why_no_brackets(pairs: Sequence[Pair]) -> Optional[str]:
-    texts = [text for pair in pairs for text in pair]
-    if len(pairs) > MOST_PAIRS:
-        return f"there are {len(pairs)} pairs of brackets, and may be {MOST_PAIRS}"
-    twice = next((text for at, text in enumerate(texts) if text in texts[:at]), None)
-    if twice is not None:
-        return f"the bracket {twice!r} comes twice"
-    return first_of(why_no_mark(text, f"the bracket {text!r}") for text in texts)
-
-
-def why_no_hiding(hiding: Hiding) -> Optional[str]:
-    line, (opening, closing), quotes = hiding.line, hiding.block, hiding.quotes
-    if units(quotes) > MOST_QUOTES:
-        return f"there are {units(quotes)} quotes, and may be {MOST_QUOTES}"
-    quote = next((it for it in quotes if it in "\r\n\\" or ord(it) > 0xFFFF or 0xD800 <= ord(it) < 0xE000), None)
-    if quote is not None:
-        return f"{quote!r} is no quote"
-    twice = next((it for at, it in enumerate(quotes) if it in quotes[:at]), None)
-    if twice is not None:
-        return f"the quote {twice!r} comes twice"
-    of_block = ((opening, "what begins a block comment"), (closing, "what ends a block comment"))
-    marks = [(line, "what begins a line comment")] if line else []
-    return first_of(why_no_mark(text, what) for text, what in [*marks, *(of_block if opening or closing else ())])
-
-
-def why_overlap(edits: Sequence[Edit]) -> Optional[str]:
-    """The two edits that overlap, where each has a span of the text."""
-    order = sorted(range(len(edits)), key=lambda at: (edits[at].end, edits[at].start))
-    for one, other in zip(order, order[1:]):
-        if edits[one].end > edits[other].start:
-            first, second = sorted((one, other))
-            return f"edits {first} and {second} overlap"
-    return None
-
-
-def why_no_joint(batches: Sequence[Tuple[Document, Sequence[Edit]]]) -> Optional[str]:
-    if len(batches) < 2:
-        return f"it is of two documents or more, not of {len(batches)}"
-    causes = [(it, it._why_no_edits(batch)) for it, batch in batches] + [(it, why_overlap(batch)) for it, batch in batches]
-    return first_of(cause and f"document {it.number}: {cause}" for it, cause in causes)
-
-
 # ---- Sessions
 
 
@@ -708,8 +590,8 @@ class Session:
     """
 
     def __init__(self) -> None:
-        handle = CHandle()
-        self._at = ctypes.byref(handle)
+        held = CSession()
+        self._at, self._fault = ctypes.byref(held), held.fault
         self._lock = RLock()
         self._generations = [0] * DOCUMENTS  # how often each document was opened
         status = LIBRARY.tm_make(self._at)
@@ -723,34 +605,48 @@ class Session:
 
     def __getitem__(self, number: int) -> Document:
         """The document of this number; UnknownError where there is none."""
-        return Document._of(self, document_number(number))
+        found = operator.index(number)
+        if not 0 <= found < DOCUMENTS:
+            raise UnknownError(f"there is no document {found}: they are numbered from 0 to {DOCUMENTS - 1}")
+        document = Document.__new__(Document)
+        document._session, document._number, document._is_alone = self, found, False
+        return document
 
     def __iter__(self) -> Iterator[Document]:
         """The documents, from that of number 0 on."""
         return (self[n] for n in range(DOCUMENTS))
 
     def joint(self, edits: Mapping[int, Iterable[EditLike]]) -> None:
-        """Carries out a batch in each of two documents or more, all of them or none, as a step that is undone in all at once.
+        """Carries out edits in several documents at once, all of them or none, as a step that is undone in all of them at once.
 
-        `edits` has, by the number of a document, its edits, as `Document.batch` takes them. UnknownError where a document is
-        above 63; else RangeError where they are fewer than two, one has no edit, or an edit is at no span of its document;
-        else OverlapError, and LimitError.
+        `edits` has, by the number of a document, its edits, as `Document.batch` takes them. A document without edits is left out,
+        and of one document alone this is its `batch`. UnknownError where a document is above 63; else RangeError where there is no
+        edit, or one is not between two places of its document; else OverlapError; else LimitError.
         """
         given = [(self[number], batch) for number, batch in edits.items()]
-        batches = [(document, document._edits_of(batch)) for document, batch in given]
-        made = [(document.number, edit) for document, batch in batches for edit in batch]
-        texts = [encoded(edit.text) for _, edit in made]
-        ops = [(n, it.start, it.end, len(data) // 2, it.force) for (n, it), data in zip(made, texts)]
-        joined = b"".join(texts)
+        self._carry_out("joint edit", [(document, document._edits_of("joint edit", batch)) for document, batch in given])
+
+    def _carry_out(self, what: str, batches: Sequence[Tuple[Document, Sequence[Edit]]]) -> None:
+        """Carries out the edits of each document, all or none."""
+        made = [(document, at, edit, encoded(edit.text)) for document, batch in batches for at, edit in enumerate(batch)]
+        fields = [(document.number, edit.start, edit.end, len(text) // 2, edit.force) for document, _, edit, text in made]
+        ops = array(COp, fields), len(fields)
+        joined = b"".join(text for *_, text in made)
         with self._lock:
-            status = LIBRARY.tm_raw_joint(self._at, array(CDocumentOp, ops), len(ops), joined, len(joined) // 2)
-            if status != OK:
-                raise refusal(status, "joint edit", lambda: why_no_joint(batches))
+            status = LIBRARY.tm_raw_joint(self._at, *ops, joined, len(joined) // 2)
+            if status == OK:
+                return
+            if LIBRARY.tm_raw_joint_fault(self._at, *ops, len(joined) // 2, status, self._fault_at("index")) == OK:
+                document, at, edit, _ = made[self._fault.index]
+                cause = document._why_no_span(edit.start, edit.end) if status == RANGE else "it overlaps one before it"
+                raise document._error(ERRORS[status][0], what, f"edit {at}: {cause}", at)
+            why = None if made else "there is no edit"
+            raise batches[0][0]._refusal(status, what, why) if len(batches) == 1 else refusal(status, what, why)
 
     def answer(self, line: Union[bytes, str]) -> bytes:
         """Answers a line of a script, which comes without its LF: the bytes of the reply with its LF, none for a blank line.
 
-        That is what the program would write for it; a line that is no command is answered so, and raises nothing.
+        The program would write the same. A line that is not a command is answered so too, and raises nothing.
 
         >>> Session().answer('{"cmd":"open","doc":3,"text":"ab"}')
         b'ok 1 2 1\\n'
@@ -772,6 +668,10 @@ class Session:
         command = json.loads(line)
         if command["cmd"] == "open":
             self._generations[command.get("doc", 0)] += 1
+
+    def _fault_at(self, field: str) -> Any:
+        """Where a call tells this field of the fault."""
+        return ctypes.byref(self._fault, getattr(CFault, field).offset)
 
     def _check(self, status: int, what: str) -> None:
         if status != OK:
@@ -802,17 +702,17 @@ class Session:
 class Document:
     """A document of a session, or one by itself: a text, empty at first, or this one.
 
-    `language` is one of `LANGUAGES`: in its comments and strings brackets are text. `hiding` tells what these are in any other;
-    without both, nothing hides brackets. `ending` is None where the line endings are as they come: LF, CR, and CR LF. With `"lf"`
-    or `"crlf"` the text gets these endings, and so does all that is put into it. `brackets` are 1 to 64 pairs of an opening and a
-    closing text, each of 1 to 32 units without CR or LF, and all distinct; None are `()`, `[]` and `{}`.
+    `language` is one of `LANGUAGES`, in whose comments and strings brackets are text. `hiding` tells what comments and strings are
+    in any other. Without both, nothing hides brackets. `ending` is None where the line endings stay as they come: LF, CR, or CR LF.
+    With `"lf"` or `"crlf"` the text gets these endings, and so does all that is put into it later. `brackets` are up to 64 pairs of
+    an opening and a closing text. All are different, and each has 1 to 32 units and no line break. None are `()`, `[]` and `{}`.
 
     >>> with Document("if [ a ]; then # ]", language="shell", brackets=[("if", "fi"), ("[", "]")]) as document:
     ...     [(it.column, it.state.name) for it in document.brackets(1, 1)]
     [(1, 'UNCLOSED'), (4, 'OPENING'), (8, 'CLOSING')]
 
-    A `str` may have lone surrogates; `bytes` are UTF-8, and EncodingError tells where they are none. RangeError where the
-    brackets or what hides them are none; LimitError where the text would have 2**40 units or more.
+    A `str` may have lone surrogates. `bytes` are UTF-8, else EncodingError. RangeError where the brackets or what hides them are
+    invalid; LimitError where the text would have 2**40 units or more.
 
     A document that was made by itself is closed by `close`, at the end of a `with`, or when nothing holds it any more.
     """
@@ -820,14 +720,9 @@ class Document:
     __iter__: ClassVar[None] = None  # `lines` and `parts` are to be chosen from
 
     def __init__(
-        self,
-        text: Union[str, bytes] = "",
-        language: Optional[str] = None,
-        *,
-        ending: Optional[str] = None,
-        brackets: Optional[Iterable[Pair]] = None,
-        hiding: Optional[Hiding] = None,
-    ) -> None:
+        self, text: Union[str, bytes] = "", language: Optional[str] = None, *, ending: Optional[str] = None,
+        brackets: Optional[Iterable[Pair]] = None, hiding: Optional[Hiding] = None,
+    ) -> None:  # fmt: skip
         self._session, self._number, self._is_alone = Session(), 0, True
         try:
             self.open(text, language, ending=ending, brackets=brackets, hiding=hiding)
@@ -835,50 +730,26 @@ class Document:
             self.close()
             raise
 
-    @classmethod
-    def _of(cls, session: Session, number: int) -> Document:
-        """A document of a session."""
-        document = cls.__new__(cls)
-        document._session, document._number, document._is_alone = session, number, False
-        return document
-
     def open(
-        self,
-        text: Union[str, bytes] = "",
-        language: Optional[str] = None,
-        *,
-        ending: Optional[str] = None,
-        brackets: Optional[Iterable[Pair]] = None,
-        hiding: Optional[Hiding] = None,
-    ) -> None:
-        """Puts a new document in place of the old one, in version 1, and by the words that `Document` takes.
+        self, text: Union[str, bytes] = "", language: Optional[str] = None, *, ending: Optional[str] = None,
+        brackets: Optional[Iterable[Pair]] = None, hiding: Optional[Hiding] = None,
+    ) -> None:  # fmt: skip
+        """Puts a new document in the place of the old one, in version 1. It takes what `Document` takes.
 
         The decorations, snapshots, steps of undo, mirror and events of the old one are gone.
         """
         kind, hidden = ending_number(ending), hiding_of(language, hiding)
         pairs = None if brackets is None else [(opening, closing) for opening, closing in brackets]
         if pairs == []:
-            raise RangeError(self._said("open", "there are no brackets: None is for `()`, `[]` and `{}`"))
+            raise self._error(RangeError, "open", "there are no brackets: None is for `()`, `[]` and `{}`")
         marks = marks_of(pairs or [], hidden)
-
-        def why() -> Optional[str]:
-            return why_no_brackets(pairs or []) or why_no_hiding(hidden)
-
         with self._session._lock:
             if isinstance(text, bytes):
-                self._open_utf8(text, kind, marks, why)
+                words = kind, text, len(text), *marks, self._session._fault_at("index")
+                self._do(LIBRARY.tm_raw_open_utf8, *words, what="open", why=NO_MARKS)
             else:
-                self._do(LIBRARY.tm_raw_open, kind, *crossing(text), *marks, what="open", why=why)
+                self._do(LIBRARY.tm_raw_open, kind, *crossing(text), *marks, what="open", why=NO_MARKS)
             self._session._generations[self._number] += 1
-
-    def _open_utf8(self, text: bytes, kind: int, marks: Sequence[Any], why: Why) -> None:
-        bad = U64()
-        try:
-            self._do(LIBRARY.tm_raw_open_utf8, kind, text, len(text), *marks, ctypes.byref(bad), what="open", why=why)
-        except EncodingError:
-            error = EncodingError(self._said("open", f"the bytes are no UTF-8 at byte {bad.value}"))
-            error.at = bad.value
-            raise error from None
 
     @property
     def session(self) -> Session:
@@ -923,19 +794,24 @@ class Document:
 
     # Calls, and what they tell
 
-    def _said(self, what: str, cause: str) -> str:
-        return f"{self._called(what)}: {cause}"
-
     def _called(self, what: str) -> str:
-        """What a call is called in a message."""
+        """The name of a call in a message."""
         return what if self._is_alone else f"{what} in document {self._number}"
 
-    def _refusal(self, status: int, what: str, why: Why) -> TextModelError:
-        if status == LIMIT and what in LIMITS:
-            return LimitError(self._said(what, LIMITS[what]))
-        return refusal(status, self._called(what), why)
+    def _error(self, error: Type[TextModelError], what: str, cause: Optional[str], index: Optional[int] = None) -> TextModelError:
+        made = error(f"{self._called(what)}: {cause}")
+        made.document, made.index = self._number, index
+        return made
 
-    def _do(self, call: Callable[..., int], *words: Any, what: str, why: Why = no_cause) -> bool:
+    def _refusal(self, status: int, what: str, why: Why = None) -> TextModelError:
+        if status == LIMIT and what in LIMITS:
+            return self._error(LimitError, what, LIMITS[what])
+        fault = self._session._fault
+        error = refusal(status, self._called(what), why, fault)
+        error.document = fault.doc if status == JOINT else self._number
+        return error
+
+    def _do(self, call: Callable[..., int], *words: Any, what: str, why: Why = None) -> bool:
         """Makes a call: whether there was anything to do or to tell. Raises where it was refused."""
         with self._session._lock:
             status = call(self._session._at, self._number, *words)
@@ -943,12 +819,12 @@ class Document:
                 raise self._refusal(status, what, why)
             return status == OK
 
-    def _number_of(self, call: Callable[..., int], *words: Any, what: str, why: Why = no_cause) -> Optional[int]:
-        """The number that a call tells; None where it tells that there is none."""
+    def _number_of(self, call: Callable[..., int], *words: Any, what: str, why: Why = None) -> Optional[int]:
+        """The number that a call tells; None where it has nothing to tell."""
         found = U64()
         return found.value if self._do(call, *words, ctypes.byref(found), what=what, why=why) else None
 
-    def _told(self, call: Callable[..., int], room: Room, *words: Any, what: str, why: Why = no_cause) -> memoryview:
+    def _told(self, call: Callable[..., int], room: Room, *words: Any, what: str, why: Why = None) -> memoryview:
         """What a call puts into the room, or into more of it, where it tells that it needs that."""
         with self._session._lock:
             status = call(self._session._at, self._number, *words, *room.out)
@@ -959,22 +835,21 @@ class Document:
                 raise self._refusal(status, what, why)
             return room.told
 
-    def _list(self, call: Callable[..., int], of: Type[Any], *words: Any, what: str, why: Why = no_cause) -> Iterator[Any]:
-        """The structs that a call tells."""
+    def _list(
+        self, call: Callable[..., int], of: Type[Any], made: Callable[[Any], Item], *words: Any, what: str, why: Why
+    ) -> List[Item]:
+        """What is made of the structs that a call tells."""
         size = ctypes.sizeof(of)
         told = self._told(call, Room(ITEMS_AT_FIRST, size), *words, what=what, why=why)
-        return (of.from_buffer(told, at) for at in range(0, len(told), size))
-
-    def _no_place(self, what: str, cause: Optional[str]) -> RangeError:
-        return RangeError(self._said(what, cause or "no place of the text"))
+        return [made(of.from_buffer(told, at)) for at in range(0, len(told), size)]
 
     # Changes
 
     def edit(self, start: int, end: int, text: str) -> None:
         """Puts the text in the place of the units from `start` up to `end`, as the next version.
 
-        RangeError where one of the two is no place, or `start` is above `end`; LimitError where the text would have 2**40
-        units or more, or the version would pass 2**63 - 1.
+        RangeError where one of the two is not a place of the text, or `start` is above `end`; LimitError where the text would have
+        2**40 units or more, or the version would pass 2**63 - 1.
 
         >>> document = Document("ab\\U0001f600")
         >>> document.edit(3, 4, "x")
@@ -982,10 +857,10 @@ class Document:
         textmodel.RangeError: edit: offset 3 stands inside a character
         """
         words = numbers(start=start, end=end)
-        self._do(LIBRARY.tm_raw_edit, *words, *crossing(text), what="edit", why=lambda: self._why_no_span(*words))
+        self._do(LIBRARY.tm_raw_edit, *words, *crossing(text), what="edit", why=partial(self._why_no_span, *words))
 
     def edit_at(self, start: Place, end: Place, text: str, encoding: str = "utf-16") -> None:
-        """Does the same from one position up to another, each a line and a column.
+        """Does the same from one position up to another, each a line and a column. RangeError also where one is not there.
 
         >>> document = Document("été")
         >>> document.edit_at((1, 3), (1, 4), "T", "utf-8")
@@ -1001,48 +876,43 @@ class Document:
         self._do(LIBRARY.tm_raw_edit_at, *words, counts, *crossing(text), what="edit", why=why)
 
     def batch(self, edits: Iterable[EditLike]) -> None:
-        """Carries out the edits at once, all at places of the text before them, as the next version. At one place their texts
-        stand in the order of the edits.
+        """Carries out several edits at once, as the next version. All count in the text before them. At one place their texts stand in
+        the order of the edits.
 
-        RangeError as `edit` has it, and where there is no edit; else OverlapError where one edit starts before another ends;
-        else LimitError.
+        RangeError as `edit` has it, and where there is no edit; else OverlapError where two of them overlap; else LimitError.
 
         >>> document = Document("abcdef")
         >>> document.batch([(4, 5, "Y"), (1, 2, "XX")])
         >>> document.text
         'aXXcdYf'
         """
-        made = self._edits_of(edits, may_be_none=True)
-        texts = [encoded(edit.text) for edit in made]
-        ops = [(it.start, it.end, len(data) // 2, it.force) for it, data in zip(made, texts)]
-        joined = b"".join(texts)
-        words = array(COp, ops), len(ops), joined, len(joined) // 2
-        self._do(LIBRARY.tm_raw_batch, *words, what="batch", why=lambda: self._why_no_batch(made))
+        self._session._carry_out("batch", [(self, self._edits_of("batch", edits))])
 
-    def _edits_of(self, edits: Iterable[EditLike], may_be_none: bool = False) -> List[Edit]:
-        """Edits whose numbers can cross. Where there is none, the library is not told of the document in a joint edit."""
+    def _edits_of(self, what: str, edits: Iterable[EditLike]) -> List[Edit]:
+        """Edits of numbers that a call takes."""
+        found: List[Edit] = []
         try:
-            found = edits_of(edits)
+            for words in edits:
+                found.append(edit_of(words))
         except RangeError as error:
-            raise RangeError(self._said("batch", str(error))) from None
-        if not found and not may_be_none:
-            raise RangeError(self._said("batch", "it has no edit"))
+            raise self._error(RangeError, what, f"edit {len(found)}: {error}", len(found)) from None
         return found
 
     def undo(self) -> bool:
-        """Goes back to the text before the last step, as the next version; False where there is none.
+        """Goes back to the text before the last step, as the next version; False where there is no step.
 
         Edits that follow one another are one step, where no `stop` comes between. A joint edit is undone in all of its
-        documents; JointError where it is not the last step of each of them.
+        documents; JointError where it is not the last step of each of them. LimitError as `edit` has it.
         """
-        return self._do(LIBRARY.tm_undo, what="undo")
+        return self._do(LIBRARY.tm_raw_undo, self._session._fault_at("doc"), what="undo")
 
     def redo(self) -> bool:
-        """Goes on to the text after the step that was undone last, as the next version; False where there is none.
+        """Goes on to the text after the step that was undone last, as the next version; False where there is no step.
 
-        A joint edit is made again in all of its documents; JointError where it is not the next step of each of them.
+        A joint edit is redone in all of its documents; JointError where it is not the next step of each of them. LimitError as
+        `edit` has it.
         """
-        return self._do(LIBRARY.tm_redo, what="redo")
+        return self._do(LIBRARY.tm_raw_redo, self._session._fault_at("doc"), what="redo")
 
     @property
     def can_undo(self) -> bool:
@@ -1066,19 +936,14 @@ class Document:
         return ENDINGS[kind.value]
 
     def set_ending(self, ending: Optional[str]) -> bool:
-        """Gives the text this line ending, as the next version and as a step of its own; False where it has that already.
-
-        LimitError as `edit` has it.
-
-        >>> document = Document("a\\nb")
-        >>> document.set_ending("crlf"), document.text
-        (True, 'a\\r\\nb')
+        """Changes all line endings to this one, as the next version and as a step of its own; False where they are so already. With
+        None the text stays as it is. LimitError as `edit` has it.
         """
         return self._do(LIBRARY.tm_set_eol, ending_number(ending), what="line endings")
 
     def changes(self) -> List[Change]:
-        """What the last change did, be it an edit, an undo, a redo, a replace or other line endings: the edits that lead from the
-        text before it to that of now, in the order in which they are carried out. Version 1 has none.
+        """What the last change did, be it an edit, an undo, a redo, a replace or other line endings. The edits lead, one after
+        another, from the text before it to that of now. In version 1 there are none.
 
         >>> document = Document("one two")
         >>> document.batch([(0, 3, "1"), (4, 7, "2")])
@@ -1122,7 +987,7 @@ class Document:
 
     @property
     def alternative(self) -> int:
-        """The version at which the text was last as it is now: an undo brings that of before back."""
+        """The version at which the text was last the same as now."""
         return self._versions()[1]
 
     def _versions(self) -> Tuple[int, int]:
@@ -1140,7 +1005,7 @@ class Document:
         return self.text
 
     def __getitem__(self, span: slice) -> str:
-        """The units of a slice, which counts as that of a list does; RangeError where an end of it is no place.
+        """The units of a slice, which counts as that of a list does; RangeError where one of its ends is not a place of the text.
 
         >>> document = Document("hello")
         >>> document[1:3], document[-2:]
@@ -1167,16 +1032,17 @@ class Document:
         return Span(start, max(start, end))
 
     def value(self, start: int, end: int) -> str:
-        """The text from `start` up to `end`; RangeError where one is no place, or `start` is above `end`."""
+        """The text from `start` up to `end`; RangeError where one is not a place of the text, or `start` is above `end`."""
         start, end = numbers(start=start, end=end)
         with self._session._lock:
             room = Room(min(end, len(self)) - start)
-            why = lambda: self._why_no_span(start, end)  # noqa: E731
+            why = partial(self._why_no_span, start, end)
             return decoded(self._told(LIBRARY.tm_raw_value, room, start, end, what="value", why=why))
 
     def read(self, offset: int, most: int = PART_UNITS) -> str:
-        """The units from `offset` on, at most so many: one fewer where a character, or a CR LF of such a document, would be
-        cut. RangeError where the offset is no place, or `most` is below 2.
+        """At most so many units from `offset` on. It is one fewer where the last one would be cut from the next: from a pair of
+        surrogates, or from the LF of a CR LF line ending. RangeError where the offset is not a place of the text, or `most` is
+        below 2.
         """
         offset, most = numbers(offset=offset, most=most)
 
@@ -1204,7 +1070,7 @@ class Document:
 
     def _line(self, call: Callable[..., int], n: int, size: int) -> memoryview:
         n = number(n, "line")
-        return self._told(call, Room(UNITS_AT_FIRST, size), n, what="line", why=lambda: self._why_no_line(n))
+        return self._told(call, Room(UNITS_AT_FIRST, size), n, what="line", why=partial(self._why_no_line, n))
 
     def lines(self, first: int = 1, last: Optional[int] = None) -> Iterator[str]:
         """The lines from `first` on, up to `last` or to the end, each as it is when it is asked for."""
@@ -1216,7 +1082,7 @@ class Document:
     # Places
 
     def position(self, offset: int, encoding: str = "utf-16") -> Position:
-        """The line and column of an offset; RangeError where it is no place.
+        """The line and column of an offset; RangeError where it is not a place of the text.
 
         >>> document = Document("a\\néb")
         >>> document.position(3), document.position(3, "utf-8")
@@ -1225,63 +1091,66 @@ class Document:
         offset, counts, at = number(offset, "offset"), encoding_number(encoding), CPlace()
         with self._session._lock:
             if not self._do(LIBRARY.tm_position, offset, counts, ctypes.byref(at), what="position"):
-                raise self._no_place("position", self._why_no_offset(offset))
+                raise self._error(RangeError, "position", self._why_no_offset(offset))
         return Position(at.line, at.column)
 
     def offset(self, line: int, column: int, encoding: str = "utf-16") -> int:
-        """The offset of a line and a column; RangeError where they are no place of the text.
-
-        >>> document = Document("a\\néb")
-        >>> document.offset(2, 2), document.offset(2, 3, "utf-8")
-        (3, 3)
+        """The offset of a line and a column; RangeError where there is no such line, the column is beyond its end, or it is inside a
+        character.
         """
         words, counts = place_words((line, column)), encoding_number(encoding)
         with self._session._lock:
             found = self._number_of(LIBRARY.tm_offset, *words, counts, what="offset")
             if found is None:
-                raise self._no_place("offset", self._why_no_position(*words, encoding))
+                raise self._error(RangeError, "offset", self._why_no_position(*words, encoding))
         return found
 
-    def stops(self, n: int) -> List[int]:
-        """The columns of a line at which a cursor may stop, but for the one behind its end; RangeError where there is no line.
+    def stops(self, n: int, encoding: str = "utf-16") -> List[int]:
+        """The columns of a line at which a cursor may stop: where the extended grapheme clusters of Unicode begin. The one behind its
+        end is left out. RangeError where there is no such line.
 
-        These are where the extended grapheme clusters of Unicode begin.
-
-        >>> Document("e\\u0301x").stops(1)
-        [1, 3]
+        >>> document = Document("e\\u0301x")
+        >>> document.stops(1), document.stops(1, "utf-8")
+        ([1, 3], [1, 4])
         """
-        n, room = number(n, "line"), Room(ITEMS_AT_FIRST, ctypes.sizeof(U64))
-        told = self._told(LIBRARY.tm_raw_stops, room, n, what="stops", why=lambda: self._why_no_line(n))
+        n, counts, room = number(n, "line"), encoding_number(encoding), Room(ITEMS_AT_FIRST, ctypes.sizeof(U64))
+        told = self._told(LIBRARY.tm_raw_stops, room, n, counts, what="stops", why=partial(self._why_no_line, n))
         return told.cast("Q").tolist()
 
     # Search
 
-    def find(self, text: str) -> List[Span]:
-        """Where the text stands, from left to right, none of the spans overlapping the one before.
+    def find(self, text: str, start: Optional[int] = None, back: bool = False, most: Optional[int] = None) -> List[Span]:
+        """Where the text stands, unit for unit. Spans are found from left to right, and none overlaps the one before.
 
-        Units are compared one by one. RangeError where the text is empty.
+        Told are those that begin at `start` or behind it; with `back` those that end at `start` or before it, the last one first. None
+        is the start of the document, or with `back` its end. At most `most` are told, or all. RangeError where the text is empty.
 
-        >>> Document("abab").find("b")
+        >>> document = Document("abab")
+        >>> document.find("b")
         [Span(start=1, end=2), Span(start=3, end=4)]
+        >>> document.find("b", back=True, most=1)
+        [Span(start=3, end=4)]
         """
-        found = self._list(LIBRARY.tm_raw_find, CFound, *crossing(text), what="find", why=why_nothing_sought)
-        return [Span(it.start, it.end) for it in found]
+        begin = (MOST_NUMBER if back else 0) if start is None else number(start, "start")
+        words = *crossing(text), begin, back, MOST_NUMBER if most is None else number(most, "most")
+        of = CFound, lambda it: Span(it.start, it.end)
+        return self._list(LIBRARY.tm_raw_find, *of, *words, what="find", why=NOTHING_SOUGHT)
 
     def replace_all(self, text: str, other: str) -> int:
-        """Puts the other text in each place that `find` finds, at once, as the next version and as a step of its own.
+        """Replaces each span that `find` finds, as the next version and as a step of its own; how many there were. 0 changes nothing.
 
-        How many there are; 0 changes nothing. RangeError where the text is empty; LimitError as `edit` has it.
+        RangeError where the text is empty; LimitError as `edit` has it.
         """
         words = *crossing(text), *crossing(other)
-        return self._number_of(LIBRARY.tm_raw_replace_all, *words, what="replace", why=why_nothing_sought) or 0
+        return self._number_of(LIBRARY.tm_raw_replace_all, *words, what="replace", why=NOTHING_SOUGHT) or 0
 
     # Decorations
 
     def decorate(self, owner: int, add: Iterable[NewLike] = (), remove: Iterable[int] = ()) -> range:
-        """Takes decorations of an owner out and adds others, all of it or none; the ids of the added ones, in their order.
+        """Removes decorations of an owner by their ids, and adds others, all or none; the ids of the added ones, in their order.
 
-        UnknownError where one to be removed is not live, has another owner or is named twice; else RangeError where a span is
-        none of the text or a mode is none; else LimitError where more than 2**20 would be live.
+        UnknownError where one that is to be removed is not there, is of another owner, or is named twice; else RangeError where a
+        span or a `stick` is invalid; else LimitError where there would be more than 2**20.
 
         >>> document = Document("let x = 1;")
         >>> document.decorate(owner=7, add=[(4, 5), (8, 9, Stick.NONE)])
@@ -1293,65 +1162,74 @@ class Document:
         owner = number(owner, "owner")
         gone = [number(id_, "decoration", UnknownError) for id_ in remove]
         made = [new_decoration(new) for new in add]
+        words = owner, array(U64, gone), len(gone), array(CNewDecoration, made), len(made)
         first = U64()
-        words = array(U64, gone), len(gone), array(CNewDecoration, made), len(made), ctypes.byref(first)
-
-        def why() -> Optional[str]:
-            return self._why_not_removed(owner, gone) or self._why_not_added(made)
-
-        self._do(LIBRARY.tm_raw_decorate, owner, *words, what="decorate", why=why)
+        with self._session._lock:
+            status = LIBRARY.tm_raw_decorate(self._session._at, self._number, *words, ctypes.byref(first))
+            if status != OK:
+                raise self._decorate_refusal(status, words, gone, made)
         return range(first.value, first.value + len(made))
 
-    def decoration(self, id: int) -> Decoration:
-        """The live decoration of this id; UnknownError where there is none."""
-        found = self._decoration(number(id, "decoration", UnknownError))
-        if found is None:
-            raise UnknownError(self._said("decoration", f"none of id {id} is live"))
-        return found
+    def _decorate_refusal(self, status: int, words: Tuple[Any, ...], gone: Sequence[int], made: Sequence[New]) -> TextModelError:
+        at_fault = *words, status, self._session._fault_at("index")
+        if LIBRARY.tm_raw_decorate_fault(self._session._at, self._number, *at_fault) != OK:
+            return self._refusal(status, "decorate")
+        at = self._session._fault.index
+        if status == UNKNOWN:
+            cause = f"decoration {gone[at]} cannot be removed: it is not there, is of another owner, or is named twice"
+        else:
+            start, end, stick, _ = made[at]
+            cause = f"new decoration {at}: {self._why_no_span(start, end) or f'there is no stick {stick}'}"
+        return self._error(ERRORS[status][0], "decorate", cause, at)
 
-    def _decoration(self, id_: int) -> Optional[Decoration]:
+    def decoration(self, id: int) -> Decoration:
+        """The decoration of this id; UnknownError where there is none."""
         found = CDecoration()
-        is_there = self._do(LIBRARY.tm_deco, id_, ctypes.byref(found), what="decoration")
-        return found.told() if is_there else None
+        if not self._do(LIBRARY.tm_deco, number(id, "decoration", UnknownError), ctypes.byref(found), what="decoration"):
+            raise self._error(UnknownError, "decoration", f"there is none of id {id}")
+        return decoration_of(found)
 
     def decorations(self, start: int, end: int, owner: Optional[int] = None) -> List[Decoration]:
-        """The decorations that share a unit with the units from `start` up to `end`, or touch them, those of an owner or all.
+        """The decorations that overlap or touch the units from `start` up to `end`: those of an owner, or all.
 
-        They come by their starts, then by their ends, then by their ids. RangeError as `value` has it.
+        They are sorted by their starts, then by their ends, then by their ids. RangeError as `value` has it.
         """
         start, end = numbers(start=start, end=end)
         words = start, end, 0 if owner is None else number(owner, "owner"), owner is None
-        why = lambda: self._why_no_span(start, end)  # noqa: E731
-        return [it.told() for it in self._list(LIBRARY.tm_raw_decos, CDecoration, *words, what="decorations", why=why)]
+        why = partial(self._why_no_span, start, end)
+        return self._list(LIBRARY.tm_raw_decos, CDecoration, decoration_of, *words, what="decorations", why=why)
 
     # Brackets
 
-    def brackets(self, first: int, last: int) -> List[Bracket]:
-        """The brackets of the lines from `first` to `last`, in the order of the text, without those in comments and strings.
+    def brackets(self, first: int, last: int, encoding: str = "utf-16") -> List[Bracket]:
+        """The brackets of the lines from `first` to `last`, both included, without those in comments and strings.
 
-        RangeError where one of the lines is not there, or `first` is above `last`.
+        RangeError where one of the lines is not there, `first` is above `last`, or a bracket begins or ends inside a character, as one
+        that is half of a pair of surrogates may.
         """
-        words = numbers(first=first, last=last)
+        words, counts = numbers(first=first, last=last), encoding_number(encoding)
 
         def why() -> Optional[str]:
-            return first_of(map(self._why_no_line, words)) or f"its first line, {words[0]}, is behind its last, {words[1]}"
+            is_turned = f"its first line, {words[0]}, is behind its last, {words[1]}" if words[0] > words[1] else None
+            return self._why_no_line(words[0]) or self._why_no_line(words[1]) or is_turned or NO_LENGTH
 
-        return [it.told() for it in self._list(LIBRARY.tm_raw_brackets, CBracket, *words, what="brackets", why=why)]
+        return self._list(LIBRARY.tm_raw_brackets, CBracket, bracket_of, *words, counts, what="brackets", why=why)
 
-    def match(self, line: int, column: int) -> Optional[Partner]:
-        """The other bracket of a pair, where one of the two starts at the position; None where none does.
+    def match(self, line: int, column: int, encoding: str = "utf-16") -> Optional[Partner]:
+        """The bracket that matches the one that starts at this position; None where none starts there, or it has no partner.
 
-        RangeError where the position is invalid.
+        RangeError where the position is invalid, or the partner begins or ends inside a character.
         """
-        words, partner = place_words((line, column)), CPartner()
-        why = lambda: self._why_no_position(*words)  # noqa: E731
-        is_there = self._do(LIBRARY.tm_match, *words, ctypes.byref(partner), what="match", why=why)
-        return Partner(partner.line, partner.column, partner.units) if is_there else None
+        words, counts, partner = place_words((line, column)), encoding_number(encoding), CPartner()
+        why = lambda: self._why_no_position(*words, encoding) or NO_LENGTH  # noqa: E731
+        is_there = self._do(LIBRARY.tm_match, *words, counts, ctypes.byref(partner), what="match", why=why)
+        return Partner(partner.line, partner.column, partner.length) if is_there else None
 
-    def level(self, line: int, column: int) -> int:
-        """How many brackets are open after those that start before the position; RangeError where it is invalid."""
-        words = place_words((line, column))
-        return self._number_of(LIBRARY.tm_level, *words, what="level", why=lambda: self._why_no_position(*words)) or 0
+    def level(self, line: int, column: int, encoding: str = "utf-16") -> int:
+        """How many brackets are open after those that start before this position; RangeError where it is invalid."""
+        words, counts = place_words((line, column)), encoding_number(encoding)
+        why = partial(self._why_no_position, *words, encoding)
+        return self._number_of(LIBRARY.tm_level, *words, counts, what="level", why=why) or 0
 
     # Snapshots
 
@@ -1371,9 +1249,9 @@ class Document:
     # Mirrors
 
     def mirror(self) -> int:
-        """Begins a mirror, a second text that is that of now, and which follows by events: its version.
+        """Begins a mirror, a second text that follows this one by events, with the text of now. Its version.
 
-        It takes the place of a mirror that was there; the events that were sent stay.
+        It takes the place of the mirror that was there. The events that were sent stay.
 
         >>> document = Document("ab")
         >>> document.mirror()
@@ -1386,38 +1264,38 @@ class Document:
         return self._number_of(LIBRARY.tm_mirror, what="mirror") or 0
 
     def send(self) -> Optional[Event]:
-        """Keeps the last change as an event that a mirror can take; None in version 1. LimitError where 65,536 were sent."""
+        """Sends the last change as an event, and keeps it; None in version 1. LimitError where 65,536 were sent."""
         n, version = U64(), U64()
         is_sent = self._do(LIBRARY.tm_send, ctypes.byref(n), ctypes.byref(version), what="send")
         return Event(n.value, version.value) if is_sent else None
 
     def deliver(self, n: int) -> Optional[MirrorState]:
-        """Hands the event of this number to the mirror: what that has then, or None where it was past the event before.
+        """Hands the event of this number to the mirror: what that is then, or None where it is past that event.
 
-        UnknownError where there is no mirror or no such event; GapError where the mirror has not come so far.
+        UnknownError where there is no mirror or no such event; GapError where the mirror lacks events before that one.
         """
         n, told = number(n, "event", UnknownError), CFollowed()
-        is_taken = self._do(LIBRARY.tm_deliver, n, ctypes.byref(told), what=f"event {n}", why=lambda: self._why_no_event(n))
-        return MirrorState(told.version, told.units, told.lines) if is_taken else None
+        words = n, ctypes.byref(told), *map(self._session._fault_at, ("have", "need"))
+        is_taken = self._do(LIBRARY.tm_raw_deliver, *words, what=f"event {n}", why=partial(self._why_not_mirrored, "event"))
+        return mirror_state_of(told) if is_taken else None
+
+    def mirror_now(self) -> Optional[MirrorState]:
+        """What the mirror is now; None where there is none."""
+        told = CFollowed()
+        return mirror_state_of(told) if self._do(LIBRARY.tm_mirror_now, ctypes.byref(told), what="mirror") else None
 
     def mirrored(self, n: int) -> str:
-        """The line of this number of the mirror; UnknownError where there is no mirror, RangeError where it has no such line."""
-        n = number(n, "line")
-
-        def why() -> Optional[str]:
-            return "there is none" if self._has_mirror() else "there is no mirror"
-
-        return decoded(self._told(LIBRARY.tm_raw_mirrored, Room(UNITS_AT_FIRST), n, what=f"line {n} of the mirror", why=why))
+        """A line of the mirror, without its ending; UnknownError where there is no mirror, RangeError where it has no such line."""
+        n, room = number(n, "line"), Room(UNITS_AT_FIRST)
+        what, why = f"line {n} of the mirror", partial(self._why_not_mirrored, "line")
+        return decoded(self._told(LIBRARY.tm_raw_mirrored, room, n, what=what, why=why))
 
     # Why a call was refused
-
-    def _is_place(self, offset: int) -> bool:
-        return self._do(LIBRARY.tm_position, offset, ENCODINGS["utf-16"], ctypes.byref(CPlace()), what="position")
 
     def _why_no_offset(self, offset: int) -> Optional[str]:
         if offset > len(self):
             return f"offset {offset} is behind the end of the text, {len(self)}"
-        if self._is_place(offset):
+        if self._do(LIBRARY.tm_position, offset, ENCODINGS["utf-16"], ctypes.byref(CPlace()), what="position"):
             return None
         is_ending = self.value(offset - 1, offset + 1) == "\r\n"
         return f"offset {offset} stands " + ("between a CR and its LF" if is_ending else "inside a character")
@@ -1437,60 +1315,19 @@ class Document:
             return no_line or "columns count from 1"
         if self._number_of(LIBRARY.tm_offset, line, column, ENCODINGS[encoding], what="offset") is not None:
             return None
-        last = columns(self.line(line), encoding)
+        last = self.position(self.offset(line, 1) + units(self.line(line)), encoding).column
         if column > last:
             return f"column {column} is behind the end of line {line}, column {last} in {COUNTED[encoding]}"
         return f"column {column} of line {line} stands inside a character, in {COUNTED[encoding]}"
 
-    def _why_no_edits(self, edits: Sequence[Edit]) -> Optional[str]:
-        for at, edit in enumerate(edits):
-            cause = self._why_no_span(edit.start, edit.end)
-            if cause:
-                return f"edit {at}: {cause}"
-        return None
-
-    def _why_no_batch(self, edits: Sequence[Edit]) -> Optional[str]:
-        return self._why_no_edits(edits) or why_overlap(edits) if edits else "it has no edit"
-
-    def _why_not_removed(self, owner: int, gone: Sequence[int]) -> Optional[str]:
-        named = set()
-        for id_ in gone:
-            found = self._decoration(id_)
-            if found is None:
-                return f"decoration {id_}, which is to be removed, is not live"
-            if found.owner != owner:
-                return f"decoration {id_}, which is to be removed, is of owner {found.owner}"
-            if id_ in named:
-                return f"decoration {id_} is to be removed twice"
-            named.add(id_)
-        return None
-
-    def _why_not_added(self, made: Sequence[Tuple[int, int, int, bool]]) -> Optional[str]:
-        for at, (start, end, stick, _) in enumerate(made):
-            cause = self._why_no_span(start, end) or (f"there is no mode {stick}" if stick > MOST_STICK else None)
-            if cause:
-                return f"new decoration {at}: {cause}"
-        return None
-
-    def _has_mirror(self) -> bool:
-        """Whether there is a mirror: each has a line 1."""
-        status = LIBRARY.tm_raw_mirrored(self._session._at, self._number, 1, *Room(1).out)
-        return bool(status != UNKNOWN)
-
-    def _why_no_event(self, n: int) -> Optional[str]:
-        return f"no event {n} was sent" if self._has_mirror() else "there is no mirror"
+    def _why_not_mirrored(self, what: str) -> str:
+        return f"there is no such {what}" if self.mirror_now() else "there is no mirror"
 
 
 def place_words(place: Place) -> Tuple[int, int]:
-    """The line and the column of a place, as they can cross."""
+    """The line and the column of a position, as a call takes them."""
     line, column = place
     return number(line, "line"), number(column, "column")
-
-
-def columns(line: str, encoding: str) -> int:
-    """The last column of a line."""
-    sizes = {"utf-8": lambda: len(line.encode("utf-8", LONE)), "utf-16": lambda: units(line), "utf-32": lambda: len(line)}
-    return sizes[encoding]() + 1
 
 
 def marks_of(pairs: Sequence[Pair], hiding: Hiding) -> List[Any]:
@@ -1502,16 +1339,11 @@ def marks_of(pairs: Sequence[Pair], hiding: Hiding) -> List[Any]:
     return [lengths, len(pairs), *brackets, units(hiding.line), units(opening), units(closing), *marks]
 
 
-def why_nothing_sought() -> str:
-    """Why a search was refused: it is so for this alone."""
-    return "there is no text to look for"
-
-
 # ---- Snapshots
 
 
 class Snapshot:
-    """The text that a document had, which is read from its front. It is closed by `close`, or at the end of a `with`.
+    """The text that a document had, which is read from its start. It is closed by `close`, or at the end of a `with`.
 
     A snapshot that is not closed is kept until its document is closed or opened anew. After that a read raises UnknownError.
     """
@@ -1523,31 +1355,28 @@ class Snapshot:
         self._is_open = True
 
     def read(self, most: Optional[int] = None) -> str:
-        """The next units of it, all that are left or at most so many, which are 2 or more; an empty text at the end.
+        """The next units, at most so many or all that are left; an empty text at the end. RangeError where `most` is below 2.
 
-        It is one fewer where the last would be cut from the next as a half of one character.
+        It is one fewer where the last one would be cut from a pair of surrogates.
         """
         if not self._is_open:
-            raise ClosedError(self._said("it is closed"))
+            raise self._error(ClosedError, "it is closed")
         wanted = max(self._most_left, 2) if most is None else number(most, "most")
         with self._document._session._lock:
             if not self._is_of_now():
-                raise UnknownError(self._said("its document was opened anew"))
+                raise self._error(UnknownError, "its document was opened anew")
             room, what = Room(min(wanted, max(self._most_left, 2))), f"snapshot {self.id}"
-            why = lambda: self._why_not_read(wanted)  # noqa: E731
+            why = "it is not open" if wanted >= 2 else f"at most {wanted} units are wanted, and a character may have two"
             told = self._document._told(LIBRARY.tm_raw_read, room, self.id, what=what, why=why)
             self._most_left -= len(told) // room.size
             return decoded(told)
 
-    def _said(self, cause: str) -> str:
-        return self._document._said(f"snapshot {self.id}", cause)
+    def _error(self, error: Type[TextModelError], cause: str) -> TextModelError:
+        return self._document._error(error, f"snapshot {self.id}", cause)
 
     def _is_of_now(self) -> bool:
         """Whether the document is still the one of which it was taken."""
         return self._generation == self._document._session._generations[self._document._number]
-
-    def _why_not_read(self, wanted: int) -> str:
-        return "it is not open" if wanted >= 2 else f"at most {wanted} units are wanted, and a character may have two"
 
     def __iter__(self) -> Iterator[str]:
         """What is left of it, in parts."""
@@ -1560,7 +1389,7 @@ class Snapshot:
             is_there = self._is_open and self._is_of_now() and not self._document.closed
             self._is_open = False
             if is_there:
-                self._document._do(LIBRARY.tm_close, self.id, what=f"snapshot {self.id}", why=lambda: "it is not open")
+                self._document._do(LIBRARY.tm_close, self.id, what=f"snapshot {self.id}", why="it is not open")
 
     def __enter__(self) -> Snapshot:
         return self

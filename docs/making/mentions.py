@@ -3,7 +3,7 @@ import re
 
 from making.pages import ROOT
 
-PAGES = ["README.md", "docs/DESIGN.md", "docs/DECISIONS.md", "docs/BELIEVE.md", "docs/GLOSSARY.md", "bench/README.md"]
+PAGES = ["README.md", "CONTRIBUTING.md", "docs/DESIGN.md", "docs/DECISIONS.md", "docs/BELIEVE.md", "docs/GLOSSARY.md", "bench/README.md"]
 SOURCES = ["crates/*/src/**/*.rt", "crates/*/specs/**/*.antt", "crates/*/proofs/*.antt", "crates/*/*.h", "crates.txt", "docs/commands.json"]
 BESIDE = ["bench/*", "fuzz/*", "tools/*", "examples/*", "python/*", "docs/wrong_bodies/*/*", "crates/*/must-fail/*", "build", "install"]
 OF_THE_KIT = {"Threads", "Wait", "Net", "Processes"}  # words of HANDLES, which name what no crate asks for

@@ -9,6 +9,7 @@ from typing import NamedTuple
 ROOT = Path(__file__).resolve().parent.parent.parent
 sys.path.append(str(ROOT / "docs"))
 sys.path.append(str(ROOT / "tools"))
+sys.path.append(str(ROOT / "bench"))
 
 # What a comment begins and ends with, by the ending of the file's name.
 COMMENTS = {".md": ("<!-- ", " -->"), ".py": ("# ", ""), ".1": ('.\\" ', "")}

@@ -3,7 +3,7 @@
 #include <stdlib.h>
 #include <string.h>
 
-enum { SCRATCH = MOST_FILES, OWNER = 1, STICKS_NOWHERE = 1 };
+enum { OWNER = 1, STICKS_NOWHERE = 1, PART = 4096 };
 
 void must(uint32_t status) {
   if (status == TM_OK || status == TM_SHORT) return;
@@ -36,7 +36,7 @@ line editor_line(editor *e, uint64_t file, uint64_t number) {
   line it = {NULL, 0};
   must(tm_line_utf8(&e->session, file, number, NULL, 0, &it.length));
   it.bytes = room(it.length, 1);
-  must(tm_line_utf8(&e->session, file, number, (uint8_t *)it.bytes, it.length, &it.length));
+  must(tm_line_utf8(&e->session, file, number, it.bytes, it.length, &it.length));
   return it;
 }
 
@@ -93,8 +93,7 @@ static uint32_t ending_of(const char *bytes, size_t length) {
 }
 
 uint32_t editor_open(editor *e, const char *bytes, size_t length) {
-  const tm_opening opening = {
-      .utf8 = (const uint8_t *)bytes, .length = length, .ending = ending_of(bytes, length), .hiding = &tm_hiding_c};
+  const tm_opening opening = {.utf8 = bytes, .length = length, .ending = ending_of(bytes, length), .hiding = &tm_hiding_c};
   uint64_t file = e->files, lines;
   if (file == MOST_FILES) return TM_LIMIT;
   uint32_t status = tm_open(&e->session, file, &opening);
@@ -106,54 +105,33 @@ uint32_t editor_open(editor *e, const char *bytes, size_t length) {
   return TM_OK;
 }
 
-static void write_ending(editor *e, uint64_t file, uint64_t number, uint64_t length, FILE *out) {
-  uint64_t end, next, count;
-  uint16_t units[2];
-  must(tm_offset(&e->session, file, number, length + 1, TM_UTF8, &end));
-  must(tm_offset(&e->session, file, number + 1, 1, TM_UTF8, &next));
-  must(tm_value(&e->session, file, end, next, units, 2, &count));
-  for (uint64_t at = 0; at < count; at++) putc(units[at], out);
-}
-
 void editor_write(editor *e, uint64_t file, FILE *out) {
-  const screen *s = &e->screens[file];
-  for (uint64_t at = 0; at < s->count; at++) {
-    fwrite(s->lines[at].bytes, 1, s->lines[at].length, out);
-    if (at + 1 < s->count) write_ending(e, file, at + 1, s->lines[at].length, out);
-  }
+  char part[PART];
+  uint64_t offset = 0, count;
+  do {
+    must(tm_read_into_utf8(&e->session, file, &offset, part, PART, &count));
+    fwrite(part, 1, count, out);
+  } while (count > 0);
 }
 
 /* ---- What a user does */
 
-/* A text in UTF-16, by way of a document that is kept for that. */
-static uint16_t *units_of(editor *e, const char *text, uint64_t *count) {
-  must(tm_open(&e->session, SCRATCH, &(tm_opening){.utf8 = (const uint8_t *)text, .length = strlen(text)}));
-  must(tm_len(&e->session, SCRATCH, count));
-  uint16_t *units = room(*count, sizeof *units);
-  must(tm_value(&e->session, SCRATCH, 0, *count, units, *count, count));
-  return units;
-}
-
 uint32_t editor_type(editor *e, uint64_t file, tm_place from, tm_place to, const char *text) {
-  uint64_t count;
-  uint16_t *units = units_of(e, text, &count);
-  uint32_t status = tm_edit_at(&e->session, file, from.line, from.column, to.line, to.column, TM_UTF8, units, count);
-  free(units);
-  return status;
+  return tm_edit_at_utf8(&e->session, file, from, to, TM_UTF8, text, strlen(text));
 }
 
-static tm_found *find(editor *e, uint64_t file, const uint16_t *sought, uint64_t length, uint64_t *count) {
-  must(tm_find(&e->session, file, sought, length, NULL, 0, count));
+static tm_found *find(editor *e, uint64_t file, const char *text, uint64_t *count) {
+  const tm_search search = {.utf8 = text, .length = strlen(text)};
+  must(tm_find(&e->session, file, &search, NULL, 0, count));
   tm_found *found = room(*count, sizeof *found);
-  must(tm_find(&e->session, file, sought, length, found, *count, count));
+  must(tm_find(&e->session, file, &search, found, *count, count));
   return found;
 }
 
 void editor_mark(editor *e, uint64_t file, const char *text) {
   marks *m = &e->marked[file];
-  uint64_t length, count, *old = room(m->count, sizeof *old);
-  uint16_t *sought = units_of(e, text, &length);
-  tm_found *found = find(e, file, sought, length, &count);
+  uint64_t count, *old = room(m->count, sizeof *old);
+  tm_found *found = find(e, file, text, &count);
   tm_new_decoration *new = room(count, sizeof *new);
   for (uint64_t at = 0; at < m->count; at++) old[at] = m->first + at;
   for (uint64_t at = 0; at < count; at++)
@@ -161,37 +139,37 @@ void editor_mark(editor *e, uint64_t file, const char *text) {
   must(tm_decorate(&e->session, file, OWNER, old, m->count, new, count, &m->first));
   m->count = count;
   free(old);
-  free(sought);
   free(found);
   free(new);
 }
 
-/* An edit for each place of the old name in all files, and how many files have it. */
-static tm_doc_op *edits_of(editor *e, const uint16_t *old, uint64_t length, uint64_t new, uint64_t *count, uint64_t *members) {
-  tm_doc_op *edits = NULL;
+/* An edit for each place of the old name in all files. Each puts in `length` bytes. */
+static tm_op *edits_of(editor *e, const char *old, uint64_t length, uint64_t *count) {
+  tm_op *edits = NULL;
   for (uint64_t file = 0, more; file < e->files; file++) {
-    tm_found *found = find(e, file, old, length, &more);
+    tm_found *found = find(e, file, old, &more);
     edits = realloc(edits, (*count + more + 1) * sizeof *edits);
     if (edits == NULL) must(TM_MEMORY);
     for (uint64_t at = 0; at < more; at++)
-      edits[(*count)++] = (tm_doc_op){.doc = file, .start = found[at].start, .end = found[at].end, .units = new};
-    *members += more > 0;
+      edits[(*count)++] = (tm_op){.doc = file, .start = found[at].start, .end = found[at].end, .units = length};
     free(found);
   }
   return edits;
 }
 
+/* The edits of one file would else be part of a step with those before and after them. */
+static void stop(editor *e) {
+  for (uint64_t file = 0; file < e->files; file++) must(tm_stop(&e->session, file));
+}
+
 uint32_t editor_rename(editor *e, const char *old, const char *new) {
-  uint64_t length, units, count = 0, members = 0;
-  uint16_t *sought = units_of(e, old, &length), *name = units_of(e, new, &units);
-  tm_doc_op *edits = edits_of(e, sought, length, units, &count, &members);
-  uint16_t *text = room(count * units, sizeof *text);
-  for (uint64_t at = 0; at < count; at++) memcpy(text + at * units, name, units * sizeof *text);
-  uint32_t status = members > 1    ? tm_joint(&e->session, edits, count, text, count * units)
-                    : members == 1 ? tm_replace_all(&e->session, edits->doc, sought, length, name, units, &count)
-                                   : TM_NOTHING;
-  free(sought);
-  free(name);
+  uint64_t length = strlen(new), count = 0;
+  tm_op *edits = edits_of(e, old, length, &count);
+  char *text = room(count * length, 1);
+  for (uint64_t at = 0; at < count; at++) memcpy(text + at * length, new, length);
+  if (count > 0) stop(e);
+  uint32_t status = count == 0 ? TM_NOTHING : tm_joint_utf8(&e->session, edits, count, text, count * length);
+  if (status == TM_OK) stop(e);
   free(edits);
   free(text);
   return status;

@@ -7,7 +7,7 @@
 #include <textmodel.h>
 
 /* The files are documents 0, 1 .. of the session. */
-enum { MOST_FILES = 63 };
+enum { MOST_FILES = 64 };
 
 /* In UTF-8, without its ending. A zero stands behind it. */
 typedef struct line {

@@ -12,15 +12,6 @@
 
 enum { SHOWN = 12, PAIRED = 1, COLOURS = 6, RED = 31, REVERSED = 7 };
 
-/* How many bytes stand before a column that counts units. */
-static uint64_t bytes_before(editor *e, uint64_t file, uint64_t number, uint64_t column) {
-  uint64_t offset;
-  tm_place place;
-  must(tm_offset(&e->session, file, number, column, TM_UTF16, &offset));
-  must(tm_position(&e->session, file, offset, TM_UTF8, &place));
-  return place.column - 1;
-}
-
 static void show_marks(editor *e, uint64_t file) {
   const marks *m = &e->marked[file];
   for (uint64_t id = m->first; id < m->first + m->count; id++) {
@@ -36,16 +27,16 @@ static void show_marks(editor *e, uint64_t file) {
 static void show(editor *e, uint64_t file) {
   const screen *s = &e->screens[file];
   uint64_t last = s->count < SHOWN ? s->count : SHOWN, count;
-  must(tm_brackets(&e->session, file, 1, last, NULL, 0, &count));
+  must(tm_brackets(&e->session, file, 1, last, TM_UTF8, NULL, 0, &count));
   tm_bracket *brackets = room(count, sizeof *brackets), *next = brackets;
-  must(tm_brackets(&e->session, file, 1, last, brackets, count, &count));
+  must(tm_brackets(&e->session, file, 1, last, TM_UTF8, brackets, count, &count));
   for (uint64_t number = 1; number <= last; number++) {
     const char *bytes = s->lines[number - 1].bytes, *rest = bytes;
     for (; next < brackets + count && next->line == number; next++) {
-      const char *at = bytes + bytes_before(e, file, number, next->column);
+      const char *at = bytes + next->column - 1;
       int colour = next->state <= PAIRED ? RED + (int)(next->level % COLOURS) : REVERSED;
-      printf("%.*s\x1b[%dm%c\x1b[m", (int)(at - rest), rest, colour, *at);
-      rest = at + 1;
+      printf("%.*s\x1b[%dm%.*s\x1b[m", (int)(at - rest), rest, colour, (int)next->length, at);
+      rest = at + next->length;
     }
     puts(rest);
   }
@@ -78,7 +69,9 @@ static int open_file(editor *e, const char *path) {
   if (bytes == NULL) return fails(path, "cannot be read");
   uint32_t status = editor_open(e, bytes, length);
   free(bytes);
-  return status == TM_OK ? 0 : fails(path, tm_message(status));
+  if (status == TM_OK) return 0;
+  if (status == TM_ENCODING) fprintf(stderr, "editor: byte %" PRIu64 " of the file is at fault\n", e->session.fault.index);
+  return fails(path, tm_message(status));
 }
 
 static int write_file(editor *e, uint64_t file, const char *path) {

@@ -46,7 +46,7 @@ static uint32_t opened(tm_session *d) {
 
 static uint32_t opened_utf8(tm_session *d) {
   static const tm_opening opening = {
-      .utf8 = (const uint8_t *)"a{b}\nc(d)\n", .length = 10, .ending = TM_LF, .hiding = &tm_hiding_javascript};
+      .utf8 = "a{b}\nc(d)\n", .length = 10, .ending = TM_LF, .hiding = &tm_hiding_javascript};
   return tm_open(d, 0, &opening);
 }
 
@@ -60,11 +60,21 @@ static uint32_t opened_with(tm_session *d) {
 
 static uint32_t edited(tm_session *d) { return tm_edit(d, 0, 1, 2, u"[[(", 3); }
 
-static uint32_t edited_at(tm_session *d) { return tm_edit_at(d, 0, 2, 1, 2, 2, TM_UTF8, u"z\n(", 3); }
+static uint32_t edited_utf8(tm_session *d) { return tm_edit_utf8(d, 0, 1, 2, "\xC3\xA9(", 3); }
+
+static uint32_t edited_at(tm_session *d) {
+  const tm_place from = {2, 1}, to = {2, 2};
+  return tm_edit_at(d, 0, from, to, TM_UTF8, u"z\n(", 3);
+}
+
+static uint32_t edited_at_utf8(tm_session *d) {
+  const tm_place from = {1, 1}, to = {1, 2};
+  return tm_edit_at_utf8(d, 0, from, to, TM_UTF32, "[\xC3\xA9", 3);
+}
 
 static uint32_t many_ops(tm_session *d) {
-  static const tm_op ops[] = {{0, 1, 2, false}, {3, 3, 1, true}, {6, 7, 0, false}};
-  return tm_batch(d, 0, ops, 3, u"pq)", 3);
+  static const tm_op ops[] = {{0, 0, 1, 2, false}, {0, 3, 3, 1, true}, {0, 6, 7, 0, false}};
+  return tm_joint(d, ops, 3, u"pq)", 3);
 }
 
 static uint32_t long_text(tm_session *d) {
@@ -90,42 +100,86 @@ static uint32_t all_decorations(tm_session *d) {
   return tm_decos(d, 0, 0, 9, 0, true, out, 8, &count);
 }
 
-static uint32_t all_brackets(tm_session *d) {
+/* Two decorations that are to be added, of which the second has no span. It is told, or memory was short for that. */
+static uint32_t not_decorated(tm_session *d) {
+  static const tm_new_decoration marks[] = {{0, 0, 0, false}, {2, 1, 0, false}};
+  uint64_t first;
+  uint32_t status = tm_decorate(d, 0, 4, NULL, 0, marks, 2, &first);
+  if (status != TM_RANGE) return status;
+  return d->fault.index == 1 ? TM_OK : d->fault.index == TM_NO_INDEX ? TM_MEMORY : status;
+}
+
+/* The same of edits: the last one overlaps the first. */
+static uint32_t not_joined(tm_session *d) {
+  static const tm_op ops[] = {{0, 0, 2, 0, false}, {0, 3, 3, 0, false}, {0, 1, 2, 0, false}};
+  uint32_t status = tm_joint(d, ops, 3, NULL, 0);
+  if (status != TM_OVERLAP) return status;
+  return d->fault.index == 2 ? TM_OK : d->fault.index == TM_NO_INDEX ? TM_MEMORY : status;
+}
+
+static uint32_t brackets_in(tm_session *d, uint32_t encoding) {
   tm_bracket out[32];
   uint64_t count;
-  return tm_brackets(d, 0, 1, 3, out, 32, &count);
+  return tm_brackets(d, 0, 1, 3, encoding, out, 32, &count);
 }
 
-static uint32_t matched(tm_session *d) {
+static uint32_t all_brackets(tm_session *d) { return brackets_in(d, TM_UTF16); }
+static uint32_t brackets_utf8(tm_session *d) { return brackets_in(d, TM_UTF8); }
+
+static uint32_t matched_in(tm_session *d, uint32_t encoding) {
   tm_partner partner;
-  return tm_match(d, 0, 2, 1, &partner) == TM_MEMORY ? TM_MEMORY : TM_OK;
+  return tm_match(d, 0, 2, 1, encoding, &partner) == TM_MEMORY ? TM_MEMORY : TM_OK;
 }
 
-static uint32_t level(tm_session *d) {
+static uint32_t matched(tm_session *d) { return matched_in(d, TM_UTF16); }
+static uint32_t matched_utf8(tm_session *d) { return matched_in(d, TM_UTF8); }
+
+static uint32_t level_in(tm_session *d, uint32_t encoding) {
   uint64_t open;
-  return tm_level(d, 0, 2, 2, &open);
+  return tm_level(d, 0, 2, 2, encoding, &open);
 }
 
-static uint32_t cursor_stops(tm_session *d) {
+static uint32_t level(tm_session *d) { return level_in(d, TM_UTF16); }
+static uint32_t level_utf32(tm_session *d) { return level_in(d, TM_UTF32); }
+
+static uint32_t stops_in(tm_session *d, uint32_t encoding) {
   uint64_t out[128], count;
-  return tm_stops(d, 0, 1, out, 128, &count);
+  return tm_stops(d, 0, 1, encoding, out, 128, &count);
 }
 
-static uint32_t line_utf8(tm_session *d) {
-  uint8_t out[256];
-  uint64_t count;
-  return tm_line_utf8(d, 0, 1, out, 256, &count);
+static uint32_t cursor_stops(tm_session *d) { return stops_in(d, TM_UTF16); }
+static uint32_t stops_utf8(tm_session *d) { return stops_in(d, TM_UTF8); }
+
+static uint32_t texts_utf8(tm_session *d) {
+  char out[256];
+  uint64_t offset = 0, count;
+  uint32_t status = tm_line_utf8(d, 0, 1, out, 256, &count);
+  if (status == TM_OK) status = tm_value_utf8(d, 0, 0, 3, out, 256, &count);
+  return status == TM_OK ? tm_read_into_utf8(d, 0, &offset, out, 256, &count) : status;
 }
 
 static uint32_t found(tm_session *d) {
+  static const tm_search b = {.utf16 = (const uint16_t *)u"b", .length = 1};
   tm_found out[64];
   uint64_t count;
-  return tm_find(d, 0, u"b", 1, out, 64, &count);
+  return tm_find(d, 0, &b, out, 64, &count);
+}
+
+static uint32_t found_utf8(tm_session *d) {
+  static const tm_search b = {.utf8 = "b", .length = 1, .from = UINT64_MAX, .back = true, .most = 3};
+  tm_found out[3];
+  uint64_t count;
+  return tm_find(d, 0, &b, out, 3, &count);
 }
 
 static uint32_t all_replaced(tm_session *d) {
   uint64_t count;
   return tm_replace_all(d, 0, u"b", 1, u"(b]", 3, &count);
+}
+
+static uint32_t all_replaced_utf8(tm_session *d) {
+  uint64_t count;
+  return tm_replace_all_utf8(d, 0, "b", 1, "(b]", 3, &count);
 }
 
 static uint32_t positions(tm_session *d) {
@@ -141,9 +195,9 @@ static uint32_t snapshot(tm_session *d) {
 }
 
 static uint32_t answer(tm_session *d, const char *line) {
-  uint8_t reply[64];
+  char reply[64];
   uint64_t len, count;
-  uint32_t status = tm_answer(d, (const uint8_t *)line, strlen(line), &len);
+  uint32_t status = tm_answer(d, line, strlen(line), &len);
   if (status == TM_OK) status = tm_reply(d, 0, reply, 64, &count);
   return status == TM_OK && memcmp(reply, "! memory", 8) == 0 ? TM_MEMORY : status;
 }
@@ -155,9 +209,8 @@ static uint32_t opened_other(tm_session *d) {
 }
 
 static uint32_t opened_bytes(tm_session *d) {
-  static const tm_opening opening = {.utf8 = (const uint8_t *)"a{b}\nc(d)\n", .length = 10, .hiding = &tm_hiding_python};
-  uint64_t bad;
-  return tm_open_utf8(d, 0, &opening, &bad);
+  static const tm_opening opening = {.utf8 = "a{b}\nc(d)\n", .length = 10, .hiding = &tm_hiding_python};
+  return tm_open(d, 0, &opening);
 }
 
 static uint32_t line_and_text(tm_session *d) {
@@ -171,18 +224,25 @@ static uint32_t line_and_text(tm_session *d) {
 /* Read from its start, in a document that was opened before. */
 static uint32_t read_snapshot(tm_session *d) {
   uint16_t out[4];
+  char bytes[12];
   uint64_t id, count;
   uint32_t status = tm_snapshot(d, 0, &id);
   if (status != TM_OK) return status;
   status = tm_read(d, 0, id, out, 4, &count);
+  if (status == TM_OK && count > 0) status = tm_read_utf8(d, 0, id, bytes, 12, &count);
   if (status == TM_OK && count == 0) return TM_NOTHING;
   tm_close(d, 0, id);
   return status;
 }
 
 static uint32_t joined(tm_session *d) {
-  static const tm_doc_op ops[] = {{0, 0, 0, 2, false}, {0, 1, 1, 0, false}, {OTHER, 0, 1, 2, true}};
+  static const tm_op ops[] = {{0, 0, 0, 2, false}, {0, 1, 1, 0, false}, {OTHER, 0, 1, 2, true}};
   return tm_joint(d, ops, 3, u"(x[y", 4);
+}
+
+static uint32_t joined_utf8(tm_session *d) {
+  static const tm_op ops[] = {{OTHER, 0, 0, 3, false}, {0, 0, 0, 1, false}, {0, 1, 2, 0, false}};
+  return tm_joint_utf8(d, ops, 3, "(\xC3\xA9[", 4);
 }
 
 static uint32_t mirror(tm_session *d) {
@@ -202,33 +262,37 @@ static uint32_t delivered(tm_session *d) {
 
 static uint32_t mirrored(tm_session *d) {
   uint16_t out[256];
+  char bytes[256];
   uint64_t count;
-  return tm_mirrored(d, 0, 1, out, 256, &count);
+  uint32_t status = tm_mirrored(d, 0, 1, out, 256, &count);
+  return status == TM_OK ? tm_mirrored_utf8(d, 0, 1, bytes, 256, &count) : status;
 }
 
 /* All edits of the last change. Where one is refused, the next call tells it. */
 static uint32_t changes(tm_session *d) {
   uint16_t out[256];
+  char bytes[768];
   uint64_t count;
   tm_change change;
   uint32_t status;
   while ((status = tm_next_change(d, 0, &change)) == TM_OK) {
     status = tm_change_text(d, out, 256, &count);
+    if (status == TM_OK) status = tm_change_text_utf8(d, bytes, 768, &count);
     if (status != TM_OK) return status;
   }
   return status == TM_NOTHING ? TM_OK : status;
 }
 
 static uint32_t (*const calls[])(tm_session *) = {
-    opened,       edited,      edited_at,       many_ops,     decorated, all_decorations, all_brackets,
-    matched,      level,       snapshot,        long_text,    matched,   level,           undone,
-    redone,       undone,      cursor_stops,    line_utf8,    answered,  other_endings,   all_decorations,
-    all_brackets, opened_utf8, cursor_stops,    edited,       snapshot,  answered,        undone,
-    found,        all_replaced, undone,         all_replaced, level,     undone,
-    opened_bytes, line_and_text, changes,      read_snapshot, edited,   changes,         opened_other,
-    opened_with,  level,       mirror,          answered,     sent,      delivered,       mirrored,
-    joined,       changes,     sent,            undone,       changes,   redone,          changes,
-    positions,    line_and_text, line_feeds,   changes,
+    opened,        edited,       edited_at,     many_ops,      decorated,    all_decorations, all_brackets,  matched,
+    level,         snapshot,     long_text,     matched_utf8,  level_utf32,  undone,          redone,        undone,
+    cursor_stops,  texts_utf8,   answered,      other_endings, all_decorations, brackets_utf8, opened_utf8,  stops_utf8,
+    edited_utf8,   snapshot,     answered,      undone,        found,        all_replaced,    undone,        found_utf8,
+    all_replaced_utf8, level,    undone,        opened_bytes,  line_and_text, changes,        read_snapshot, edited,
+    changes,       edited_at_utf8, changes,     opened_other,  opened_with,  level,           mirror,        answered,
+    sent,          delivered,    mirrored,      joined,        changes,      sent,            undone,        changes,
+    redone,        changes,      joined_utf8,   changes,       undone,       not_joined,      not_decorated, positions,
+    line_and_text, line_feeds,   changes,
 };
 enum { CALLS = sizeof calls / sizeof *calls };
 
@@ -238,7 +302,7 @@ typedef struct state {
   uint64_t len, lines, version, alternative, marks;
   uint32_t kind, undo, redo;
   uint64_t text;     /* a sum over all units */
-  uint64_t mirrored; /* how many units the first line of the mirror has, none where there is no mirror */
+  tm_followed mirror; /* zeros where there is none */
   tm_decoration decorations[8];
 } state;
 
@@ -259,7 +323,7 @@ static state told_of(tm_session *d, uint64_t doc) {
   now.redo = tm_can_redo(d, doc);
   tm_value(d, doc, 0, now.len, units, 4000, &count);
   for (uint64_t at = 0; at < count; at++) now.text = now.text * 31 + units[at];
-  if (tm_mirrored(d, doc, 1, units, 4000, &count) == TM_OK) now.mirrored = count;
+  tm_mirror_now(d, doc, &now.mirror);
   tm_decos(d, doc, 0, now.len, 0, true, now.decorations, 8, &now.marks);
   return now;
 }
@@ -273,7 +337,8 @@ static int same_state(const state *one, const state *other) {
   int equal = one->len == other->len && one->lines == other->lines && one->version == other->version
               && one->alternative == other->alternative && one->marks == other->marks && one->kind == other->kind
               && one->undo == other->undo && one->redo == other->redo && one->text == other->text
-              && one->mirrored == other->mirrored;
+              && one->mirror.version == other->mirror.version && one->mirror.units == other->mirror.units
+              && one->mirror.lines == other->mirror.lines;
   for (uint64_t at = 0; equal && at < one->marks; at++) {
     const tm_decoration *a = &one->decorations[at], *b = &other->decorations[at];
     equal = a->id == b->id && a->owner == b->owner && a->start == b->start && a->end == b->end;

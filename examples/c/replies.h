@@ -7,21 +7,21 @@
 #include <stdio.h>
 #include <textmodel.h>
 
-enum { REPLY_ROOM = 4096, REPLY_DOCUMENTS = 64, REPLY_EVENTS = 64 };
+enum { REPLY_ROOM = 4096 };
 
 static tm_session session;
 static uint16_t units[REPLY_ROOM];
 static uint64_t count; /* or another number that was told last */
 
-/* Where the mirrors are, and what the events need: a call that is refused does not tell it again. */
-static uint64_t reply_mirrors[REPLY_DOCUMENTS], reply_events[REPLY_DOCUMENTS][REPLY_EVENTS];
-
 /* Whether a call changed or told nothing, which is then the reply. */
 static inline bool refused(uint32_t status) {
   static const char *const replies[] = {"ok", "ok none", "! unknown", "! range", "! overlap", "! limit",
-                                        "! memory", "! encoding", "! empty", "! short", "! joint", "! gap"};
+                                        "! memory", "! encoding", "! empty", "! short"};
+  const tm_fault *fault = &session.fault;
   if (status == TM_OK) return false;
-  puts(status < sizeof replies / sizeof *replies ? replies[status] : "! ?");
+  if (status == TM_JOINT) printf("! joint %" PRIu64 "\n", fault->doc);
+  else if (status == TM_GAP) printf("! gap %" PRIu64 " %" PRIu64 "\n", fault->have, fault->need);
+  else puts(status < sizeof replies / sizeof *replies ? replies[status] : "! ?");
   return true;
 }
 
@@ -160,7 +160,7 @@ static inline void reply_position(uint64_t doc, uint64_t offset) {
 
 static inline void reply_stops(uint64_t doc, uint64_t n) {
   uint64_t columns[REPLY_ROOM];
-  if (refused(tm_stops(&session, doc, n, columns, REPLY_ROOM, &count))) return;
+  if (refused(tm_stops(&session, doc, n, TM_UTF16, columns, REPLY_ROOM, &count))) return;
   printf("ok");
   for (uint64_t at = 0; at < count; at++) printf(" %" PRIu64, columns[at]);
   putchar('\n');
@@ -168,9 +168,10 @@ static inline void reply_stops(uint64_t doc, uint64_t n) {
 
 /* A script may not seek the empty text, which its checker calls a wrong line. */
 static inline void reply_find(uint64_t doc, const uint16_t *sought, size_t length) {
+  const tm_search search = {.utf16 = sought, .length = length};
   tm_found found[REPLY_ROOM];
   if (length == 0) puts("! syntax");
-  if (length == 0 || refused(tm_find(&session, doc, sought, length, found, REPLY_ROOM, &count))) return;
+  if (length == 0 || refused(tm_find(&session, doc, &search, found, REPLY_ROOM, &count))) return;
   printf("ok");
   for (uint64_t at = 0; at < count; at++) printf(" %" PRIu64 " %" PRIu64, found[at].start, found[at].end);
   putchar('\n');
@@ -199,10 +200,10 @@ static inline void reply_decos(uint64_t doc, uint64_t start, uint64_t end, uint6
 
 static inline void reply_brackets(uint64_t doc, uint64_t first, uint64_t last) {
   tm_bracket found[REPLY_ROOM];
-  if (refused(tm_brackets(&session, doc, first, last, found, REPLY_ROOM, &count))) return;
+  if (refused(tm_brackets(&session, doc, first, last, TM_UTF16, found, REPLY_ROOM, &count))) return;
   printf("ok");
   for (const tm_bracket *it = found; it < found + count; it++) {
-    printf(" %" PRIu64 " %" PRIu64 " %" PRIu64 " %" PRIu64, it->line, it->column, it->units, it->kind);
+    printf(" %" PRIu64 " %" PRIu64 " %" PRIu64 " %" PRIu64, it->line, it->column, it->length, it->kind);
     printf(" %c %" PRIu64, "ocux"[it->state], it->level);
   }
   putchar('\n');
@@ -210,36 +211,25 @@ static inline void reply_brackets(uint64_t doc, uint64_t first, uint64_t last) {
 
 static inline void reply_match(uint64_t doc, uint64_t line, uint64_t column) {
   tm_partner it;
-  if (refused(tm_match(&session, doc, line, column, &it))) return;
-  printf("ok %" PRIu64 " %" PRIu64 " %" PRIu64 "\n", it.line, it.column, it.units);
+  if (refused(tm_match(&session, doc, line, column, TM_UTF16, &it))) return;
+  printf("ok %" PRIu64 " %" PRIu64 " %" PRIu64 "\n", it.line, it.column, it.length);
 }
 
 /* ---- Replies of mirrors and changes */
 
-static inline void reply_mirror(uint64_t doc) {
-  uint32_t status = tm_mirror(&session, doc, &count);
-  if (status == TM_OK) reply_mirrors[doc] = count;
-  told_count(status);
-}
+static inline void reply_mirror(uint64_t doc) { told_count(tm_mirror(&session, doc, &count)); }
 
 static inline void reply_send(uint64_t doc) {
   uint64_t number, from;
   if (refused(tm_send(&session, doc, &number, &from))) return;
-  if (number < REPLY_EVENTS) reply_events[doc][number] = from;
   printf("ok %" PRIu64 " %" PRIu64 "\n", number, from);
 }
 
 static inline void reply_deliver(uint64_t doc, uint64_t number) {
   tm_followed it;
   uint32_t status = tm_deliver(&session, doc, number, &it);
-  if (status == TM_NOTHING) {
-    puts("ok old");
-  } else if (status == TM_GAP) {
-    printf("! gap %" PRIu64 " %" PRIu64 "\n", reply_mirrors[doc], number < REPLY_EVENTS ? reply_events[doc][number] : 0);
-  } else if (!refused(status)) {
-    reply_mirrors[doc] = it.version;
-    printf("ok %" PRIu64 " %" PRIu64 " %" PRIu64 "\n", it.version, it.units, it.lines);
-  }
+  if (status == TM_NOTHING) puts("ok old");
+  else if (!refused(status)) printf("ok %" PRIu64 " %" PRIu64 " %" PRIu64 "\n", it.version, it.units, it.lines);
 }
 
 static inline void reply_changes(uint64_t doc) {

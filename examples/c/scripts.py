@@ -23,7 +23,6 @@ from texts import text_of  # noqa: E402
 
 ENDINGS = {"lf": "TM_LF", "crlf": "TM_CRLF"}
 ESCAPES = {'"': '\\"', "\\": "\\\\", "\n": "\\n", "\r": "\\r", "\t": "\\t", "?": "\\?"}
-UNTOLD = re.compile(rb"^! joint \d+$", re.M)  # a status does not tell which document holds a step up
 WORDS = ["-std=c11", "-Wall", "-Wextra", "-Werror", "-pedantic", f"-I{HERE}", f"-I{HEADER}"]
 
 # ---- Values in C
@@ -84,20 +83,22 @@ def span(doc, op):
 
 def edited(doc, ops):
     if len(ops) > 1 or ops[0].force:
-        batch = [f"{{{span(doc, op)}, {len(op.text)}, {flag(op.force)}}}" for op in ops]
-        texts = sized("".join(op.text for op in ops))
-        return f"changed(tm_batch(&session, {doc}, {listed('tm_op', batch)}, {texts}), {doc});"
+        return f"changed({jointly([(doc, ops)])}, {doc});"
     if ops[0].at:
         return f"changed(tm_edit(&session, {doc}, {span(doc, ops[0])}, {sized(ops[0].text)}), {doc});"
-    places = ", ".join(map(str, ops[0].range))
+    line, column, end_line, end_column = ops[0].range
+    places = f"(tm_place){{{line}, {column}}}, (tm_place){{{end_line}, {end_column}}}"
     return f"changed(tm_edit_at(&session, {doc}, {places}, TM_UTF16, {sized(ops[0].text)}), {doc});"
 
 
-def joint(_, edits):
+def jointly(edits):
+    """The call that makes edits of several documents, or several of one."""
     ops = [f"{{{doc}, {span(doc, op)}, {len(op.text)}, {flag(op.force)}}}" for doc, ops in edits for op in ops]
-    texts = sized("".join(op.text for _, ops in edits for op in ops))
-    docs = listed("uint64_t", [str(doc) for doc, _ in edits])
-    return f"jointly_changed(tm_joint(&session, {listed('tm_doc_op', ops)}, {texts}), {docs});"
+    return f"tm_joint(&session, {listed('tm_op', ops)}, {sized(''.join(op.text for _, ops in edits for op in ops))})"
+
+
+def joint(_, edits):
+    return f"jointly_changed({jointly(edits)}, {listed('uint64_t', [str(doc) for doc, _ in edits])});"
 
 
 def replaced(doc, sought, units):
@@ -129,7 +130,7 @@ MAKERS = {
     "find": lambda doc, sought: f"reply_find({doc}, {sized(sought)});",
     "snapshot": lambda doc: f"told_count(tm_snapshot(&session, {doc}, &count));",
     "read": lambda doc, id, room: f"told_units(tm_read(&session, {doc}, {id}, units, {room}, &count));",
-    "level": lambda doc, line, column: f"told_count(tm_level(&session, {doc}, {line}, {column}, &count));",
+    "level": lambda doc, line, column: f"told_count(tm_level(&session, {doc}, {line}, {column}, TM_UTF16, &count));",
     "close": lambda doc, id: f"done(tm_close(&session, {doc}, {id}));",
     "mirrored": lambda doc, n: f"told_units(tm_mirrored(&session, {doc}, {n}, units, REPLY_ROOM, &count));",
 }
@@ -167,7 +168,7 @@ def replies(script, library, room):
 
 
 def passes(script, library):
-    wanted = UNTOLD.sub(b"! joint", Path(f"{script}.stdout").read_bytes())
+    wanted = Path(f"{script}.stdout").read_bytes()
     with tempfile.TemporaryDirectory() as room:
         came = replies(script, library, Path(room))
     for number, (got, want) in enumerate(zip(came.splitlines(), wanted.splitlines()), 1):

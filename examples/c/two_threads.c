@@ -38,7 +38,7 @@ static uint32_t one_edit(tm_session *session, uint64_t *random) {
   start = next(random) % (len + 1);
   status = tm_edit(session, doc, start, start + (len > 900 && start < len), text, next(random) % 8);
   if (status == TM_OK && next(random) % 4 == 0 && tm_can_undo(session, doc) == TM_OK) status = tm_undo(session, doc);
-  return status == TM_OK ? tm_level(session, doc, 1, 1, &level) : status;
+  return status == TM_OK ? tm_level(session, doc, 1, 1, TM_UTF16, &level) : status;
 }
 
 /* ---- What each thread does */

@@ -13,7 +13,7 @@ use Rattle.script_runner.specs.declared.serving.Served.{Served}
 use Rattle.script_runner.specs.declared.serving.Served.TheVariants.{Ended, ReadFault, WriteFault, TooLong}
 use Rattle.sessions.specs.declared.session.Session.{Session}
 use Rattle.session_rules.specs.Session.{new_session}
-use Rattle.sessions.specs.Standing.{StandsFor}
+use Rattle.sessions.specs.Standing.{Represents}
 use Rattle.session_rules.specs.Script.{all_lines, written, Transcript}
 use Rattle.script_runner.specs.Serving.{Serves}
 use Rattle.script_runner.specs.Runs.{most_script_bytes}
@@ -44,7 +44,7 @@ module _ (most : ℕ) (start end : Session) (src src' : SourceState) (out out' :
 short_script : (count seed : ℕ) → IsCount count → length (script count seed) < most_script_bytes
 short_script count seed few = omega (arith, length-script count seed)
 
-module _ (count seed : ℕ) (start end : Session) (new : StandsFor start new_session) (src src' : SourceState) (before after : Tally) (left : src.left ≡ Some (script count seed)) where
+module _ (count seed : ℕ) (start end : Session) (new : Represents start new_session) (src src' : SourceState) (before after : Tally) (left : src.left ≡ Some (script count seed)) where
   -- a script that is played is read to its end
   pub play_ends : (served : Served) → IsCount count → src'.faults ≡ 0
       → Serves served most_script_bytes start end src src' (tally_sink before) (tally_sink after) → HasEnded served

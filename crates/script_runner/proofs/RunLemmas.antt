@@ -11,13 +11,13 @@ use Rattle.script_runner.specs.declared.serving.Served.TheVariants.{Ended, ReadF
 use Rattle.sessions.specs.declared.session.Session.{Session}
 use Rattle.session_rules.specs.Session.{FlatSession, new_session}
 use Rattle.session_rules.specs.Script.{all_lines, written, is_refused, Transcript}
-use Rattle.sessions.specs.Standing.{Replied, StandsFor}
+use Rattle.sessions.specs.Standing.{Replied, Represents}
 use Rattle.script_runner.specs.Serving.{Serves, status_after}
 use Rattle.script_runner.specs.Runs.{most_script_bytes, refusals, WholeReplies, WritesBy, ServesBy, ServesNew, EndsWith, Runs, IsAnswered, IsTold}
 
--- ---- from a session to the flat one that it stands for
+-- ---- from a session to the flat one that it represents
 
-module _ (start end : Session) (flat : FlatSession) (stands : StandsFor start flat) where
+module _ (start end : Session) (flat : FlatSession) (stands : Represents start flat) where
   whole_flat : (lines : List (List ℕ)) (bytes : List ℕ) → WholeReplies Replied start lines bytes end
       → (next : FlatSession) × WholeReplies Transcript flat lines bytes next
   whole_flat lines bytes whole =
@@ -52,7 +52,7 @@ module _ (start end : Session) (flat : FlatSession) (stands : StandsFor start fl
       )
 
 module _ (src src' : SourceState) (out out' : SinkState) where
-  pub serves_new : (served : Served) (start end : Session) → StandsFor start new_session
+  pub serves_new : (served : Served) (start end : Session) → Represents start new_session
       → Serves served most_script_bytes start end src src' out out' → ServesNew served src src' out out'
   serves_new served start end new serves =
       let flat = writes_flat start end new_session new served src'.ended serves.script serves.bytes serves.writes in (

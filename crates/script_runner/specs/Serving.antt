@@ -19,7 +19,7 @@ status_after ReadFault = status.ReadFault
 status_after WriteFault = status.WriteFault
 status_after TooLong = status.TooLong
 
--- what serving a script did to a session, whichever flat one it stands for at the start
+-- what serving a script did to a session, whichever flat one it represents at the start
 abbrev pub Serves : Served → ℕ → Session → Session → SourceState → SourceState → SinkState → SinkState → Type 0
 Serves served most start end src src' out out' = ServesBy Replied served most start end src src' out out'
 

@@ -1,4 +1,4 @@
--- What a session stands for after a request.
+-- Which flat session a session represents after a request.
 use Rattle.std.proofs.Common.{◌≡◌, ◌≢◌, ℕ, zero, suc, ◌<◌, ◌≤◌, nat_lt, cond, Bool, true, false, List, [], ◌∷◌, ◌++◌, length, set, slice_get, unwrap_or, replicate, Some, None, Result, Ok, Err, refl, ap, sym, ◌∙◌, subst, ⊎_elim, arith}
 use Rattle.std.proofs.lemmas.Bool.{cases_eq, cases_lt, le-leb, lt-leb}
 use Rattle.std.proofs.lemmas.List.{length-set}
@@ -28,7 +28,7 @@ use Rattle.sessions.specs.declared.outcome.Refused.{Refused}
 use Rattle.sessions.specs.declared.session.Follower.{Follower}
 use Rattle.sessions.specs.declared.session.Session.{Session}
 use Rattle.sessions.specs.Bytes.{bytes_of, bytes_of_outcome, refusal_of}
-use Rattle.sessions.specs.Standing.{Follows, StandsFor, IsFresh, AreFresh, BeginsAnew, Turns}
+use Rattle.sessions.specs.Standing.{Follows, Represents, IsFresh, AreFresh, BeginsAnew, Turns}
 use Rattle.sessions.specs.Told.{TellsBy, Tells, TellsOf, TellsAfter}
 use Rattle.sessions.proofs.AnswerLemmas.{tells_refusal}
 use Rattle.sessions.proofs.GoesLemmas.{Goes, AllGo, go_without}
@@ -36,8 +36,8 @@ use Rattle.sessions.proofs.FollowLemmas.{follows_on, follows_new}
 
 -- ---- after a change of documents alone
 
-module _ (old new : Session) (flat : FlatSession) (stands : StandsFor old flat) (followers : new.followers.items ≡ old.followers.items) where
-  stands_by : (g : FlatGroup) → g ≡ documents new.group → AllGo (documents old.group) g → StandsFor new (record flat { documents = g })
+module _ (old new : Session) (flat : FlatSession) (stands : Represents old flat) (followers : new.followers.items ≡ old.followers.items) where
+  stands_by : (g : FlatGroup) → g ≡ documents new.group → AllGo (documents old.group) g → Represents new (record flat { documents = g })
   stands_by g is go = record {
     documents = is;
     count = ap length followers ∙ stands.count;
@@ -48,7 +48,7 @@ module _ (old new : Session) (flat : FlatSession) (stands : StandsFor old flat) 
         (stands.each n own follower (sym (ap (λ xs. slice_get xs n) followers) ∙ at) there));
   }
 
-  pub stands_still : documents new.group ≡ documents old.group → StandsFor new flat
+  pub stands_still : documents new.group ≡ documents old.group → Represents new flat
   stands_still same = record {
     documents = stands.documents ∙ sym same;
     count = ap length followers ∙ stands.count;
@@ -56,14 +56,14 @@ module _ (old new : Session) (flat : FlatSession) (stands : StandsFor old flat) 
     each = λ n own follower at there. stands.each n own follower (sym (ap (λ xs. slice_get xs n) followers) ∙ at) there;
   }
 
-  pub stands_on : AllGo (documents old.group) (documents new.group) → StandsFor new (record flat { documents = documents new.group })
+  pub stands_on : AllGo (documents old.group) (documents new.group) → Represents new (record flat { documents = documents new.group })
   stands_on go = stands_by (documents new.group) refl go
 
--- a session after a request, which answers one that the old one stands for
+-- a session after a request, which answers one that the old one represents
 abbrev pub Leaves : (FlatSession → List ℕ × FlatSession) → List ℕ → FlatSession → Session → Type 0
-Leaves rule reply flat new = (next : FlatSession) × Answers (rule flat) flat reply next × StandsFor new next
+Leaves rule reply flat new = (next : FlatSession) × Answers (rule flat) flat reply next × Represents new next
 
-module _ (old new : Session) (reply : List ℕ) (flat : FlatSession) (stands : StandsFor old flat) (followers : new.followers.items ≡ old.followers.items) where
+module _ (old new : Session) (reply : List ℕ) (flat : FlatSession) (stands : Represents old flat) (followers : new.followers.items ≡ old.followers.items) where
   leaves_within : (answer : FlatGroup → List ℕ × FlatGroup) → AllGo (documents old.group) (answer (documents old.group)).1
       → Answers (answer (documents old.group)) (documents old.group) reply (documents new.group) → Leaves (λ s. within s (answer s.documents)) reply flat new
   leaves_within answer go (answered is to) = (
@@ -110,10 +110,10 @@ tells_asked_of s new followers same n f outcome answer is told =
 
 -- ---- after a change of what follows one document
 
-module _ (old new : Session) (flat : FlatSession) (stands : StandsFor old flat) (n : ℕ) (own : Follower) (follower : FlatFollower)
+module _ (old new : Session) (flat : FlatSession) (stands : Represents old flat) (n : ℕ) (own : Follower) (follower : FlatFollower)
     (same : documents new.group ≡ documents old.group) (put : new.followers.items ≡ set old.followers.items n own)
     (follows : Follows (doc_in (documents old.group) n) own.mirror own.sent.items follower) where
-  stands_following : n < DOC_COUNT → StandsFor new (record flat { followers = with_follower flat.followers n follower })
+  stands_following : n < DOC_COUNT → Represents new (record flat { followers = with_follower flat.followers n follower })
   stands_following inside = record {
     documents = stands.documents ∙ sym same;
     count = ap length put ∙ length-set old.followers.items n own ∙ stands.count;
@@ -150,7 +150,7 @@ module _ (old new : Session) (n : ℕ) (before after : Follower) (outcome : Resu
       → TellsOf (λ s. following s n (rule (doc_in s.documents n) (follower_in s.followers n))) old outcome new
   tells_following rule told = record { answer = λ flat stands. leaves flat stands; accepted = told.accepted }
     where
-      leaves : (flat : FlatSession) → StandsFor old flat
+      leaves : (flat : FlatSession) → Represents old flat
           → Leaves (λ s. following s n (rule (doc_in s.documents n) (follower_in s.followers n))) (bytes_of_outcome outcome) flat new
       leaves flat stands =
           let item = item_within flat.followers n (omega (arith, stands.flat_count, inside)) in
@@ -161,7 +161,7 @@ module _ (old new : Session) (n : ℕ) (before after : Follower) (outcome : Resu
         where
           by : (f next : FlatFollower) → slice_get flat.followers n ≡ Some f → follower_in flat.followers n ≡ f
               → Answers (rule (doc_in (documents old.group) n) f) f (bytes_of_outcome outcome) next
-              → StandsFor new (record flat { followers = with_follower flat.followers n next })
+              → Represents new (record flat { followers = with_follower flat.followers n next })
               → Leaves (λ s. following s n (rule (doc_in s.documents n) (follower_in s.followers n))) (bytes_of_outcome outcome) flat new
           by f next at is (answered bytes to) standing =
               let rules : rule (doc_in (documents old.group) n) f ≡ rule (doc_in flat.documents n) (follower_in flat.followers n) =
@@ -175,7 +175,7 @@ module _ (old new : Session) (n : ℕ) (before after : Follower) (outcome : Resu
               let back : record flat { followers = with_follower flat.followers n next } ≡ flat =
               ap (λ x. record flat { followers = with_follower flat.followers n x }) to
               ∙ ap (λ xs. record flat { followers = xs }) (set_back flat.followers n f at) in
-              (flat, out_of_memory bytes refl, subst (StandsFor new) back standing)
+              (flat, out_of_memory bytes refl, subst (Represents new) back standing)
 
 -- a question about what follows one document
 pub tells_asked_after : (s : Session) (n : ℕ) (own : Follower) (outcome : Result Reply Refused) → n < DOC_COUNT → slice_get s.followers.items n ≡ Some own
@@ -183,7 +183,7 @@ pub tells_asked_after : (s : Session) (n : ℕ) (own : Follower) (outcome : Resu
     → TellsOf (λ flat. (answer (follower_in flat.followers n), flat)) s outcome s
 tells_asked_after s n own outcome inside there answer told = record { answer = λ flat stands. leaves flat stands; accepted = told.accepted }
   where
-    leaves : (flat : FlatSession) → StandsFor s flat → Leaves (λ flat. (answer (follower_in flat.followers n), flat)) (bytes_of_outcome outcome) flat s
+    leaves : (flat : FlatSession) → Represents s flat → Leaves (λ flat. (answer (follower_in flat.followers n), flat)) (bytes_of_outcome outcome) flat s
     leaves flat stands =
         let item = item_within flat.followers n (omega (arith, stands.flat_count, inside)) in
         let is : follower_in flat.followers n ≡ item.0 = ap (λ o. unwrap_or o no_follower) item.1 in
@@ -225,7 +225,7 @@ module _ {X : Type 0} where
   replicated_count (suc k) x = ap suc (replicated_count k x)
 
 -- the documents before any text was opened
-pub stands_fresh : (s : Session) → documents s.group ≡ new_group → AreFresh s.followers.items → StandsFor s new_session
+pub stands_fresh : (s : Session) → documents s.group ≡ new_group → AreFresh s.followers.items → Represents s new_session
 stands_fresh s same fresh = record {
   documents = sym same;
   count = fresh.count;
@@ -254,11 +254,11 @@ changed_by : (g : FlatGroup) (lost : List Tag) (n : ℕ) (rule : Result FlatStat
 changed_by g lost n (Err why) new is = absurd cc
 changed_by g lost n (Ok f) new is = (f, refl, cc)
 
-module _ (old new : Session) (flat : FlatSession) (stands : StandsFor old flat) (n : ℕ) (lost : List Tag) (f : FlatState) (inside : n < DOC_COUNT)
+module _ (old new : Session) (flat : FlatSession) (stands : Represents old flat) (n : ℕ) (lost : List Tag) (f : FlatState) (inside : n < DOC_COUNT)
     (first : (f.version ≡ 1) × (f.last ≡ None)) (is : documents new.group ≡ with_doc (each_from 0 (without_tags lost) (documents old.group)) n f)
     (anew : BeginsAnew n old.followers.items new.followers.items) where
   -- a new document, and nothing follows it
-  stands_new : StandsFor new (record { documents = documents new.group; followers = with_follower flat.followers n no_follower })
+  stands_new : Represents new (record { documents = documents new.group; followers = with_follower flat.followers n no_follower })
   stands_new = record {
     documents = refl;
     count = anew.count ∙ stands.count;

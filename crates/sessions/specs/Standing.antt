@@ -1,4 +1,4 @@
--- When a session stands for a flat one. It keeps events by their batches, and the flat one by their whole texts.
+-- When a session represents a flat one. It keeps events by their batches, and the flat one by their whole texts.
 use Rattle.std.specs.Prelude.{◌≡◌, ◌≢◌, ℕ, ◌+◌, ◌-◌, ◌<◌, ◌≤◌, List, [], map, length, slice_get, Option, Some, None, IfSome}
 use Rattle.std.specs.List.{All}
 use Rattle.batch_rules.specs.Events.{EventState}
@@ -42,7 +42,7 @@ pub record Follows (f : FlatState) (mirror : Option MirrorState) (sent : List Ev
   pub known : AreTexts texts f mirror sent
   pub told : flat.sent ≡ map (with_text texts) sent
 
-pub record StandsFor (s : Session) (flat : FlatSession) : Type 0 where
+pub record Represents (s : Session) (flat : FlatSession) : Type 0 where
   pub documents : flat.documents ≡ documents s.group
   pub count : length s.followers.items ≡ DOC_COUNT
   pub flat_count : length flat.followers ≡ DOC_COUNT
@@ -67,12 +67,12 @@ pub record BeginsAnew (n : ℕ) (old new : List Follower) : Type 0 where
   pub anew : (own : Follower) → slice_get new n ≡ Some own → IsFresh own
   pub rest : (k : ℕ) → k ≢ n → slice_get new k ≡ slice_get old k
 
--- whichever flat session the old one stands for: the reply answers the line on it, and the new one stands for what it is then
+-- whichever flat session the old one represents: the reply answers the line on it, and the new one represents what it is then
 abbrev pub Turns : Session → List ℕ → List ℕ → Session → Type 0
 Turns old line reply new =
-    (flat : FlatSession) → StandsFor old flat → (next : FlatSession) × Turn flat line reply next × StandsFor new next
+    (flat : FlatSession) → Represents old flat → (next : FlatSession) × Turn flat line reply next × Represents new next
 
 -- the same of many lines
 pub record Replied (start : Session) (lines replies : List (List ℕ)) (end : Session) : Type 0 where
   pub count : length replies ≡ length lines
-  pub told : (flat : FlatSession) → StandsFor start flat → (next : FlatSession) × Transcript flat lines replies next × StandsFor end next
+  pub told : (flat : FlatSession) → Represents start flat → (next : FlatSession) × Transcript flat lines replies next × Represents end next

@@ -10,7 +10,7 @@ use Rattle.sessions.specs.declared.session.Follower.{Follower}
 use Rattle.sessions.specs.declared.session.Session.{Session}
 use Rattle.sessions.specs.Bytes.{bytes_of, bytes_of_outcome}
 use Rattle.session_rules.specs.Session.{FlatSession, FlatFollower}
-use Rattle.sessions.specs.Standing.{Follows, StandsFor}
+use Rattle.sessions.specs.Standing.{Follows, Represents}
 use Rattle.session_rules.specs.Script.{is_refused}
 use Rattle.session_rules.specs.Step.{step, Answers}
 
@@ -31,11 +31,11 @@ TellsOn n flat old outcome new = TellsBy (flat.0, with_doc old n flat.1) old out
 abbrev pub TellsIn : GroupState → ℕ → (FlatState → List ℕ × FlatState) → Result Reply Refused → GroupState → Type 0
 TellsIn old n rule outcome new = TellsOn n (rule (doc_in (documents old) n)) (documents old) outcome (documents new)
 
--- whichever flat session the old one stands for: what comes of a line answers it by the rule, and the new one stands for what that is then
+-- whichever flat session the old one represents: what comes of a line answers it by the rule, and the new one represents what that is then
 pub record TellsOf (rule : FlatSession → List ℕ × FlatSession)
     (old : Session) (outcome : Result Reply Refused) (new : Session) : Type 0 where
-  pub answer : (flat : FlatSession) → StandsFor old flat
-      → (next : FlatSession) × Answers (rule flat) flat (bytes_of_outcome outcome) next × StandsFor new next
+  pub answer : (flat : FlatSession) → Represents old flat
+      → (next : FlatSession) × Answers (rule flat) flat (bytes_of_outcome outcome) next × Represents new next
   pub accepted : IsAccepted outcome
 
 -- what comes of the command on the document of this number answers it

@@ -7,7 +7,7 @@ ghost use Rattle.group_rules.specs.declared.TheConstants.{DOC_COUNT};
 ghost use Rattle.group_rules.specs.Group.{group_open};
 ghost use Rattle.model_group.specs.State.{documents};
 ghost use Rattle.session_rules.specs.Session.{new_session};
-ghost use Rattle.sessions.specs.Standing.{AreFresh, BeginsAnew, StandsFor, Turns};
+ghost use Rattle.sessions.specs.Standing.{AreFresh, BeginsAnew, Represents, Turns};
 ghost use Rattle.sessions.specs.Bytes.{bytes_of_outcome};
 ghost use Rattle.sessions.specs.Told.{IsAccepted, Tells};
 
@@ -57,7 +57,7 @@ pub struct Session {
 impl Session {
     /// A session with empty documents.
     pub fn new(alloc: Global) -> Result<Session, AllocError>
-        ensures { IfOk result (λ session. StandsFor session new_session) }
+        ensures { IfOk result (λ session. Represents session new_session) }
     {
         let group = Group::new(alloc)?;
         let followers = new_followers(alloc)?;

@@ -5,10 +5,18 @@ pub mod Others
 pub mod JoinedTexts
 pub mod Refusals
 pub mod Searches
-mod Columns
-mod Calls
+pub mod ColumnBounds
 mod Stands
 mod JointStands
 pub mod BatchLemmas
 mod TellingStands
 mod Collected
+pub mod Utf8Laws
+pub mod Further
+pub mod CountedOps
+mod Calls
+mod Extents
+mod DocsInTurn
+mod OutOfRange
+mod OverlapPasses
+mod Repeats

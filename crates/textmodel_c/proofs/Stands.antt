@@ -1,8 +1,7 @@
--- A session that stands for a flat one goes on standing for one after each call: with the documents of then, and with what followed them.
-use Rattle.std.proofs.Common.{◌≡◌, ◌<◌, ◌⊎◌, inl, inr, ℕ, Bool, true, false, List, [], ◌∷◌, Option, Some, None, Result, Ok, Err, IsUtf8, refl, sym, ap, ◌∙◌, subst}
+-- A session that represents a flat one goes on representing one after each call: with the documents of then, and with what followed them.
+use Rattle.std.proofs.Common.{◌≡◌, ◌<◌, ℕ, Bool, true, false, List, [], ◌∷◌, Option, Some, None, Result, Ok, Err, refl, sym, ap, ◌∙◌, subst}
 use Rattle.std.specs.Prelude.{⊤}
 use Rattle.unit_text.specs.declared.kind.Kind.{Kind}
-use Rattle.unit_text.specs.Text.{units_of}
 use Rattle.text_lengths.specs.declared.Position.{Position}
 use Rattle.text_lengths.specs.declared.Span.{Span}
 use Rattle.text_rules.specs.declared.Op.{Op}
@@ -27,18 +26,16 @@ use Rattle.session_rules.specs.Script.{is_refused}
 use Rattle.session_rules.specs.Step.{Answers, answered, out_of_memory, change_reply, changed, moved, gone, opened, decorated, snapshot_answer, close_answer}
 use Rattle.sessions.specs.declared.outcome.Reply.TheVariants.{Short}
 use Rattle.sessions.specs.declared.session.Session.{Session}
-use Rattle.sessions.specs.Standing.{StandsFor, BeginsAnew}
+use Rattle.sessions.specs.Standing.{Represents, BeginsAnew}
 use Rattle.sessions.proofs.GoesLemmas.{Goes, stays, AllGo, go_edited, go_eol, go_replaced, go_undo, go_redo, go_with_doc, goes_stop, goes_decorated, goes_snapshot, goes_close}
 use Rattle.sessions.proofs.StandingLemmas.{stands_on, tells_opened}
 use Rattle.textmodel_c.specs.declared.contents.Contents.{Contents}
-use Rattle.textmodel_c.specs.declared.edits.BatchOp.{BatchOp}
-use Rattle.textmodel_c.specs.declared.opening.PairUnits.{PairUnits}
 use Rattle.textmodel_c.specs.declared.status.Status.{Status}
 use Rattle.textmodel_c.specs.declared.status.Status.TheVariants as status
 use Rattle.textmodel_c.specs.Statuses.{number_of, status_of_error, status_of_given}
 use Rattle.textmodel_c.specs.Documents.{document_in, OnDocument}
-use Rattle.textmodel_c.specs.Rules.{or_range, or_refused, one_op, kind_of, Scanning, encoding_of, batch_of, span_between, group_open_as, group_edit_at, group_edit_joined, group_eol_as, group_replace_some}
-use Rattle.textmodel_c.specs.Told.{KeepsRest, ChangesDocs, MovesDocs, Went, Changed, Decorated, Shelved, Becomes, Replaced, HasRead, Reads, KeepsText, AfterOpening, Opens, Opened, HasOpenedUtf8, StaysFlat, StaysFlatAnew, followers_after}
+use Rattle.textmodel_c.specs.Rules.{or_range, or_refused, one_op, kind_of, Scanning, encoding_of, span_between, group_open_as, group_edit_at, group_eol_as, group_replace_some}
+use Rattle.textmodel_c.specs.Told.{KeepsRest, ChangesDocs, MovesDocs, Went, Changed, Decorated, Shelved, Becomes, Replaced, HasRead, Reads, HasReadUtf8, ReadsUtf8, KeepsText, Opens, Opened, StaysFlat, StaysFlatAnew, followers_after}
 
 -- ---- each document goes on by one version, or stays at its text
 
@@ -72,10 +69,6 @@ module _ (doc : ℕ) (g : FlatGroup) where
   go_edited_at None from to text = rest g
   go_edited_at (Some encoding) from to text = go_edited_in (span_between (doc_in g doc) encoding from to) text
 
-  go_edited_by : (ops : Result (List Op) FlatRefusal) → AllGo g (changed g doc (or_refused ops (group_edit g doc))).1
-  go_edited_by (Err why) = rest g
-  go_edited_by (Ok ops) = go_edited g doc (Some ops)
-
   go_eol_as : (kind : Option Kind) → AllGo g (moved g doc (or_range kind (group_eol g doc))).1
   go_eol_as None = rest g
   go_eol_as (Some kind) = go_eol g doc kind
@@ -101,6 +94,10 @@ module _ (f new : FlatState) where
   read_goes status.Ok id out out' count count' reads = subst (Goes f) (sym (reads.passed refl)) (stays refl refl refl)
   read_goes s id out out' count count' reads = same_goes (reads.kept (λ ok. absurd cc))
 
+  read_utf8_goes : (s : Status) (id : ℕ) (out out' : List ℕ) (count count' : ℕ) → ReadsUtf8 s id out out' count count' f new → Goes f new
+  read_utf8_goes status.Ok id out out' count count' reads = subst (Goes f) (sym (reads.passed refl)) (stays refl refl refl)
+  read_utf8_goes s id out out' count count' reads = same_goes (reads.kept (λ ok. absurd cc))
+
 snapshot_goes : (f : FlatState) (rule : Result FlatState FlatRefusal) → Goes f (snapshot_answer f rule).1 → Goes f (decorated f 0 rule).1
 snapshot_goes f (Ok new) go = go
 snapshot_goes f (Err why) go = go
@@ -123,8 +120,8 @@ module _ (n doc : ℕ) (old new : Contents) where
   moves_stand : (rule : FlatGroup → Result (Option FlatGroup) FlatRefusal) → AllGo G (moved G doc (rule G)).1 → MovesDocs n rule old new → StaysFlat old new
   moves_stand rule go (answer, is, done, kept) = goes_stand kept (move_goes doc G H answer (rule G) go done)
 
-  going_stands : (rule : FlatGroup → Result (Option FlatGroup) GroupRefusal) → AllGo G (gone G doc (rule G)).1 → Went n rule old new → StaysFlat old new
-  going_stands rule go (answer, is, done, kept) = goes_stand kept (going_goes doc G H answer (rule G) go done)
+  going_stands : (rule : FlatGroup → Result (Option FlatGroup) GroupRefusal) → AllGo G (gone G doc (rule G)).1 → (out out' : ℕ) → Went n out out' rule old new → StaysFlat old new
+  going_stands rule go out out' (answer, is, done, kept) = goes_stand kept (going_goes doc G H answer (rule G) go done.moves)
 
   document_stands : (says : FlatState → FlatState → Type 0) → ((f g : FlatState) → says f g → Goes f g) → KeepsRest old new
       → OnDocument doc says old.session.group new.session.group → StaysFlat old new
@@ -140,9 +137,6 @@ module _ (n doc : ℕ) (old new : Contents) where
   edit_at_stands encoding from to text =
       changes_stand (group_edit_at doc encoding from to text) (go_edited_at doc G (encoding_of encoding) from to text)
 
-  pub batch_stands : (batch : List BatchOp) (text : List ℕ) → ChangesDocs n (group_edit_joined doc batch text) old new → StaysFlat old new
-  batch_stands batch text = changes_stand (group_edit_joined doc batch text) (go_edited_by doc G (batch_of batch text))
-
   pub eol_stands : (kind : ℕ) → MovesDocs n (group_eol_as doc kind) old new → StaysFlat old new
   eol_stands kind = moves_stand (group_eol_as doc kind) (go_eol_as doc G (kind_of kind))
 
@@ -150,10 +144,10 @@ module _ (n doc : ℕ) (old new : Contents) where
   replace_stands sought text count count' (answer, is, done, kept) =
       moves_stand (group_replace_some doc sought text) (go_replaced_some doc G sought text) (answer, is, done.moves, kept)
 
-  pub undo_stands : Went n (λ g. group_undo g doc) old new → StaysFlat old new
+  pub undo_stands : (out out' : ℕ) → Went n out out' (λ g. group_undo g doc) old new → StaysFlat old new
   undo_stands = going_stands (λ g. group_undo g doc) (go_undo G doc)
 
-  pub redo_stands : Went n (λ g. group_redo g doc) old new → StaysFlat old new
+  pub redo_stands : (out out' : ℕ) → Went n out out' (λ g. group_redo g doc) old new → StaysFlat old new
   redo_stands = going_stands (λ g. group_redo g doc) (go_redo G doc)
 
   pub stop_stands : Becomes n doc flat_stop old new → StaysFlat old new
@@ -178,6 +172,10 @@ module _ (n doc : ℕ) (old new : Contents) where
   read_stands id out out' count count' (s, is, done, kept) =
       document_stands (Reads s id out out' count count') (λ f g. read_goes f g s id out out' count count') kept done
 
+  pub read_utf8_stands : (id : ℕ) (out out' : List ℕ) (count count' : ℕ) → HasReadUtf8 n doc id out out' count count' old new → StaysFlat old new
+  read_utf8_stands id out out' count count' (s, is, done, kept) =
+      document_stands (ReadsUtf8 s id out out' count count') (λ f g. read_utf8_goes f g s id out out' count count') kept done
+
   -- a question about brackets
   pub asked_stands : KeepsText (Some old) (Some new) → StaysFlat old new
   asked_stands (same, kept) = goes_stand kept (subst (AllGo G) (sym same) (rest G))
@@ -199,23 +197,23 @@ opens_as doc g text (Some kind) (Ok by) new is = (text, scanner by.0 by.1, kind,
 abbrev after : ℕ → ℕ → FlatSession → FlatGroup → FlatSession
 after n doc flat g = record { documents = g; followers = followers_after n doc flat.followers }
 
-module _ (doc : ℕ) (inside : doc < DOC_COUNT) (old new : Session) (flat : FlatSession) (was : StandsFor old flat) where
+module _ (doc : ℕ) (inside : doc < DOC_COUNT) (old new : Session) (flat : FlatSession) (was : Represents old flat) where
   new_stands : (text : List ℕ) (by : Scanner) (kind : Kind) → group_open (documents old.group) doc text by kind ≡ Ok (documents new.group)
-      → BeginsAnew doc old.followers.items new.followers.items → StandsFor new (after 0 doc flat (documents new.group))
+      → BeginsAnew doc old.followers.items new.followers.items → Represents new (after 0 doc flat (documents new.group))
   new_stands text scanner kind rule anew =
       let told = (tells_opened old new doc text scanner kind (Short (change_reply (doc_in (documents new.group) doc))) inside rule anew refl).answer flat was in
       by told.0 told.1 told.2
     where
       by : (next : FlatSession)
           → Answers (opened flat doc (group_open flat.documents doc text scanner kind)) flat (change_reply (doc_in (documents new.group) doc)) next
-          → StandsFor new next → StandsFor new (after 0 doc flat (documents new.group))
+          → Represents new next → Represents new (after 0 doc flat (documents new.group))
       by next (answered is to) stands =
-          subst (StandsFor new) (to ∙ ap (λ g. (opened flat doc (group_open g doc text scanner kind)).1) was.documents
+          subst (Represents new) (to ∙ ap (λ g. (opened flat doc (group_open g doc text scanner kind)).1) was.documents
           ∙ ap (λ r. (opened flat doc r).1) rule) stands
       by next (out_of_memory is to) stands = let wrong : false ≡ true = ap is_refused is in absurd cc
 
-  refused_stands : (e : ModelError) → StandsFor new (record flat { documents = documents new.group })
-      → StandsFor new (after (number_of (status_of_error e)) doc flat (documents new.group))
+  refused_stands : (e : ModelError) → Represents new (record flat { documents = documents new.group })
+      → Represents new (after (number_of (status_of_error e)) doc flat (documents new.group))
   refused_stands error.Unknown stands = stands
   refused_stands error.Range stands = stands
   refused_stands error.Overlap stands = stands
@@ -223,11 +221,11 @@ module _ (doc : ℕ) (inside : doc < DOC_COUNT) (old new : Session) (flat : Flat
   refused_stands error.Memory stands = stands
 
   same_stands : documents new.group ≡ documents old.group → new.followers.items ≡ old.followers.items
-      → StandsFor new (record flat { documents = documents new.group })
+      → Represents new (record flat { documents = documents new.group })
   same_stands same followers = stands_on old new flat was followers (subst (AllGo (documents old.group)) (sym same) (rest (documents old.group)))
 
   opens_stand : (answer : Result ⊤ ModelError) (rule : Result FlatGroup FlatRefusal) → IsOpening doc (documents old.group) rule → Opens answer doc old new rule
-      → StandsFor new (after (number_of (status_of_given answer)) doc flat (documents new.group))
+      → Represents new (after (number_of (status_of_given answer)) doc flat (documents new.group))
   opens_stand (Ok x) rule opening opens =
       let made = opening (documents new.group) opens.group in new_stands made.0 made.1 made.2 made.3 opens.followers
   opens_stand (Err e) rule opening opens = refused_stands e (same_stands opens.group.0 opens.followers)
@@ -237,15 +235,5 @@ module _ (n doc : ℕ) (inside : doc < DOC_COUNT) (old new : Contents) where
       → StaysFlatAnew n doc old new
   open_stands kind scanning text (answer, is, opens, kept) flat was =
       let rule = group_open_as doc kind scanning text (documents old.session.group) in
-      subst (λ m. StandsFor new.session (after m doc flat (documents new.session.group))) (sym is)
+      subst (λ m. Represents new.session (after m doc flat (documents new.session.group))) (sym is)
       (opens_stand doc inside old.session new.session flat was answer rule (opens_as doc (documents old.session.group) text (kind_of kind) scanning) opens)
-
-  pub open_utf8_stands : (kind : ℕ) (scanning : Scanning) (text : List ℕ) → IsUtf8 text ⊎ (IsUtf8 text → ⊥)
-      → HasOpenedUtf8 n doc kind scanning text old new → StaysFlatAnew n doc old new
-  open_utf8_stands kind scanning text (inl good) (s, is, (told, kept)) flat was =
-      let (answer, status_is, opens) = told.opened good in
-      open_stands kind scanning (units_of text) (answer, is ∙ ap number_of status_is, opens, subst (λ t. AfterOpening t old new) status_is kept) flat was
-  open_utf8_stands kind scanning text (inr wrong) (s, is, (told, kept)) flat was =
-      let (status_is, same) = told.refused wrong in
-      subst (λ m. StandsFor new.session (after m doc flat (documents new.session.group))) (sym (is ∙ ap number_of status_is))
-      (same_stands doc inside old.session new.session flat was (ap (λ (s : Session). documents s.group) same) (ap (λ (s : Session). s.followers.items) same))

@@ -1,22 +1,26 @@
 -- The batches of ops of several documents, and what a call does that carries them out.
-use Rattle.std.specs.Prelude.{◌≡◌, ◌⊎◌, ℕ, ◌==◌, nat_lt, Bool, false, if◌then◌else◌, List, [], ◌∷◌, ◌++◌, length, map, take, drop, Result, Ok, Err}
+use Rattle.std.specs.Prelude.{◌≡◌, ◌⊎◌, ℕ, ◌<◌, ◌==◌, ◌||◌, not, nat_lt, Bool, true, false, if◌then◌else◌, List, [], ◌∷◌, ◌++◌, length, map, take, drop, Option, Result, Ok, Err, ⊤}
 use Rattle.std.specs.declared.vec.Vec.{Vec}
 use Rattle.std.specs.declared.alloc.Global.{Global}
+use Rattle.std.specs.Str.{is_utf8}
+use Rattle.unit_text.specs.Text.{units_of}
 use Rattle.text_rules.specs.declared.Op.{Op}
-use Rattle.document_rules.specs.Refusals.{FlatRefusal, range}
+use Rattle.document_rules.specs.Refusals.{FlatRefusal, range, unknown}
 use Rattle.group_rules.specs.declared.DocBatch.{DocBatch}
+use Rattle.group_rules.specs.declared.TheConstants.{DOC_COUNT}
 use Rattle.group_rules.specs.declared.GroupError.{GroupError}
 use Rattle.group_rules.specs.declared.GroupError.TheVariants.{Memory, Range}
 use Rattle.group_rules.specs.Refusals.{GroupRefusal, plain}
-use Rattle.group_rules.specs.Group.{FlatGroup}
+use Rattle.group_rules.specs.Group.{FlatGroup, group_edit}
 use Rattle.group_rules.specs.Joint.{FlatBatch, flat_batch, group_joint}
 use Rattle.group_rules.specs.Outcomes.{ChangesAll}
 use Rattle.model_group.specs.State.{documents}
 use Rattle.textmodel_c.specs.declared.joint.DocOp.{DocOp}
 use Rattle.textmodel_c.specs.declared.contents.Contents.{Contents}
 use Rattle.textmodel_c.specs.Statuses.{status_of_joint}
-use Rattle.textmodel_c.specs.Rules.{span}
-use Rattle.textmodel_c.specs.Told.{Does}
+use Rattle.textmodel_c.specs.Rules.{span, before_all, or_refused}
+use Rattle.textmodel_c.specs.Told.{Does, LeavesSession}
+use Rattle.textmodel_c.specs.Utf8.{InUtf8}
 
 abbrev pub doc_op_of : DocOp → List ℕ → Op
 doc_op_of op text = record { span = span op.start op.end; text = text; force = op.force }
@@ -53,20 +57,62 @@ batches_from found (op ∷ ops) text =
 abbrev pub batches_of : List DocOp → List ℕ → Result (List FlatBatch) FlatRefusal
 batches_of ops text = batches_from [] ops text
 
+abbrev pub HasOps : DocBatch → Type 0
+HasOps b = 0 < length b.ops.items
+
 -- these are the batches, or the texts do not fill theirs; or memory is wanting
 abbrev pub GivesBatches : Result (Vec DocBatch Global) GroupError → Result (List FlatBatch) FlatRefusal → Type 0
 GivesBatches (Ok batches) rule = rule ≡ Ok (map flat_batch batches.items)
 GivesBatches (Err e) rule = (e ≡ Memory) ⊎ ((e ≡ Range) × (rule ≡ Err range))
 
--- There are to be two documents or more.
+abbrev pub plainly : Result FlatGroup FlatRefusal → Result FlatGroup GroupRefusal
+plainly (Ok g) = Ok g
+plainly (Err why) = Err (plain why)
+
+-- a batch of one document, by itself
+abbrev pub group_batch : FlatBatch → FlatGroup → Result FlatGroup GroupRefusal
+group_batch b g = if nat_lt b.doc DOC_COUNT then plainly (group_edit g b.doc b.ops) else Err (plain unknown)
+
+-- the batches are carried out, all or none, where there is one
 abbrev pub joint_of : Result (List FlatBatch) FlatRefusal → FlatGroup → Result FlatGroup GroupRefusal
 joint_of (Err why) g = Err (plain why)
-joint_of (Ok batches) g = if nat_lt (length batches) 2 then Err (plain range) else group_joint g batches
+joint_of (Ok []) g = Err (plain range)
+joint_of (Ok (b ∷ [])) g = group_batch b g
+joint_of (Ok (b ∷ c ∷ batches)) g = group_joint g (b ∷ c ∷ batches)
 
 abbrev pub group_joint_of : List DocOp → List ℕ → FlatGroup → Result FlatGroup GroupRefusal
 group_joint_of ops text g = joint_of (batches_of ops text) g
 
 -- the batches of the ops are carried out, all or none
-abbrev pub JointlyChanged : ℕ → List DocOp → List ℕ → Contents → Contents → Type 0
-JointlyChanged n ops text =
-    Does status_of_joint (λ answer old new. ChangesAll answer (documents old) (documents new) (group_joint_of ops text (documents old))) n
+abbrev pub JointlyChanged : ℕ → Result (List FlatBatch) FlatRefusal → Contents → Contents → Type 0
+JointlyChanged n batches =
+    Does status_of_joint (λ answer old new. ChangesAll answer (documents old) (documents new) (joint_of batches (documents old))) n
+
+-- ---- texts in UTF-8
+
+-- The ops, each with the number of units of its text in place of that of bytes. The texts fill the joined one, and none of them ends
+-- inside a character.
+abbrev pub ops_in_units : List DocOp → List ℕ → Result (List DocOp) FlatRefusal
+ops_in_units [] [] = Ok []
+ops_in_units [] (byte ∷ text) = Err range
+ops_in_units (op ∷ ops) text =
+    if nat_lt (length text) op.units || not (is_utf8 (take op.units text)) then Err range
+    else before_all (record op { units = length (units_of (take op.units text)) }) (ops_in_units ops (drop op.units text))
+
+-- the op in units, where its text is valid; or memory is wanting
+abbrev pub CountsOp : DocOp → List ℕ → Result DocOp GroupError → Type 0
+CountsOp op text (Ok counted) = (is_utf8 text ≡ true) × (counted ≡ record op { units = length (units_of text) })
+CountsOp op text (Err e) = (e ≡ Memory) ⊎ ((e ≡ Range) × (is_utf8 text ≡ false))
+
+-- these are the ops, or they are refused; or memory is wanting
+abbrev pub GivesOps : Result (Vec DocOp Global) GroupError → Result (List DocOp) FlatRefusal → Type 0
+GivesOps (Ok ops) rule = rule ≡ Ok ops.items
+GivesOps (Err e) rule = (e ≡ Memory) ⊎ ((e ≡ Range) × (rule ≡ Err range))
+
+abbrev pub batches_in_utf8 : List DocOp → List ℕ → List ℕ → Result (List FlatBatch) FlatRefusal
+batches_in_utf8 ops text units = or_refused (ops_in_units ops text) (λ counted. batches_of counted units)
+
+-- the same of a joint edit
+abbrev pub JointInUtf8 : ℕ → List DocOp → List ℕ → Option Contents → Option Contents → Type 0
+JointInUtf8 n ops text old new =
+    InUtf8 n text (new ≡ old) (λ units. LeavesSession n old new ⊤ (JointlyChanged n (batches_in_utf8 ops text units)))

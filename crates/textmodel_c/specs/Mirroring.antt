@@ -6,6 +6,8 @@ use Rattle.document_rules.specs.Document.{content_of}
 use Rattle.mirror_rules.specs.Mirrors.{MirrorState}
 use Rattle.script_lines.specs.declared.command.Command.{Command}
 use Rattle.script_lines.specs.declared.command.Command.TheVariants.{Mirror, Send, Deliver}
+use Rattle.script_lines.specs.declared.reason.Refusal.{Refusal}
+use Rattle.script_lines.specs.declared.reason.Refusal.TheVariants as reason
 use Rattle.script_lines.specs.Replies.{none_reply, old_reply}
 use Rattle.sessions.specs.declared.outcome.Reply.{Reply}
 use Rattle.sessions.specs.declared.outcome.Refused.{Refused}
@@ -18,7 +20,7 @@ use Rattle.textmodel_c.specs.declared.contents.Contents.{Contents}
 use Rattle.textmodel_c.specs.declared.mirrors.Followed.{Followed}
 use Rattle.textmodel_c.specs.Documents.{document_in}
 use Rattle.textmodel_c.specs.Statuses.{status_of_refusal}
-use Rattle.textmodel_c.specs.Told.{CalledOn, LeavesWith, Lists, Numbers}
+use Rattle.textmodel_c.specs.Told.{AskedOf, CalledOn, LeavesWith, Lists, Numbers, handed}
 
 -- the reply is `ok none` or `ok old`
 abbrev pub SaysNothing : List ℕ → Type 0
@@ -38,11 +40,6 @@ pub record CarriesOut (s : Status) (doc : ℕ) (command : Command) (old new : Co
   pub told : Tells old.session doc command outcome new.session
   pub reply : new.reply ≡ old.reply
   pub telling : new.telling ≡ old.telling
-
--- what is handed out where the status is `Ok`; else what was there stays
-abbrev pub handed : {A : Type 0} → Status → A → A → A
-handed status.Ok out x = x
-handed s out x = out
 
 -- the mirror of the document of this number, if one was begun
 abbrev pub mirror_in : List Follower → ℕ → Option MirrorState
@@ -79,16 +76,40 @@ followed_of m = record { version = m.version; units = length m.units; lines = le
 abbrev pub followed_in : List Follower → ℕ → Followed → Followed
 followed_in followers doc out = unwrap_or (option_map followed_of (mirror_in followers doc)) out
 
--- the mirror went along with the event of this number, and what it is then
-abbrev pub Delivers : ℕ → ℕ → ℕ → Followed → Followed → Contents → Contents → Type 0
-Delivers n doc number out out' old new = Numbers n (λ s. CarriesOut s doc (Deliver number) old new
+-- the version that the mirror has and the one that the event begins with, where events before it are missing
+abbrev pub gap_of : ℕ × ℕ → Refusal → ℕ × ℕ
+gap_of out (reason.Gap have need) = (have, need)
+gap_of out why = out
+
+abbrev pub gap_or : ℕ × ℕ → Result Reply Refused → ℕ × ℕ
+gap_or out (Ok reply) = out
+gap_or out (Err refused) = gap_of out refused.0
+
+-- the event of this number was handed to the mirror
+abbrev pub TakesEvent : Status → ℕ → ℕ → Contents → Contents → ℕ × ℕ → ℕ × ℕ → Type 0
+TakesEvent s doc number old new gap gap' = (told : CarriesOut s doc (Deliver number) old new) × (gap' ≡ gap_or gap told.outcome)
+
+-- the mirror went along with it, and what it is then
+abbrev pub Delivers : ℕ → ℕ → ℕ → Followed → Followed → ℕ × ℕ → ℕ × ℕ → Contents → Contents → Type 0
+Delivers n doc number out out' gap gap' old new = Numbers n (λ s. TakesEvent s doc number old new gap gap'
     × (out' ≡ handed s out (followed_in new.session.followers.items doc out)))
+
+abbrev pub DeliversHeld : ℕ → ℕ → Option Contents → Option Contents → ℕ → Followed → Followed → ℕ × ℕ → ℕ × ℕ → Type 0
+DeliversHeld n doc held left number out out' gap gap' =
+    LeavesWith n doc held left ((out' ≡ out) × (gap' ≡ gap)) (Delivers n doc number out out' gap gap')
+
+-- what the mirror of the document is, if it has one
+abbrev pub FollowedHeld : ℕ → ℕ → Option Contents → Followed → Followed → Type 0
+FollowedHeld n doc held out out' = CalledOn n doc held (out' ≡ out)
+    (λ c. AskedOf n out out' (option_map followed_of (mirror_in c.session.followers.items doc)))
 
 -- the content of a line of the mirror
 abbrev pub mirrored_line : Option MirrorState → ℕ → Result (List ℕ) FlatRefusal
 mirrored_line None n = Err unknown
 mirrored_line (Some m) n = content_of (line_at m.units n)
 
-abbrev pub MirroredHeld : ℕ → ℕ → ℕ → Option Contents → List ℕ → List ℕ → ℕ → ℕ → Type 0
-MirroredHeld n doc line held out out' count count' = CalledOn n doc held ((out' ≡ out) × (count' ≡ count))
-    (λ c. Numbers n (λ s. Lists s out out' count count' (mirrored_line (mirror_in c.session.followers.items doc) line)))
+-- the same as units, or told in another way
+abbrev pub MirroredHeld : ℕ → ℕ → ℕ → Option Contents → List ℕ → List ℕ → ℕ → ℕ
+    → (Result (List ℕ) FlatRefusal → Result (List ℕ) FlatRefusal) → Type 0
+MirroredHeld n doc line held out out' count count' tell = CalledOn n doc held ((out' ≡ out) × (count' ≡ count))
+    (λ c. Numbers n (λ s. Lists s out out' count count' (tell (mirrored_line (mirror_in c.session.followers.items doc) line))))

@@ -1,5 +1,5 @@
 -- What the calls answer that tell what the last change of a document did.
-use Rattle.std.specs.Prelude.{◌≡◌, ◌⊎◌, ℕ, false, List, Option, None, Some, option_and_then}
+use Rattle.std.specs.Prelude.{◌≡◌, ◌⊎◌, ℕ, false, List, Option, None, Some, option_and_then, Ok}
 use Rattle.document_rules.specs.Document.{FlatState}
 use Rattle.textmodel_c.specs.declared.status.Status.{Status}
 use Rattle.textmodel_c.specs.declared.status.Status.TheVariants as status
@@ -7,7 +7,8 @@ use Rattle.textmodel_c.specs.declared.contents.Contents.{Contents}
 use Rattle.textmodel_c.specs.declared.telling.Change.{Change}
 use Rattle.textmodel_c.specs.Documents.{document_in}
 use Rattle.textmodel_c.specs.Tellings.{TellingState, told_edit, told_text, is_telling, telling_after}
-use Rattle.textmodel_c.specs.Told.{Called, Numbers, Listed}
+use Rattle.textmodel_c.specs.Rules.{in_utf8}
+use Rattle.textmodel_c.specs.Told.{Called, Numbers, Listed, Lists}
 
 -- the edit that was told last is handed out, if there is one
 abbrev pub EditOut : Status → Change → Change → Option Change → Type 0
@@ -44,3 +45,12 @@ TextOut s out out' count count' (Some t) = Listed s (told_text t.edits) out out'
 abbrev pub ChangeTextHeld : ℕ → Option Contents → List ℕ → List ℕ → ℕ → ℕ → Type 0
 ChangeTextHeld n held out out' count count' = Called n held ((out' ≡ out) × (count' ≡ count))
     (λ c. Numbers n (λ s. TextOut s out out' count count' c.telling))
+
+-- the same in UTF-8, for which memory may be wanting
+abbrev pub TextOutUtf8 : Status → List ℕ → List ℕ → ℕ → ℕ → Option TellingState → Type 0
+TextOutUtf8 s out out' count count' None = (s ≡ status.Nothing) × (out' ≡ out) × (count' ≡ count)
+TextOutUtf8 s out out' count count' (Some t) = Lists s out out' count count' (in_utf8 (Ok (told_text t.edits)))
+
+abbrev pub ChangeTextUtf8Held : ℕ → Option Contents → List ℕ → List ℕ → ℕ → ℕ → Type 0
+ChangeTextUtf8Held n held out out' count count' = Called n held ((out' ≡ out) × (count' ≡ count))
+    (λ c. Numbers n (λ s. TextOutUtf8 s out out' count count' c.telling))

@@ -1,5 +1,5 @@
 -- What the calls of C ask of the flat document, and of the group that it is in.
-use Rattle.std.specs.Prelude.{ℕ, ◌+◌, ◌-◌, ◌==◌, ◌&&◌, ◌||◌, not, Bool, true, false, nat_lt, nat_le, if◌then◌else◌, List, [], ◌∷◌, length, map, take, drop, Option, Some, None, option_map, option_and_then, Result, Ok, Err}
+use Rattle.std.specs.Prelude.{ℕ, ◌+◌, ◌-◌, ◌/◌, ◌==◌, ◌&&◌, ◌||◌, not, Bool, true, false, nat_lt, nat_le, if◌then◌else◌, List, [], ◌∷◌, length, map, filter, reverse, take, drop, Option, Some, None, option_map, option_and_then, Result, Ok, Err}
 use Rattle.text_lengths.specs.declared.Position.{Position}
 use Rattle.text_lengths.specs.declared.Span.{Span}
 use Rattle.unit_text.specs.declared.kind.Kind.{Kind}
@@ -17,13 +17,14 @@ use Rattle.bracket_rules.specs.declared.Status.{Status as State}
 use Rattle.bracket_rules.specs.declared.Status.TheVariants.{PairedOpening, PairedClosing, Unclosed, Unexpected}
 use Rattle.column_encodings.specs.declared.Encoding.{Encoding}
 use Rattle.column_encodings.specs.declared.Encoding.TheVariants.{Utf8, Utf16, Utf32}
+use Rattle.column_encodings.specs.Columns.{length_in, column_in, offset_of}
 use Rattle.document_rules.specs.Refusals.{FlatRefusal, range}
 use Rattle.document_rules.specs.Document.{FlatState, flat_position, flat_offset, flat_decos, flat_line, flat_value}
-use Rattle.document_rules.specs.Brackets.{flat_brackets, flat_match}
-use Rattle.document_rules.specs.Columns.{flat_column_in, flat_column_of}
+use Rattle.document_rules.specs.Brackets.{flat_brackets, flat_match, flat_level, position_at}
+use Rattle.document_rules.specs.Columns.{of_line}
+use Rattle.document_rules.specs.Stops.{flat_stops}
 use Rattle.search_rules.specs.Replacing.{flat_find}
 use Rattle.group_rules.specs.Group.{FlatGroup, doc_in, group_open, group_edit, group_eol, group_replace_all}
-use Rattle.textmodel_c.specs.declared.edits.BatchOp.{BatchOp}
 use Rattle.textmodel_c.specs.declared.opening.PairUnits.{PairUnits}
 use Rattle.textmodel_c.specs.declared.positions.Place.{Place}
 use Rattle.textmodel_c.specs.declared.marks.NewDecoration.{NewDecoration}
@@ -37,9 +38,6 @@ at line column = record { line = line; column = column }
 
 abbrev pub span : ℕ → ℕ → Span
 span start end = record { start = start; end = end }
-
-abbrev pub place_of : Position → Place
-place_of p = record { line = p.line; column = p.column }
 
 -- none is refused for its range
 abbrev pub or_range : {A B : Type 0} → Option A → (A → Result B FlatRefusal) → Result B FlatRefusal
@@ -164,14 +162,26 @@ is_utf16 Utf32 = false
 abbrev pub place : ℕ → ℕ → Place
 place line column = record { line = line; column = column }
 
+-- How many bytes, units or code points stand before a place of a line. In a mixed document the LF of a CR LF is a place too, one
+-- behind the content.
+abbrev pub column_before : Encoding → List ℕ → ℕ → Option ℕ
+column_before encoding content before =
+    if before == length content + 1 then Some (length_in encoding content + 1) else column_in encoding content before
+
 -- the column of a position in units, where that is counted otherwise
+abbrev pub column_at : Encoding → ℕ → List ℕ → Option ℕ
+column_at encoding column content =
+    if column == 0 then None else option_map (λ n. n + 1) (column_before encoding content (column - 1))
+
 abbrev pub column_of : FlatState → Encoding → Position → Result ℕ FlatRefusal
-column_of f encoding p = told_as (λ before. before + 1) (flat_column_in f encoding p)
+column_of f encoding p = of_line (column_at encoding p.column) (flat_line f p.line)
+
+abbrev pub column_as : FlatState → Encoding → Position → Result ℕ FlatRefusal
+column_as f encoding p = if is_utf16 encoding then Ok p.column else column_of f encoding p
 
 -- the place of a position in units
 abbrev pub place_in : FlatState → Encoding → Position → Result Place FlatRefusal
-place_in f encoding p =
-    if is_utf16 encoding then Ok (place_of p) else told_as (place p.line) (column_of f encoding p)
+place_in f encoding p = told_as (place p.line) (column_as f encoding p)
 
 abbrev pub place_if : FlatState → Encoding → Option Position → Result (Option Place) FlatRefusal
 place_if f encoding None = Ok None
@@ -180,6 +190,16 @@ place_if f encoding (Some p) = told_as Some (place_in f encoding p)
 abbrev pub flat_place : FlatState → ℕ → ℕ → Result (Option Place) FlatRefusal
 flat_place f number offset = or_range (encoding_of number) (λ encoding. place_if f encoding (flat_position f offset))
 
+-- the place of a line before which so many stand
+abbrev pub units_before : Encoding → List ℕ → ℕ → Option ℕ
+units_before encoding content before =
+    if before == length_in encoding content + 1 then Some (length content + 1) else offset_of encoding content before
+
+-- the column in units of one that is counted otherwise
+abbrev pub units_column : Encoding → ℕ → List ℕ → Option ℕ
+units_column encoding column content =
+    if column == 0 then None else option_map (λ n. n + 1) (units_before encoding content (column - 1))
+
 -- a position that is counted otherwise, in units: there is none where the place is inside a character or beyond its line
 abbrev pub position_if : ℕ → Result ℕ FlatRefusal → Option Position
 position_if line (Ok column) = Some (at line column)
@@ -187,8 +207,7 @@ position_if line (Err why) = None
 
 abbrev pub position_in : FlatState → Encoding → Position → Option Position
 position_in f encoding p =
-    if is_utf16 encoding then Some p
-    else (if p.column == 0 then None else position_if p.line (flat_column_of f encoding p.line (p.column - 1)))
+    if is_utf16 encoding then Some p else position_if p.line (of_line (units_column encoding p.column) (flat_line f p.line))
 
 abbrev pub offset_in : FlatState → Encoding → Position → Option ℕ
 offset_in f encoding p = option_and_then (flat_offset f) (position_in f encoding p)
@@ -215,21 +234,6 @@ group_edit_at doc number from to text g =
     or_range (encoding_of number) (λ encoding. or_range (span_between (doc_in g doc) encoding from to)
     (λ span. group_edit g doc (one_op span text false)))
 
-abbrev pub op_of : BatchOp → List ℕ → Op
-op_of op text = record { span = span op.start op.end; text = text; force = op.force }
-
--- the ops with their texts, which stand one after another and fill the joined one
-abbrev pub ops_of : List BatchOp → List ℕ → Result (List Op) FlatRefusal
-ops_of batch text = pieces_of (λ (op : BatchOp). op.units) op_of batch text
-
--- a batch has an op
-abbrev pub batch_of : List BatchOp → List ℕ → Result (List Op) FlatRefusal
-batch_of [] text = Err range
-batch_of (op ∷ batch) text = ops_of (op ∷ batch) text
-
-abbrev pub group_edit_joined : ℕ → List BatchOp → List ℕ → FlatGroup → Result FlatGroup FlatRefusal
-group_edit_joined doc batch text g = or_refused (batch_of batch text) (group_edit g doc)
-
 -- ---- what is read
 
 -- one fewer where the end is no place
@@ -249,9 +253,13 @@ fitting_span f offset room = span offset (fitting_end f offset room)
 abbrev pub flat_read : FlatState → ℕ → ℕ → Result (List ℕ) FlatRefusal
 flat_read f offset room = if nat_lt room 2 then Err range else flat_value f (fitting_span f offset room)
 
--- the content of the line of this number, in UTF-8
-abbrev pub flat_line_utf8 : FlatState → ℕ → Result (List ℕ) FlatRefusal
-flat_line_utf8 f n = told_as utf8_of (flat_line f n)
+-- what a rule gives, in UTF-8, where a lone surrogate becomes U+FFFD
+abbrev pub in_utf8 : Result (List ℕ) FlatRefusal → Result (List ℕ) FlatRefusal
+in_utf8 rule = told_as utf8_of rule
+
+-- as many units as certainly have room: each takes three bytes at most
+abbrev pub units_for : ℕ → ℕ
+units_for bytes = bytes / 3
 
 -- ---- decorations
 
@@ -280,10 +288,23 @@ flat_decoration_list f span owner = told_as (map decoration_of) (flat_decos f sp
 abbrev pub found_of : Span → Found
 found_of span = record { start = span.start; end = span.end }
 
--- a text of no unit is not looked for
-abbrev pub flat_find_list : FlatState → List ℕ → Result (List Found) FlatRefusal
-flat_find_list f [] = Err range
-flat_find_list f (u ∷ units) = Ok (map found_of (flat_find f (u ∷ units)))
+-- it begins at a place or behind it; or with `back` it ends at it or before it
+abbrev pub is_within : ℕ → Bool → Span → Bool
+is_within from false span = nat_le from span.start
+is_within from true span = nat_le span.end from
+
+abbrev pub in_turn : {A : Type 0} → Bool → List A → List A
+in_turn false xs = xs
+in_turn true xs = reverse xs
+
+-- those of the spans, from left to right, or with `back` the last one first
+abbrev pub found_list : ℕ → Bool → List Span → List Found
+found_list from back spans = in_turn back (map found_of (filter (is_within from back) spans))
+
+-- at most so many of the spans at which a text stands, which is not empty
+abbrev pub flat_find_list : FlatState → List ℕ → ℕ → Bool → ℕ → Result (List Found) FlatRefusal
+flat_find_list f [] from back most = Err range
+flat_find_list f (u ∷ units) from back most = Ok (take most (found_list from back (flat_find f (u ∷ units))))
 
 abbrev pub group_replace_some : ℕ → List ℕ → List ℕ → FlatGroup → Result (Option FlatGroup) FlatRefusal
 group_replace_some doc [] text g = Err range
@@ -297,21 +318,58 @@ number_of_state PairedClosing = 1
 number_of_state Unclosed = 2
 number_of_state Unexpected = 3
 
-abbrev pub bracket_of : Entry → Bracket
-bracket_of entry = record {
+-- the column at which units of a line start, and how long they are
+abbrev pub extent_of : FlatState → Encoding → Position → ℕ → Result (ℕ × ℕ) FlatRefusal
+extent_of f encoding p units =
+    if is_utf16 encoding then Ok (p.column, units)
+    else told_as (λ (c : ℕ × ℕ). (c.0, c.1 - c.0)) (both (column_of f encoding p) (column_of f encoding (at p.line (p.column + units))))
+
+abbrev pub bracket_of : Entry → ℕ × ℕ → Bracket
+bracket_of entry extent = record {
   line = entry.place.lines + 1;
-  column = entry.place.columns + 1;
-  units = entry.len;
+  column = extent.0;
+  length = extent.1;
   kind = entry.kind;
   level = entry.level;
   state = number_of_state entry.status;
 }
 
-abbrev pub flat_bracket_list : FlatState → ℕ → ℕ → Result (List Bracket) FlatRefusal
-flat_bracket_list f from to = told_as (map bracket_of) (flat_brackets f from to)
+abbrev pub bracket_in : FlatState → Encoding → Entry → Result Bracket FlatRefusal
+bracket_in f encoding entry = told_as (bracket_of entry) (extent_of f encoding (position_at entry.place) entry.len)
 
-abbrev pub partner_of : Position × ℕ → Partner
-partner_of found = record { line = found.0.line; column = found.0.column; units = found.1 }
+-- what all of them give, or why the first is refused that is
+abbrev pub all_of : {A : Type 0} → List (Result A FlatRefusal) → Result (List A) FlatRefusal
+all_of [] = Ok []
+all_of (Err why ∷ told) = Err why
+all_of (Ok x ∷ told) = before_all x (all_of told)
 
-abbrev pub flat_partner : FlatState → Position → Result (Option Partner) FlatRefusal
-flat_partner f p = told_as (option_map partner_of) (flat_match f p)
+abbrev pub flat_bracket_list : FlatState → ℕ → ℕ → ℕ → Result (List Bracket) FlatRefusal
+flat_bracket_list f number from to =
+    or_range (encoding_of number) (λ encoding. or_refused (flat_brackets f from to)
+    (λ entries. all_of (map (bracket_in f encoding) entries)))
+
+abbrev pub partner_of : ℕ → ℕ × ℕ → Partner
+partner_of line extent = record { line = line; column = extent.0; length = extent.1 }
+
+abbrev pub partner_in : FlatState → Encoding → Option (Position × ℕ) → Result (Option Partner) FlatRefusal
+partner_in f encoding None = Ok None
+partner_in f encoding (Some (p, units)) = told_as (λ extent. Some (partner_of p.line extent)) (extent_of f encoding p units)
+
+abbrev pub flat_partner : FlatState → ℕ → Position → Result (Option Partner) FlatRefusal
+flat_partner f number p =
+    or_range (encoding_of number) (λ encoding. or_range (position_in f encoding p)
+    (λ p. or_refused (flat_match f p) (partner_in f encoding)))
+
+abbrev pub flat_level_at : FlatState → ℕ → Position → Result ℕ FlatRefusal
+flat_level_at f number p =
+    or_range (encoding_of number) (λ encoding. or_range (position_in f encoding p) (flat_level f))
+
+-- ---- stops of a cursor
+
+-- columns of a line in units, counted otherwise
+abbrev pub columns_in : FlatState → Encoding → ℕ → List ℕ → Result (List ℕ) FlatRefusal
+columns_in f encoding line columns = all_of (map (λ column. column_as f encoding (at line column)) columns)
+
+abbrev pub flat_stop_list : FlatState → ℕ → ℕ → Result (List ℕ) FlatRefusal
+flat_stop_list f number n =
+    or_range (encoding_of number) (λ encoding. or_refused (flat_stops f n) (columns_in f encoding n))

@@ -1,7 +1,5 @@
 -- What a call answers, and what it leaves of what the handle holds.
-use Rattle.std.specs.Prelude.{◌≡◌, ◌⊎◌, ℕ, ◌-◌, ◌==◌, Bool, true, false, MatchBool, if◌then◌else◌, nat_lt, nat_le, List, ◌++◌, length, take, drop, min, Option, Some, None, IsSomeAnd, Result, Ok, Err, IsUtf8, ⊤}
-use Rattle.std.specs.Str.Lossy.{utf8_valid_len}
-use Rattle.unit_text.specs.Text.{units_of}
+use Rattle.std.specs.Prelude.{◌≡◌, ◌⊎◌, ℕ, ◌-◌, ◌==◌, Bool, true, false, MatchBool, if◌then◌else◌, nat_lt, nat_le, List, ◌++◌, length, take, drop, min, Option, Some, None, IsSomeAnd, Result, Ok, Err, ⊤}
 use Rattle.decoration_rules.specs.declared.NewDeco.{NewDeco}
 use Rattle.std.specs.declared.vec.Vec.{Vec}
 use Rattle.std.specs.declared.alloc.Global.{Global}
@@ -11,6 +9,8 @@ use Rattle.document_rules.specs.Outcomes.{RefusedFor, Changes, Moves, ChangesWit
 use Rattle.document_rules.specs.Document.{FlatState, flat_decorate}
 use Rattle.search_rules.specs.Replacing.{flat_find}
 use Rattle.group_rules.specs.declared.TheConstants.{DOC_COUNT}
+use Rattle.group_rules.specs.declared.GroupError.{GroupError}
+use Rattle.group_rules.specs.declared.GroupError.TheVariants as group
 use Rattle.group_rules.specs.Refusals.{GroupRefusal}
 use Rattle.group_rules.specs.Outcomes.{MovesAll}
 use Rattle.group_rules.specs.Group.{FlatGroup}
@@ -18,7 +18,7 @@ use Rattle.model_group.specs.State.{GroupState, documents}
 use Rattle.document_rules.specs.Snapshots.{flat_snapshot, flat_peek_of, flat_skipped}
 use Rattle.sessions.specs.declared.session.Session.{Session}
 use Rattle.session_rules.specs.Session.{FlatSession, FlatFollower, new_session, no_follower, with_follower}
-use Rattle.sessions.specs.Standing.{StandsFor, Turns, BeginsAnew}
+use Rattle.sessions.specs.Standing.{Represents, Turns, BeginsAnew}
 use Rattle.sessions.specs.Bytes.{bytes_of_outcome}
 use Rattle.sessions.specs.declared.outcome.Reply.TheVariants.{Nothing}
 use Rattle.textmodel_c.specs.declared.status.Status.{Status}
@@ -27,7 +27,7 @@ use Rattle.textmodel_c.specs.declared.contents.Contents.{Contents}
 use Rattle.textmodel_c.specs.Statuses.{number_of, status_of_error, status_of_step, status_of_going, status_of_given, given_or, status_of_found, found_or}
 use Rattle.textmodel_c.specs.Documents.{document_in, OnDocument}
 use Rattle.textmodel_c.specs.Tellings.{TellingState}
-use Rattle.textmodel_c.specs.Rules.{Scanning, group_open_as, group_replace_some}
+use Rattle.textmodel_c.specs.Rules.{Scanning, group_open_as, group_replace_some, fitting_end, flat_read, in_utf8, units_for}
 
 -- ---- the handle
 
@@ -59,7 +59,7 @@ Numbers n says = (s : Status) × (n ≡ number_of s) × says s
 
 -- a session of empty documents, of which no script line was answered, and no edit was told
 pub record IsNew (new : Contents) : Type 0 where
-  pub session : StandsFor new.session new_session
+  pub session : Represents new.session new_session
   pub reply : new.reply ≡ Ok Nothing
   pub telling : new.telling ≡ None
 
@@ -96,9 +96,25 @@ ChangesHeld n doc old new rule = Leaves n doc old new (ChangesDocs n rule)
 abbrev pub MovesDocs : ℕ → (FlatGroup → Result (Option FlatGroup) FlatRefusal) → Contents → Contents → Type 0
 MovesDocs n rule = Does status_of_step (λ answer old new. Moves answer (documents old) (documents new) (rule (documents old))) n
 
--- the same of one that several documents may take part in
-abbrev pub Went : ℕ → (FlatGroup → Result (Option FlatGroup) GroupRefusal) → Contents → Contents → Type 0
-Went n rule = Does status_of_going (λ answer old new. MovesAll answer (documents old) (documents new) (rule (documents old))) n
+-- the document whose next step stands in the way, where one does
+abbrev pub other_or : {A : Type 0} → ℕ → Result A GroupError → ℕ
+other_or out (Err (group.Joint doc)) = doc
+other_or out answer = out
+
+-- a rule that several documents may take part in, and that may find nothing to do
+abbrev pub GoingRule : Type 0
+GoingRule = FlatGroup → Result (Option FlatGroup) GroupRefusal
+
+-- the same of such a rule: where one of the documents stands in the way it is told
+pub record Goes (rule : GoingRule) (out out' : ℕ) (answer : Result Bool GroupError) (old new : GroupState) : Type 0 where
+  pub moves : MovesAll answer (documents old) (documents new) (rule (documents old))
+  pub other : out' ≡ other_or out answer
+
+abbrev pub Went : ℕ → ℕ → ℕ → GoingRule → Contents → Contents → Type 0
+Went n out out' rule = Does status_of_going (Goes rule out out') n
+
+abbrev pub WentHeld : ℕ → ℕ → Option Contents → Option Contents → ℕ → ℕ → GoingRule → Type 0
+WentHeld n doc old new out out' rule = LeavesWith n doc old new (out' ≡ out) (Went n out out' rule)
 
 -- this document alone is changed by the rule, or it is refused for its reason
 abbrev pub Changed : ℕ → ℕ → (FlatState → Result FlatState FlatRefusal) → Contents → Contents → Type 0
@@ -173,10 +189,10 @@ OpensHeld n doc kind scanning text old new = Leaves n doc old new (Opened n doc 
 
 -- ---- the flat session
 
--- whichever flat session the old one stands for, the new one stands for it with the documents of now
+-- whichever flat session the old one represents, the new one represents it with the documents of now
 abbrev pub StaysFlat : Contents → Contents → Type 0
-StaysFlat old new = (flat : FlatSession) → StandsFor old.session flat
-    → StandsFor new.session (record flat { documents = documents new.session.group })
+StaysFlat old new = (flat : FlatSession) → Represents old.session flat
+    → Represents new.session (record flat { documents = documents new.session.group })
 
 -- nothing follows the document where the status says that it was opened
 abbrev pub followers_after : ℕ → ℕ → List FlatFollower → List FlatFollower
@@ -184,29 +200,8 @@ followers_after n doc followers = if n == number_of status.Ok then with_follower
 
 -- the same of a call that opens a document
 abbrev pub StaysFlatAnew : ℕ → ℕ → Contents → Contents → Type 0
-StaysFlatAnew n doc old new = (flat : FlatSession) → StandsFor old.session flat
-    → StandsFor new.session (record { documents = documents new.session.group; followers = followers_after n doc flat.followers })
-
--- a text in UTF-8 is opened, and one that is none is refused
-pub record OpenedUtf8 (s : Status) (doc kind : ℕ) (scanning : Scanning) (text : List ℕ) (old new : Session) : Type 0 where
-  pub opened : IsUtf8 text → (answer : Result ⊤ ModelError) × (s ≡ status_of_given answer)
-      × OpensAs answer doc kind scanning (units_of text) old new
-  pub refused : (IsUtf8 text → ⊥) → (s ≡ status.Encoding) × (new ≡ old)
-
-abbrev pub HasOpenedUtf8 : ℕ → ℕ → ℕ → Scanning → List ℕ → Contents → Contents → Type 0
-HasOpenedUtf8 n doc kind scanning text old new =
-    Numbers n (λ s. OpenedUtf8 s doc kind scanning text old.session new.session × AfterOpening s old new)
-
-abbrev pub OpensUtf8 : ℕ → ℕ → ℕ → Scanning → List ℕ → Option Contents → Option Contents → Type 0
-OpensUtf8 n doc kind scanning text old new = Leaves n doc old new (HasOpenedUtf8 n doc kind scanning text)
-
--- of a text that is no UTF-8 it is told where its first fault is
-pub record TellsFault (text : List ℕ) (bad bad' : ℕ) : Type 0 where
-  pub good : IsUtf8 text → bad' ≡ bad
-  pub wrong : (IsUtf8 text → ⊥) → bad' ≡ utf8_valid_len text
-
-abbrev pub FaultHeld : ℕ → ℕ → Option Contents → List ℕ → ℕ → ℕ → Type 0
-FaultHeld n doc held text bad bad' = CalledOn n doc held (bad' ≡ bad) (λ c. TellsFault text bad bad')
+StaysFlatAnew n doc old new = (flat : FlatSession) → Represents old.session flat
+    → Represents new.session (record { documents = documents new.session.group; followers = followers_after n doc flat.followers })
 
 -- what the rule gives, or its reason; or want of memory
 abbrev pub GivesAll : {A : Type 0} → Result (Vec A Global) ModelError → Result (List A) FlatRefusal → Type 0
@@ -227,6 +222,11 @@ Asked n doc held out out' rule = CalledOn n doc held (out' ≡ out) (λ c. Asked
 abbrev pub Holds : ℕ → ℕ → Option Contents → (FlatState → Bool) → Type 0
 Holds n doc held rule = CalledOn n doc held ⊤
     (λ c. n ≡ (if rule (document_in c.session.group doc) then number_of status.Ok else number_of status.Nothing))
+
+-- what is handed out where the status is `Ok`; else what was there stays
+abbrev pub handed : {A : Type 0} → Status → A → A → A
+handed status.Ok out x = x
+handed s out x = out
 
 -- so many are put at the front of a place, or there is no room for all
 abbrev pub Listed : {A : Type 0} → Status → List A → List A → List A → ℕ → Type 0
@@ -251,6 +251,16 @@ Lists {A} s out out' count count' rule = (answer : Result ⊤ ModelError) × (fo
 abbrev pub ListsHeld : {A : Type 0} → ℕ → ℕ → Option Contents → List A → List A → ℕ → ℕ → (FlatState → Result (List A) FlatRefusal) → Type 0
 ListsHeld n doc held out out' count count' rule = CalledOn n doc held ((out' ≡ out) × (count' ≡ count))
     (λ c. Numbers n (λ s. Lists s out out' count count' (rule (document_in c.session.group doc))))
+
+-- What stands from an offset on is handed out in UTF-8, as much as certainly has room, and the offset is moved behind it.
+pub record ReadsOn (s : Status) (f : FlatState) (offset offset' : ℕ) (out out' : List ℕ) (count count' : ℕ) : Type 0 where
+  pub bytes : Lists s out out' count count' (in_utf8 (flat_read f offset (units_for (length out))))
+  pub next : offset' ≡ handed s offset (fitting_end f offset (units_for (length out)))
+
+abbrev pub ReadsOnHeld : ℕ → ℕ → Option Contents → ℕ → ℕ → List ℕ → List ℕ → ℕ → ℕ → Type 0
+ReadsOnHeld n doc held offset offset' out out' count count' =
+    CalledOn n doc held ((offset' ≡ offset) × (out' ≡ out) × (count' ≡ count))
+    (λ c. Numbers n (λ s. ReadsOn s (document_in c.session.group doc) offset offset' out out' count count'))
 
 -- what the rule gives is handed out, where there is anything
 abbrev pub FoundOut : {A : Type 0} → Status → A → A → Result (Option A) FlatRefusal → Type 0
@@ -286,6 +296,24 @@ pub record Reads (s : Status) (id : ℕ) (out out' : List ℕ) (count count' : �
 
 abbrev pub HasRead : ℕ → ℕ → ℕ → List ℕ → List ℕ → ℕ → ℕ → Contents → Contents → Type 0
 HasRead n doc id out out' count count' = Does (λ s. s) (λ s. OnDocument doc (Reads s id out out' count count')) n
+
+-- how many units a rule gives
+abbrev pub count_in : Result (List ℕ) FlatRefusal → ℕ
+count_in (Ok units) = length units
+count_in (Err why) = 0
+
+-- the same in UTF-8
+pub record ReadsUtf8 (s : Status) (id : ℕ) (out out' : List ℕ) (count count' : ℕ) (old new : FlatState) : Type 0 where
+  pub bytes : Lists s out out' count count' (in_utf8 (flat_peek_of old id (units_for (length out))))
+  pub passed : s ≡ status.Ok → new ≡ flat_skipped old id (count_in (flat_peek_of old id (units_for (length out))))
+  pub kept : (s ≡ status.Ok → ⊥) → new ≡ old
+
+abbrev pub HasReadUtf8 : ℕ → ℕ → ℕ → List ℕ → List ℕ → ℕ → ℕ → Contents → Contents → Type 0
+HasReadUtf8 n doc id out out' count count' = Does (λ s. s) (λ s. OnDocument doc (ReadsUtf8 s id out out' count count')) n
+
+abbrev pub ReadsUtf8Held : ℕ → ℕ → ℕ → Option Contents → Option Contents → List ℕ → List ℕ → ℕ → ℕ → Type 0
+ReadsUtf8Held n doc id old new out out' count count' =
+    LeavesWith n doc old new ((out' ≡ out) × (count' ≡ count)) (HasReadUtf8 n doc id out out' count count')
 
 -- the same of a call, which hands out nothing where it is refused
 abbrev pub ReadsHeld : ℕ → ℕ → ℕ → Option Contents → Option Contents → List ℕ → List ℕ → ℕ → ℕ → Type 0

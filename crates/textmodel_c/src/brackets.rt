@@ -1,33 +1,37 @@
 //! Brackets.
 
-ghost use Rattle.std.specs.Prelude.{◌≡◌, ◌+◌, ◌<◌, ◌++◌, [], Err, List, map, IfSome, OnOk};
+ghost use Rattle.std.specs.Prelude.{◌≡◌, ◌<◌, true, [], Ok, Err, map, IfSome, OnOk};
 ghost use Rattle.group_rules.specs.declared.TheConstants.{DOC_COUNT};
 ghost use Rattle.std.specs.List.{All};
 ghost use Rattle.document_rules.specs.Outcomes.{Gives};
 ghost use Rattle.document_rules.specs.Brackets.{flat_brackets, flat_match, flat_level, IsSmall};
 ghost use Rattle.model_group.specs.State.{documents};
+ghost use Rattle.textmodel_c.specs.Columns.{Follow};
 ghost use Rattle.textmodel_c.specs.Documents.{document_in, IsFreshDoc};
-ghost use Rattle.textmodel_c.specs.Rules.{at, bracket_of, number_of_state, flat_bracket_list, flat_partner};
+ghost use Rattle.textmodel_c.specs.Rules.{all_of, at, bracket_in, is_utf16, number_of_state, or_range, partner_in, position_in, flat_bracket_list, flat_partner, flat_level_at};
 ghost use Rattle.textmodel_c.specs.Statuses.{number_of};
-ghost use Rattle.textmodel_c.specs.Told.{FoundFor, FoundHeld, FoundOut, GivenHeld, GivenOut, KeepsText, Lists, ListsHeld};
+ghost use Rattle.textmodel_c.specs.Told.{FoundFor, FoundHeld, GivenHeld, KeepsText, Lists, ListsHeld};
 
+use crate::columns::Columns;
+use crate::contents::document;
 use crate::handle::{Handle, taken_for};
 use crate::lists::hand_out_of;
+use crate::positions::{encoding_of, position_in};
 use crate::status::Status;
-use model_core::{Entry, ModelError, Position};
+use model_core::{Encoding, Entry, Model, ModelError, Position};
 use model_group::Group;
-use std::alloc::{AllocError, Global};
+use std::alloc::Global;
 use steps::Steps;
 
-/// A bracket: where it starts, how many units it has, its kind by the place in the table, how many are open around it, and
-/// what it is: 0 an opening one that is closed later, 1 a closing one that closes an earlier one, 2 an opening one that
-/// none closes, 3 a closing one that closes none.
+/// A bracket: where it starts, how long it is, as its column counts, its kind by the place in the table, how many are open around it,
+/// and what it is: 0 an opening one that is closed later, 1 a closing one that closes an earlier one, 2 an opening one that none
+/// closes, 3 a closing one that closes none.
 #[repr(C)]
 #[derive(Clone, Copy)]
 pub struct Bracket {
     pub line: u64,
     pub column: u64,
-    pub units: u64,
+    pub length: u64,
     pub kind: u64,
     pub level: u64,
     pub state: u32,
@@ -39,7 +43,7 @@ pub struct Bracket {
 pub struct Partner {
     pub line: u64,
     pub column: u64,
-    pub units: u64,
+    pub length: u64,
 }
 
 fn number_of_state(state: model_core::Status) -> u32
@@ -53,26 +57,45 @@ fn number_of_state(state: model_core::Status) -> u32
     }
 }
 
-fn bracket_of(entry: Entry) -> Bracket
-    requires { IsSmall entry.place }
-    ensures { result ≡ bracket_of entry }
+fn bracket_in(columns: &mut Columns, model: &Model, entry: Entry) -> Result<Bracket, ModelError>
+    requires follows { Follow columns.old model.now.document }
+    requires small { IsSmall entry.place }
+    ensures bracket { Gives result
+        (bracket_in model.now.document columns.old.encoding entry) }
+    ensures follows { Follow columns.new model.now.document }
+    ensures encoding { columns.new.encoding ≡ columns.old.encoding }
 {
-    Bracket {
+    let at = Position {
         line: entry.place.lines + 1,
         column: entry.place.columns + 1,
-        units: entry.len,
+    };
+    let (column, length) = columns.extent(model, at, entry.len)?;
+    Ok(Bracket {
+        line: at.line,
+        column,
+        length,
         kind: entry.kind,
         level: entry.level,
         state: number_of_state(entry.status),
-    }
+    })
 }
 
-fn append_brackets(entries: &[Entry], out: &mut Vec<Bracket>) -> Result<(), AllocError>
-    requires { All (λ entry. IsSmall entry.place) entries.now }
-    ensures { OnOk result (out.new.items ≡ out.old.items ++ map bracket_of entries.now) }
+fn append_brackets(
+    alloc: Global,
+    model: &Model,
+    encoding: Encoding,
+    entries: &[Entry],
+    out: &mut Vec<Bracket>,
+) -> Result<(), ModelError>
+    requires none { out.old.items ≡ [] }
+    requires small { All (λ entry. IsSmall entry.place) entries.now }
+    ensures { FoundFor result out.new.items
+        (all_of (map (bracket_in model.now.document encoding) entries.now)) }
 {
+    let mut columns = Columns::new(alloc, encoding);
     for entry in entries {
-        out.push(bracket_of(*entry))?;
+        let bracket = bracket_in(&mut columns, model, *entry)?;
+        out.push(bracket).map_err(|_| ModelError::Memory)?;
     }
     Ok(())
 }
@@ -98,6 +121,7 @@ fn brackets_in(
     alloc: Global,
     group: &mut Group,
     doc: u64,
+    encoding: u32,
     from: u64,
     to: u64,
     out: &mut Vec<Bracket>,
@@ -105,18 +129,20 @@ fn brackets_in(
     requires there { doc < DOC_COUNT }
     requires none { out.old.items ≡ [] }
     ensures found { FoundFor result out.new.items
-        (flat_bracket_list (document_in group.old doc) from to) }
+        (flat_bracket_list (document_in group.old doc) encoding from to) }
     ensures documents { documents group.new ≡ documents group.old }
 {
+    let encoding = encoding_of(encoding).ok_or(ModelError::Range)?;
     let mut entries = Vec::new(alloc);
     entries_in(group, doc, from, to, &mut entries)?;
-    append_brackets(&entries, out).map_err(|_| ModelError::Memory)
+    append_brackets(alloc, document(group, doc), encoding, &entries, out)
 }
 
 fn brackets_out(
     alloc: Global,
     group: &mut Group,
     doc: u64,
+    encoding: u32,
     from: u64,
     to: u64,
     out: &mut [Bracket],
@@ -124,16 +150,17 @@ fn brackets_out(
 ) -> Status
     requires { doc < DOC_COUNT }
     ensures brackets { Lists result out.old out.new count.old count.new
-        (flat_bracket_list (document_in group.old doc) from to) }
+        (flat_bracket_list (document_in group.old doc) encoding from to) }
     ensures documents { documents group.new ≡ documents group.old }
 {
     let mut found = Vec::new(alloc);
-    let answer = brackets_in(alloc, group, doc, from, to, &mut found);
+    let answer = brackets_in(alloc, group, doc, encoding, from, to, &mut found);
     hand_out_of(answer, &found, out, count)
 }
 
-/// The brackets of the lines `from` to `to`, both included, in the order of the text, and how many they are. `Range` where
-/// one of the lines is not there, or `from` is above `to`; `Short` where `out` has no room for all.
+/// The brackets of the lines `from` to `to`, both included, in the order of the text, and how many they are. Columns and lengths count
+/// by `encoding`, as in `tm_position`. `Range` where one of the lines is not there, `from` is above `to`, the encoding is invalid, or a
+/// bracket begins or ends inside a character, as one that is half of a pair of surrogates may; `Short` where `out` has no room for all.
 #[unsafe(no_mangle)]
 pub extern "C" fn tm_raw_brackets(
     alloc: Global,
@@ -141,18 +168,20 @@ pub extern "C" fn tm_raw_brackets(
     doc: u64,
     from: u64,
     to: u64,
+    encoding: u32,
     out: &mut [Bracket],
     count: &mut u64,
 ) -> u32
     ensures kept { KeepsText handle.old.held handle.new.held }
     ensures brackets { ListsHeld result doc handle.old.held out.old out.new count.old count.new
-        (λ f. flat_bracket_list f from to) }
+        (λ f. flat_bracket_list f encoding from to) }
 {
     let mut contents = taken_for!(handle, doc, alloc);
     let status = brackets_out(
         alloc,
         &mut contents.session.group,
         doc,
+        encoding,
         from,
         to,
         out,
@@ -175,29 +204,62 @@ fn match_at(
     group.match_at(doc, at, &mut Steps::new())
 }
 
-fn match_out(group: &mut Group, doc: u64, at: Position, partner: &mut Partner) -> Status
-    requires { doc < DOC_COUNT }
-    ensures partner { FoundOut result partner.old partner.new
-        (flat_partner (document_in group.old doc) at) }
-    ensures sure { IsFreshDoc doc group.old → ¬ (result ≡ Status.Memory) }
-    ensures documents { documents group.new ≡ documents group.old }
+// The position in units of one that is counted otherwise.
+fn position_as(
+    alloc: Global,
+    model: &Model,
+    encoding: Encoding,
+    at: Position,
+) -> Result<Position, ModelError>
+    ensures position { Gives result (or_range (position_in model.now.document encoding at) Ok) }
+    ensures sure { is_utf16 encoding ≡ true → ¬ (result ≡ Err ModelError.Memory) }
 {
-    match match_at(group, doc, at) {
-        Ok(Some((Position { line, column }, units))) => {
-            *partner = Partner {
-                line,
-                column,
-                units,
-            };
-            Status::Ok
-        }
-        Ok(None) => Status::Nothing,
-        Err(error) => Status::of_error(error),
-    }
+    position_in(alloc, model, encoding, at)?.ok_or(ModelError::Range)
 }
 
-/// The other bracket of a pair, where one of the two starts at the position; `Nothing` where none does. `Range` where the
-/// position is invalid. It takes no memory where the text was parsed since it changed last.
+// The bracket of so many units at a position, as C has it.
+fn partner_in(
+    alloc: Global,
+    model: &Model,
+    encoding: Encoding,
+    found: Option<(Position, u64)>,
+) -> Result<Option<Partner>, ModelError>
+    ensures partner { Gives result (partner_in model.now.document encoding found) }
+    ensures sure { is_utf16 encoding ≡ true → ¬ (result ≡ Err ModelError.Memory) }
+{
+    let Some((at, units)) = found else {
+        return Ok(None);
+    };
+    let line = at.line;
+    let (column, length) = Columns::new(alloc, encoding).extent(model, at, units)?;
+    Ok(Some(Partner {
+        line,
+        column,
+        length,
+    }))
+}
+
+fn partner_at(
+    alloc: Global,
+    group: &mut Group,
+    doc: u64,
+    encoding: u32,
+    at: Position,
+) -> Result<Option<Partner>, ModelError>
+    requires { doc < DOC_COUNT }
+    ensures partner { Gives result (flat_partner (document_in group.old doc) encoding at) }
+    ensures sure { encoding ≡ 16 → IsFreshDoc doc group.old → ¬ (result ≡ Err ModelError.Memory) }
+    ensures documents { documents group.new ≡ documents group.old }
+{
+    let encoding = encoding_of(encoding).ok_or(ModelError::Range)?;
+    let at = position_as(alloc, document(group, doc), encoding, at)?;
+    let found = match_at(group, doc, at)?;
+    partner_in(alloc, document(group, doc), encoding, found)
+}
+
+/// The other bracket of a pair, where one of the two starts at the position; `Nothing` where none does. Columns and lengths count by
+/// `encoding`, as in `tm_position`. `Range` where the position or the encoding is invalid. It takes no memory where the text was parsed
+/// since it changed last and the encoding is 16.
 #[unsafe(no_mangle)]
 pub extern "C" fn tm_match(
     alloc: Global,
@@ -205,23 +267,20 @@ pub extern "C" fn tm_match(
     doc: u64,
     line: u64,
     column: u64,
+    encoding: u32,
     partner: &mut Partner,
 ) -> u32
     ensures kept { KeepsText handle.old.held handle.new.held }
     ensures partner { FoundHeld result doc handle.old.held partner.old partner.new
-        (λ f. flat_partner f (at line column)) }
-    ensures sure { IfSome handle.old.held (λ held. IsFreshDoc doc held.session.group
-        → ¬ (result ≡ number_of Status.Memory)) }
+        (λ f. flat_partner f encoding (at line column)) }
+    ensures sure { encoding ≡ 16 → IfSome handle.old.held (λ held.
+        IsFreshDoc doc held.session.group → ¬ (result ≡ number_of Status.Memory)) }
 {
     let mut contents = taken_for!(handle, doc, alloc);
-    let status = match_out(
-        &mut contents.session.group,
-        doc,
-        Position { line, column },
-        partner,
-    );
+    let group = &mut contents.session.group;
+    let answer = partner_at(alloc, group, doc, encoding, Position { line, column });
     handle.put(contents);
-    status.number()
+    Status::of_found(answer, partner).number()
 }
 
 fn level_at(group: &mut Group, doc: u64, at: Position) -> Result<u64, ModelError>
@@ -233,19 +292,26 @@ fn level_at(group: &mut Group, doc: u64, at: Position) -> Result<u64, ModelError
     group.level_at(doc, at, &mut Steps::new())
 }
 
-fn level_out(group: &mut Group, doc: u64, at: Position, level: &mut u64) -> Status
+fn level_as(
+    alloc: Global,
+    group: &mut Group,
+    doc: u64,
+    encoding: u32,
+    at: Position,
+) -> Result<u64, ModelError>
     requires { doc < DOC_COUNT }
-    ensures level { GivenOut result level.old level.new
-        (flat_level (document_in group.old doc) at) }
-    ensures sure { IsFreshDoc doc group.old → ¬ (result ≡ Status.Memory) }
+    ensures level { Gives result (flat_level_at (document_in group.old doc) encoding at) }
+    ensures sure { encoding ≡ 16 → IsFreshDoc doc group.old → ¬ (result ≡ Err ModelError.Memory) }
     ensures documents { documents group.new ≡ documents group.old }
 {
-    let answer = level_at(group, doc, at);
-    Status::of_given(answer, level)
+    let encoding = encoding_of(encoding).ok_or(ModelError::Range)?;
+    let at = position_as(alloc, document(group, doc), encoding, at)?;
+    level_at(group, doc, at)
 }
 
-/// How many brackets are open after those that start before the position. `Range` where it is invalid. It takes no memory where the
-/// text was parsed since it changed last.
+/// How many brackets are open after those that start before the position, whose column counts by `encoding`, as in `tm_position`.
+/// `Range` where the position or the encoding is invalid. It takes no memory where the text was parsed since it changed last and the
+/// encoding is 16.
 #[unsafe(no_mangle)]
 pub extern "C" fn tm_level(
     alloc: Global,
@@ -253,21 +319,18 @@ pub extern "C" fn tm_level(
     doc: u64,
     line: u64,
     column: u64,
+    encoding: u32,
     level: &mut u64,
 ) -> u32
     ensures kept { KeepsText handle.old.held handle.new.held }
     ensures level { GivenHeld result doc handle.old.held level.old level.new
-        (λ f. flat_level f (at line column)) }
-    ensures sure { IfSome handle.old.held (λ held. IsFreshDoc doc held.session.group
-        → ¬ (result ≡ number_of Status.Memory)) }
+        (λ f. flat_level_at f encoding (at line column)) }
+    ensures sure { encoding ≡ 16 → IfSome handle.old.held (λ held.
+        IsFreshDoc doc held.session.group → ¬ (result ≡ number_of Status.Memory)) }
 {
     let mut contents = taken_for!(handle, doc, alloc);
-    let status = level_out(
-        &mut contents.session.group,
-        doc,
-        Position { line, column },
-        level,
-    );
+    let group = &mut contents.session.group;
+    let answer = level_as(alloc, group, doc, encoding, Position { line, column });
     handle.put(contents);
-    status.number()
+    Status::of_given(answer, level).number()
 }

@@ -2,7 +2,7 @@
 
 ghost use Rattle.std.specs.Prelude.{◌≡◌, ◌<◌, false, OnOk, OnErr};
 ghost use Rattle.group_rules.specs.declared.TheConstants.{DOC_COUNT};
-ghost use Rattle.textmodel_c.specs.NextChange.{ChangeTextHeld, NextTold, TellsNext, TextOut};
+ghost use Rattle.textmodel_c.specs.NextChange.{ChangeTextHeld, ChangeTextUtf8Held, NextTold, TellsNext, TextOut, TextOutUtf8};
 ghost use Rattle.textmodel_c.specs.Tellings.{is_telling, telling_after};
 ghost use Rattle.textmodel_c.specs.Told.{LeavesWith};
 
@@ -11,6 +11,7 @@ use crate::handle::{Handle, taken, taken_for};
 use crate::lists::hand_out_of;
 use crate::status::Status;
 use crate::telling::{Change, Telling};
+use crate::utf8::utf8_out;
 use model_core::Model;
 use std::alloc::{AllocError, Global};
 
@@ -98,6 +99,37 @@ pub extern "C" fn tm_raw_change_text(
 {
     let contents = taken!(handle, alloc);
     let status = text_out(&contents.telling, out, count);
+    handle.put(contents);
+    status.number()
+}
+
+fn text_utf8_out(
+    alloc: Global,
+    telling: &Option<Telling>,
+    out: &mut [u8],
+    count: &mut u64,
+) -> Status
+    ensures { TextOutUtf8 result out.old out.new count.old count.new telling.now }
+{
+    match telling {
+        Some(telling) => utf8_out(alloc, Ok(()), telling.text(), out, count),
+        None => Status::Nothing,
+    }
+}
+
+/// `tm_raw_change_text` in UTF-8, and how many bytes it has. A lone surrogate becomes U+FFFD.
+#[unsafe(no_mangle)]
+pub extern "C" fn tm_raw_change_text_utf8(
+    alloc: Global,
+    handle: &mut Handle,
+    out: &mut [u8],
+    count: &mut u64,
+) -> u32
+    ensures kept { handle.new.held ≡ handle.old.held }
+    ensures text { ChangeTextUtf8Held result handle.old.held out.old out.new count.old count.new }
+{
+    let contents = taken!(handle, alloc);
+    let status = text_utf8_out(alloc, &contents.telling, out, count);
     handle.put(contents);
     status.number()
 }

@@ -7,6 +7,7 @@ ghost use Rattle.textmodel_c.specs.Told.{IsNew};
 
 use crate::telling::Telling;
 use model_core::Model;
+use model_group::Group;
 use sessions::{Outcome, Reply, Session};
 use std::alloc::{AllocError, Global};
 
@@ -36,6 +37,14 @@ impl Contents {
         requires { doc < DOC_COUNT }
         ensures { result.now.document ≡ document_in self.now.session.group doc }
     {
-        self.session.group.doc(doc)
+        document(&self.session.group, doc)
     }
+}
+
+/// The document of this number.
+pub(crate) fn document(group: &Group, doc: u64) -> &Model
+    requires { doc < DOC_COUNT }
+    ensures { result.now.document ≡ document_in group.now doc }
+{
+    group.doc(doc)
 }

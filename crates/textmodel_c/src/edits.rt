@@ -1,6 +1,6 @@
 //! Edits, undo and redo, and line endings.
 
-ghost use Rattle.std.specs.Prelude.{◌≡◌, ◌<◌, false, Ok, IfOk};
+ghost use Rattle.std.specs.Prelude.{◌≡◌, ◌<◌, false, Ok};
 ghost use Rattle.document_rules.specs.Outcomes.{Changes, Gives, Moves};
 ghost use Rattle.group_rules.specs.declared.TheConstants.{DOC_COUNT};
 ghost use Rattle.document_rules.specs.Document.{flat_stop};
@@ -8,28 +8,19 @@ ghost use Rattle.group_rules.specs.Going.{group_undo, group_redo};
 ghost use Rattle.group_rules.specs.Group.{group_edit};
 ghost use Rattle.model_group.specs.State.{documents};
 ghost use Rattle.textmodel_c.specs.Documents.{document_in, OnDocument};
-ghost use Rattle.textmodel_c.specs.Rules.{at, span, one_op, op_of, ops_of, batch_of, offset_in, span_between, group_edit_at, group_edit_joined, group_eol_as};
-ghost use Rattle.textmodel_c.specs.Told.{Becomes, ChangesHeld, GivesAll, Leaves, MovesDocs, Went};
+ghost use Rattle.textmodel_c.specs.Rules.{at, span, one_op, offset_in, span_between, group_edit_at, group_eol_as};
+ghost use Rattle.textmodel_c.specs.Told.{Becomes, ChangesHeld, Leaves, MovesDocs, WentHeld};
+ghost use Rattle.textmodel_c.specs.Utf8.{ChangesInUtf8, TellsFault};
 
 use crate::handle::{Handle, taken_for};
 use crate::opening::kind_of;
 use crate::positions::{encoding_of, position_in};
 use crate::status::Status;
+use crate::utf8::taken_units;
 use edit_batches::one_op;
-use model_core::{Encoding, ModelError, Op, Position, Span, Units};
+use model_core::{Encoding, ModelError, Position, Span};
 use model_group::Group;
-use std::alloc::{AllocError, Global};
-
-/// An op of a batch: so many units of the joined texts take the place of those from `start` up to `end`. `force` moves
-/// decorations at the place to its end, whatever their stickiness.
-#[repr(C)]
-#[derive(Clone, Copy)]
-pub struct BatchOp {
-    pub start: u64,
-    pub end: u64,
-    pub units: u64,
-    pub force: bool,
-}
+use std::alloc::Global;
 
 fn edit_span(
     alloc: Global,
@@ -69,6 +60,7 @@ pub extern "C" fn tm_raw_edit(
 
 // The offset of a position. What was looked up is remembered for the edit that comes next.
 fn offset_in(
+    alloc: Global,
     group: &mut Group,
     doc: u64,
     encoding: Encoding,
@@ -78,13 +70,14 @@ fn offset_in(
     ensures found { Gives result (Ok (offset_in (document_in group.old doc) encoding at)) }
     ensures same { group.new ≡ group.old }
 {
-    match position_in(group.doc(doc), encoding, at)? {
+    match position_in(alloc, group.doc(doc), encoding, at)? {
         Some(position) => Ok(group.locate(doc, position)),
         None => Ok(None),
     }
 }
 
 fn span_between(
+    alloc: Global,
     group: &mut Group,
     doc: u64,
     encoding: Encoding,
@@ -95,8 +88,8 @@ fn span_between(
     ensures found { Gives result (Ok (span_between (document_in group.old doc) encoding from to)) }
     ensures same { group.new ≡ group.old }
 {
-    let start = offset_in(group, doc, encoding, from)?;
-    let end = offset_in(group, doc, encoding, to)?;
+    let start = offset_in(alloc, group, doc, encoding, from)?;
+    let end = offset_in(alloc, group, doc, encoding, to)?;
     match (start, end) {
         (Some(start), Some(end)) => Ok(Some(Span { start, end })),
         _ => Ok(None),
@@ -117,7 +110,7 @@ fn edit_between(
         (group_edit_at doc encoding from to text.now (documents group.old)) }
 {
     let encoding = encoding_of(encoding).ok_or(ModelError::Range)?;
-    let span = span_between(group, doc, encoding, from, to)?.ok_or(ModelError::Range)?;
+    let span = span_between(alloc, group, doc, encoding, from, to)?.ok_or(ModelError::Range)?;
     edit_span(alloc, group, doc, span, text)
 }
 
@@ -150,111 +143,75 @@ pub extern "C" fn tm_raw_edit_at(
     Status::of_done(answer).number()
 }
 
-// The ops with their texts, which stand one after another in the joined one and fill it.
-fn ops_of(alloc: Global, batch: &[BatchOp], text: &[u16]) -> Result<Vec<Op>, ModelError>
-    ensures { GivesAll result (ops_of batch.now text.now) }
-{
-    let mut ops = Vec::with_capacity(alloc, batch.len()).map_err(|_| ModelError::Memory)?;
-    let mut rest = text;
-    for op in batch {
-        if op.units > rest.len() as u64 {
-            return Err(ModelError::Range);
-        }
-        let (own, after) = rest.split_at(op.units as usize);
-        let op = op_of(alloc, *op, own).map_err(|_| ModelError::Memory)?;
-        ops.push(op).map_err(|_| ModelError::Memory)?;
-        rest = after;
-    }
-    if !rest.is_empty() {
-        return Err(ModelError::Range);
-    }
-    Ok(ops)
-}
-
-fn op_of(alloc: Global, op: BatchOp, text: &[u16]) -> Result<Op, AllocError>
-    ensures { IfOk result (λ made. made ≡ op_of op text.now) }
-{
-    Ok(Op {
-        span: Span {
-            start: op.start,
-            end: op.end,
-        },
-        text: Units::copy_of(alloc, text)?,
-        force: op.force,
-    })
-}
-
-// The same of a batch, which is not empty.
-fn batch_of(alloc: Global, batch: &[BatchOp], text: &[u16]) -> Result<Vec<Op>, ModelError>
-    ensures { GivesAll result (batch_of batch.now text.now) }
-{
-    if batch.is_empty() {
-        return Err(ModelError::Range);
-    }
-    ops_of(alloc, batch, text)
-}
-
-fn edit_joined(
-    alloc: Global,
-    group: &mut Group,
-    doc: u64,
-    batch: &[BatchOp],
-    text: &[u16],
-) -> Result<(), ModelError>
-    requires { doc < DOC_COUNT }
-    ensures { Changes result (documents group.old) (documents group.new)
-        (group_edit_joined doc batch.now text.now (documents group.old)) }
-{
-    let ops = batch_of(alloc, batch, text)?;
-    group.edit(doc, ops)
-}
-
-/// Carries out the ops at once, as the next version. Their texts stand one after another in `text`. `Range` where there is no op,
-/// the texts do not fill it, or a span is invalid; else `Overlap` where two spans overlap; else `Limit` where the new text or the
-/// version would pass its limit.
+/// `tm_raw_edit` of a text in UTF-8. `Encoding` where it is not valid: `bad` is then the offset of the first byte at fault.
 #[unsafe(no_mangle)]
-pub extern "C" fn tm_raw_batch(
+pub extern "C" fn tm_raw_edit_utf8(
     alloc: Global,
     handle: &mut Handle,
     doc: u64,
-    batch: &[BatchOp],
-    text: &[u16],
+    start: u64,
+    end: u64,
+    text: &[u8],
+    bad: &mut u64,
 ) -> u32
-    ensures document { ChangesHeld result doc handle.old.held handle.new.held
-        (group_edit_joined doc batch.now text.now) }
+    ensures document { ChangesInUtf8 result text.now doc handle.old.held handle.new.held
+        (λ units g. group_edit g doc (one_op (span start end) units false)) }
+    ensures fault { TellsFault text.now bad.old bad.new }
 {
-    let mut contents = taken_for!(handle, doc, alloc);
-    let answer = edit_joined(alloc, &mut contents.session.group, doc, batch, text);
-    handle.put(contents);
-    Status::of_done(answer).number()
+    let units = taken_units!(alloc, text, bad);
+    tm_raw_edit(alloc, handle, doc, start, end, &units)
+}
+
+/// `tm_raw_edit_at` of a text in UTF-8. `Encoding` as in `tm_raw_edit_utf8`.
+#[unsafe(no_mangle)]
+pub extern "C" fn tm_raw_edit_at_utf8(
+    alloc: Global,
+    handle: &mut Handle,
+    doc: u64,
+    line: u64,
+    column: u64,
+    end_line: u64,
+    end_column: u64,
+    encoding: u32,
+    text: &[u8],
+    bad: &mut u64,
+) -> u32
+    ensures document { ChangesInUtf8 result text.now doc handle.old.held handle.new.held
+        (group_edit_at doc encoding (at line column) (at end_line end_column)) }
+    ensures fault { TellsFault text.now bad.old bad.new }
+{
+    let units = taken_units!(alloc, text, bad);
+    tm_raw_edit_at(
+        alloc, handle, doc, line, column, end_line, end_column, encoding, &units,
+    )
 }
 
 /// Goes back to the text before the last step, as the next version; `Nothing` where there is none. A step that was made in
 /// several documents at once is undone in all of them. `Limit` where a version would pass its limit; else `Joint` where that
-/// step is not the last one of each of them.
+/// step is not the last one of each of them: `other` is then one of which it is not.
 #[unsafe(no_mangle)]
-pub extern "C" fn tm_undo(alloc: Global, handle: &mut Handle, doc: u64) -> u32
-    ensures document { Leaves result doc handle.old.held handle.new.held
-        (Went result (λ g. group_undo g doc)) }
+pub extern "C" fn tm_raw_undo(alloc: Global, handle: &mut Handle, doc: u64, other: &mut u64) -> u32
+    ensures document { WentHeld result doc handle.old.held handle.new.held other.old other.new
+        (λ g. group_undo g doc) }
 {
     let mut contents = taken_for!(handle, doc, alloc);
     let answer = contents.session.group.undo(doc);
     handle.put(contents);
-    Status::of_going(answer).number()
+    Status::of_going(answer, other).number()
 }
 
 /// Goes on to the text after the step that was undone last, as the next version; `Nothing` where there is none. A step of several
 /// documents is made again in all of them. `Limit` where a version would pass its limit; else `Joint` where that step is not
-/// the next one of each of them.
+/// the next one of each of them: `other` is then one of which it is not.
 #[unsafe(no_mangle)]
-pub extern "C" fn tm_redo(alloc: Global, handle: &mut Handle, doc: u64) -> u32
-    ensures document { Leaves result doc handle.old.held handle.new.held
-        (Went result (λ g. group_redo g doc)) }
+pub extern "C" fn tm_raw_redo(alloc: Global, handle: &mut Handle, doc: u64, other: &mut u64) -> u32
+    ensures document { WentHeld result doc handle.old.held handle.new.held other.old other.new
+        (λ g. group_redo g doc) }
 {
     let mut contents = taken_for!(handle, doc, alloc);
     let answer = contents.session.group.redo(doc);
     handle.put(contents);
-    Status::of_going(answer).number()
+    Status::of_going(answer, other).number()
 }
 
 fn stop(group: &mut Group, doc: u64)

@@ -6,8 +6,10 @@
 mod answers;
 mod brackets;
 mod changes;
+mod columns;
 mod contents;
 mod edits;
+mod faults;
 mod handle;
 mod joint;
 mod lists;
@@ -20,5 +22,6 @@ mod search;
 mod status;
 mod telling;
 mod text;
+mod utf8;
 
 pub use handle::Handle;

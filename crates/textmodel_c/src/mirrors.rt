@@ -5,16 +5,18 @@ ghost use Rattle.std.specs.Option.{option_copied};
 ghost use Rattle.document_rules.specs.Outcomes.{Appends};
 ghost use Rattle.group_rules.specs.declared.TheConstants.{DOC_COUNT};
 ghost use Rattle.textmodel_c.specs.Documents.{document_in};
-ghost use Rattle.textmodel_c.specs.Mirroring.{CarriesOut, IsStatusOf, SaysNothing, Mirrors, SendsHeld, Delivers, MirroredHeld, followed_in, followed_of, handed, mirror_in, mirrored_line, sent_count};
-ghost use Rattle.textmodel_c.specs.Told.{LeavesWith, Lists};
+ghost use Rattle.textmodel_c.specs.Mirroring.{CarriesOut, DeliversHeld, FollowedHeld, IsStatusOf, SaysNothing, Mirrors, SendsHeld, MirroredHeld, TakesEvent, followed_in, followed_of, gap_or, mirror_in, mirrored_line, sent_count};
+ghost use Rattle.textmodel_c.specs.Rules.{in_utf8};
+ghost use Rattle.textmodel_c.specs.Told.{LeavesWith, Lists, handed};
 
 use crate::contents::Contents;
 use crate::handle::{Handle, taken_for};
 use crate::lists::hand_out_of;
 use crate::status::Status;
+use crate::utf8::utf8_out;
 use mirror_model::Mirror;
 use model_core::ModelError;
-use script_lines::{Command, Short};
+use script_lines::{Command, Refusal, Short};
 use sessions::{Follower, Outcome, Refused};
 use std::alloc::Global;
 
@@ -34,6 +36,45 @@ fn carry_out(contents: &mut Contents, doc: u64, command: Command) -> Status
 {
     let outcome = contents.session.carry_out(doc, command);
     status_of(&outcome)
+}
+
+// The same of an event for the mirror. Where events before it are missing, it is told which version the mirror has, and which one the
+// event begins with.
+fn take_event(
+    contents: &mut Contents,
+    doc: u64,
+    number: u64,
+    have: &mut u64,
+    need: &mut u64,
+) -> Status
+    requires { doc < DOC_COUNT }
+    ensures { TakesEvent result doc number contents.old contents.new
+        (have.old, need.old) (have.new, need.new) }
+{
+    let outcome = contents
+        .session
+        .carry_out(doc, Command::Deliver { n: number });
+    gap_out(&outcome, have, need);
+    status_of(&outcome)
+}
+
+fn gap_out(outcome: &Outcome, have: &mut u64, need: &mut u64)
+    ensures { (have.new, need.new) ≡ gap_or (have.old, need.old) outcome.now }
+{
+    match outcome {
+        Err(
+            Refused(
+                Refusal::Gap {
+                    have: is,
+                    need: begins,
+                },
+            ),
+        ) => {
+            *have = *is;
+            *need = *begins;
+        }
+        _ => {}
+    }
 }
 
 // The status of what comes of a command.
@@ -142,13 +183,21 @@ fn followed_of(mirror: &Mirror) -> Followed
     }
 }
 
-fn deliver(contents: &mut Contents, doc: u64, number: u64, followed: &mut Followed) -> Status
+fn deliver(
+    contents: &mut Contents,
+    doc: u64,
+    number: u64,
+    followed: &mut Followed,
+    have: &mut u64,
+    need: &mut u64,
+) -> Status
     requires { doc < DOC_COUNT }
-    ensures carried { CarriesOut result doc (Command.Deliver number) contents.old contents.new }
+    ensures carried { TakesEvent result doc number contents.old contents.new
+        (have.old, need.old) (have.new, need.new) }
     ensures followed { followed.new ≡ handed result followed.old
         (followed_in contents.new.session.followers.items doc followed.old) }
 {
-    let status = carry_out(contents, doc, Command::Deliver { n: number });
+    let status = take_event(contents, doc, number, have, need);
     if let Status::Ok = status {
         if let Some(mirror) = mirror_in(&contents.session.followers, doc) {
             *followed = followed_of(mirror);
@@ -159,22 +208,45 @@ fn deliver(contents: &mut Contents, doc: u64, number: u64, followed: &mut Follow
 
 /// Hands the event of this number to the mirror of the document, which then has the text of the next version, and tells of it. `Nothing`
 /// where the mirror has that text or a later one; `Unknown` where there is no such event, or no mirror; `Gap` where events before it
-/// are missing.
+/// are missing: `have` is then the version of the mirror, and `need` the one that the event begins with.
 #[unsafe(no_mangle)]
-pub extern "C" fn tm_deliver(
+pub extern "C" fn tm_raw_deliver(
     alloc: Global,
     handle: &mut Handle,
     doc: u64,
     number: u64,
     followed: &mut Followed,
+    have: &mut u64,
+    need: &mut u64,
 ) -> u32
-    ensures carried { LeavesWith result doc handle.old.held handle.new.held (followed.new ≡ followed.old)
-        (Delivers result doc number followed.old followed.new) }
+    ensures carried { DeliversHeld result doc handle.old.held handle.new.held number
+        followed.old followed.new (have.old, need.old) (have.new, need.new) }
 {
     let mut contents = taken_for!(handle, doc, alloc);
-    let status = deliver(&mut contents, doc, number, followed);
+    let status = deliver(&mut contents, doc, number, followed, have, need);
     handle.put(contents);
     status.number()
+}
+
+/// What the mirror of the document is; `Nothing` where it has none.
+#[unsafe(no_mangle)]
+pub extern "C" fn tm_mirror_now(
+    alloc: Global,
+    handle: &mut Handle,
+    doc: u64,
+    followed: &mut Followed,
+) -> u32
+    ensures kept { handle.new.held ≡ handle.old.held }
+    ensures followed { FollowedHeld result doc handle.old.held followed.old followed.new }
+{
+    let contents = taken_for!(handle, doc, alloc);
+    let found = mirror_in(&contents.session.followers, doc).map(followed_of);
+    handle.put(contents);
+    let Some(found) = found else {
+        return Status::Nothing.number();
+    };
+    *followed = found;
+    Status::Ok.number()
 }
 
 fn append_line(
@@ -222,10 +294,47 @@ pub extern "C" fn tm_raw_mirrored(
     count: &mut u64,
 ) -> u32
     ensures kept { handle.new.held ≡ handle.old.held }
-    ensures units { MirroredHeld result doc n handle.old.held out.old out.new count.old count.new }
+    ensures units { MirroredHeld result doc n handle.old.held out.old out.new
+        count.old count.new (λ line. line) }
 {
     let contents = taken_for!(handle, doc, alloc);
     let status = mirrored_out(alloc, &contents.session.followers, doc, n, out, count);
+    handle.put(contents);
+    status.number()
+}
+
+fn mirrored_utf8_out(
+    alloc: Global,
+    followers: &[Follower],
+    doc: u64,
+    n: u64,
+    out: &mut [u8],
+    count: &mut u64,
+) -> Status
+    ensures { Lists result out.old out.new count.old count.new
+        (in_utf8 (mirrored_line (mirror_in followers.now doc) n)) }
+{
+    let mut units = Vec::new(alloc);
+    let answer = append_line(followers, doc, n, &mut units);
+    utf8_out(alloc, answer, &units, out, count)
+}
+
+/// `tm_raw_mirrored` in UTF-8, and how many bytes it has. A lone surrogate becomes U+FFFD.
+#[unsafe(no_mangle)]
+pub extern "C" fn tm_raw_mirrored_utf8(
+    alloc: Global,
+    handle: &mut Handle,
+    doc: u64,
+    n: u64,
+    out: &mut [u8],
+    count: &mut u64,
+) -> u32
+    ensures kept { handle.new.held ≡ handle.old.held }
+    ensures bytes { MirroredHeld result doc n handle.old.held out.old out.new
+        count.old count.new in_utf8 }
+{
+    let contents = taken_for!(handle, doc, alloc);
+    let status = mirrored_utf8_out(alloc, &contents.session.followers, doc, n, out, count);
     handle.put(contents);
     status.number()
 }

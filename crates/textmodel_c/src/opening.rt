@@ -5,15 +5,15 @@ ghost use Rattle.document_rules.specs.Outcomes.{Gives};
 ghost use Rattle.group_rules.specs.declared.TheConstants.{DOC_COUNT};
 ghost use Rattle.hiding_rules.specs.Marks.{marks};
 ghost use Rattle.textmodel_c.specs.Rules.{kind_of, pair_of, pairs_of, table_of, line_mark, block_marks, checked_marks, marks_of, scanning_of, scanning_in};
-ghost use Rattle.textmodel_c.specs.Told.{AfterOpening, FaultHeld, GivesAll, OpenedUtf8, OpensAs, OpensHeld, OpensUtf8, TellsFault};
+ghost use Rattle.textmodel_c.specs.Told.{GivesAll, OpensAs, OpensHeld};
+ghost use Rattle.textmodel_c.specs.Utf8.{OpensInUtf8, TellsFault};
 
-use crate::contents::Contents;
 use crate::handle::{Handle, taken_for};
 use crate::status::Status;
-use model_core::{BracketTable, Hiding, HidingError, ModelError, TableError, Units, units_of};
+use crate::utf8::taken_units;
+use model_core::{BracketTable, Hiding, HidingError, ModelError, TableError, Units};
 use sessions::Session;
 use std::alloc::{AllocError, Global};
-use std::str::from_utf8;
 use unit_text::Kind;
 
 /// How many units the two texts of a pair of brackets have.
@@ -184,7 +184,7 @@ fn open_as(
 /// The brackets are 1 to 64 pairs, whose texts stand one after another in `brackets`, each with 1 to 32 units without CR or LF, and
 /// all of them distinct; or `()`, `[]` and `{}`, where there is no pair. Brackets in comments and strings are hidden: `marks` has,
 /// one after another, the text of `line` units that begins a line comment, the texts of `opening` and `closing` units that begin and
-/// end a block comment, and up to 8 quotes of one unit each. A text of no unit stands for none.
+/// end a block comment, and up to 8 quotes of one unit each. A text of no unit means that there is none.
 ///
 /// `Range` where the kind, the pairs or the marks are invalid, else `Limit` where the text would be too long.
 #[unsafe(no_mangle)]
@@ -219,73 +219,7 @@ pub extern "C" fn tm_raw_open(
     status.number()
 }
 
-fn open_utf8(
-    session: &mut Session,
-    doc: u64,
-    text: &[u8],
-    kind: u32,
-    pairs: &[PairUnits],
-    brackets: &[u16],
-    line: u64,
-    block: PairUnits,
-    marks: &[u16],
-    bad: &mut u64,
-) -> Status
-    requires { doc < DOC_COUNT }
-    ensures opened { OpenedUtf8 result doc kind
-        (scanning_of pairs.now brackets.now line block marks.now) text.now
-        session.old session.new }
-    ensures fault { TellsFault text.now bad.old bad.new }
-{
-    let text = match from_utf8(text) {
-        Ok(text) => text,
-        Err(error) => {
-            *bad = error.valid_up_to() as u64;
-            return Status::Encoding;
-        }
-    };
-    let mut units = Vec::new(session.alloc);
-    if units_of(text, &mut units).is_err() {
-        return Status::Memory;
-    }
-    let answer = open_as(
-        session, doc, &units, kind, pairs, brackets, line, block, marks,
-    );
-    Status::of_done(answer)
-}
-
-// `open_utf8`, after which nothing is told of a change.
-fn open_utf8_in(
-    contents: &mut Contents,
-    doc: u64,
-    text: &[u8],
-    kind: u32,
-    pairs: &[PairUnits],
-    brackets: &[u16],
-    line: u64,
-    block: PairUnits,
-    marks: &[u16],
-    bad: &mut u64,
-) -> Status
-    requires { doc < DOC_COUNT }
-    ensures opened { OpenedUtf8 result doc kind
-        (scanning_of pairs.now brackets.now line block marks.now) text.now
-        contents.old.session contents.new.session }
-    ensures fault { TellsFault text.now bad.old bad.new }
-    ensures after { AfterOpening result contents.old contents.new }
-{
-    let session = &mut contents.session;
-    let status = open_utf8(
-        session, doc, text, kind, pairs, brackets, line, block, marks, bad,
-    );
-    if let Status::Ok = status {
-        contents.telling = None;
-    }
-    status
-}
-
-/// `tm_raw_open` of a text in UTF-8. `Encoding` where it is none: `bad` is then how many bytes stand before the first that is
-/// at fault, and is left alone else.
+/// `tm_raw_open` of a text in UTF-8. `Encoding` where it is not valid: `bad` is then the offset of the first byte at fault.
 #[unsafe(no_mangle)]
 pub extern "C" fn tm_raw_open_utf8(
     alloc: Global,
@@ -301,25 +235,13 @@ pub extern "C" fn tm_raw_open_utf8(
     marks: &[u16],
     bad: &mut u64,
 ) -> u32
-    ensures document { OpensUtf8 result doc kind
-        (scanning_in pairs.now brackets.now line opening closing marks.now) text.now
+    ensures document { OpensInUtf8 result text.now doc kind
+        (scanning_in pairs.now brackets.now line opening closing marks.now)
         handle.old.held handle.new.held }
-    ensures fault { FaultHeld result doc handle.old.held text.now bad.old bad.new }
+    ensures fault { TellsFault text.now bad.old bad.new }
 {
-    let mut contents = taken_for!(handle, doc, alloc);
-    let block = PairUnits { opening, closing };
-    let status = open_utf8_in(
-        &mut contents,
-        doc,
-        text,
-        kind,
-        pairs,
-        brackets,
-        line,
-        block,
-        marks,
-        bad,
-    );
-    handle.put(contents);
-    status.number()
+    let units = taken_units!(alloc, text, bad);
+    tm_raw_open(
+        alloc, handle, doc, kind, &units, pairs, brackets, line, opening, closing, marks,
+    )
 }

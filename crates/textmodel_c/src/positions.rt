@@ -1,15 +1,15 @@
 //! Offsets and positions. A column counts bytes of UTF-8, units of UTF-16 or code points, as an encoding says.
 
-ghost use Rattle.std.specs.Prelude.{◌≡◌, ◌+◌, true, Ok, Err, option_map};
+ghost use Rattle.std.specs.Prelude.{◌≡◌, ◌+◌, ◌*◌, ◌≤◌, true, length, Ok, Err, IfSome, option_map};
 ghost use Rattle.document_rules.specs.Outcomes.{Gives};
-ghost use Rattle.column_encodings.specs.Columns.{column_in};
-ghost use Rattle.textmodel_c.specs.Rules.{at, encoding_of, is_utf16, column_of, place_in, position_in, flat_place, flat_offset_as};
+ghost use Rattle.column_encodings.specs.Columns.{length_in};
+ghost use Rattle.textmodel_c.specs.Rules.{at, encoding_of, is_utf16, column_before, units_column, column_at, column_as, place_in, position_in, flat_place, flat_offset_as};
 ghost use Rattle.textmodel_c.specs.Statuses.{number_of};
 ghost use Rattle.textmodel_c.specs.Told.{FoundHeld};
 
 use crate::handle::{Handle, taken_for};
 use crate::status::Status;
-use column_encodings::column_in;
+use column_encodings::{column_in, offset_of};
 use model_core::{Encoding, Model, ModelError, Position};
 use std::alloc::Global;
 use steps::Steps;
@@ -34,7 +34,7 @@ pub(crate) fn encoding_of(number: u32) -> Option<Encoding>
     }
 }
 
-fn is_utf16(encoding: Encoding) -> bool
+pub(crate) fn is_utf16(encoding: Encoding) -> bool
     ensures { result ≡ is_utf16 encoding }
 {
     match encoding {
@@ -44,26 +44,62 @@ fn is_utf16(encoding: Encoding) -> bool
     }
 }
 
-// The column of a place in a line, where there is such a place.
-fn column_at(encoding: Encoding, content: &[u16], before: u64) -> Option<u64>
-    ensures { result ≡ option_map (λ n. n + 1) (column_in encoding content.now before) }
+// How many bytes, units or code points the content of a line has.
+fn length_in(encoding: Encoding, content: &[u16]) -> u64
+    ensures length { result ≡ length_in encoding content.now }
+    ensures small { result ≤ 3 * length content.now }
 {
-    let column = column_in(encoding, content, before)?;
-    Some(column + 1)
+    column_in(encoding, content, content.len() as u64).unwrap_or(0)
 }
 
-fn column_of(
+// How many of them stand before a place of a line. In a mixed document the LF of a CR LF is a place too, one behind the content.
+pub(crate) fn column_before(encoding: Encoding, content: &[u16], before: u64) -> Option<u64>
+    ensures column { result ≡ column_before encoding content.now before }
+    ensures small { IfSome result (λ column. column ≤ 3 * length content.now + 1) }
+{
+    if before == content.len() as u64 + 1 {
+        return Some(length_in(encoding, content) + 1);
+    }
+    column_in(encoding, content, before)
+}
+
+// The column in units of one that is counted otherwise.
+fn units_column(encoding: Encoding, column: u64, content: &[u16]) -> Option<u64>
+    ensures { result ≡ units_column encoding column content.now }
+{
+    let before = column.checked_sub(1)?;
+    if before == length_in(encoding, content) + 1 {
+        return Some(content.len() as u64 + 2);
+    }
+    let offset = offset_of(encoding, content, before)?;
+    Some(offset + 1)
+}
+
+/// The column of a position in units.
+pub(crate) fn column_as(
     alloc: Global,
     model: &Model,
     encoding: Encoding,
     at: Position,
 ) -> Result<u64, ModelError>
-    ensures { Gives result (column_of model.now.document encoding at) }
+    ensures column { Gives result (column_as model.now.document encoding at) }
+    ensures sure { is_utf16 encoding ≡ true → ¬ (result ≡ Err ModelError.Memory) }
 {
+    if is_utf16(encoding) {
+        return Ok(at.column);
+    }
     let mut content = Vec::new(alloc);
     model.line(at.line, &mut content)?;
-    let before = at.column.checked_sub(1).ok_or(ModelError::Range)?;
-    column_at(encoding, &content, before).ok_or(ModelError::Range)
+    column_at(encoding, at.column, &content).ok_or(ModelError::Range)
+}
+
+// The column of a place in units of a line, where there is such a place.
+fn column_at(encoding: Encoding, column: u64, content: &[u16]) -> Option<u64>
+    ensures { result ≡ column_at encoding column content.now }
+{
+    let before = column.checked_sub(1)?;
+    let stand = column_before(encoding, content, before)?;
+    Some(stand + 1)
 }
 
 // A position in units as a place.
@@ -77,11 +113,7 @@ fn place_in(
     ensures sure { is_utf16 encoding ≡ true → ¬ (result ≡ Err ModelError.Memory) }
 {
     let line = at.line;
-    if is_utf16(encoding) {
-        let column = at.column;
-        return Ok(Place { line, column });
-    }
-    let column = column_of(alloc, model, encoding, at)?;
+    let column = column_as(alloc, model, encoding, at)?;
     Ok(Place { line, column })
 }
 
@@ -123,8 +155,9 @@ pub extern "C" fn tm_position(
     Status::of_found(answer, place).number()
 }
 
-/// The position in units of one that is counted otherwise; None where its column is none of its line's, or inside a character.
+/// The position in units of one that is counted otherwise; None where its line or its column is invalid.
 pub(crate) fn position_in(
+    alloc: Global,
     model: &Model,
     encoding: Encoding,
     at: Position,
@@ -135,23 +168,32 @@ pub(crate) fn position_in(
     if is_utf16(encoding) {
         return Ok(Some(at));
     }
-    let line = at.line;
-    let Some(before) = at.column.checked_sub(1) else {
-        return Ok(None);
-    };
-    match model.column_of(encoding, line, before) {
-        Ok(column) => Ok(Some(Position { line, column })),
+    let mut content = Vec::new(alloc);
+    match model.line(at.line, &mut content) {
+        Ok(()) => Ok(position_of(at.line, units_column(encoding, at.column, &content))),
         Err(ModelError::Memory) => Err(ModelError::Memory),
         Err(_) => Ok(None),
     }
 }
 
-fn offset_as(model: &Model, at: Position, encoding: u32) -> Result<Option<u64>, ModelError>
+fn position_of(line: u64, column: Option<u64>) -> Option<Position>
+    ensures { result ≡ option_map (at line) column }
+{
+    let column = column?;
+    Some(Position { line, column })
+}
+
+fn offset_as(
+    alloc: Global,
+    model: &Model,
+    at: Position,
+    encoding: u32,
+) -> Result<Option<u64>, ModelError>
     ensures offset { Gives result (flat_offset_as model.now.document encoding at) }
     ensures sure { encoding ≡ 16 → ¬ (result ≡ Err ModelError.Memory) }
 {
     let encoding = encoding_of(encoding).ok_or(ModelError::Range)?;
-    match position_in(model, encoding, at)? {
+    match position_in(alloc, model, encoding, at)? {
         Some(position) => Ok(model.offset_at(position, &mut Steps::new())),
         None => Ok(None),
     }
@@ -175,7 +217,12 @@ pub extern "C" fn tm_offset(
     ensures sure { encoding ≡ 16 → ¬ (result ≡ number_of Status.Memory) }
 {
     let contents = taken_for!(handle, doc, alloc);
-    let answer = offset_as(contents.document(doc), Position { line, column }, encoding);
+    let answer = offset_as(
+        alloc,
+        contents.document(doc),
+        Position { line, column },
+        encoding,
+    );
     handle.put(contents);
     Status::of_found(answer, offset).number()
 }

@@ -1,18 +1,22 @@
 //! Snapshots, and where a cursor may stop.
 
-ghost use Rattle.std.specs.Prelude.{◌≡◌, ◌<◌, Err, length};
+ghost use Rattle.std.specs.Prelude.{◌≡◌, ◌<◌, [], Err, length};
 ghost use Rattle.group_rules.specs.declared.TheConstants.{DOC_COUNT};
 ghost use Rattle.document_rules.specs.Snapshots.{flat_snapshot, flat_peek_of, flat_skipped, flat_close_of};
-ghost use Rattle.document_rules.specs.Stops.{flat_stops};
 ghost use Rattle.document_rules.specs.Outcomes.{Changes, ChangesWith};
 ghost use Rattle.textmodel_c.specs.Documents.{document_in, KeepsOthers, OnDocument};
+ghost use Rattle.textmodel_c.specs.Rules.{columns_in, flat_stop_list, in_utf8, units_for};
 ghost use Rattle.textmodel_c.specs.Statuses.{number_of};
-ghost use Rattle.textmodel_c.specs.Told.{Changed, Leaves, LeavesWith, Lists, ListsHeld, Reads, ReadsHeld, Shelved};
+ghost use Rattle.textmodel_c.specs.Told.{count_in, Changed, FoundFor, Leaves, LeavesWith, Lists, ListsHeld, Reads, ReadsHeld, ReadsUtf8, ReadsUtf8Held, Shelved};
 
+use crate::columns::Columns;
 use crate::handle::{Handle, taken_for};
 use crate::lists::hand_out_of;
+use crate::positions::encoding_of;
 use crate::status::Status;
-use model_core::{Model, ModelError};
+use crate::text::MOST_BYTES_A_UNIT;
+use crate::utf8::utf8_out;
+use model_core::{Encoding, Model, ModelError, Position};
 use model_group::Group;
 use std::alloc::Global;
 
@@ -94,6 +98,69 @@ pub extern "C" fn tm_raw_read(
     status.number()
 }
 
+fn peek_utf8_out(
+    alloc: Global,
+    model: &Model,
+    id: u64,
+    out: &mut [u8],
+    count: &mut u64,
+    units: &mut u64,
+) -> Status
+    ensures bytes { Lists result out.old out.new count.old count.new
+        (in_utf8 (flat_peek_of model.now.document id (units_for (length out.old)))) }
+    ensures units { result ≡ Status.Ok
+        → units.new ≡ count_in (flat_peek_of model.now.document id (units_for (length out.old))) }
+{
+    let room = out.len() as u64 / MOST_BYTES_A_UNIT;
+    let mut read = Vec::new(alloc);
+    if let Err(error) = model.peek(id, room, &mut read) {
+        return Status::of_error(error);
+    }
+    *units = read.len() as u64;
+    utf8_out(alloc, Ok(()), &read, out, count)
+}
+
+fn read_utf8_out(
+    alloc: Global,
+    group: &mut Group,
+    doc: u64,
+    id: u64,
+    out: &mut [u8],
+    count: &mut u64,
+) -> Status
+    requires { doc < DOC_COUNT }
+    ensures document { ReadsUtf8 result id out.old out.new count.old count.new
+        (document_in group.old doc) (document_in group.new doc) }
+    ensures others { KeepsOthers doc group.old group.new }
+{
+    let mut units = 0;
+    let status = peek_utf8_out(alloc, group.doc(doc), id, out, count, &mut units);
+    if matches!(status, Status::Ok) {
+        skip(group, doc, id, units);
+    }
+    status
+}
+
+/// `tm_raw_read` in UTF-8: as many of the next units as certainly have room, of which each takes at most three bytes, and how many
+/// bytes they have. `Unknown` where no snapshot of this id is open; else `Range` where `out` has room for fewer than six.
+#[unsafe(no_mangle)]
+pub extern "C" fn tm_raw_read_utf8(
+    alloc: Global,
+    handle: &mut Handle,
+    doc: u64,
+    id: u64,
+    out: &mut [u8],
+    count: &mut u64,
+) -> u32
+    ensures document { ReadsUtf8Held result doc id handle.old.held handle.new.held
+        out.old out.new count.old count.new }
+{
+    let mut contents = taken_for!(handle, doc, alloc);
+    let status = read_utf8_out(alloc, &mut contents.session.group, doc, id, out, count);
+    handle.put(contents);
+    status.number()
+}
+
 fn close(group: &mut Group, doc: u64, id: u64) -> Result<(), ModelError>
     requires { doc < DOC_COUNT }
     ensures document { OnDocument doc (λ f g. Changes result f g (flat_close_of f id))
@@ -117,31 +184,83 @@ pub extern "C" fn tm_close(alloc: Global, handle: &mut Handle, doc: u64, id: u64
     Status::of_done(answer).number()
 }
 
-fn stops_out(alloc: Global, model: &Model, n: u64, out: &mut [u64], count: &mut u64) -> Status
-    ensures { Lists result out.old out.new count.old count.new (flat_stops model.now.document n) }
+// The columns of a line, counted otherwise.
+fn append_columns(
+    alloc: Global,
+    model: &Model,
+    encoding: Encoding,
+    line: u64,
+    stops: &[u64],
+    out: &mut Vec<u64>,
+) -> Result<(), ModelError>
+    requires { out.old.items ≡ [] }
+    ensures { FoundFor result out.new.items
+        (columns_in model.now.document encoding line stops.now) }
 {
-    let mut columns = Vec::new(alloc);
-    let answer = model.stops(n, &mut columns);
-    hand_out_of(answer, &columns, out, count)
+    let mut columns = Columns::new(alloc, encoding);
+    for stop in stops {
+        let column = columns.column(
+            model,
+            Position {
+                line,
+                column: *stop,
+            },
+        )?;
+        out.push(column).map_err(|_| ModelError::Memory)?;
+    }
+    Ok(())
 }
 
-/// The columns at which a cursor may stop in the line of this number, and how many they are. `Range` where there is no such
-/// line; `Short` where `out` has no room for all.
+fn stops_in(
+    alloc: Global,
+    model: &Model,
+    encoding: u32,
+    n: u64,
+    out: &mut Vec<u64>,
+) -> Result<(), ModelError>
+    requires { out.old.items ≡ [] }
+    ensures { FoundFor result out.new.items (flat_stop_list model.now.document encoding n) }
+{
+    let encoding = encoding_of(encoding).ok_or(ModelError::Range)?;
+    let mut stops = Vec::new(alloc);
+    model.stops(n, &mut stops)?;
+    append_columns(alloc, model, encoding, n, &stops, out)
+}
+
+fn stops_out(
+    alloc: Global,
+    model: &Model,
+    encoding: u32,
+    n: u64,
+    out: &mut [u64],
+    count: &mut u64,
+) -> Status
+    ensures { Lists result out.old out.new count.old count.new
+        (flat_stop_list model.now.document encoding n) }
+{
+    let mut found = Vec::new(alloc);
+    let answer = stops_in(alloc, model, encoding, n, &mut found);
+    hand_out_of(answer, &found, out, count)
+}
+
+/// The columns at which a cursor may stop in the line of this number, and how many they are. They count by `encoding`, as in
+/// `tm_position`. `Range` where there is no such line, or the encoding is invalid; `Short` where `out` has no room for all.
 #[unsafe(no_mangle)]
 pub extern "C" fn tm_raw_stops(
     alloc: Global,
     handle: &mut Handle,
     doc: u64,
     n: u64,
+    encoding: u32,
     out: &mut [u64],
     count: &mut u64,
 ) -> u32
     ensures kept { handle.new.held ≡ handle.old.held }
     ensures stops { ListsHeld result doc handle.old.held out.old out.new count.old count.new
-        (λ f. flat_stops f n) }
+        (λ f. flat_stop_list f encoding n) }
 {
     let contents = taken_for!(handle, doc, alloc);
-    let status = stops_out(alloc, contents.document(doc), n, out, count);
+    let status = stops_out(alloc, contents.document(doc), encoding, n, out, count);
     handle.put(contents);
     status.number()
 }

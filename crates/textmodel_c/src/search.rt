@@ -1,16 +1,18 @@
 //! Where a text stands in the document, and a replace of all of it.
 
-ghost use Rattle.std.specs.Prelude.{◌≡◌, ◌<◌, ◌++◌, [], length, map, IfOk, OnOk};
+ghost use Rattle.std.specs.Prelude.{◌≡◌, ◌<◌, [], length, filter, map, take, IfOk, OnOk};
 ghost use Rattle.document_rules.specs.Outcomes.{Moves};
 ghost use Rattle.group_rules.specs.declared.TheConstants.{DOC_COUNT};
 ghost use Rattle.model_group.specs.State.{documents};
 ghost use Rattle.search_rules.specs.Replacing.{flat_find};
-ghost use Rattle.textmodel_c.specs.Rules.{found_of, flat_find_list, group_replace_some};
+ghost use Rattle.textmodel_c.specs.Rules.{found_list, found_of, is_within, flat_find_list, group_replace_some};
 ghost use Rattle.textmodel_c.specs.Told.{FoundFor, LeavesWith, Lists, ListsHeld, Replaced, Replaces};
+ghost use Rattle.textmodel_c.specs.Utf8.{ListsInUtf8, ReplacesInUtf8, TellsFault, TellsFaults};
 
 use crate::handle::{Handle, taken_for};
 use crate::lists::hand_out_of;
 use crate::status::Status;
+use crate::utf8::taken_units;
 use model_core::{Model, ModelError, Span};
 use model_group::Group;
 use std::alloc::{AllocError, Global};
@@ -33,12 +35,52 @@ fn found_of(span: Span) -> Found
     }
 }
 
-fn append_found(spans: &[Span], out: &mut Vec<Found>) -> Result<(), AllocError>
-    ensures { OnOk result (out.new.items ≡ out.old.items ++ map found_of spans.now) }
+// Whether a span begins at a place or behind it, or with `back` ends at it or before it.
+fn is_within(span: Span, from: u64, back: bool) -> bool
+    ensures { result ≡ is_within from back span }
+{
+    if back {
+        span.end <= from
+    } else {
+        span.start >= from
+    }
+}
+
+// The spans of this kind, in their order.
+fn append_within(
+    spans: &[Span],
+    from: u64,
+    back: bool,
+    out: &mut Vec<Found>,
+) -> Result<(), AllocError>
+    requires { out.old.items ≡ [] }
+    ensures { OnOk result
+        (out.new.items ≡ map found_of (filter (is_within from back) spans.now)) }
 {
     for span in spans {
-        out.push(found_of(*span))?;
+        if is_within(*span, from, back) {
+            out.push(found_of(*span))?;
+        }
     }
+    Ok(())
+}
+
+fn append_found(
+    spans: &[Span],
+    from: u64,
+    back: bool,
+    most: u64,
+    out: &mut Vec<Found>,
+) -> Result<(), AllocError>
+    requires { out.old.items ≡ [] }
+    ensures { OnOk result
+        (out.new.items ≡ take most (found_list from back spans.now)) }
+{
+    append_within(spans, from, back, out)?;
+    if back {
+        out.reverse();
+    }
+    out.truncate(most.min(out.len() as u64) as usize);
     Ok(())
 }
 
@@ -46,10 +88,14 @@ fn found_in(
     alloc: Global,
     model: &Model,
     sought: &[u16],
+    from: u64,
+    back: bool,
+    most: u64,
     out: &mut Vec<Found>,
 ) -> Result<(), ModelError>
     requires { out.old.items ≡ [] }
-    ensures { FoundFor result out.new.items (flat_find_list model.now.document sought.now) }
+    ensures { FoundFor result out.new.items
+        (flat_find_list model.now.document sought.now from back most) }
 {
     if sought.is_empty() {
         return Err(ModelError::Range);
@@ -58,43 +104,74 @@ fn found_in(
     model
         .find_counted(sought, &mut spans, &mut Steps::new())
         .map_err(|_| ModelError::Memory)?;
-    append_found(&spans, out).map_err(|_| ModelError::Memory)
+    append_found(&spans, from, back, most, out).map_err(|_| ModelError::Memory)
 }
 
 fn found_out(
     alloc: Global,
     model: &Model,
     sought: &[u16],
+    from: u64,
+    back: bool,
+    most: u64,
     out: &mut [Found],
     count: &mut u64,
 ) -> Status
     ensures { Lists result out.old out.new count.old count.new
-        (flat_find_list model.now.document sought.now) }
+        (flat_find_list model.now.document sought.now from back most) }
 {
     let mut found = Vec::new(alloc);
-    let answer = found_in(alloc, model, sought, &mut found);
+    let answer = found_in(alloc, model, sought, from, back, most, &mut found);
     hand_out_of(answer, &found, out, count)
 }
 
-/// The spans at which the text stands, from left to right, none overlapping the one before, and how many they are. Unit stands for
-/// unit. `Range` where the text is empty; `Short` where `out` has no room for all.
+/// The spans at which the text stands, and how many they are. None of them overlaps the one before. Those that begin at `from` or
+/// behind it, from left to right; or with `back` those that end at `from` or before it, the last one first. `most` of them at most.
+/// `Range` where the text is empty; `Short` where `out` has no room for all.
 #[unsafe(no_mangle)]
 pub extern "C" fn tm_raw_find(
     alloc: Global,
     handle: &mut Handle,
     doc: u64,
     sought: &[u16],
+    from: u64,
+    back: bool,
+    most: u64,
     out: &mut [Found],
     count: &mut u64,
 ) -> u32
     ensures kept { handle.new.held ≡ handle.old.held }
     ensures found { ListsHeld result doc handle.old.held out.old out.new count.old count.new
-        (λ f. flat_find_list f sought.now) }
+        (λ f. flat_find_list f sought.now from back most) }
 {
     let contents = taken_for!(handle, doc, alloc);
-    let status = found_out(alloc, contents.document(doc), sought, out, count);
+    let model = contents.document(doc);
+    let status = found_out(alloc, model, sought, from, back, most, out, count);
     handle.put(contents);
     status.number()
+}
+
+/// `tm_raw_find` of a text in UTF-8. `Encoding` where it is not valid: `bad` is then the offset of the first byte at fault.
+#[unsafe(no_mangle)]
+pub extern "C" fn tm_raw_find_utf8(
+    alloc: Global,
+    handle: &mut Handle,
+    doc: u64,
+    sought: &[u8],
+    from: u64,
+    back: bool,
+    most: u64,
+    out: &mut [Found],
+    count: &mut u64,
+    bad: &mut u64,
+) -> u32
+    ensures kept { handle.new.held ≡ handle.old.held }
+    ensures found { ListsInUtf8 result sought.now doc handle.old.held
+        out.old out.new count.old count.new (λ units f. flat_find_list f units from back most) }
+    ensures fault { TellsFault sought.now bad.old bad.new }
+{
+    let units = taken_units!(alloc, sought, bad);
+    tm_raw_find(alloc, handle, doc, &units, from, back, most, out, count)
 }
 
 // How many times the text stands in the document.
@@ -164,4 +241,25 @@ pub extern "C" fn tm_raw_replace_all(
     let answer = replace_some(alloc, group, doc, sought, with, count);
     handle.put(contents);
     Status::of_step(answer).number()
+}
+
+/// `tm_raw_replace_all` of texts in UTF-8. `Encoding` where one of them is not valid: `bad` is then the offset of the first byte at
+/// fault, in the sought text if that is not valid.
+#[unsafe(no_mangle)]
+pub extern "C" fn tm_raw_replace_all_utf8(
+    alloc: Global,
+    handle: &mut Handle,
+    doc: u64,
+    sought: &[u8],
+    with: &[u8],
+    count: &mut u64,
+    bad: &mut u64,
+) -> u32
+    ensures document { ReplacesInUtf8 result doc sought.now with.now
+        handle.old.held handle.new.held count.old count.new }
+    ensures fault { TellsFaults result sought.now with.now bad.old bad.new }
+{
+    let sought = taken_units!(alloc, sought, bad);
+    let with = taken_units!(alloc, with, bad);
+    tm_raw_replace_all(alloc, handle, doc, &sought, &with, count)
 }

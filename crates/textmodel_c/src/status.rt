@@ -2,6 +2,7 @@
 
 ghost use Rattle.std.specs.Prelude.{◌≡◌};
 ghost use Rattle.textmodel_c.specs.Statuses.{number_of, status_of_error, status_of_group_error, status_of_refusal, status_of_step, status_of_going, status_of_joint, status_of_given, given_or, status_of_found, found_or};
+ghost use Rattle.textmodel_c.specs.Told.{other_or};
 
 use model_core::ModelError;
 use model_group::GroupError;
@@ -23,7 +24,7 @@ pub enum Status {
     Limit,
     /// There was no memory for the call.
     Memory,
-    /// The text is no UTF-8.
+    /// A text is not valid UTF-8.
     Encoding,
     /// The handle holds nothing.
     Empty,
@@ -118,14 +119,20 @@ impl Status {
         }
     }
 
-    /// The same of one that several documents may take part in.
-    pub(crate) fn of_going(answer: Result<bool, GroupError>) -> Status
-        ensures { result ≡ status_of_going answer }
+    /// The same of one that several documents may take part in. The document that stands in the way is handed out, where one does.
+    pub(crate) fn of_going(answer: Result<bool, GroupError>, other: &mut u64) -> Status
+        ensures status { result ≡ status_of_going answer }
+        ensures other { other.new ≡ other_or other.old answer }
     {
         match answer {
             Ok(true) => Status::Ok,
             Ok(false) => Status::Nothing,
-            Err(error) => Status::of_group_error(error),
+            Err(error) => {
+                if let GroupError::Joint { doc } = error {
+                    *other = doc;
+                }
+                Status::of_group_error(error)
+            }
         }
     }
 

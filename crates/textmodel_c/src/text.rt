@@ -1,19 +1,22 @@
 //! A session is made and freed, and the text of a document is asked for.
 
 ghost use Rattle.std.specs.Prelude.{◌≡◌, Some, None, length, is_some, slice_get};
-ghost use Rattle.document_rules.specs.Outcomes.{Appends};
 ghost use Rattle.document_rules.specs.Document.{flat_line, flat_value, flat_line_count};
-ghost use Rattle.textmodel_c.specs.Rules.{span, number_of_kind, fitting_span, flat_read, flat_line_utf8};
+ghost use Rattle.textmodel_c.specs.Rules.{span, number_of_kind, fitting_end, fitting_span, flat_read, in_utf8, units_for};
 ghost use Rattle.textmodel_c.specs.Statuses.{number_of};
-ghost use Rattle.textmodel_c.specs.Told.{Asked, Holds, Lists, ListsHeld, Made};
+ghost use Rattle.textmodel_c.specs.Told.{Asked, Holds, Lists, ListsHeld, Made, ReadsOnHeld, handed};
 
 use crate::contents::Contents;
 use crate::handle::{Handle, taken_for};
 use crate::lists::hand_out_of;
 use crate::status::Status;
-use model_core::{Model, ModelError, Span, utf8_of};
+use crate::utf8::utf8_out;
+use model_core::{Model, Span};
 use std::alloc::Global;
 use unit_text::Kind;
+
+/// A unit takes at most so many bytes of UTF-8.
+pub(crate) const MOST_BYTES_A_UNIT: u64 = 3;
 
 /// Puts a session of 64 new empty documents into the handle, in place of what it held. `Memory` where there is none for it.
 #[unsafe(no_mangle)]
@@ -176,6 +179,48 @@ pub extern "C" fn tm_raw_value(
     status.number()
 }
 
+fn value_utf8_out(
+    alloc: Global,
+    model: &Model,
+    span: Span,
+    out: &mut [u8],
+    count: &mut u64,
+) -> Status
+    ensures { Lists result out.old out.new count.old count.new
+        (in_utf8 (flat_value model.now.document span)) }
+{
+    let mut units = Vec::new(alloc);
+    let answer = model.value(span, &mut units);
+    utf8_out(alloc, answer, &units, out, count)
+}
+
+/// `tm_raw_value` in UTF-8, and how many bytes it has. A lone surrogate becomes U+FFFD.
+#[unsafe(no_mangle)]
+pub extern "C" fn tm_raw_value_utf8(
+    alloc: Global,
+    handle: &mut Handle,
+    doc: u64,
+    start: u64,
+    end: u64,
+    out: &mut [u8],
+    count: &mut u64,
+) -> u32
+    ensures kept { handle.new.held ≡ handle.old.held }
+    ensures bytes { ListsHeld result doc handle.old.held out.old out.new count.old count.new
+        (λ f. in_utf8 (flat_value f (span start end))) }
+{
+    let contents = taken_for!(handle, doc, alloc);
+    let status = value_utf8_out(
+        alloc,
+        contents.document(doc),
+        Span { start, end },
+        out,
+        count,
+    );
+    handle.put(contents);
+    status.number()
+}
+
 fn line_out(alloc: Global, model: &Model, n: u64, out: &mut [u16], count: &mut u64) -> Status
     ensures { Lists result out.old out.new count.old count.new (flat_line model.now.document n) }
 {
@@ -259,24 +304,63 @@ pub extern "C" fn tm_raw_read_into(
     status.number()
 }
 
-fn line_bytes(alloc: Global, model: &Model, n: u64, out: &mut Vec<u8>) -> Result<(), ModelError>
-    ensures { Appends result out.old.items out.new.items (flat_line_utf8 model.now.document n) }
+// As much from the offset on as certainly has room in UTF-8. The offset is moved behind it.
+fn read_utf8_out(
+    alloc: Global,
+    model: &Model,
+    offset: &mut u64,
+    out: &mut [u8],
+    count: &mut u64,
+) -> Status
+    ensures bytes { Lists result out.old out.new count.old count.new
+        (in_utf8 (flat_read model.now.document offset.old (units_for (length out.old)))) }
+    ensures next { offset.new ≡ handed result offset.old
+        (fitting_end model.now.document offset.old (units_for (length out.old))) }
 {
-    let mut units = Vec::new(alloc);
-    model.line(n, &mut units)?;
-    utf8_of(&units, out).map_err(|_| ModelError::Memory)
+    let room = out.len() as u64 / MOST_BYTES_A_UNIT;
+    if room < 2 {
+        return Status::Range;
+    }
+    let span = fitting_span(model, *offset, room);
+    let status = value_utf8_out(alloc, model, span, out, count);
+    if let Status::Ok = status {
+        *offset = span.end;
+    }
+    status
+}
+
+/// `tm_raw_read_into` in UTF-8: as many units from the offset on as certainly have room, of which each takes at most three bytes, how
+/// many bytes they have, and the offset behind them. `Range` where the offset is no place of the text, or `out` has room for fewer
+/// than six.
+#[unsafe(no_mangle)]
+pub extern "C" fn tm_raw_read_into_utf8(
+    alloc: Global,
+    handle: &mut Handle,
+    doc: u64,
+    offset: &mut u64,
+    out: &mut [u8],
+    count: &mut u64,
+) -> u32
+    ensures kept { handle.new.held ≡ handle.old.held }
+    ensures bytes { ReadsOnHeld result doc handle.old.held offset.old offset.new
+        out.old out.new count.old count.new }
+{
+    let contents = taken_for!(handle, doc, alloc);
+    let status = read_utf8_out(alloc, contents.document(doc), offset, out, count);
+    handle.put(contents);
+    status.number()
 }
 
 fn line_utf8_out(alloc: Global, model: &Model, n: u64, out: &mut [u8], count: &mut u64) -> Status
     ensures { Lists result out.old out.new count.old count.new
-        (flat_line_utf8 model.now.document n) }
+        (in_utf8 (flat_line model.now.document n)) }
 {
-    let mut bytes = Vec::new(alloc);
-    let answer = line_bytes(alloc, model, n, &mut bytes);
-    hand_out_of(answer, &bytes, out, count)
+    let mut units = Vec::new(alloc);
+    let answer = model.line(n, &mut units);
+    utf8_out(alloc, answer, &units, out, count)
 }
 
-/// The content of the line of this number in UTF-8, and how many bytes it has; a lone surrogate stands as U+FFFD. `Range`
+/// The content of the line of this number in UTF-8, and how many bytes it has; a lone surrogate becomes U+FFFD. `Range`
 /// where there is no such line; `Short` where `out` has no room for all.
 #[unsafe(no_mangle)]
 pub extern "C" fn tm_raw_line_utf8(
@@ -289,7 +373,7 @@ pub extern "C" fn tm_raw_line_utf8(
 ) -> u32
     ensures kept { handle.new.held ≡ handle.old.held }
     ensures bytes { ListsHeld result doc handle.old.held out.old out.new count.old count.new
-        (λ f. flat_line_utf8 f n) }
+        (λ f. in_utf8 (flat_line f n)) }
 {
     let contents = taken_for!(handle, doc, alloc);
     let status = line_utf8_out(alloc, contents.document(doc), n, out, count);
