@@ -12,6 +12,7 @@ import functools
 import importlib
 import json
 import os
+import re
 import select
 import subprocess
 import sys
@@ -29,25 +30,29 @@ PIECE = 1 << 16
 # What a line may have beside a text: 64 pairs of brackets and all marks, each unit as an escape, take the most.
 BESIDE = 1 << 15
 CHECKER = HERE.parent / "tools" / "check_lines.py"
-IN_PROCESS = "--library"  # what is told in place of a program
 NO_PROGRAM = """there is no proved program: ./build makes it
 PROGRAM may be ./textmodel, which runs an unproved one until then; ./build --unproved makes that in a minute or two"""
 
 Command = dict[str, Any]
 Marks = dict[str, str | list[str]]
+Value = int | str
 to_json = json.JSONEncoder(ensure_ascii=False, allow_nan=False, separators=(",", ":")).encode
+read_json = json.JSONDecoder().raw_decode
+WORD = re.compile("[^ ]+")
 
 
 class Refused(Exception):
     """The program answered `! REASON`, and changed nothing. After `memory` the same call may be tried again.
 
-    `reason` is the word of the reply, with its numbers where it has some, `command` what was asked, `line` its number among the
-    lines of this session, from 1, and `why` more about it in words, or None.
+    `word` is that of the reply, as `range`, `numbers` are those behind it, as the two of `gap`, and `reason` is all of it. `command` is
+    what was asked, `line` its number among the lines of this session, from 1, and `why` more about it in words, or None.
     """
 
     def __init__(self, reason: str, command: Command, line: int, why: str | None = None) -> None:
         super().__init__(reason, command, line, why)
         self.reason, self.command, self.line, self.why = reason, command, line, why
+        self.word, *numbers = reason.split()
+        self.numbers = [int(number) for number in numbers]
 
     def __str__(self) -> str:
         asked = to_json(self.command)
@@ -57,6 +62,10 @@ class Refused(Exception):
 
 class Ended(Exception):
     """The program ended, or did not answer in time. The client is of no more use but to be closed."""
+
+
+class Word(str):
+    """A word of a reply that is neither a number nor a text, as `none`, `old`, or the status of a bracket."""
 
 
 class Bracket(NamedTuple):
@@ -172,6 +181,10 @@ class Pipes:
 #   mirrored  n                               "TEXT"
 #   joint     edits                           for each document DOC VERSION UNITS LINES
 # end of commands
+# made: replies
+# How many values such a reply begins with, and how many it has for each thing that it tells of.
+EACH = {"decos": (0, 3), "changes": (1, 3), "brackets": (0, 6), "stops": (0, 1), "find": (0, 2), "joint": (0, 4)}
+# end of replies
 
 
 class Client:
@@ -243,6 +256,16 @@ class Client:
                 continue
             yield answer_to(waiting.popleft(), reply, self.line)
 
+    def values(self, cmd: str, **fields: object) -> list[Value]:
+        """The values behind `ok`, as `[1, 5, 2]`, `["text"]` or `[]`; `["none"]` where that is the reply, with a `Word` in it."""
+        return values_of(self.ask(cmd, **fields))
+
+    def rows(self, cmd: str, **fields: object) -> list[tuple[Any, ...]]:
+        """The values for each thing that a reply of `EACH` tells of; those that such a reply begins with are left out."""
+        before, count = EACH[cmd]
+        found = self.values(cmd, **fields)[before:]
+        return [tuple(found[at : at + count]) for at in range(0, len(found), count)]
+
     def numbers(self, cmd: str, **fields: object) -> list[int]:
         """The numbers of a reply that has nothing else; ValueError where it has, as `none`."""
         return [int(word) for word in self.ask(cmd, **fields).split()]
@@ -288,14 +311,11 @@ class Client:
 
     def find(self, text: str) -> list[tuple[int, int]]:
         """Where a text stands: the start and the end of each place, from left to right, none over the one before."""
-        edges = self.numbers("find", text=text)
-        return list(zip(edges[::2], edges[1::2]))
+        return self.rows("find", text=text)
 
     def brackets(self, first: int, last: int) -> list[Bracket]:
         """The brackets that start in the lines from `first` to `last`, in the order of the text; refused as `lines` is."""
-        words = self.ask("brackets", **{"from": first, "to": last}).split()
-        rows = [words[at : at + 6] for at in range(0, len(words), 6)]
-        return [Bracket(*map(int, row[:4]), row[4], int(row[5])) for row in rows]
+        return [Bracket(*row) for row in self.rows("brackets", **{"from": first, "to": last})]
 
     def close(self) -> int:
         """Ends the script, and gives the program's status: 0, or 1 where a line was refused."""
@@ -306,6 +326,25 @@ def answer_to(command: Command, reply: bytes, line: int) -> str | Refused:
     """What stands behind `ok` in the reply to a command, or why it was refused."""
     word, _, rest = reply.decode("utf-8").partition(" ")
     return Refused(rest, command, line, why(rest, command)) if word == "!" else rest
+
+
+def values_of(answer: str) -> list[Value]:
+    """The values of what stands behind `ok`: numbers, texts, and each other word as it is."""
+    found: list[Value] = []
+    at = 0
+    while at < len(answer):
+        if answer[at] == '"':
+            value, end = read_json(answer, at)
+        else:
+            end = WORD.match(answer, at).end()
+            value = value_of(answer[at:end])
+        found.append(value)
+        at = end + 1
+    return found
+
+
+def value_of(word: str) -> Value:
+    return int(word) if word.isdecimal() else Word(word)
 
 
 def line_of(command: Command) -> bytes:
@@ -353,20 +392,10 @@ def checker() -> ModuleType:
     return importlib.import_module(CHECKER.stem)
 
 
-def client_of(program: str) -> Client:
-    """A client on the program, or on a document of this process where the word is the one for that."""
-    return importlib.import_module("in_process").InProcess() if program == IN_PROCESS else Client(program)
-
-
 def program_of(words: list[str]) -> str:
     """The program that is named, or the proved one. What is not there is told now, not at the first document."""
     if not words and not PROVED.exists():
         raise SystemExit(NO_PROGRAM)
-    if words == [IN_PROCESS]:
-        try:
-            client_of(IN_PROCESS).close()
-        except (ImportError, OSError) as error:
-            raise SystemExit(f"no library: {error}") from None
     return words[0] if words else str(PROVED)
 
 
@@ -402,10 +431,10 @@ def edit_a_document(model: Client) -> None:
     try:
         model.ask("edit", ops=[replace(3, 1, "")])
     except Refused as refused:
-        check("refused", refused.reason, "range")
+        check("refused", refused.word, "range")
     check("units, lines", model.numbers("size"), [24, 4])
 
-    model.ask("undo")
+    check("after an undo", model.values("undo"), [3, 20, 4])
     check("line 2 after an undo", model.text("line", n=2), "    g[x")
 
     # A name becomes another one wherever it stands, in one step of undo.

@@ -5,14 +5,17 @@ examples/client_test.py [PROGRAM]     the one that ./build and .ci/run leave, wh
 """
 import json
 import sys
+from pathlib import Path
 
 from client import (
     BESIDE,
     CHECKER,
+    EACH,
     MOST_BYTES,
     Client,
     Ended,
     Refused,
+    Word,
     check,
     line_of,
     parts,
@@ -20,8 +23,12 @@ from client import (
     replace,
     to_json,
     units,
+    values_of,
     well_formed,
 )
+
+HERE = Path(__file__).resolve().parent
+SHAPES = json.loads((HERE.parent / "docs" / "commands.json").read_text())["commands"]
 
 LINES = 3000
 # A program that answers nothing until it has read all, one that answers late, and one that stops in the middle of a reply.
@@ -50,6 +57,64 @@ def cut_texts() -> None:
     marks = {"line": mark, "block": [mark] * 2, "quotes": quotes}
     opened = {"cmd": "open", "text": "", "brackets": [[mark] * 2] * 64, "marks": marks}
     check("room beside a part", max(len(line_of(op)), len(line_of(opened))) <= BESIDE, True)
+
+
+def value_shape(name: str, values: list) -> bool:
+    """Whether these are values as a reply to this command has them."""
+    said = SHAPES[name]
+    if values in ([other] for other in said.get("or", [])):
+        return type(values[0]) is Word
+    shape = said.get("reply", "").split()
+    each = [word for words in said.get("each", {}).values() for word in words.split()]
+    shape += each * ((len(values) - len(shape)) // len(each)) if each else []
+    kinds = {'"TEXT"': str, "STATUS": Word}
+    return [type(value) for value in values] == [kinds.get(word, int) for word in shape]
+
+
+def read_replies() -> None:
+    """The replies that stand in files: their values are of the kinds that docs/commands.json tells, and make the reply again."""
+    seen = set()
+    for script in sorted(HERE.glob("*.jsonl")):
+        replies = script.with_name(script.name + ".stdout").read_text().splitlines()
+        for line, reply in zip(script.read_text().splitlines(), replies, strict=True):
+            name, (word, _, rest) = json.loads(line)["cmd"], reply.partition(" ")
+            if word == "ok":
+                values = values_of(rest)
+                again = " ".join(to_json(it) if type(it) is str else str(it) for it in values)
+                if again != rest or not value_shape(name, values):
+                    check(f"{script.name}: the values of {reply}", values, rest)
+                seen.add(name)
+    check("commands without a reply", SHAPES.keys() - seen, set())
+    check("values", values_of('"none \\" 1" 18446744073709551615 none "" o'), ['none " 1', 2**64 - 1, "none", "", "o"])
+    check("long ones", values_of(" ".join(["1", to_json('"\n😀' * 10**6)])) == [1, '"\n😀' * 10**6], True)
+
+
+def tell_values(model: Client) -> None:
+    """The values of replies, and a refusal by its word."""
+    check("version, units, lines", model.values("open", text="(a\na)"), [1, 5, 2])
+    check("nothing", (model.values("stop"), model.values("undo")), ([], ["none"]))
+    check("a text", model.values("line", n=1), ["(a"])
+    check("no word", type(model.values("line", n=1)[0]), str)
+    batches = [{"doc": doc, "ops": [replace(0, 0, "a")]} for doc in (1, 0)]
+    asked = {
+        "decos": {"at": [0, 0]}, "changes": {}, "brackets": {"from": 1, "to": 2}, "stops": {"n": 1}, "find": {"text": "a"},
+        "joint": {"edits": batches},
+    }  # fmt: skip
+    check("replies with rows", asked.keys(), EACH.keys())
+    rows = {name: model.rows(name, **fields) for name, fields in asked.items()}
+    check("no decorations and no changes", (rows["decos"], rows["changes"]), ([], []))
+    check("brackets", rows["brackets"], [(1, 1, 1, 0, "o", 0), (2, 2, 1, 0, "c", 0)])
+    check("stops and spans", [rows["stops"], rows["find"]], [[(1,), (2,)], [(1, 2), (3, 4)]])
+    check("documents", rows["joint"], [(1, 2, 1, 1), (0, 2, 6, 2)])
+    check("changes", model.rows("changes"), [(0, 0, "a")])
+    model.ask("mirror")
+    model.ask("edit", ops=[replace(0, 0, "b")])
+    model.ask("edit", ops=[replace(0, 0, "c")])
+    event, _ = model.values("send")
+    gap = raised(Refused, model.values, "deliver", n=event)
+    check("a refusal", (gap.word, gap.numbers, gap.reason), ("gap", [2, 3], "gap 2 3"))
+    plain = raised(Refused, model.values, "line", n=9)
+    check("one without numbers", (plain.word, plain.numbers), ("range", []))
 
 
 def read_what_was_written(model: Client) -> None:
@@ -139,9 +204,11 @@ def end_badly() -> None:
 
 def main() -> None:
     cut_texts()
+    read_replies()
     end_badly()
     with Client(program_of(sys.argv[1:]), seconds=60) as model:
         read_what_was_written(model)
+        tell_values(model)
         send_many(model)
         tell_what_was_refused(model)
         send_nothing_wrong(model)

@@ -31,15 +31,15 @@ class Copy:
     def _went_on(self, event: int) -> bool:
         """Whether this one was the next; one that is old is wanted no more."""
         try:
-            reply = self.model.ask("deliver", n=event)
+            reply = self.model.values("deliver", n=event)
         except Refused as refused:
-            if refused.reason.startswith("gap"):
+            if refused.word == "gap":
                 return False
             raise
         self.early.discard(event)
-        if reply == "old":
+        if reply == ["old"]:
             return False
-        self.version, _, count = map(int, reply.split())
+        self.version, _, count = reply
         self.lines = [self.model.text("mirrored", n=n) for n in range(1, count + 1)]
         return True
 

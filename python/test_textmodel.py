@@ -171,6 +171,15 @@ class Opening(Case):
         self.assertRaises(ValueError, Document, "", "pascal")
         self.assertRaises(ValueError, Document, "", "c", hiding=Hiding("//"))
 
+    def test_bracket_rows(self):
+        document = self.document("[\n{é(]) // }\n" * 6000 + "((", "c")  # more than there is room for at first
+        for encoding in textmodel.ENCODINGS:
+            found = document.brackets(1, document.line_count, encoding)
+            self.assertEqual([*document.bracket_rows(1, document.line_count, encoding)], [tuple(it) for it in found])
+            self.assertEqual(len(found), 6000 * 5 + 2)
+        self.assertEqual([*document.bracket_rows(12001, 12001)], [(12001, 1, 1, 0, 0, 2), (12001, 2, 1, 0, 1, 2)])
+        self.no_range("brackets: line 12002 is not there: the text has 12001", document.bracket_rows, 1, 12002)
+
     def test_hiding(self):
         hiding = Hiding(line="--", block=("{-", "-}"), quotes='"')
         document = self.document('( -- (\n{- ( \n ( -} "(" )', hiding=hiding)

@@ -16,7 +16,8 @@ True
 A `Session` has 64 documents, which one joint edit may change at once; `Document(text)` makes a session of its own.
 
 An offset counts UTF-16 units from 0, and so does a length: a character above U+FFFF has two. `units` tells how many a `str` has.
-Lines and columns count from 1. A column counts units, or what its `encoding` names: `"utf-8"` for bytes, `"utf-32"` for code points.
+Lines and columns count from 1. A column counts units, or what its `encoding` names: `"utf-8"` for bytes, `"utf-32"` for code points,
+as an index of a `str` counts them from 0.
 A place is an offset from 0 to `len(document)`, but not inside a character, nor between a CR and its LF in a document whose line
 endings are CR LF. A span goes from one place up to another, and does not include the unit at its end. Numbers are below 2**64.
 
@@ -28,8 +29,8 @@ type TypeError.
 Any thread may call. Calls on documents of one session wait for one another, those on several sessions go on at once.
 
 The library is taken from where the environment variable TEXTMODEL_LIBRARY names it, else from beside this file, where it is
-libtextmodel.so.1 or libtextmodel.so. In a checkout it is then taken from bin/ or, with a RuntimeWarning that nothing of it is
-proved, from bin/unproved_library, and else from where the loader finds it.
+libtextmodel.so.1 or libtextmodel.so, in a checkout then from bin/, and else from where the loader finds it. One that is in
+unproved_library/ of those folders is taken with a RuntimeWarning that nothing of it is proved.
 """
 from __future__ import annotations
 
@@ -44,6 +45,7 @@ from codecs import utf_16_le_decode
 from dataclasses import dataclass
 from functools import partial
 from pathlib import Path
+from struct import Struct
 from threading import RLock
 from typing import Any, Callable, ClassVar, Dict, Iterable, Iterator, List, Mapping, NamedTuple, Optional, Sequence
 from typing import Tuple, Type, TypeVar, Union
@@ -68,6 +70,7 @@ LONE = "surrogatepass"  # a surrogate that stands in no pair is a unit of the te
 # How much room there is for a line and for a list at first, and how much a part of a text has.
 UNITS_AT_FIRST = 256
 ITEMS_AT_FIRST = 64
+BRACKETS_AT_FIRST = 1 << 14
 PART_UNITS = 1 << 15
 
 OK, NOTHING, UNKNOWN, RANGE, OVERLAP, LIMIT, MEMORY, ENCODING, EMPTY, SHORT, JOINT, GAP = range(12)
@@ -257,6 +260,9 @@ class BracketState(enum.IntEnum):
     UNEXPECTED = 3
 
 
+STATES = tuple(BracketState)
+
+
 class Bracket(NamedTuple):
     """A bracket: where it starts, and its length, which counts as the column does. `kind` is the place of its pair among the pairs,
     from 0, and `level` is how many brackets are open around it.
@@ -322,7 +328,9 @@ LANGUAGES: Dict[str, Hiding] = {
     "javascript": Hiding("//", ("/*", "*/"), "\"'`"),
     "shell": Hiding("#", quotes="\"'"),
 }
-"""What hides brackets in texts of some languages: `Document(text, language="c")` takes it from here."""
+"""What hides brackets in texts of some languages: `Document(text, language="c")` takes it from here. Each string ends with its line,
+also one that goes on in the language, as in three quotes.
+"""
 
 NewLike = Union[NewDecoration, Tuple[int, int], Tuple[int, int, int], Tuple[int, int, int, bool]]
 EditLike = Union[Edit, Change, Tuple[int, int, str], Tuple[int, int, str, bool]]
@@ -347,16 +355,13 @@ CNewDecoration = struct(start=U64, end=U64, stick=U64, collapse=FLAG)
 CDecoration = struct(id=U64, owner=U64, start=U64, end=U64, stick=U64, collapse=FLAG)
 CFound = struct(start=U64, end=U64)
 CBracket = struct(line=U64, column=U64, length=U64, kind=U64, level=U64, state=NUMBER)
+BRACKET = Struct("=5QI4x")  # the same, to read many at once
 CPartner = struct(line=U64, column=U64, length=U64)
 CFollowed = struct(version=U64, units=U64, lines=U64)
 
 
 def decoration_of(it: Any) -> Decoration:
     return Decoration(it.id, it.owner, it.start, it.end, Stick(it.stick), it.collapse)
-
-
-def bracket_of(it: Any) -> Bracket:
-    return Bracket(it.line, it.column, it.length, it.kind, it.level, BracketState(it.state))
 
 
 def mirror_state_of(it: Any) -> MirrorState:
@@ -414,13 +419,14 @@ def found_library() -> Optional[str]:
     """The path of the library that is beside this file, or in the checkout of this file."""
     here = Path(__file__)
     top = here.resolve().parent.parent
-    found = in_folder(here.parent)
-    if found or not (top / "crates.txt").exists():
-        return found
-    proved, unproved = in_folder(top / "bin"), in_folder(top / "bin" / "unproved_library")
-    if unproved and not proved:
-        warnings.warn(f"{unproved} is not proved, and slower; ./build makes the proved one", RuntimeWarning, stacklevel=2)
-    return proved or unproved
+    folders = [here.parent, top / "bin"] if (top / "crates.txt").exists() else [here.parent]
+    for folder in folders:
+        proved, unproved = in_folder(folder), in_folder(folder / "unproved_library")
+        if unproved and not proved:
+            warnings.warn(f"{unproved} is not proved, and slower; ./build makes the proved one", RuntimeWarning, stacklevel=2)
+        if proved or unproved:
+            return proved or unproved
+    return None
 
 
 def opened_library() -> Tuple[str, ctypes.CDLL]:
@@ -711,8 +717,8 @@ class Document:
     ...     [(it.column, it.state.name) for it in document.brackets(1, 1)]
     [(1, 'UNCLOSED'), (4, 'OPENING'), (8, 'CLOSING')]
 
-    A `str` may have lone surrogates. `bytes` are UTF-8, else EncodingError. RangeError where the brackets or what hides them are
-    invalid; LimitError where the text would have 2**40 units or more.
+    A `str` may have lone surrogates. `bytes` are UTF-8, else EncodingError. A byte order mark is a unit of the text too.
+    RangeError where the brackets or what hides them are invalid; LimitError where the text would have 2**40 units or more.
 
     A document that was made by itself is closed by `close`, at the end of a `with`, or when nothing holds it any more.
     """
@@ -870,7 +876,8 @@ class Document:
         words, counts = [*place_words(start), *place_words(end)], encoding_number(encoding)
 
         def why() -> Optional[str]:
-            no_start, no_end = (self._why_no_position(*words[at : at + 2], encoding) for at in (0, 2))
+            no_start = self._why_no_position(words[0], words[1], encoding)
+            no_end = self._why_no_position(words[2], words[3], encoding)
             return no_start or no_end or f"its start, {tuple(words[:2])}, is behind its end, {tuple(words[2:])}"
 
         self._do(LIBRARY.tm_raw_edit_at, *words, counts, *crossing(text), what="edit", why=why)
@@ -943,7 +950,7 @@ class Document:
 
     def changes(self) -> List[Change]:
         """What the last change did, be it an edit, an undo, a redo, a replace or other line endings. The edits lead, one after
-        another, from the text before it to that of now. In version 1 there are none.
+        another, from the text before it to that of now, so a later one may move what one before it put. In version 1 there are none.
 
         >>> document = Document("one two")
         >>> document.batch([(0, 3, "1"), (4, 7, "2")])
@@ -1202,18 +1209,29 @@ class Document:
     # Brackets
 
     def brackets(self, first: int, last: int, encoding: str = "utf-16") -> List[Bracket]:
-        """The brackets of the lines from `first` to `last`, both included, without those in comments and strings.
+        """The brackets of the lines from `first` to `last`, both included, without those in comments and strings. An opening one
+        inside 300 others is text.
 
         RangeError where one of the lines is not there, `first` is above `last`, or a bracket begins or ends inside a character, as one
         that is half of a pair of surrogates may.
         """
+        rows = self.bracket_rows(first, last, encoding)
+        return [Bracket(line, column, length, kind, level, STATES[state]) for line, column, length, kind, level, state in rows]
+
+    def bracket_rows(self, first: int, last: int, encoding: str = "utf-16") -> Iterator[Tuple[int, ...]]:
+        """The same as plain numbers, each bracket as its line, column, length, kind, level and state: less work where they are many.
+
+        >>> [*Document("f(x)").bracket_rows(1, 1)]
+        [(1, 2, 1, 0, 0, 0), (1, 4, 1, 0, 0, 1)]
+        """
         words, counts = numbers(first=first, last=last), encoding_number(encoding)
+        room = Room(min(max(ITEMS_AT_FIRST, 4 * (words[1] - words[0])), BRACKETS_AT_FIRST), BRACKET.size)
 
         def why() -> Optional[str]:
             is_turned = f"its first line, {words[0]}, is behind its last, {words[1]}" if words[0] > words[1] else None
             return self._why_no_line(words[0]) or self._why_no_line(words[1]) or is_turned or NO_LENGTH
 
-        return self._list(LIBRARY.tm_raw_brackets, CBracket, bracket_of, *words, counts, what="brackets", why=why)
+        return BRACKET.iter_unpack(self._told(LIBRARY.tm_raw_brackets, room, *words, counts, what="brackets", why=why))
 
     def match(self, line: int, column: int, encoding: str = "utf-16") -> Optional[Partner]:
         """The bracket that matches the one that starts at this position; None where none starts there, or it has no partner.

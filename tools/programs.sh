@@ -3,8 +3,11 @@
 # Beside each program stands the checksum of what it was made of, so that a copy of it in a clone with the same sources
 # counts as well, whatever the times of files are.
 
+# The crate whose sources are looked at, with those below it: that of the program, save where tools/library says otherwise.
+shipped=textmodel
+
 # The lines of crates.txt for the program and the crates below it, of the repository in the current folder: not those of tests.
-crates_of_program() { python3 -B "$top/tools/crates.py" --in . lines textmodel; }
+crates_of_program() { python3 -B "$top/tools/crates.py" --in . lines "$shipped"; }
 
 # folders_of_program FOLDER..: the folders of each of these crates, a crate a line, with the crate's own first.
 folders_of_program() {
@@ -78,11 +81,16 @@ unproved=$top/bin/unproved
 is_proved_current() { is_current "$proved" src specs proofs; }
 is_unproved_current() { is_current "$unproved" src; }
 
-# Puts a program in its place, with the checksum of its sources. Two runs may do so at once.
+# The folder of the kit, which RATTLE_KIT may name, and what the kit calls itself.
+kit_folder() { echo "${RATTLE_KIT:-$(dirname "$(dirname "$(readlink -f "$(command -v rt)")")")}"; }
+kit_id() { cat "$(kit_folder)/KIT-ID" 2> /dev/null || echo "a kit that does not name itself"; }
+
+# Puts a program in its place, with the checksum of its sources and the name of the kit. Two runs may do so at once.
 keep_program() {
   local made=$1 program=$2 sum=$3 new
   mkdir -p "$top/bin" && new=$(mktemp "$program.XXXXXX") || return
   if cp "$made" "$new" && chmod 755 "$new" && rm -f "$program.sources" && mv "$new" "$program"; then
+    kit_id > "$program.kit"
     echo "$sum" > "$program.sources"
   else
     rm -f "$new"

@@ -35,7 +35,7 @@
  * - malloc, realloc and free belong to one allocator, and align as C asks.
  *
  * Limits: a text has at most 2^40 - 1 units. A document has at most 2^20 decorations and 1,000 open snapshots. Versions
- * and ids go up to 2^63 - 1. A call that would pass a limit answers TM_LIMIT.
+ * and ids go up to 2^63 - 1. A call that would pass a limit answers TM_LIMIT. An opening bracket inside 300 others is text.
  */
 #ifndef TEXTMODEL_H
 #define TEXTMODEL_H
@@ -371,6 +371,8 @@ typedef struct tm_hiding {
   uint64_t closing;
 } tm_hiding;
 
+/* What hides brackets in some languages. Each string ends with its line here, also one that goes on in the language, as in
+ * three quotes. In Rust a single quote begins no string, since lifetimes begin with one. */
 static const uint16_t tm_hiding_texts_[] = {'/', '/', '/', '*', '*', '/', '"', '\'', '`'};
 static const uint16_t tm_hiding_hash_texts_[] = {'#', '"', '\''};
 static const tm_hiding tm_hiding_c = {tm_hiding_texts_, 8, 2, 2, 2};
@@ -381,10 +383,10 @@ static const tm_hiding tm_hiding_shell = {tm_hiding_hash_texts_, 3, 1, 0, 0};
 
 /* A new document. What is left out is 0 or null: in C, `tm_opening opening = {.utf16 = text, .length = 5};`.
  *
- * The text is `utf8`, or where that is null `utf16`, with `length` bytes or units. `ending` is a tm_ending. The brackets are
- * `pair_count` pairs, up to 64. Their texts stand in `brackets` one after another: of each pair the opening and then the
- * closing one. All are different, and none has a line break. Where there are no pairs, the brackets are (), [] and {}. Where
- * `hiding` is null, nothing hides brackets. */
+ * The text is `utf8`, or where that is null `utf16`, with `length` bytes or units. A byte order mark before it is a unit of it
+ * too: leave it out. `ending` is a tm_ending. The brackets are `pair_count` pairs, up to 64. Their texts stand in `brackets`
+ * one after another: of each pair the opening and then the closing one. All are different, and none has a line break. Where
+ * there are no pairs, the brackets are (), [] and {}. Where `hiding` is null, nothing hides brackets. */
 typedef struct tm_opening {
   const char *utf8;
   const uint16_t *utf16;
@@ -460,7 +462,8 @@ static inline uint32_t tm_undo(tm_session *session, uint64_t doc) { return tm_ra
  * MEMORY. */
 static inline uint32_t tm_redo(tm_session *session, uint64_t doc) { return tm_raw_redo(session, doc, &session->fault.doc); }
 
-/* ---- Reading text. `room` is how many elements `out` has room for. */
+/* ---- Reading text. `room` is how many elements `out` has room for. No zero is put behind them.
+ * A call that may answer SHORT only counts where there is room for none: it answers that, or OK where there is nothing. */
 
 /* The units from `start` up to `end`. RANGE where this is no span between two places of the text. SHORT, MEMORY. */
 static inline uint32_t tm_value(tm_session *session, uint64_t doc, uint64_t start, uint64_t end, uint16_t *out, size_t room, uint64_t *count) {

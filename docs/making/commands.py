@@ -178,9 +178,17 @@ def client_lines():
         yield f"#   {command.name:9} {given:31} {reply}".rstrip()
 
 
+def each_lines():
+    """How the client cuts replies that tell of several things."""
+    yield "# How many values such a reply begins with, and how many it has for each thing that it tells of."
+    counts = {it.name: (len(it.reply.split()), len(it.each[1].split())) for it in commands() if it.each}
+    yield f"EACH = {counts}".replace("'", '"')
+
+
 def parts():
     yield Part("docs/SCRIPT.md", "commands", SCRIPT_HEAD + [script_row(command) for command in commands()])
     yield Part("docs/textmodel.1", "commands", man_lines())
     yield Part("tools/check_lines.py", "limits", [f"{name} = {power(most)}" for name, most in language()["limits"].items()])
     yield Part("tools/check_lines.py", "commands", [*checker_lines()])
     yield Part("examples/client.py", "commands", [*client_lines()])
+    yield Part("examples/client.py", "replies", [*each_lines()])

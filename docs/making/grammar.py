@@ -21,7 +21,7 @@ POSITION = ["line", "col"]
 def unlike(place, found, wanted):
     """The fault of a place that has other names than it is to have, in words; none where they are the same."""
     found, wanted = set(found), set(wanted)
-    told = [f"has not {', '.join(sorted(wanted - found))}"] * bool(wanted - found)
+    told = [f"lacks {', '.join(sorted(wanted - found))}"] * bool(wanted - found)
     told += [f"has {', '.join(sorted(found - wanted))}, which docs/commands.json has not"] * bool(found - wanted)
     return [f"{place} {it}" for it in told]
 
@@ -129,7 +129,7 @@ def sentence_faults():
         place = f"docs/SCRIPT.md: the paragraph of {', '.join(command.name for command in of)}"
         wanted = {reason for command in of for reason in command.refused}
         yield from unlike(place, set(REASON.findall(paragraph)) - {"syntax"}, wanted) if of else []
-    yield from unlike("docs/SCRIPT.md: the paragraphs", seen, [command.name for command in commands()])
+    yield from unlike("docs/SCRIPT.md", seen, [command.name for command in commands()])
 
 
 def faults():

@@ -63,11 +63,40 @@
     (when (zerop (% (1+ step) 20))
       (test-compare (format "%s, step %d" file (1+ step))))))
 
+(defun test-columns ()
+  "A column inside a surrogate pair means the place in front of it, and does not make eglot 1.9 turn for ever."
+  (with-temp-buffer
+    (insert "a😀b")
+    (dolist (wanted '((0 . 1) (1 . 2) (2 . 2) (3 . 3) (4 . 4) (9 . 4)))
+      (goto-char (point-min))
+      (funcall eglot-move-to-column-function (car wanted))
+      (unless (= (point) (cdr wanted))
+        (error "column %d: at %d" (car wanted) (point))))))
+
+(defun test-rename (folder)
+  "A word that stands in two files becomes another one in both."
+  (let ((files (mapcar (lambda (name) (expand-file-name name folder)) '("one.txt" "two.txt"))))
+    (dolist (file files)
+      (find-file file)
+      (run-hooks 'post-command-hook)
+      (insert "old 😀old\nolder (old)\n")
+      (test-compare file))
+    (goto-char (point-min))
+    (eglot-rename "new")
+    (dolist (file files)
+      (with-current-buffer (get-file-buffer file)
+        (unless (equal (buffer-string) "new 😀new\nolder (new)\n")
+          (error "%s, renamed: %S" file (buffer-string)))
+        (test-compare (format "%s, renamed" file))))))
+
 (let ((inhibit-message t)
       (files (split-string (getenv "FILES"))))
   (random (getenv "SEED"))
   (dolist (file files)
     (test-edit file (string-to-number (getenv "STEPS"))))
+  (when (boundp 'eglot-move-to-column-function) ; not in every newer one
+    (test-columns))
+  (test-rename (file-name-directory (car files)))
   (setq inhibit-message nil)
   (princ (format "%d files, %s steps each, %d times the same\n" (length files) (getenv "STEPS") test-compared))
   (dolist (buffer (buffer-list))

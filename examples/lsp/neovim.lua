@@ -17,8 +17,8 @@ local function buffer_text()
 end
 
 -- The client's answer to a request; it sends the changes before it.
-local function ask(method)
-  local params = {textDocument = vim.lsp.util.make_text_document_params()}
+local function ask(method, params)
+  params = params or {textDocument = vim.lsp.util.make_text_document_params()}
   local answers, failure = vim.lsp.buf_request_sync(0, method, params, 10000)
   local answer = answers and select(2, next(answers))
   if not answer or answer.err then
@@ -91,14 +91,18 @@ local function tell_whole_texts()
   lodvark = vim.lsp.start_client(vim.tbl_extend("force", config, {flags = {allow_incremental_sync = false}}))
 end
 
-local function edit(file)
-  if file:find("no_end") then
-    tell_whole_texts()
-  end
+local function open(file)
   vim.cmd("edit " .. file)
   if not vim.wait(10000, function() return next(vim.lsp.buf_get_clients(0)) ~= nil end, 10) then
     error("no server for " .. file)
   end
+end
+
+local function edit(file)
+  if file:find("no_end") then
+    tell_whole_texts()
+  end
+  open(file)
   compare(file .. " as opened")
   begin_with_lines()
   for step = 1, tonumber(vim.env.STEPS) do
@@ -118,6 +122,27 @@ local function see_diagnostics()
   end
 end
 
+-- A word that stands in two files becomes another one in both.
+local function rename_in_two(folder)
+  local names = {"one.txt", "two.txt"}
+  for _, name in ipairs(names) do
+    open(folder .. "/" .. name)
+    vim.api.nvim_buf_set_lines(0, 0, -1, true, {"old 😀old", "older (old)"})
+    compare(name)
+  end
+  vim.api.nvim_win_set_cursor(0, {2, 7})
+  local params = vim.tbl_extend("force", vim.lsp.util.make_position_params(), {newName = "new"})
+  vim.lsp.util.apply_workspace_edit(ask("textDocument/rename", params), "utf-16")
+  for _, name in ipairs(names) do
+    open(folder .. "/" .. name)
+    local lines = vim.api.nvim_buf_get_lines(0, 0, -1, true)
+    if not vim.deep_equal(lines, {"new 😀new", "older (new)"}) then
+      error("renamed in " .. name .. ": " .. vim.inspect(lines))
+    end
+    compare(name .. ", renamed")
+  end
+end
+
 local function run()
   math.randomseed(tonumber(vim.env.SEED))
   local files = vim.split(vim.env.FILES, " ")
@@ -125,6 +150,7 @@ local function run()
     edit(file)
   end
   see_diagnostics()
+  rename_in_two(vim.fn.fnamemodify(files[1], ":h"))
   return ("%d files, %s steps each, %d times the same"):format(#files, vim.env.STEPS, compared)
 end
 

@@ -10,3 +10,4 @@ pub mod Tellings
 pub mod NextChange
 pub mod Mirroring
 pub mod Faults
+mod Examples

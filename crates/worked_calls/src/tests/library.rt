@@ -31,7 +31,7 @@ fn expect_each_of<R: AllocGlobal + Abort>(rt: &R, model: &mut Model) -> Result<(
     expect_a_mirror_that_follows(rt, model)
 }
 
-/// As README shows it.
+/// As CONTRIBUTING.md shows it.
 fn expect_a_batch<R: AllocGlobal + Abort>(rt: &R, model: &mut Model) -> Result<(), Fail> {
     let shown = edit_by_a_batch(rt.alloc(), model)?;
     assert_eq!(rt; shown.as_slice(), b"aXd".as_slice());
